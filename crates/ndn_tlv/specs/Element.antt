@@ -1,0 +1,24 @@
+-- Elements (NDN Packet Format 0.3, "Type-Length-Value (TLV) Encoding").
+use Rattle.std.specs.Prelude.{◌≡◌, ℕ, ◌<◌, ◌≤◌, ◌^◌, List, ◌++◌, length}
+use Rattle.std.specs.List.{flat_map, AllByRecursion}
+use Rattle.ndn_tlv.specs.Number.{spelling}
+
+-- an element as plain data: its TLV-TYPE and its TLV-VALUE
+abbrev pub Field : Type 0
+Field = ℕ × List ℕ
+
+-- the types from 1 to 2 ^ 32 - 1, and values whose length is a number
+abbrev pub IsField : Field → Type 0
+IsField f = (1 ≤ f.0) × (f.0 < 2 ^ 32) × (length f.1 < 2 ^ 64)
+
+-- the octets of an element: its type, the length of its value, its value
+abbrev pub element : Field → List ℕ
+element f = spelling f.0 ++ (spelling (length f.1) ++ f.1)
+
+-- the text is one element of this type and value
+abbrev pub IsElement : List ℕ → ℕ → List ℕ → Type 0
+IsElement text kind value = IsField (kind, value) × (text ≡ element (kind, value))
+
+-- the text is the join of these elements
+abbrev pub IsElements : List ℕ → List Field → Type 0
+IsElements text fields = AllByRecursion IsField fields × (text ≡ flat_map element fields)

@@ -1,0 +1,4 @@
+pub mod Number
+pub mod Element
+pub mod Reading
+pub mod Elements

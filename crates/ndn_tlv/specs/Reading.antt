@@ -1,0 +1,96 @@
+-- Reading from left to right, with the first fault that is met.
+use Rattle.std.specs.Prelude.{◌≡◌, ◌≢◌, ℕ, zero, suc, ◌<◌, ◌≤◌, ◌^◌, ◌⊎◌, List, [], ◌∷◌, ◌++◌, length, take, drop, Result, Ok, Err, nat_lt, ◌==◌, slice_index, if◌then◌else◌}
+use Rattle.std.specs.Int.{Width, w16, w32, w64, byte_len, from_be_bytes}
+use Rattle.ndn_tlv.specs.declared.fault.TlvFault.{TlvFault}
+use Rattle.ndn_tlv.specs.declared.fault.TlvFault.TheVariants.{Truncated, NotShortest, TypeZero, TypeTooLarge, BadInteger}
+use Rattle.ndn_tlv.specs.Number.{IsForm, Spells}
+use Rattle.ndn_tlv.specs.Element.{Field}
+
+infixl 10 ◌>>=◌
+abbrev pub ◌>>=◌ : {A B F : Type 0} → Result A F → (A → Result B F) → Result B F
+(Ok x) >>= f = f x
+(Err e) >>= f = Err e
+
+-- what stands behind 253, 254 or 255, where smaller numbers have a shorter form
+abbrev pub long_number_at : Width → ℕ → List ℕ → Result (ℕ × List ℕ) TlvFault
+long_number_at w least bytes =
+    if nat_lt (length bytes) (byte_len w) then Err Truncated else (
+    if nat_lt (from_be_bytes w (take (byte_len w) bytes)) least then Err NotShortest else
+    Ok (from_be_bytes w (take (byte_len w) bytes), drop (byte_len w) bytes))
+
+-- a VAR-NUMBER and the octets after it
+unfoldable pub number_at : List ℕ → Result (ℕ × List ℕ) TlvFault
+number_at [] = Err Truncated
+number_at (b ∷ bytes) =
+    if nat_lt b 253 then Ok (b, bytes) else (
+    if b == 253 then long_number_at w16 253 bytes else (
+    if b == 254 then long_number_at w32 (2 ^ 16) bytes else
+    long_number_at w64 (2 ^ 32) bytes))
+
+-- a value that is a NonNegativeInteger
+unfoldable pub nni_at : List ℕ → Result ℕ TlvFault
+nni_at value =
+    if length value == 1 then Ok (slice_index value 0) else (
+    if length value == 2 then Ok (from_be_bytes w16 value) else (
+    if length value == 4 then Ok (from_be_bytes w32 value) else (
+    if length value == 8 then Ok (from_be_bytes w64 value) else
+    Err BadInteger)))
+
+-- a number that is a type
+abbrev pub type_at : List ℕ → Result (ℕ × List ℕ) TlvFault
+type_at bytes = do
+  kind ← number_at bytes
+  if kind.0 == 0 then Err TypeZero else (if nat_lt kind.0 (2 ^ 32) then Ok kind else Err TypeTooLarge)
+
+-- an element and the octets after it
+unfoldable pub element_at : List ℕ → Result (Field × List ℕ) TlvFault
+element_at bytes = do
+  kind ← type_at bytes
+  len ← number_at kind.1
+  if nat_lt (length len.1) len.0 then Err Truncated else Ok ((kind.0, take len.0 len.1), drop len.0 len.1)
+
+abbrev pub on_result : {A F C : Type 0} → (A → C) → (F → C) → Result A F → C
+on_result f g (Ok x) = f x
+on_result f g (Err e) = g e
+
+-- at most n elements
+unfoldable pub elements_within : ℕ → List ℕ → List (Result Field TlvFault)
+elements_within zero bytes = []
+elements_within (suc n) [] = []
+elements_within (suc n) (b ∷ bytes) = on_result (λ x. Ok x.0 ∷ elements_within n x.1) (λ f. Err f ∷ []) (element_at (b ∷ bytes))
+
+-- the elements of a text in order, up to its end or to the first fault, which is then the last
+unfoldable pub elements_of : List ℕ → List (Result Field TlvFault)
+elements_of bytes = elements_within (length bytes) bytes
+
+-- the octets that are there begin a form of some number and end within it
+abbrev pub IsCutNumber : List ℕ → Type 0
+IsCutNumber bytes = (missing : List ℕ) × (n : ℕ) × (missing ≢ []) × IsForm (bytes ++ missing) n
+
+-- a number stands at the front, in a form that is not its shortest
+abbrev pub BeginsTooLong : List ℕ → Type 0
+BeginsTooLong bytes = (text rest : List ℕ) × (n : ℕ) × (bytes ≡ text ++ rest) × IsForm text n × (Spells text n → ⊥)
+
+-- what stands where a number cannot be read
+abbrev pub NumberFault : List ℕ → TlvFault → Type 0
+NumberFault bytes Truncated = IsCutNumber bytes
+NumberFault bytes NotShortest = BeginsTooLong bytes
+NumberFault bytes TypeZero = ⊥
+NumberFault bytes TypeTooLarge = ⊥
+NumberFault bytes BadInteger = ⊥
+
+-- a type, and then octets with this property
+abbrev pub AfterType : List ℕ → (List ℕ → Type 0) → Type 0
+AfterType bytes P = (text rest : List ℕ) × (kind : ℕ) × (bytes ≡ text ++ rest) × Spells text kind × (1 ≤ kind) × (kind < 2 ^ 32) × P rest
+
+-- a length of more octets than follow it
+abbrev pub IsCutValue : List ℕ → Type 0
+IsCutValue bytes = (text rest : List ℕ) × (n : ℕ) × (bytes ≡ text ++ rest) × Spells text n × (length rest < n)
+
+-- what stands where an element cannot be read
+abbrev pub ElementFault : List ℕ → TlvFault → Type 0
+ElementFault bytes Truncated = IsCutNumber bytes ⊎ (AfterType bytes IsCutNumber ⊎ AfterType bytes IsCutValue)
+ElementFault bytes NotShortest = BeginsTooLong bytes ⊎ AfterType bytes BeginsTooLong
+ElementFault bytes TypeZero = (rest : List ℕ) × (bytes ≡ 0 ∷ rest)
+ElementFault bytes TypeTooLarge = (text rest : List ℕ) × (kind : ℕ) × (bytes ≡ text ++ rest) × Spells text kind × (2 ^ 32 ≤ kind)
+ElementFault bytes BadInteger = ⊥

@@ -1,0 +1,112 @@
+ghost use Rattle.std.specs.Prelude.{◌≡◌, ◌≢◌, ◌↔◌, ℕ, ◌+◌, ◌<◌, ◌≤◌, ◌++◌, List, [], ◌∷◌, length, take, map, slice_index, vec_len, IfOk, IfErr, OnOk, OnErr, IsOk, IsOkAnd, MatchResult, Ok, Err};
+ghost use Rattle.std.specs.Vec.{vec_capacity};
+ghost use Rattle.ndn_tlv.specs.Element.{Field, IsField, IsElement, IsElements, element};
+ghost use Rattle.ndn_tlv.specs.Reading.{type_at, element_at, elements_of, ElementFault, on_result};
+
+use crate::fault::TlvFault;
+use crate::memory::Memory;
+use crate::number::{leading_number, put_number};
+
+/// An element that stands in some octets (NDN Packet Format 0.3, "Type-Length-Value (TLV)
+/// Encoding"), and where: it borrows them.
+#[derive(Clone, Copy, Debug)]
+pub struct Element<'a> {
+    /// The TLV-TYPE, from 1 on.
+    pub kind: u32,
+    /// The octets of the TLV-VALUE.
+    pub value: &'a [u8],
+    /// All octets of the element, the type and the length too.
+    pub whole: &'a [u8],
+    ghost spelled: { IsElement whole.now kind value.now },
+}
+
+fn leading_type(octets: &[u8]) -> Result<(u32, &[u8]), TlvFault>
+    ensures { on_result (λ x. Ok (x.0, x.1.now)) Err result ≡ type_at octets.now }
+{
+    let (kind, rest) = leading_number(octets)?;
+    if kind == 0 {
+        return Err(TlvFault::TypeZero);
+    }
+    if kind > u64::from(u32::MAX) {
+        return Err(TlvFault::TypeTooLarge);
+    }
+    Ok((kind as u32, rest))
+}
+
+/// A type, a value and the octets after it.
+#[tactic(auto, unfolding(crate::specs::Reading::element_at))]
+fn leading_field(octets: &[u8]) -> Result<(u32, &[u8], &[u8]), TlvFault>
+    ensures { on_result (λ x. Ok ((x.0, x.1.now), x.2.now)) Err result ≡ element_at octets.now }
+{
+    let (kind, rest) = leading_type(octets)?;
+    let (len, rest) = leading_number(rest)?;
+    if len > rest.len() as u64 {
+        return Err(TlvFault::Truncated);
+    }
+    let (value, rest) = rest.split_at(len as usize);
+    Ok((kind, value, rest))
+}
+
+/// Reads the element at the front of the octets, and gives the octets after it.
+///
+/// Refuses octets that begin with no element, by the first fault from the left: see `TlvFault`.
+pub fn first_element<'a>(octets: &'a [u8]) -> Result<(Element<'a>, &'a [u8]), TlvFault>
+    // What is read stands in front.
+    ensures found { IfOk result (λ x. IsElement x.0.whole.now x.0.kind x.0.value.now
+        × (octets.now ≡ x.0.whole.now ++ x.1.now) × (length x.1.now < length octets.now)) }
+    // What stands in front is read.
+    ensures only { (kind : ℕ) (value rest : List ℕ) → IsField (kind, value)
+        → octets.now ≡ element (kind, value) ++ rest
+        → IsOkAnd result (λ x. (x.0.kind ≡ kind) × (x.0.value.now ≡ value) × (x.1.now ≡ rest)) }
+    // Which fault it is.
+    ensures fault { IfErr result (ElementFault octets.now) }
+    ensures exact { on_result (λ x. Ok ((x.0.kind, x.0.value.now), x.1.now)) Err result
+        ≡ element_at octets.now }
+    // One step through all elements of the octets.
+    ensures walk { MatchResult result
+        (λ x. elements_of octets.now ≡ Ok (x.0.kind, x.0.value.now) ∷ elements_of x.1.now)
+        (λ e. octets.now ≢ [] → elements_of octets.now ≡ Err e ∷ []) }
+{
+    let (kind, value, rest) = leading_field(octets)?;
+    let whole = &octets[..octets.len() - rest.len()];
+    Ok((Element { kind, value, whole }, rest))
+}
+
+/// Appends an element, or leaves what was there and some octets of it.
+fn put_parts(out: &mut Vec<u8>, kind: u32, value: &[u8]) -> Result<(), Memory>
+    ensures ok { OnOk result (out.new.items ≡ out.old.items ++ element (kind, value.now)) }
+    ensures begins { take (vec_len out.old) out.new.items ≡ out.old.items }
+    ensures room { vec_len out.old + length (element (kind, value.now)) ≤ vec_capacity out.old → IsOk result }
+    ensures capacity { vec_capacity out.old ≤ vec_capacity out.new }
+{
+    put_number(out, u64::from(kind))?;
+    put_number(out, value.len() as u64)?;
+    out.extend_from_slice(value)?;
+    Ok(())
+}
+
+/// Appends an element: the shortest forms of its type and of its value's length, and its value
+/// (NDN Packet Format 0.3, "Type-Length-Value (TLV) Encoding"). Where memory is refused, nothing
+/// is appended.
+pub fn put_element(out: &mut Vec<u8>, kind: u32, value: &[u8]) -> Result<(), Memory>
+    requires { 1 ≤ kind }
+    ensures ok { OnOk result (out.new.items ≡ out.old.items ++ element (kind, value.now)) }
+    ensures err { OnErr result (out.new.items ≡ out.old.items) }
+    ensures room { vec_len out.old + length (element (kind, value.now)) ≤ vec_capacity out.old → IsOk result }
+    ensures capacity { vec_capacity out.old ≤ vec_capacity out.new }
+    ensures spelled { IsElement (element (kind, value.now)) kind value.now }
+{
+    let len = out.len();
+    let done = put_parts(out, kind, value);
+    if done.is_err() {
+        out.truncate(len);
+    }
+    done
+}
+
+/// Law: a text is the join of at most one list of elements, which `elements_of` reads.
+pub fn elements_have_one_reading()
+    ensures one { (text : List ℕ) (xs ys : List Field) → IsElements text xs → IsElements text ys → xs ≡ ys }
+    ensures exact { (text : List ℕ) (fields : List Field) → ((i : ℕ) → slice_index text i < 256)
+        → ((elements_of text ≡ map (λ f. Ok f) fields) ↔ IsElements text fields) }
+{}

@@ -1,0 +1,129 @@
+ghost use Rattle.std.specs.Prelude.{◌≡◌, ℕ, ◌+◌, ◌<◌, ◌≤◌, ◌^◌, ◌++◌, ◌∷◌, ◌↔◌, List, length, vec_len, IfOk, IfErr, OnOk, OnErr, IsOk, IsOkAnd, Ok, Err};
+ghost use Rattle.std.specs.Vec.{vec_capacity};
+ghost use Rattle.std.specs.Int.{w16, w32, w64};
+ghost use Rattle.ndn_tlv.specs.Number.{Spells, spelling};
+ghost use Rattle.ndn_tlv.specs.Reading.{number_at, long_number_at, NumberFault, on_result};
+
+use crate::fault::TlvFault;
+use crate::memory::Memory;
+
+/// The octets of a number after its first octet, and what follows them.
+fn two_octets(octets: &[u8]) -> Result<(u64, &[u8]), TlvFault>
+    ensures { on_result (λ x. Ok (x.0, x.1.now)) Err result ≡ long_number_at w16 253 octets.now }
+{
+    match octets {
+        [a, b, rest @ ..] => {
+            let number = u16::from_be_bytes([*a, *b]);
+            if number < 253 {
+                return Err(TlvFault::NotShortest);
+            }
+            Ok((u64::from(number), rest))
+        }
+        _ => Err(TlvFault::Truncated),
+    }
+}
+
+fn four_octets(octets: &[u8]) -> Result<(u64, &[u8]), TlvFault>
+    ensures { on_result (λ x. Ok (x.0, x.1.now)) Err result ≡ long_number_at w32 65536 octets.now }
+{
+    match octets {
+        [a, b, c, d, rest @ ..] => {
+            let number = u32::from_be_bytes([*a, *b, *c, *d]);
+            if number < 65_536 {
+                return Err(TlvFault::NotShortest);
+            }
+            Ok((u64::from(number), rest))
+        }
+        _ => Err(TlvFault::Truncated),
+    }
+}
+
+fn eight_octets(octets: &[u8]) -> Result<(u64, &[u8]), TlvFault>
+    ensures { on_result (λ x. Ok (x.0, x.1.now)) Err result ≡ long_number_at w64 4294967296 octets.now }
+{
+    match octets {
+        [a, b, c, d, e, f, g, h, rest @ ..] => {
+            let number = u64::from_be_bytes([*a, *b, *c, *d, *e, *f, *g, *h]);
+            if number < 4_294_967_296 {
+                return Err(TlvFault::NotShortest);
+            }
+            Ok((number, rest))
+        }
+        _ => Err(TlvFault::Truncated),
+    }
+}
+
+#[tactic(auto, unfolding(crate::specs::Reading::number_at))]
+pub(crate) fn leading_number(octets: &[u8]) -> Result<(u64, &[u8]), TlvFault>
+    ensures { on_result (λ x. Ok (x.0, x.1.now)) Err result ≡ number_at octets.now }
+{
+    match octets {
+        [] => Err(TlvFault::Truncated),
+        [253, rest @ ..] => two_octets(rest),
+        [254, rest @ ..] => four_octets(rest),
+        [255, rest @ ..] => eight_octets(rest),
+        [octet, rest @ ..] => Ok((u64::from(*octet), rest)),
+    }
+}
+
+/// Reads the VAR-NUMBER at the front of the octets, and gives the octets after it (NDN Packet
+/// Format 0.3, "Type-Length-Value (TLV) Encoding").
+///
+/// Refuses octets that end before the number does (`Truncated`, the empty text included), and a
+/// number that has a shorter form (`NotShortest`).
+pub fn number_of(octets: &[u8]) -> Result<(u64, &[u8]), TlvFault>
+    // What is read stands in front, in its shortest form.
+    ensures found { IfOk result (λ x. (text : List ℕ) × Spells text x.0 × (octets.now ≡ text ++ x.1.now)) }
+    // What stands in front in its shortest form is read.
+    ensures only { (n : ℕ) (text rest : List ℕ) → Spells text n → octets.now ≡ text ++ rest
+        → IsOkAnd result (λ x. (x.0 ≡ n) × (x.1.now ≡ rest)) }
+    // Which fault it is.
+    ensures fault { IfErr result (NumberFault octets.now) }
+    ensures exact { on_result (λ x. Ok (x.0, x.1.now)) Err result ≡ number_at octets.now }
+{
+    leading_number(octets)
+}
+
+/// Law: no spelling of a number begins another one's.
+pub fn no_spelling_begins_another()
+    ensures { (a b x y : List ℕ) (m n : ℕ) → Spells a m → Spells b n → a ++ x ≡ b ++ y → (a ≡ b) × (m ≡ n) }
+{}
+
+/// Law: each number below 2^64 has one spelling, which `spelling` computes.
+pub fn each_number_has_one_spelling()
+    ensures { (text : List ℕ) (n : ℕ) → Spells text n ↔ ((n < 2 ^ 64) × (text ≡ spelling n)) }
+{}
+
+/// Appends a first octet and the others, or nothing.
+fn put_long(out: &mut Vec<u8>, first: u8, others: &[u8]) -> Result<(), Memory>
+    requires { length others.now ≤ 8 }
+    ensures ok { OnOk result (out.new.items ≡ out.old.items ++ first ∷ others.now) }
+    ensures err { OnErr result (out.new.items ≡ out.old.items) }
+    ensures room { vec_len out.old + length (first ∷ others.now) ≤ vec_capacity out.old → IsOk result }
+    ensures capacity { vec_capacity out.old ≤ vec_capacity out.new }
+{
+    out.reserve(others.len() + 1)?;
+    out.push(first)?;
+    out.extend_from_slice(others)?;
+    Ok(())
+}
+
+/// Appends the shortest VAR-NUMBER of a number (NDN Packet Format 0.3, "Type-Length-Value (TLV)
+/// Encoding"): 1, 3, 5 or 9 octets. Where memory is refused, nothing is appended.
+#[tactic(auto, unfolding(crate::specs::Number::spelling))]
+pub fn put_number(out: &mut Vec<u8>, number: u64) -> Result<(), Memory>
+    ensures ok { OnOk result (out.new.items ≡ out.old.items ++ spelling number) }
+    ensures err { OnErr result (out.new.items ≡ out.old.items) }
+    ensures room { vec_len out.old + length (spelling number) ≤ vec_capacity out.old → IsOk result }
+    ensures capacity { vec_capacity out.old ≤ vec_capacity out.new }
+{
+    if number < 253 {
+        put_long(out, number as u8, &[])
+    } else if number < 65_536 {
+        put_long(out, 253, &(number as u16).to_be_bytes())
+    } else if number < 4_294_967_296 {
+        put_long(out, 254, &(number as u32).to_be_bytes())
+    } else {
+        put_long(out, 255, &number.to_be_bytes())
+    }
+}
