@@ -353,3 +353,40 @@ length-within (suc n) (b ∷ bytes) = length-next n (element_at (b ∷ bytes)) (
 pub length-elements_of : (bytes : List ℕ) → length (elements_of bytes) ≤ length bytes
 unfolding elements_of
 length-elements_of bytes = length-within (length bytes) bytes
+
+next_refused : (r : Result (Field × List ℕ) TlvFault) (fault : TlvFault) → on_result (λ x. Ok x.0 ∷ elements_of x.1) (λ f. Err f ∷ []) r ≡ Err fault ∷ [] → r ≡ Err fault
+next_refused (Ok x) fault e = absurd cc
+next_refused (Err f) fault e = let same : f ≡ fault = cc in ap (λ (d : TlvFault). Err d) same
+
+not_nothing : (b : ℕ) (bytes : List ℕ) → b ∷ bytes ≡ [] → ⊥
+not_nothing b bytes e = cc
+
+-- what stands where the elements of a text end in a fault
+pub record EndsInFault (text : List ℕ) (fields : List Field) (fault : TlvFault) : Type 0 where
+  pub rest : List ℕ
+  pub parts : text ≡ flat_map element fields ++ rest
+  pub fields_fit : AllByRecursion IsField fields
+  pub some : rest ≢ []
+  pub stands : ElementFault rest fault
+
+pub elements_cut : (bytes : List ℕ) (fields : List Field) (fault : TlvFault) → IsBytes bytes → elements_of bytes ≡ map (λ f. read f) fields ++ Err fault ∷ [] → EndsInFault bytes fields fault
+elements_cut [] [] fault fits e = let no = elements_of-nil in absurd cc
+elements_cut [] (f ∷ fields) fault fits e = let no = elements_of-nil in absurd cc
+elements_cut (b ∷ bytes) [] fault fits e = record {
+  rest = b ∷ bytes;
+  parts = refl;
+  fields_fit = tt;
+  some = not_nothing b bytes;
+  stands = element_fault (b ∷ bytes) fault fits (next_refused (element_at (b ∷ bytes)) fault (sym (elements_of-next b bytes) ∙ e));
+}
+elements_cut (b ∷ bytes) (f ∷ fields) fault fits e =
+    let n = read_next b bytes f (map (λ f. read f) fields ++ Err fault ∷ []) e in
+    let front = element_found (b ∷ bytes) f n.0 fits n.1 in
+    let others = elements_cut n.0 fields fault (IsBytes-back (element f) n.0 (subst IsBytes front.1 fits)) n.2 in
+    record {
+      rest = others.rest;
+      parts = front.1 ∙ ap (λ (x : List ℕ). element f ++ x) others.parts ∙ sym (append_assoc (element f) (flat_map element fields) others.rest) ∙ ap (λ (x : List ℕ). x ++ others.rest) (sym (flat_map-cons element f fields));
+      fields_fit = (front.0, others.fields_fit);
+      some = others.some;
+      stands = others.stands;
+    }

@@ -1,5 +1,7 @@
 ghost use Rattle.std.specs.Prelude.{◌≡◌, ◌≢◌, ◌↔◌, ℕ, ◌+◌, ◌<◌, ◌≤◌, ◌++◌, List, [], ◌∷◌, length, take, map, slice_index, vec_len, IfOk, IfErr, OnOk, OnErr, IsOk, IsOkAnd, MatchResult, Ok, Err};
+ghost use Rattle.std.specs.List.{flat_map, AllByRecursion};
 ghost use Rattle.std.specs.Vec.{vec_capacity};
+ghost use Rattle.ndn_tlv.specs.declared.fault.TlvFault.{TlvFault};
 ghost use Rattle.ndn_tlv.specs.Element.{Field, IsField, IsElement, IsElements, element};
 ghost use Rattle.ndn_tlv.specs.Reading.{type_at, element_at, elements_of, ElementFault, on_result};
 
@@ -109,4 +111,9 @@ pub fn elements_have_one_reading()
     ensures one { (text : List ℕ) (xs ys : List Field) → IsElements text xs → IsElements text ys → xs ≡ ys }
     ensures exact { (text : List ℕ) (fields : List Field) → ((i : ℕ) → slice_index text i < 256)
         → ((elements_of text ≡ map (λ f. Ok f) fields) ↔ IsElements text fields) }
+    // A text that ends in a fault is these elements, and then octets that begin with none for that cause.
+    ensures fault { (text : List ℕ) (fields : List Field) (fault : TlvFault) → ((i : ℕ) → slice_index text i < 256)
+        → elements_of text ≡ map (λ f. Ok f) fields ++ Err fault ∷ []
+        → (rest : List ℕ) × (text ≡ flat_map element fields ++ rest) × AllByRecursion IsField fields
+        × (rest ≢ []) × ElementFault rest fault }
 {}
