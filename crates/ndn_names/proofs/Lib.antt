@@ -1,0 +1,3 @@
+pub mod OrderLaws
+pub mod OctetOrder
+pub mod Names

@@ -1,0 +1,4 @@
+pub mod Name
+pub mod Reading
+pub mod Order
+pub mod View

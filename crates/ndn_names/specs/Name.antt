@@ -1,0 +1,40 @@
+-- Names (NDN Packet Format 0.3, "Name").
+use Rattle.std.specs.Prelude.{◌≡◌, ℕ, ◌<◌, ◌≤◌, List, length}
+use Rattle.std.specs.List.{flat_map, filter_map, AllByRecursion, AllByRecursion-prop}
+use Rattle.std.specs.Coded.{×_prop, →_prop, le_prop, Coded-set, coded_ℕ, coded_list}
+use Rattle.std.specs.Result.{result_ok}
+use Rattle.ndn_tlv.specs.Element.{Field, IsField, element, IsElements}
+use Rattle.ndn_tlv.specs.Reading.{elements_of}
+
+-- a component is its type and its octets: types up to 65535, and 32 octets in the two digests, types 1 and 2
+abbrev pub IsComponent : Field → Type 0
+IsComponent c = (1 ≤ c.0) × (c.0 < 65536) × (c.0 ≤ 2 → length c.1 ≡ 32)
+
+-- a name is at most 64 components
+abbrev pub IsName : List Field → Type 0
+IsName cs = (length cs ≤ 64) × AllByRecursion IsComponent cs
+
+-- the TLV-VALUE of a Name: its components, one after the other
+abbrev pub octets_of : List Field → List ℕ
+octets_of cs = flat_map element cs
+
+-- the octets are the TLV-VALUE of the name of these components
+abbrev pub IsNameValue : List ℕ → List Field → Type 0
+IsNameValue value cs = IsElements value cs × IsName cs
+
+-- the elements of the octets, as far as they can be read
+unfoldable pub components_of : List ℕ → List Field
+components_of value = filter_map result_ok (elements_of value)
+
+-- there is one way for octets to be a name's value
+IsField-prop : (f : Field) → IsProp (IsField f)
+IsField-prop f p q = λ i. (le_prop p.0 q.0 i, le_prop p.1 q.1 i, le_prop p.2 q.2 i)
+
+IsComponent-prop : (c : Field) → IsProp (IsComponent c)
+IsComponent-prop c p q = λ i. (le_prop p.0 q.0 i, le_prop p.1 q.1 i, →_prop (Coded-set coded_ℕ (length c.1) 32) p.2 q.2 i)
+
+pub IsNameValue-prop : (value : List ℕ) (cs : List Field) → IsProp (IsNameValue value cs)
+IsNameValue-prop value cs =
+    ×_prop
+    (×_prop (AllByRecursion-prop IsField IsField-prop cs) (Coded-set (coded_list coded_ℕ) value (octets_of cs)))
+    (×_prop le_prop (AllByRecursion-prop IsComponent IsComponent-prop cs))

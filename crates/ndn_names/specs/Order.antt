@@ -1,0 +1,35 @@
+-- Canonical order (NDN Packet Format 0.3, "Name", "Canonical Order").
+use Rattle.std.specs.Prelude.{◌≡◌, ℕ, ◌<◌, ◌⊎◌, List, ◌∷◌, ◌++◌, length}
+use Rattle.std.specs.declared.cmp.Ordering.{Ordering}
+use Rattle.std.specs.Ordering.{nat_cmp, on, then_cmp}
+use Rattle.std.specs.Cmp.Lexicographic.{slice_cmp}
+use Rattle.ndn_tlv.specs.Element.{Field}
+
+-- at the first place where the lists differ, what a has there is less
+abbrev pub DiffersBelow : {X : Type 0} → (X → X → Type 0) → List X → List X → Type 0
+DiffersBelow {X} Below a b = (common after_x after_y : List X) × (x y : X) × (a ≡ common ++ x ∷ after_x) × (b ≡ common ++ y ∷ after_y) × Below x y
+
+abbrev pub IsProperPrefix : {X : Type 0} → List X → List X → Type 0
+IsProperPrefix {X} a b = (y : X) × (after : List X) × (b ≡ a ++ y ∷ after)
+
+-- octets, for two lists of one length
+abbrev pub OctetsLess : List ℕ → List ℕ → Type 0
+OctetsLess a b = DiffersBelow ◌<◌ a b
+
+-- components, by type, then length, then octets
+abbrev pub ComponentLess : Field → Field → Type 0
+ComponentLess x y =
+    (x.0 < y.0)
+    ⊎ ((x.0 ≡ y.0) × (length x.1 < length y.1))
+    ⊎ ((x.0 ≡ y.0) × (length x.1 ≡ length y.1) × OctetsLess x.1 y.1)
+
+-- names: a proper prefix is less, and else the first component that differs decides
+abbrev pub Less : List Field → List Field → Type 0
+Less a b = IsProperPrefix a b ⊎ DiffersBelow ComponentLess a b
+
+-- the same orders, as functions
+abbrev pub component_cmp : Field → Field → Ordering
+component_cmp = then_cmp (on (λ c. c.0) nat_cmp) (then_cmp (on (λ c. length c.1) nat_cmp) (on (λ c. c.1) (slice_cmp nat_cmp)))
+
+abbrev pub name_cmp : List Field → List Field → Ordering
+name_cmp a b = slice_cmp component_cmp a b

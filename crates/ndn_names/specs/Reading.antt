@@ -1,0 +1,34 @@
+-- Reading a name from left to right, with the first fault that is met (NDN Packet Format 0.3, "Name").
+use Rattle.std.specs.Prelude.{ℕ, ◌+◌, List, [], ◌∷◌, length, Result, Ok, Err, nat_lt, nat_le, ◌==◌, ◌&&◌, ◌||◌, not, if◌then◌else◌}
+use Rattle.ndn_tlv.specs.declared.fault.TlvFault.{TlvFault}
+use Rattle.ndn_tlv.specs.Element.{Field}
+use Rattle.ndn_tlv.specs.Reading.{elements_of, ◌>>=◌}
+use Rattle.ndn_names.specs.declared.fault.NameFault.{NameFault}
+use Rattle.ndn_names.specs.declared.fault.NameFault.TheVariants.{BadComponent, BadDigestLength, TooManyComponents}
+
+-- a type and octets, as a component
+abbrev pub component_of : Field → Result Field NameFault
+component_of c =
+    if (c.0 == 0) || nat_lt 65535 c.0 then Err BadComponent else (
+    if nat_le c.0 2 && not (length c.1 == 32) then Err BadDigestLength else Ok c)
+
+-- an element, or what stands in its place, as a component
+abbrev pub component_at : Result Field TlvFault → Result Field NameFault
+component_at (Err fault) = Err BadComponent
+component_at (Ok c) = component_of c
+
+-- a component that follows n others
+abbrev pub component_after : ℕ → Result Field TlvFault → Result Field NameFault
+component_after n e = if nat_lt n 64 then component_at e else Err TooManyComponents
+
+-- the components of these elements, where n components stand before them
+abbrev pub components_after : ℕ → List (Result Field TlvFault) → Result (List Field) NameFault
+components_after n [] = Ok []
+components_after n (e ∷ es) = do
+  c ← component_after n e
+  cs ← components_after (n + 1) es
+  Ok (c ∷ cs)
+
+-- the components of a name's TLV-VALUE
+unfoldable pub name_at : List ℕ → Result (List Field) NameFault
+name_at value = components_after 0 (elements_of value)

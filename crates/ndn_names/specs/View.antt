@@ -1,0 +1,19 @@
+-- What the views show.
+use Rattle.std.specs.Prelude.{List}
+use Rattle.ndn_tlv.specs.Element.{Field}
+use Rattle.ndn_names.specs.declared.component.Component.{Component}
+use Rattle.ndn_names.specs.declared.components.Components.{Components}
+use Rattle.ndn_names.specs.declared.name.Name.{Name}
+use Rattle.ndn_names.specs.Name.{components_of}
+
+-- a component's type and octets
+abbrev pub field_of : Component → Field
+field_of c = (c.kind, c.value.now)
+
+-- the components of a name
+abbrev pub components : Name → List Field
+components name = components_of name.octets.now
+
+-- the components that an iterator has left
+abbrev pub components_left : Components → List Field
+components_left it = components_of it.rest.now

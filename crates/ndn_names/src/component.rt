@@ -1,0 +1,54 @@
+ghost use Rattle.std.specs.Prelude.{◌≡◌, ◌<◌, ◌≢◌, ◌++◌, [], ◌∷◌, List, Result, Ok, Err, length, IfOk, MatchResult};
+ghost use Rattle.ndn_tlv.specs.declared.fault.TlvFault.{TlvFault};
+ghost use Rattle.ndn_tlv.specs.Element.{Field, element};
+ghost use Rattle.ndn_tlv.specs.Reading.{elements_of, on_result};
+ghost use Rattle.ndn_names.specs.Reading.{component_of, component_at};
+
+use crate::fault::NameFault;
+use ndn_tlv::first_element;
+
+const MAX_KIND: u32 = 65535;
+
+const PARAMETERS_SHA256_DIGEST: u32 = 2;
+
+const SHA256_LEN: usize = 32;
+
+/// A component of a name (NDN Packet Format 0.3, "Name Components"). It borrows its octets.
+#[derive(Clone, Copy, Debug)]
+pub struct Component<'a> {
+    /// The TLV-TYPE, as 8 for a GenericNameComponent.
+    pub kind: u16,
+    /// The octets of the TLV-VALUE: 32 of them in a digest, of type 1 or 2.
+    pub value: &'a [u8],
+}
+
+/// The type of a component of these octets.
+pub(crate) fn component_kind(kind: u32, value: &[u8]) -> Result<u16, NameFault>
+    ensures { on_result (λ k. Ok (k, value.now)) Err result ≡ component_of (kind, value.now) }
+{
+    if kind == 0 || kind > MAX_KIND {
+        return Err(NameFault::BadComponent);
+    }
+    if kind <= PARAMETERS_SHA256_DIGEST && value.len() != SHA256_LEN {
+        return Err(NameFault::BadDigestLength);
+    }
+    Ok(kind as u16)
+}
+
+/// The component at the front of the octets, and the octets after it.
+pub(crate) fn first_component<'a>(octets: &'a [u8]) -> Result<(Component<'a>, &'a [u8]), NameFault>
+    ensures shorter { IfOk result (λ x. length x.1.now < length octets.now) }
+    ensures front { IfOk result (λ x. octets.now ≡ element (x.0.kind, x.0.value.now) ++ x.1.now) }
+    ensures walk { MatchResult result
+        (λ x. (elements_of octets.now ≡ Ok (x.0.kind, x.0.value.now) ∷ elements_of x.1.now)
+        × (component_of (x.0.kind, x.0.value.now) ≡ Ok (x.0.kind, x.0.value.now)))
+        (λ e. octets.now ≢ [] → (at : Result Field TlvFault) × (others : List (Result Field TlvFault))
+        × (elements_of octets.now ≡ at ∷ others) × (component_at at ≡ Err e)) }
+{
+    let Ok((element, rest)) = first_element(octets) else {
+        return Err(NameFault::BadComponent);
+    };
+    let kind = component_kind(element.kind, element.value)?;
+    let value = element.value;
+    Ok((Component { kind, value }, rest))
+}

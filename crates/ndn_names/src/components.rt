@@ -1,0 +1,31 @@
+ghost use Rattle.ndn_names.specs.Name.{IsNameValue, IsNameValue-prop, components_of};
+
+use crate::component::{Component, first_component};
+
+/// The components of a name, from its first to its last.
+#[derive(Debug, Drop)]
+pub struct Components<'a> {
+    pub(crate) rest: &'a [u8],
+    ghost spelled: { IsNameValue rest.now (components_of rest.now) } by { IsNameValue-prop rest.now (components_of rest.now) },
+}
+
+impl<'a> Iterator for Components<'a> {
+    type Item = Component<'a>;
+
+    ghost use Rattle.std.specs.Iterator.{YieldsFirstBy, item_count};
+    ghost use Rattle.ndn_names.specs.View.{field_of, components_left};
+
+    ghost next_gives = { YieldsFirstBy field_of components_left };
+
+    ghost remaining = { item_count components_left };
+
+    fn next(&mut self) -> Option<Component<'a>> {
+        match first_component(self.rest) {
+            Ok((component, rest)) => {
+                self.rest = rest;
+                Some(component)
+            }
+            Err(_) => None,
+        }
+    }
+}

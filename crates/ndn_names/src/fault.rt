@@ -1,0 +1,49 @@
+ghost use Rattle.std.specs.Prelude.{◌≡◌};
+ghost use Rattle.ndn_names.specs.declared.fault.NameFault.TheVariants as faults;
+
+use ndn_tlv::Memory as NoMemory;
+use std::alloc::{AllocError, AllocFailed};
+use thiserror::Error;
+
+/// Why octets are no name, or why a name cannot grow (NDN Packet Format 0.3, "Name"). Components
+/// are read from left to right: the 65th is `TooManyComponents` whatever it holds, and of any
+/// other the first fault in this enum's order is told.
+#[derive(Clone, Copy, Debug, PartialEq, Eq, Error)]
+pub enum NameFault {
+    /// A component's type is 0 or above 65535, or it is no element.
+    #[error("a component is no element of a type from 1 to 65535")]
+    BadComponent,
+    /// A digest, a component of type 1 or 2, has other than 32 octets.
+    #[error("a digest component has other than 32 octets")]
+    BadDigestLength,
+    /// A name has more than 64 components.
+    #[error("a name has more than 64 components")]
+    TooManyComponents,
+    /// A growth of memory was refused.
+    #[error("out of memory")]
+    Memory,
+}
+
+impl From<NoMemory> for NameFault {
+    ghost from_gives = { λ _ e. e ≡ faults.Memory };
+
+    fn from(_error: NoMemory) -> NameFault {
+        NameFault::Memory
+    }
+}
+
+impl From<AllocError> for NameFault {
+    ghost from_gives = { λ _ e. e ≡ faults.Memory };
+
+    fn from(_error: AllocError) -> NameFault {
+        NameFault::from(NoMemory)
+    }
+}
+
+impl<T: Drop> From<AllocFailed<T>> for NameFault {
+    ghost from_gives = { λ _ e. e ≡ faults.Memory };
+
+    fn from(_error: AllocFailed<T>) -> NameFault {
+        NameFault::from(NoMemory)
+    }
+}

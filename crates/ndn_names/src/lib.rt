@@ -1,0 +1,22 @@
+//! Names of Named Data Networking: components, canonical order.
+#![tactic(auto)]
+
+mod component;
+mod components;
+mod fault;
+mod name;
+mod name_buf;
+mod order;
+
+pub use component::Component;
+pub use components::Components;
+pub use fault::NameFault;
+pub use name::{MAX_COMPONENTS, Name, names_have_one_reading};
+pub use name_buf::NameBuf;
+pub use order::{
+    canonical_order_is_total, comparison_tells_the_order, names_can_be_keys,
+    octets_are_in_canonical_order,
+};
+
+#[cfg(test)]
+mod tests;

@@ -1,0 +1,123 @@
+ghost use Rattle.std.specs.Prelude.{◌≡◌, ◌↔◌, ◌<◌, ◌≤◌, ℕ, List, [], ◌++◌, ◌+◌, length, take, drop, Result, Ok, Err, MatchResult, IsTrue, IfOk, IfSome, IsOkAnd, IsErrOf, slice_get, slice_index};
+ghost use Rattle.ndn_tlv.specs.Element.{Field};
+ghost use Rattle.ndn_names.specs.Reading.{name_at};
+ghost use Rattle.ndn_names.specs.Name.{IsNameValue, IsNameValue-prop, components_of};
+
+use crate::component::{Component, first_component};
+use crate::components::Components;
+use crate::fault::NameFault;
+use std::cmp::Ordering;
+
+/// The greatest number of components of a name.
+pub const MAX_COMPONENTS: usize = 64;
+
+/// A name, as the TLV-VALUE of its Name element (NDN Packet Format 0.3, "Name"): at most 64
+/// components. It borrows the octets.
+#[derive(Clone, Copy, Debug)]
+pub struct Name<'a> {
+    pub(crate) octets: &'a [u8],
+    ghost spelled: { IsNameValue octets.now (components_of octets.now) } by { IsNameValue-prop octets.now (components_of octets.now) },
+}
+
+/// Refuses octets that are no name's.
+fn check_components(octets: &[u8]) -> Result<(), NameFault>
+    ensures { MatchResult result (λ _. (cs : List Field) × (name_at octets.now ≡ Ok cs))
+        (λ fault. name_at octets.now ≡ Err fault) }
+{
+    let mut rest = octets;
+    let mut count = 0;
+    while !rest.is_empty() {
+        if count == MAX_COMPONENTS {
+            return Err(NameFault::TooManyComponents);
+        }
+        (_, rest) = first_component(rest)?;
+        count += 1;
+    }
+    Ok(())
+}
+
+impl<'a> Name<'a> {
+    ghost use Rattle.std.specs.Ordering.{MatchOrdering};
+    ghost use Rattle.std.specs.Option.{option_map};
+    ghost use Rattle.ndn_tlv.specs.Element.{element};
+    ghost use Rattle.ndn_tlv.specs.Reading.{on_result};
+    ghost use Rattle.ndn_names.specs.Name.{octets_of};
+    ghost use Rattle.ndn_names.specs.Order.{Less, name_cmp};
+    ghost use Rattle.ndn_names.specs.View.{components, field_of, components_left};
+
+    /// Reads the TLV-VALUE of a Name element, from left to right.
+    ///
+    /// Refuses it by the first fault: see `NameFault`, of which `Memory` never comes.
+    pub fn read(value: &'a [u8]) -> Result<Name<'a>, NameFault>
+        // What is read is spelled so.
+        ensures found { IfOk result (λ name. IsNameValue value.now (components name)) }
+        // What is spelled so is read.
+        ensures only { (cs : List Field) → IsNameValue value.now cs → IsOkAnd result (λ name. components name ≡ cs) }
+        // Which fault it is.
+        ensures exact { on_result (λ name. Ok (components name)) Err result ≡ name_at value.now }
+        ensures takes_no_memory { ¬ IsErrOf result NameFault.Memory }
+    {
+        check_components(value)?;
+        Ok(Name { octets: value })
+    }
+
+    /// The TLV-VALUE of the name.
+    pub fn as_octets(&self) -> &'a [u8]
+        ensures { IsNameValue result.now (components self.now) }
+    {
+        self.octets
+    }
+
+    /// Compares in canonical order (NDN Packet Format 0.3, "Name", "Canonical Order").
+    pub fn compare(&self, other: Name<'_>) -> Ordering
+        ensures exact { result ≡ name_cmp (components self.now) (components other.entry) }
+        ensures order { MatchOrdering result (Less (components self.now) (components other.entry))
+            (components self.now ≡ components other.entry)
+            (Less (components other.entry) (components self.now)) }
+    {
+        self.as_octets().cmp(other.as_octets())
+    }
+
+    /// The components, from the first to the last.
+    pub fn iter(&self) -> Components<'a>
+        ensures { components_left result ≡ components self.now }
+    {
+        Components {
+            rest: self.as_octets(),
+        }
+    }
+
+    /// The number of components, 64 at most.
+    pub fn len(&self) -> usize
+        ensures exact { result ≡ length (components self.now) }
+        ensures small { result ≤ 64 }
+    {
+        self.iter().count()
+    }
+
+    /// Whether the name has no component.
+    pub fn is_empty(&self) -> bool
+        ensures { IsTrue result ↔ (components self.now ≡ []) }
+    {
+        self.as_octets().is_empty()
+    }
+
+    /// The component at a place, counted from 0.
+    pub fn component(&self, i: usize) -> Option<Component<'a>>
+        ensures exact { option_map field_of result ≡ slice_get (components self.now) i }
+        // Where it stands in the name's octets.
+        ensures place { IfSome result (λ c. octets_of (components self.now)
+            ≡ octets_of (take i (components self.now))
+            ++ (element (field_of c) ++ octets_of (drop (i + 1) (components self.now)))) }
+    {
+        self.iter().nth(i)
+    }
+}
+
+/// Law: octets are the TLV-VALUE of at most one name, which `name_at` and `components_of` read.
+pub fn names_have_one_reading()
+    ensures one { (value : List ℕ) (a b : List Field) → IsNameValue value a → IsNameValue value b → a ≡ b }
+    ensures exact { (value : List ℕ) (cs : List Field) → ((i : ℕ) → slice_index value i < 256)
+        → ((name_at value ≡ Ok cs) ↔ IsNameValue value cs) }
+    ensures shown { (value : List ℕ) (cs : List Field) → IsNameValue value cs → components_of value ≡ cs }
+{}

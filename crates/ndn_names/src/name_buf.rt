@@ -1,0 +1,75 @@
+ghost use Rattle.std.specs.Prelude.{◌≡◌, ◌⊎◌, List, [], ◌∷◌, ◌++◌, length, Ok, Err, IfOk, OnOk, OnErr, MatchResult};
+ghost use Rattle.ndn_tlv.specs.Element.{Field};
+ghost use Rattle.ndn_names.specs.Name.{IsNameValue, components_of};
+
+use crate::component::component_kind;
+use crate::fault::NameFault;
+use crate::name::{MAX_COMPONENTS, Name};
+use ndn_tlv::{Memory, put_element};
+use std::alloc::Global;
+use std::marker::Model;
+
+/// A name that owns its octets (NDN Packet Format 0.3, "Name"): at most 64 components.
+#[derive(Debug, Drop)]
+pub struct NameBuf {
+    octets: Vec<u8>,
+}
+
+impl Model for NameBuf {
+    ghost Value = { List Field };
+
+    ghost view = { λ name. components_of name.octets.items };
+
+    ghost invariant = { λ name. IsNameValue name.octets.items (components_of name.octets.items) };
+}
+
+impl NameBuf {
+    ghost use Rattle.ndn_names.specs.Reading.{component_after};
+    ghost use Rattle.ndn_names.specs.View.{components};
+
+    /// The name without components.
+    pub fn new(alloc: Global) -> NameBuf
+        ensures { result ≡ [] }
+    {
+        NameBuf {
+            octets: Vec::new(alloc),
+        }
+    }
+
+    /// A copy of a name.
+    pub fn from_name(alloc: Global, name: Name<'_>) -> Result<NameBuf, Memory>
+        ensures { IfOk result (λ copy. copy ≡ components name.entry) }
+    {
+        let octets = Vec::from_slice(alloc, name.as_octets())?;
+        Ok(NameBuf { octets })
+    }
+
+    /// Appends a component of a type and octets.
+    ///
+    /// Refuses it by the first fault in this order, and then changes nothing: `TooManyComponents`
+    /// where 64 stand, `BadComponent` at type 0, `BadDigestLength`, `Memory`.
+    pub fn append(&mut self, kind: u16, value: &[u8]) -> Result<(), NameFault>
+        ensures ok { OnOk result (self.new ≡ self.old ++ (kind, value.now) ∷ []) }
+        ensures err { OnErr result (self.new ≡ self.old) }
+        // Which fault it is: where there is no cause, memory was refused.
+        ensures exact { let next = component_after (length self.old) (Ok (kind, value.now)) in
+            MatchResult result (λ _. next ≡ Ok (kind, value.now))
+            (λ fault. (next ≡ Err fault) ⊎ ((fault ≡ NameFault.Memory) × (next ≡ Ok (kind, value.now)))) }
+    {
+        if self.view().len() == MAX_COMPONENTS {
+            return Err(NameFault::TooManyComponents);
+        }
+        component_kind(u32::from(kind), value)?;
+        put_element(&mut self.octets, u32::from(kind), value)?;
+        Ok(())
+    }
+
+    /// The name, to read.
+    pub fn view(&self) -> Name<'_>
+        ensures { components result ≡ self.now }
+    {
+        Name {
+            octets: &self.octets,
+        }
+    }
+}
