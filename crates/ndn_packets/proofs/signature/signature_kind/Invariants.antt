@@ -1,0 +1,11 @@
+use Rattle.std.proofs.Common.{◌≡◌, [], ◌∷◌, None, length}
+use Rattle.ndn_tlv.specs.Reading.{elements_of}
+use Rattle.ndn_packets.specs.FieldReader.{fields_left}
+use Rattle.ndn_packets.specs.Reading.{read_fields, take_info_field, fields_from}
+use Rattle.ndn_packets.proofs.signature.signature_kind.Given as goal
+
+abbrev pub invariant-loop-field : goal.invariant-loop-field
+invariant-loop-field l = read_fields take_info_field l.kind (fields_left l.fields) ≡ read_fields take_info_field None (fields_from (27 ∷ []) (elements_of l.fn.info))
+
+abbrev pub decreases-loop-field : goal.decreases-loop-field
+decreases-loop-field l = length l.fields.rest.now

@@ -1,0 +1,5 @@
+pub mod Packet
+pub mod Grammar
+pub mod Reading
+pub mod FieldReader
+pub mod Found

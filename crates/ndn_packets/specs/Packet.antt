@@ -1,0 +1,78 @@
+-- Packets as plain data: what a view shows, without where it lies in memory.
+use Rattle.std.specs.Prelude.{ℕ, List, Option, None, Some, Bool}
+use Rattle.ndn_tlv.specs.Element.{Field}
+use Rattle.ndn_names.specs.View.{components}
+use Rattle.ndn_packets.specs.declared.signature.Locator.{Locator}
+use Rattle.ndn_packets.specs.declared.signature.Locator.TheVariants as locators
+use Rattle.ndn_packets.specs.declared.signature.Signature.{Signature}
+use Rattle.ndn_packets.specs.declared.interest.Interest.{Interest}
+use Rattle.ndn_packets.specs.declared.data.Data.{Data}
+use Rattle.ndn_packets.specs.declared.frame.Frame.{Frame}
+use Rattle.ndn_packets.specs.declared.frame.Frame.TheVariants as frames
+use Rattle.std.specs.Option.{option_map}
+
+pub data PlainLocator : Type 0 where
+  Missing : PlainLocator
+  KeyName : List Field → PlainLocator
+  Digest : PlainLocator
+  Other : PlainLocator
+
+pub record PlainSignature : Type 0 where
+  pub kind : ℕ
+  pub locator : PlainLocator
+  pub time : Option ℕ
+  pub seq : Option ℕ
+  pub value : List ℕ
+
+pub record PlainInterest : Type 0 where
+  pub name : List Field
+  pub can_be_prefix : Bool
+  pub must_be_fresh : Bool
+  pub nonce : List ℕ
+  pub lifetime : ℕ
+  pub hop_limit : Option ℕ
+  pub parameters : Option (List ℕ)
+  pub signature : Option PlainSignature
+
+pub record PlainData : Type 0 where
+  pub name : List Field
+  pub freshness : ℕ
+  pub content : Option (List ℕ)
+  pub signature : PlainSignature
+
+pub data PlainFrame : Type 0 where
+  AnInterest : PlainInterest → PlainFrame
+  AData : PlainData → PlainFrame
+
+abbrev pub plain_locator : Locator → PlainLocator
+plain_locator locators.Missing = Missing
+plain_locator (locators.Name n) = KeyName (components n)
+plain_locator locators.Digest = Digest
+plain_locator locators.Other = Other
+
+abbrev pub plain_signature : Signature → PlainSignature
+plain_signature s = record { kind = s.kind; locator = plain_locator s.locator; time = s.time; seq = s.seq; value = s.value.now }
+
+abbrev pub plain_interest : Interest → PlainInterest
+plain_interest i = record {
+  name = components i.name;
+  can_be_prefix = i.can_be_prefix;
+  must_be_fresh = i.must_be_fresh;
+  nonce = i.nonce;
+  lifetime = i.lifetime;
+  hop_limit = i.hop_limit;
+  parameters = option_map (λ p. p.now) i.parameters;
+  signature = option_map plain_signature i.signature;
+}
+
+abbrev pub plain_data : Data → PlainData
+plain_data d = record { name = components d.name; freshness = d.freshness; content = option_map (λ c. c.now) d.content; signature = plain_signature d.signature }
+
+abbrev pub plain_frame : Frame → PlainFrame
+plain_frame (frames.Interest i) = AnInterest (plain_interest i)
+plain_frame (frames.Data d) = AData (plain_data d)
+
+-- the received octets that a view was read from
+abbrev pub whole_of : Frame → List ℕ
+whole_of (frames.Interest i) = i.whole.now
+whole_of (frames.Data d) = d.whole.now

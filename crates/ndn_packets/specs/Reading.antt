@@ -1,0 +1,129 @@
+-- Reading packets from left to right, with the first fault that is met (NDN Packet Format 0.3, "Interest Packet" and "Data Packet").
+use Rattle.std.specs.Prelude.{◌≡◌, ℕ, ◌+◌, List, [], ◌∷◌, length, drop, Option, None, Some, Result, Ok, Err, Bool, true, false, nat_lt, ◌==◌, ◌||◌, not, if◌then◌else◌}
+use Rattle.ndn_tlv.specs.declared.fault.TlvFault.{TlvFault}
+use Rattle.ndn_tlv.specs.Element.{Field}
+use Rattle.ndn_tlv.specs.Reading.{◌>>=◌, on_result, element_at, elements_of, nni_at}
+use Rattle.ndn_names.specs.Reading.{name_at}
+use Rattle.ndn_packets.specs.declared.fault.PacketFault.{PacketFault}
+use Rattle.ndn_packets.specs.declared.fault.PacketFault.TheVariants.{Tlv, NoName, BadField, NoNonce, TooLong}
+use Rattle.ndn_packets.specs.Packet.{PlainLocator, Missing, PlainSignature, PlainInterest, PlainData, PlainFrame, AnInterest, AData}
+
+-- what of a schema stands behind a type
+abbrev pub schema_after : ℕ → List ℕ → Option (List ℕ)
+schema_after kind [] = None
+schema_after kind (first ∷ schema) = if first == kind then Some schema else schema_after kind schema
+
+abbrev pub on_option : {A C : Type 0} → (A → C) → C → Option A → C
+on_option f c None = c
+on_option f c (Some x) = f x
+
+-- The fields of a schema among elements, in the schema's order, up to the end or to the first fault, which is then the last.
+abbrev pub fields_from : List ℕ → List (Result Field TlvFault) → List (Result Field PacketFault)
+fields_from schema [] = []
+fields_from schema (Err f ∷ elements) = Err (Tlv f) ∷ []
+fields_from schema (Ok e ∷ elements) = on_option (λ later. Ok e ∷ fields_from later elements) (Err BadField ∷ []) (schema_after e.0 schema)
+
+-- what has been read, after each of the fields in turn
+abbrev pub read_fields : {S : Type 0} → (S → Field → Result S PacketFault) → S → List (Result Field PacketFault) → Result S PacketFault
+read_fields take s [] = Ok s
+read_fields take s (Err f ∷ fields) = Err f
+read_fields take s (Ok f ∷ fields) = take s f >>= λ t. read_fields take t fields
+
+-- the value of the first element, which has to be a Name, and what follows it
+abbrev pub name_first : List (Result Field TlvFault) → Result (List ℕ × List (Result Field TlvFault)) PacketFault
+name_first [] = Err NoName
+name_first (Err f ∷ elements) = Err (Tlv f)
+name_first (Ok e ∷ elements) = if e.0 == 7 then Ok (e.1, elements) else Err NoName
+
+-- a value that is a name
+abbrev pub name_value_at : List ℕ → Result (List Field) PacketFault
+name_value_at value = on_result (λ name. Ok name) (λ _. Err BadField) (name_at value)
+
+-- the name that the first element has to be, and what follows it
+abbrev pub leading_name_at : List (Result Field TlvFault) → Result (List Field × List (Result Field TlvFault)) PacketFault
+leading_name_at elements = do
+  first ← name_first elements
+  name ← name_value_at first.0
+  Ok (name, first.1)
+
+-- of an Interest: its Nonce
+abbrev pub take_interest_field : Option (List ℕ) → Field → Result (Option (List ℕ)) PacketFault
+take_interest_field _ f = if length f.1 == 4 then Ok (Some f.1) else Err BadField
+
+abbrev pub interest_made : List Field → Option (List ℕ) → Result PlainInterest PacketFault
+interest_made name None = Err NoNonce
+interest_made name (Some nonce) = Ok (record {
+  name = name;
+  can_be_prefix = false;
+  must_be_fresh = false;
+  nonce = nonce;
+  lifetime = 4000;
+  hop_limit = None;
+  parameters = None;
+  signature = None;
+})
+
+abbrev pub is_nil : {A : Type 0} → List A → Bool
+is_nil [] = true
+is_nil (x ∷ xs) = false
+
+unfoldable pub interest_at : List ℕ → Result PlainInterest PacketFault
+interest_at value = do
+  first ← leading_name_at (elements_of value)
+  name ← if is_nil first.0 then Err NoName else Ok first.0
+  nonce ← read_fields take_interest_field None (fields_from (10 ∷ []) first.1)
+  interest_made name nonce
+
+-- of a SignatureInfo: its SignatureType
+abbrev pub take_info_field : Option ℕ → Field → Result (Option ℕ) PacketFault
+take_info_field kind f = on_result (λ n. Ok (Some n)) (λ _. Err BadField) (nni_at f.1)
+
+abbrev pub found_or : {A : Type 0} → PacketFault → Option A → Result A PacketFault
+found_or fault None = Err fault
+found_or fault (Some x) = Ok x
+
+unfoldable pub info_at : List ℕ → Result ℕ PacketFault
+info_at value = do
+  kind ← read_fields take_info_field None (fields_from (27 ∷ []) (elements_of value))
+  found_or BadField kind
+
+-- of a Data: its Content, its SignatureType and its SignatureValue
+pub record DataSoFar : Type 0 where
+  pub content : Option (List ℕ)
+  pub kind : Option ℕ
+  pub value : Option (List ℕ)
+
+abbrev pub nothing_yet : DataSoFar
+nothing_yet = record { content = None; kind = None; value = None }
+
+abbrev pub take_data_field : DataSoFar → Field → Result DataSoFar PacketFault
+take_data_field s f =
+    if f.0 == 21 then Ok (record { content = Some f.1; kind = s.kind; value = s.value }) else (
+    if f.0 == 22 then (info_at f.1 >>= λ kind. Ok (record { content = s.content; kind = Some kind; value = s.value })) else
+    Ok (record { content = s.content; kind = s.kind; value = Some f.1 }))
+
+unfoldable pub data_at : List ℕ → Result PlainData PacketFault
+data_at value = do
+  first ← leading_name_at (elements_of value)
+  fields ← read_fields take_data_field nothing_yet (fields_from (21 ∷ 22 ∷ 23 ∷ []) first.1)
+  kind ← found_or BadField fields.kind
+  signature ← found_or BadField fields.value
+  Ok (record { name = first.0; freshness = 0; content = fields.content; signature = record { kind = kind; locator = Missing; time = None; seq = None; value = signature } })
+
+-- the packet of an outer element, with what follows that element
+abbrev pub packet_at : List ℕ → Field → List ℕ → Result PlainFrame PacketFault
+packet_at text outer rest =
+    if not (is_nil rest) then Err BadField else (
+    if not (outer.0 == 5 || outer.0 == 6) then Err BadField else (
+    if nat_lt 8800 (length text) then Err TooLong else (
+    if outer.0 == 5 then (interest_at outer.1 >>= λ i. Ok (AnInterest i)) else
+    (data_at outer.1 >>= λ d. Ok (AData d)))))
+
+unfoldable pub frame_at : List ℕ → Result PlainFrame PacketFault
+frame_at text =
+    if nat_lt 9000 (length text) then Err TooLong else
+    on_result (λ x. packet_at text x.0 x.1) (λ f. Err (Tlv f)) (element_at text)
+
+-- the first fault of a text that is no frame
+abbrev pub FaultOf : List ℕ → PacketFault → Type 0
+FaultOf text fault = frame_at text ≡ Err fault

@@ -1,0 +1,97 @@
+ghost use Rattle.std.specs.Prelude.{◌≡◌, [], ◌∷◌, Ok, Err};
+ghost use Rattle.ndn_tlv.specs.Reading.{elements_of, on_result};
+ghost use Rattle.ndn_packets.specs.Reading.{read_fields, take_data_field, nothing_yet, fields_from};
+ghost use Rattle.ndn_packets.specs.Found.{so_far};
+
+use crate::fault::PacketFault;
+use crate::field_reader::{FieldReader, leading_name};
+use crate::signature::{Locator, Signature, signature_kind};
+use ndn_names::Name;
+
+/// A Data, a view of the octets that it was read from (NDN Packet Format 0.3, "Data Packet").
+#[derive(Clone, Copy, Debug)]
+pub struct Data<'a> {
+    /// The name, which may be empty.
+    pub name: Name<'a>,
+    /// The FreshnessPeriod in milliseconds, 0 where the packet has none. This profile reads none.
+    pub freshness: u64,
+    /// The value of the Content, `None` where the packet has none, which an empty one is not.
+    pub content: Option<&'a [u8]>,
+    /// The signature, which is not verified.
+    pub signature: Signature<'a>,
+    /// The received octets of the whole packet, its type and length among them, at most 8,800.
+    pub whole: &'a [u8],
+}
+
+/// The type of a Content, a SignatureInfo and a SignatureValue.
+const CONTENT: u32 = 21;
+
+const SIGNATURE_INFO: u32 = 22;
+
+const SIGNATURE_VALUE: u32 = 23;
+
+/// The fields of a Data behind its Name.
+const FIELDS: [u32; 3] = [CONTENT, SIGNATURE_INFO, SIGNATURE_VALUE];
+
+/// The fields of a Data that were read so far.
+#[derive(Clone, Copy)]
+struct Found<'a> {
+    content: Option<&'a [u8]>,
+    kind: Option<u64>,
+    value: Option<&'a [u8]>,
+}
+
+impl<'a> Data<'a> {
+    ghost use Rattle.std.specs.Prelude.{◌≡◌, IfOk, Ok, Err};
+    ghost use Rattle.ndn_tlv.specs.Reading.{on_result};
+    ghost use Rattle.ndn_packets.specs.Packet.{plain_data};
+    ghost use Rattle.ndn_packets.specs.Reading.{data_at};
+
+    #[tactic(auto, unfolding(crate::specs::Reading::data_at))]
+    /// Reads the value of a Data element, which is the whole one.
+    pub(crate) fn read(whole: &'a [u8], value: &'a [u8]) -> Result<Data<'a>, PacketFault>
+        ensures exact { on_result (λ d. Ok (plain_data d)) Err result ≡ data_at value.now }
+        ensures whole { IfOk result (λ d. d.whole.now ≡ whole.now) }
+    {
+        let (name, rest) = leading_name(value)?;
+        let found = fields_of(rest)?;
+        let (Some(kind), Some(value)) = (found.kind, found.value) else {
+            return Err(PacketFault::BadField);
+        };
+        let signature = Signature {
+            kind,
+            locator: Locator::Missing,
+            time: None,
+            seq: None,
+            value,
+        };
+        Ok(Data {
+            name,
+            freshness: 0,
+            content: found.content,
+            signature,
+            whole,
+        })
+    }
+}
+
+/// The fields behind the Name.
+fn fields_of(rest: &[u8]) -> Result<Found<'_>, PacketFault>
+    ensures { on_result (λ f. Ok (so_far f)) Err result
+        ≡ read_fields take_data_field nothing_yet (fields_from (21 ∷ 22 ∷ 23 ∷ []) (elements_of rest.now)) }
+{
+    let mut fields = FieldReader::new(rest, &FIELDS);
+    let mut found = Found {
+        content: None,
+        kind: None,
+        value: None,
+    };
+    while let Some(field) = fields.next()? {
+        match field.kind {
+            CONTENT => found.content = Some(field.value),
+            SIGNATURE_INFO => found.kind = Some(signature_kind(field.value)?),
+            _ => found.value = Some(field.value),
+        }
+    }
+    Ok(found)
+}

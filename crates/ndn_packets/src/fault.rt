@@ -1,0 +1,29 @@
+use ndn_tlv::TlvFault;
+use thiserror::Error;
+
+/// Why octets are no packet of this profile: the first fault from the left (NDN Packet Format 0.3,
+/// "Interest Packet" and "Data Packet").
+///
+/// The order is: `TooLong` above 9,000 octets, the outer element, octets after it, its type,
+/// `TooLong` above 8,800 octets, the Name, the fields behind it one after the other, and last a field
+/// that is missing.
+#[derive(Clone, Copy, Debug, PartialEq, Eq, Error)]
+pub enum PacketFault {
+    /// An element cannot be read, one that this profile does not have among them.
+    #[error("{0}")]
+    Tlv(TlvFault),
+    /// A packet does not begin with a Name, or an Interest's Name is empty.
+    #[error("no name")]
+    NoName,
+    /// A field other than the Name and the Nonce is missing, a field is misplaced or repeated, is not
+    /// of this profile, or has a value that is not of its form; or the outer type is neither 5 nor 6,
+    /// or octets follow the packet.
+    #[error("a field is missing, or not of its form")]
+    BadField,
+    /// An Interest has no Nonce.
+    #[error("no nonce")]
+    NoNonce,
+    /// The octets are more than 9,000, or those of a packet more than 8,800.
+    #[error("too long")]
+    TooLong,
+}

@@ -1,0 +1,81 @@
+ghost use Rattle.std.specs.Prelude.{◌≡◌, ◌<◌, ℕ, List, [], ◌∷◌, length, Ok, Err, MatchResult, MatchOption, IfOk, OnSome, option_map};
+ghost use Rattle.ndn_tlv.specs.Reading.{elements_of, on_result};
+ghost use Rattle.ndn_names.specs.View.{components};
+ghost use Rattle.ndn_packets.specs.Reading.{schema_after, fields_from, leading_name_at};
+ghost use Rattle.ndn_packets.specs.FieldReader.{fields_left};
+
+use crate::fault::PacketFault;
+use ndn_names::Name;
+use ndn_tlv::{Element, first_element};
+
+/// The type of a Name (NDN Packet Format 0.3, "Name").
+const NAME: u32 = 7;
+
+/// Goes over the fields of a schema among the elements of a value, in the schema's order.
+#[derive(Drop)]
+pub struct FieldReader<'a> {
+    rest: &'a [u8],
+    schema: &'a [u32],
+}
+
+impl<'a> FieldReader<'a> {
+    pub fn new(value: &'a [u8], schema: &'a [u32]) -> FieldReader<'a>
+        ensures { fields_left result ≡ fields_from schema.entry.now (elements_of value.entry.now) }
+    {
+        FieldReader {
+            rest: value,
+            schema,
+        }
+    }
+
+    /// The next field. An element that the rest of the schema does not have is refused.
+    pub fn next(&mut self) -> Result<Option<Element<'a>>, PacketFault>
+        ensures walk { MatchResult result
+            (λ next. MatchOption next
+            (fields_left self.old ≡ [])
+            (λ e. fields_left self.old ≡ Ok (e.kind, e.value.now) ∷ fields_left self.new))
+            (λ fault. fields_left self.old ≡ Err fault ∷ []) }
+        ensures progress { IfOk result (λ next. OnSome next (length self.new.rest.now < length self.old.rest.now)) }
+    {
+        if self.rest.is_empty() {
+            return Ok(None);
+        }
+        let (element, rest) = first_element(self.rest).map_err(PacketFault::Tlv)?;
+        let Some(schema) = behind(self.schema, element.kind) else {
+            return Err(PacketFault::BadField);
+        };
+        self.rest = rest;
+        self.schema = schema;
+        Ok(Some(element))
+    }
+}
+
+/// What of a schema stands behind a type.
+fn behind(schema: &[u32], kind: u32) -> Option<&[u32]>
+    ensures { option_map (λ s. s.now) result ≡ schema_after kind schema.now }
+{
+    for (i, first) in schema.iter().enumerate() {
+        if *first == kind {
+            return Some(&schema[i + 1..]);
+        }
+    }
+    None
+}
+
+/// The name that the first element has to be, and the octets after it.
+pub fn leading_name(value: &[u8]) -> Result<(Name<'_>, &[u8]), PacketFault>
+    ensures { on_result (λ x. Ok (components x.0, elements_of x.1.now)) Err result
+        ≡ leading_name_at (elements_of value.now) }
+{
+    if value.is_empty() {
+        return Err(PacketFault::NoName);
+    }
+    let (first, rest) = first_element(value).map_err(PacketFault::Tlv)?;
+    if first.kind != NAME {
+        return Err(PacketFault::NoName);
+    }
+    match Name::read(first.value) {
+        Ok(name) => Ok((name, rest)),
+        Err(_) => Err(PacketFault::BadField),
+    }
+}

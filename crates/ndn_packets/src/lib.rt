@@ -1,0 +1,18 @@
+//! Interests and Data of the Named Data Networking packet format, read in place.
+#![tactic(auto)]
+
+mod data;
+mod fault;
+mod field_reader;
+mod frame;
+mod interest;
+mod signature;
+
+pub use data::Data;
+pub use fault::PacketFault;
+pub use frame::{Frame, read_frame};
+pub use interest::Interest;
+pub use signature::{Locator, Signature};
+
+#[cfg(test)]
+mod tests;
