@@ -1,0 +1,234 @@
+-- From what was fed to what is known at the end of a run.
+use Rattle.std.proofs.Common.{◌≡◌, ℕ, zero, suc, ◌+◌, ◌<◌, ◌≤◌, List, [], ◌∷◌, ◌++◌, length, refl, sym, ap, ◌∙◌, arith, append_assoc, append-nil, length-append, subst, take}
+use Rattle.std.specs.Prelude.{Option, Some, None, IfSome}
+use Rattle.std.specs.Io.KnownBytes.{Appends, Consumes, Keeps, IsAtEnd}
+use Rattle.node_core.specs.Event.{PlainEvent}
+use Rattle.node_core.specs.State.{State, initial}
+use Rattle.node_core.specs.Line.{Lacks, IsBadLine}
+use Rattle.node_core.specs.Past.{Run, Start, Then, IsRun, Stands}
+use Rattle.node_core.proofs.Runs.{step_keeps, initial_stands}
+use Rattle.node_core.specs.Script.{Runs, run_from, ended, joined, AreLines, Say, BeginsWithLines, IsScript, BeginsWithEvents, IsScriptSoFar, IsBadAt, Ran}
+use Rattle.node_core.specs.Ending.{AppendsFront, Ends, Stops}
+use Rattle.node_core.specs.Writing.{Outcome, Answered, NoMemory}
+use Rattle.node_core.specs.Play.{Place, IsPending, Plays, TurnsBad, FeedStops, LineStops}
+use Rattle.node_core.specs.declared.script.RunFault.{RunFault}
+use Rattle.node_core.specs.declared.script.RunFault.TheVariants as fault
+use Rattle.node_core.proofs.Known.{Appends-then, Appends-kept, AppendsFront-after, AppendsFront-all}
+use Rattle.node_core.proofs.Playing.{Fed, Fed-start, Plays-then, joined-append}
+
+-- where a run starts
+abbrev pub start : Place
+start = record { node = initial; lines = 0; events = 0 }
+
+-- what is so of the octets that were read, whatever comes after them, is so of known octets
+known_text : (unread left : Option (List ℕ)) (P : List ℕ → Type 0) (front : List ℕ) → Consumes unread left front → ((more : List ℕ) → P (front ++ more)) → IfSome unread P
+known_text None left P front h k = tt
+known_text (Some xs) None P front h k = absurd h
+known_text (Some xs) (Some ys) P front h k = subst P (sym h) (k ys)
+
+-- what is so of the octets that were read to the end is so of known octets
+known_end : (unread left : Option (List ℕ)) (P : List ℕ → Type 0) (front : List ℕ) → Consumes unread left front → IsAtEnd left → P front → IfSome unread P
+known_end None left P front h e k = tt
+known_end (Some xs) None P front h e k = absurd h
+known_end (Some xs) (Some ys) P front h e k =
+    subst P (sym (h ∙ ap (λ (t : List ℕ). front ++ t) e ∙ append-nil front)) k
+
+-- a run of a script is a run, in which the node stands
+runs_stand : (past : Run) (old new : State) (events : List PlainEvent) (outcomes : List Outcome) → Runs old events outcomes new → IsRun past → Stands past old → IsRun (run_from past events outcomes) × Stands (run_from past events outcomes) new
+runs_stand past old new [] [] runs run stands = (run, subst (Stands past) (sym runs) stands)
+runs_stand past old new [] (outcome ∷ outcomes) runs run stands = absurd runs
+runs_stand past old new (event ∷ events) [] runs run stands = absurd runs
+runs_stand past old new (event ∷ events) (Answered answer ∷ outcomes) runs run stands =
+    let next = step_keeps past old event answer runs.0 run stands runs.1 in
+    runs_stand (Then past event answer) runs.0 new events outcomes runs.2 next.0 next.1
+runs_stand past old new (event ∷ events) (NoMemory ∷ outcomes) runs run stands =
+    runs_stand past runs.0 new events outcomes runs.2 run (subst (Stands past) (sym runs.1.0) stands)
+
+Ran-from_plays : (lines : List (List ℕ)) (to : Place) (text : List ℕ) → (plays : Plays lines start to text) → Ran plays.events text
+Ran-from_plays lines to text plays =
+    let stands = runs_stand Start initial to.node plays.events plays.outcomes plays.runs tt initial_stands in
+    record { outcomes = plays.outcomes; last = to.node; runs = plays.runs; written = plays.text_is; is_run = stands.0; stands = stands.1 }
+
+-- ---- what comes after octets that were fed
+
+shape_more : (j l c : List ℕ) → (j ++ (l ++ [])) ++ c ≡ j ++ (l ++ c)
+shape_more j l c = rw (append-nil l) (append_assoc j l c)
+
+fed_more : (front chunk line : List ℕ) (a b : List (List ℕ)) (rest : List ℕ) → front ≡ joined a ++ (line ++ []) → line ++ chunk ≡ joined b ++ rest → front ++ chunk ≡ joined (a ++ b) ++ rest
+fed_more front chunk line a b rest h k =
+    ap (λ (t : List ℕ). t ++ chunk) h ∙ shape_more (joined a) line chunk ∙ ap (λ (t : List ℕ). joined a ++ t) k
+    ∙ sym (append_assoc (joined a) (joined b) rest) ∙ ap (λ (t : List ℕ). t ++ rest) (sym (joined-append a b))
+
+pub Fed-more : (front chunk : List ℕ) (from mid to : Place) (line now : List ℕ) (held holds new : Option (List ℕ)) (lines : List (List ℕ)) (text : List ℕ) → Fed front from mid line [] held holds
+    → Plays lines mid to text → Appends holds new text → line ++ chunk ≡ joined lines ++ now → Fed (front ++ chunk) from to now [] held new
+Fed-more front chunk from mid to line now held holds new lines text fed plays written is = record {
+  lines = fed.lines ++ lines;
+  text = fed.text ++ text;
+  plays = Plays-then fed.lines lines from mid to fed.text text fed.plays plays;
+  written = Appends-then held holds new fed.text text fed.written written;
+  stream_is = fed_more front chunk line fed.lines lines now fed.stream_is is ∙ ap (λ (t : List ℕ). joined (fed.lines ++ lines) ++ t) (sym (append-nil now));
+}
+
+shape_bad : (j l c m : List ℕ) → (((j ++ (l ++ [])) ++ c) ++ m) ++ (10 ∷ []) ≡ j ++ (((l ++ c) ++ m) ++ (10 ∷ []))
+shape_bad j l c m = rw (append-nil l) (simp append_assoc)
+
+TurnsBad-after : (front chunk line : List ℕ) (a b : List (List ℕ)) → front ≡ joined a ++ (line ++ []) → TurnsBad (line ++ chunk) b → TurnsBad (front ++ chunk) (a ++ b)
+TurnsBad-after front chunk line a b h turns = λ more.
+    let t = turns more in (
+      t.0,
+      t.1,
+      ap (λ (s : List ℕ). ended ((s ++ chunk) ++ more)) h ∙ shape_bad (joined a) line chunk more ∙ ap (λ (s : List ℕ). joined a ++ s) t.2
+          ∙ sym (append_assoc (joined a) (joined b) (ended t.0 ++ t.1)) ∙ ap (λ (s : List ℕ). s ++ (ended t.0 ++ t.1)) (sym (joined-append a b)),
+      t.3,
+      t.4,
+    )
+
+FeedStops-after : (f : RunFault) (front chunk : List ℕ) (from mid : Place) (line : List ℕ) (held holds new : Option (List ℕ)) → Fed front from mid line [] held holds
+    → FeedStops f (line ++ chunk) mid holds new → FeedStops f (front ++ chunk) from held new
+FeedStops-after (fault.BadLine n) front chunk from mid line held holds new fed h = (
+  fed.lines ++ h.0,
+  h.1,
+  fed.text ++ h.2,
+  Plays-then fed.lines h.0 from mid h.1 fed.text h.2 fed.plays h.3,
+  Appends-then held holds new fed.text h.2 fed.written h.4,
+  h.5,
+  TurnsBad-after front chunk line fed.lines h.0 fed.stream_is h.6,
+)
+FeedStops-after fault.Read front chunk from mid line held holds new fed h = absurd h
+FeedStops-after fault.Write front chunk from mid line held holds new fed h = (
+  fed.lines ++ h.0,
+  h.1,
+  fed.text ++ h.2,
+  h.3,
+  Plays-then fed.lines h.0 from mid h.1 fed.text h.2 fed.plays h.4,
+  AppendsFront-after held holds new fed.text h.2 fed.written h.5,
+  fed_more front chunk line fed.lines h.0 h.3 fed.stream_is h.6,
+)
+FeedStops-after (fault.Node e) front chunk from mid line held holds new fed h = absurd h
+FeedStops-after fault.Memory front chunk from mid line held holds new fed h = (
+  fed.lines ++ h.0,
+  h.1,
+  fed.text ++ h.2,
+  h.3,
+  Plays-then fed.lines h.0 from mid h.1 fed.text h.2 fed.plays h.4,
+  AppendsFront-after held holds new fed.text h.2 fed.written h.5,
+  fed_more front chunk line fed.lines h.0 h.3 fed.stream_is h.6,
+)
+
+-- ---- the ends of a run
+
+shape_begins : (j r m : List ℕ) → ((j ++ r) ++ m) ++ (10 ∷ []) ≡ j ++ (r ++ (m ++ (10 ∷ [])))
+shape_begins j r m = simp append_assoc
+
+BeginsWith-known : (unread left : Option (List ℕ)) (stream : List ℕ) (lines : List (List ℕ)) (rest : List ℕ) (to : Place) (text : List ℕ) (plays : Plays lines start to text)
+    → Consumes unread left stream → stream ≡ joined lines ++ rest → IfSome unread (λ script. BeginsWithEvents script plays.events)
+BeginsWith-known unread left stream lines rest to text plays read is =
+    known_text unread left (λ script. BeginsWithEvents script plays.events) stream read
+    (λ more. (lines, rest ++ ended more, (plays.are_lines, ap (λ (s : List ℕ). ended (s ++ more)) is ∙ shape_begins (joined lines) rest more), plays.say))
+
+Stops-from_feed : (f : RunFault) (unread left held holds : Option (List ℕ)) (stream : List ℕ) → Consumes unread left stream → FeedStops f stream start held holds → Stops f unread left held holds
+Stops-from_feed (fault.BadLine n) unread left held holds stream read h =
+    let plays = h.3 in
+    let number : n ≡ length h.0 + 1 = let e = plays.numbered in let k = h.5 in omega arith in (
+      plays.events,
+      h.2,
+      Ran-from_plays h.0 h.1 h.2 plays,
+      h.4,
+      known_text unread left (λ script. IsBadAt script n plays.events) stream read
+          (λ more. let t = h.6 more in (h.0, t.0, t.1, (plays.are_lines, t.2), t.3, number, plays.say, t.4)),
+    )
+Stops-from_feed fault.Read unread left held holds stream read h = absurd h
+Stops-from_feed fault.Write unread left held holds stream read h =
+    (h.4.events, h.2, Ran-from_plays h.0 h.1 h.2 h.4, h.5, BeginsWith-known unread left stream h.0 h.3 h.1 h.2 h.4 read h.6)
+Stops-from_feed (fault.Node e) unread left held holds stream read h = absurd h
+Stops-from_feed fault.Memory unread left held holds stream read h =
+    (h.4.events, h.2, Ran-from_plays h.0 h.1 h.2 h.4, h.5, BeginsWith-known unread left stream h.0 h.3 h.1 h.2 h.4 read h.6)
+
+-- a refused chunk
+pub Stops-chunk : (f : RunFault) (unread left held holds new : Option (List ℕ)) (front chunk : List ℕ) (mid : Place) (line : List ℕ) → Fed front start mid line [] held holds
+    → Consumes unread left (front ++ chunk) → FeedStops f (line ++ chunk) mid holds new → Stops f unread left held new
+Stops-chunk f unread left held holds new front chunk mid line fed read h =
+    Stops-from_feed f unread left held new (front ++ chunk) read (FeedStops-after f front chunk start mid line held holds new fed h)
+
+-- a refused read
+pub Stops-read : (unread left held holds : Option (List ℕ)) (front : List ℕ) (mid : Place) (line : List ℕ) → Fed front start mid line [] held holds
+    → Consumes unread left front → Lacks 10 line → Stops fault.Read unread left held holds
+Stops-read unread left held holds front mid line fed read lacks = (
+  fed.plays.events,
+  fed.text,
+  front,
+  Ran-from_plays fed.lines mid fed.text fed.plays,
+  fed.written,
+  read,
+  (fed.lines, line, fed.plays.are_lines, lacks, fed.stream_is ∙ ap (λ (t : List ℕ). joined fed.lines ++ t) (append-nil line), fed.plays.say),
+)
+
+shape_end : (j l : List ℕ) → (j ++ (l ++ [])) ++ (10 ∷ []) ≡ j ++ ((l ++ (10 ∷ [])) ++ [])
+shape_end j l = rw (append-nil l, append-nil (l ++ (10 ∷ []))) (append_assoc j l (10 ∷ []))
+
+shape_all : (j l : List ℕ) → j ++ ((l ++ (10 ∷ [])) ++ []) ≡ (j ++ ((l ++ (10 ∷ [])) ++ [])) ++ []
+shape_all j l = sym (append-nil (j ++ ((l ++ (10 ∷ [])) ++ [])))
+
+-- the text with the LF at its end, after its last line
+ended_whole : (front line : List ℕ) (lines : List (List ℕ)) → front ≡ joined lines ++ (line ++ []) → ended front ≡ joined (lines ++ (line ∷ [])) ++ []
+ended_whole front line lines is =
+    ap ended is ∙ shape_end (joined lines) line ∙ shape_all (joined lines) line
+    ∙ ap (λ (t : List ℕ). t ++ []) (sym (joined-append lines (line ∷ [])))
+
+-- the last line was refused
+pub Stops-last : (f : RunFault) (unread left held holds new : Option (List ℕ)) (front : List ℕ) (mid : Place) (line : List ℕ) → Fed front start mid line [] held holds
+    → Consumes unread left front → IsAtEnd left → Lacks 10 line → LineStops f line mid holds new → Stops f unread left held new
+Stops-last (fault.BadLine n) unread left held holds new front mid line fed read end lacks h =
+    let plays = fed.plays in
+    let number : n ≡ length fed.lines + 1 = let e = plays.numbered in let k = h.0 in omega arith in (
+      plays.events,
+      fed.text,
+      Ran-from_plays fed.lines mid fed.text plays,
+      Appends-kept held holds new fed.text fed.written h.2,
+      known_end unread left (λ script. IsBadAt script n plays.events) front read end
+          (fed.lines, line, [], (plays.are_lines, ap ended fed.stream_is ∙ shape_end (joined fed.lines) line), lacks, number, plays.say, h.1),
+    )
+Stops-last fault.Read unread left held holds new front mid line fed read end lacks h = absurd h
+Stops-last fault.Write unread left held holds new front mid line fed read end lacks h =
+    let plays = Plays-then fed.lines (line ∷ []) start mid h.0 fed.text h.1 fed.plays h.2 in (
+      plays.events,
+      fed.text ++ h.1,
+      Ran-from_plays (fed.lines ++ (line ∷ [])) h.0 (fed.text ++ h.1) plays,
+      AppendsFront-after held holds new fed.text h.1 fed.written h.3,
+      known_end unread left (λ script. BeginsWithEvents script plays.events) front read end
+          (fed.lines ++ (line ∷ []), [], (plays.are_lines, ended_whole front line fed.lines fed.stream_is), plays.say),
+    )
+Stops-last (fault.Node e) unread left held holds new front mid line fed read end lacks h = absurd h
+Stops-last fault.Memory unread left held holds new front mid line fed read end lacks h =
+    let plays = fed.plays in (
+      plays.events,
+      fed.text,
+      Ran-from_plays fed.lines mid fed.text plays,
+      AppendsFront-all held new fed.text (Appends-kept held holds new fed.text fed.written h),
+      known_end unread left (λ script. BeginsWithEvents script plays.events) front read end
+          (fed.lines, ended line ++ [], (plays.are_lines, ap ended fed.stream_is ∙ shape_end (joined fed.lines) line), plays.say),
+    )
+
+-- the whole script was played
+pub Ends-last : (unread left held holds new : Option (List ℕ)) (front : List ℕ) (mid to : Place) (line text : List ℕ) → Fed front start mid line [] held holds
+    → Consumes unread left front → IsAtEnd left → Plays (line ∷ []) mid to text → Appends holds new text → Ends unread left held new
+Ends-last unread left held holds new front mid to line text fed read end last written =
+    let plays = Plays-then fed.lines (line ∷ []) start mid to fed.text text fed.plays last in (
+      plays.events,
+      fed.text ++ text,
+      Ran-from_plays (fed.lines ++ (line ∷ [])) to (fed.text ++ text) plays,
+      Appends-then held holds new fed.text text fed.written written,
+      known_end unread left (λ script. IsScript script plays.events) front read end
+          (fed.lines ++ (line ∷ []), (plays.are_lines, ended_whole front line fed.lines fed.stream_is), plays.say),
+      end,
+    )
+
+pub Fed-init : (place : Place) (line : List ℕ) (held : Option (List ℕ)) → place ≡ start → line ≡ [] → Fed [] start place line [] held held
+Fed-init place line held p l =
+    subst (λ (x : Place). Fed [] start x line [] held held) (sym p)
+    (subst (λ (x : List ℕ). Fed [] start start x [] held held) (sym l) (Fed-start start [] [] held))
+
+pub length_take-le : (n : ℕ) (xs : List ℕ) → length (take n xs) ≤ n
+length_take-le zero xs = omega arith
+length_take-le (suc n) [] = omega arith
+length_take-le (suc n) (x ∷ xs) = let h = length_take-le n xs in omega arith

@@ -1,0 +1,12 @@
+pub mod Lists
+pub mod Numbers
+pub mod Words
+pub mod Known
+pub mod Outboxes
+pub mod Playing
+pub mod Finishing
+pub mod Members
+pub mod Names
+pub mod Runs
+pub mod Shown
+pub mod Promise

@@ -1,0 +1,94 @@
+-- Sends in an outbox, and as text.
+use Rattle.std.proofs.Common.{◌≡◌, ℕ, zero, suc, ◌+◌, ◌-◌, ◌<◌, ◌≤◌, List, [], ◌∷◌, ◌++◌, length, map, get_or, take, drop, refl, sym, ap, ◌∙◌, arith, append_assoc, add-one, length-append, Bool, true, false, Result, Ok, Err}
+use Rattle.std.specs.Prelude.{Option, Some, None, slice_get, slice_range, OnOk}
+use Rattle.std.specs.Result.{is_err}
+use Rattle.std.specs.List.{flat_map}
+use Rattle.std.proofs.Math.Seq.{drop-append_seam}
+use Rattle.std.proofs.lemmas.List.{take-append-le, drop-append-le, map-append, append-nil, length-drop}
+use Rattle.node_core.specs.declared.outbox.Sent.{Sent}
+use Rattle.node_core.specs.Event.{Send}
+use Rattle.node_core.specs.Outbox.{IsWithin, AreWithin, send_of, sends_of, placed}
+use Rattle.node_core.proofs.Lists.{take_whole}
+
+-- the text of one more element
+pub flat_map-take_next : {X : Type 0} (f : X → List ℕ) (xs : List X) (i : ℕ) (x : X) → slice_get xs i ≡ Some x → flat_map f (take (suc i) xs) ≡ flat_map f (take i xs) ++ f x
+flat_map-take_next f [] i x h = cc h
+flat_map-take_next {X} f (y ∷ ys) zero x h = let same : y ≡ x = cc h in append-nil (f y) ∙ ap f same
+flat_map-take_next f (y ∷ ys) (suc i) x h =
+    ap (λ (t : List ℕ). f y ++ t) (flat_map-take_next f ys i x h) ∙ sym (append_assoc (f y) (flat_map f (take i ys)) (f x))
+
+pub slice_get-there : {X : Type 0} (xs : List X) (i : ℕ) → i < length xs → slice_get xs i ≡ None → ⊥
+slice_get-there [] i lt h = omega arith
+slice_get-there (y ∷ ys) zero lt h = cc h
+slice_get-there (y ∷ ys) (suc i) lt h = slice_get-there ys i (omega arith) h
+
+pub ok_part : {E P : Type 0} (r : Result (Unit {0}) E) → is_err r ≡ false → OnOk r P → P
+ok_part (Ok u) e p = p
+ok_part (Err e) h p = cc h
+
+-- a range of octets stays where more octets come after them
+slice_range-more : (octets more : List ℕ) (i j : ℕ) → i ≤ j → j ≤ length octets → slice_range (octets ++ more) i j ≡ slice_range octets i j
+slice_range-more octets more i j low high =
+    let within : j - i ≤ length (drop i octets) = simp length-drop (omega arith) in
+    ap (take (j - i)) (drop-append-le i octets more (omega arith)) ∙ take-append-le (j - i) (drop i octets) more within
+
+-- the range of the last octets
+slice_range-last : (octets more : List ℕ) → slice_range (octets ++ more) (length octets) (length (octets ++ more)) ≡ more
+slice_range-last octets more =
+    let all : length more ≤ length (octets ++ more) - length octets = omega (arith, length-append octets more) in
+    ap (take (length (octets ++ more) - length octets)) (drop-append_seam octets more) ∙ take_whole _ more all
+
+sends_of-more : (octets more : List ℕ) (sends : List Sent) → AreWithin octets sends → sends_of (octets ++ more) sends ≡ sends_of octets sends
+sends_of-more octets more [] h = refl
+sends_of-more octets more (s ∷ sends) h =
+    let e = slice_range-more octets more s.start s.end h.0.0 h.0.1 in
+    let one : send_of (octets ++ more) s ≡ send_of octets s = ap (λ (t : List ℕ). let pair : Send = (s.face, t) in pair) e in
+    let rest = sends_of-more octets more sends h.1 in cc (one, rest)
+
+sends_of-placed : (octets more : List ℕ) (faces : List ℕ)
+    → sends_of (octets ++ more) (map (placed (length octets) (length (octets ++ more))) faces) ≡ map {A = ℕ} {B = Send} (λ f. (f, more)) faces
+sends_of-placed octets more [] = refl
+sends_of-placed octets more (f ∷ faces) =
+    let one : send_of (octets ++ more) (placed (length octets) (length (octets ++ more)) f) ≡ (f, more) = ap (λ (t : List ℕ). let pair : Send = (f, t) in pair) (slice_range-last octets more) in
+    let rest = sends_of-placed octets more faces in cc (one, rest)
+
+-- what an outbox holds after octets were added for some faces
+pub sends_of-added : (octets more : List ℕ) (sends : List Sent) (faces : List ℕ) → AreWithin octets sends
+    → sends_of (octets ++ more) (sends ++ map (placed (length octets) (length (octets ++ more))) faces) ≡ sends_of octets sends ++ map {A = ℕ} {B = Send} (λ f. (f, more)) faces
+sends_of-added octets more sends faces h =
+    let new = map (placed (length octets) (length (octets ++ more))) faces in
+    let e = map-append (send_of (octets ++ more)) sends new in
+    let old = sends_of-more octets more sends h in
+    let added = sends_of-placed octets more faces in cc (e, old, added)
+
+AreWithin-more : (octets more : List ℕ) (sends : List Sent) → AreWithin octets sends → AreWithin (octets ++ more) sends
+AreWithin-more octets more [] h = tt
+AreWithin-more octets more (s ∷ sends) h = ((h.0.0, omega (arith, h.0.1, length-append octets more)), AreWithin-more octets more sends h.1)
+
+AreWithin-placed : (octets : List ℕ) (start end : ℕ) (faces : List ℕ) → start ≤ end → end ≤ length octets → AreWithin octets (map (placed start end) faces)
+AreWithin-placed octets start end [] low high = tt
+AreWithin-placed octets start end (f ∷ faces) low high = ((low, high), AreWithin-placed octets start end faces low high)
+
+AreWithin-append : (octets : List ℕ) (a b : List Sent) → AreWithin octets a → AreWithin octets b → AreWithin octets (a ++ b)
+AreWithin-append octets [] b ha hb = hb
+AreWithin-append octets (s ∷ a) b ha hb = (ha.0, AreWithin-append octets a b ha.1 hb)
+
+pub AreWithin-added : (octets more : List ℕ) (sends : List Sent) (faces : List ℕ) → AreWithin octets sends
+    → AreWithin (octets ++ more) (sends ++ map (placed (length octets) (length (octets ++ more))) faces)
+AreWithin-added octets more sends faces h =
+    AreWithin-append (octets ++ more) sends _ (AreWithin-more octets more sends h)
+    (AreWithin-placed (octets ++ more) (length octets) (length (octets ++ more)) faces (omega (arith, length-append octets more)) (omega arith))
+
+-- the same, for what code computed
+pub within_after : (octets more all : List ℕ) (sends after : List Sent) (faces : List ℕ) (start end : ℕ)
+    → start ≡ length octets → end ≡ length all → all ≡ octets ++ more → after ≡ sends ++ map (placed start end) faces
+    → AreWithin octets sends → AreWithin all after
+within_after octets more all sends after faces start end s e a n h = rw (n, s, e, a) (AreWithin-added octets more sends faces h)
+
+pub sends_after : (octets more all : List ℕ) (sends after : List Sent) (faces : List ℕ) (start end : ℕ)
+    → start ≡ length octets → end ≡ length all → all ≡ octets ++ more → after ≡ sends ++ map (placed start end) faces
+    → AreWithin octets sends → sends_of all after ≡ sends_of octets sends ++ map {A = ℕ} {B = Send} (λ f. (f, more)) faces
+sends_after octets more all sends after faces start end s e a n h = rw (n, s, e, a) (sends_of-added octets more sends faces h)
+
+pub appended : (a b c d e : List ℕ) → a ≡ b ++ c → b ≡ d ++ e → a ≡ d ++ (e ++ c)
+appended a b c d e h k = h ∙ ap (λ (t : List ℕ). t ++ c) k ∙ append_assoc d e c

@@ -1,0 +1,297 @@
+-- Lines that were played one after another.
+use Rattle.std.proofs.Common.{◌≡◌, ◌≢◌, ℕ, zero, suc, ◌+◌, ◌<◌, ◌≤◌, ◌⊎◌, inl, inr, List, [], ◌∷◌, ◌++◌, length, refl, sym, ap, ◌∙◌, arith, append_assoc, append-nil, length-append, Result, Ok, Err, subst, add-one}
+use Rattle.std.proofs.Common.{Bool, true, false, ◌==◌, eq-eqb}
+use Rattle.std.proofs.lemmas.Bool.{eqb-true}
+use Rattle.node_core.proofs.Lists.{Lacks-append}
+use Rattle.std.specs.Prelude.{Option, Some, None, IfSome, IfOk, OnOk, OnErr}
+use Rattle.std.specs.List.{flat_map, AllByRecursion}
+use Rattle.std.specs.Io.KnownBytes.{Appends, Consumes, Keeps}
+use Rattle.ndn_tlv.specs.declared.memory.Memory.{Memory}
+use Rattle.node_core.specs.declared.event.Verdict.{Verdict}
+use Rattle.node_core.specs.Event.{PlainEvent, Answer, Send}
+use Rattle.node_core.specs.State.{State, initial}
+use Rattle.node_core.specs.Step.{Step, NeedsNoMemory}
+use Rattle.std.specs.Prelude.{IsOk}
+use Rattle.node_core.specs.Line.{Lacks, IsSkipped, IsEventLine, IsBadLine, IsShort}
+use Rattle.node_core.specs.Writing.{Outcome, Answered, NoMemory, said_text, lines_text, outcome_text, outcomes_text, script_text}
+use Rattle.node_core.specs.Script.{ended, joined, AreLines, Say, BeginsWithLines, IsScript, BeginsWithEvents, IsScriptSoFar, IsBadAt, IsOutcome, Runs, Ran}
+use Rattle.node_core.specs.Ending.{AppendsFront, Ends, Stops}
+use Rattle.node_core.specs.Play.{Place, HasRoom, IsNear, IsPending, PlaysEvent, EventStops, AddStops, Plays, TurnsBad, FeedStops, LineStops}
+use Rattle.node_core.specs.declared.script.RunFault.{RunFault}
+use Rattle.node_core.specs.declared.script.RunFault.TheVariants as fault
+use Rattle.node_core.proofs.Known.{Appends-start, Appends-then, Appends-kept, AppendsFront-after, AppendsFront-all, none-from_Keeps}
+
+-- ---- one reply
+
+pub record HasOutcome (old new : State) (event : PlainEvent) (outcome : Result Verdict Memory) (out : List Send) : Type 0 where
+  pub done_as : Outcome
+  pub handled : IsOutcome old event done_as new
+  pub text_is : (n : ℕ) → lines_text n (said_text outcome) out ≡ outcome_text n done_as
+
+never_ok : (e : Memory) → IsOk {T = Verdict} {E = Memory} (Err e) → ⊥
+never_ok e h = cc
+
+pub outcome_from_step : (old new : State) (event : PlainEvent) (outcome : Result Verdict Memory) (held out : List Send) → held ≡ []
+    → IfOk outcome (λ verdict. (sends : List Send) × (out ≡ held ++ sends) × Step old event (record { verdict = verdict; sends = sends }) new)
+    → OnErr outcome ((new ≡ old) × (out ≡ held)) → (NeedsNoMemory old event → IsOk outcome) → HasOutcome old new event outcome out
+outcome_from_step old new event (Ok verdict) held out none ok err quiet =
+    let same : out ≡ ok.0 = ok.1 ∙ ap (λ (h : List Send). h ++ ok.0) none in
+    record { done_as = Answered (record { verdict = verdict; sends = ok.0 }); handled = ok.2; text_is = λ n. rw same refl }
+outcome_from_step old new event (Err e) held out none ok err quiet =
+    let same : out ≡ [] = err.1 ∙ none in
+    record { done_as = NoMemory; handled = (err.0, λ h. never_ok e (quiet h)); text_is = λ n. rw same refl }
+
+pub PlaysEvent-from_step : (from to : Place) (event : PlainEvent) (outcome : Result Verdict Memory) (held out : List Send) (before text : List ℕ) → held ≡ []
+    → IfOk outcome (λ verdict. (sends : List Send) × (out ≡ held ++ sends) × Step from.node event (record { verdict = verdict; sends = sends }) to.node)
+    → OnErr outcome ((to.node ≡ from.node) × (out ≡ held)) → (NeedsNoMemory from.node event → IsOk outcome)
+    → before ≡ [] → text ≡ before ++ lines_text (from.events + 1) (said_text outcome) out
+    → to.lines ≡ from.lines → to.events ≡ from.events + 1 → PlaysEvent event from to text
+PlaysEvent-from_step from to event outcome held out before text none ok err quiet empty is lines events =
+    let r = outcome_from_step from.node to.node event outcome held out none ok err quiet in
+    record {
+      done_as = r.done_as;
+      handled = r.handled;
+      text_is = is ∙ ap (λ (b : List ℕ). b ++ lines_text (from.events + 1) (said_text outcome) out) empty ∙ r.text_is (from.events + 1);
+      lines = lines;
+      events = events;
+    }
+
+-- ---- one line
+
+pub Plays-skipped : (line : List ℕ) (from to : Place) → Lacks 10 line → IsSkipped line → to.node ≡ from.node → to.lines ≡ from.lines + 1 → to.events ≡ from.events → Plays (line ∷ []) from to []
+Plays-skipped line from to lacks skipped node lines events = record {
+  events = [];
+  outcomes = [];
+  are_lines = (lacks, tt);
+  say = (skipped, tt);
+  runs = node;
+  text_is = refl;
+  numbered = lines;
+  counted = events ∙ omega arith;
+}
+
+pub Plays-event : (line : List ℕ) (event : PlainEvent) (from mid to : Place) (text : List ℕ) → Lacks 10 line → IsEventLine event line
+    → PlaysEvent event from mid text → to.node ≡ mid.node → to.lines ≡ mid.lines + 1 → to.events ≡ mid.events → Plays (line ∷ []) from to text
+Plays-event line event from mid to text lacks is outcomes node lines events = record {
+  events = event ∷ [];
+  outcomes = outcomes.done_as ∷ [];
+  are_lines = (lacks, tt);
+  say = inr (is, tt);
+  runs = (mid.node, outcomes.handled, node);
+  text_is = outcomes.text_is ∙ sym (append-nil _);
+  numbered = lines ∙ ap (λ (n : ℕ). n + 1) outcomes.lines;
+  counted = events ∙ outcomes.events;
+}
+
+pub LineStops-from_reply : (f : RunFault) (line : List ℕ) (event : PlainEvent) (from : Place) (held holds : Option (List ℕ)) → Lacks 10 line → IsEventLine event line
+    → EventStops f event from held holds → LineStops f line from held holds
+LineStops-from_reply (fault.BadLine n) line event from held holds lacks is h = absurd h
+LineStops-from_reply fault.Read line event from held holds lacks is h = absurd h
+LineStops-from_reply fault.Write line event from held holds lacks is h =
+    let to : Place = record { node = h.0.node; lines = h.0.lines + 1; events = h.0.events } in
+    (to, h.1, Plays-event line event from h.0 to h.1 lacks is h.2 refl refl refl, h.3)
+LineStops-from_reply (fault.Node n) line event from held holds lacks is h = absurd h
+LineStops-from_reply fault.Memory line event from held holds lacks is h = h
+
+-- ---- lines after lines
+
+AreLines-append : (a b : List (List ℕ)) → AreLines a → AreLines b → AreLines (a ++ b)
+AreLines-append [] b ha hb = hb
+AreLines-append (l ∷ a) b ha hb = (ha.0, AreLines-append a b ha.1 hb)
+
+Say-append : (a b : List (List ℕ)) (es fs : List PlainEvent) → Say a es → Say b fs → Say (a ++ b) (es ++ fs)
+Say-append [] b [] fs ha hb = hb
+Say-append [] b (e ∷ es) fs ha hb = absurd ha
+Say-append (l ∷ a) b [] [] ha hb = (ha.0, Say-append a b [] [] ha.1 hb)
+Say-append (l ∷ a) b [] (f ∷ fs) ha hb = inl (ha.0, Say-append a b [] (f ∷ fs) ha.1 hb)
+Say-append (l ∷ a) b (e ∷ es) fs (inl h) hb = inl (h.0, Say-append a b (e ∷ es) fs h.1 hb)
+Say-append (l ∷ a) b (e ∷ es) fs (inr h) hb = inr (h.0, Say-append a b es fs h.1 hb)
+
+Runs-append : (a b c : State) (es fs : List PlainEvent) (rs ss : List Outcome) → Runs a es rs b → Runs b fs ss c → Runs a (es ++ fs) (rs ++ ss) c
+Runs-append a b c [] fs [] ss h k = rw h at k
+Runs-append a b c [] fs (r ∷ rs) ss h k = absurd h
+Runs-append a b c (e ∷ es) fs [] ss h k = absurd h
+Runs-append a b c (e ∷ es) fs (r ∷ rs) ss h k = (h.0, h.1, Runs-append h.0 b c es fs rs ss h.2 k)
+
+outcomes_text-append : (n : ℕ) (rs ss : List Outcome) → outcomes_text n (rs ++ ss) ≡ outcomes_text n rs ++ outcomes_text (n + length rs) ss
+outcomes_text-append n [] ss = let e : n + 0 ≡ n = omega arith in rw e refl
+outcomes_text-append n (r ∷ rs) ss =
+    let e : n + suc (length rs) ≡ n + 1 + length rs = omega arith in
+    rw e (ap (λ (t : List ℕ). outcome_text n r ++ t) (outcomes_text-append (n + 1) rs ss) ∙ sym (append_assoc (outcome_text n r) (outcomes_text (n + 1) rs) _))
+
+pub Plays-none : (place : Place) → Plays [] place place []
+Plays-none place = record {
+  events = [];
+  outcomes = [];
+  are_lines = tt;
+  say = tt;
+  runs = refl;
+  text_is = refl;
+  numbered = omega arith;
+  counted = omega arith;
+}
+
+pub Plays-then : (a b : List (List ℕ)) (from mid to : Place) (x y : List ℕ) → Plays a from mid x → Plays b mid to y → Plays (a ++ b) from to (x ++ y)
+Plays-then a b from mid to x y h k =
+    let at : mid.events + 1 ≡ from.events + 1 + length h.outcomes = let e = h.counted in omega arith in
+    record {
+      events = h.events ++ k.events;
+      outcomes = h.outcomes ++ k.outcomes;
+      are_lines = AreLines-append a b h.are_lines k.are_lines;
+      say = Say-append a b h.events k.events h.say k.say;
+      runs = Runs-append from.node mid.node to.node h.events k.events h.outcomes k.outcomes h.runs k.runs;
+      text_is =
+          ap (λ (t : List ℕ). t ++ y) h.text_is
+          ∙ ap (λ (t : List ℕ). outcomes_text (from.events + 1) h.outcomes ++ t) (k.text_is ∙ ap (λ (n : ℕ). outcomes_text n k.outcomes) at)
+          ∙ sym (outcomes_text-append (from.events + 1) h.outcomes k.outcomes);
+      numbered = let e = h.numbered in let f = k.numbered in omega (arith, length-append a b);
+      counted = let e = h.counted in let f = k.counted in omega (arith, length-append h.outcomes k.outcomes);
+    }
+
+pub joined-append : (a b : List (List ℕ)) → joined (a ++ b) ≡ joined a ++ joined b
+joined-append [] b = refl
+joined-append (l ∷ a) b = ap (λ (t : List ℕ). ended l ++ t) (joined-append a b) ∙ sym (append_assoc (ended l) (joined a) (joined b))
+
+-- ---- bad lines
+
+pub IsBadLine-long : (line : List ℕ) → 20000 < length line → IsBadLine line
+IsBadLine-long line long = (λ h. omega (arith, h.0), λ event h. omega (arith, h.0))
+
+first_octet : (o : ℕ) (text : List ℕ) (b : Bool) → (o == 10) ≡ b → ((line rest : List ℕ) × (ended text ≡ ended line ++ rest) × Lacks 10 line)
+    → (line rest : List ℕ) × (ended (o ∷ text) ≡ ended line ++ rest) × Lacks 10 line
+first_octet o text true e f = ([], ended text, ap (λ (p : ℕ). p ∷ ended text) (eqb-true o 10 e), tt)
+first_octet o text false e f =
+    (o ∷ f.0, f.1, ap (λ (t : List ℕ). o ∷ t) f.2, (λ same. let yes : (o == 10) ≡ true = eq-eqb o 10 same in cc (e, yes), f.3))
+
+-- each text ends its first line
+pub first_line : (text : List ℕ) → (line rest : List ℕ) × (ended text ≡ ended line ++ rest) × Lacks 10 line
+first_line [] = ([], [], refl, tt)
+first_line (o ∷ text) = first_octet o text (o == 10) refl (first_line text)
+
+shape_ended : (j b a m : List ℕ) → ((j ++ (b ++ (10 ∷ a))) ++ m) ++ (10 ∷ []) ≡ j ++ ((b ++ (10 ∷ [])) ++ (a ++ (m ++ (10 ∷ []))))
+shape_ended j b a m = simp append_assoc
+
+shape_long : (j l m f r : List ℕ) → m ++ (10 ∷ []) ≡ (f ++ (10 ∷ [])) ++ r → ((j ++ l) ++ m) ++ (10 ∷ []) ≡ j ++ (((l ++ f) ++ (10 ∷ [])) ++ r)
+shape_long j l m f r e =
+    let left : ((j ++ l) ++ m) ++ (10 ∷ []) ≡ j ++ (l ++ (m ++ (10 ∷ []))) = simp append_assoc in
+    let right : j ++ (l ++ ((f ++ (10 ∷ [])) ++ r)) ≡ j ++ (((l ++ f) ++ (10 ∷ [])) ++ r) = simp append_assoc in
+    left ∙ ap (λ (t : List ℕ). j ++ (l ++ t)) e ∙ right
+
+pub TurnsBad-ended : (stream bad after : List ℕ) (lines : List (List ℕ)) → stream ≡ joined lines ++ (bad ++ (10 ∷ after)) → Lacks 10 bad → IsBadLine bad → TurnsBad stream lines
+TurnsBad-ended stream bad after lines is lacks h = λ more. (bad, after ++ ended more, ap (λ (t : List ℕ). ended (t ++ more)) is ∙ shape_ended (joined lines) bad after more, lacks, h)
+
+pub TurnsBad-long : (stream long : List ℕ) (lines : List (List ℕ)) → stream ≡ joined lines ++ long → Lacks 10 long → 20000 < length long → TurnsBad stream lines
+TurnsBad-long stream long lines is lacks h = λ more.
+    let f = first_line more in
+    (long ++ f.0, f.1, ap (λ (t : List ℕ). ended (t ++ more)) is ∙ shape_long (joined lines) long more f.0 f.1 f.2, Lacks-append 10 long f.0 lacks f.3, IsBadLine-long (long ++ f.0) (omega (arith, length-append long f.0)))
+
+-- ---- octets that were fed so far
+
+-- the lines that ended in a stream led to a place, and an unended line and a rest are left
+pub record Fed (stream : List ℕ) (from to : Place) (line rest : List ℕ) (held holds : Option (List ℕ)) : Type 0 where
+  pub lines : List (List ℕ)
+  pub text : List ℕ
+  pub plays : Plays lines from to text
+  pub written : Appends held holds text
+  pub stream_is : stream ≡ joined lines ++ (line ++ rest)
+
+pub Fed-start : (place : Place) (line rest : List ℕ) (held : Option (List ℕ)) → Fed (line ++ rest) place place line rest held held
+Fed-start place line rest held =
+    record { lines = []; text = []; plays = Plays-none place; written = Appends-start held; stream_is = refl }
+
+shape_line : (j l f a : List ℕ) → j ++ (l ++ (f ++ (10 ∷ a))) ≡ (j ++ ((l ++ f) ++ (10 ∷ []))) ++ a
+shape_line j l f a = simp append_assoc
+
+-- the line with its front, and what comes after it
+Fed-line_is : (stream : List ℕ) (from to : Place) (line rest front after : List ℕ) (held holds : Option (List ℕ)) → (fed : Fed stream from to line rest held holds)
+    → rest ≡ front ++ (10 ∷ after) → stream ≡ joined fed.lines ++ ((line ++ front) ++ (10 ∷ after))
+Fed-line_is stream from to line rest front after held holds fed is =
+    fed.stream_is ∙ ap (λ (t : List ℕ). joined fed.lines ++ (line ++ t)) is
+    ∙ ap (λ (t : List ℕ). joined fed.lines ++ t) (sym (append_assoc line front (10 ∷ after)))
+
+shape_next : (j b a : List ℕ) → j ++ (b ++ (10 ∷ a)) ≡ (j ++ ((b ++ (10 ∷ [])) ++ [])) ++ ([] ++ a)
+shape_next j b a =
+    let none : (b ++ (10 ∷ [])) ++ [] ≡ b ++ (10 ∷ []) = append-nil (b ++ (10 ∷ [])) in
+    rw none (simp append_assoc)
+
+pub Fed-then : (stream : List ℕ) (from mid to : Place) (line rest front after text : List ℕ) (held holds new : Option (List ℕ)) → Fed stream from mid line rest held holds
+    → rest ≡ front ++ (10 ∷ after) → Plays ((line ++ front) ∷ []) mid to text → Appends holds new text → Fed stream from to [] after held new
+Fed-then stream from mid to line rest front after text held holds new fed is plays written =
+    let whole = Fed-line_is stream from mid line rest front after held holds fed is in
+    record {
+      lines = fed.lines ++ ((line ++ front) ∷ []);
+      text = fed.text ++ text;
+      plays = Plays-then fed.lines ((line ++ front) ∷ []) from mid to fed.text text fed.plays plays;
+      written = Appends-then held holds new fed.text text fed.written written;
+      stream_is =
+          whole ∙ shape_next (joined fed.lines) (line ++ front) after
+          ∙ ap (λ (t : List ℕ). t ++ ([] ++ after)) (sym (joined-append fed.lines ((line ++ front) ∷ [])));
+    }
+
+-- where a line is found too long
+pub FeedStops-add : (f : RunFault) (stream : List ℕ) (from mid : Place) (line rest front after : List ℕ) (held holds : Option (List ℕ)) → Fed stream from mid line rest held holds
+    → rest ≡ front ++ (10 ∷ after) → Lacks 10 line → Lacks 10 front → AddStops f (line ++ front) mid → FeedStops f stream from held holds
+FeedStops-add (fault.BadLine n) stream from mid line rest front after held holds fed is la lb h =
+    let whole = Fed-line_is stream from mid line rest front after held holds fed is in
+    (fed.lines, mid, fed.text, fed.plays, fed.written, h.0, TurnsBad-ended stream (line ++ front) after fed.lines whole (Lacks-append 10 line front la lb) (IsBadLine-long (line ++ front) h.1))
+FeedStops-add fault.Read stream from mid line rest front after held holds fed is la lb h = absurd h
+FeedStops-add fault.Write stream from mid line rest front after held holds fed is la lb h = absurd h
+FeedStops-add (fault.Node n) stream from mid line rest front after held holds fed is la lb h = absurd h
+FeedStops-add fault.Memory stream from mid line rest front after held holds fed is la lb h =
+    (fed.lines, mid, fed.text, line ++ rest, fed.plays, AppendsFront-all held holds fed.text fed.written, fed.stream_is)
+
+-- where a line that has not ended is found too long
+pub FeedStops-last : (f : RunFault) (stream : List ℕ) (from mid : Place) (line rest : List ℕ) (held holds : Option (List ℕ)) → Fed stream from mid line rest held holds
+    → Lacks 10 line → Lacks 10 rest → AddStops f (line ++ rest) mid → FeedStops f stream from held holds
+FeedStops-last (fault.BadLine n) stream from mid line rest held holds fed la lb h =
+    (fed.lines, mid, fed.text, fed.plays, fed.written, h.0, TurnsBad-long stream (line ++ rest) fed.lines fed.stream_is (Lacks-append 10 line rest la lb) h.1)
+FeedStops-last fault.Read stream from mid line rest held holds fed la lb h = absurd h
+FeedStops-last fault.Write stream from mid line rest held holds fed la lb h = absurd h
+FeedStops-last (fault.Node n) stream from mid line rest held holds fed la lb h = absurd h
+FeedStops-last fault.Memory stream from mid line rest held holds fed la lb h =
+    (fed.lines, mid, fed.text, line ++ rest, fed.plays, AppendsFront-all held holds fed.text fed.written, fed.stream_is)
+
+-- where a line is refused
+pub FeedStops-line : (f : RunFault) (stream : List ℕ) (from mid : Place) (line rest front after : List ℕ) (held holds new : Option (List ℕ)) → Fed stream from mid line rest held holds
+    → rest ≡ front ++ (10 ∷ after) → Lacks 10 line → Lacks 10 front → LineStops f (line ++ front) mid holds new → FeedStops f stream from held new
+FeedStops-line (fault.BadLine n) stream from mid line rest front after held holds new fed is la lb h =
+    let whole = Fed-line_is stream from mid line rest front after held holds fed is in
+    (fed.lines, mid, fed.text, fed.plays, Appends-kept held holds new fed.text fed.written h.2, h.0, TurnsBad-ended stream (line ++ front) after fed.lines whole (Lacks-append 10 line front la lb) h.1)
+FeedStops-line fault.Read stream from mid line rest front after held holds new fed is la lb h = absurd h
+FeedStops-line fault.Write stream from mid line rest front after held holds new fed is la lb h =
+    let whole = Fed-line_is stream from mid line rest front after held holds fed is in (
+      fed.lines ++ ((line ++ front) ∷ []),
+      h.0,
+      fed.text ++ h.1,
+      [] ++ after,
+      Plays-then fed.lines ((line ++ front) ∷ []) from mid h.0 fed.text h.1 fed.plays h.2,
+      AppendsFront-after held holds new fed.text h.1 fed.written h.3,
+      whole ∙ shape_next (joined fed.lines) (line ++ front) after
+          ∙ ap (λ (t : List ℕ). t ++ ([] ++ after)) (sym (joined-append fed.lines ((line ++ front) ∷ []))),
+    )
+FeedStops-line (fault.Node n) stream from mid line rest front after held holds new fed is la lb h = absurd h
+FeedStops-line fault.Memory stream from mid line rest front after held holds new fed is la lb h =
+    (fed.lines, mid, fed.text, line ++ rest, fed.plays, AppendsFront-all held new fed.text (Appends-kept held holds new fed.text fed.written h), fed.stream_is)
+
+pub on_ok_both : {E P Q S : Type 0} (r : Result (Unit {0}) E) → (P → Q → S) → OnOk r P → OnOk r Q → OnOk r S
+on_ok_both (Ok u) f p q = f p q
+on_ok_both (Err e) f p q = tt
+
+pub LineStops-move : (f : RunFault) (a b : List ℕ) (p q : Place) (held holds : Option (List ℕ)) → a ≡ b → p ≡ q → LineStops f a p held holds → LineStops f b q held holds
+LineStops-move f a b p q held holds ea ep h =
+    subst (λ (x : Place). LineStops f b x held holds) ep (subst (λ (x : List ℕ). LineStops f x p held holds) ea h)
+
+pub Plays-move : (a b : List ℕ) (p q to : Place) (text : List ℕ) → a ≡ b → p ≡ q → Plays (a ∷ []) p to text → Plays (b ∷ []) q to text
+Plays-move a b p q to text ea ep h =
+    subst (λ (x : Place). Plays (b ∷ []) x to text) ep (subst (λ (x : List ℕ). Plays (x ∷ []) p to text) ea h)
+
+pub Fed-ended : (stream : List ℕ) (from mid to : Place) (line rest front after text now : List ℕ) (held holds new : Option (List ℕ)) → Fed stream from mid line rest held holds
+    → rest ≡ front ++ (10 ∷ after) → Plays ((line ++ front) ∷ []) mid to text → Appends holds new text → now ≡ [] → Fed stream from to now after held new
+Fed-ended stream from mid to line rest front after text now held holds new fed is plays written empty =
+    subst (λ (x : List ℕ). Fed stream from to x after held new) (sym empty) (Fed-then stream from mid to line rest front after text held holds new fed is plays written)
+
+pub IsPending-none : (line : List ℕ) → line ≡ [] → IsPending line
+IsPending-none line e = subst (λ (x : List ℕ). IsPending x) (sym e) (tt, omega arith)
+
+pub length-cut : (rest front after : List ℕ) → rest ≡ front ++ (10 ∷ after) → length after + 1 ≤ length rest
+length-cut rest front after e = let l = ap length e in omega (arith, length-append front (10 ∷ after))

@@ -1,0 +1,183 @@
+-- The words of a line.
+use Rattle.std.proofs.Common.{◌≡◌, ◌≢◌, ℕ, zero, suc, ◌+◌, ◌*◌, ◌<◌, ◌≤◌, ◌^◌, ◌%◌, List, [], ◌∷◌, ◌++◌, length, get_or, refl, sym, ap, ◌∙◌, arith, Ok, Err, Result, codes}
+use Rattle.std.specs.Fmt.{decimal}
+use Rattle.std.proofs.Common.{◌==◌, Bool, true, false, cond}
+use Rattle.hex.specs.declared.error.FromHexError.{FromHexError}
+use Rattle.hex.specs.Hex.{decode_of, decode_pairs}
+use Rattle.hex.proofs.HexLemmas.{decode_pairs-ok}
+use Rattle.node_core.specs.declared.event.Scope.{Scope}
+use Rattle.node_core.specs.declared.event.Scope.TheVariants.{Local, Far}
+use Rattle.node_core.specs.Event.{PlainEvent, Packet, FaceUp, FaceDown, Tick}
+use Rattle.node_core.specs.Line.{Lacks, scope_word, HexSpells, LineSpells, AreNumbers}
+use Rattle.node_core.proofs.Lists.{Lacks-from_test, cut_once, cut_twice_once, Lacks-no_cut}
+use Rattle.node_core.proofs.Numbers.{decimal-Lacks}
+
+-- no octets are spelled by the empty word
+pub HexSpells-empty : (octets : List ℕ) → HexSpells octets [] → ⊥
+unfolding decode_pairs
+HexSpells-empty [] h = cc h
+HexSpells-empty (o ∷ octets) h = cc h
+
+guarded : (b : Bool) (e : FromHexError) (r : Result (List ℕ) FromHexError) (octets : List ℕ) → cond b (Err e) r ≡ Ok octets → r ≡ Ok octets
+guarded true e r octets h = cc h
+guarded false e r octets h = h
+
+-- what an even text decodes to
+decoded_length : (word octets : List ℕ) → decode_of word ≡ Ok octets → length word ≡ 2 * length octets
+decoded_length word octets h =
+    (decode_pairs-ok 0 word octets (guarded (length word % 2 == 1) _ (decode_pairs 0 word) octets h)).1
+
+pub HexSpells-from_decode : (word octets : List ℕ) → 0 < length word → decode_of word ≡ Ok octets → HexSpells octets word
+HexSpells-from_decode word [] more h = absurd (let e = decoded_length word [] h in omega arith)
+HexSpells-from_decode word (o ∷ octets) more h = h
+
+pub scope_word-Lacks : (scope : Scope) → Lacks 32 (scope_word scope)
+scope_word-Lacks Local = Lacks-from_test 32 (codes "local") refl
+scope_word-Lacks Far = Lacks-from_test 32 (codes "far") refl
+
+number-Lacks : (n : ℕ) → n < 2 ^ 64 → Lacks 32 (decimal n)
+number-Lacks n lt = decimal-Lacks 32 (omega arith) n lt
+
+-- the words after `up`
+pub record UpWords (a b c : List ℕ) : Type 0 where
+  pub face : ℕ
+  pub scope : Scope
+  pub now : ℕ
+  pub wide : AreNumbers face now
+  pub face_is : a ≡ decimal face
+  pub scope_is : b ≡ scope_word scope
+  pub now_is : c ≡ decimal now
+
+-- the words after `in`
+pub record InWords (a b c : List ℕ) : Type 0 where
+  pub face : ℕ
+  pub now : ℕ
+  pub octets : List ℕ
+  pub wide : AreNumbers face now
+  pub face_is : a ≡ decimal face
+  pub now_is : b ≡ decimal now
+  pub spelled : HexSpells octets c
+
+-- the words after `down`
+pub record DownWords (a b : List ℕ) : Type 0 where
+  pub face : ℕ
+  pub now : ℕ
+  pub wide : AreNumbers face now
+  pub face_is : a ≡ decimal face
+  pub now_is : b ≡ decimal now
+
+abbrev first : List ℕ → ℕ
+first text = get_or text 0 0
+
+abbrev second : List ℕ → ℕ
+second text = get_or text 1 0
+
+-- a line of `up`, cut at spaces
+pub up_text : (event : PlainEvent) (text : List ℕ) → LineSpells event (codes "up" ++ (32 ∷ text))
+    → (a b c : List ℕ) × UpWords a b c × (text ≡ a ++ (32 ∷ (b ++ (32 ∷ c))))
+up_text (FaceUp face scope now) text h =
+    (decimal face, scope_word scope, decimal now, record { face = face; scope = scope; now = now; wide = h.0; face_is = refl; scope_is = refl; now_is = refl }, cc h.1)
+up_text (FaceDown face now) text h = absurd (omega (arith, ap first h.1))
+up_text (Tick now) text h = absurd (omega (arith, ap first h.1))
+up_text (Packet face now octets) text h = absurd (omega (arith, ap first h.1.2))
+
+pub down_text : (event : PlainEvent) (text : List ℕ) → LineSpells event (codes "down" ++ (32 ∷ text))
+    → (a b : List ℕ) × DownWords a b × (text ≡ a ++ (32 ∷ b))
+down_text (FaceUp face scope now) text h = absurd (omega (arith, ap first h.1))
+down_text (FaceDown face now) text h =
+    (decimal face, decimal now, record { face = face; now = now; wide = h.0; face_is = refl; now_is = refl }, cc h.1)
+down_text (Tick now) text h = absurd (omega (arith, ap first h.1))
+down_text (Packet face now octets) text h = absurd (omega (arith, ap first h.1.2))
+
+pub tick_text : (event : PlainEvent) (text : List ℕ) → LineSpells event (codes "tick" ++ (32 ∷ text))
+    → (now : ℕ) × (now < 2 ^ 64) × (text ≡ decimal now)
+tick_text (FaceUp face scope now) text h = absurd (omega (arith, ap first h.1))
+tick_text (FaceDown face now) text h = absurd (omega (arith, ap first h.1))
+tick_text (Tick now) text h = (now, h.0, cc h.1)
+tick_text (Packet face now octets) text h = absurd (omega (arith, ap first h.1.2))
+
+pub in_text : (event : PlainEvent) (text : List ℕ) → LineSpells event (codes "in" ++ (32 ∷ text))
+    → (a b c : List ℕ) × InWords a b c × (text ≡ a ++ (32 ∷ (b ++ (32 ∷ c))))
+in_text (FaceUp face scope now) text h = absurd (omega (arith, ap first h.1))
+in_text (FaceDown face now) text h = absurd (omega (arith, ap first h.1))
+in_text (Tick now) text h = absurd (omega (arith, ap first h.1))
+in_text (Packet face now octets) text h =
+    (decimal face, decimal now, h.1.0, record { face = face; now = now; octets = octets; wide = h.0; face_is = refl; now_is = refl; spelled = h.1.1 }, cc h.1.2)
+
+pub up_lacks : (a b c : List ℕ) → UpWords a b c → Lacks 32 a × Lacks 32 b
+up_lacks a b c u = (rw u.face_is (number-Lacks u.face u.wide.0), rw u.scope_is (scope_word-Lacks u.scope))
+
+pub in_lacks : (a b c : List ℕ) → InWords a b c → Lacks 32 a × Lacks 32 b
+in_lacks a b c u = (rw u.face_is (number-Lacks u.face u.wide.0), rw u.now_is (number-Lacks u.now u.wide.1))
+
+-- the same words, where the text was cut already
+pub up_words : (event : PlainEvent) (text a b c : List ℕ) → Lacks 32 a → Lacks 32 b → text ≡ a ++ (32 ∷ (b ++ (32 ∷ c)))
+    → LineSpells event (codes "up" ++ (32 ∷ text)) → UpWords a b c
+up_words event text a b c la lb is h =
+    let w = up_text event text h in
+    let u = w.3 in
+    let face_lacks : Lacks 32 w.0 = rw u.face_is (number-Lacks u.face u.wide.0) in
+    let scope_lacks : Lacks 32 w.1 = rw u.scope_is (scope_word-Lacks u.scope) in
+    let same = cut_twice_once 32 a b c w.0 w.1 w.2 la lb face_lacks scope_lacks (sym is ∙ w.4) in
+    record { face = u.face; scope = u.scope; now = u.now; wide = u.wide; face_is = same.first ∙ u.face_is; scope_is = same.second ∙ u.scope_is; now_is = same.third ∙ u.now_is }
+
+pub down_words : (event : PlainEvent) (text a b : List ℕ) → Lacks 32 a → text ≡ a ++ (32 ∷ b)
+    → LineSpells event (codes "down" ++ (32 ∷ text)) → DownWords a b
+down_words event text a b la is h =
+    let w = down_text event text h in
+    let u = w.2 in
+    let face_lacks : Lacks 32 w.0 = rw u.face_is (number-Lacks u.face u.wide.0) in
+    let same = cut_once 32 a b w.0 w.1 la face_lacks (sym is ∙ w.3) in
+    record { face = u.face; now = u.now; wide = u.wide; face_is = same.front ∙ u.face_is; now_is = same.back ∙ u.now_is }
+
+pub in_words : (event : PlainEvent) (text a b c : List ℕ) → Lacks 32 a → Lacks 32 b → text ≡ a ++ (32 ∷ (b ++ (32 ∷ c)))
+    → LineSpells event (codes "in" ++ (32 ∷ text)) → InWords a b c
+in_words event text a b c la lb is h =
+    let w = in_text event text h in
+    let u = w.3 in
+    let face_lacks : Lacks 32 w.0 = rw u.face_is (number-Lacks u.face u.wide.0) in
+    let now_lacks : Lacks 32 w.1 = rw u.now_is (number-Lacks u.now u.wide.1) in
+    let same = cut_twice_once 32 a b c w.0 w.1 w.2 la lb face_lacks now_lacks (sym is ∙ w.4) in
+    record { face = u.face; now = u.now; octets = u.octets; wide = u.wide; face_is = same.first ∙ u.face_is; now_is = same.second ∙ u.now_is; spelled = rw same.third u.spelled }
+
+-- the kind of an event
+abbrev pub kind_word : PlainEvent → List ℕ
+kind_word (FaceUp face scope now) = codes "up"
+kind_word (FaceDown face now) = codes "down"
+kind_word (Tick now) = codes "tick"
+kind_word (Packet face now octets) = codes "in"
+
+pub kind_word-Lacks : (event : PlainEvent) → Lacks 32 (kind_word event)
+kind_word-Lacks (FaceUp face scope now) = Lacks-from_test 32 (codes "up") refl
+kind_word-Lacks (FaceDown face now) = Lacks-from_test 32 (codes "down") refl
+kind_word-Lacks (Tick now) = Lacks-from_test 32 (codes "tick") refl
+kind_word-Lacks (Packet face now octets) = Lacks-from_test 32 (codes "in") refl
+
+-- a line of an event begins with its kind
+pub kind_first : (event : PlainEvent) (line : List ℕ) → LineSpells event line → (text : List ℕ) × (line ≡ kind_word event ++ (32 ∷ text))
+kind_first (FaceUp face scope now) line h = (_, h.1)
+kind_first (FaceDown face now) line h = (_, h.1)
+kind_first (Tick now) line h = (_, h.1)
+kind_first (Packet face now octets) line h = (_, h.1.2)
+
+which_kind : (event : PlainEvent) (kind : List ℕ) → (kind ≡ codes "up" → ⊥) → (kind ≡ codes "down" → ⊥) → (kind ≡ codes "tick" → ⊥) → (kind ≡ codes "in" → ⊥)
+    → kind ≡ kind_word event → ⊥
+which_kind (FaceUp face scope now) kind up down tick packet h = up h
+which_kind (FaceDown face now) kind up down tick packet h = down h
+which_kind (Tick now) kind up down tick packet h = tick h
+which_kind (Packet face now octets) kind up down tick packet h = packet h
+
+-- a line without a space
+pub no_space : (line : List ℕ) → Lacks 32 line → (event : PlainEvent) → LineSpells event line → ⊥
+no_space line lacks event h =
+    let w = kind_first event line h in
+    Lacks-no_cut 32 (kind_word event) w.0 (rw w.1 at lacks)
+
+-- a line whose first word is no kind
+pub no_kind : (line kind text : List ℕ) → Lacks 32 kind → line ≡ kind ++ (32 ∷ text)
+    → (kind ≡ codes "up" → ⊥) → (kind ≡ codes "down" → ⊥) → (kind ≡ codes "tick" → ⊥) → (kind ≡ codes "in" → ⊥)
+    → (event : PlainEvent) → LineSpells event line → ⊥
+no_kind line kind text lacks is up down tick packet event h =
+    let w = kind_first event line h in
+    let same = cut_once 32 kind text (kind_word event) w.0 lacks (kind_word-Lacks event) (sym is ∙ w.1) in
+    which_kind event kind up down tick packet same.front

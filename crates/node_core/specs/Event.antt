@@ -1,0 +1,27 @@
+-- Events and answers as plain data.
+use Rattle.std.specs.Prelude.{ℕ, List}
+use Rattle.node_core.specs.declared.event.Scope.{Scope}
+use Rattle.node_core.specs.declared.event.Verdict.{Verdict}
+use Rattle.node_core.specs.declared.event.Event.{Event}
+use Rattle.node_core.specs.declared.event.Event.TheVariants as code
+
+pub data PlainEvent : Type 0 where
+  Packet : (face now : ℕ) (octets : List ℕ) → PlainEvent
+  FaceUp : (face : ℕ) (scope : Scope) (now : ℕ) → PlainEvent
+  FaceDown : (face now : ℕ) → PlainEvent
+  Tick : (now : ℕ) → PlainEvent
+
+-- an event without where its octets lie in memory
+abbrev pub plain : Event → PlainEvent
+plain (code.Packet face now octets) = Packet face now octets.now
+plain (code.FaceUp face scope now) = FaceUp face scope now
+plain (code.FaceDown face now) = FaceDown face now
+plain (code.Tick now) = Tick now
+
+-- octets that go to a face
+abbrev pub Send : Type 0
+Send = ℕ × List ℕ
+
+pub record Answer : Type 0 where
+  pub verdict : Verdict
+  pub sends : List Send

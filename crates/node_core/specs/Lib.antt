@@ -1,0 +1,12 @@
+pub mod Event
+pub mod State
+pub mod Step
+pub mod Past
+pub mod Kept
+pub mod Parts
+pub mod Outbox
+pub mod Line
+pub mod Script
+pub mod Writing
+pub mod Ending
+pub mod Play

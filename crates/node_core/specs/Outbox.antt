@@ -1,0 +1,22 @@
+-- What an outbox holds.
+use Rattle.std.specs.Prelude.{ℕ, ◌≤◌, List, map, length, slice_range}
+use Rattle.std.specs.List.{AllByRecursion}
+use Rattle.node_core.specs.Event.{Send}
+use Rattle.node_core.specs.declared.outbox.Sent.{Sent}
+
+-- the places lie within the octets
+abbrev pub IsWithin : List ℕ → Sent → Type 0
+IsWithin octets sent = (sent.start ≤ sent.end) × (sent.end ≤ length octets)
+
+abbrev pub AreWithin : List ℕ → List Sent → Type 0
+AreWithin octets sends = AllByRecursion (IsWithin octets) sends
+
+-- a face, and the octets between the places
+abbrev pub send_of : List ℕ → Sent → Send
+send_of octets sent = (sent.face, slice_range octets sent.start sent.end)
+
+abbrev pub sends_of : List ℕ → List Sent → List Send
+sends_of octets sends = map (send_of octets) sends
+
+abbrev pub placed : ℕ → ℕ → ℕ → Sent
+placed start end face = record { face = face; start = start; end = end }

@@ -1,0 +1,22 @@
+-- What a node is made of.
+use Rattle.std.specs.Prelude.{ℕ, List, [], ◌∷◌, Bool, true, Option, None, Some, codes, nat_eq, nat_lt, ◌==◌, ◌&&◌, ◌||◌, if◌then◌else◌}
+use Rattle.std.specs.Cmp.Lexicographic.{pointwise}
+use Rattle.ndn_tlv.specs.Element.{Field}
+use Rattle.node_core.specs.declared.node.NodeFault.{NodeFault}
+use Rattle.node_core.specs.declared.node.NodeFault.TheVariants.{BadRepoPrefix, BadCapacity}
+
+-- the component `localhost`
+abbrev pub is_localhost : Field → Bool
+is_localhost c = (c.0 == 8) && pointwise nat_eq c.1 (codes "localhost")
+
+-- the empty name, and names under `/localhost`
+abbrev pub is_bad_prefix : List Field → Bool
+is_bad_prefix [] = true
+is_bad_prefix (c ∷ cs) = is_localhost c
+
+-- the fault of a repository's prefix and a cache's capacity, if there is one
+abbrev pub parts_fault : List Field → ℕ → Option NodeFault
+parts_fault repo cache =
+    if is_bad_prefix repo then Some BadRepoPrefix else (
+    if (cache == 0) || nat_lt 65536 cache then Some BadCapacity else
+    None)

@@ -1,0 +1,84 @@
+-- Scripts: which events a text is, how they are answered, and what is written.
+use Rattle.std.specs.Prelude.{◌≡◌, ℕ, ◌+◌, ◌⊎◌, Option, IfSome, List, [], ◌∷◌, ◌++◌, length}
+use Rattle.std.specs.List.{AllByRecursion, flat_map}
+use Rattle.node_core.specs.Event.{PlainEvent}
+use Rattle.node_core.specs.State.{State, initial}
+use Rattle.node_core.specs.Step.{Step, NeedsNoMemory}
+use Rattle.node_core.specs.Past.{Run, Start, Then, IsRun, Stands}
+use Rattle.node_core.specs.Line.{Lacks, IsSkipped, IsEventLine, IsBadLine}
+use Rattle.node_core.specs.Writing.{Outcome, Answered, NoMemory, script_text}
+
+-- a line with its LF
+abbrev pub ended : List ℕ → List ℕ
+ended line = line ++ (10 ∷ [])
+
+-- lines, each with its LF
+abbrev pub joined : List (List ℕ) → List ℕ
+joined lines = flat_map ended lines
+
+abbrev pub AreLines : List (List ℕ) → Type 0
+AreLines lines = AllByRecursion (Lacks 10) lines
+
+-- the lines are these events in order, and skipped lines
+abbrev pub Say : List (List ℕ) → List PlainEvent → Type 0
+Say [] [] = Unit {0}
+Say [] (event ∷ events) = ⊥
+Say (line ∷ lines) [] = IsSkipped line × Say lines []
+Say (line ∷ lines) (event ∷ events) =
+    (IsSkipped line × Say lines (event ∷ events)) ⊎ (IsEventLine event line × Say lines events)
+
+-- A text begins with these lines. Its last line ends with the text: an LF is put there, which
+-- makes no difference where one stands already, since an empty line is skipped.
+abbrev pub BeginsWithLines : List ℕ → List (List ℕ) → List ℕ → Type 0
+BeginsWithLines text lines rest = AreLines lines × (ended text ≡ joined lines ++ rest)
+
+-- the text is these events
+abbrev pub IsScript : List ℕ → List PlainEvent → Type 0
+IsScript text events = (lines : List (List ℕ)) × BeginsWithLines text lines [] × Say lines events
+
+-- the first lines of the text are these events
+abbrev pub BeginsWithEvents : List ℕ → List PlainEvent → Type 0
+BeginsWithEvents text events =
+    (lines : List (List ℕ)) × (rest : List ℕ) × BeginsWithLines text lines rest × Say lines events
+
+-- the whole lines of the text are these events, and after them comes less than a line
+abbrev pub IsScriptSoFar : List ℕ → List PlainEvent → Type 0
+IsScriptSoFar text events =
+    (lines : List (List ℕ)) × (rest : List ℕ)
+    × AreLines lines × Lacks 10 rest × (text ≡ joined lines ++ rest) × Say lines events
+
+-- line n, counted from 1, is the first bad one, and the lines before it are these events
+abbrev pub IsBadAt : List ℕ → ℕ → List PlainEvent → Type 0
+IsBadAt text n events =
+    (lines : List (List ℕ)) × (line rest : List ℕ)
+    × BeginsWithLines text lines (ended line ++ rest) × Lacks 10 line × (n ≡ length lines + 1)
+    × Say lines events × IsBadLine line
+
+-- how an event is replied to: by a step, or not handled for want of memory
+abbrev pub IsOutcome : State → PlainEvent → Outcome → State → Type 0
+IsOutcome old event (Answered answer) new = Step old event answer new
+IsOutcome old event NoMemory new = (new ≡ old) × (NeedsNoMemory old event → ⊥)
+
+-- the events are replied to in order
+abbrev pub Runs : State → List PlainEvent → List Outcome → State → Type 0
+Runs old [] [] new = new ≡ old
+Runs old [] (done_as ∷ outcomes) new = ⊥
+Runs old (event ∷ events) [] new = ⊥
+Runs old (event ∷ events) (done_as ∷ outcomes) new =
+    (next : State) × IsOutcome old event done_as next × Runs next events outcomes new
+
+-- a run with these events and the answers to them. An event that had no memory counts as not having come.
+abbrev pub run_from : Run → List PlainEvent → List Outcome → Run
+run_from past [] outcomes = past
+run_from past (event ∷ events) [] = past
+run_from past (event ∷ events) (Answered answer ∷ outcomes) = run_from (Then past event answer) events outcomes
+run_from past (event ∷ events) (NoMemory ∷ outcomes) = run_from past events outcomes
+
+-- the text of a run of the events from the start
+pub record Ran (events : List PlainEvent) (text : List ℕ) : Type 0 where
+  pub outcomes : List Outcome
+  pub last : State
+  pub runs : Runs initial events outcomes last
+  pub written : text ≡ script_text outcomes
+  pub is_run : IsRun (run_from Start events outcomes)
+  pub stands : Stands (run_from Start events outcomes) last

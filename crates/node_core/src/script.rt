@@ -1,0 +1,60 @@
+ghost use Rattle.std.specs.Prelude.{◌≡◌, Err, OnOk, IfErr, MatchOption};
+ghost use Rattle.node_core.specs.Parts.{parts_fault};
+ghost use Rattle.node_core.specs.Ending.{Ends, Stops, ComesWithGoodParts};
+
+use crate::node::{Node, NodeFault, NodeParts};
+use crate::outbox::Outbox;
+use crate::player::Player;
+use std::alloc::Global;
+use std::io::{Read, Write};
+use thiserror::Error;
+
+/// Why a script was not run to its end. What was written before stays.
+#[derive(Clone, Copy, Debug, PartialEq, Eq, Error)]
+pub enum RunFault {
+    /// A line, by its number from 1, is no line of a script.
+    #[error("line {0} is a bad line")]
+    BadLine(u64),
+    /// The reader failed, or was called 4,294,967,295 times.
+    #[error("the script cannot be read")]
+    Read,
+    /// The writer failed, or took no octets.
+    #[error("the answers cannot be written")]
+    Write,
+    /// The node cannot be made. Nothing was read or written.
+    #[error("{0}")]
+    Node(NodeFault),
+    /// Memory to read a line or to print an answer was refused.
+    #[error("out of memory")]
+    Memory,
+}
+
+/// Runs the events of a script on a new node, and writes the answer to each as it comes.
+///
+/// A line is `up FACE local|far MOMENT`, `down FACE MOMENT`, `tick MOMENT` or `in FACE MOMENT HEX`,
+/// with single spaces, decimal numbers without leading zeros, `-` for no octets, and an LF or the
+/// end of the input after at most 20,000 octets. Empty lines, and lines that begin with `#`, are
+/// skipped. An event for which a step has no memory is answered `memory`.
+pub fn run_script<R: Read, W: Write>(
+    alloc: Global,
+    reader: &mut R,
+    writer: &mut W,
+    parts: NodeParts,
+) -> Result<(), RunFault>
+    ensures done { OnOk result (Ends (R.remaining reader.old) (R.remaining reader.new) (W.contents writer.old) (W.contents writer.new)) }
+    ensures parts { MatchOption (parts_fault parts.repo parts.cache)
+        (IfErr result ComesWithGoodParts)
+        (λ fault. result ≡ Err (RunFault.Node fault)) }
+    ensures stopped { IfErr result (λ fault. Stops fault (R.remaining reader.old) (R.remaining reader.new) (W.contents writer.old) (W.contents writer.new)) }
+{
+    let mut player = Player {
+        alloc,
+        node: Node::new(alloc, parts).map_err(RunFault::Node)?,
+        outbox: Outbox::new(alloc),
+        line: Vec::new(alloc),
+        text: Vec::new(alloc),
+        lines: 0,
+        events: 0,
+    };
+    player.play(reader, writer)
+}
