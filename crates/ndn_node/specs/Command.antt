@@ -1,0 +1,16 @@
+-- What becomes of the answers of the command line's reader.
+use Rattle.std.specs.Prelude.{Result, Ok, Err}
+use Rattle.clap.specs.declared.error.Error.{Error}
+use Rattle.clap.specs.declared.error.kind.ErrorKind.{ErrorKind}
+use Rattle.clap.specs.declared.error.kind.ErrorKind.TheVariants.{DisplayHelp, OutOfMemory}
+use Rattle.node_core.specs.declared.script.RunFault.TheVariants.{Memory}
+use Rattle.ndn_node.specs.declared.command.Request.{Request}
+use Rattle.ndn_node.specs.declared.command.Request.TheVariants.{Help}
+use Rattle.ndn_node.specs.declared.fault.Fault.{Fault}
+use Rattle.ndn_node.specs.declared.fault.Fault.TheVariants.{Words, Script}
+
+-- help was asked for, memory was refused, or the words are wrong
+abbrev pub reading_of : ErrorKind → Error → Result Request Fault
+reading_of DisplayHelp error = Ok (Help error)
+reading_of OutOfMemory error = Err (Script Memory)
+reading_of kind error = Err (Words error)
