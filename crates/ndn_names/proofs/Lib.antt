@@ -1,3 +1,14 @@
 pub mod OrderLaws
 pub mod OctetOrder
 pub mod Names
+pub mod Prefixes
+pub mod Octets
+pub mod Decimals
+pub mod Words
+pub mod TextReading
+pub mod WordReading
+pub mod PieceReading
+pub mod PathReading
+pub mod Cuts
+pub mod ReadBack
+pub mod NameReading

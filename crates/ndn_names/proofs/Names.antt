@@ -13,22 +13,22 @@ use Rattle.ndn_tlv.proofs.Numbers.{IsBytes}
 use Rattle.ndn_tlv.proofs.Fields.{elements_of-nil, elements_of-ok, elements_of-err, elements_again, elements_read}
 use Rattle.ndn_names.proofs.OctetOrder.{element_first}
 use Rattle.ndn_names.specs.declared.fault.NameFault.{NameFault}
-use Rattle.ndn_names.specs.declared.fault.NameFault.TheVariants.{BadComponent, BadDigestLength, TooManyComponents, Memory}
+use Rattle.ndn_names.specs.declared.fault.NameFault.TheVariants.{BadComponent, BadDigestLength, TooManyComponents, BadUri, Memory}
 use Rattle.ndn_names.specs.Name.{IsComponent, IsNameValue, octets_of, components_of}
 use Rattle.ndn_names.specs.Reading.{component_of, component_at, component_after, components_after, name_at}
 
 -- the value of a step that did not fail
-bind_ok : {A B F : Type 0} (r : Result A F) (f : A → Result B F) (y : B) → (r >>= f) ≡ Ok y → (x : A) × (r ≡ Ok x) × (f x ≡ Ok y)
+pub bind_ok : {A B F : Type 0} (r : Result A F) (f : A → Result B F) (y : B) → (r >>= f) ≡ Ok y → (x : A) × (r ≡ Ok x) × (f x ≡ Ok y)
 bind_ok (Ok x) f y e = (x, refl, e)
 bind_ok (Err d) f y e = absurd cc
 
-abbrev done : {A : Type 0} → A → Result A NameFault
+abbrev pub done : {A : Type 0} → A → Result A NameFault
 done x = Ok x
 
 abbrev read_element : Field → Result Field TlvFault
 read_element f = Ok f
 
-done_is : {A : Type 0} (x y : A) → done x ≡ done y → x ≡ y
+pub done_is : {A : Type 0} (x y : A) → done x ≡ done y → x ≡ y
 done_is x y e = cc
 
 -- the tests that a component passes
@@ -183,6 +183,7 @@ IsCaused (Ok x) = Unit {0}
 IsCaused (Err BadComponent) = Unit {0}
 IsCaused (Err BadDigestLength) = Unit {0}
 IsCaused (Err TooManyComponents) = Unit {0}
+IsCaused (Err BadUri) = Unit {0}
 IsCaused (Err Memory) = ⊥
 
 caused_then : {A B : Type 0} (r : Result A NameFault) (f : A → Result B NameFault) → IsCaused r → ((x : A) → IsCaused (f x)) → IsCaused (r >>= f)
@@ -190,6 +191,7 @@ caused_then (Ok x) f h g = g x
 caused_then (Err BadComponent) f h g = tt
 caused_then (Err BadDigestLength) f h g = tt
 caused_then (Err TooManyComponents) f h g = tt
+caused_then (Err BadUri) f h g = tt
 caused_then (Err Memory) f h g = h
 
 caused_if : {A : Type 0} (b : Bool) (r s : Result A NameFault) → IsCaused r → IsCaused s → IsCaused (cond b r s)

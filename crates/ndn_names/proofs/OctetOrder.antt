@@ -2,7 +2,9 @@
 use Rattle.std.proofs.Common.{◌≡◌, ℕ, ◌+◌, ◌*◌, ◌^◌, ◌<◌, ◌≤◌, List, [], ◌∷◌, ◌++◌, length, refl, sym, ap, ◌∙◌, inl, inr, append_assoc, arith}
 use Rattle.std.specs.declared.cmp.Ordering.{Ordering}
 use Rattle.std.specs.declared.cmp.Ordering.TheVariants.{Less as Lt, Equal, Greater}
-use Rattle.std.specs.Ordering.{nat_cmp, ordering_then, ordering_reverse}
+use Rattle.std.specs.Ordering.{nat_cmp, ordering_then, ordering_reverse, is_eq, eq_by_cmp}
+use Rattle.std.specs.Str.{bytes_eq}
+use Rattle.std.proofs.lemmas.Map.Text.{is_eq-slice_cmp}
 use Rattle.std.specs.Cmp.Lexicographic.{slice_cmp}
 use Rattle.std.specs.List.{AllByRecursion}
 use Rattle.std.specs.Int.{Width, w16, w32, w64, to_be_bytes}
@@ -200,3 +202,7 @@ octets_cmp (f ∷ a) (g ∷ b) p q = element_order f g (octets_of a) (octets_of 
 
 pub values_cmp : (u v : List ℕ) (a b : List Field) → IsNameValue u a → IsNameValue v b → slice_cmp nat_cmp u v ≡ name_cmp a b
 values_cmp u v a b p q = ap (λ (t : List ℕ). slice_cmp nat_cmp t v) p.0.1 ∙ ap (slice_cmp nat_cmp (octets_of a)) q.0.1 ∙ octets_cmp a b p.0.0 q.0.0
+
+-- names are equal where their octets are
+pub values_equal : (u v : List ℕ) (a b : List Field) → IsNameValue u a → IsNameValue v b → bytes_eq u v ≡ eq_by_cmp name_cmp a b
+values_equal u v a b h g = sym (is_eq-slice_cmp u v) ∙ ap is_eq (values_cmp u v a b h g)

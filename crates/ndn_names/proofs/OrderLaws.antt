@@ -5,42 +5,19 @@ use Rattle.std.specs.declared.cmp.Ordering.TheVariants.{Less as Lt, Equal, Great
 use Rattle.std.specs.Ordering.{nat_cmp, ordering_then, ordering_reverse, MatchOrdering}
 use Rattle.std.specs.Cmp.{IsTotalOrder}
 use Rattle.std.specs.Cmp.Lexicographic.{slice_cmp}
-use Rattle.std.specs.FinMap.{IsAntisymmetric, nat_cmp-IsAntisymmetric, slice_cmp-IsAntisymmetric}
-use Rattle.std.proofs.lemmas.Cmp.{ranked, tied_itself, nat_cmp_total, nat_list_cmp_total, on_total, then_total, lists_total}
+use Rattle.std.specs.FinMap.{IsAntisymmetric, nat_cmp-IsAntisymmetric}
+use Rattle.std.proofs.lemmas.Cmp.{ranked, tied_itself, nat_cmp_total}
 use Rattle.std.proofs.lemmas.Bool.{lt-ltb}
 use Rattle.std.proofs.lemmas.List.{length-append}
 use Rattle.ndn_tlv.specs.Element.{Field}
+use Rattle.ndn_names.specs.Key.{component_cmp-total, component_cmp-antisymmetric, name_cmp-total, name_cmp-antisymmetric}
 use Rattle.ndn_names.specs.Order.{DiffersBelow, IsProperPrefix, OctetsLess, ComponentLess, Less, component_cmp, name_cmp}
-
--- ---- the comparing functions are total orders, and only equal values tie
-
-pub component_cmp-total : IsTotalOrder component_cmp
-component_cmp-total = then_total (on_total (λ (c : Field). c.0) nat_cmp_total) (then_total (on_total (λ (c : Field). length c.1) nat_cmp_total) (on_total (λ (c : Field). c.1) nat_list_cmp_total))
-
-pub name_cmp-total : IsTotalOrder name_cmp
-name_cmp-total = lists_total component_cmp-total
 
 -- the outcome of two orders, one after the other
 then_less : (o p : Ordering) → ordering_then o p ≡ Lt → (o ≡ Lt) ⊎ ((o ≡ Equal) × (p ≡ Lt))
 then_less Lt p e = inl refl
 then_less Equal p e = inr (refl, e)
 then_less Greater p e = absurd cc
-
-then_equal : (o p : Ordering) → ordering_then o p ≡ Equal → (o ≡ Equal) × (p ≡ Equal)
-then_equal Lt p e = absurd cc
-then_equal Equal p e = (refl, e)
-then_equal Greater p e = absurd cc
-
-pub component_cmp-antisymmetric : IsAntisymmetric component_cmp
-component_cmp-antisymmetric x y e =
-    let a = then_equal _ _ e in
-    let b = then_equal _ _ a.1 in
-    let kinds : x.0 ≡ y.0 = nat_cmp-IsAntisymmetric x.0 y.0 a.0 in
-    let values : x.1 ≡ y.1 = slice_cmp-IsAntisymmetric nat_cmp-IsAntisymmetric x.1 y.1 b.1 in
-    λ i. (kinds i, values i)
-
-pub name_cmp-antisymmetric : IsAntisymmetric name_cmp
-name_cmp-antisymmetric = slice_cmp-IsAntisymmetric component_cmp-antisymmetric
 
 -- ---- lists: what Less means
 

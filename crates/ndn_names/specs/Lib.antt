@@ -2,3 +2,8 @@ pub mod Name
 pub mod Reading
 pub mod Order
 pub mod View
+pub mod Key
+pub mod Word
+pub mod Uri
+pub mod ReadsAs
+pub mod UriReading

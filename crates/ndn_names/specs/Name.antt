@@ -1,5 +1,5 @@
 -- Names (NDN Packet Format 0.3, "Name").
-use Rattle.std.specs.Prelude.{◌≡◌, ℕ, ◌<◌, ◌≤◌, List, length}
+use Rattle.std.specs.Prelude.{◌≡◌, ℕ, ◌<◌, ◌≤◌, List, ◌++◌, length}
 use Rattle.std.specs.List.{flat_map, filter_map, AllByRecursion, AllByRecursion-prop}
 use Rattle.std.specs.Coded.{×_prop, →_prop, le_prop, Coded-set, coded_ℕ, coded_list}
 use Rattle.std.specs.Result.{result_ok}
@@ -21,6 +21,10 @@ octets_of cs = flat_map element cs
 -- the octets are the TLV-VALUE of the name of these components
 abbrev pub IsNameValue : List ℕ → List Field → Type 0
 IsNameValue value cs = IsElements value cs × IsName cs
+
+-- b begins with a, which may be all of it
+abbrev pub IsPrefix : List Field → List Field → Type 0
+IsPrefix a b = (rest : List Field) × (b ≡ a ++ rest)
 
 -- the elements of the octets, as far as they can be read
 unfoldable pub components_of : List ℕ → List Field

@@ -7,11 +7,14 @@ ghost use Rattle.ndn_names.specs.Reading.{component_of, component_at};
 use crate::fault::NameFault;
 use ndn_tlv::first_element;
 
-const MAX_KIND: u32 = 65535;
+/// The type of a GenericNameComponent.
+pub(crate) const GENERIC: u16 = 8;
 
-const PARAMETERS_SHA256_DIGEST: u32 = 2;
+/// The type of a ParametersSha256DigestComponent, and the greatest type of a digest.
+pub(crate) const PARAMETERS_SHA256_DIGEST: u16 = 2;
 
-const SHA256_LEN: usize = 32;
+/// The octets of a digest.
+pub(crate) const SHA256_LEN: usize = 32;
 
 /// A component of a name (NDN Packet Format 0.3, "Name Components"). It borrows its octets.
 #[derive(Clone, Copy, Debug)]
@@ -26,13 +29,16 @@ pub struct Component<'a> {
 pub(crate) fn component_kind(kind: u32, value: &[u8]) -> Result<u16, NameFault>
     ensures { on_result (λ k. Ok (k, value.now)) Err result ≡ component_of (kind, value.now) }
 {
-    if kind == 0 || kind > MAX_KIND {
+    let Ok(kind) = u16::try_from(kind) else {
+        return Err(NameFault::BadComponent);
+    };
+    if kind == 0 {
         return Err(NameFault::BadComponent);
     }
     if kind <= PARAMETERS_SHA256_DIGEST && value.len() != SHA256_LEN {
         return Err(NameFault::BadDigestLength);
     }
-    Ok(kind as u16)
+    Ok(kind)
 }
 
 /// The component at the front of the octets, and the octets after it.

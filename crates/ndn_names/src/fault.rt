@@ -19,6 +19,9 @@ pub enum NameFault {
     /// A name has more than 64 components.
     #[error("a name has more than 64 components")]
     TooManyComponents,
+    /// A text is no URI text of a name.
+    #[error("the text is no name, as /A/seg=5 is")]
+    BadUri,
     /// A growth of memory was refused.
     #[error("out of memory")]
     Memory,

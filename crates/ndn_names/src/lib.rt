@@ -1,12 +1,16 @@
-//! Names of Named Data Networking: components, canonical order.
+//! Names of Named Data Networking: components, canonical order, URI text.
 #![tactic(auto)]
 
 mod component;
 mod components;
 mod fault;
+mod key;
 mod name;
 mod name_buf;
 mod order;
+mod uri;
+mod uri_reader;
+mod word;
 
 pub use component::Component;
 pub use components::Components;
@@ -17,6 +21,8 @@ pub use order::{
     canonical_order_is_total, comparison_tells_the_order, names_can_be_keys,
     octets_are_in_canonical_order,
 };
+pub use uri::names_read_back;
+pub use uri_reader::texts_have_one_reading;
 
 #[cfg(test)]
 mod tests;

@@ -41,7 +41,7 @@ impl<'a> Name<'a> {
     ghost use Rattle.std.specs.Option.{option_map};
     ghost use Rattle.ndn_tlv.specs.Element.{element};
     ghost use Rattle.ndn_tlv.specs.Reading.{on_result};
-    ghost use Rattle.ndn_names.specs.Name.{octets_of};
+    ghost use Rattle.ndn_names.specs.Name.{octets_of, IsPrefix};
     ghost use Rattle.ndn_names.specs.Order.{Less, name_cmp};
     ghost use Rattle.ndn_names.specs.View.{components, field_of, components_left};
 
@@ -66,6 +66,27 @@ impl<'a> Name<'a> {
         ensures { IsNameValue result.now (components self.now) }
     {
         self.octets
+    }
+
+    /// The name of the first `n` components.
+    pub fn prefix(&self, n: usize) -> Name<'a>
+        requires { n ≤ length (components self.now) }
+        ensures { components result ≡ take n (components self.now) }
+    {
+        let mut after = self.iter();
+        for _ in 0..n {
+            after.next();
+        }
+        Name {
+            octets: &self.octets[..self.octets.len() - after.rest.len()],
+        }
+    }
+
+    /// Whether the other name begins with this one's components. Each name is a prefix of itself.
+    pub fn is_prefix_of(&self, other: Name<'_>) -> bool
+        ensures { IsTrue result ↔ IsPrefix (components self.now) (components other.entry) }
+    {
+        other.as_octets().starts_with(self.as_octets())
     }
 
     /// Compares in canonical order (NDN Packet Format 0.3, "Name", "Canonical Order").

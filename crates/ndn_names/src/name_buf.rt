@@ -1,4 +1,4 @@
-ghost use Rattle.std.specs.Prelude.{◌≡◌, ◌⊎◌, List, [], ◌∷◌, ◌++◌, length, Ok, Err, IfOk, OnOk, OnErr, MatchResult};
+ghost use Rattle.std.specs.Prelude.{◌≡◌, ◌<◌, ◌⊎◌, List, [], ◌∷◌, ◌++◌, length, Ok, Err, IfOk, OnOk, OnErr, MatchResult};
 ghost use Rattle.ndn_tlv.specs.Element.{Field};
 ghost use Rattle.ndn_names.specs.Name.{IsNameValue, components_of};
 
@@ -24,7 +24,7 @@ impl Model for NameBuf {
 }
 
 impl NameBuf {
-    ghost use Rattle.ndn_names.specs.Reading.{component_after};
+    ghost use Rattle.ndn_names.specs.Reading.{component_of, component_after};
     ghost use Rattle.ndn_names.specs.View.{components};
 
     /// The name without components.
@@ -60,6 +60,17 @@ impl NameBuf {
             return Err(NameFault::TooManyComponents);
         }
         component_kind(u32::from(kind), value)?;
+        self.push(kind, value)?;
+        Ok(())
+    }
+
+    /// Appends a component that can follow.
+    pub(crate) fn push(&mut self, kind: u16, value: &[u8]) -> Result<(), Memory>
+        requires room { length self.old < 64 }
+        requires fits { component_of (kind, value.now) ≡ Ok (kind, value.now) }
+        ensures ok { OnOk result (self.new ≡ self.old ++ (kind, value.now) ∷ []) }
+        ensures err { OnErr result (self.new ≡ self.old) }
+    {
         put_element(&mut self.octets, u32::from(kind), value)?;
         Ok(())
     }

@@ -5,7 +5,8 @@ use Rattle.std.specs.declared.cmp.Ordering.TheVariants.{Less, Equal, Greater}
 use Rattle.std.specs.Ordering.{is_eq}
 use Rattle.ndn_tlv.specs.Element.{Field}
 use Rattle.ndn_names.specs.Order.{name_cmp}
-use Rattle.ndn_names.proofs.OrderLaws.{name_cmp-antisymmetric, name_cmp-equal}
+use Rattle.ndn_names.specs.Key.{name_cmp-antisymmetric}
+use Rattle.ndn_names.proofs.OrderLaws.{name_cmp-equal}
 use Rattle.node_core.specs.State.{same_name}
 
 equal_from : (o : Ordering) → is_eq o ≡ true → o ≡ Equal

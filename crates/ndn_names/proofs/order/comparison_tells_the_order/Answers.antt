@@ -1,4 +1,5 @@
-use Rattle.ndn_names.proofs.OrderLaws.{less-name_cmp, name_cmp-less, name_cmp-antisymmetric, name_cmp-equal, greater-name_cmp, name_cmp-greater}
+use Rattle.ndn_names.specs.Key.{name_cmp-antisymmetric}
+use Rattle.ndn_names.proofs.OrderLaws.{less-name_cmp, name_cmp-less, name_cmp-equal, greater-name_cmp, name_cmp-greater}
 use Rattle.ndn_names.proofs.order.comparison_tells_the_order.Goals as goal
 
 pub returns : goal.returns

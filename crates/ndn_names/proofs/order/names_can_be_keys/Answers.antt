@@ -1,4 +1,4 @@
-use Rattle.ndn_names.proofs.OrderLaws.{name_cmp-total, name_cmp-antisymmetric}
+use Rattle.ndn_names.specs.Key.{name_cmp-total, name_cmp-antisymmetric}
 use Rattle.ndn_names.proofs.order.names_can_be_keys.Goals as goal
 
 pub returns : goal.returns

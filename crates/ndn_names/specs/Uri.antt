@@ -1,0 +1,61 @@
+-- The URI text of a name (NDN Packet Format 0.3, "NDN URI Scheme").
+use Rattle.std.specs.Prelude.{ℕ, ◌<◌, ◌/◌, ◌%◌, Bool, true, false, List, [], ◌∷◌, ◌++◌, map, flat_map, Option, Some, None, codes, decimal, nat_le, ◌==◌, ◌||◌, if◌then◌else◌}
+use Rattle.std.specs.List.{list_all, AllByRecursion}
+use Rattle.std.specs.Char.{is_ascii_alphanumeric}
+use Rattle.std.specs.Fmt.{digit_glyph}
+use Rattle.ndn_tlv.specs.Element.{Field}
+use Rattle.ndn_names.specs.Word.{word_of, shortest_number}
+
+-- the octets that stand for themselves: letters and digits, hyphen, period, underscore, tilde
+abbrev pub is_unreserved : ℕ → Bool
+is_unreserved o = is_ascii_alphanumeric o || (o == 45 || (o == 46 || (o == 95 || o == 126)))
+
+-- an octet as two hexadecimal digits, in upper case or not
+abbrev pub hexadecimal : Bool → ℕ → List ℕ
+hexadecimal is_upper o = digit_glyph is_upper (o / 16) ∷ digit_glyph is_upper (o % 16) ∷ []
+
+abbrev pub escaped : ℕ → List ℕ
+escaped o = if is_unreserved o then o ∷ [] else codes "%" ++ hexadecimal true o
+
+-- nothing but periods, or nothing at all
+abbrev pub is_periods : List ℕ → Bool
+is_periods value = list_all (λ o. o == 46) value
+
+-- such a value has three more periods in text
+abbrev pub padded : List ℕ → List ℕ
+padded value = if is_periods value then value ++ codes "..." else value
+
+abbrev pub value_text : List ℕ → List ℕ
+value_text value = flat_map escaped (padded value)
+
+-- a component as text, where its type has no word: type 8 goes without saying
+abbrev pub plain_text : Field → List ℕ
+plain_text c = if c.0 == 8 then value_text c.1 else decimal c.0 ++ (codes "=" ++ value_text c.1)
+
+-- where its type has a word for numbers: the number is given where the value is its shortest NonNegativeInteger
+abbrev pub number_text : List ℕ → Field → Option ℕ → List ℕ
+number_text word c (Some n) = word ++ (codes "=" ++ decimal n)
+number_text word c None = plain_text c
+
+-- the word is given where its type has one; types 1 and 2 are digests
+abbrev pub text_by_word : Field → Option (List ℕ) → List ℕ
+text_by_word c None = plain_text c
+text_by_word c (Some word) =
+    if nat_le c.0 2 then word ++ (codes "=" ++ flat_map (hexadecimal false) c.1)
+    else number_text word c (shortest_number c.1)
+
+abbrev pub component_text : Field → List ℕ
+component_text c = text_by_word c (word_of c.0)
+
+-- each piece after a slash, and a slash alone where there is no piece
+abbrev pub path_of : List (List ℕ) → List ℕ
+path_of [] = codes "/"
+path_of (piece ∷ pieces) = flat_map (λ p. codes "/" ++ p) (piece ∷ pieces)
+
+-- the values of the components are octets
+abbrev pub AreOctets : List Field → Type 0
+AreOctets cs = AllByRecursion (λ c. AllByRecursion (λ o. o < 256) c.1) cs
+
+-- the text of the name of these components
+abbrev pub uri_of : List Field → List ℕ
+uri_of cs = path_of (map component_text cs)

@@ -1,0 +1,139 @@
+-- Reading a name's text from left to right, with the first fault that is met (NDN Packet Format 0.3, "NDN URI Scheme").
+use Rattle.std.specs.Prelude.{◌≡◌, ◌⊎◌, ℕ, ◌+◌, ◌-◌, ◌*◌, ◌^◌, List, [], ◌∷◌, length, take, drop, Option, Some, None, Result, Ok, Err, codes, decimal, bytes_eq, nat_lt, nat_le, ◌==◌, ◌&&◌, ◌||◌, not, if◌then◌else◌}
+use Rattle.std.specs.Char.{digit_value}
+use Rattle.std.specs.Str.{all_ascii_digits}
+use Rattle.std.specs.Str.Parse.{digits_value}
+use Rattle.ndn_tlv.specs.Element.{Field}
+use Rattle.ndn_tlv.specs.Number.{shortest_nni}
+use Rattle.ndn_tlv.specs.Reading.{◌>>=◌}
+use Rattle.ndn_names.specs.declared.fault.NameFault.{NameFault}
+use Rattle.ndn_names.specs.declared.fault.NameFault.TheVariants.{TooManyComponents, BadUri, Memory}
+use Rattle.ndn_names.specs.Reading.{component_of}
+use Rattle.ndn_names.specs.Word.{kind_of}
+use Rattle.ndn_names.specs.Uri.{is_periods}
+
+-- an octet in two hexadecimal digits
+abbrev pub pair_in : ℕ → ℕ → Result ℕ NameFault
+pair_in high low =
+    if nat_lt (digit_value high) 16 && nat_lt (digit_value low) 16 then Ok (16 * digit_value high + digit_value low) else Err BadUri
+
+-- an octet before others
+abbrev pub before : ℕ → Result (List ℕ) NameFault → Result (List ℕ) NameFault
+before o others = do
+  octets ← others
+  Ok (o ∷ octets)
+
+-- octets in hexadecimal digits
+abbrev pub hex_in : List ℕ → Result (List ℕ) NameFault
+hex_in [] = Ok []
+hex_in (high ∷ []) = Err BadUri
+hex_in (high ∷ low ∷ text) = do
+  o ← pair_in high low
+  before o (hex_in text)
+
+-- octets in text with percent signs
+abbrev pub octets_in : List ℕ → Result (List ℕ) NameFault
+octets_in [] = Ok []
+octets_in (a ∷ []) = if a == 37 then Err BadUri else Ok (a ∷ [])
+octets_in (a ∷ b ∷ []) = if a == 37 then Err BadUri else before a (octets_in (b ∷ []))
+octets_in (a ∷ b ∷ c ∷ text) =
+    if a == 37 then (do
+      o ← pair_in b c
+      before o (octets_in text))
+    else before a (octets_in (b ∷ c ∷ text))
+
+-- the value: three periods are taken off where nothing but periods stands
+abbrev pub unpadded : List ℕ → Result (List ℕ) NameFault
+unpadded octets =
+    if not (is_periods octets) then Ok octets else (
+    if nat_lt (length octets) 3 then Err BadUri else Ok (take (length octets - 3) octets))
+
+-- a component of a type, by the text of its value
+abbrev pub plain_in : ℕ → List ℕ → Result Field NameFault
+plain_in kind text = do
+  octets ← octets_in text
+  value ← unpadded octets
+  component_of (kind, value)
+
+-- a decimal number below 2 ^ 64, without a sign
+abbrev pub number_in : List ℕ → Result ℕ NameFault
+number_in text =
+    if all_ascii_digits text && (nat_lt 0 (length text) && nat_lt (digits_value 10 text) (2 ^ 64)) then Ok (digits_value 10 text) else Err BadUri
+
+-- the number of a type, without leading zeros
+abbrev pub type_in : List ℕ → Result ℕ NameFault
+type_in word = do
+  kind ← number_in word
+  if (kind == 0) || (nat_lt 65535 kind || not (bytes_eq word (decimal kind))) then Err BadUri else Ok kind
+
+abbrev pub digest_in : ℕ → List ℕ → Result Field NameFault
+digest_in kind text = if length text == 64 then (do
+  octets ← hex_in text
+  Ok (kind, octets)) else Err BadUri
+
+abbrev pub numbered_in : ℕ → List ℕ → Result Field NameFault
+numbered_in kind text = do
+  n ← number_in text
+  Ok (kind, shortest_nni n)
+
+-- a component by what stands before and after its first equals sign, and the type of the word before it
+abbrev pub typed_in : List ℕ → List ℕ → Option ℕ → Result Field NameFault
+typed_in word text (Some kind) = if nat_le kind 2 then digest_in kind text else numbered_in kind text
+typed_in word text None = do
+  kind ← type_in word
+  plain_in kind text
+
+-- the octets before the first c, and those after it
+abbrev pub cut_at : ℕ → List ℕ → Option (List ℕ × List ℕ)
+cut_at c [] = None
+cut_at c (o ∷ text) = if o == c then Some ([], text) else (more o (cut_at c text))
+  where
+    more : ℕ → Option (List ℕ × List ℕ) → Option (List ℕ × List ℕ)
+    more o None = None
+    more o (Some parts) = Some (o ∷ parts.0, parts.1)
+
+abbrev pub component_by_cut : List ℕ → Option (List ℕ × List ℕ) → Result Field NameFault
+component_by_cut piece None = plain_in 8 piece
+component_by_cut piece (Some parts) = typed_in parts.0 parts.1 (kind_of parts.0)
+
+-- a component
+unfoldable pub component_in : List ℕ → Result Field NameFault
+component_in piece = component_by_cut piece (cut_at 61 piece)
+
+-- the components of these pieces, where n components stand before them
+abbrev pub components_in : ℕ → List (List ℕ) → Result (List Field) NameFault
+components_in n [] = Ok []
+components_in n (piece ∷ pieces) = do
+  c ← if nat_lt n 64 then component_in piece else Err TooManyComponents
+  cs ← components_in (n + 1) pieces
+  Ok (c ∷ cs)
+
+-- an octet at the front of the first piece
+abbrev pub at_front : ℕ → List (List ℕ) → List (List ℕ)
+at_front o [] = (o ∷ []) ∷ []
+at_front o (piece ∷ pieces) = (o ∷ piece) ∷ pieces
+
+-- the pieces between slashes; a slash at the end begins no piece
+abbrev pub pieces_of : List ℕ → List (List ℕ)
+pieces_of [] = []
+pieces_of (o ∷ text) = if o == 47 then [] ∷ pieces_of text else at_front o (pieces_of text)
+
+-- the text after the scheme, if it stands there
+abbrev pub without_scheme : List ℕ → List ℕ
+without_scheme text = if bytes_eq (take 4 text) (codes "ndn:") then drop 4 text else text
+
+-- the name that stands after a slash; a slash alone is the slash at the end of the empty name
+abbrev pub name_after_slash : List ℕ → Result (List Field) NameFault
+name_after_slash text = components_in 0 (if bytes_eq text (codes "/") then [] else pieces_of text)
+
+abbrev pub name_in_path : List ℕ → Result (List Field) NameFault
+name_in_path [] = Err BadUri
+name_in_path (o ∷ text) = if o == 47 then name_after_slash text else Err BadUri
+
+-- the name of a text
+unfoldable pub name_in : List ℕ → Result (List Field) NameFault
+name_in text = name_in_path (without_scheme text)
+
+-- the fault of a reading, or Memory, which has no cause in the text
+abbrev pub IsFaultOf : {A : Type 0} → Result A NameFault → NameFault → Type 0
+IsFaultOf read fault = (read ≡ Err fault) ⊎ (fault ≡ Memory)
