@@ -236,15 +236,16 @@ impl Node {
         ensures memory { OnErr result ((self.new ≡ self.old) × (outbox.new ≡ outbox.old)) }
         ensures rising { IsRising (numbers self.new.faces) }
     {
+        let now = self.now.max(now);
         let name = NameBuf::from_name(self.alloc, interest.name)?;
         self.pending.reserve(1)?;
         list_others(&mut self.targets, &self.faces, face)?;
         outbox.send_to(&self.targets, interest.whole)?;
         // `advance`, in place: a call of it would lose sight of the room that was reserved.
-        self.now = now.max(self.now);
-        remove_due(&mut self.pending, self.now);
+        self.now = now;
+        remove_due(&mut self.pending, now);
         remove_one(&mut self.pending, face, interest.name);
-        let deadline = deadline_after(self.now, interest.lifetime);
+        let deadline = deadline_after(now, interest.lifetime);
         self.pending
             .push(Pending {
                 face,

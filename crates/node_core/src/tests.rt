@@ -79,13 +79,14 @@ fn script_texts(rt: HostRuntime) -> Result<(), Fail> {
             "up 1 far 7\n\n#\ntick 18446744073709551615\n",
             "1 passed\n2 passed\n",
         ),
+        (
+            "in 1 0 -\nin 1 0 0aFf\nin 1 0 00\n",
+            "1 dropped NoFace\n2 dropped NoFace\n3 dropped NoFace\n",
+        ),
     ];
     for (text, answers) in texts {
         run(rt.alloc(), text.as_bytes(), &mut output)?;
         assert_eq!(rt; output.as_slice(), answers.as_bytes(), "at {text:?}");
-    }
-    for text in ["in 1 0 -", "in 1 0 0aFf", "in 1 0 00\n"] {
-        run(rt.alloc(), text.as_bytes(), &mut output)?;
     }
     Ok(())
 }
@@ -273,18 +274,33 @@ const DATA: [u8; 17] = [
     6, 15, 7, 3, 8, 1, 0x41, 0x15, 1, 0x78, 0x16, 3, 0x1b, 1, 0, 0x17, 0,
 ];
 
-#[test]
-fn memory_changes_nothing(rt: HostRuntime) -> Result<(), Fail> {
-    let mut outbox = Outbox::new(rt.alloc());
-    let mut node = Node::new(rt.alloc(), parts(rt.alloc())?)?;
+/// A node with the faces 1 to 3 open.
+fn node_of_three(alloc: Global, outbox: &mut Outbox) -> Result<Node, NodeFault> {
+    let parts = parts(alloc).map_err(|_| NodeFault::Memory)?;
+    let mut node = Node::new(alloc, parts)?;
     for face in 1..4 {
         let up = Event::FaceUp {
             face,
             scope: Scope::Far,
             now: 0,
         };
-        assert_eq!(rt; node.step(up, &mut outbox), Ok(Verdict::Passed));
+        let Ok(_) = node.step(up, outbox) else {
+            return Err(NodeFault::Memory);
+        };
     }
+    Ok(node)
+}
+
+#[test]
+fn steps_with_refused_memory(rt: HostRuntime) -> Result<(), Fail> {
+    let mut outbox = Outbox::new(rt.alloc());
+    let mut node = match node_of_three(rt.alloc(), &mut outbox) {
+        Ok(node) => node,
+        Err(fault) => {
+            assert_eq!(rt; fault, NodeFault::Memory);
+            return Ok(());
+        }
+    };
     for (face, octets) in [(1, INTEREST.as_slice()), (2, DATA.as_slice())] {
         let packet = Event::Packet {
             face,
@@ -313,4 +329,34 @@ fn memory_changes_nothing(rt: HostRuntime) -> Result<(), Fail> {
         assert_eq!(rt; sent, *octets);
     }
     Ok(())
+}
+
+#[test]
+fn script_with_refused_memory(rt: HostRuntime) {
+    let script =
+        b"up 1 local 0\nup 2 far 0\nin 1 1000 050b07030801410a0401020304\nin 2 1050 060f070308014115017816031b01001700\ntick 1100\n";
+    // Of one refusal at most: the answers without it, where the Interest had it, and where the Data.
+    let answers: [&[u8]; 3] = [
+        b"1 passed\n2 passed\n3 passed\n> 2 050b07030801410a0401020304\n4 passed\n> 1 060f070308014115017816031b01001700\n5 passed\n",
+        b"1 passed\n2 passed\n3 memory\n4 passed\n5 passed\n",
+        b"1 passed\n2 passed\n3 passed\n> 2 050b07030801410a0401020304\n4 memory\n5 passed\n",
+    ];
+    let Ok(held) = Vec::with_capacity(rt.alloc(), 1000) else {
+        return;
+    };
+    let mut output = Room {
+        held,
+        size: 1000,
+        left: 1000,
+    };
+    let Ok(parts) = parts(rt.alloc()) else {
+        return;
+    };
+    let result = run_script(rt.alloc(), &mut script.as_slice(), &mut output, parts);
+    let text = output.held.as_slice();
+    match result {
+        Ok(()) => assert!(rt; answers.iter().any(|whole| *whole == text)),
+        Err(RunFault::Memory) => assert!(rt; answers.iter().any(|whole| whole.starts_with(text))),
+        Err(fault) => assert_eq!(rt; fault, RunFault::Node(NodeFault::Memory)),
+    }
 }
