@@ -1,6 +1,10 @@
 pub mod Rules
 pub mod Steps
+pub mod FieldLists
+pub mod Numbers
+pub mod Locators
+pub mod MetaInfos
 pub mod SignatureInfos
-pub mod Interests
 pub mod DataPackets
+pub mod Interests
 pub mod Packets

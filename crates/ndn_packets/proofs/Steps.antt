@@ -1,5 +1,5 @@
 -- Readers step by step: what each step that succeeded has found.
-use Rattle.std.proofs.Common.{◌≡◌, ◌≢◌, ℕ, Bool, true, false, cond, eqb, List, [], ◌∷◌, ◌++◌, length, map, take, Option, Some, None, Result, Ok, Err, refl, sym, ap, subst, ◌∙◌}
+use Rattle.std.proofs.Common.{◌≡◌, ◌≢◌, ℕ, Bool, true, false, cond, eqb, List, [], ◌∷◌, ◌++◌, length, Option, Some, None, Result, Ok, Err, refl, ap, subst, ◌∙◌}
 use Rattle.std.specs.List.{AllByRecursion, flat_map}
 use Rattle.std.proofs.lemmas.Bool.{eqb-true}
 use Rattle.std.proofs.lemmas.List.{take_at}
@@ -11,8 +11,7 @@ use Rattle.ndn_tlv.proofs.Numbers.{IsBytes, IsBytes-take, IsBytes-back}
 use Rattle.ndn_names.specs.Reading.{name_at}
 use Rattle.ndn_packets.specs.declared.fault.PacketFault.{PacketFault}
 use Rattle.ndn_packets.specs.declared.fault.PacketFault.TheVariants.{NoName, BadField}
-use Rattle.ndn_packets.specs.Grammar.{optional}
-use Rattle.ndn_packets.specs.Reading.{schema_after, on_option, fields_from, read_fields, name_value_at, leading_name_at, is_nil, found_or}
+use Rattle.ndn_packets.specs.Reading.{name_value_at, leading_name_at, is_nil, found_or}
 use Rattle.ndn_packets.proofs.Rules.{is_nil-true}
 
 -- ---- steps that may fail
@@ -56,42 +55,6 @@ not_nil xs e is = both_tests (is_nil xs) e (is_nil-true xs is)
 
 abbrev pub read : Field → Result Field TlvFault
 read f = Ok f
-
--- ---- the fields of a schema, one after the other
-
--- what taking a field that may be absent leaves
-abbrev pub Took : {S : Type 0} → (S → Field → Result S PacketFault) → S → ℕ → Option (List ℕ) → S → Type 0
-Took take s kind None t = t ≡ s
-Took take s kind (Some value) t = take s (kind, value) ≡ Ok t
-
-pub record Peels {S : Type 0} (take : S → Field → Result S PacketFault) (s : S) (kind : ℕ) (schema : List ℕ) (elements : List (Result Field TlvFault)) (t : S) : Type 0 where
-  pub value : Option (List ℕ)
-  pub later : List (Result Field TlvFault)
-  pub mid : S
-  pub front : elements ≡ map read (optional kind value) ++ later
-  pub took : Took take s kind value mid
-  pub goes_on : read_fields take mid (fields_from schema later) ≡ Ok t
-
-pub peel : {S : Type 0} (take : S → Field → Result S PacketFault) (s : S) (kind : ℕ) (schema : List ℕ) (elements : List (Result Field TlvFault)) (t : S) → read_fields take s (fields_from (kind ∷ schema) elements) ≡ Ok t → Peels take s kind schema elements t
-peel take s kind schema [] t e = record { value = None; later = []; mid = s; front = refl; took = refl; goes_on = e }
-peel take s kind schema (Err f ∷ elements) t e = absurd (err_is_not_ok _ t e)
-peel take s kind schema (Ok x ∷ elements) t e =
-    elim (eqb kind x.0) as (λ b. eqb kind x.0 ≡ b → read_fields take s (on_option (λ later. Ok x ∷ fields_from later elements) (Err BadField ∷ []) (cond b (Some schema) (schema_after x.0 schema))) ≡ Ok t → Peels take s kind schema (Ok x ∷ elements) t) [
-      | true ↦ λ is e.
-          let m = bind_ok (take s x) (λ u. read_fields take u (fields_from schema elements)) t e in
-          let same : x.0 ≡ kind = sym (eqb-true _ _ is) in
-          record { value = Some x.1; later = elements; mid = m.0; front = ap (λ k. read (k, x.1) ∷ elements) same; took = ap (λ k. take s (k, x.1)) (sym same) ∙ m.1; goes_on = m.2 }
-      | false ↦ λ _ e. record { value = None; later = Ok x ∷ elements; mid = s; front = refl; took = refl; goes_on = e }
-    ] refl e
-
-pub record Ends {S : Type 0} (s : S) (elements : List (Result Field TlvFault)) (t : S) : Type 0 where
-  pub none_left : elements ≡ []
-  pub same : s ≡ t
-
-pub ends : {S : Type 0} (take : S → Field → Result S PacketFault) (s : S) (elements : List (Result Field TlvFault)) (t : S) → read_fields take s (fields_from [] elements) ≡ Ok t → Ends s elements t
-ends take s [] t e = record { none_left = refl; same = ok_is s t e }
-ends take s (Err f ∷ elements) t e = absurd (err_is_not_ok _ t e)
-ends take s (Ok x ∷ elements) t e = absurd (err_is_not_ok _ t e)
 
 -- ---- octets
 

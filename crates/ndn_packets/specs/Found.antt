@@ -1,7 +1,16 @@
--- What a reader of Data has found so far, without where it lies in memory.
+-- What readers have found so far, without where it lies in memory.
 use Rattle.std.specs.Option.{option_map}
 use Rattle.ndn_packets.specs.declared.data.Found.{Found}
-use Rattle.ndn_packets.specs.Reading.{DataSoFar}
+use Rattle.ndn_packets.specs.declared.signature.Found.{Found as InfoFound}
+use Rattle.ndn_packets.specs.declared.signature.SignatureInfo.{SignatureInfo}
+use Rattle.ndn_packets.specs.Packet.{PlainSignatureInfo, plain_locator}
+use Rattle.ndn_packets.specs.Reading.{DataSoFar, InfoSoFar}
+
+abbrev pub info_so_far : InfoFound → InfoSoFar
+info_so_far f = record { kind = f.kind; locator = plain_locator f.locator; time = f.time; seq = f.seq }
+
+abbrev pub plain_info : SignatureInfo → PlainSignatureInfo
+plain_info s = record { kind = s.kind; locator = plain_locator s.locator; time = s.time; seq = s.seq }
 
 abbrev pub so_far : Found → DataSoFar
-so_far f = record { content = option_map (λ c. c.now) f.content; kind = f.kind; value = option_map (λ v. v.now) f.value }
+so_far f = record { freshness = f.freshness; content = option_map (λ c. c.now) f.content; info = option_map plain_info f.info; value = option_map (λ v. v.now) f.value }

@@ -1,47 +1,39 @@
 -- The packets of this profile as whole texts (NDN Packet Format 0.3, "Interest Packet" and "Data Packet").
-use Rattle.std.specs.Prelude.{◌≡◌, ◌≢◌, ℕ, ◌≤◌, ◌⊎◌, List, [], ◌∷◌, ◌++◌, length, map, Option, None, Some, false}
+use Rattle.std.specs.Prelude.{◌≡◌, ◌≢◌, ℕ, ◌<◌, ◌≤◌, List, [], ◌∷◌, ◌++◌, length, Option, None, Some, Bool, false, unwrap_or, slice_index}
 use Rattle.ndn_tlv.specs.Number.{IsNni}
 use Rattle.ndn_tlv.specs.Element.{Field, IsElement, IsElements}
 use Rattle.ndn_names.specs.Name.{IsNameValue}
-use Rattle.ndn_packets.specs.Packet.{PlainLocator, Missing, PlainSignature, PlainInterest, PlainData, PlainFrame, AnInterest, AData}
+use Rattle.ndn_packets.specs.Fields.{Fields, optional, is_even_high, is_ignored_in_meta_info, is_ignored_in_signature_info, is_never_ignored}
+use Rattle.ndn_packets.specs.Packet.{PlainLocator, Missing, KeyName, Digest, Other, PlainSignatureInfo, PlainInterest, PlainData, PlainFrame, AnInterest, AData}
 
--- a field that may be absent
-abbrev pub optional : ℕ → Option (List ℕ) → List Field
-optional kind None = []
-optional kind (Some value) = (kind, value) ∷ []
-
--- the types stand in the schema, in its order, each at most once
-abbrev pub InOrder : List ℕ → List ℕ → Type 0
-InOrder types [] = types ≡ []
-InOrder types (kind ∷ schema) = InOrder types schema ⊎ ((later : List ℕ) × (types ≡ kind ∷ later) × InOrder later schema)
-
--- The fields of a schema among elements. In this grammar each element has to be one.
-pub record Fields (schema : List ℕ) (elements fields : List Field) : Type 0 where
-  pub ordered : InOrder (map (λ f. f.0) fields) schema
-  pub all : elements ≡ fields
-
--- the text is at most 8,800 octets, one element of this type, whose elements have these fields of the schema
-pub record IsPacket (text : List ℕ) (kind : ℕ) (schema : List ℕ) (fields : List Field) : Type 0 where
+-- the text is at most 8,800 octets, one element of this type, which begins with a Name; of the elements after it these are the
+-- fields of the schema, and all others are ignored
+pub record IsPacket (text : List ℕ) (kind : ℕ) (ignores : ℕ → Bool) (schema : List ℕ) (name_value : List ℕ) (fields : List Field) : Type 0 where
   pub value : List ℕ
   pub elements : List Field
   pub outer : IsElement text kind value
-  pub inner : IsElements value elements
-  pub recognised : Fields schema elements fields
+  pub inner : IsElements value ((7, name_value) ∷ elements)
+  pub recognised : Fields ignores schema elements fields
   pub short : length text ≤ 8800
+  pub octets : (i : ℕ) → slice_index text i < 256
 
+-- the fields of an Interest and of a Data behind their Name, of a MetaInfo and of a SignatureInfo
 abbrev pub interest_schema : List ℕ
-interest_schema = 7 ∷ 10 ∷ []
+interest_schema = 10 ∷ []
 
 abbrev pub data_schema : List ℕ
-data_schema = 7 ∷ 21 ∷ 22 ∷ 23 ∷ []
+data_schema = 20 ∷ 21 ∷ 22 ∷ 23 ∷ []
+
+abbrev pub meta_schema : List ℕ
+meta_schema = 24 ∷ 25 ∷ 26 ∷ []
 
 abbrev pub info_schema : List ℕ
-info_schema = 27 ∷ []
+info_schema = 27 ∷ 28 ∷ 38 ∷ 40 ∷ 42 ∷ []
 
 -- Interest = Name Nonce. What is not read has its absent value.
 pub record IsInterest (text : List ℕ) (i : PlainInterest) : Type 0 where
   pub name_value : List ℕ
-  pub fields : IsPacket text 5 interest_schema ((7, name_value) ∷ (10, i.nonce) ∷ [])
+  pub fields : IsPacket text 5 is_never_ignored interest_schema name_value ((10, i.nonce) ∷ [])
   pub name : IsNameValue name_value i.name
   pub named : i.name ≢ []
   pub nonce : length i.nonce ≡ 4
@@ -52,25 +44,69 @@ pub record IsInterest (text : List ℕ) (i : PlainInterest) : Type 0 where
   pub parameters : i.parameters ≡ None
   pub signature : i.signature ≡ None
 
--- SignatureInfo = SignatureType
-pub record IsSignatureInfo (text : List ℕ) (s : PlainSignature) : Type 0 where
-  pub kind_value : List ℕ
+-- a NonNegativeInteger that may be absent
+abbrev pub IsNumber : Option (List ℕ) → Option ℕ → Type 0
+IsNumber None n = n ≡ None
+IsNumber (Some value) n = (k : ℕ) × IsNni value k × (n ≡ Some k)
+
+-- the value of a KeyLocator is exactly one Name
+abbrev pub NamesKey : List ℕ → List Field → Type 0
+NamesKey value name = (name_value : List ℕ) × IsElement value 7 name_value × IsNameValue name_value name
+
+-- or exactly one KeyDigest
+abbrev pub DigestsKey : List ℕ → Type 0
+DigestsKey value = (digest : List ℕ) × IsElement value 29 digest
+
+-- what a KeyLocator that may be absent says of the key
+abbrev pub IsLocator : Option (List ℕ) → PlainLocator → Type 0
+IsLocator None locator = locator ≡ Missing
+IsLocator (Some value) Missing = ⊥
+IsLocator (Some value) (KeyName name) = NamesKey value name
+IsLocator (Some value) Digest = DigestsKey value
+IsLocator (Some value) Other = ((name : List Field) → NamesKey value name → ⊥) × (DigestsKey value → ⊥)
+
+-- MetaInfo = [ContentType] [FreshnessPeriod] [FinalBlockId], of which the FreshnessPeriod is kept, 0 where there is none
+pub record IsMetaInfo (text : List ℕ) (freshness : ℕ) : Type 0 where
+  pub content_type : Option (List ℕ)
+  pub period : Option (List ℕ)
+  pub final_block : Option (List ℕ)
   pub elements : List Field
   pub inner : IsElements text elements
-  pub recognised : Fields info_schema elements ((27, kind_value) ∷ [])
-  pub kind : IsNni kind_value s.kind
-  pub locator : s.locator ≡ Missing
-  pub time : s.time ≡ None
-  pub seq : s.seq ≡ None
+  pub recognised : Fields is_ignored_in_meta_info meta_schema elements (optional 24 content_type ++ (optional 25 period ++ optional 26 final_block))
+  pub content_type_number : (n : Option ℕ) × IsNumber content_type n
+  pub period_number : (n : Option ℕ) × IsNumber period n × (freshness ≡ unwrap_or n 0)
 
--- Data = Name [Content] SignatureInfo SignatureValue
+-- SignatureInfo = SignatureType [KeyLocator] [SignatureNonce] [SignatureTime] [SignatureSeqNum]
+pub record IsSignatureInfo (text : List ℕ) (s : PlainSignatureInfo) : Type 0 where
+  pub kind_value : List ℕ
+  pub locator_value : Option (List ℕ)
+  pub nonce : Option (List ℕ)
+  pub time_value : Option (List ℕ)
+  pub seq_value : Option (List ℕ)
+  pub elements : List Field
+  pub inner : IsElements text elements
+  pub recognised : Fields is_ignored_in_signature_info info_schema elements
+      ((27, kind_value) ∷ (optional 28 locator_value ++ (optional 38 nonce ++ (optional 40 time_value ++ optional 42 seq_value))))
+  pub kind : IsNni kind_value s.kind
+  pub locator : IsLocator locator_value s.locator
+  pub time : IsNumber time_value s.time
+  pub seq : IsNumber seq_value s.seq
+
+-- a MetaInfo that may be absent
+abbrev pub IsFreshness : Option (List ℕ) → ℕ → Type 0
+IsFreshness None freshness = freshness ≡ 0
+IsFreshness (Some value) freshness = IsMetaInfo value freshness
+
+-- Data = Name [MetaInfo] [Content] SignatureInfo SignatureValue
 pub record IsData (text : List ℕ) (d : PlainData) : Type 0 where
   pub name_value : List ℕ
+  pub meta_value : Option (List ℕ)
   pub info_value : List ℕ
-  pub fields : IsPacket text 6 data_schema ((7, name_value) ∷ (optional 21 d.content ++ ((22, info_value) ∷ (23, d.signature.value) ∷ [])))
+  pub fields : IsPacket text 6 is_even_high data_schema name_value
+      (optional 20 meta_value ++ (optional 21 d.content ++ ((22, info_value) ∷ (23, d.signature.value) ∷ [])))
   pub name : IsNameValue name_value d.name
-  pub info : IsSignatureInfo info_value d.signature
-  pub freshness : d.freshness ≡ 0
+  pub freshness : IsFreshness meta_value d.freshness
+  pub info : IsSignatureInfo info_value d.signature.info
 
 -- A frame is one packet.
 abbrev pub IsFrame : List ℕ → PlainFrame → Type 0

@@ -1,4 +1,5 @@
 pub mod Packet
+pub mod Fields
 pub mod Grammar
 pub mod Reading
 pub mod FieldReader

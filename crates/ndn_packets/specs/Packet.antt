@@ -1,5 +1,5 @@
 -- Packets as plain data: what a view shows, without where it lies in memory.
-use Rattle.std.specs.Prelude.{ℕ, List, Option, None, Some, Bool}
+use Rattle.std.specs.Prelude.{ℕ, List, Option, Bool}
 use Rattle.ndn_tlv.specs.Element.{Field}
 use Rattle.ndn_names.specs.View.{components}
 use Rattle.ndn_packets.specs.declared.signature.Locator.{Locator}
@@ -17,11 +17,14 @@ pub data PlainLocator : Type 0 where
   Digest : PlainLocator
   Other : PlainLocator
 
-pub record PlainSignature : Type 0 where
+pub record PlainSignatureInfo : Type 0 where
   pub kind : ℕ
   pub locator : PlainLocator
   pub time : Option ℕ
   pub seq : Option ℕ
+
+pub record PlainSignature : Type 0 where
+  pub info : PlainSignatureInfo
   pub value : List ℕ
 
 pub record PlainInterest : Type 0 where
@@ -51,7 +54,7 @@ plain_locator locators.Digest = Digest
 plain_locator locators.Other = Other
 
 abbrev pub plain_signature : Signature → PlainSignature
-plain_signature s = record { kind = s.kind; locator = plain_locator s.locator; time = s.time; seq = s.seq; value = s.value.now }
+plain_signature s = record { info = record { kind = s.kind; locator = plain_locator s.locator; time = s.time; seq = s.seq }; value = s.value.now }
 
 abbrev pub plain_interest : Interest → PlainInterest
 plain_interest i = record {

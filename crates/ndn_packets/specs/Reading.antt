@@ -1,12 +1,13 @@
 -- Reading packets from left to right, with the first fault that is met (NDN Packet Format 0.3, "Interest Packet" and "Data Packet").
-use Rattle.std.specs.Prelude.{◌≡◌, ℕ, ◌+◌, List, [], ◌∷◌, length, drop, Option, None, Some, Result, Ok, Err, Bool, true, false, nat_lt, ◌==◌, ◌||◌, not, if◌then◌else◌}
+use Rattle.std.specs.Prelude.{◌≡◌, ℕ, List, [], ◌∷◌, length, Option, None, Some, Result, Ok, Err, Bool, true, false, nat_lt, ◌==◌, ◌||◌, not, if◌then◌else◌}
 use Rattle.ndn_tlv.specs.declared.fault.TlvFault.{TlvFault}
 use Rattle.ndn_tlv.specs.Element.{Field}
 use Rattle.ndn_tlv.specs.Reading.{◌>>=◌, on_result, element_at, elements_of, nni_at}
 use Rattle.ndn_names.specs.Reading.{name_at}
 use Rattle.ndn_packets.specs.declared.fault.PacketFault.{PacketFault}
-use Rattle.ndn_packets.specs.declared.fault.PacketFault.TheVariants.{Tlv, NoName, BadField, NoNonce, TooLong}
-use Rattle.ndn_packets.specs.Packet.{PlainLocator, Missing, PlainSignature, PlainInterest, PlainData, PlainFrame, AnInterest, AData}
+use Rattle.ndn_packets.specs.declared.fault.PacketFault.TheVariants.{Tlv, NoName, CriticalUnknown, BadField, NoNonce, TooLong}
+use Rattle.ndn_packets.specs.Fields.{is_even_high, is_ignored_in_meta_info, is_ignored_in_signature_info, is_never_ignored}
+use Rattle.ndn_packets.specs.Packet.{PlainLocator, Missing, KeyName, Digest, Other, PlainSignatureInfo, PlainInterest, PlainData, PlainFrame, AnInterest, AData}
 
 -- what of a schema stands behind a type
 abbrev pub schema_after : ℕ → List ℕ → Option (List ℕ)
@@ -17,11 +18,30 @@ abbrev pub on_option : {A C : Type 0} → (A → C) → C → Option A → C
 on_option f c None = c
 on_option f c (Some x) = f x
 
+-- how a reader goes over elements: which it ignores, and how it refuses the others that are no fields
+pub record Rule : Type 0 where
+  pub ignores : ℕ → Bool
+  pub refusal : PacketFault
+
+abbrev pub interest_rule : Rule
+interest_rule = record { ignores = is_never_ignored; refusal = BadField }
+
+abbrev pub data_rule : Rule
+data_rule = record { ignores = is_even_high; refusal = CriticalUnknown }
+
+abbrev pub meta_rule : Rule
+meta_rule = record { ignores = is_ignored_in_meta_info; refusal = CriticalUnknown }
+
+abbrev pub info_rule : Rule
+info_rule = record { ignores = is_ignored_in_signature_info; refusal = CriticalUnknown }
+
 -- The fields of a schema among elements, in the schema's order, up to the end or to the first fault, which is then the last.
-abbrev pub fields_from : List ℕ → List (Result Field TlvFault) → List (Result Field PacketFault)
-fields_from schema [] = []
-fields_from schema (Err f ∷ elements) = Err (Tlv f) ∷ []
-fields_from schema (Ok e ∷ elements) = on_option (λ later. Ok e ∷ fields_from later elements) (Err BadField ∷ []) (schema_after e.0 schema)
+abbrev pub fields_from : Rule → List ℕ → List (Result Field TlvFault) → List (Result Field PacketFault)
+fields_from rule schema [] = []
+fields_from rule schema (Err f ∷ elements) = Err (Tlv f) ∷ []
+fields_from rule schema (Ok e ∷ elements) =
+    on_option (λ later. Ok e ∷ fields_from rule later elements)
+    (if rule.ignores e.0 then fields_from rule schema elements else Err rule.refusal ∷ []) (schema_after e.0 schema)
 
 -- what has been read, after each of the fields in turn
 abbrev pub read_fields : {S : Type 0} → (S → Field → Result S PacketFault) → S → List (Result Field PacketFault) → Result S PacketFault
@@ -71,44 +91,84 @@ unfoldable pub interest_at : List ℕ → Result PlainInterest PacketFault
 interest_at value = do
   first ← leading_name_at (elements_of value)
   name ← if is_nil first.0 then Err NoName else Ok first.0
-  nonce ← read_fields take_interest_field None (fields_from (10 ∷ []) first.1)
+  nonce ← read_fields take_interest_field None (fields_from interest_rule (10 ∷ []) first.1)
   interest_made name nonce
 
--- of a SignatureInfo: its SignatureType
-abbrev pub take_info_field : Option ℕ → Field → Result (Option ℕ) PacketFault
-take_info_field kind f = on_result (λ n. Ok (Some n)) (λ _. Err BadField) (nni_at f.1)
+-- a value that is a number
+abbrev pub number_at : List ℕ → Result ℕ PacketFault
+number_at value = on_result (λ n. Ok n) (λ _. Err BadField) (nni_at value)
+
+-- of a MetaInfo: its FreshnessPeriod
+abbrev pub take_meta_field : ℕ → Field → Result ℕ PacketFault
+take_meta_field freshness f =
+    if f.0 == 24 then (number_at f.1 >>= λ _. Ok freshness) else (
+    if f.0 == 25 then number_at f.1 else Ok freshness)
+
+unfoldable pub meta_at : List ℕ → Result ℕ PacketFault
+meta_at value = read_fields take_meta_field 0 (fields_from meta_rule (24 ∷ 25 ∷ 26 ∷ []) (elements_of value))
+
+-- what the one element of a KeyLocator's value says, and what follows it
+abbrev pub locator_of : Field → List ℕ → PlainLocator
+locator_of e rest =
+    if not (is_nil rest) then Other else (
+    if e.0 == 7 then on_result (λ name. KeyName name) (λ _. Other) (name_at e.1) else (
+    if e.0 == 29 then Digest else Other))
+
+unfoldable pub locator_at : List ℕ → PlainLocator
+locator_at value = on_result (λ x. locator_of x.0 x.1) (λ _. Other) (element_at value)
+
+-- of a SignatureInfo: its SignatureType, KeyLocator, SignatureTime and SignatureSeqNum
+pub record InfoSoFar : Type 0 where
+  pub kind : Option ℕ
+  pub locator : PlainLocator
+  pub time : Option ℕ
+  pub seq : Option ℕ
+
+abbrev pub no_info_yet : InfoSoFar
+no_info_yet = record { kind = None; locator = Missing; time = None; seq = None }
+
+abbrev pub take_info_field : InfoSoFar → Field → Result InfoSoFar PacketFault
+take_info_field s f =
+    if f.0 == 27 then (number_at f.1 >>= λ n. Ok (record { kind = Some n; locator = s.locator; time = s.time; seq = s.seq })) else (
+    if f.0 == 28 then Ok (record { kind = s.kind; locator = locator_at f.1; time = s.time; seq = s.seq }) else (
+    if f.0 == 40 then (number_at f.1 >>= λ n. Ok (record { kind = s.kind; locator = s.locator; time = Some n; seq = s.seq })) else (
+    if f.0 == 42 then (number_at f.1 >>= λ n. Ok (record { kind = s.kind; locator = s.locator; time = s.time; seq = Some n })) else
+    Ok s)))
 
 abbrev pub found_or : {A : Type 0} → PacketFault → Option A → Result A PacketFault
 found_or fault None = Err fault
 found_or fault (Some x) = Ok x
 
-unfoldable pub info_at : List ℕ → Result ℕ PacketFault
+unfoldable pub info_at : List ℕ → Result PlainSignatureInfo PacketFault
 info_at value = do
-  kind ← read_fields take_info_field None (fields_from (27 ∷ []) (elements_of value))
-  found_or BadField kind
+  s ← read_fields take_info_field no_info_yet (fields_from info_rule (27 ∷ 28 ∷ 38 ∷ 40 ∷ 42 ∷ []) (elements_of value))
+  kind ← found_or BadField s.kind
+  Ok (record { kind = kind; locator = s.locator; time = s.time; seq = s.seq })
 
--- of a Data: its Content, its SignatureType and its SignatureValue
+-- of a Data: its FreshnessPeriod, its Content, its SignatureInfo and its SignatureValue
 pub record DataSoFar : Type 0 where
+  pub freshness : ℕ
   pub content : Option (List ℕ)
-  pub kind : Option ℕ
+  pub info : Option PlainSignatureInfo
   pub value : Option (List ℕ)
 
 abbrev pub nothing_yet : DataSoFar
-nothing_yet = record { content = None; kind = None; value = None }
+nothing_yet = record { freshness = 0; content = None; info = None; value = None }
 
 abbrev pub take_data_field : DataSoFar → Field → Result DataSoFar PacketFault
 take_data_field s f =
-    if f.0 == 21 then Ok (record { content = Some f.1; kind = s.kind; value = s.value }) else (
-    if f.0 == 22 then (info_at f.1 >>= λ kind. Ok (record { content = s.content; kind = Some kind; value = s.value })) else
-    Ok (record { content = s.content; kind = s.kind; value = Some f.1 }))
+    if f.0 == 20 then (meta_at f.1 >>= λ freshness. Ok (record { freshness = freshness; content = s.content; info = s.info; value = s.value })) else (
+    if f.0 == 21 then Ok (record { freshness = s.freshness; content = Some f.1; info = s.info; value = s.value }) else (
+    if f.0 == 22 then (info_at f.1 >>= λ info. Ok (record { freshness = s.freshness; content = s.content; info = Some info; value = s.value })) else
+    Ok (record { freshness = s.freshness; content = s.content; info = s.info; value = Some f.1 })))
 
 unfoldable pub data_at : List ℕ → Result PlainData PacketFault
 data_at value = do
   first ← leading_name_at (elements_of value)
-  fields ← read_fields take_data_field nothing_yet (fields_from (21 ∷ 22 ∷ 23 ∷ []) first.1)
-  kind ← found_or BadField fields.kind
-  signature ← found_or BadField fields.value
-  Ok (record { name = first.0; freshness = 0; content = fields.content; signature = record { kind = kind; locator = Missing; time = None; seq = None; value = signature } })
+  s ← read_fields take_data_field nothing_yet (fields_from data_rule (20 ∷ 21 ∷ 22 ∷ 23 ∷ []) first.1)
+  info ← found_or BadField s.info
+  signature ← found_or BadField s.value
+  Ok (record { name = first.0; freshness = s.freshness; content = s.content; signature = record { info = info; value = signature } })
 
 -- the packet of an outer element, with what follows that element
 abbrev pub packet_at : List ℕ → Field → List ℕ → Result PlainFrame PacketFault

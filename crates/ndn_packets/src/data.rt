@@ -1,11 +1,13 @@
 ghost use Rattle.std.specs.Prelude.{◌≡◌, [], ◌∷◌, Ok, Err};
 ghost use Rattle.ndn_tlv.specs.Reading.{elements_of, on_result};
-ghost use Rattle.ndn_packets.specs.Reading.{read_fields, take_data_field, nothing_yet, fields_from};
+ghost use Rattle.ndn_packets.specs.Reading.{data_rule, read_fields, take_data_field, nothing_yet, fields_from};
 ghost use Rattle.ndn_packets.specs.Found.{so_far};
 
 use crate::fault::PacketFault;
 use crate::field_reader::{FieldReader, leading_name};
-use crate::signature::{Locator, Signature, signature_kind};
+use crate::meta_info::freshness_of;
+use crate::schema::Rules;
+use crate::signature::{Signature, SignatureInfo, signature_info};
 use ndn_names::Name;
 
 /// A Data, a view of the octets that it was read from (NDN Packet Format 0.3, "Data Packet").
@@ -13,7 +15,7 @@ use ndn_names::Name;
 pub struct Data<'a> {
     /// The name, which may be empty.
     pub name: Name<'a>,
-    /// The FreshnessPeriod in milliseconds, 0 where the packet has none. This profile reads none.
+    /// The FreshnessPeriod in milliseconds, 0 where the packet has none.
     pub freshness: u64,
     /// The value of the Content, `None` where the packet has none, which an empty one is not.
     pub content: Option<&'a [u8]>,
@@ -23,21 +25,23 @@ pub struct Data<'a> {
     pub whole: &'a [u8],
 }
 
-/// The type of a Content, a SignatureInfo and a SignatureValue.
+/// The types of the fields of a Data behind its Name.
+const META_INFO: u32 = 20;
+
 const CONTENT: u32 = 21;
 
 const SIGNATURE_INFO: u32 = 22;
 
 const SIGNATURE_VALUE: u32 = 23;
 
-/// The fields of a Data behind its Name.
-const FIELDS: [u32; 3] = [CONTENT, SIGNATURE_INFO, SIGNATURE_VALUE];
+const FIELDS: [u32; 4] = [META_INFO, CONTENT, SIGNATURE_INFO, SIGNATURE_VALUE];
 
 /// The fields of a Data that were read so far.
 #[derive(Clone, Copy)]
 struct Found<'a> {
+    freshness: u64,
     content: Option<&'a [u8]>,
-    kind: Option<u64>,
+    info: Option<SignatureInfo<'a>>,
     value: Option<&'a [u8]>,
 }
 
@@ -55,19 +59,19 @@ impl<'a> Data<'a> {
     {
         let (name, rest) = leading_name(value)?;
         let found = fields_of(rest)?;
-        let (Some(kind), Some(value)) = (found.kind, found.value) else {
+        let (Some(info), Some(value)) = (found.info, found.value) else {
             return Err(PacketFault::BadField);
         };
         let signature = Signature {
-            kind,
-            locator: Locator::Missing,
-            time: None,
-            seq: None,
+            kind: info.kind,
+            locator: info.locator,
+            time: info.time,
+            seq: info.seq,
             value,
         };
         Ok(Data {
             name,
-            freshness: 0,
+            freshness: found.freshness,
             content: found.content,
             signature,
             whole,
@@ -78,18 +82,20 @@ impl<'a> Data<'a> {
 /// The fields behind the Name.
 fn fields_of(rest: &[u8]) -> Result<Found<'_>, PacketFault>
     ensures { on_result (λ f. Ok (so_far f)) Err result
-        ≡ read_fields take_data_field nothing_yet (fields_from (21 ∷ 22 ∷ 23 ∷ []) (elements_of rest.now)) }
+        ≡ read_fields take_data_field nothing_yet (fields_from data_rule (20 ∷ 21 ∷ 22 ∷ 23 ∷ []) (elements_of rest.now)) }
 {
-    let mut fields = FieldReader::new(rest, &FIELDS);
+    let mut fields = FieldReader::new(Rules::Data, rest, &FIELDS);
     let mut found = Found {
+        freshness: 0,
         content: None,
-        kind: None,
+        info: None,
         value: None,
     };
     while let Some(field) = fields.next()? {
         match field.kind {
+            META_INFO => found.freshness = freshness_of(field.value)?,
             CONTENT => found.content = Some(field.value),
-            SIGNATURE_INFO => found.kind = Some(signature_kind(field.value)?),
+            SIGNATURE_INFO => found.info = Some(signature_info(field.value)?),
             _ => found.value = Some(field.value),
         }
     }

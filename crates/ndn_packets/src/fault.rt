@@ -5,8 +5,10 @@ use thiserror::Error;
 /// "Interest Packet" and "Data Packet").
 ///
 /// The order is: `TooLong` above 9,000 octets, the outer element, octets after it, its type,
-/// `TooLong` above 8,800 octets, the Name, the fields behind it one after the other, and last a field
-/// that is missing.
+/// `TooLong` above 8,800 octets, the Name, the elements behind it one after the other, and last a
+/// field that is missing. Of an element `Tlv` is told first, then `CriticalUnknown`, then the fault
+/// of its value; a MetaInfo and a SignatureInfo tell the faults of their own elements in this order,
+/// and last a missing SignatureType.
 #[derive(Clone, Copy, Debug, PartialEq, Eq, Error)]
 pub enum PacketFault {
     /// An element cannot be read, one that this profile does not have among them.
@@ -15,9 +17,12 @@ pub enum PacketFault {
     /// A packet does not begin with a Name, or an Interest's Name is empty.
     #[error("no name")]
     NoName,
-    /// A field other than the Name and the Nonce is missing, a field is misplaced or repeated, is not
-    /// of this profile, or has a value that is not of its form; or the outer type is neither 5 nor 6,
-    /// or octets follow the packet.
+    /// An element of a Data is no field there, or no longer, and its type is odd or below 32.
+    #[error("an unknown element that may not be ignored")]
+    CriticalUnknown,
+    /// A field other than the Name and the Nonce is missing, or a field has a value that is not of
+    /// its form; or the outer type is neither 5 nor 6, or octets follow the packet; or an element of
+    /// an Interest is neither its Name nor its Nonce.
     #[error("a field is missing, or not of its form")]
     BadField,
     /// An Interest has no Nonce.

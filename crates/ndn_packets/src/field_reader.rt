@@ -1,34 +1,37 @@
 ghost use Rattle.std.specs.Prelude.{◌≡◌, ◌<◌, ℕ, List, [], ◌∷◌, length, Ok, Err, MatchResult, MatchOption, IfOk, OnSome, option_map};
 ghost use Rattle.ndn_tlv.specs.Reading.{elements_of, on_result};
 ghost use Rattle.ndn_names.specs.View.{components};
-ghost use Rattle.ndn_packets.specs.Reading.{schema_after, fields_from, leading_name_at};
-ghost use Rattle.ndn_packets.specs.FieldReader.{fields_left};
+ghost use Rattle.ndn_packets.specs.Reading.{schema_after, fields_from, leading_name_at, number_at};
+ghost use Rattle.ndn_packets.specs.FieldReader.{rule_of, fields_left};
 
 use crate::fault::PacketFault;
+use crate::schema::Rules;
 use ndn_names::Name;
-use ndn_tlv::{Element, first_element};
+use ndn_tlv::{Element, first_element, nni_of};
 
 /// The type of a Name (NDN Packet Format 0.3, "Name").
-const NAME: u32 = 7;
+pub const NAME: u32 = 7;
 
 /// Goes over the fields of a schema among the elements of a value, in the schema's order.
 #[derive(Drop)]
 pub struct FieldReader<'a> {
+    rules: Rules,
     rest: &'a [u8],
     schema: &'a [u32],
 }
 
 impl<'a> FieldReader<'a> {
-    pub fn new(value: &'a [u8], schema: &'a [u32]) -> FieldReader<'a>
-        ensures { fields_left result ≡ fields_from schema.entry.now (elements_of value.entry.now) }
+    pub fn new(rules: Rules, value: &'a [u8], schema: &'a [u32]) -> FieldReader<'a>
+        ensures { fields_left result ≡ fields_from (rule_of rules) schema.entry.now (elements_of value.entry.now) }
     {
         FieldReader {
+            rules,
             rest: value,
             schema,
         }
     }
 
-    /// The next field. An element that the rest of the schema does not have is refused.
+    /// The next field. Elements that are none are ignored or refused.
     pub fn next(&mut self) -> Result<Option<Element<'a>>, PacketFault>
         ensures walk { MatchResult result
             (λ next. MatchOption next
@@ -37,16 +40,18 @@ impl<'a> FieldReader<'a> {
             (λ fault. fields_left self.old ≡ Err fault ∷ []) }
         ensures progress { IfOk result (λ next. OnSome next (length self.new.rest.now < length self.old.rest.now)) }
     {
-        if self.rest.is_empty() {
-            return Ok(None);
+        while !self.rest.is_empty() {
+            let (element, rest) = first_element(self.rest).map_err(PacketFault::Tlv)?;
+            self.rest = rest;
+            if let Some(schema) = behind(self.schema, element.kind) {
+                self.schema = schema;
+                return Ok(Some(element));
+            }
+            if !self.rules.ignores(element.kind) {
+                return Err(self.rules.refusal());
+            }
         }
-        let (element, rest) = first_element(self.rest).map_err(PacketFault::Tlv)?;
-        let Some(schema) = behind(self.schema, element.kind) else {
-            return Err(PacketFault::BadField);
-        };
-        self.rest = rest;
-        self.schema = schema;
-        Ok(Some(element))
+        Ok(None)
     }
 }
 
@@ -78,4 +83,11 @@ pub fn leading_name(value: &[u8]) -> Result<(Name<'_>, &[u8]), PacketFault>
         Ok(name) => Ok((name, rest)),
         Err(_) => Err(PacketFault::BadField),
     }
+}
+
+/// The number of a value that is a NonNegativeInteger.
+pub fn number(value: &[u8]) -> Result<u64, PacketFault>
+    ensures { result ≡ number_at value.now }
+{
+    nni_of(value).map_err(|_| PacketFault::BadField)
 }

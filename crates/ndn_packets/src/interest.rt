@@ -1,9 +1,10 @@
 ghost use Rattle.std.specs.Prelude.{◌≡◌, None, [], ◌∷◌};
 ghost use Rattle.ndn_tlv.specs.Reading.{elements_of};
-ghost use Rattle.ndn_packets.specs.Reading.{read_fields, take_interest_field, fields_from};
+ghost use Rattle.ndn_packets.specs.Reading.{interest_rule, read_fields, take_interest_field, fields_from};
 
 use crate::fault::PacketFault;
 use crate::field_reader::{FieldReader, leading_name};
+use crate::schema::Rules;
 use crate::signature::Signature;
 use ndn_names::Name;
 
@@ -72,9 +73,9 @@ impl<'a> Interest<'a> {
 
 /// The Nonce among the fields behind the Name.
 fn nonce_of(rest: &[u8]) -> Result<Option<[u8; 4]>, PacketFault>
-    ensures { result ≡ read_fields take_interest_field None (fields_from (10 ∷ []) (elements_of rest.now)) }
+    ensures { result ≡ read_fields take_interest_field None (fields_from interest_rule (10 ∷ []) (elements_of rest.now)) }
 {
-    let mut fields = FieldReader::new(rest, &FIELDS);
+    let mut fields = FieldReader::new(Rules::Interest, rest, &FIELDS);
     let mut nonce = None;
     while let Some(field) = fields.next()? {
         match field.value {

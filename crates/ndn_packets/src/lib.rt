@@ -6,6 +6,8 @@ mod fault;
 mod field_reader;
 mod frame;
 mod interest;
+mod meta_info;
+mod schema;
 mod signature;
 
 pub use data::Data;

@@ -1,22 +1,25 @@
-ghost use Rattle.std.specs.Prelude.{◌≡◌};
-ghost use Rattle.ndn_packets.specs.Reading.{info_at};
+ghost use Rattle.std.specs.Prelude.{◌≡◌, [], ◌∷◌, Ok, Err};
+ghost use Rattle.ndn_tlv.specs.Reading.{elements_of, on_result};
+ghost use Rattle.ndn_packets.specs.Packet.{plain_locator};
+ghost use Rattle.ndn_packets.specs.Reading.{info_rule, info_at, locator_at, no_info_yet, take_info_field, read_fields, fields_from};
+ghost use Rattle.ndn_packets.specs.Found.{plain_info, info_so_far};
 
 use crate::fault::PacketFault;
-use crate::field_reader::FieldReader;
+use crate::field_reader::{FieldReader, NAME, number};
+use crate::schema::Rules;
 use ndn_names::Name;
-use ndn_tlv::nni_of;
+use ndn_tlv::first_element;
 
-/// What a SignatureInfo says of the key (NDN Packet Format 0.3, "KeyLocator"). This profile reads no
-/// KeyLocator.
+/// What a SignatureInfo says of the key (NDN Packet Format 0.3, "KeyLocator").
 #[derive(Clone, Copy, Debug)]
 pub enum Locator<'a> {
     /// There is no KeyLocator.
     Missing,
-    /// It is the name of the key.
+    /// It is exactly one Name, which may be empty: the name of the key.
     Name(Name<'a>),
-    /// It is the digest of the key.
+    /// It is exactly one KeyDigest, of any length.
     Digest,
-    /// It is something else.
+    /// It is something else, a Name that is none among it.
     Other,
 }
 
@@ -25,31 +28,114 @@ pub enum Locator<'a> {
 pub struct Signature<'a> {
     /// The SignatureType, any number below 2^64: none is refused as unknown.
     pub kind: u64,
-    /// The KeyLocator. This profile reads none: `Missing`.
+    /// The KeyLocator.
     pub locator: Locator<'a>,
-    /// The SignatureTime, in milliseconds since 1970. This profile reads none: `None`.
+    /// The SignatureTime, in milliseconds since 1970.
     pub time: Option<u64>,
-    /// The SignatureSeqNum. This profile reads none: `None`.
+    /// The SignatureSeqNum.
     pub seq: Option<u64>,
     /// The value of the SignatureValue, of any length, the empty one among them.
     pub value: &'a [u8],
 }
 
-/// The fields of a SignatureInfo: SignatureType.
-const FIELDS: [u32; 1] = [27];
+/// A SignatureInfo.
+#[derive(Clone, Copy)]
+pub struct SignatureInfo<'a> {
+    pub kind: u64,
+    pub locator: Locator<'a>,
+    pub time: Option<u64>,
+    pub seq: Option<u64>,
+}
+
+/// The fields of a SignatureInfo that were read so far.
+#[derive(Clone, Copy)]
+struct Found<'a> {
+    kind: Option<u64>,
+    locator: Locator<'a>,
+    time: Option<u64>,
+    seq: Option<u64>,
+}
+
+/// The type of a KeyDigest.
+const KEY_DIGEST: u32 = 29;
+
+/// The types of the fields of a SignatureInfo.
+const SIGNATURE_TYPE: u32 = 27;
+
+const KEY_LOCATOR: u32 = 28;
+
+const SIGNATURE_NONCE: u32 = 38;
+
+const SIGNATURE_TIME: u32 = 40;
+
+const SIGNATURE_SEQ_NUM: u32 = 42;
+
+const FIELDS: [u32; 5] = [
+    SIGNATURE_TYPE,
+    KEY_LOCATOR,
+    SIGNATURE_NONCE,
+    SIGNATURE_TIME,
+    SIGNATURE_SEQ_NUM,
+];
+
+#[tactic(auto, unfolding(crate::specs::Reading::locator_at))]
+/// What the value of a KeyLocator says.
+fn locator_of(value: &[u8]) -> Locator<'_>
+    ensures { plain_locator result ≡ locator_at value.now }
+{
+    let Ok((element, rest)) = first_element(value) else {
+        return Locator::Other;
+    };
+    if !rest.is_empty() {
+        return Locator::Other;
+    }
+    match element.kind {
+        NAME => match Name::read(element.value) {
+            Ok(name) => Locator::Name(name),
+            Err(_) => Locator::Other,
+        },
+        KEY_DIGEST => Locator::Digest,
+        _ => Locator::Other,
+    }
+}
 
 #[tactic(auto, unfolding(crate::specs::Reading::info_at))]
-/// The SignatureType of a SignatureInfo's value.
-pub(crate) fn signature_kind(info: &[u8]) -> Result<u64, PacketFault>
-    ensures { result ≡ info_at info.now }
+/// Reads the value of a SignatureInfo.
+pub(crate) fn signature_info(value: &[u8]) -> Result<SignatureInfo<'_>, PacketFault>
+    ensures { on_result (λ s. Ok (plain_info s)) Err result ≡ info_at value.now }
 {
-    let mut fields = FieldReader::new(info, &FIELDS);
-    let mut kind = None;
+    let found = fields_of(value)?;
+    let Some(kind) = found.kind else {
+        return Err(PacketFault::BadField);
+    };
+    Ok(SignatureInfo {
+        kind,
+        locator: found.locator,
+        time: found.time,
+        seq: found.seq,
+    })
+}
+
+/// The fields of a SignatureInfo.
+fn fields_of(value: &[u8]) -> Result<Found<'_>, PacketFault>
+    ensures { on_result (λ f. Ok (info_so_far f)) Err result
+        ≡ read_fields take_info_field no_info_yet (fields_from info_rule (27 ∷ 28 ∷ 38 ∷ 40 ∷ 42 ∷ []) (elements_of value.now)) }
+{
+    let mut fields = FieldReader::new(Rules::SignatureInfo, value, &FIELDS);
+    let mut found = Found {
+        kind: None,
+        locator: Locator::Missing,
+        time: None,
+        seq: None,
+    };
     while let Some(field) = fields.next()? {
-        match nni_of(field.value) {
-            Ok(number) => kind = Some(number),
-            Err(_) => return Err(PacketFault::BadField),
+        match field.kind {
+            SIGNATURE_TYPE => found.kind = Some(number(field.value)?),
+            KEY_LOCATOR => found.locator = locator_of(field.value),
+            SIGNATURE_TIME => found.time = Some(number(field.value)?),
+            SIGNATURE_SEQ_NUM => found.seq = Some(number(field.value)?),
+            _ => {}
         }
     }
-    kind.ok_or(PacketFault::BadField)
+    Ok(found)
 }

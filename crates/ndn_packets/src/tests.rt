@@ -157,50 +157,164 @@ fn faults_of_interests(rt: HostRuntime) -> Result<(), Fail> {
 /// Faults among the fields behind the Name of a Data.
 #[test]
 fn faults_of_data(rt: HostRuntime) -> Result<(), Fail> {
-    let cases: [(&[u8], PacketFault); 17] = [
-        // SignatureValue before SignatureInfo, and one of them or both missing.
-        (&[23, 0, 22, 3, 27, 1, 0], PacketFault::BadField),
-        (&[21, 1, 120, 23, 0], PacketFault::BadField),
-        (&[22, 3, 27, 1, 0], PacketFault::BadField),
-        (&[], PacketFault::BadField),
-        // A second Content, and a Content behind the SignatureInfo.
+    let critical = PacketFault::CriticalUnknown;
+    let bad = PacketFault::BadField;
+    let truncated = PacketFault::Tlv(TlvFault::Truncated);
+    let cases: [(&[u8], PacketFault); 38] = [
+        // SignatureInfo behind SignatureValue, and one of them or both missing.
+        (&[23, 0, 22, 3, 27, 1, 0], critical),
+        (&[21, 1, 120, 23, 0], bad),
+        (&[22, 3, 27, 1, 0], bad),
+        (&[], bad),
+        // A second Content, a Content behind the SignatureInfo, a second Name, a Nonce.
+        (&[21, 0, 21, 0, 22, 3, 27, 1, 0, 23, 0], critical),
+        (&[22, 3, 27, 1, 0, 21, 0, 23, 0], critical),
+        (&[7, 0, 22, 3, 27, 1, 0, 23, 0], critical),
+        (&[10, 4, 1, 2, 3, 4, 22, 3, 27, 1, 0, 23, 0], critical),
+        // Unknown types: odd, and even but below 32.
+        (&[241, 0, 22, 3, 27, 1, 0, 23, 0], critical),
+        (&[33, 0, 22, 3, 27, 1, 0, 23, 0], critical),
+        (&[30, 0, 22, 3, 27, 1, 0, 23, 0], critical),
+        (&[0xfd, 0, 253, 0, 22, 3, 27, 1, 0, 23, 0], critical),
+        // In the MetaInfo: a repeated ContentType, a FreshnessPeriod out of order, the types 127, 253
+        // and 31, numbers of 3 and 0 octets, a broken element, and one behind a bad number.
         (
-            &[21, 0, 21, 0, 22, 3, 27, 1, 0, 23, 0],
-            PacketFault::BadField,
+            &[20, 6, 24, 1, 0, 24, 1, 0, 22, 3, 27, 1, 0, 23, 0],
+            critical,
         ),
-        (&[22, 3, 27, 1, 0, 21, 0, 23, 0], PacketFault::BadField),
-        // MetaInfo, and a Nonce.
-        (&[20, 0, 22, 3, 27, 1, 0, 23, 0], PacketFault::BadField),
         (
-            &[10, 4, 1, 2, 3, 4, 22, 3, 27, 1, 0, 23, 0],
-            PacketFault::BadField,
+            &[20, 6, 25, 1, 0, 24, 1, 0, 22, 3, 27, 1, 0, 23, 0],
+            critical,
         ),
-        // In the SignatureInfo: type 253, a number of 3 octets, two numbers, none.
+        (&[20, 2, 127, 0, 22, 3, 27, 1, 0, 23, 0], critical),
+        (&[20, 4, 0xfd, 0, 253, 0, 22, 3, 27, 1, 0, 23, 0], critical),
+        (&[20, 2, 31, 0, 22, 3, 27, 1, 0, 23, 0], critical),
+        (&[20, 5, 24, 3, 0, 0, 0, 22, 3, 27, 1, 0, 23, 0], bad),
+        (&[20, 2, 25, 0, 22, 3, 27, 1, 0, 23, 0], bad),
+        (&[20, 2, 25, 1, 22, 3, 27, 1, 0, 23, 0], truncated),
+        (&[20, 4, 25, 0, 31, 0, 22, 3, 27, 1, 0, 23, 0], bad),
+        // In the SignatureInfo: numbers of 3 octets, two SignatureTypes, none, one behind a
+        // KeyLocator, a repeated SignatureTime, the type 255.
+        (&[22, 5, 27, 3, 0, 0, 0, 23, 0], bad),
+        (&[22, 8, 27, 1, 0, 40, 3, 0, 0, 0, 23, 0], bad),
+        (&[22, 8, 27, 1, 0, 42, 3, 0, 0, 0, 23, 0], bad),
+        (&[22, 6, 27, 1, 0, 27, 1, 0, 23, 0], critical),
+        (&[22, 0, 23, 0], bad),
+        (&[22, 2, 28, 0, 23, 0], bad),
+        (&[22, 5, 28, 0, 27, 1, 0, 23, 0], critical),
+        (&[22, 7, 27, 1, 0, 0xfd, 0, 255, 0, 23, 0], critical),
+        // What stands first is told: an element that is broken itself, one before and one behind an
+        // element that is not allowed, in a field and behind it, and a missing SignatureType.
+        (&[22, 2, 27, 1, 23, 0], truncated),
+        (&[20, 1], truncated),
+        (&[31, 0, 0, 0], critical),
+        (&[22, 0, 0, 0], bad),
+        (&[22, 0, 31, 0], bad),
         (
-            &[22, 7, 27, 1, 0, 0xfd, 0, 253, 0, 23, 0],
-            PacketFault::BadField,
-        ),
-        (&[22, 5, 27, 3, 0, 0, 0, 23, 0], PacketFault::BadField),
-        (&[22, 6, 27, 1, 0, 27, 1, 0, 23, 0], PacketFault::BadField),
-        (&[22, 0, 23, 0], PacketFault::BadField),
-        // A broken element, in the SignatureInfo, before and behind one that is not allowed.
-        (
-            &[22, 2, 27, 1, 23, 0],
-            PacketFault::Tlv(TlvFault::Truncated),
-        ),
-        (&[20, 1], PacketFault::Tlv(TlvFault::Truncated)),
-        (&[20, 0, 0, 0], PacketFault::BadField),
-        (&[22, 0, 0, 0], PacketFault::BadField),
-        (
-            &[22, 3, 27, 1, 0, 0, 0, 20, 0],
+            &[22, 3, 27, 1, 0, 0, 0, 31, 0],
             PacketFault::Tlv(TlvFault::TypeZero),
         ),
+        (&[20, 2, 31, 0, 0, 0], critical),
+        (&[20, 0, 31, 0, 0, 0], critical),
+        (&[31, 1], truncated),
     ];
     for (fields, fault) in cases {
         let octets = packet(&rt, 6, fields)?;
         assert_eq!(rt; fault_of(&octets), Some(fault), "{fields:?}");
     }
     Ok(())
+}
+
+/// Elements that are ignored in a Data, in its MetaInfo and in its SignatureInfo.
+#[test]
+fn ignored_elements(rt: HostRuntime) -> Result<(), Fail> {
+    let cases: [&[u8]; 7] = [
+        &[22, 3, 27, 1, 0, 23, 0],
+        // 240 before, between and behind the fields; 32, and 1024.
+        &[240, 1, 9, 22, 3, 27, 1, 0, 240, 0, 23, 0, 240, 0],
+        &[32, 0, 22, 3, 27, 1, 0, 23, 0, 0xfd, 4, 0, 0],
+        // In the MetaInfo 32, 128, 129, 252, and even types above.
+        &[
+            20, 10, 32, 0, 128, 0, 129, 0, 252, 0, 240, 0, 22, 3, 27, 1, 0, 23, 0,
+        ],
+        &[20, 4, 0xfd, 4, 0, 0, 22, 3, 27, 1, 0, 23, 0],
+        // In the SignatureInfo 253, even types, and fields that are repeated or out of order there.
+        &[22, 9, 27, 1, 0, 0xfd, 0, 253, 0, 240, 0, 23, 0],
+        &[22, 8, 27, 1, 0, 42, 1, 7, 38, 0, 23, 0],
+    ];
+    for fields in cases {
+        let octets = packet(&rt, 6, fields)?;
+        assert_eq!(rt; fault_of(&octets), None, "{fields:?}");
+    }
+    Ok(())
+}
+
+/// A Data with all fields: what of them is kept.
+#[test]
+fn all_fields(rt: HostRuntime) -> Result<(), Fail> {
+    let fields = [
+        20, 13, 24, 1, 2, 25, 2, 0x0b, 0xb8, 26, 4, 8, 2, 65, 65, // ContentType, FreshnessPeriod, FinalBlockId
+        21, 1, 120, // Content
+        22, 20, 27, 1, 4, 28, 5, 7, 3, 8, 1, 75, 38, 1, 9, 40, 2, 1, 0, 42, 1, 7, // SignatureInfo
+        23, 2, 1, 2, // SignatureValue
+    ];
+    let octets = packet(&rt, 6, &fields)?;
+    let Frame::Data(data) = read_frame(&octets)? else {
+        assert!(rt; false, "it is an Interest");
+        return Ok(());
+    };
+    assert_eq!(rt; data.freshness, 3000);
+    assert_eq!(rt; data.content, Some([120].as_slice()));
+    assert_eq!(rt; data.signature.kind, 4);
+    assert_eq!(rt; data.signature.time, Some(256));
+    assert_eq!(rt; data.signature.seq, Some(7));
+    assert_eq!(rt; data.signature.value, [1, 2].as_slice());
+    let Locator::Name(key) = data.signature.locator else {
+        assert!(rt; false, "no key name");
+        return Ok(());
+    };
+    assert_eq!(rt; key.as_octets(), [8, 1, 75].as_slice());
+    Ok(())
+}
+
+/// The forms of a KeyLocator.
+#[test]
+fn key_locators(rt: HostRuntime) -> Result<(), Fail> {
+    // No octets, broken ones, another element, a Name or a KeyDigest and more, and a Name that is none.
+    let others: [&[u8]; 6] = [
+        &[],
+        &[7],
+        &[8, 0],
+        &[7, 0, 7, 0],
+        &[29, 0, 0],
+        &[7, 2, 0, 0],
+    ];
+    for value in others {
+        assert!(rt; matches!(locator(&rt, value)?, Some(false)), "{value:?}");
+    }
+    assert!(rt; matches!(locator(&rt, &[7, 0])?, Some(true)));
+    assert!(rt; matches!(locator(&rt, &[7, 3, 8, 1, 75])?, Some(true)));
+    assert!(rt; locator(&rt, &[29, 0])?.is_none());
+    assert!(rt; locator(&rt, &[29, 1, 9])?.is_none());
+    Ok(())
+}
+
+/// Whether the KeyLocator of this value is a Name or something else, or none where it is a digest.
+fn locator(rt: &HostRuntime, value: &[u8]) -> Result<Option<bool>, Fail> {
+    let mut fields = Vec::new(rt.alloc());
+    fields.extend_from_slice(&[22, value.len() as u8 + 5, 27, 1, 3, 28, value.len() as u8])?;
+    fields.extend_from_slice(value)?;
+    fields.extend_from_slice(&[23, 0])?;
+    let octets = packet(rt, 6, &fields)?;
+    match read_frame(&octets)? {
+        Frame::Data(data) => match data.signature.locator {
+            Locator::Name(_) => Ok(Some(true)),
+            Locator::Other => Ok(Some(false)),
+            Locator::Digest => Ok(None),
+            Locator::Missing => Err(Fail::from("no KeyLocator")),
+        },
+        Frame::Interest(_) => Err(Fail::from("an Interest")),
+    }
 }
 
 /// Some octets and then zeros, so many octets in all.

@@ -24,6 +24,7 @@ tlv_name tlv.BadInteger = codes "BadInteger"
 abbrev pub packet_name : PacketFault → List ℕ
 packet_name (packet.Tlv fault) = codes "Tlv " ++ tlv_name fault
 packet_name packet.NoName = codes "NoName"
+packet_name packet.CriticalUnknown = codes "CriticalUnknown"
 packet_name packet.BadField = codes "BadField"
 packet_name packet.NoNonce = codes "NoNonce"
 packet_name packet.TooLong = codes "TooLong"

@@ -96,6 +96,7 @@ fn put_fault(text: &mut Vec<u8>, fault: PacketFault) -> Result<(), Memory>
             text.extend_from_slice(tlv_name(fault).as_bytes())?;
         }
         PacketFault::NoName => text.extend_from_slice(b"NoName")?,
+        PacketFault::CriticalUnknown => text.extend_from_slice(b"CriticalUnknown")?,
         PacketFault::BadField => text.extend_from_slice(b"BadField")?,
         PacketFault::NoNonce => text.extend_from_slice(b"NoNonce")?,
         PacketFault::TooLong => text.extend_from_slice(b"TooLong")?,

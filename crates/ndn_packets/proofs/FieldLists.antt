@@ -1,0 +1,149 @@
+-- The fields of a schema among elements, read one after the other.
+use Rattle.std.proofs.Common.{◌≡◌, ◌≢◌, ℕ, Bool, true, false, cond, eqb, List, [], ◌∷◌, ◌++◌, map, Option, Some, None, Result, Ok, Err, refl, sym, ap, subst, ◌∙◌, inl, inr, eq-eqb}
+use Rattle.std.specs.List.{AllByRecursion}
+use Rattle.std.proofs.lemmas.Bool.{eqb-true, eqb-false, ne_eqb}
+use Rattle.ndn_tlv.specs.declared.fault.TlvFault.{TlvFault}
+use Rattle.ndn_tlv.specs.Element.{Field}
+use Rattle.ndn_tlv.specs.Reading.{◌>>=◌}
+use Rattle.ndn_tlv.proofs.Numbers.{IsBytes}
+use Rattle.ndn_packets.specs.declared.fault.PacketFault.{PacketFault}
+use Rattle.ndn_packets.specs.Fields.{IsBefore, Fields, optional}
+use Rattle.ndn_packets.specs.Reading.{schema_after, on_option, Rule, fields_from, read_fields}
+use Rattle.ndn_packets.proofs.Steps.{bind_ok, good, err_is_not_ok, read}
+
+-- ---- a type in a schema
+
+abbrev pub Lacks : ℕ → List ℕ → Type 0
+Lacks kind schema = AllByRecursion (λ k. k ≢ kind) schema
+
+abbrev IsAfter : ℕ → List ℕ → Option (List ℕ) → Type 0
+IsAfter kind schema None = Lacks kind schema
+IsAfter kind schema (Some later) = IsBefore kind later schema
+
+after_found : (kind : ℕ) (schema : List ℕ) → IsAfter kind schema (schema_after kind schema)
+after_found kind [] = tt
+after_found kind (first ∷ schema) =
+    elim (eqb first kind) as (λ b. eqb first kind ≡ b → IsAfter kind (first ∷ schema) (cond b (Some schema) (schema_after kind schema))) [
+      | true ↦ λ is. ([], ap (λ (k : ℕ). k ∷ schema) (eqb-true first kind is), tt)
+      | false ↦ λ other. behind first (eqb-false first kind other) (schema_after kind schema) (after_found kind schema)
+    ] refl
+  where
+    behind : (first : ℕ) → first ≢ kind → (r : Option (List ℕ)) → IsAfter kind schema r → IsAfter kind (first ∷ schema) r
+    behind first other None h = (other, h)
+    behind first other (Some later) h = (first ∷ h.0, ap (λ (ks : List ℕ). first ∷ ks) h.1, (other, h.2))
+
+after_again : (kind : ℕ) (front later : List ℕ) → Lacks kind front → schema_after kind (front ++ kind ∷ later) ≡ Some later
+after_again kind [] later h = rw (eq-eqb kind kind refl) refl
+after_again kind (first ∷ front) later h = rw (ne_eqb first kind h.0, after_again kind front later h.1) refl
+
+after_none : (kind : ℕ) (schema : List ℕ) → Lacks kind schema → schema_after kind schema ≡ None
+after_none kind [] h = refl
+after_none kind (first ∷ schema) h = rw (ne_eqb first kind h.0, after_none kind schema h.1) refl
+
+-- ---- what a reading that succeeded has read
+
+pub record FieldsRead {S : Type 0} (take : S → Field → Result S PacketFault) (rule : Rule) (schema : List ℕ) (elements : List (Result Field TlvFault)) (s t : S) : Type 0 where
+  pub plain : List Field
+  pub fields : List Field
+  pub all : elements ≡ map read plain
+  pub recognised : Fields rule.ignores schema plain fields
+  pub taken : read_fields take s (map good fields) ≡ Ok t
+
+pub fields_found : {S : Type 0} (take : S → Field → Result S PacketFault) (rule : Rule) (schema : List ℕ) (elements : List (Result Field TlvFault)) (s t : S)
+    → read_fields take s (fields_from rule schema elements) ≡ Ok t → FieldsRead take rule schema elements s t
+fields_found take rule schema [] s t e = record { plain = []; fields = []; all = refl; recognised = refl; taken = e }
+fields_found take rule schema (Err f ∷ elements) s t e = absurd (err_is_not_ok _ t e)
+fields_found take rule schema (Ok x ∷ elements) s t e =
+    elim (schema_after x.0 schema) as (λ r. IsAfter x.0 schema r
+    → read_fields take s (on_option (λ later. Ok x ∷ fields_from rule later elements) (cond (rule.ignores x.0) (fields_from rule schema elements) (Err rule.refusal ∷ [])) r) ≡ Ok t
+    → FieldsRead take rule schema (Ok x ∷ elements) s t) [
+      | Some later ↦ λ before e.
+          let m = bind_ok (take s x) (λ u. read_fields take u (fields_from rule later elements)) t e in
+          let r = fields_found take rule later elements m.0 t m.2 in
+          record {
+            plain = x ∷ r.plain;
+            fields = x ∷ r.fields;
+            all = ap (λ (es : List (Result Field TlvFault)). read x ∷ es) r.all;
+            recognised = inl (later, r.fields, before, refl, r.recognised);
+            taken = ap (λ (q : Result _ PacketFault). q >>= λ u. read_fields take u (map good r.fields)) m.1 ∙ r.taken;
+          }
+      | None ↦ λ lacks e.
+          elim (rule.ignores x.0) as (λ b. rule.ignores x.0 ≡ b → read_fields take s (cond b (fields_from rule schema elements) (Err rule.refusal ∷ [])) ≡ Ok t → FieldsRead take rule schema (Ok x ∷ elements) s t) [
+            | true ↦ λ ignored e.
+                let r = fields_found take rule schema elements s t e in
+                record {
+                  plain = x ∷ r.plain;
+                  fields = r.fields;
+                  all = ap (λ (es : List (Result Field TlvFault)). read x ∷ es) r.all;
+                  recognised = inr (lacks, ignored, r.recognised);
+                  taken = r.taken;
+                }
+            | false ↦ λ refused e. absurd (err_is_not_ok _ t e)
+          ] refl e
+    ] (after_found x.0 schema) e
+
+pub fields_again : (rule : Rule) (schema : List ℕ) (plain fields : List Field) → Fields rule.ignores schema plain fields → fields_from rule schema (map read plain) ≡ map good fields
+fields_again rule schema [] fields h = ap (map good) (sym h)
+fields_again rule schema (e ∷ plain) fields (inl h) =
+    let after = subst (λ (ks : List ℕ). schema_after e.0 ks ≡ Some h.0) (sym h.2.1) (after_again e.0 h.2.0 h.0 h.2.2) in
+    rw after (ap (λ (fs : List (Result Field PacketFault)). good e ∷ fs) (fields_again rule h.0 plain h.1 h.4) ∙ ap (map good) (sym h.3))
+fields_again rule schema (e ∷ plain) fields (inr h) = rw (after_none e.0 schema h.0, h.1) (fields_again rule schema plain fields h.2)
+
+-- ---- the fields of a schema are fields that may be absent, in its order
+
+abbrev pub InSchema : List ℕ → List Field → Type 0
+InSchema [] fields = fields ≡ []
+InSchema (kind ∷ schema) fields = (value : Option (List ℕ)) × (others : List Field) × (fields ≡ optional kind value ++ others) × InSchema schema others
+
+none_in : (schema : List ℕ) → InSchema schema []
+none_in [] = refl
+none_in (kind ∷ schema) = (None, [], refl, none_in schema)
+
+some_in : (front later : List ℕ) (f : Field) (others : List Field) → InSchema later others → InSchema (front ++ f.0 ∷ later) (f ∷ others)
+some_in [] later f others h = (Some f.1, others, refl, h)
+some_in (kind ∷ front) later f others h = (None, f ∷ others, refl, some_in front later f others h)
+
+pub fields_in : (ignores : ℕ → Bool) (schema : List ℕ) (plain fields : List Field) → Fields ignores schema plain fields → InSchema schema fields
+fields_in ignores schema [] fields h = subst (InSchema schema) (sym h) (none_in schema)
+fields_in ignores schema (e ∷ plain) fields (inl h) =
+    let inside = some_in h.2.0 h.0 e h.1 (fields_in ignores h.0 plain h.1 h.4) in
+    subst (InSchema schema) (sym h.3) (subst (λ (ks : List ℕ). InSchema ks (e ∷ h.1)) (sym h.2.1) inside)
+fields_in ignores schema (e ∷ plain) fields (inr h) = fields_in ignores schema plain fields h.2
+
+-- what taking a field that may be absent leaves
+abbrev pub Took : {S : Type 0} → (S → Field → Result S PacketFault) → S → ℕ → Option (List ℕ) → S → Type 0
+Took take s kind None t = t ≡ s
+Took take s kind (Some value) t = take s (kind, value) ≡ Ok t
+
+pub took_first : {S : Type 0} (take : S → Field → Result S PacketFault) (s t : S) (kind : ℕ) (value : Option (List ℕ)) (fields others : List Field) → fields ≡ optional kind value ++ others
+    → read_fields take s (map good fields) ≡ Ok t → (mid : S) × Took take s kind value mid × (read_fields take mid (map good others) ≡ Ok t)
+took_first take s t kind None fields others is e = (s, refl, subst (λ (fs : List Field). read_fields take s (map good fs) ≡ Ok t) is e)
+took_first take s t kind (Some v) fields others is e =
+    bind_ok (take s (kind, v)) (λ u. read_fields take u (map good others)) t (subst (λ (fs : List Field). read_fields take s (map good fs) ≡ Ok t) is e)
+
+-- what is taken of a field that may be absent is read
+pub took_again : {S : Type 0} (take : S → Field → Result S PacketFault) (s mid : S) (kind : ℕ) (value : Option (List ℕ)) (others : List Field) → Took take s kind value mid
+    → read_fields take s (map good (optional kind value ++ others)) ≡ read_fields take mid (map good others)
+took_again take s mid kind None others took = ap (λ u. read_fields take u (map good others)) (sym took)
+took_again take s mid kind (Some v) others took = ap (λ (r : Result _ PacketFault). r >>= λ u. read_fields take u (map good others)) took
+
+-- ---- what holds of all elements holds of the fields among them
+
+pub fields_keep : (P : Field → Type 0) (ignores : ℕ → Bool) (schema : List ℕ) (plain fields : List Field) → Fields ignores schema plain fields → AllByRecursion P plain → AllByRecursion P fields
+fields_keep P ignores schema [] fields h all = subst (AllByRecursion P) (sym h) tt
+fields_keep P ignores schema (e ∷ plain) fields (inl h) all = subst (AllByRecursion P) (sym h.3) (all.0, fields_keep P ignores h.0 plain h.1 h.4 all.1)
+fields_keep P ignores schema (e ∷ plain) fields (inr h) all = fields_keep P ignores schema plain fields h.2 all.1
+
+-- ---- values of octets
+
+-- a value that may be absent is of octets
+abbrev pub MayBeBytes : Option (List ℕ) → Type 0
+MayBeBytes None = Unit {0}
+MayBeBytes (Some value) = IsBytes value
+
+abbrev pub AreBytes : List Field → Type 0
+AreBytes fields = AllByRecursion (λ f. IsBytes f.1) fields
+
+pub bytes_first : (kind : ℕ) (value : Option (List ℕ)) (fields others : List Field) → fields ≡ optional kind value ++ others → AreBytes fields → MayBeBytes value × AreBytes others
+bytes_first kind None fields others is fit = (tt, subst AreBytes is fit)
+bytes_first kind (Some v) fields others is fit = subst AreBytes is fit

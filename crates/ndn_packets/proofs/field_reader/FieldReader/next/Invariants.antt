@@ -1,0 +1,9 @@
+use Rattle.std.proofs.Common.{◌≡◌, ◌≤◌, length}
+use Rattle.ndn_packets.specs.FieldReader.{fields_left}
+use Rattle.ndn_packets.proofs.field_reader.FieldReader.next.Given as goal
+
+abbrev pub invariant-loop-element : goal.invariant-loop-element
+invariant-loop-element l = (fields_left l.self ≡ fields_left l.fn.self) × (length l.self.rest.now ≤ length l.fn.self.rest.now)
+
+abbrev pub decreases-loop-element : goal.decreases-loop-element
+decreases-loop-element l = length l.self.rest.now

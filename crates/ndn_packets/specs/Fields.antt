@@ -1,0 +1,37 @@
+-- Which elements of a list are the fields of a schema (NDN Packet Format 0.3, "Interest Packet", "Data Packet", "Considerations for Evolvability of TLV-Based Encoding").
+use Rattle.std.specs.Prelude.{◌≡◌, ◌≢◌, ℕ, ◌⊎◌, ◌%◌, List, [], ◌∷◌, ◌++◌, Option, None, Some, Bool, true, false, nat_le, ◌==◌, ◌&&◌, ◌||◌}
+use Rattle.std.specs.List.{AllByRecursion}
+use Rattle.ndn_tlv.specs.Element.{Field}
+
+-- elements that a reader may ignore: of an even type from 32 on
+abbrev pub is_even_high : ℕ → Bool
+is_even_high kind = nat_le 32 kind && (kind % 2 == 0)
+
+-- in a MetaInfo also those of the types 128 to 252
+abbrev pub is_ignored_in_meta_info : ℕ → Bool
+is_ignored_in_meta_info kind = is_even_high kind || (nat_le 128 kind && nat_le kind 252)
+
+-- in a SignatureInfo also those of the type 253
+abbrev pub is_ignored_in_signature_info : ℕ → Bool
+is_ignored_in_signature_info kind = is_even_high kind || kind == 253
+
+-- in an Interest of this profile, so far, none
+abbrev pub is_never_ignored : ℕ → Bool
+is_never_ignored kind = false
+
+-- the type stands in the schema, and these types stand behind it
+abbrev pub IsBefore : ℕ → List ℕ → List ℕ → Type 0
+IsBefore kind later schema = (front : List ℕ) × (schema ≡ front ++ kind ∷ later) × AllByRecursion (λ k. k ≢ kind) front
+
+-- The fields of a schema among elements: an element is one where its type stands in the schema behind those of all fields
+-- before it. Every other element has to be one that is ignored.
+abbrev pub Fields : (ℕ → Bool) → List ℕ → List Field → List Field → Type 0
+Fields ignores schema [] fields = fields ≡ []
+Fields ignores schema (e ∷ elements) fields =
+    ((later : List ℕ) × (others : List Field) × IsBefore e.0 later schema × (fields ≡ e ∷ others) × Fields ignores later elements others)
+    ⊎ (AllByRecursion (λ k. k ≢ e.0) schema × (ignores e.0 ≡ true) × Fields ignores schema elements fields)
+
+-- a field that may be absent
+abbrev pub optional : ℕ → Option (List ℕ) → List Field
+optional kind None = []
+optional kind (Some value) = (kind, value) ∷ []

@@ -1,0 +1,35 @@
+ghost use Rattle.std.specs.Prelude.{◌≡◌};
+ghost use Rattle.ndn_packets.specs.Reading.{meta_at};
+
+use crate::fault::PacketFault;
+use crate::field_reader::{FieldReader, number};
+use crate::schema::Rules;
+
+/// The types of a ContentType, a FreshnessPeriod and a FinalBlockId.
+const CONTENT_TYPE: u32 = 24;
+
+const FRESHNESS_PERIOD: u32 = 25;
+
+const FINAL_BLOCK_ID: u32 = 26;
+
+/// The fields of a MetaInfo (NDN Packet Format 0.3, "MetaInfo").
+const FIELDS: [u32; 3] = [CONTENT_TYPE, FRESHNESS_PERIOD, FINAL_BLOCK_ID];
+
+#[tactic(auto, unfolding(crate::specs::Reading::meta_at))]
+/// The FreshnessPeriod of a MetaInfo's value in milliseconds, 0 where it has none.
+pub fn freshness_of(meta: &[u8]) -> Result<u64, PacketFault>
+    ensures { result ≡ meta_at meta.now }
+{
+    let mut fields = FieldReader::new(Rules::MetaInfo, meta, &FIELDS);
+    let mut freshness = 0;
+    while let Some(field) = fields.next()? {
+        match field.kind {
+            CONTENT_TYPE => {
+                number(field.value)?;
+            }
+            FRESHNESS_PERIOD => freshness = number(field.value)?,
+            _ => {}
+        }
+    }
+    Ok(freshness)
+}
