@@ -97,6 +97,50 @@ fn thin_deadline(rt: HostRuntime) -> Result<(), Fail> {
     )
 }
 
+/// An Interest with an unknown element goes on with it; of an odd type it does not.
+#[test]
+fn unknown_elements(rt: HostRuntime) -> Result<(), Fail> {
+    replies(
+        &rt,
+        &[
+            "up 1 local 0",
+            "up 2 far 0",
+            "in 1 1000 050e07030801410a0401020304f00100",
+            "in 1 1000 050e07030801410a0401020304f10100",
+        ],
+        &[
+            "1 passed",
+            "2 passed",
+            "3 passed",
+            "> 2 050e07030801410a0401020304f00100",
+            "4 dropped Malformed CriticalUnknown",
+        ],
+    )
+}
+
+/// An Interest with all fields but parameters, whose lifetime of 256 milliseconds ends at 1256, and a
+/// Data with all fields.
+#[test]
+fn whole_packets(rt: HostRuntime) -> Result<(), Fail> {
+    let asks = "in 1 1000 051d0703080141210012001e0507030801420a04010203040c020100220109";
+    let asked = "> 2 051d0703080141210012001e0507030801420a04010203040c020100220109";
+    let passed = ["1 passed", "2 passed", "3 passed", asked, "4 passed"];
+    let early =
+        "in 2 1255 06300703080141140c18010219020bb81a0308014215017816141b01041c05070308014b260109280201002a010717020102";
+    let answer =
+        "> 1 06300703080141140c18010219020bb81a0308014215017816141b01041c05070308014b260109280201002a010717020102";
+    let late =
+        "in 2 1256 06300703080141140c18010219020bb81a0308014215017816141b01041c05070308014b260109280201002a010717020102";
+    replies(
+        &rt,
+        &["up 1 local 0", "up 2 far 0", asks, early],
+        &[
+            passed[0], passed[1], passed[2], passed[3], passed[4], answer,
+        ],
+    )?;
+    replies(&rt, &["up 1 local 0", "up 2 far 0", asks, late], &passed)
+}
+
 #[test]
 fn hexadecimal_of_both_cases(rt: HostRuntime) -> Result<(), Fail> {
     replies(

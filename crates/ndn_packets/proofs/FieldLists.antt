@@ -7,6 +7,7 @@ use Rattle.ndn_tlv.specs.Element.{Field}
 use Rattle.ndn_tlv.specs.Reading.{◌>>=◌}
 use Rattle.ndn_tlv.proofs.Numbers.{IsBytes}
 use Rattle.ndn_packets.specs.declared.fault.PacketFault.{PacketFault}
+use Rattle.ndn_packets.specs.declared.fault.PacketFault.TheVariants.{CriticalUnknown}
 use Rattle.ndn_packets.specs.Fields.{IsBefore, Fields, optional}
 use Rattle.ndn_packets.specs.Reading.{schema_after, on_option, Rule, fields_from, read_fields}
 use Rattle.ndn_packets.proofs.Steps.{bind_ok, good, err_is_not_ok, read}
@@ -55,7 +56,7 @@ fields_found take rule schema [] s t e = record { plain = []; fields = []; all =
 fields_found take rule schema (Err f ∷ elements) s t e = absurd (err_is_not_ok _ t e)
 fields_found take rule schema (Ok x ∷ elements) s t e =
     elim (schema_after x.0 schema) as (λ r. IsAfter x.0 schema r
-    → read_fields take s (on_option (λ later. Ok x ∷ fields_from rule later elements) (cond (rule.ignores x.0) (fields_from rule schema elements) (Err rule.refusal ∷ [])) r) ≡ Ok t
+    → read_fields take s (on_option (λ later. Ok x ∷ fields_from rule later elements) (cond (rule.ignores x.0) (fields_from rule schema elements) (Err CriticalUnknown ∷ [])) r) ≡ Ok t
     → FieldsRead take rule schema (Ok x ∷ elements) s t) [
       | Some later ↦ λ before e.
           let m = bind_ok (take s x) (λ u. read_fields take u (fields_from rule later elements)) t e in
@@ -68,7 +69,7 @@ fields_found take rule schema (Ok x ∷ elements) s t e =
             taken = ap (λ (q : Result _ PacketFault). q >>= λ u. read_fields take u (map good r.fields)) m.1 ∙ r.taken;
           }
       | None ↦ λ lacks e.
-          elim (rule.ignores x.0) as (λ b. rule.ignores x.0 ≡ b → read_fields take s (cond b (fields_from rule schema elements) (Err rule.refusal ∷ [])) ≡ Ok t → FieldsRead take rule schema (Ok x ∷ elements) s t) [
+          elim (rule.ignores x.0) as (λ b. rule.ignores x.0 ≡ b → read_fields take s (cond b (fields_from rule schema elements) (Err CriticalUnknown ∷ [])) ≡ Ok t → FieldsRead take rule schema (Ok x ∷ elements) s t) [
             | true ↦ λ ignored e.
                 let r = fields_found take rule schema elements s t e in
                 record {

@@ -1,139 +1,326 @@
 -- An Interest that is read is in the grammar, and one in the grammar is read.
-use Rattle.std.proofs.Common.{◌≡◌, ◌≢◌, ℕ, ◌≤◌, true, false, cond, eqb, List, [], ◌∷◌, ◌++◌, length, map, Option, Some, None, Result, Ok, Err, refl, sym, ap, subst, ◌∙◌}
-use Rattle.std.proofs.lemmas.Bool.{eqb-true, eq-eqb}
+use Rattle.std.proofs.Common.{◌≡◌, ◌≢◌, ℕ, ◌≤◌, Bool, true, false, cond, eqb, List, [], ◌∷◌, ◌++◌, length, map, Option, Some, None, Result, Ok, Err, refl, sym, ap, subst, ◌∙◌, eq-eqb}
+use Rattle.std.specs.Prelude.{unwrap_or, ◌||◌}
+use Rattle.std.specs.List.{AllByRecursion}
+use Rattle.std.proofs.lemmas.Bool.{eqb-true, eqb-false, ne_eqb}
+use Rattle.std.proofs.lemmas.List.{append-nil}
 use Rattle.ndn_tlv.specs.declared.fault.TlvFault.{TlvFault}
 use Rattle.ndn_tlv.specs.Element.{Field, IsElement, IsElements}
 use Rattle.ndn_tlv.specs.Reading.{◌>>=◌, elements_of}
 use Rattle.ndn_tlv.proofs.Numbers.{IsBytes}
 use Rattle.ndn_tlv.proofs.Fields.{elements_exact, elements_read}
 use Rattle.ndn_names.specs.Name.{IsNameValue}
-use Rattle.ndn_packets.specs.declared.fault.PacketFault.TheVariants.{NoName, BadField, NoNonce}
-use Rattle.ndn_packets.specs.Packet.{PlainInterest}
-use Rattle.ndn_packets.specs.Fields.{Fields, optional, is_never_ignored}
-use Rattle.ndn_packets.specs.Grammar.{interest_schema, IsInterest}
-use Rattle.ndn_packets.specs.Reading.{interest_rule, fields_from, read_fields, leading_name_at, take_interest_field, interest_made, is_nil, interest_at}
 use Rattle.ndn_names.proofs.Names.{name_found, name_again}
+use Rattle.ndn_packets.specs.declared.fault.PacketFault.{PacketFault}
+use Rattle.ndn_packets.specs.declared.fault.PacketFault.TheVariants.{NoName, BadField, NoNonce, DigestWithout}
+use Rattle.ndn_packets.specs.Packet.{PlainInterest}
+use Rattle.ndn_packets.specs.Fields.{Fields, optional, flag, is_ignored_in_interest, interest_schema}
+use Rattle.ndn_packets.specs.Grammar.{IsNumber, IsOctet, IsInterest}
+use Rattle.ndn_packets.specs.Reading.{interest_rule, fields_from, read_fields, leading_name_at, nni_value_at, octet_at, InterestSoFar, no_fields_yet, take_interest_field, has_digest, interest_made, is_nil, found_or, interest_at}
 use Rattle.ndn_packets.proofs.Rules.{is_nil-false}
-use Rattle.ndn_packets.proofs.Steps.{bind_ok, good, err_is_not_ok, unless_ok, ok_is, not_nil, read, IsBytes-fields, Leads, lead}
-use Rattle.ndn_packets.proofs.FieldLists.{fields_found, fields_again, fields_in, Took, took_first}
+use Rattle.ndn_packets.proofs.Steps.{bind_ok, guard_ok, good, err_is_not_ok, unless_ok, ok_is, found_some, not_nil, read, IsBytes-fields, Leads, lead}
+use Rattle.ndn_packets.proofs.FieldLists.{FieldsRead, fields_found, fields_again, fields_in, fields_keep, Took, took_first, took_again, MayBeBytes, AreBytes, bytes_first}
+use Rattle.ndn_packets.proofs.Numbers.{number_found, number_again}
 
-abbrev pub plain_of : List Field → List ℕ → PlainInterest
-plain_of name nonce = record { name = name; can_be_prefix = false; must_be_fresh = false; nonce = nonce; lifetime = 4000; hop_limit = None; parameters = None; signature = None }
+abbrev fields_with : Bool → Bool → Option (List ℕ) → List ℕ → Option (List ℕ) → Option (List ℕ) → List Field
+fields_with prefix fresh hint nonce lifetime hop = flag 33 prefix ++ (flag 18 fresh ++ (optional 30 hint ++ ((10, nonce) ∷ (optional 12 lifetime ++ optional 34 hop))))
+
+abbrev plain_of : List Field → Bool → Bool → List ℕ → ℕ → Option ℕ → PlainInterest
+plain_of name prefix fresh nonce lifetime hop =
+    record { name = name; can_be_prefix = prefix; must_be_fresh = fresh; nonce = nonce; lifetime = lifetime; hop_limit = hop; parameters = None; signature = None }
 
 pub record InterestValue (value : List ℕ) (i : PlainInterest) : Type 0 where
   pub name_value : List ℕ
+  pub hint : Option (List ℕ)
+  pub lifetime_value : Option (List ℕ)
+  pub hop_value : Option (List ℕ)
   pub elements : List Field
   pub inner : IsElements value ((7, name_value) ∷ elements)
-  pub recognised : Fields is_never_ignored interest_schema elements ((10, i.nonce) ∷ [])
+  pub recognised : Fields is_ignored_in_interest interest_schema elements (fields_with i.can_be_prefix i.must_be_fresh hint i.nonce lifetime_value hop_value)
   pub name_is : IsNameValue name_value i.name
   pub named : i.name ≢ []
+  pub undigested : AllByRecursion (λ c. c.0 ≢ 2) i.name
   pub nonce_is : length i.nonce ≡ 4
-  pub made : plain_of i.name i.nonce ≡ i
+  pub lifetime_is : (n : Option ℕ) × IsNumber lifetime_value n × (i.lifetime ≡ unwrap_or n 4000)
+  pub hop_is : IsOctet hop_value i.hop_limit
+  pub made : plain_of i.name i.can_be_prefix i.must_be_fresh i.nonce i.lifetime i.hop_limit ≡ i
 
-record NonceTaken (o : Option (List ℕ)) (name : List Field) (i : PlainInterest) : Type 0 where
-  nonce : List ℕ
-  taken : o ≡ Some nonce
-  four : length nonce ≡ 4
-  made : plain_of name nonce ≡ i
+-- ---- what each field leaves
 
-four_octets : (v : List ℕ) (mid : Option (List ℕ)) → take_interest_field None (10, v) ≡ Ok mid → (length v ≡ 4) × (Some v ≡ mid)
-four_octets v mid e =
-    elim (eqb (length v) 4) as (λ b. eqb (length v) 4 ≡ b → cond b (good (Some v)) (Err BadField) ≡ Ok mid → (length v ≡ 4) × (Some v ≡ mid)) [
-      | true ↦ λ is e. (eqb-true _ _ is, ok_is (Some v) mid e)
-      | false ↦ λ _ e. absurd (err_is_not_ok _ mid e)
-    ] refl e
+abbrev so_far : Bool → Bool → Option (List ℕ) → ℕ → Option ℕ → InterestSoFar
+so_far prefix fresh nonce lifetime hop = record { can_be_prefix = prefix; must_be_fresh = fresh; nonce = nonce; lifetime = lifetime; hop_limit = hop }
 
-no_nonce : (name : List Field) (t : Option (List ℕ)) (i : PlainInterest) → t ≡ None → interest_made name t ≡ Ok i → ⊥
-no_nonce name t i is e = err_is_not_ok NoNonce i (subst (λ o. interest_made name o ≡ Ok i) is e)
+is_nil_is : (xs : List ℕ) → is_nil xs ≡ true → xs ≡ []
+is_nil_is [] e = refl
+is_nil_is (x ∷ xs) e = absurd cc
 
-nonce_taken : (o mid t : Option (List ℕ)) (name : List Field) (i : PlainInterest) → Took take_interest_field None 10 o mid → mid ≡ t → interest_made name t ≡ Ok i → NonceTaken o name i
-nonce_taken None mid t name i took same e = absurd (no_nonce name t i (sym same ∙ took) e)
-nonce_taken (Some v) mid t name i took same e =
-    let f = four_octets v mid took in
-    record { nonce = v; taken = refl; four = f.0; made = ok_is _ i (subst (λ o. interest_made name o ≡ Ok i) (sym (f.1 ∙ same)) e) }
+-- a test that BadField answers
+tested : {A : Type 0} (b : Bool) (x y : A) → cond b (good x) (Err BadField) ≡ Ok y → (b ≡ true) × (x ≡ y)
+tested true x y e = (refl, ok_is x y e)
+tested false x y e = absurd (err_is_not_ok _ y e)
 
--- the fields behind an Interest's name
-record NonceFound (elements : List (Result Field TlvFault)) (name : List Field) (i : PlainInterest) : Type 0 where
-  plain : List Field
-  nonce : List ℕ
-  all : elements ≡ map read plain
-  recognised : Fields is_never_ignored interest_schema plain ((10, nonce) ∷ [])
-  four : length nonce ≡ 4
-  made : plain_of name nonce ≡ i
+prefix_taken : (value : Option (List ℕ)) (t : InterestSoFar) → Took take_interest_field no_fields_yet 33 value t → (b : Bool) × (optional 33 value ≡ flag 33 b) × (t ≡ so_far b false None 4000 None)
+prefix_taken None t took = (false, refl, took)
+prefix_taken (Some v) t took =
+    let p = tested (is_nil v) (so_far true false None 4000 None) t took in
+    (true, ap (λ (x : List ℕ). optional 33 (Some x)) (is_nil_is v p.0), sym p.1)
 
-only_nonce : (plain fields others : List Field) (o : Option (List ℕ)) (nonce : List ℕ) → Fields is_never_ignored interest_schema plain fields → fields ≡ optional 10 o ++ others → others ≡ [] → o ≡ Some nonce
-    → Fields is_never_ignored interest_schema plain ((10, nonce) ∷ [])
-only_nonce plain fields others o nonce h is none taken = subst (Fields is_never_ignored interest_schema plain) (is ∙ (λ k. optional 10 (taken k) ++ none k)) h
+fresh_taken : (value : Option (List ℕ)) (prefix : Bool) (s t : InterestSoFar) → s ≡ so_far prefix false None 4000 None → Took take_interest_field s 18 value t
+    → (b : Bool) × (optional 18 value ≡ flag 18 b) × (t ≡ so_far prefix b None 4000 None)
+fresh_taken None prefix s t is took = (false, refl, took ∙ is)
+fresh_taken (Some v) prefix s t is took =
+    let p = tested (is_nil v) (so_far prefix true None 4000 None) t (subst (λ (u : InterestSoFar). take_interest_field u (18, v) ≡ Ok t) is took) in
+    (true, ap (λ (x : List ℕ). optional 18 (Some x)) (is_nil_is v p.0), sym p.1)
 
-nonce_found : (elements : List (Result Field TlvFault)) (t : Option (List ℕ)) (name : List Field) (i : PlainInterest) → read_fields take_interest_field None (fields_from interest_rule interest_schema elements) ≡ Ok t → interest_made name t ≡ Ok i → NonceFound elements name i
-nonce_found elements t name i e made =
-    let r = fields_found take_interest_field interest_rule interest_schema elements None t e in
-    let s = fields_in is_never_ignored interest_schema r.plain r.fields r.recognised in
-    let p = took_first take_interest_field None t 10 s.0 r.fields s.1 s.2 r.taken in
-    let same = ok_is p.0 t (subst (λ (fs : List Field). read_fields take_interest_field p.0 (map good fs) ≡ Ok t) s.3 p.2) in
-    let n = nonce_taken s.0 p.0 t name i p.1 same made in
+hint_taken : (value : Option (List ℕ)) (s t : InterestSoFar) → Took take_interest_field s 30 value t → t ≡ s
+hint_taken None s t took = took
+hint_taken (Some v) s t took = sym (ok_is s t took)
+
+-- a Nonce that is there has four octets
+abbrev IsFour : Option (List ℕ) → Type 0
+IsFour None = Unit {0}
+IsFour (Some nonce) = length nonce ≡ 4
+
+nonce_taken : (value : Option (List ℕ)) (prefix fresh : Bool) (s t : InterestSoFar) → s ≡ so_far prefix fresh None 4000 None → Took take_interest_field s 10 value t → IsFour value × (t ≡ so_far prefix fresh value 4000 None)
+nonce_taken None prefix fresh s t is took = (tt, took ∙ is)
+nonce_taken (Some v) prefix fresh s t is took =
+    let p = tested (eqb (length v) 4) (so_far prefix fresh (Some v) 4000 None) t (subst (λ (u : InterestSoFar). take_interest_field u (10, v) ≡ Ok t) is took) in
+    (eqb-true (length v) 4 p.0, sym p.1)
+
+lifetime_taken : (value given : Option (List ℕ)) (prefix fresh : Bool) (s t : InterestSoFar) → MayBeBytes value → s ≡ so_far prefix fresh given 4000 None → Took take_interest_field s 12 value t
+    → (n : Option ℕ) × IsNumber value n × (t ≡ so_far prefix fresh given (unwrap_or n 4000) None)
+lifetime_taken None given prefix fresh s t fits is took = (None, refl, took ∙ is)
+lifetime_taken (Some v) given prefix fresh s t fits is took =
+    let b = bind_ok (nni_value_at v) (λ n. good (so_far prefix fresh given n None)) t (subst (λ (u : InterestSoFar). take_interest_field u (12, v) ≡ Ok t) is took) in
+    (Some b.0, (b.0, number_found v b.0 fits b.1, refl), sym (ok_is _ t b.2))
+
+octet_found : (value : List ℕ) (n : ℕ) → octet_at value ≡ Ok n → value ≡ n ∷ []
+octet_found [] n e = absurd (err_is_not_ok _ n e)
+octet_found (k ∷ []) n e = ap (λ (x : ℕ). x ∷ []) (ok_is k n e)
+octet_found (k ∷ l ∷ value) n e = absurd (err_is_not_ok _ n e)
+
+hop_taken : (value given : Option (List ℕ)) (prefix fresh : Bool) (lifetime : ℕ) (s t : InterestSoFar) → s ≡ so_far prefix fresh given lifetime None → Took take_interest_field s 34 value t
+    → (n : Option ℕ) × IsOctet value n × (t ≡ so_far prefix fresh given lifetime n)
+hop_taken None given prefix fresh lifetime s t is took = (None, refl, took ∙ is)
+hop_taken (Some v) given prefix fresh lifetime s t is took =
+    let b = bind_ok (octet_at v) (λ n. good (so_far prefix fresh given lifetime (Some n))) t (subst (λ (u : InterestSoFar). take_interest_field u (34, v) ≡ Ok t) is took) in
+    (Some b.0, (b.0, octet_found v b.0 b.1, refl), sym (ok_is _ t b.2))
+
+-- ---- the fields behind the Name
+
+record InterestFields (fields : List Field) (t : InterestSoFar) : Type 0 where
+  prefix : Bool
+  fresh : Bool
+  hint : Option (List ℕ)
+  nonce : Option (List ℕ)
+  lifetime : Option (List ℕ)
+  hop : Option (List ℕ)
+  number : Option ℕ
+  limit : Option ℕ
+  all : fields ≡ flag 33 prefix ++ (flag 18 fresh ++ (optional 30 hint ++ (optional 10 nonce ++ (optional 12 lifetime ++ optional 34 hop))))
+  four : IsFour nonce
+  number_is : IsNumber lifetime number
+  limit_is : IsOctet hop limit
+  made : t ≡ so_far prefix fresh nonce (unwrap_or number 4000) limit
+
+interest_fields : (plain fields : List Field) (t : InterestSoFar) → AreBytes fields → Fields is_ignored_in_interest interest_schema plain fields → read_fields take_interest_field no_fields_yet (map good fields) ≡ Ok t → InterestFields fields t
+interest_fields plain fields t fit recognised taken =
+    let i33 = fields_in is_ignored_in_interest interest_schema plain fields recognised in
+    let i18 = i33.3 in
+    let i30 = i18.3 in
+    let i10 = i30.3 in
+    let i12 = i10.3 in
+    let i34 = i12.3 in
+    let t33 = took_first take_interest_field no_fields_yet t 33 i33.0 fields i33.1 i33.2 taken in
+    let t18 = took_first take_interest_field t33.0 t 18 i18.0 i33.1 i18.1 i18.2 t33.2 in
+    let t30 = took_first take_interest_field t18.0 t 30 i30.0 i18.1 i30.1 i30.2 t18.2 in
+    let t10 = took_first take_interest_field t30.0 t 10 i10.0 i30.1 i10.1 i10.2 t30.2 in
+    let t12 = took_first take_interest_field t10.0 t 12 i12.0 i10.1 i12.1 i12.2 t10.2 in
+    let t34 = took_first take_interest_field t12.0 t 34 i34.0 i12.1 i34.1 i34.2 t12.2 in
+    let b33 = bytes_first 33 i33.0 fields i33.1 i33.2 fit in
+    let b18 = bytes_first 18 i18.0 i33.1 i18.1 i18.2 b33.1 in
+    let b30 = bytes_first 30 i30.0 i18.1 i30.1 i30.2 b18.1 in
+    let b10 = bytes_first 10 i10.0 i30.1 i10.1 i10.2 b30.1 in
+    let b12 = bytes_first 12 i12.0 i10.1 i12.1 i12.2 b10.1 in
+    let p = prefix_taken i33.0 t33.0 t33.1 in
+    let f = fresh_taken i18.0 p.0 t33.0 t18.0 p.2 t18.1 in
+    let n = nonce_taken i10.0 p.0 f.0 t30.0 t10.0 (hint_taken i30.0 t18.0 t30.0 t30.1 ∙ f.2) t10.1 in
+    let l = lifetime_taken i12.0 i10.0 p.0 f.0 t10.0 t12.0 b12.0 n.1 t12.1 in
+    let h = hop_taken i34.0 i10.0 p.0 f.0 (unwrap_or l.0 4000) t12.0 t34.0 l.2 t34.1 in
+    let last : t34.0 ≡ t = ok_is t34.0 t (subst (λ (fs : List Field). read_fields take_interest_field t34.0 (map good fs) ≡ Ok t) i34.3 t34.2) in
+    let after_lifetime : i12.1 ≡ optional 34 i34.0 = i34.2 ∙ ap (λ (fs : List Field). optional 34 i34.0 ++ fs) i34.3 ∙ append-nil (optional 34 i34.0) in
+    let after_nonce : i10.1 ≡ optional 12 i12.0 ++ optional 34 i34.0 = i12.2 ∙ ap (λ (fs : List Field). optional 12 i12.0 ++ fs) after_lifetime in
+    let after_hint : i30.1 ≡ optional 10 i10.0 ++ (optional 12 i12.0 ++ optional 34 i34.0) = i10.2 ∙ ap (λ (fs : List Field). optional 10 i10.0 ++ fs) after_nonce in
+    let after_fresh : i18.1 ≡ optional 30 i30.0 ++ (optional 10 i10.0 ++ (optional 12 i12.0 ++ optional 34 i34.0)) = i30.2 ∙ ap (λ (fs : List Field). optional 30 i30.0 ++ fs) after_hint in
     record {
-      plain = r.plain;
-      nonce = n.nonce;
-      all = r.all;
-      recognised = only_nonce r.plain r.fields s.1 s.0 n.nonce r.recognised s.2 s.3 n.taken;
-      four = n.four;
-      made = n.made;
+      prefix = p.0;
+      fresh = f.0;
+      hint = i30.0;
+      nonce = i10.0;
+      lifetime = i12.0;
+      hop = i34.0;
+      number = l.0;
+      limit = h.0;
+      all = i33.2 ∙ (λ k. p.1 k ++ i18.2 k) ∙ (λ k. flag 33 p.0 ++ (f.1 k ++ after_fresh k));
+      four = n.0;
+      number_is = l.1;
+      limit_is = h.1;
+      made = sym last ∙ h.2;
     }
 
-record InterestParts (elements : List (Result Field TlvFault)) (i : PlainInterest) : Type 0 where
-  name : List Field
-  later : List (Result Field TlvFault)
-  leads : Leads elements name later
-  named : name ≢ []
-  nonce : NonceFound later name i
+-- ---- no component is a digest of parameters
 
-after_name : (elements : List (Result Field TlvFault)) (first : List Field × List (Result Field TlvFault)) (i : PlainInterest) → leading_name_at elements ≡ Ok first
-    → (cond (is_nil first.0) (Err NoName) (good first.0) >>= λ name. read_fields take_interest_field None (fields_from interest_rule interest_schema first.1) >>= λ nonce. interest_made name nonce) ≡ Ok i → InterestParts elements i
-after_name elements first i is e =
-    let g = unless_ok (is_nil first.0) NoName first.0 (λ name. read_fields take_interest_field None (fields_from interest_rule interest_schema first.1) >>= λ nonce. interest_made name nonce) i e in
-    let c = bind_ok (read_fields take_interest_field None (fields_from interest_rule interest_schema first.1)) (λ nonce. interest_made first.0 nonce) i g.1 in
-    record { name = first.0; later = first.1; leads = lead elements first is; named = not_nil first.0 g.0; nonce = nonce_found first.1 c.0 first.0 i c.1 c.2 }
+undigested : (name : List Field) → has_digest name ≡ false → AllByRecursion (λ c. c.0 ≢ 2) name
+undigested [] e = tt
+undigested (c ∷ name) e =
+    elim (eqb c.0 2) as (λ b. eqb c.0 2 ≡ b → (b || has_digest name) ≡ false → (c.0 ≢ 2) × AllByRecursion (λ c. c.0 ≢ 2) name) [
+      | true ↦ λ _ e. absurd cc
+      | false ↦ λ is e. (eqb-false c.0 2 is, undigested name e)
+    ] refl e
 
-interest_parts : (value : List ℕ) (i : PlainInterest) → interest_at value ≡ Ok i → InterestParts (elements_of value) i
-unfolding interest_at
-interest_parts value i e =
-    let a = bind_ok (leading_name_at (elements_of value)) (λ first. cond (is_nil first.0) (Err NoName) (good first.0) >>= λ name. read_fields take_interest_field None (fields_from interest_rule interest_schema first.1) >>= λ nonce. interest_made name nonce) i e in
-    after_name (elements_of value) a.0 i a.1 a.2
+no_digest : (name : List Field) → AllByRecursion (λ c. c.0 ≢ 2) name → has_digest name ≡ false
+no_digest [] h = refl
+no_digest (c ∷ name) h = rw (ne_eqb c.0 2 h.0) (no_digest name h.1)
 
-joined : (value : List ℕ) (name : List Field) (later : List (Result Field TlvFault)) (i : PlainInterest) → IsBytes value → Leads (elements_of value) name later → name ≢ [] → NonceFound later name i → InterestValue value i
-joined value name later i fits l named n =
-    let fields : List Field = (7, l.value) ∷ n.plain in
-    let all : elements_of value ≡ map read fields = l.front ∙ (λ k. read (7, l.value) ∷ n.all k) in
-    let inner = elements_read value fields fits all in
-    let bytes = IsBytes-fields fields (subst IsBytes inner.1 fits) in
-    subst (InterestValue value) n.made (record { name_value = l.value; elements = n.plain; inner = inner; recognised = n.recognised; name_is = name_found l.value name bytes.0 l.name_is; named = named; nonce_is = n.four; made = refl })
+-- ---- what is read
+
+nonce_there : (value : Option (List ℕ)) (nonce : List ℕ) → value ≡ Some nonce → IsFour value → length nonce ≡ 4
+nonce_there value nonce is four = subst IsFour is four
+
+joined : (value : List ℕ) (name : List Field) (later : List (Result Field TlvFault)) (t : InterestSoFar) (nonce : List ℕ) → IsBytes value → Leads (elements_of value) name later → name ≢ [] → has_digest name ≡ false
+    → FieldsRead take_interest_field interest_rule interest_schema later no_fields_yet t → t.nonce ≡ Some nonce → InterestValue value (interest_made name t nonce)
+joined value name later t nonce fits l named plainly r nonce_is =
+    let inner = elements_read value ((7, l.value) ∷ r.plain) fits (l.front ∙ (λ k. read (7, l.value) ∷ r.all k)) in
+    let bytes = IsBytes-fields ((7, l.value) ∷ r.plain) (subst IsBytes inner.1 fits) in
+    let f = interest_fields r.plain r.fields t (fields_keep (λ f. IsBytes f.1) is_ignored_in_interest interest_schema r.plain r.fields r.recognised bytes.1) r.recognised r.taken in
+    let there : f.nonce ≡ Some nonce = sym (ap (λ (u : InterestSoFar). u.nonce) f.made) ∙ nonce_is in
+    let fields : r.fields ≡ fields_with f.prefix f.fresh f.hint nonce f.lifetime f.hop = f.all ∙ (λ k. flag 33 f.prefix ++ (flag 18 f.fresh ++ (optional 30 f.hint ++ (optional 10 (there k) ++ (optional 12 f.lifetime ++ optional 34 f.hop))))) in
+    let parts : InterestValue value (plain_of name f.prefix f.fresh nonce (unwrap_or f.number 4000) f.limit) = record {
+      name_value = l.value;
+      hint = f.hint;
+      lifetime_value = f.lifetime;
+      hop_value = f.hop;
+      elements = r.plain;
+      inner = inner;
+      recognised = subst (Fields is_ignored_in_interest interest_schema r.plain) fields r.recognised;
+      name_is = name_found l.value name bytes.0 l.name_is;
+      named = named;
+      undigested = undigested name plainly;
+      nonce_is = nonce_there f.nonce nonce there f.four;
+      lifetime_is = (f.number, f.number_is, refl);
+      hop_is = f.limit_is;
+      made = refl;
+    } in
+    subst (λ (u : InterestSoFar). InterestValue value (interest_made name u nonce)) (sym f.made) parts
+
+after_name : (value : List ℕ) (first : List Field × List (Result Field TlvFault)) (t : InterestSoFar) (i : PlainInterest) → IsBytes value → leading_name_at (elements_of value) ≡ Ok first → first.0 ≢ []
+    → read_fields take_interest_field no_fields_yet (fields_from interest_rule interest_schema first.1) ≡ Ok t
+    → (found_or NoNonce t.nonce >>= λ nonce. cond (has_digest first.0) (Err DigestWithout) (good (interest_made first.0 t nonce))) ≡ Ok i → InterestValue value i
+after_name value first t i fits name_is named fields_are e =
+    let n = bind_ok (found_or NoNonce t.nonce) (λ nonce. cond (has_digest first.0) (Err DigestWithout) (good (interest_made first.0 t nonce))) i e in
+    let g = guard_ok (has_digest first.0) DigestWithout (good (interest_made first.0 t n.0)) i n.2 in
+    subst (InterestValue value) (ok_is (interest_made first.0 t n.0) i g.1)
+    (joined value first.0 first.1 t n.0 fits (lead (elements_of value) first name_is) named g.0
+    (fields_found take_interest_field interest_rule interest_schema first.1 no_fields_yet t fields_are) (found_some NoNonce t.nonce n.0 n.1))
 
 pub interest_found : (value : List ℕ) (i : PlainInterest) → IsBytes value → interest_at value ≡ Ok i → InterestValue value i
-interest_found value i fits e = let p = interest_parts value i e in joined value p.name p.later i fits p.leads p.named p.nonce
+unfolding interest_at
+interest_found value i fits e =
+    let a = bind_ok (leading_name_at (elements_of value))
+    (λ first. cond (is_nil first.0) (Err NoName) (good first.0) >>= λ name. read_fields take_interest_field no_fields_yet (fields_from interest_rule interest_schema first.1)
+    >>= λ t. found_or NoNonce t.nonce >>= λ nonce. cond (has_digest name) (Err DigestWithout) (good (interest_made name t nonce))) i e in
+    let g = unless_ok (is_nil a.0.0) NoName a.0.0
+    (λ name. read_fields take_interest_field no_fields_yet (fields_from interest_rule interest_schema a.0.1)
+    >>= λ t. found_or NoNonce t.nonce >>= λ nonce. cond (has_digest name) (Err DigestWithout) (good (interest_made name t nonce))) i a.2 in
+    let b = bind_ok (read_fields take_interest_field no_fields_yet (fields_from interest_rule interest_schema a.0.1))
+    (λ t. found_or NoNonce t.nonce >>= λ nonce. cond (has_digest a.0.0) (Err DigestWithout) (good (interest_made a.0.0 t nonce))) i g.1 in
+    after_name value a.0 b.0 i fits a.1 (not_nil a.0.0 g.0) b.1 b.2
+
+-- ---- what is in the grammar is read
+
+abbrev flag_value : Bool → Option (List ℕ)
+flag_value true = Some []
+flag_value false = None
+
+flag_is : (kind : ℕ) (b : Bool) → flag kind b ≡ optional kind (flag_value b)
+flag_is kind true = refl
+flag_is kind false = refl
+
+prefix_again : (b : Bool) → Took take_interest_field no_fields_yet 33 (flag_value b) (so_far b false None 4000 None)
+prefix_again true = refl
+prefix_again false = refl
+
+fresh_again : (prefix b : Bool) → Took take_interest_field (so_far prefix false None 4000 None) 18 (flag_value b) (so_far prefix b None 4000 None)
+fresh_again prefix true = refl
+fresh_again prefix false = refl
+
+hint_again : (value : Option (List ℕ)) (s : InterestSoFar) → Took take_interest_field s 30 value s
+hint_again None s = refl
+hint_again (Some v) s = refl
+
+nonce_again : (nonce : List ℕ) (prefix fresh : Bool) → length nonce ≡ 4 → Took take_interest_field (so_far prefix fresh None 4000 None) 10 (Some nonce) (so_far prefix fresh (Some nonce) 4000 None)
+nonce_again nonce prefix fresh four = rw (eq-eqb (length nonce) 4 four) refl
+
+lifetime_again : (value given : Option (List ℕ)) (prefix fresh : Bool) (n : Option ℕ) → IsNumber value n → Took take_interest_field (so_far prefix fresh given 4000 None) 12 value (so_far prefix fresh given (unwrap_or n 4000) None)
+lifetime_again None given prefix fresh n is = ap (λ (m : Option ℕ). so_far prefix fresh given (unwrap_or m 4000) None) is
+lifetime_again (Some v) given prefix fresh n is =
+    ap (λ (r : Result ℕ PacketFault). r >>= λ m. good (so_far prefix fresh given m None)) (number_again v is.0 is.1) ∙ ap (λ (m : Option ℕ). good (so_far prefix fresh given (unwrap_or m 4000) None)) (sym is.2)
+
+hop_again : (value given : Option (List ℕ)) (prefix fresh : Bool) (lifetime : ℕ) (n : Option ℕ) → IsOctet value n → Took take_interest_field (so_far prefix fresh given lifetime None) 34 value (so_far prefix fresh given lifetime n)
+hop_again None given prefix fresh lifetime n is = ap (λ (m : Option ℕ). so_far prefix fresh given lifetime m) is
+hop_again (Some v) given prefix fresh lifetime n is =
+    ap (λ (x : List ℕ). octet_at x >>= λ m. good (so_far prefix fresh given lifetime (Some m))) is.1 ∙ ap (λ (m : Option ℕ). good (so_far prefix fresh given lifetime m)) (sym is.2)
+
+fields_computed : (prefix fresh : Bool) (hint : Option (List ℕ)) (nonce : List ℕ) (lifetime hop : Option (List ℕ)) (number limit : Option ℕ) → length nonce ≡ 4 → IsNumber lifetime number → IsOctet hop limit
+    → read_fields take_interest_field no_fields_yet (map good (fields_with prefix fresh hint nonce lifetime hop)) ≡ Ok (so_far prefix fresh (Some nonce) (unwrap_or number 4000) limit)
+fields_computed prefix fresh hint nonce lifetime hop number limit four number_is limit_is =
+    let take = take_interest_field in
+    let s33 = so_far prefix false None 4000 None in
+    let s18 = so_far prefix fresh None 4000 None in
+    let s10 = so_far prefix fresh (Some nonce) 4000 None in
+    let s12 = so_far prefix fresh (Some nonce) (unwrap_or number 4000) None in
+    let s34 = so_far prefix fresh (Some nonce) (unwrap_or number 4000) limit in
+    let last = optional 34 hop in
+    let later = optional 12 lifetime ++ last in
+    ap (λ (fs : List Field). read_fields take no_fields_yet (map good fs)) (λ k. flag_is 33 prefix k ++ (flag_is 18 fresh k ++ (optional 30 hint ++ (optional 10 (Some nonce) ++ later))))
+    ∙ took_again take no_fields_yet s33 33 (flag_value prefix) (optional 18 (flag_value fresh) ++ (optional 30 hint ++ (optional 10 (Some nonce) ++ later))) (prefix_again prefix)
+    ∙ took_again take s33 s18 18 (flag_value fresh) (optional 30 hint ++ (optional 10 (Some nonce) ++ later)) (fresh_again prefix fresh)
+    ∙ took_again take s18 s18 30 hint (optional 10 (Some nonce) ++ later) (hint_again hint s18)
+    ∙ took_again take s18 s10 10 (Some nonce) later (nonce_again nonce prefix fresh four)
+    ∙ took_again take s10 s12 12 lifetime last (lifetime_again lifetime (Some nonce) prefix fresh number number_is)
+    ∙ ap (λ (fs : List Field). read_fields take s12 (map good fs)) (sym (append-nil last))
+    ∙ took_again take s12 s34 34 hop [] (hop_again hop (Some nonce) prefix fresh (unwrap_or number 4000) limit limit_is)
+
+interest_computes : (value name_value : List ℕ) (elements fields : List Field) (name : List Field) (t : InterestSoFar) (nonce : List ℕ) → IsElements value ((7, name_value) ∷ elements) → IsNameValue name_value name → name ≢ []
+    → has_digest name ≡ false → fields_from interest_rule interest_schema (map read elements) ≡ map good fields → read_fields take_interest_field no_fields_yet (map good fields) ≡ Ok t → t.nonce ≡ Some nonce
+    → interest_at value ≡ good (interest_made name t nonce)
+unfolding interest_at
+interest_computes value name_value elements fields name t nonce inner name_is named plainly fields_are taken nonce_is =
+    rw (elements_exact value ((7, name_value) ∷ elements) inner, name_again name_value name name_is, is_nil-false name named, fields_are, taken, nonce_is, plainly) refl
 
 pub interest_again : (value : List ℕ) (i : PlainInterest) → InterestValue value i → interest_at value ≡ Ok i
-unfolding interest_at
 interest_again value i h =
-    rw (
-      elements_exact value ((7, h.name_value) ∷ h.elements) h.inner,
-      name_again h.name_value i.name h.name_is,
-      is_nil-false i.name h.named,
-      fields_again interest_rule interest_schema h.elements ((10, i.nonce) ∷ []) h.recognised,
-      eq-eqb (length i.nonce) 4 h.nonce_is,
-    ) (ap (λ x. good x) h.made)
+    let t = so_far i.can_be_prefix i.must_be_fresh (Some i.nonce) (unwrap_or h.lifetime_is.0 4000) i.hop_limit in
+    let fields = fields_with i.can_be_prefix i.must_be_fresh h.hint i.nonce h.lifetime_value h.hop_value in
+    interest_computes value h.name_value h.elements fields i.name t i.nonce h.inner h.name_is h.named (no_digest i.name h.undigested) (fields_again interest_rule interest_schema h.elements fields h.recognised)
+    (fields_computed i.can_be_prefix i.must_be_fresh h.hint i.nonce h.lifetime_value h.hop_value h.lifetime_is.0 i.hop_limit h.nonce_is h.lifetime_is.1 h.hop_is) refl
+    ∙ ap (λ (lifetime : ℕ). good (plain_of i.name i.can_be_prefix i.must_be_fresh i.nonce lifetime i.hop_limit)) (sym h.lifetime_is.2) ∙ ap good h.made
+
+-- ---- the whole packet
 
 pub is_interest : (text value : List ℕ) (i : PlainInterest) → IsElement text 5 value → length text ≤ 8800 → IsBytes text → InterestValue value i → IsInterest text i
 is_interest text value i outer short fits h = record {
   name_value = h.name_value;
+  hint = h.hint;
+  lifetime_value = h.lifetime_value;
+  hop_value = h.hop_value;
   fields = record { value = value; elements = h.elements; outer = outer; inner = h.inner; recognised = h.recognised; short = short; octets = fits };
   name = h.name_is;
   named = h.named;
+  undigested = h.undigested;
   nonce = h.nonce_is;
-  can_be_prefix = ap (λ (x : PlainInterest). x.can_be_prefix) (sym h.made);
-  must_be_fresh = ap (λ (x : PlainInterest). x.must_be_fresh) (sym h.made);
-  lifetime = ap (λ (x : PlainInterest). x.lifetime) (sym h.made);
-  hop_limit = ap (λ (x : PlainInterest). x.hop_limit) (sym h.made);
+  lifetime = h.lifetime_is;
+  hop_limit = h.hop_is;
   parameters = ap (λ (x : PlainInterest). x.parameters) (sym h.made);
   signature = ap (λ (x : PlainInterest). x.signature) (sym h.made);
 }
@@ -141,11 +328,17 @@ is_interest text value i outer short fits h = record {
 pub interest_value : (text : List ℕ) (i : PlainInterest) (h : IsInterest text i) → InterestValue h.fields.value i
 interest_value text i h = record {
   name_value = h.name_value;
+  hint = h.hint;
+  lifetime_value = h.lifetime_value;
+  hop_value = h.hop_value;
   elements = h.fields.elements;
   inner = h.fields.inner;
   recognised = h.fields.recognised;
   name_is = h.name;
   named = h.named;
+  undigested = h.undigested;
   nonce_is = h.nonce;
-  made = λ k. record { name = i.name; can_be_prefix = sym h.can_be_prefix k; must_be_fresh = sym h.must_be_fresh k; nonce = i.nonce; lifetime = sym h.lifetime k; hop_limit = sym h.hop_limit k; parameters = sym h.parameters k; signature = sym h.signature k };
+  lifetime_is = h.lifetime;
+  hop_is = h.hop_limit;
+  made = λ k. record { name = i.name; can_be_prefix = i.can_be_prefix; must_be_fresh = i.must_be_fresh; nonce = i.nonce; lifetime = i.lifetime; hop_limit = i.hop_limit; parameters = sym h.parameters k; signature = sym h.signature k };
 }

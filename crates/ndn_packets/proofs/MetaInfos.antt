@@ -6,9 +6,9 @@ use Rattle.ndn_tlv.specs.Element.{Field}
 use Rattle.ndn_tlv.specs.Reading.{elements_of}
 use Rattle.ndn_tlv.proofs.Numbers.{IsBytes}
 use Rattle.ndn_tlv.proofs.Fields.{elements_exact, elements_read}
-use Rattle.ndn_packets.specs.Fields.{Fields, optional, is_ignored_in_meta_info}
-use Rattle.ndn_packets.specs.Grammar.{IsNumber, meta_schema, IsMetaInfo}
-use Rattle.ndn_packets.specs.Reading.{read_fields, meta_rule, number_at, take_meta_field, meta_at}
+use Rattle.ndn_packets.specs.Fields.{Fields, optional, is_ignored_in_meta_info, meta_schema}
+use Rattle.ndn_packets.specs.Grammar.{IsNumber, IsMetaInfo}
+use Rattle.ndn_packets.specs.Reading.{read_fields, meta_rule, nni_value_at, take_meta_field, meta_at}
 use Rattle.ndn_packets.proofs.Steps.{bind_ok, good, ok_is, IsBytes-fields}
 use Rattle.ndn_packets.proofs.FieldLists.{FieldsRead, fields_found, fields_again, fields_in, fields_keep, Took, took_first, MayBeBytes, bytes_first}
 use Rattle.ndn_packets.proofs.Numbers.{number_found, number_again}
@@ -18,7 +18,7 @@ use Rattle.ndn_packets.proofs.Numbers.{number_found, number_again}
 content_type_taken : (value : Option (List ℕ)) (s t : ℕ) → MayBeBytes value → Took take_meta_field s 24 value t → (t ≡ s) × ((n : Option ℕ) × IsNumber value n)
 content_type_taken None s t fits took = (took, (None, refl))
 content_type_taken (Some v) s t fits took =
-    let b = bind_ok (number_at v) (λ _. good s) t took in
+    let b = bind_ok (nni_value_at v) (λ _. good s) t took in
     (sym (ok_is s t b.2), (Some b.0, (b.0, number_found v b.0 fits b.1, refl)))
 
 period_taken : (value : Option (List ℕ)) (t : ℕ) → MayBeBytes value → Took take_meta_field 0 25 value t → (n : Option ℕ) × IsNumber value n × (t ≡ unwrap_or n 0)

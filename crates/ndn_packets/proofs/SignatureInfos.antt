@@ -8,9 +8,9 @@ use Rattle.ndn_tlv.proofs.Numbers.{IsBytes}
 use Rattle.ndn_tlv.proofs.Fields.{elements_exact, elements_read}
 use Rattle.ndn_packets.specs.declared.fault.PacketFault.TheVariants.{BadField}
 use Rattle.ndn_packets.specs.Packet.{PlainLocator, Missing, PlainSignatureInfo}
-use Rattle.ndn_packets.specs.Fields.{Fields, optional, is_ignored_in_signature_info}
-use Rattle.ndn_packets.specs.Grammar.{info_schema, IsNumber, IsLocator, IsSignatureInfo}
-use Rattle.ndn_packets.specs.Reading.{fields_from, read_fields, number_at, info_rule, InfoSoFar, no_info_yet, take_info_field, found_or, info_at}
+use Rattle.ndn_packets.specs.Fields.{Fields, optional, is_ignored_in_signature_info, info_schema}
+use Rattle.ndn_packets.specs.Grammar.{IsNumber, IsLocator, IsSignatureInfo}
+use Rattle.ndn_packets.specs.Reading.{fields_from, read_fields, nni_value_at, info_rule, InfoSoFar, no_info_yet, take_info_field, found_or, info_at}
 use Rattle.ndn_packets.proofs.Steps.{bind_ok, good, ok_is, found_some, some_is, none_is_not_some, IsBytes-fields}
 use Rattle.ndn_packets.proofs.FieldLists.{fields_found, fields_again, InSchema, fields_in, Took, took_first, took_again, fields_keep, MayBeBytes, AreBytes, bytes_first}
 use Rattle.ndn_packets.proofs.Numbers.{number_found, number_again}
@@ -24,9 +24,9 @@ info_of t kind = record { kind = kind; locator = t.locator; time = t.time; seq =
 
 -- ---- what one field that may be absent says
 
-number_taken : (v : List ℕ) (made : ℕ → InfoSoFar) (t : InfoSoFar) → IsBytes v → (number_at v >>= λ n. good (made n)) ≡ Ok t → (n : ℕ) × IsNni v n × (t ≡ made n)
+number_taken : (v : List ℕ) (made : ℕ → InfoSoFar) (t : InfoSoFar) → IsBytes v → (nni_value_at v >>= λ n. good (made n)) ≡ Ok t → (n : ℕ) × IsNni v n × (t ≡ made n)
 number_taken v made t fits took =
-    let b = bind_ok (number_at v) (λ n. good (made n)) t took in
+    let b = bind_ok (nni_value_at v) (λ n. good (made n)) t took in
     (b.0, number_found v b.0 fits b.1, sym (ok_is (made b.0) t b.2))
 
 -- the values of the fields, and what has been read of them

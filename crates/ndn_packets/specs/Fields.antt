@@ -1,9 +1,10 @@
--- Which elements of a list are the fields of a schema (NDN Packet Format 0.3, "Interest Packet", "Data Packet", "Considerations for Evolvability of TLV-Based Encoding").
-use Rattle.std.specs.Prelude.{◌≡◌, ◌≢◌, ℕ, ◌⊎◌, ◌%◌, List, [], ◌∷◌, ◌++◌, Option, None, Some, Bool, true, false, nat_le, ◌==◌, ◌&&◌, ◌||◌}
+-- Which elements of a list are the fields of a schema (NDN Packet Format 0.3, "Considerations for Evolvability of TLV-Based Encoding").
+-- What is ignored inside a MetaInfo and a SignatureInfo is this profile's choice.
+use Rattle.std.specs.Prelude.{◌≡◌, ◌≢◌, ℕ, ◌⊎◌, ◌%◌, List, [], ◌∷◌, ◌++◌, Option, None, Some, Bool, true, false, nat_le, ◌==◌, ◌&&◌, ◌||◌, not}
 use Rattle.std.specs.List.{AllByRecursion}
 use Rattle.ndn_tlv.specs.Element.{Field}
 
--- elements that a reader may ignore: of an even type from 32 on
+-- the types that are ignored where an element is no field: even ones from 32 on
 abbrev pub is_even_high : ℕ → Bool
 is_even_high kind = nat_le 32 kind && (kind % 2 == 0)
 
@@ -15,9 +16,22 @@ is_ignored_in_meta_info kind = is_even_high kind || (nat_le 128 kind && nat_le k
 abbrev pub is_ignored_in_signature_info : ℕ → Bool
 is_ignored_in_signature_info kind = is_even_high kind || kind == 253
 
--- in an Interest of this profile, so far, none
-abbrev pub is_never_ignored : ℕ → Bool
-is_never_ignored kind = false
+-- in an Interest those of a Data, but for ApplicationParameters, which this profile does not read yet
+abbrev pub is_ignored_in_interest : ℕ → Bool
+is_ignored_in_interest kind = is_even_high kind && not (kind == 36)
+
+-- the fields of an Interest and of a Data behind their Name, of a MetaInfo and of a SignatureInfo
+abbrev pub interest_schema : List ℕ
+interest_schema = 33 ∷ 18 ∷ 30 ∷ 10 ∷ 12 ∷ 34 ∷ []
+
+abbrev pub data_schema : List ℕ
+data_schema = 20 ∷ 21 ∷ 22 ∷ 23 ∷ []
+
+abbrev pub meta_schema : List ℕ
+meta_schema = 24 ∷ 25 ∷ 26 ∷ []
+
+abbrev pub info_schema : List ℕ
+info_schema = 27 ∷ 28 ∷ 38 ∷ 40 ∷ 42 ∷ []
 
 -- the type stands in the schema, and these types stand behind it
 abbrev pub IsBefore : ℕ → List ℕ → List ℕ → Type 0
@@ -35,3 +49,8 @@ Fields ignores schema (e ∷ elements) fields =
 abbrev pub optional : ℕ → Option (List ℕ) → List Field
 optional kind None = []
 optional kind (Some value) = (kind, value) ∷ []
+
+-- a field without octets, which is there or not
+abbrev pub flag : ℕ → Bool → List Field
+flag kind true = (kind, []) ∷ []
+flag kind false = []

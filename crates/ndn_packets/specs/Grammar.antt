@@ -1,9 +1,10 @@
 -- The packets of this profile as whole texts (NDN Packet Format 0.3, "Interest Packet" and "Data Packet").
-use Rattle.std.specs.Prelude.{◌≡◌, ◌≢◌, ℕ, ◌<◌, ◌≤◌, List, [], ◌∷◌, ◌++◌, length, Option, None, Some, Bool, false, unwrap_or, slice_index}
+use Rattle.std.specs.Prelude.{◌≡◌, ◌≢◌, ℕ, ◌<◌, ◌≤◌, List, [], ◌∷◌, ◌++◌, length, Option, None, Some, Bool, unwrap_or, slice_index}
+use Rattle.std.specs.List.{AllByRecursion}
 use Rattle.ndn_tlv.specs.Number.{IsNni}
 use Rattle.ndn_tlv.specs.Element.{Field, IsElement, IsElements}
 use Rattle.ndn_names.specs.Name.{IsNameValue}
-use Rattle.ndn_packets.specs.Fields.{Fields, optional, is_even_high, is_ignored_in_meta_info, is_ignored_in_signature_info, is_never_ignored}
+use Rattle.ndn_packets.specs.Fields.{Fields, optional, flag, is_even_high, is_ignored_in_meta_info, is_ignored_in_signature_info, is_ignored_in_interest, interest_schema, data_schema, meta_schema, info_schema}
 use Rattle.ndn_packets.specs.Packet.{PlainLocator, Missing, KeyName, Digest, Other, PlainSignatureInfo, PlainInterest, PlainData, PlainFrame, AnInterest, AData}
 
 -- the text is at most 8,800 octets, one element of this type, which begins with a Name; of the elements after it these are the
@@ -17,37 +18,33 @@ pub record IsPacket (text : List ℕ) (kind : ℕ) (ignores : ℕ → Bool) (sch
   pub short : length text ≤ 8800
   pub octets : (i : ℕ) → slice_index text i < 256
 
--- the fields of an Interest and of a Data behind their Name, of a MetaInfo and of a SignatureInfo
-abbrev pub interest_schema : List ℕ
-interest_schema = 10 ∷ []
-
-abbrev pub data_schema : List ℕ
-data_schema = 20 ∷ 21 ∷ 22 ∷ 23 ∷ []
-
-abbrev pub meta_schema : List ℕ
-meta_schema = 24 ∷ 25 ∷ 26 ∷ []
-
-abbrev pub info_schema : List ℕ
-info_schema = 27 ∷ 28 ∷ 38 ∷ 40 ∷ 42 ∷ []
-
--- Interest = Name Nonce. What is not read has its absent value.
-pub record IsInterest (text : List ℕ) (i : PlainInterest) : Type 0 where
-  pub name_value : List ℕ
-  pub fields : IsPacket text 5 is_never_ignored interest_schema name_value ((10, i.nonce) ∷ [])
-  pub name : IsNameValue name_value i.name
-  pub named : i.name ≢ []
-  pub nonce : length i.nonce ≡ 4
-  pub can_be_prefix : i.can_be_prefix ≡ false
-  pub must_be_fresh : i.must_be_fresh ≡ false
-  pub lifetime : i.lifetime ≡ 4000
-  pub hop_limit : i.hop_limit ≡ None
-  pub parameters : i.parameters ≡ None
-  pub signature : i.signature ≡ None
-
 -- a NonNegativeInteger that may be absent
 abbrev pub IsNumber : Option (List ℕ) → Option ℕ → Type 0
 IsNumber None n = n ≡ None
 IsNumber (Some value) n = (k : ℕ) × IsNni value k × (n ≡ Some k)
+
+-- an octet that may be absent
+abbrev pub IsOctet : Option (List ℕ) → Option ℕ → Type 0
+IsOctet None n = n ≡ None
+IsOctet (Some value) n = (k : ℕ) × (value ≡ k ∷ []) × (n ≡ Some k)
+
+-- Interest = Name [CanBePrefix] [MustBeFresh] [ForwardingHint] Nonce [InterestLifetime] [HopLimit]. The lifetime is 4,000
+-- milliseconds where there is none. No component is a ParametersSha256Digest. What is not read has its absent value.
+pub record IsInterest (text : List ℕ) (i : PlainInterest) : Type 0 where
+  pub name_value : List ℕ
+  pub hint : Option (List ℕ)
+  pub lifetime_value : Option (List ℕ)
+  pub hop_value : Option (List ℕ)
+  pub fields : IsPacket text 5 is_ignored_in_interest interest_schema name_value
+      (flag 33 i.can_be_prefix ++ (flag 18 i.must_be_fresh ++ (optional 30 hint ++ ((10, i.nonce) ∷ (optional 12 lifetime_value ++ optional 34 hop_value)))))
+  pub name : IsNameValue name_value i.name
+  pub named : i.name ≢ []
+  pub undigested : AllByRecursion (λ c. c.0 ≢ 2) i.name
+  pub nonce : length i.nonce ≡ 4
+  pub lifetime : (n : Option ℕ) × IsNumber lifetime_value n × (i.lifetime ≡ unwrap_or n 4000)
+  pub hop_limit : IsOctet hop_value i.hop_limit
+  pub parameters : i.parameters ≡ None
+  pub signature : i.signature ≡ None
 
 -- the value of a KeyLocator is exactly one Name
 abbrev pub NamesKey : List ℕ → List Field → Type 0

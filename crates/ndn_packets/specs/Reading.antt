@@ -1,12 +1,13 @@
 -- Reading packets from left to right, with the first fault that is met (NDN Packet Format 0.3, "Interest Packet" and "Data Packet").
 use Rattle.std.specs.Prelude.{◌≡◌, ℕ, List, [], ◌∷◌, length, Option, None, Some, Result, Ok, Err, Bool, true, false, nat_lt, ◌==◌, ◌||◌, not, if◌then◌else◌}
+use Rattle.std.specs.List.{list_any}
 use Rattle.ndn_tlv.specs.declared.fault.TlvFault.{TlvFault}
 use Rattle.ndn_tlv.specs.Element.{Field}
 use Rattle.ndn_tlv.specs.Reading.{◌>>=◌, on_result, element_at, elements_of, nni_at}
 use Rattle.ndn_names.specs.Reading.{name_at}
 use Rattle.ndn_packets.specs.declared.fault.PacketFault.{PacketFault}
-use Rattle.ndn_packets.specs.declared.fault.PacketFault.TheVariants.{Tlv, NoName, CriticalUnknown, BadField, NoNonce, TooLong}
-use Rattle.ndn_packets.specs.Fields.{is_even_high, is_ignored_in_meta_info, is_ignored_in_signature_info, is_never_ignored}
+use Rattle.ndn_packets.specs.declared.fault.PacketFault.TheVariants.{Tlv, NoName, CriticalUnknown, BadField, NoNonce, DigestWithout, TooLong}
+use Rattle.ndn_packets.specs.Fields.{is_even_high, is_ignored_in_meta_info, is_ignored_in_signature_info, is_ignored_in_interest, interest_schema, data_schema, meta_schema, info_schema}
 use Rattle.ndn_packets.specs.Packet.{PlainLocator, Missing, KeyName, Digest, Other, PlainSignatureInfo, PlainInterest, PlainData, PlainFrame, AnInterest, AData}
 
 -- what of a schema stands behind a type
@@ -18,30 +19,30 @@ abbrev pub on_option : {A C : Type 0} → (A → C) → C → Option A → C
 on_option f c None = c
 on_option f c (Some x) = f x
 
--- how a reader goes over elements: which it ignores, and how it refuses the others that are no fields
+-- how a reader goes over elements: which it ignores
 pub record Rule : Type 0 where
   pub ignores : ℕ → Bool
-  pub refusal : PacketFault
 
 abbrev pub interest_rule : Rule
-interest_rule = record { ignores = is_never_ignored; refusal = BadField }
+interest_rule = record { ignores = is_ignored_in_interest }
 
 abbrev pub data_rule : Rule
-data_rule = record { ignores = is_even_high; refusal = CriticalUnknown }
+data_rule = record { ignores = is_even_high }
 
 abbrev pub meta_rule : Rule
-meta_rule = record { ignores = is_ignored_in_meta_info; refusal = CriticalUnknown }
+meta_rule = record { ignores = is_ignored_in_meta_info }
 
 abbrev pub info_rule : Rule
-info_rule = record { ignores = is_ignored_in_signature_info; refusal = CriticalUnknown }
+info_rule = record { ignores = is_ignored_in_signature_info }
 
--- The fields of a schema among elements, in the schema's order, up to the end or to the first fault, which is then the last.
+-- The fields of a schema among elements, in the schema's order, up to the end or to the first element that cannot be read or is
+-- refused, which is then the last.
 abbrev pub fields_from : Rule → List ℕ → List (Result Field TlvFault) → List (Result Field PacketFault)
 fields_from rule schema [] = []
 fields_from rule schema (Err f ∷ elements) = Err (Tlv f) ∷ []
 fields_from rule schema (Ok e ∷ elements) =
     on_option (λ later. Ok e ∷ fields_from rule later elements)
-    (if rule.ignores e.0 then fields_from rule schema elements else Err rule.refusal ∷ []) (schema_after e.0 schema)
+    (if rule.ignores e.0 then fields_from rule schema elements else Err CriticalUnknown ∷ []) (schema_after e.0 schema)
 
 -- what has been read, after each of the fields in turn
 abbrev pub read_fields : {S : Type 0} → (S → Field → Result S PacketFault) → S → List (Result Field PacketFault) → Result S PacketFault
@@ -66,48 +67,77 @@ leading_name_at elements = do
   name ← name_value_at first.0
   Ok (name, first.1)
 
--- of an Interest: its Nonce
-abbrev pub take_interest_field : Option (List ℕ) → Field → Result (Option (List ℕ)) PacketFault
-take_interest_field _ f = if length f.1 == 4 then Ok (Some f.1) else Err BadField
-
-abbrev pub interest_made : List Field → Option (List ℕ) → Result PlainInterest PacketFault
-interest_made name None = Err NoNonce
-interest_made name (Some nonce) = Ok (record {
-  name = name;
-  can_be_prefix = false;
-  must_be_fresh = false;
-  nonce = nonce;
-  lifetime = 4000;
-  hop_limit = None;
-  parameters = None;
-  signature = None;
-})
-
 abbrev pub is_nil : {A : Type 0} → List A → Bool
 is_nil [] = true
 is_nil (x ∷ xs) = false
+
+-- a value that is a number
+abbrev pub nni_value_at : List ℕ → Result ℕ PacketFault
+nni_value_at value = on_result (λ n. Ok n) (λ _. Err BadField) (nni_at value)
+
+-- of an Interest: its CanBePrefix, MustBeFresh, Nonce, InterestLifetime and HopLimit
+pub record InterestSoFar : Type 0 where
+  pub can_be_prefix : Bool
+  pub must_be_fresh : Bool
+  pub nonce : Option (List ℕ)
+  pub lifetime : ℕ
+  pub hop_limit : Option ℕ
+
+abbrev pub no_fields_yet : InterestSoFar
+no_fields_yet = record { can_be_prefix = false; must_be_fresh = false; nonce = None; lifetime = 4000; hop_limit = None }
+
+-- a value of one octet
+abbrev pub octet_at : List ℕ → Result ℕ PacketFault
+octet_at [] = Err BadField
+octet_at (k ∷ []) = Ok k
+octet_at (k ∷ l ∷ value) = Err BadField
+
+abbrev pub take_interest_field : InterestSoFar → Field → Result InterestSoFar PacketFault
+take_interest_field s f =
+    if f.0 == 33 then (if is_nil f.1 then Ok (record { can_be_prefix = true; must_be_fresh = s.must_be_fresh; nonce = s.nonce; lifetime = s.lifetime; hop_limit = s.hop_limit }) else Err BadField) else (
+    if f.0 == 18 then (if is_nil f.1 then Ok (record { can_be_prefix = s.can_be_prefix; must_be_fresh = true; nonce = s.nonce; lifetime = s.lifetime; hop_limit = s.hop_limit }) else Err BadField) else (
+    if f.0 == 10 then (if length f.1 == 4 then Ok (record { can_be_prefix = s.can_be_prefix; must_be_fresh = s.must_be_fresh; nonce = Some f.1; lifetime = s.lifetime; hop_limit = s.hop_limit }) else Err BadField) else (
+    if f.0 == 12 then (nni_value_at f.1 >>= λ n. Ok (record { can_be_prefix = s.can_be_prefix; must_be_fresh = s.must_be_fresh; nonce = s.nonce; lifetime = n; hop_limit = s.hop_limit })) else (
+    if f.0 == 34 then (octet_at f.1 >>= λ n. Ok (record { can_be_prefix = s.can_be_prefix; must_be_fresh = s.must_be_fresh; nonce = s.nonce; lifetime = s.lifetime; hop_limit = Some n })) else
+    Ok s))))
+
+abbrev pub has_digest : List Field → Bool
+has_digest name = list_any (λ c. c.0 == 2) name
+
+abbrev pub interest_made : List Field → InterestSoFar → List ℕ → PlainInterest
+interest_made name s nonce = record {
+  name = name;
+  can_be_prefix = s.can_be_prefix;
+  must_be_fresh = s.must_be_fresh;
+  nonce = nonce;
+  lifetime = s.lifetime;
+  hop_limit = s.hop_limit;
+  parameters = None;
+  signature = None;
+}
+
+abbrev pub found_or : {A : Type 0} → PacketFault → Option A → Result A PacketFault
+found_or fault None = Err fault
+found_or fault (Some x) = Ok x
 
 unfoldable pub interest_at : List ℕ → Result PlainInterest PacketFault
 interest_at value = do
   first ← leading_name_at (elements_of value)
   name ← if is_nil first.0 then Err NoName else Ok first.0
-  nonce ← read_fields take_interest_field None (fields_from interest_rule (10 ∷ []) first.1)
-  interest_made name nonce
+  s ← read_fields take_interest_field no_fields_yet (fields_from interest_rule interest_schema first.1)
+  nonce ← found_or NoNonce s.nonce
+  if has_digest name then Err DigestWithout else Ok (interest_made name s nonce)
 
--- a value that is a number
-abbrev pub number_at : List ℕ → Result ℕ PacketFault
-number_at value = on_result (λ n. Ok n) (λ _. Err BadField) (nni_at value)
-
--- of a MetaInfo: its FreshnessPeriod
+-- of a MetaInfo: its FreshnessPeriod. Its ContentType has to be a number too, and no type but these and 26 comes here.
 abbrev pub take_meta_field : ℕ → Field → Result ℕ PacketFault
 take_meta_field freshness f =
-    if f.0 == 24 then (number_at f.1 >>= λ _. Ok freshness) else (
-    if f.0 == 25 then number_at f.1 else Ok freshness)
+    if f.0 == 24 then (nni_value_at f.1 >>= λ _. Ok freshness) else (
+    if f.0 == 25 then nni_value_at f.1 else Ok freshness)
 
 unfoldable pub meta_at : List ℕ → Result ℕ PacketFault
-meta_at value = read_fields take_meta_field 0 (fields_from meta_rule (24 ∷ 25 ∷ 26 ∷ []) (elements_of value))
+meta_at value = read_fields take_meta_field 0 (fields_from meta_rule meta_schema (elements_of value))
 
--- what the one element of a KeyLocator's value says, and what follows it
+-- what a KeyLocator says: its first element, and the octets after it, of which there must be none
 abbrev pub locator_of : Field → List ℕ → PlainLocator
 locator_of e rest =
     if not (is_nil rest) then Other else (
@@ -129,19 +159,15 @@ no_info_yet = record { kind = None; locator = Missing; time = None; seq = None }
 
 abbrev pub take_info_field : InfoSoFar → Field → Result InfoSoFar PacketFault
 take_info_field s f =
-    if f.0 == 27 then (number_at f.1 >>= λ n. Ok (record { kind = Some n; locator = s.locator; time = s.time; seq = s.seq })) else (
+    if f.0 == 27 then (nni_value_at f.1 >>= λ n. Ok (record { kind = Some n; locator = s.locator; time = s.time; seq = s.seq })) else (
     if f.0 == 28 then Ok (record { kind = s.kind; locator = locator_at f.1; time = s.time; seq = s.seq }) else (
-    if f.0 == 40 then (number_at f.1 >>= λ n. Ok (record { kind = s.kind; locator = s.locator; time = Some n; seq = s.seq })) else (
-    if f.0 == 42 then (number_at f.1 >>= λ n. Ok (record { kind = s.kind; locator = s.locator; time = s.time; seq = Some n })) else
+    if f.0 == 40 then (nni_value_at f.1 >>= λ n. Ok (record { kind = s.kind; locator = s.locator; time = Some n; seq = s.seq })) else (
+    if f.0 == 42 then (nni_value_at f.1 >>= λ n. Ok (record { kind = s.kind; locator = s.locator; time = s.time; seq = Some n })) else
     Ok s)))
-
-abbrev pub found_or : {A : Type 0} → PacketFault → Option A → Result A PacketFault
-found_or fault None = Err fault
-found_or fault (Some x) = Ok x
 
 unfoldable pub info_at : List ℕ → Result PlainSignatureInfo PacketFault
 info_at value = do
-  s ← read_fields take_info_field no_info_yet (fields_from info_rule (27 ∷ 28 ∷ 38 ∷ 40 ∷ 42 ∷ []) (elements_of value))
+  s ← read_fields take_info_field no_info_yet (fields_from info_rule info_schema (elements_of value))
   kind ← found_or BadField s.kind
   Ok (record { kind = kind; locator = s.locator; time = s.time; seq = s.seq })
 
@@ -165,7 +191,7 @@ take_data_field s f =
 unfoldable pub data_at : List ℕ → Result PlainData PacketFault
 data_at value = do
   first ← leading_name_at (elements_of value)
-  s ← read_fields take_data_field nothing_yet (fields_from data_rule (20 ∷ 21 ∷ 22 ∷ 23 ∷ []) first.1)
+  s ← read_fields take_data_field nothing_yet (fields_from data_rule data_schema first.1)
   info ← found_or BadField s.info
   signature ← found_or BadField s.value
   Ok (record { name = first.0; freshness = s.freshness; content = s.content; signature = record { info = info; value = signature } })

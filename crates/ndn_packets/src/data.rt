@@ -1,5 +1,6 @@
 ghost use Rattle.std.specs.Prelude.{◌≡◌, [], ◌∷◌, Ok, Err};
 ghost use Rattle.ndn_tlv.specs.Reading.{elements_of, on_result};
+ghost use Rattle.ndn_packets.specs.Fields.{data_schema};
 ghost use Rattle.ndn_packets.specs.Reading.{data_rule, read_fields, take_data_field, nothing_yet, fields_from};
 ghost use Rattle.ndn_packets.specs.Found.{so_far};
 
@@ -82,7 +83,7 @@ impl<'a> Data<'a> {
 /// The fields behind the Name.
 fn fields_of(rest: &[u8]) -> Result<Found<'_>, PacketFault>
     ensures { on_result (λ f. Ok (so_far f)) Err result
-        ≡ read_fields take_data_field nothing_yet (fields_from data_rule (20 ∷ 21 ∷ 22 ∷ 23 ∷ []) (elements_of rest.now)) }
+        ≡ read_fields take_data_field nothing_yet (fields_from data_rule data_schema (elements_of rest.now)) }
 {
     let mut fields = FieldReader::new(Rules::Data, rest, &FIELDS);
     let mut found = Found {

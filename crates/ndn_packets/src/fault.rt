@@ -17,17 +17,20 @@ pub enum PacketFault {
     /// A packet does not begin with a Name, or an Interest's Name is empty.
     #[error("no name")]
     NoName,
-    /// An element of a Data is no field there, or no longer, and its type is odd or below 32.
+    /// An element is no field, or no longer, and its type is odd or below 32; or it is
+    /// ApplicationParameters in an Interest, which this profile does not read yet.
     #[error("an unknown element that may not be ignored")]
     CriticalUnknown,
     /// A field other than the Name and the Nonce is missing, or a field has a value that is not of
-    /// its form; or the outer type is neither 5 nor 6, or octets follow the packet; or an element of
-    /// an Interest is neither its Name nor its Nonce.
+    /// its form; or the outer type is neither 5 nor 6, or octets follow the packet.
     #[error("a field is missing, or not of its form")]
     BadField,
     /// An Interest has no Nonce.
     #[error("no nonce")]
     NoNonce,
+    /// An Interest without ApplicationParameters has a digest of them in its name.
+    #[error("a parameters digest without parameters")]
+    DigestWithout,
     /// The octets are more than 9,000, or those of a packet more than 8,800.
     #[error("too long")]
     TooLong,

@@ -1,7 +1,7 @@
 ghost use Rattle.std.specs.Prelude.{◌≡◌, ◌<◌, ℕ, List, [], ◌∷◌, length, Ok, Err, MatchResult, MatchOption, IfOk, OnSome, option_map};
 ghost use Rattle.ndn_tlv.specs.Reading.{elements_of, on_result};
 ghost use Rattle.ndn_names.specs.View.{components};
-ghost use Rattle.ndn_packets.specs.Reading.{schema_after, fields_from, leading_name_at, number_at};
+ghost use Rattle.ndn_packets.specs.Reading.{schema_after, fields_from, leading_name_at, nni_value_at};
 ghost use Rattle.ndn_packets.specs.FieldReader.{rule_of, fields_left};
 
 use crate::fault::PacketFault;
@@ -48,7 +48,7 @@ impl<'a> FieldReader<'a> {
                 return Ok(Some(element));
             }
             if !self.rules.ignores(element.kind) {
-                return Err(self.rules.refusal());
+                return Err(PacketFault::CriticalUnknown);
             }
         }
         Ok(None)
@@ -87,7 +87,7 @@ pub fn leading_name(value: &[u8]) -> Result<(Name<'_>, &[u8]), PacketFault>
 
 /// The number of a value that is a NonNegativeInteger.
 pub fn number(value: &[u8]) -> Result<u64, PacketFault>
-    ensures { result ≡ number_at value.now }
+    ensures { result ≡ nni_value_at value.now }
 {
     nni_of(value).map_err(|_| PacketFault::BadField)
 }

@@ -31,10 +31,9 @@ const INTEREST: u32 = 5;
 const DATA: u32 = 6;
 
 /// Reads octets of a link, which are one Interest or one Data of this profile (NDN Packet Format
-/// 0.3, "Interest Packet" and "Data Packet"). A Data has Name, at most one MetaInfo, at most one
-/// Content, SignatureInfo and SignatureValue, in this order, and other elements that are ignored. An
-/// Interest has exactly Name and Nonce. The octets are at most 9,000, and those of a packet at most
-/// 8,800.
+/// 0.3, "Interest Packet" and "Data Packet"). Their fields stand in the order of the standard, and
+/// other elements among them are ignored where their types allow it. ApplicationParameters of an
+/// Interest are not read yet. The octets are at most 9,000, and those of a packet at most 8,800.
 ///
 /// Refuses all else by the first fault from the left: see `PacketFault`. No signature is verified.
 pub fn read_frame(octets: &[u8]) -> Result<Frame<'_>, PacketFault>

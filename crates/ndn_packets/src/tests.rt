@@ -117,40 +117,100 @@ fn faults_of_texts(rt: HostRuntime) {
 /// Faults among the fields behind the Name of an Interest.
 #[test]
 fn faults_of_interests(rt: HostRuntime) -> Result<(), Fail> {
-    let cases: [(&[u8], PacketFault); 13] = [
-        // A second Nonce.
+    let critical = PacketFault::CriticalUnknown;
+    let bad = PacketFault::BadField;
+    let truncated = PacketFault::Tlv(TlvFault::Truncated);
+    let cases: [(&[u8], PacketFault); 27] = [
+        // A second Nonce, a second Name, fields out of order.
+        (&[10, 4, 1, 2, 3, 4, 10, 4, 1, 2, 3, 4], critical),
+        (&[7, 0, 10, 4, 1, 2, 3, 4], critical),
+        (&[10, 4, 1, 2, 3, 4, 33, 0], critical),
+        (&[10, 4, 1, 2, 3, 4, 18, 0], critical),
+        (&[18, 0, 33, 0, 10, 4, 1, 2, 3, 4], critical),
+        (&[33, 0, 33, 0, 10, 4, 1, 2, 3, 4], critical),
+        // Unknown types: odd, and even but below 32.
+        (&[241, 0, 10, 4, 1, 2, 3, 4], critical),
+        (&[20, 0, 10, 4, 1, 2, 3, 4], critical),
+        (&[0xfd, 0, 253, 0, 10, 4, 1, 2, 3, 4], critical),
+        // ApplicationParameters, which are not read yet.
+        (&[10, 4, 1, 2, 3, 4, 36, 0], critical),
+        // Flags with octets.
+        (&[33, 1, 0, 10, 4, 1, 2, 3, 4], bad),
+        (&[18, 1, 0, 10, 4, 1, 2, 3, 4], bad),
+        // A Nonce of 3, 5 and 0 octets, and none.
+        (&[10, 3, 1, 2, 3], bad),
+        (&[10, 5, 1, 2, 3, 4, 5], bad),
+        (&[10, 0], bad),
         (
-            &[10, 4, 1, 2, 3, 4, 10, 4, 1, 2, 3, 4],
-            PacketFault::BadField,
+            &[33, 0, 18, 0, 30, 0, 12, 1, 9, 34, 1, 9],
+            PacketFault::NoNonce,
         ),
-        // CanBePrefix, before and behind the Nonce, and a type that the format does not have.
-        (&[33, 0, 10, 4, 1, 2, 3, 4], PacketFault::BadField),
-        (&[10, 4, 1, 2, 3, 4, 33, 0], PacketFault::BadField),
-        (&[0xfd, 4, 0, 0, 10, 4, 1, 2, 3, 4], PacketFault::BadField),
-        // A second Name.
-        (&[7, 0, 10, 4, 1, 2, 3, 4], PacketFault::BadField),
-        // A Nonce of 3, 5 and 0 octets.
-        (&[10, 3, 1, 2, 3], PacketFault::BadField),
-        (&[10, 5, 1, 2, 3, 4, 5], PacketFault::BadField),
-        (&[10, 0], PacketFault::BadField),
-        // What stands first is told: an element that is broken itself, one before a broken one,
-        // and a broken one before one that is not allowed.
-        (&[33, 1], PacketFault::Tlv(TlvFault::Truncated)),
-        (&[33, 0, 10, 4, 1], PacketFault::BadField),
-        (&[10, 3, 1, 2, 3, 0, 0], PacketFault::BadField),
+        // A lifetime of 3 and 0 octets, a HopLimit of 2 and 0.
+        (&[10, 4, 1, 2, 3, 4, 12, 3, 0, 0, 0], bad),
+        (&[10, 4, 1, 2, 3, 4, 12, 0], bad),
+        (&[10, 4, 1, 2, 3, 4, 34, 2, 0, 0], bad),
+        (&[10, 4, 1, 2, 3, 4, 34, 0], bad),
+        // What stands first is told.
+        (&[33, 1], truncated),
+        (&[31, 0, 10, 4, 1], critical),
+        (&[10, 4, 1, 2, 3, 4, 1], truncated),
+        (&[10, 3, 1, 2, 3, 0, 0], bad),
+        (&[12, 0, 31, 0], bad),
+        (&[31, 0, 12, 0], critical),
         (
             &[10, 4, 1, 2, 3, 4, 0, 0, 33, 0],
             PacketFault::Tlv(TlvFault::TypeZero),
-        ),
-        (
-            &[0xff, 0, 0, 0, 1, 0, 0, 0, 0, 0],
-            PacketFault::Tlv(TlvFault::TypeTooLarge),
         ),
     ];
     for (fields, fault) in cases {
         let octets = packet(&rt, 5, fields)?;
         assert_eq!(rt; fault_of(&octets), Some(fault), "{fields:?}");
     }
+    // A digest of parameters in the name, and no parameters.
+    let mut octets = Vec::new(rt.alloc());
+    octets.extend_from_slice(&[5, 42, 7, 34, 2, 32])?;
+    octets.extend_from_slice(&[9; 32])?;
+    octets.extend_from_slice(&[10, 4, 1, 2, 3, 4])?;
+    assert_eq!(rt; fault_of(&octets), Some(PacketFault::DigestWithout));
+    octets[36] = 9;
+    octets[4] = 1;
+    assert_eq!(rt; fault_of(&octets), None);
+    Ok(())
+}
+
+/// An Interest with all fields, and one with elements that are ignored.
+#[test]
+fn fields_of_interests(rt: HostRuntime) -> Result<(), Fail> {
+    let fields = [
+        33, 0, // CanBePrefix
+        18, 0, // MustBeFresh
+        30, 5, 7, 3, 8, 1, 66, // ForwardingHint
+        10, 4, 1, 2, 3, 4, // Nonce
+        12, 2, 1, 0, // InterestLifetime
+        34, 1, 9, // HopLimit
+    ];
+    let octets = packet(&rt, 5, &fields)?;
+    let Frame::Interest(interest) = read_frame(&octets)? else {
+        assert!(rt; false, "it is a Data");
+        return Ok(());
+    };
+    assert!(rt; interest.can_be_prefix && interest.must_be_fresh);
+    assert_eq!(rt; interest.nonce, [1, 2, 3, 4]);
+    assert_eq!(rt; interest.lifetime, 256);
+    assert_eq!(rt; interest.hop_limit, Some(9));
+    assert!(rt; interest.parameters.is_none() && interest.signature.is_none());
+    // The types 240 and 44, which counts only behind ApplicationParameters, and a second lifetime.
+    let fields = [
+        240, 1, 0, 10, 4, 1, 2, 3, 4, 44, 0, 46, 0, 34, 1, 0, 34, 1, 7,
+    ];
+    let octets = packet(&rt, 5, &fields)?;
+    let Frame::Interest(interest) = read_frame(&octets)? else {
+        assert!(rt; false, "it is a Data");
+        return Ok(());
+    };
+    assert!(rt; !interest.can_be_prefix && !interest.must_be_fresh);
+    assert_eq!(rt; interest.lifetime, 4000);
+    assert_eq!(rt; interest.hop_limit, Some(0));
     Ok(())
 }
 
@@ -326,6 +386,20 @@ fn filled(rt: &HostRuntime, front: &[u8], zeros: usize, end: &[u8]) -> Result<Ve
     }
     octets.extend_from_slice(end)?;
     Ok(octets)
+}
+
+/// An Interest of 8,800 octets with an unknown element, and one of 8,801.
+#[test]
+fn packet_size_limit(rt: HostRuntime) -> Result<(), Fail> {
+    for (len, fault) in [(0x4d, None), (0x4e, Some(PacketFault::TooLong))] {
+        let front = [5, 0xfd, 0x22, len + 15];
+        let mut octets = filled(&rt, &front, 0, &INTEREST[2..])?;
+        octets.extend_from_slice(&[0xf0, 0xfd, 0x22, len])?;
+        let octets = filled(&rt, &octets, 0x2200 + usize::from(len), &[])?;
+        assert_eq!(rt; octets.len(), 8800 + usize::from(len) - 0x4d);
+        assert_eq!(rt; fault_of(&octets), fault);
+    }
+    Ok(())
 }
 
 #[test]
