@@ -8,3 +8,4 @@ pub mod SignatureInfos
 pub mod DataPackets
 pub mod Interests
 pub mod Packets
+pub mod Answering

@@ -1,6 +1,7 @@
 //! Interests and Data of the Named Data Networking packet format, read in place.
 #![tactic(auto)]
 
+mod answers;
 mod data;
 mod fault;
 mod field_reader;

@@ -361,8 +361,10 @@ fn key_locators(rt: HostRuntime) -> Result<(), Fail> {
 
 /// Whether the KeyLocator of this value is a Name or something else, or none where it is a digest.
 fn locator(rt: &HostRuntime, value: &[u8]) -> Result<Option<bool>, Fail> {
+    let len = u8::try_from(value.len())?;
+    let info = len.checked_add(5).ok_or("a long value")?;
     let mut fields = Vec::new(rt.alloc());
-    fields.extend_from_slice(&[22, value.len() as u8 + 5, 27, 1, 3, 28, value.len() as u8])?;
+    fields.extend_from_slice(&[22, info, 27, 1, 3, 28, len])?;
     fields.extend_from_slice(value)?;
     fields.extend_from_slice(&[23, 0])?;
     let octets = packet(rt, 6, &fields)?;
@@ -450,5 +452,52 @@ fn greatest_lengths(rt: HostRuntime) -> Result<(), Fail> {
     let other = filled(&rt, &[100, 0xfd, 0x23, 0x24], 8996, &[])?;
     assert_eq!(rt; other.len(), 9000);
     assert_eq!(rt; fault_of(&other), Some(PacketFault::BadField));
+    Ok(())
+}
+
+/// SHA-256 of DATA, by another program.
+const DIGEST: [u8; 32] = [
+    0x56, 0x1a, 0xbd, 0xfd, 0xdb, 0xd7, 0x0e, 0x72, 0x24, 0xb4, 0x40, 0xf9, 0xb4, 0x82, 0xaf, 0x5e,
+    0x1a, 0xbb, 0x75, 0x0a, 0x26, 0x7c, 0xcf, 0xd7, 0x7b, 0x4d, 0x23, 0xa0, 0xd1, 0xd4, 0x16, 0x49,
+];
+
+/// The TLV-VALUE of the full name of DATA, with another last octet where that is wanted.
+fn full_name(rt: &HostRuntime, kind: u8, change: u8) -> Result<Vec<u8>, Fail> {
+    let mut octets = Vec::new(rt.alloc());
+    octets.extend_from_slice(&NAME[2..])?;
+    octets.extend_from_slice(&[kind, 32])?;
+    octets.extend_from_slice(&DIGEST)?;
+    octets[36] ^= change;
+    Ok(octets)
+}
+
+#[test]
+fn data_answers(rt: HostRuntime) -> Result<(), Fail> {
+    let Frame::Data(data) = read_frame(&DATA)? else {
+        assert!(rt; false, "it is an Interest");
+        return Ok(());
+    };
+    assert_eq!(rt; data.digest(), DIGEST);
+    let full = full_name(&rt, 1, 0)?;
+    let cases: [(&[u8], bool, bool); 6] = [
+        // The empty name, the name, another name, a longer name, the full name.
+        (&[], false, true),
+        (&[8, 1, 65], true, true),
+        (&[8, 1, 66], false, false),
+        (&[8, 1, 65, 8, 1, 65], false, false),
+        (&full, true, true),
+        (&[8, 0], false, false),
+    ];
+    for (asked, exactly, as_prefix) in cases {
+        let asked = ndn_names::Name::read(asked)?;
+        assert_eq!(rt; data.answers(asked, false), exactly);
+        assert_eq!(rt; data.answers(asked, true), as_prefix);
+    }
+    // Another digest, and the digest under another type.
+    for (kind, change) in [(1, 1), (2, 0)] {
+        let other = full_name(&rt, kind, change)?;
+        let asked = ndn_names::Name::read(&other)?;
+        assert!(rt; !data.answers(asked, false) && !data.answers(asked, true));
+    }
     Ok(())
 }
