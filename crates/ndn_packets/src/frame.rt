@@ -1,4 +1,4 @@
-ghost use Rattle.std.specs.Prelude.{◌≡◌, [], Ok, Err, IfOk, IfErr};
+ghost use Rattle.std.specs.Prelude.{◌≡◌, ◌↔◌, ◌<◌, ℕ, List, [], slice_index, Ok, Err, IfOk, IfErr};
 ghost use Rattle.ndn_tlv.specs.Reading.{on_result};
 ghost use Rattle.ndn_packets.specs.Packet.{PlainFrame, plain_frame, whole_of};
 ghost use Rattle.ndn_packets.specs.Grammar.{IsFrame};
@@ -82,3 +82,10 @@ fn packet_of<'a>(octets: &'a [u8], kind: u32, value: &'a [u8]) -> Result<Frame<'
         Ok(Frame::Data(Data::read(octets, value)?))
     }
 }
+
+/// Law: octets are one frame at most, which `frame_at` reads.
+pub fn frames_have_one_reading()
+    ensures one { (text : List ℕ) (a b : PlainFrame) → IsFrame text a → IsFrame text b → a ≡ b }
+    ensures exact { (text : List ℕ) (frame : PlainFrame) → ((i : ℕ) → slice_index text i < 256)
+        → ((frame_at text ≡ Ok frame) ↔ IsFrame text frame) }
+{}

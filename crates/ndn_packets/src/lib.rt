@@ -13,7 +13,7 @@ mod signature;
 
 pub use data::Data;
 pub use fault::PacketFault;
-pub use frame::{Frame, read_frame};
+pub use frame::{Frame, frames_have_one_reading, read_frame};
 pub use interest::Interest;
 pub use signature::{Locator, Signature};
 

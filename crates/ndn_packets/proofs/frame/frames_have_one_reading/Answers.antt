@@ -1,0 +1,10 @@
+use Rattle.std.proofs.Common.{sym, ◌∙◌}
+use Rattle.ndn_packets.proofs.Steps.{ok_is}
+use Rattle.ndn_packets.proofs.Packets.{frame_found, frame_again}
+use Rattle.ndn_packets.proofs.frame.frames_have_one_reading.Goals as goal
+
+pub returns-clause-one : goal.returns-clause-one
+returns-clause-one c = λ text a b f g. ok_is a b (sym (frame_again text a f) ∙ frame_again text b g)
+
+pub returns-clause-exact : goal.returns-clause-exact
+returns-clause-exact c = λ text frame fits. (frame_found text frame fits, frame_again text frame)
