@@ -118,6 +118,30 @@ fn unknown_elements(rt: HostRuntime) -> Result<(), Fail> {
     )
 }
 
+/// A signed Interest whose name has the digest of its parameters goes on; with another digest or with
+/// none it does not.
+#[test]
+fn parameters_digest(rt: HostRuntime) -> Result<(), Fail> {
+    replies(
+        &rt,
+        &[
+            "up 1 local 0",
+            "up 2 far 0",
+            "in 1 1000 053807250801410220f94ff60936ca6853bcb599bc5cb729f5dd03cf3fb404e2a83484daf6d886ce530a04010203042400f0002c031b01002e00",
+            "in 1 1000 053807250801410220f94ff60936ca6853bcb599bc5cb729f5dd03cf3fb404e2a83484daf6d886ce540a04010203042400f0002c031b01002e00",
+            "in 1 1000 050d07030801410a04010203042400",
+        ],
+        &[
+            "1 passed",
+            "2 passed",
+            "3 passed",
+            "> 2 053807250801410220f94ff60936ca6853bcb599bc5cb729f5dd03cf3fb404e2a83484daf6d886ce530a04010203042400f0002c031b01002e00",
+            "4 dropped Malformed DigestWrong",
+            "5 dropped Malformed DigestMissing",
+        ],
+    )
+}
+
 /// An Interest with all fields but parameters, whose lifetime of 256 milliseconds ends at 1256, and a
 /// Data with all fields.
 #[test]

@@ -1,45 +1,91 @@
 -- The fields of a schema among elements, read one after the other.
-use Rattle.std.proofs.Common.{◌≡◌, ◌≢◌, ℕ, Bool, true, false, cond, eqb, List, [], ◌∷◌, ◌++◌, map, Option, Some, None, Result, Ok, Err, refl, sym, ap, subst, ◌∙◌, inl, inr, eq-eqb}
+use Rattle.std.proofs.Common.{◌≡◌, ◌≢◌, ℕ, Bool, true, false, cond, eqb, List, [], ◌∷◌, ◌++◌, map, Option, Some, None, Result, Ok, Err, refl, sym, ap, subst, ◌∙◌, inl, inr}
 use Rattle.std.specs.List.{AllByRecursion}
-use Rattle.std.proofs.lemmas.Bool.{eqb-true, eqb-false, ne_eqb}
+use Rattle.std.proofs.lemmas.Bool.{eqb-true, eqb-false}
 use Rattle.ndn_tlv.specs.declared.fault.TlvFault.{TlvFault}
 use Rattle.ndn_tlv.specs.Element.{Field}
 use Rattle.ndn_tlv.specs.Reading.{◌>>=◌}
 use Rattle.ndn_tlv.proofs.Numbers.{IsBytes}
 use Rattle.ndn_packets.specs.declared.fault.PacketFault.{PacketFault}
 use Rattle.ndn_packets.specs.declared.fault.PacketFault.TheVariants.{CriticalUnknown}
-use Rattle.ndn_packets.specs.Fields.{IsBefore, Fields, optional}
+use Rattle.ndn_packets.specs.Fields.{Counts, Fields, is_follower, optional}
 use Rattle.ndn_packets.specs.Reading.{schema_after, on_option, Rule, fields_from, read_fields}
-use Rattle.ndn_packets.proofs.Steps.{bind_ok, good, err_is_not_ok, read}
+use Rattle.ndn_packets.proofs.Steps.{bind_ok, good, err_is_not_ok, both_tests, read}
 
 -- ---- a type in a schema
 
-abbrev pub Lacks : ℕ → List ℕ → Type 0
+abbrev Lacks : ℕ → List ℕ → Type 0
 Lacks kind schema = AllByRecursion (λ k. k ≢ kind) schema
 
+abbrev IsBehindNone : ℕ → List ℕ → Type 0
+IsBehindNone kind schema = (later : List ℕ) → Counts kind later schema → ⊥
+
 abbrev IsAfter : ℕ → List ℕ → Option (List ℕ) → Type 0
-IsAfter kind schema None = Lacks kind schema
-IsAfter kind schema (Some later) = IsBefore kind later schema
+IsAfter kind schema None = IsBehindNone kind schema
+IsAfter kind schema (Some later) = Counts kind later schema
+
+in_nothing : (kind : ℕ) → IsBehindNone kind []
+in_nothing kind later h = at_front h.0 h.1
+  where
+    at_front : (front : List ℕ) → [] ≡ front ++ kind ∷ later → ⊥
+    at_front [] e = cc
+    at_front (k ∷ front) e = cc
+
+-- a type that is not the first of a schema stands behind the first, and is no follower
+past_first : (kind first : ℕ) (later schema : List ℕ) → first ≢ kind → Counts kind later (first ∷ schema) → Counts kind later schema × (is_follower kind ≡ false)
+past_first kind first later schema other h = at_front h.0 h.1 h.2 h.3
+  where
+    no_follower : (b : Bool) → (b ≡ true → ⊥) → b ≡ false
+    no_follower true h = absurd (h refl)
+    no_follower false h = refl
+
+    at_front : (front : List ℕ) → first ∷ schema ≡ front ++ kind ∷ later → Lacks kind front → (is_follower kind ≡ true → front ≡ []) → Counts kind later schema × (is_follower kind ≡ false)
+    at_front [] is lacks near = absurd (other cc)
+    at_front (k ∷ front) is lacks near =
+        let far : is_follower kind ≡ true → ⊥ = λ follows. (let none = near follows in cc) in
+        ((front, (cc), lacks.1, λ follows. absurd (far follows)), no_follower (is_follower kind) far)
 
 after_found : (kind : ℕ) (schema : List ℕ) → IsAfter kind schema (schema_after kind schema)
-after_found kind [] = tt
+after_found kind [] = in_nothing kind
 after_found kind (first ∷ schema) =
-    elim (eqb first kind) as (λ b. eqb first kind ≡ b → IsAfter kind (first ∷ schema) (cond b (Some schema) (schema_after kind schema))) [
-      | true ↦ λ is. ([], ap (λ (k : ℕ). k ∷ schema) (eqb-true first kind is), tt)
-      | false ↦ λ other. behind first (eqb-false first kind other) (schema_after kind schema) (after_found kind schema)
+    elim (eqb first kind) as (λ b. eqb first kind ≡ b → IsAfter kind (first ∷ schema) (cond b (Some schema) (cond (is_follower kind) None (schema_after kind schema)))) [
+      | true ↦ λ is. ([], ap (λ (k : ℕ). k ∷ schema) (eqb-true first kind is), tt, λ follows. refl)
+      | false ↦ λ differs.
+          let other : first ≢ kind = eqb-false first kind differs in
+          elim (is_follower kind) as (λ b. is_follower kind ≡ b → IsAfter kind (first ∷ schema) (cond b None (schema_after kind schema))) [
+            | true ↦ λ follows later h. both_tests (is_follower kind) (past_first kind first later schema other h).1 follows
+            | false ↦ λ plain. behind first other plain (schema_after kind schema) (after_found kind schema)
+          ] refl
     ] refl
   where
-    behind : (first : ℕ) → first ≢ kind → (r : Option (List ℕ)) → IsAfter kind schema r → IsAfter kind (first ∷ schema) r
-    behind first other None h = (other, h)
-    behind first other (Some later) h = (first ∷ h.0, ap (λ (ks : List ℕ). first ∷ ks) h.1, (other, h.2))
+    behind : (first : ℕ) → first ≢ kind → is_follower kind ≡ false → (r : Option (List ℕ)) → IsAfter kind schema r → IsAfter kind (first ∷ schema) r
+    behind first other plain None h = λ later before. h later (past_first kind first later schema other before).0
+    behind first other plain (Some later) h = (first ∷ h.0, ap (λ (ks : List ℕ). first ∷ ks) h.1, (other, h.2), λ follows. absurd (both_tests (is_follower kind) plain follows))
 
-after_again : (kind : ℕ) (front later : List ℕ) → Lacks kind front → schema_after kind (front ++ kind ∷ later) ≡ Some later
-after_again kind [] later h = rw (eq-eqb kind kind refl) refl
-after_again kind (first ∷ front) later h = rw (ne_eqb first kind h.0, after_again kind front later h.1) refl
+after_again : (kind : ℕ) (schema later : List ℕ) → Counts kind later schema → schema_after kind schema ≡ Some later
+after_again kind [] later h = absurd (in_nothing kind later h)
+after_again kind (first ∷ schema) later h =
+    elim (eqb first kind) as (λ b. eqb first kind ≡ b → cond b (Some schema) (cond (is_follower kind) None (schema_after kind schema)) ≡ Some later) [
+      | true ↦ λ is. ap (λ (ks : List ℕ). Some ks) (at_first (eqb-true first kind is) h.0 h.1 h.2)
+      | false ↦ λ differs.
+          let past = past_first kind first later schema (eqb-false first kind differs) h in
+          not_refused (is_follower kind) (schema_after kind schema) past.1 (after_again kind schema later past.0)
+    ] refl
+  where
+    at_first : first ≡ kind → (front : List ℕ) → first ∷ schema ≡ front ++ kind ∷ later → Lacks kind front → schema ≡ later
+    at_first same [] is lacks = cc
+    at_first same (k ∷ front) is lacks = absurd (lacks.0 cc)
 
-after_none : (kind : ℕ) (schema : List ℕ) → Lacks kind schema → schema_after kind schema ≡ None
-after_none kind [] h = refl
-after_none kind (first ∷ schema) h = rw (ne_eqb first kind h.0, after_none kind schema h.1) refl
+    not_refused : (b : Bool) (r : Option (List ℕ)) → b ≡ false → r ≡ Some later → cond b None r ≡ Some later
+    not_refused true r e found = absurd cc
+    not_refused false r e found = found
+
+after_none : (kind : ℕ) (schema : List ℕ) → IsBehindNone kind schema → schema_after kind schema ≡ None
+after_none kind schema none = found (schema_after kind schema) (after_found kind schema)
+  where
+    found : (r : Option (List ℕ)) → IsAfter kind schema r → r ≡ None
+    found None h = refl
+    found (Some later) h = absurd (none later h)
 
 -- ---- what a reading that succeeded has read
 
@@ -68,7 +114,7 @@ fields_found take rule schema (Ok x ∷ elements) s t e =
             recognised = inl (later, r.fields, before, refl, r.recognised);
             taken = ap (λ (q : Result _ PacketFault). q >>= λ u. read_fields take u (map good r.fields)) m.1 ∙ r.taken;
           }
-      | None ↦ λ lacks e.
+      | None ↦ λ none e.
           elim (rule.ignores x.0) as (λ b. rule.ignores x.0 ≡ b → read_fields take s (cond b (fields_from rule schema elements) (Err CriticalUnknown ∷ [])) ≡ Ok t → FieldsRead take rule schema (Ok x ∷ elements) s t) [
             | true ↦ λ ignored e.
                 let r = fields_found take rule schema elements s t e in
@@ -76,7 +122,7 @@ fields_found take rule schema (Ok x ∷ elements) s t e =
                   plain = x ∷ r.plain;
                   fields = r.fields;
                   all = ap (λ (es : List (Result Field TlvFault)). read x ∷ es) r.all;
-                  recognised = inr (lacks, ignored, r.recognised);
+                  recognised = inr (none, ignored, r.recognised);
                   taken = r.taken;
                 }
             | false ↦ λ refused e. absurd (err_is_not_ok _ t e)
@@ -86,8 +132,7 @@ fields_found take rule schema (Ok x ∷ elements) s t e =
 pub fields_again : (rule : Rule) (schema : List ℕ) (plain fields : List Field) → Fields rule.ignores schema plain fields → fields_from rule schema (map read plain) ≡ map good fields
 fields_again rule schema [] fields h = ap (map good) (sym h)
 fields_again rule schema (e ∷ plain) fields (inl h) =
-    let after = subst (λ (ks : List ℕ). schema_after e.0 ks ≡ Some h.0) (sym h.2.1) (after_again e.0 h.2.0 h.0 h.2.2) in
-    rw after (ap (λ (fs : List (Result Field PacketFault)). good e ∷ fs) (fields_again rule h.0 plain h.1 h.4) ∙ ap (map good) (sym h.3))
+    rw (after_again e.0 schema h.0 h.2) (ap (λ (fs : List (Result Field PacketFault)). good e ∷ fs) (fields_again rule h.0 plain h.1 h.4) ∙ ap (map good) (sym h.3))
 fields_again rule schema (e ∷ plain) fields (inr h) = rw (after_none e.0 schema h.0, h.1) (fields_again rule schema plain fields h.2)
 
 -- ---- the fields of a schema are fields that may be absent, in its order

@@ -6,6 +6,8 @@ pub mod Locators
 pub mod MetaInfos
 pub mod SignatureInfos
 pub mod DataPackets
+pub mod Parameters
+pub mod Digests
 pub mod Interests
 pub mod Packets
 pub mod Answering

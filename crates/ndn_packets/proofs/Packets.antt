@@ -93,7 +93,7 @@ frame_found text f fits e =
 pub frame_again : (text : List ℕ) (f : PlainFrame) → IsFrame text f → frame_at text ≡ Ok f
 unfolding frame_at
 frame_again text (AnInterest i) h =
-    rw (le-ltb 9000 (length text) (omega (arith, h.fields.short)), element_alone text h.fields.value 5 h.fields.outer, le-ltb 8800 (length text) h.fields.short, interest_again h.fields.value i (interest_value text i h)) refl
+    rw (le-ltb 9000 (length text) (omega (arith, h.fields.short)), element_alone text h.fields.value 5 h.fields.outer, le-ltb 8800 (length text) h.fields.short, interest_again h.fields.value i (IsBytes-inside text h.fields.value 5 h.fields.octets h.fields.outer) (interest_value text i h)) refl
 frame_again text (AData d) h =
     rw (le-ltb 9000 (length text) (omega (arith, h.fields.short)), element_alone text h.fields.value 6 h.fields.outer, le-ltb 8800 (length text) h.fields.short, data_again h.fields.value d (IsBytes-inside text h.fields.value 6 h.fields.octets h.fields.outer) (data_value text d h)) refl
 

@@ -1,18 +1,25 @@
 -- What a reader of fields has left.
-use Rattle.std.specs.Prelude.{List, Result}
+use Rattle.std.specs.Prelude.{◌≡◌, ◌∷◌, List, Result, Ok, Some, IsSome}
 use Rattle.ndn_tlv.specs.Element.{Field}
 use Rattle.ndn_tlv.specs.Reading.{elements_of}
 use Rattle.ndn_packets.specs.declared.fault.PacketFault.{PacketFault}
 use Rattle.ndn_packets.specs.declared.field_reader.FieldReader.{FieldReader}
 use Rattle.ndn_packets.specs.declared.schema.Rules.{Rules}
 use Rattle.ndn_packets.specs.declared.schema.Rules.TheVariants as rules
-use Rattle.ndn_packets.specs.Reading.{Rule, interest_rule, data_rule, meta_rule, info_rule, fields_from}
+use Rattle.ndn_tlv.specs.declared.element.Element.{Element}
+use Rattle.ndn_packets.specs.Reading.{schema_after, parameters_on, Rule, packet_rule, meta_rule, info_rule, fields_from}
 
 abbrev pub rule_of : Rules → Rule
-rule_of rules.Interest = interest_rule
-rule_of rules.Data = data_rule
+rule_of rules.Packet = packet_rule
 rule_of rules.MetaInfo = meta_rule
 rule_of rules.SignatureInfo = info_rule
 
 abbrev pub fields_left : FieldReader → List (Result Field PacketFault)
 fields_left f = fields_from (rule_of f.rules) f.schema.now (elements_of f.rest.now)
+
+-- where the field e stands that a reader just gave: its octets and those after it; nothing before it is ApplicationParameters,
+-- where these could still come
+pub record StandsHere (before after : FieldReader) (e : Element) : Type 0 where
+  pub here : elements_of after.here.now ≡ Ok (e.kind, e.value.now) ∷ elements_of after.rest.now
+  pub schema : schema_after e.kind before.schema.now ≡ Some after.schema.now
+  pub parameters : IsSome (schema_after 36 before.schema.now) → parameters_on (elements_of before.rest.now) ≡ parameters_on (elements_of after.here.now)

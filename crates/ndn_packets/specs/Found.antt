@@ -1,6 +1,10 @@
 -- What readers have found so far, without where it lies in memory.
+use Rattle.std.specs.Prelude.{◌≡◌, List, [], ◌∷◌}
 use Rattle.std.specs.Option.{option_map}
 use Rattle.ndn_packets.specs.declared.data.Found.{Found}
+use Rattle.ndn_tlv.specs.Element.{Field}
+use Rattle.ndn_packets.specs.declared.interest.Digests.{Digests}
+use Rattle.ndn_packets.specs.declared.interest.Digests.TheVariants as digests
 use Rattle.ndn_packets.specs.declared.interest.Found.{Found as InterestFound}
 use Rattle.ndn_packets.specs.declared.signature.Found.{Found as InfoFound}
 use Rattle.ndn_packets.specs.declared.signature.SignatureInfo.{SignatureInfo}
@@ -17,4 +21,19 @@ abbrev pub so_far : Found → DataSoFar
 so_far f = record { freshness = f.freshness; content = option_map (λ c. c.now) f.content; info = option_map plain_info f.info; value = option_map (λ v. v.now) f.value }
 
 abbrev pub interest_so_far : InterestFound → InterestSoFar
-interest_so_far f = record { can_be_prefix = f.can_be_prefix; must_be_fresh = f.must_be_fresh; nonce = f.nonce; lifetime = f.lifetime; hop_limit = f.hop_limit }
+interest_so_far f = record {
+  can_be_prefix = f.can_be_prefix;
+  must_be_fresh = f.must_be_fresh;
+  nonce = f.nonce;
+  lifetime = f.lifetime;
+  hop_limit = f.hop_limit;
+  parameters = option_map (λ p. p.now) f.parameters;
+  info = option_map plain_info f.info;
+  value = option_map (λ v. v.now) f.value;
+}
+
+-- the digests of parameters in a name
+abbrev pub AreDigests : Digests → List Field → Type 0
+AreDigests digests.None all = all ≡ []
+AreDigests (digests.One digest) all = all ≡ (2, digest.now) ∷ []
+AreDigests digests.Many all = (d e : Field) × (others : List Field) × (all ≡ d ∷ e ∷ others)

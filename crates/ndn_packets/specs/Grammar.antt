@@ -1,11 +1,12 @@
 -- The packets of this profile as whole texts (NDN Packet Format 0.3, "Interest Packet" and "Data Packet").
-use Rattle.std.specs.Prelude.{◌≡◌, ◌≢◌, ℕ, ◌<◌, ◌≤◌, List, [], ◌∷◌, ◌++◌, length, Option, None, Some, Bool, unwrap_or, slice_index}
-use Rattle.std.specs.List.{AllByRecursion}
+use Rattle.std.specs.Prelude.{◌≡◌, ◌≢◌, ℕ, ◌<◌, ◌≤◌, List, [], ◌∷◌, ◌++◌, length, Option, None, Some, Bool, unwrap_or, slice_index, flat_map, ◌==◌, if◌then◌else◌}
 use Rattle.ndn_tlv.specs.Number.{IsNni}
-use Rattle.ndn_tlv.specs.Element.{Field, IsElement, IsElements}
+use Rattle.sha2.specs.Sha256.{sha256}
+use Rattle.ndn_tlv.specs.Element.{Field, element, IsElement, IsElements}
 use Rattle.ndn_names.specs.Name.{IsNameValue}
-use Rattle.ndn_packets.specs.Fields.{Fields, optional, flag, is_even_high, is_ignored_in_meta_info, is_ignored_in_signature_info, is_ignored_in_interest, interest_schema, data_schema, meta_schema, info_schema}
-use Rattle.ndn_packets.specs.Packet.{PlainLocator, Missing, KeyName, Digest, Other, PlainSignatureInfo, PlainInterest, PlainData, PlainFrame, AnInterest, AData}
+use Rattle.ndn_packets.specs.Packet.{digests_in}
+use Rattle.ndn_packets.specs.Fields.{Fields, optional, flag, is_even_high, is_ignored_in_meta_info, is_ignored_in_signature_info, interest_schema, data_schema, meta_schema, info_schema}
+use Rattle.ndn_packets.specs.Packet.{PlainLocator, Missing, KeyName, Digest, Other, PlainSignatureInfo, PlainSignature, PlainInterest, PlainData, PlainFrame, AnInterest, AData}
 
 -- the text is at most 8,800 octets, one element of this type, which begins with a Name; of the elements after it these are the
 -- fields of the schema, and all others are ignored
@@ -27,24 +28,6 @@ IsNumber (Some value) n = (k : ℕ) × IsNni value k × (n ≡ Some k)
 abbrev pub IsOctet : Option (List ℕ) → Option ℕ → Type 0
 IsOctet None n = n ≡ None
 IsOctet (Some value) n = (k : ℕ) × (value ≡ k ∷ []) × (n ≡ Some k)
-
--- Interest = Name [CanBePrefix] [MustBeFresh] [ForwardingHint] Nonce [InterestLifetime] [HopLimit]. The lifetime is 4,000
--- milliseconds where there is none. No component is a ParametersSha256Digest. What is not read has its absent value.
-pub record IsInterest (text : List ℕ) (i : PlainInterest) : Type 0 where
-  pub name_value : List ℕ
-  pub hint : Option (List ℕ)
-  pub lifetime_value : Option (List ℕ)
-  pub hop_value : Option (List ℕ)
-  pub fields : IsPacket text 5 is_ignored_in_interest interest_schema name_value
-      (flag 33 i.can_be_prefix ++ (flag 18 i.must_be_fresh ++ (optional 30 hint ++ ((10, i.nonce) ∷ (optional 12 lifetime_value ++ optional 34 hop_value)))))
-  pub name : IsNameValue name_value i.name
-  pub named : i.name ≢ []
-  pub undigested : AllByRecursion (λ c. c.0 ≢ 2) i.name
-  pub nonce : length i.nonce ≡ 4
-  pub lifetime : (n : Option ℕ) × IsNumber lifetime_value n × (i.lifetime ≡ unwrap_or n 4000)
-  pub hop_limit : IsOctet hop_value i.hop_limit
-  pub parameters : i.parameters ≡ None
-  pub signature : i.signature ≡ None
 
 -- the value of a KeyLocator is exactly one Name
 abbrev pub NamesKey : List ℕ → List Field → Type 0
@@ -88,6 +71,45 @@ pub record IsSignatureInfo (text : List ℕ) (s : PlainSignatureInfo) : Type 0 w
   pub locator : IsLocator locator_value s.locator
   pub time : IsNumber time_value s.time
   pub seq : IsNumber seq_value s.seq
+
+-- the elements from the first of ApplicationParameters on, which is the one that counts, to the packet's end
+abbrev pub from_parameters : List Field → List Field
+from_parameters [] = []
+from_parameters (e ∷ elements) = if e.0 == 36 then e ∷ elements else from_parameters elements
+
+-- The name of an Interest without parameters has no digest of them. That of one with parameters has exactly one, at any place:
+-- SHA-256 of the octets from them to the packet's end. The elements are all those behind the Name.
+abbrev pub IsDigested : List Field → List Field → Option (List ℕ) → Type 0
+IsDigested name elements None = digests_in name ≡ []
+IsDigested name elements (Some parameters) = digests_in name ≡ (2, sha256 (flat_map element (from_parameters elements))) ∷ []
+
+-- An Interest is signed where it has both an InterestSignatureInfo and an InterestSignatureValue. The first alone has to be right
+-- too.
+abbrev pub IsSigned : Option (List ℕ) → Option (List ℕ) → Option PlainSignature → Type 0
+IsSigned None value signature = signature ≡ None
+IsSigned (Some info_value) None signature = (info : PlainSignatureInfo) × IsSignatureInfo info_value info × (signature ≡ None)
+IsSigned (Some info_value) (Some value) signature =
+    (info : PlainSignatureInfo) × IsSignatureInfo info_value info × (signature ≡ Some (record { info = info; value = value }))
+
+-- Interest = Name [CanBePrefix] [MustBeFresh] [ForwardingHint] Nonce [InterestLifetime] [HopLimit]
+-- [ApplicationParameters [InterestSignatureInfo [InterestSignatureValue]]]. The lifetime is 4,000 milliseconds where there is none.
+pub record IsInterest (text : List ℕ) (i : PlainInterest) : Type 0 where
+  pub name_value : List ℕ
+  pub hint : Option (List ℕ)
+  pub lifetime_value : Option (List ℕ)
+  pub hop_value : Option (List ℕ)
+  pub info_value : Option (List ℕ)
+  pub signature_value : Option (List ℕ)
+  pub fields : IsPacket text 5 is_even_high interest_schema name_value
+      (flag 33 i.can_be_prefix ++ (flag 18 i.must_be_fresh ++ (optional 30 hint ++ ((10, i.nonce) ∷ (optional 12 lifetime_value ++ (optional 34 hop_value
+      ++ (optional 36 i.parameters ++ (optional 44 info_value ++ optional 46 signature_value))))))))
+  pub name : IsNameValue name_value i.name
+  pub named : i.name ≢ []
+  pub nonce : length i.nonce ≡ 4
+  pub lifetime : (n : Option ℕ) × IsNumber lifetime_value n × (i.lifetime ≡ unwrap_or n 4000)
+  pub hop_limit : IsOctet hop_value i.hop_limit
+  pub digested : IsDigested i.name fields.elements i.parameters
+  pub signature : IsSigned info_value signature_value i.signature
 
 -- a MetaInfo that may be absent
 abbrev pub IsFreshness : Option (List ℕ) → ℕ → Type 0

@@ -1,5 +1,5 @@
 -- Packets as plain data: what a view shows, without where it lies in memory.
-use Rattle.std.specs.Prelude.{ℕ, List, Option, Bool}
+use Rattle.std.specs.Prelude.{ℕ, List, Option, Bool, filter, ◌==◌}
 use Rattle.ndn_tlv.specs.Element.{Field}
 use Rattle.ndn_names.specs.View.{components}
 use Rattle.ndn_packets.specs.declared.signature.Locator.{Locator}
@@ -46,6 +46,10 @@ pub record PlainData : Type 0 where
 pub data PlainFrame : Type 0 where
   AnInterest : PlainInterest → PlainFrame
   AData : PlainData → PlainFrame
+
+-- the components of a name that are digests of parameters
+abbrev pub digests_in : List Field → List Field
+digests_in name = filter (λ c. c.0 == 2) name
 
 abbrev pub plain_locator : Locator → PlainLocator
 plain_locator locators.Missing = Missing

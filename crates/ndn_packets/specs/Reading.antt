@@ -1,19 +1,22 @@
 -- Reading packets from left to right, with the first fault that is met (NDN Packet Format 0.3, "Interest Packet" and "Data Packet").
 use Rattle.std.specs.Prelude.{◌≡◌, ℕ, List, [], ◌∷◌, length, Option, None, Some, Result, Ok, Err, Bool, true, false, nat_lt, ◌==◌, ◌||◌, not, if◌then◌else◌}
-use Rattle.std.specs.List.{list_any}
+use Rattle.std.specs.List.{filter_map, flat_map}
+use Rattle.std.specs.Result.{result_ok}
+use Rattle.std.specs.Str.{bytes_eq}
+use Rattle.sha2.specs.Sha256.{sha256}
 use Rattle.ndn_tlv.specs.declared.fault.TlvFault.{TlvFault}
-use Rattle.ndn_tlv.specs.Element.{Field}
+use Rattle.ndn_tlv.specs.Element.{Field, element}
 use Rattle.ndn_tlv.specs.Reading.{◌>>=◌, on_result, element_at, elements_of, nni_at}
 use Rattle.ndn_names.specs.Reading.{name_at}
 use Rattle.ndn_packets.specs.declared.fault.PacketFault.{PacketFault}
-use Rattle.ndn_packets.specs.declared.fault.PacketFault.TheVariants.{Tlv, NoName, CriticalUnknown, BadField, NoNonce, DigestWithout, TooLong}
-use Rattle.ndn_packets.specs.Fields.{is_even_high, is_ignored_in_meta_info, is_ignored_in_signature_info, is_ignored_in_interest, interest_schema, data_schema, meta_schema, info_schema}
-use Rattle.ndn_packets.specs.Packet.{PlainLocator, Missing, KeyName, Digest, Other, PlainSignatureInfo, PlainInterest, PlainData, PlainFrame, AnInterest, AData}
+use Rattle.ndn_packets.specs.declared.fault.PacketFault.TheVariants.{Tlv, NoName, CriticalUnknown, BadField, NoNonce, DigestMissing, DigestWrong, DigestWithout, TooLong}
+use Rattle.ndn_packets.specs.Fields.{is_even_high, is_ignored_in_meta_info, is_ignored_in_signature_info, is_follower, interest_schema, data_schema, meta_schema, info_schema}
+use Rattle.ndn_packets.specs.Packet.{digests_in, PlainLocator, Missing, KeyName, Digest, Other, PlainSignatureInfo, PlainSignature, PlainInterest, PlainData, PlainFrame, AnInterest, AData}
 
--- what of a schema stands behind a type
+-- what of a schema stands behind a type that counts in it
 abbrev pub schema_after : ℕ → List ℕ → Option (List ℕ)
 schema_after kind [] = None
-schema_after kind (first ∷ schema) = if first == kind then Some schema else schema_after kind schema
+schema_after kind (first ∷ schema) = if first == kind then Some schema else (if is_follower kind then None else schema_after kind schema)
 
 abbrev pub on_option : {A C : Type 0} → (A → C) → C → Option A → C
 on_option f c None = c
@@ -23,11 +26,8 @@ on_option f c (Some x) = f x
 pub record Rule : Type 0 where
   pub ignores : ℕ → Bool
 
-abbrev pub interest_rule : Rule
-interest_rule = record { ignores = is_ignored_in_interest }
-
-abbrev pub data_rule : Rule
-data_rule = record { ignores = is_even_high }
+abbrev pub packet_rule : Rule
+packet_rule = record { ignores = is_even_high }
 
 abbrev pub meta_rule : Rule
 meta_rule = record { ignores = is_ignored_in_meta_info }
@@ -75,58 +75,9 @@ is_nil (x ∷ xs) = false
 abbrev pub nni_value_at : List ℕ → Result ℕ PacketFault
 nni_value_at value = on_result (λ n. Ok n) (λ _. Err BadField) (nni_at value)
 
--- of an Interest: its CanBePrefix, MustBeFresh, Nonce, InterestLifetime and HopLimit
-pub record InterestSoFar : Type 0 where
-  pub can_be_prefix : Bool
-  pub must_be_fresh : Bool
-  pub nonce : Option (List ℕ)
-  pub lifetime : ℕ
-  pub hop_limit : Option ℕ
-
-abbrev pub no_fields_yet : InterestSoFar
-no_fields_yet = record { can_be_prefix = false; must_be_fresh = false; nonce = None; lifetime = 4000; hop_limit = None }
-
--- a value of one octet
-abbrev pub octet_at : List ℕ → Result ℕ PacketFault
-octet_at [] = Err BadField
-octet_at (k ∷ []) = Ok k
-octet_at (k ∷ l ∷ value) = Err BadField
-
-abbrev pub take_interest_field : InterestSoFar → Field → Result InterestSoFar PacketFault
-take_interest_field s f =
-    if f.0 == 33 then (if is_nil f.1 then Ok (record { can_be_prefix = true; must_be_fresh = s.must_be_fresh; nonce = s.nonce; lifetime = s.lifetime; hop_limit = s.hop_limit }) else Err BadField) else (
-    if f.0 == 18 then (if is_nil f.1 then Ok (record { can_be_prefix = s.can_be_prefix; must_be_fresh = true; nonce = s.nonce; lifetime = s.lifetime; hop_limit = s.hop_limit }) else Err BadField) else (
-    if f.0 == 10 then (if length f.1 == 4 then Ok (record { can_be_prefix = s.can_be_prefix; must_be_fresh = s.must_be_fresh; nonce = Some f.1; lifetime = s.lifetime; hop_limit = s.hop_limit }) else Err BadField) else (
-    if f.0 == 12 then (nni_value_at f.1 >>= λ n. Ok (record { can_be_prefix = s.can_be_prefix; must_be_fresh = s.must_be_fresh; nonce = s.nonce; lifetime = n; hop_limit = s.hop_limit })) else (
-    if f.0 == 34 then (octet_at f.1 >>= λ n. Ok (record { can_be_prefix = s.can_be_prefix; must_be_fresh = s.must_be_fresh; nonce = s.nonce; lifetime = s.lifetime; hop_limit = Some n })) else
-    Ok s))))
-
-abbrev pub has_digest : List Field → Bool
-has_digest name = list_any (λ c. c.0 == 2) name
-
-abbrev pub interest_made : List Field → InterestSoFar → List ℕ → PlainInterest
-interest_made name s nonce = record {
-  name = name;
-  can_be_prefix = s.can_be_prefix;
-  must_be_fresh = s.must_be_fresh;
-  nonce = nonce;
-  lifetime = s.lifetime;
-  hop_limit = s.hop_limit;
-  parameters = None;
-  signature = None;
-}
-
 abbrev pub found_or : {A : Type 0} → PacketFault → Option A → Result A PacketFault
 found_or fault None = Err fault
 found_or fault (Some x) = Ok x
-
-unfoldable pub interest_at : List ℕ → Result PlainInterest PacketFault
-interest_at value = do
-  first ← leading_name_at (elements_of value)
-  name ← if is_nil first.0 then Err NoName else Ok first.0
-  s ← read_fields take_interest_field no_fields_yet (fields_from interest_rule interest_schema first.1)
-  nonce ← found_or NoNonce s.nonce
-  if has_digest name then Err DigestWithout else Ok (interest_made name s nonce)
 
 -- of a MetaInfo: its FreshnessPeriod. Its ContentType has to be a number too, and no type but these and 26 comes here.
 abbrev pub take_meta_field : ℕ → Field → Result ℕ PacketFault
@@ -171,6 +122,106 @@ info_at value = do
   kind ← found_or BadField s.kind
   Ok (record { kind = kind; locator = s.locator; time = s.time; seq = s.seq })
 
+-- of an Interest: its CanBePrefix, MustBeFresh, Nonce, InterestLifetime, HopLimit, ApplicationParameters, InterestSignatureInfo and
+-- InterestSignatureValue
+pub record InterestSoFar : Type 0 where
+  pub can_be_prefix : Bool
+  pub must_be_fresh : Bool
+  pub nonce : Option (List ℕ)
+  pub lifetime : ℕ
+  pub hop_limit : Option ℕ
+  pub parameters : Option (List ℕ)
+  pub info : Option PlainSignatureInfo
+  pub value : Option (List ℕ)
+
+abbrev pub no_fields_yet : InterestSoFar
+no_fields_yet = record { can_be_prefix = false; must_be_fresh = false; nonce = None; lifetime = 4000; hop_limit = None; parameters = None; info = None; value = None }
+
+-- a value of one octet
+abbrev pub octet_at : List ℕ → Result ℕ PacketFault
+octet_at [] = Err BadField
+octet_at (k ∷ []) = Ok k
+octet_at (k ∷ l ∷ value) = Err BadField
+
+abbrev pub with_can_be_prefix : InterestSoFar → InterestSoFar
+with_can_be_prefix s = record { can_be_prefix = true; must_be_fresh = s.must_be_fresh; nonce = s.nonce; lifetime = s.lifetime; hop_limit = s.hop_limit; parameters = s.parameters; info = s.info; value = s.value }
+
+abbrev pub with_must_be_fresh : InterestSoFar → InterestSoFar
+with_must_be_fresh s = record { can_be_prefix = s.can_be_prefix; must_be_fresh = true; nonce = s.nonce; lifetime = s.lifetime; hop_limit = s.hop_limit; parameters = s.parameters; info = s.info; value = s.value }
+
+abbrev pub with_nonce : InterestSoFar → List ℕ → InterestSoFar
+with_nonce s nonce = record { can_be_prefix = s.can_be_prefix; must_be_fresh = s.must_be_fresh; nonce = Some nonce; lifetime = s.lifetime; hop_limit = s.hop_limit; parameters = s.parameters; info = s.info; value = s.value }
+
+abbrev pub with_lifetime : InterestSoFar → ℕ → InterestSoFar
+with_lifetime s lifetime = record { can_be_prefix = s.can_be_prefix; must_be_fresh = s.must_be_fresh; nonce = s.nonce; lifetime = lifetime; hop_limit = s.hop_limit; parameters = s.parameters; info = s.info; value = s.value }
+
+abbrev pub with_hop_limit : InterestSoFar → ℕ → InterestSoFar
+with_hop_limit s limit = record { can_be_prefix = s.can_be_prefix; must_be_fresh = s.must_be_fresh; nonce = s.nonce; lifetime = s.lifetime; hop_limit = Some limit; parameters = s.parameters; info = s.info; value = s.value }
+
+abbrev pub with_parameters : InterestSoFar → List ℕ → InterestSoFar
+with_parameters s parameters = record { can_be_prefix = s.can_be_prefix; must_be_fresh = s.must_be_fresh; nonce = s.nonce; lifetime = s.lifetime; hop_limit = s.hop_limit; parameters = Some parameters; info = s.info; value = s.value }
+
+abbrev pub with_info : InterestSoFar → PlainSignatureInfo → InterestSoFar
+with_info s info = record { can_be_prefix = s.can_be_prefix; must_be_fresh = s.must_be_fresh; nonce = s.nonce; lifetime = s.lifetime; hop_limit = s.hop_limit; parameters = s.parameters; info = Some info; value = s.value }
+
+abbrev pub with_value : InterestSoFar → List ℕ → InterestSoFar
+with_value s value = record { can_be_prefix = s.can_be_prefix; must_be_fresh = s.must_be_fresh; nonce = s.nonce; lifetime = s.lifetime; hop_limit = s.hop_limit; parameters = s.parameters; info = s.info; value = Some value }
+
+abbrev pub take_interest_field : InterestSoFar → Field → Result InterestSoFar PacketFault
+take_interest_field s f =
+    if f.0 == 33 then (if is_nil f.1 then Ok (with_can_be_prefix s) else Err BadField) else (
+    if f.0 == 18 then (if is_nil f.1 then Ok (with_must_be_fresh s) else Err BadField) else (
+    if f.0 == 10 then (if length f.1 == 4 then Ok (with_nonce s f.1) else Err BadField) else (
+    if f.0 == 12 then (nni_value_at f.1 >>= λ n. Ok (with_lifetime s n)) else (
+    if f.0 == 34 then (octet_at f.1 >>= λ n. Ok (with_hop_limit s n)) else (
+    if f.0 == 36 then Ok (with_parameters s f.1) else (
+    if f.0 == 44 then (info_at f.1 >>= λ info. Ok (with_info s info)) else (
+    if f.0 == 46 then Ok (with_value s f.1) else
+    Ok s)))))))
+
+-- the elements from the first of ApplicationParameters on
+abbrev pub parameters_on : List (Result Field TlvFault) → List (Result Field TlvFault)
+parameters_on [] = []
+parameters_on (Err f ∷ elements) = []
+parameters_on (Ok e ∷ elements) = if e.0 == 36 then Ok e ∷ elements else parameters_on elements
+
+-- the octets of the elements that can be read, as they came: a number has one spelling
+abbrev pub octets_of_read : List (Result Field TlvFault) → List ℕ
+octets_of_read elements = flat_map element (filter_map result_ok elements)
+
+-- what is wrong with the digests of parameters in a name, where the right one is this
+abbrev pub digest_fault : Option (List ℕ) → List Field → List ℕ → Option PacketFault
+digest_fault None [] right = None
+digest_fault None (d ∷ digests) right = Some DigestWithout
+digest_fault (Some parameters) [] right = Some DigestMissing
+digest_fault (Some parameters) (d ∷ []) right = if bytes_eq d.1 right then None else Some DigestWrong
+digest_fault (Some parameters) (d ∷ e ∷ digests) right = Some DigestWrong
+
+abbrev pub signature_of : Option PlainSignatureInfo → Option (List ℕ) → Option PlainSignature
+signature_of None value = None
+signature_of (Some info) None = None
+signature_of (Some info) (Some value) = Some (record { info = info; value = value })
+
+abbrev pub interest_made : List Field → InterestSoFar → List ℕ → PlainInterest
+interest_made name s nonce = record {
+  name = name;
+  can_be_prefix = s.can_be_prefix;
+  must_be_fresh = s.must_be_fresh;
+  nonce = nonce;
+  lifetime = s.lifetime;
+  hop_limit = s.hop_limit;
+  parameters = s.parameters;
+  signature = signature_of s.info s.value;
+}
+
+unfoldable pub interest_at : List ℕ → Result PlainInterest PacketFault
+interest_at value = do
+  first ← leading_name_at (elements_of value)
+  name ← if is_nil first.0 then Err NoName else Ok first.0
+  s ← read_fields take_interest_field no_fields_yet (fields_from packet_rule interest_schema first.1)
+  nonce ← found_or NoNonce s.nonce
+  on_option (λ fault. Err fault) (Ok (interest_made name s nonce)) (digest_fault s.parameters (digests_in name) (sha256 (octets_of_read (parameters_on first.1))))
+
 -- of a Data: its FreshnessPeriod, its Content, its SignatureInfo and its SignatureValue
 pub record DataSoFar : Type 0 where
   pub freshness : ℕ
@@ -191,7 +242,7 @@ take_data_field s f =
 unfoldable pub data_at : List ℕ → Result PlainData PacketFault
 data_at value = do
   first ← leading_name_at (elements_of value)
-  s ← read_fields take_data_field nothing_yet (fields_from data_rule data_schema first.1)
+  s ← read_fields take_data_field nothing_yet (fields_from packet_rule data_schema first.1)
   info ← found_or BadField s.info
   signature ← found_or BadField s.value
   Ok (record { name = first.0; freshness = s.freshness; content = s.content; signature = record { info = info; value = signature } })

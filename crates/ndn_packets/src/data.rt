@@ -1,7 +1,7 @@
 ghost use Rattle.std.specs.Prelude.{◌≡◌, [], ◌∷◌, Ok, Err};
 ghost use Rattle.ndn_tlv.specs.Reading.{elements_of, on_result};
 ghost use Rattle.ndn_packets.specs.Fields.{data_schema};
-ghost use Rattle.ndn_packets.specs.Reading.{data_rule, read_fields, take_data_field, nothing_yet, fields_from};
+ghost use Rattle.ndn_packets.specs.Reading.{packet_rule, read_fields, take_data_field, nothing_yet, fields_from};
 ghost use Rattle.ndn_packets.specs.Found.{so_far};
 
 use crate::fault::PacketFault;
@@ -63,18 +63,11 @@ impl<'a> Data<'a> {
         let (Some(info), Some(value)) = (found.info, found.value) else {
             return Err(PacketFault::BadField);
         };
-        let signature = Signature {
-            kind: info.kind,
-            locator: info.locator,
-            time: info.time,
-            seq: info.seq,
-            value,
-        };
         Ok(Data {
             name,
             freshness: found.freshness,
             content: found.content,
-            signature,
+            signature: info.with_value(value),
             whole,
         })
     }
@@ -83,9 +76,9 @@ impl<'a> Data<'a> {
 /// The fields behind the Name.
 fn fields_of(rest: &[u8]) -> Result<Found<'_>, PacketFault>
     ensures { on_result (λ f. Ok (so_far f)) Err result
-        ≡ read_fields take_data_field nothing_yet (fields_from data_rule data_schema (elements_of rest.now)) }
+        ≡ read_fields take_data_field nothing_yet (fields_from packet_rule data_schema (elements_of rest.now)) }
 {
-    let mut fields = FieldReader::new(Rules::Data, rest, &FIELDS);
+    let mut fields = FieldReader::new(Rules::Packet, rest, &FIELDS);
     let mut found = Found {
         freshness: 0,
         content: None,

@@ -17,8 +17,7 @@ pub enum PacketFault {
     /// A packet does not begin with a Name, or an Interest's Name is empty.
     #[error("no name")]
     NoName,
-    /// An element is no field, or no longer, and its type is odd or below 32; or it is
-    /// ApplicationParameters in an Interest, which this profile does not read yet.
+    /// An element is no field, or no longer, and its type is odd or below 32.
     #[error("an unknown element that may not be ignored")]
     CriticalUnknown,
     /// A field other than the Name and the Nonce is missing, or a field has a value that is not of
@@ -28,6 +27,13 @@ pub enum PacketFault {
     /// An Interest has no Nonce.
     #[error("no nonce")]
     NoNonce,
+    /// An Interest with ApplicationParameters has no digest of them in its name.
+    #[error("no parameters digest")]
+    DigestMissing,
+    /// An Interest with ApplicationParameters has more than one digest of them in its name, or one
+    /// that is not SHA-256 of the octets from them on.
+    #[error("a wrong parameters digest")]
+    DigestWrong,
     /// An Interest without ApplicationParameters has a digest of them in its name.
     #[error("a parameters digest without parameters")]
     DigestWithout,

@@ -1,11 +1,11 @@
-ghost use Rattle.std.specs.Prelude.{◌≡◌, ◌<◌, ℕ, List, [], ◌∷◌, length, Ok, Err, MatchResult, MatchOption, IfOk, OnSome, option_map};
+ghost use Rattle.std.specs.Prelude.{◌≡◌, ◌<◌, ℕ, List, [], ◌∷◌, length, Ok, Err, MatchResult, MatchOption, IfOk, IfSome, OnSome, option_map};
 ghost use Rattle.ndn_tlv.specs.Reading.{elements_of, on_result};
 ghost use Rattle.ndn_names.specs.View.{components};
 ghost use Rattle.ndn_packets.specs.Reading.{schema_after, fields_from, leading_name_at, nni_value_at};
-ghost use Rattle.ndn_packets.specs.FieldReader.{rule_of, fields_left};
+ghost use Rattle.ndn_packets.specs.FieldReader.{rule_of, fields_left, StandsHere};
 
 use crate::fault::PacketFault;
-use crate::schema::Rules;
+use crate::schema::{Rules, is_follower};
 use ndn_names::Name;
 use ndn_tlv::{Element, first_element, nni_of};
 
@@ -16,16 +16,21 @@ pub const NAME: u32 = 7;
 #[derive(Drop)]
 pub struct FieldReader<'a> {
     rules: Rules,
+    /// The octets that begin with the field that was given last.
+    pub here: &'a [u8],
     rest: &'a [u8],
     schema: &'a [u32],
 }
 
 impl<'a> FieldReader<'a> {
     pub fn new(rules: Rules, value: &'a [u8], schema: &'a [u32]) -> FieldReader<'a>
-        ensures { fields_left result ≡ fields_from (rule_of rules) schema.entry.now (elements_of value.entry.now) }
+        ensures fields { fields_left result ≡ fields_from (rule_of rules) schema.entry.now (elements_of value.entry.now) }
+        ensures schema { result.schema.now ≡ schema.entry.now }
+        ensures rest { result.rest.now ≡ value.entry.now }
     {
         FieldReader {
             rules,
+            here: value,
             rest: value,
             schema,
         }
@@ -38,10 +43,12 @@ impl<'a> FieldReader<'a> {
             (fields_left self.old ≡ [])
             (λ e. fields_left self.old ≡ Ok (e.kind, e.value.now) ∷ fields_left self.new))
             (λ fault. fields_left self.old ≡ Err fault ∷ []) }
+        ensures place { IfOk result (λ next. IfSome next (λ e. StandsHere self.old self.new e)) }
         ensures progress { IfOk result (λ next. OnSome next (length self.new.rest.now < length self.old.rest.now)) }
     {
         while !self.rest.is_empty() {
             let (element, rest) = first_element(self.rest).map_err(PacketFault::Tlv)?;
+            self.here = self.rest;
             self.rest = rest;
             if let Some(schema) = behind(self.schema, element.kind) {
                 self.schema = schema;
@@ -55,13 +62,16 @@ impl<'a> FieldReader<'a> {
     }
 }
 
-/// What of a schema stands behind a type.
+/// What of a schema stands behind a type that counts in it.
 fn behind(schema: &[u32], kind: u32) -> Option<&[u32]>
     ensures { option_map (λ s. s.now) result ≡ schema_after kind schema.now }
 {
     for (i, first) in schema.iter().enumerate() {
         if *first == kind {
             return Some(&schema[i + 1..]);
+        }
+        if is_follower(kind) {
+            return None;
         }
     }
     None

@@ -32,8 +32,9 @@ const DATA: u32 = 6;
 
 /// Reads octets of a link, which are one Interest or one Data of this profile (NDN Packet Format
 /// 0.3, "Interest Packet" and "Data Packet"). Their fields stand in the order of the standard, and
-/// other elements among them are ignored where their types allow it. ApplicationParameters of an
-/// Interest are not read yet. The octets are at most 9,000, and those of a packet at most 8,800.
+/// other elements among them are ignored where their types allow it. The digest of an Interest's
+/// ApplicationParameters has to be right. The octets are at most 9,000, and those of a packet at most
+/// 8,800.
 ///
 /// Refuses all else by the first fault from the left: see `PacketFault`. No signature is verified.
 pub fn read_frame(octets: &[u8]) -> Result<Frame<'_>, PacketFault>

@@ -1,16 +1,19 @@
-ghost use Rattle.std.specs.Prelude.{◌≡◌, [], ◌∷◌, Ok, Err, true, length, ◌==◌, if◌then◌else◌};
+ghost use Rattle.std.specs.Prelude.{◌≡◌, Ok, Err, IfOk, OnSome, option_map, true, length, ◌==◌, if◌then◌else◌};
 ghost use Rattle.ndn_packets.specs.Fields.{interest_schema};
 ghost use Rattle.ndn_packets.specs.declared.fault.PacketFault.TheVariants.{BadField};
 ghost use Rattle.ndn_tlv.specs.Reading.{elements_of, on_result};
 ghost use Rattle.ndn_names.specs.View.{components};
-ghost use Rattle.ndn_packets.specs.Reading.{interest_rule, read_fields, take_interest_field, no_fields_yet, fields_from, octet_at, is_nil, has_digest};
-ghost use Rattle.ndn_packets.specs.Found.{interest_so_far};
+ghost use Rattle.sha2.specs.Sha256.{sha256};
+ghost use Rattle.ndn_packets.specs.Packet.{digests_in, plain_signature};
+ghost use Rattle.ndn_packets.specs.Reading.{packet_rule, read_fields, take_interest_field, no_fields_yet, fields_from, octet_at, is_nil, parameters_on, octets_of_read, digest_fault, signature_of};
+ghost use Rattle.ndn_packets.specs.Found.{AreDigests, plain_info, interest_so_far};
 
 use crate::fault::PacketFault;
 use crate::field_reader::{FieldReader, leading_name, number};
-use crate::schema::Rules;
-use crate::signature::Signature;
+use crate::schema::{INTEREST_SIGNATURE_INFO, INTEREST_SIGNATURE_VALUE, Rules};
+use crate::signature::{Signature, SignatureInfo, signature_info};
 use ndn_names::Name;
+use sha2::{Digest, Sha256};
 
 /// An Interest, a view of the octets that it was read from (NDN Packet Format 0.3, "Interest
 /// Packet").
@@ -28,9 +31,9 @@ pub struct Interest<'a> {
     pub lifetime: u64,
     /// The HopLimit, in hops.
     pub hop_limit: Option<u8>,
-    /// The value of the ApplicationParameters. This profile reads none: `None`.
+    /// The value of the ApplicationParameters, whose digest is in the name.
     pub parameters: Option<&'a [u8]>,
-    /// The signature of a signed Interest. This profile reads none: `None`.
+    /// The signature of a signed Interest, which is not verified.
     pub signature: Option<Signature<'a>>,
     /// The received octets of the whole packet, its type and length among them, at most 8,800.
     pub whole: &'a [u8],
@@ -49,13 +52,18 @@ const INTEREST_LIFETIME: u32 = 12;
 
 const HOP_LIMIT: u32 = 34;
 
-const FIELDS: [u32; 6] = [
+const APPLICATION_PARAMETERS: u32 = 36;
+
+const FIELDS: [u32; 9] = [
     CAN_BE_PREFIX,
     MUST_BE_FRESH,
     FORWARDING_HINT,
     NONCE,
     INTEREST_LIFETIME,
     HOP_LIMIT,
+    APPLICATION_PARAMETERS,
+    INTEREST_SIGNATURE_INFO,
+    INTEREST_SIGNATURE_VALUE,
 ];
 
 /// The InterestLifetime of an Interest that has none, in milliseconds.
@@ -66,12 +74,45 @@ const PARAMETERS_SHA256_DIGEST: u16 = 2;
 
 /// The fields of an Interest that were read so far.
 #[derive(Clone, Copy)]
-struct Found {
+struct Found<'a> {
     can_be_prefix: bool,
     must_be_fresh: bool,
     nonce: Option<[u8; 4]>,
     lifetime: u64,
     hop_limit: Option<u8>,
+    parameters: Option<&'a [u8]>,
+    /// The octets from the ApplicationParameters on, where they are there.
+    from_parameters: &'a [u8],
+    info: Option<SignatureInfo<'a>>,
+    value: Option<&'a [u8]>,
+}
+
+impl<'a> Found<'a> {
+    ghost use Rattle.std.specs.Prelude.{◌≡◌, ℕ, ◌<◌, slice_index};
+    ghost use Rattle.ndn_packets.specs.Reading.{with_parameters};
+    ghost use Rattle.ndn_packets.specs.Found.{interest_so_far};
+
+    /// With the ApplicationParameters and the octets from these on.
+    fn with_parameters(self, value: &'a [u8], here: &'a [u8]) -> Found<'a>
+        ensures read { interest_so_far result ≡ with_parameters (interest_so_far self.entry) value.entry.now }
+        ensures here { result.from_parameters.now ≡ here.entry.now }
+        // The proof of `fields_of` needs that octets are below 256.
+        ensures octets { (i : ℕ) → slice_index here.entry.now i < 256 }
+    {
+        Found {
+            parameters: Some(value),
+            from_parameters: here,
+            ..self
+        }
+    }
+}
+
+/// The digests of parameters in a name: none, the only one, or more.
+#[derive(Clone, Copy)]
+enum Digests<'a> {
+    None,
+    One(&'a [u8]),
+    Many,
 }
 
 impl<'a> Interest<'a> {
@@ -94,8 +135,8 @@ impl<'a> Interest<'a> {
         let Some(nonce) = found.nonce else {
             return Err(PacketFault::NoNonce);
         };
-        if has_digest(name) {
-            return Err(PacketFault::DigestWithout);
+        if let Some(fault) = digest_fault(name, found.parameters, found.from_parameters) {
+            return Err(fault);
         }
         Ok(Interest {
             name,
@@ -104,37 +145,82 @@ impl<'a> Interest<'a> {
             nonce,
             lifetime: found.lifetime,
             hop_limit: found.hop_limit,
-            parameters: None,
-            signature: None,
+            parameters: found.parameters,
+            signature: signature_of(found.info, found.value),
             whole,
         })
     }
 }
 
-/// Whether a component of the name is a digest of ApplicationParameters.
-fn has_digest(name: Name<'_>) -> bool
-    ensures { result ≡ has_digest (components name.entry) }
+#[tactic(auto, using(crate::proofs::Digests::many_digests))]
+/// The digests of parameters in a name.
+fn digests_of(name: Name<'_>) -> Digests<'_>
+    ensures { AreDigests result (digests_in (components name.entry)) }
 {
+    let mut found = Digests::None;
     for component in name.iter() {
         if component.kind == PARAMETERS_SHA256_DIGEST {
-            return true;
+            found = match found {
+                Digests::None => Digests::One(component.value),
+                _ => Digests::Many,
+            };
         }
     }
-    false
+    found
 }
 
-/// The fields behind the Name.
-fn fields_of(rest: &[u8]) -> Result<Found, PacketFault>
-    ensures { on_result (λ f. Ok (interest_so_far f)) Err result
-        ≡ read_fields take_interest_field no_fields_yet (fields_from interest_rule interest_schema (elements_of rest.now)) }
+/// What is wrong with the digests of parameters in a name, where these are the octets from the
+/// parameters on.
+fn digest_fault(
+    name: Name<'_>,
+    parameters: Option<&[u8]>,
+    from_parameters: &[u8],
+) -> Option<PacketFault>
+    ensures { result ≡ digest_fault (option_map (λ p. p.now) parameters.entry) (digests_in (components name.entry)) (sha256 from_parameters.now) }
 {
-    let mut fields = FieldReader::new(Rules::Interest, rest, &FIELDS);
+    match (parameters, digests_of(name)) {
+        (None, Digests::None) => None,
+        (None, _) => Some(PacketFault::DigestWithout),
+        (Some(_), Digests::None) => Some(PacketFault::DigestMissing),
+        (Some(_), Digests::One(digest)) => {
+            let right = Sha256::digest(from_parameters);
+            (digest != right.as_slice()).then_some(PacketFault::DigestWrong)
+        }
+        (Some(_), Digests::Many) => Some(PacketFault::DigestWrong),
+    }
+}
+
+/// The signature of an Interest that has an InterestSignatureInfo and an InterestSignatureValue.
+fn signature_of<'a>(
+    info: Option<SignatureInfo<'a>>,
+    value: Option<&'a [u8]>,
+) -> Option<Signature<'a>>
+    ensures { option_map plain_signature result ≡ signature_of (option_map plain_info info.entry) (option_map (λ v. v.now) value.entry) }
+{
+    let (Some(info), Some(value)) = (info, value) else {
+        return None;
+    };
+    Some(info.with_value(value))
+}
+
+#[tactic(auto, using(crate::proofs::Parameters::stand_first, crate::proofs::Parameters::stand_still, crate::proofs::Parameters::stand_there))]
+/// The fields behind the Name.
+fn fields_of(rest: &[u8]) -> Result<Found<'_>, PacketFault>
+    ensures walk { on_result (λ f. Ok (interest_so_far f)) Err result
+        ≡ read_fields take_interest_field no_fields_yet (fields_from packet_rule interest_schema (elements_of rest.now)) }
+    ensures parameters { IfOk result (λ f. OnSome f.parameters (f.from_parameters.now ≡ octets_of_read (parameters_on (elements_of rest.now)))) }
+{
+    let mut fields = FieldReader::new(Rules::Packet, rest, &FIELDS);
     let mut found = Found {
         can_be_prefix: false,
         must_be_fresh: false,
         nonce: None,
         lifetime: DEFAULT_LIFETIME,
         hop_limit: None,
+        parameters: None,
+        from_parameters: rest,
+        info: None,
+        value: None,
     };
     while let Some(field) = fields.next()? {
         match field.kind {
@@ -143,6 +229,9 @@ fn fields_of(rest: &[u8]) -> Result<Found, PacketFault>
             NONCE => found.nonce = Some(nonce_of(field.value)?),
             INTEREST_LIFETIME => found.lifetime = number(field.value)?,
             HOP_LIMIT => found.hop_limit = Some(octet(field.value)?),
+            APPLICATION_PARAMETERS => found = found.with_parameters(field.value, fields.here),
+            INTEREST_SIGNATURE_INFO => found.info = Some(signature_info(field.value)?),
+            INTEREST_SIGNATURE_VALUE => found.value = Some(field.value),
             _ => {}
         }
     }

@@ -1,22 +1,24 @@
 ghost use Rattle.std.specs.Prelude.{◌≡◌};
+ghost use Rattle.ndn_packets.specs.Fields.{is_follower};
 ghost use Rattle.ndn_packets.specs.FieldReader.{rule_of};
+
+/// The type of an InterestSignatureInfo (NDN Packet Format 0.3, "Signed Interest").
+pub const INTEREST_SIGNATURE_INFO: u32 = 44;
+
+/// The type of an InterestSignatureValue (NDN Packet Format 0.3, "Signed Interest").
+pub const INTEREST_SIGNATURE_VALUE: u32 = 46;
 
 /// Where fields stand: what of the elements among them is ignored (NDN Packet Format 0.3,
 /// "Considerations for Evolvability of TLV-Based Encoding").
 #[derive(Clone, Copy)]
 pub enum Rules {
-    /// Behind the Name of an Interest: even types from 32 on are ignored, but ApplicationParameters.
-    Interest,
-    /// Behind the Name of a Data: even types from 32 on are ignored.
-    Data,
+    /// Behind the Name of a packet: even types from 32 on are ignored.
+    Packet,
     /// In a MetaInfo, where the types 128 to 252 are ignored too.
     MetaInfo,
     /// In a SignatureInfo, where the type 253 is ignored too.
     SignatureInfo,
 }
-
-/// The type of ApplicationParameters, which this profile does not read yet.
-const APPLICATION_PARAMETERS: u32 = 36;
 
 impl Rules {
     /// Whether an element of this type, which is no field, is ignored.
@@ -25,10 +27,17 @@ impl Rules {
     {
         let is_even_high = kind >= 32 && kind % 2 == 0;
         match self {
-            Rules::Interest => is_even_high && kind != APPLICATION_PARAMETERS,
-            Rules::Data => is_even_high,
+            Rules::Packet => is_even_high,
             Rules::MetaInfo => is_even_high || (128..=252).contains(&kind),
             Rules::SignatureInfo => is_even_high || kind == 253,
         }
     }
+}
+
+/// Whether a type counts only where the last field is the one before it in the schema, with ignored
+/// elements between them or without.
+pub fn is_follower(kind: u32) -> bool
+    ensures { result ≡ is_follower kind }
+{
+    kind == INTEREST_SIGNATURE_INFO || kind == INTEREST_SIGNATURE_VALUE
 }

@@ -48,6 +48,25 @@ pub struct SignatureInfo<'a> {
     pub seq: Option<u64>,
 }
 
+impl<'a> SignatureInfo<'a> {
+    ghost use Rattle.std.specs.Prelude.{◌≡◌};
+    ghost use Rattle.ndn_packets.specs.Packet.{plain_signature};
+    ghost use Rattle.ndn_packets.specs.Found.{plain_info};
+
+    /// The signature of this SignatureInfo and the value of a SignatureValue.
+    pub fn with_value(self, value: &'a [u8]) -> Signature<'a>
+        ensures { plain_signature result ≡ record { info = plain_info self.entry; value = value.entry.now } }
+    {
+        Signature {
+            kind: self.kind,
+            locator: self.locator,
+            time: self.time,
+            seq: self.seq,
+            value,
+        }
+    }
+}
+
 /// The fields of a SignatureInfo that were read so far.
 #[derive(Clone, Copy)]
 struct Found<'a> {

@@ -1,5 +1,6 @@
 use super::*;
 use ndn_tlv::TlvFault;
+use sha2::{Digest, Sha256};
 use std::test::*;
 
 /// A Name of one component of type 8, "A".
@@ -120,7 +121,7 @@ fn faults_of_interests(rt: HostRuntime) -> Result<(), Fail> {
     let critical = PacketFault::CriticalUnknown;
     let bad = PacketFault::BadField;
     let truncated = PacketFault::Tlv(TlvFault::Truncated);
-    let cases: [(&[u8], PacketFault); 27] = [
+    let cases: [(&[u8], PacketFault); 28] = [
         // A second Nonce, a second Name, fields out of order.
         (&[10, 4, 1, 2, 3, 4, 10, 4, 1, 2, 3, 4], critical),
         (&[7, 0, 10, 4, 1, 2, 3, 4], critical),
@@ -132,8 +133,9 @@ fn faults_of_interests(rt: HostRuntime) -> Result<(), Fail> {
         (&[241, 0, 10, 4, 1, 2, 3, 4], critical),
         (&[20, 0, 10, 4, 1, 2, 3, 4], critical),
         (&[0xfd, 0, 253, 0, 10, 4, 1, 2, 3, 4], critical),
-        // ApplicationParameters, which are not read yet.
-        (&[10, 4, 1, 2, 3, 4, 36, 0], critical),
+        // Parameters, and no digest of them in the name: told behind the last field.
+        (&[10, 4, 1, 2, 3, 4, 36, 0], PacketFault::DigestMissing),
+        (&[36, 0], PacketFault::NoNonce),
         // Flags with octets.
         (&[33, 1, 0, 10, 4, 1, 2, 3, 4], bad),
         (&[18, 1, 0, 10, 4, 1, 2, 3, 4], bad),
@@ -179,6 +181,147 @@ fn faults_of_interests(rt: HostRuntime) -> Result<(), Fail> {
 }
 
 /// An Interest with all fields, and one with elements that are ignored.
+/// A signed command of the management protocol, whose digest and HMAC with the key "key" were computed
+/// apart from this library.
+const COMMAND: [u8; 154] = [
+    5, 152, 7, 80, 8, 9, 108, 111, 99, 97, 108, 104, 111, 115, 116, 8, 3, 110, 102, 100, 8, 3, 102,
+    105, 98, 8, 11, 97, 100, 100, 45, 110, 101, 120, 116, 104, 111, 112, 8, 10, 104, 8, 7, 3, 8, 1,
+    65, 105, 1, 2, 2, 32, 179, 239, 231, 25, 116, 218, 157, 194, 110, 136, 208, 192, 116, 200, 240,
+    255, 52, 234, 133, 195, 139, 16, 157, 158, 156, 100, 0, 184, 118, 148, 242, 242, 10, 4, 1, 2,
+    3, 4, 36, 0, 44, 26, 27, 1, 4, 28, 15, 7, 13, 8, 3, 111, 112, 115, 8, 3, 75, 69, 89, 8, 1, 49,
+    40, 4, 0, 15, 66, 64, 46, 32, 209, 19, 207, 56, 5, 106, 249, 187, 190, 200, 118, 71, 31, 75,
+    81, 147, 73, 120, 239, 105, 52, 84, 100, 176, 92, 183, 98, 20, 142, 170, 93, 187,
+];
+
+#[test]
+fn a_signed_interest(rt: HostRuntime) -> Result<(), Fail> {
+    let Frame::Interest(interest) = read_frame(&COMMAND)? else {
+        assert!(rt; false, "it is a Data");
+        return Ok(());
+    };
+    assert_eq!(rt; interest.name.len(), 6);
+    assert_eq!(rt; interest.parameters, Some(b"".as_slice()));
+    let Some(signature) = interest.signature else {
+        assert!(rt; false, "it is not signed");
+        return Ok(());
+    };
+    assert_eq!(rt; signature.kind, 4);
+    assert_eq!(rt; signature.time, Some(1_000_000));
+    assert!(rt; signature.seq.is_none());
+    assert_eq!(rt; signature.value, &COMMAND[122..]);
+    let Locator::Name(key) = signature.locator else {
+        assert!(rt; false, "it names no key");
+        return Ok(());
+    };
+    assert_eq!(rt; key.as_octets(), &COMMAND[101..114]);
+    // One octet changed: of the digest, of the signature's time, of the signature.
+    for place in [80, 119, 153] {
+        let mut octets = Vec::new(rt.alloc());
+        octets.extend_from_slice(&COMMAND)?;
+        octets[place] ^= 1;
+        assert_eq!(rt;
+            fault_of(&octets),
+            Some(PacketFault::DigestWrong),
+            "{place}"
+        );
+    }
+    Ok(())
+}
+
+/// An Interest with a Nonce and these fields from its ApplicationParameters on, whose name has so many
+/// right digests between two components.
+fn with_parameters(rt: &HostRuntime, fields: &[u8], digests: usize) -> Result<Vec<u8>, Fail> {
+    let digest = Sha256::digest(fields);
+    let mut name = Vec::new(rt.alloc());
+    name.extend_from_slice(&[8, 1, 65])?;
+    for _ in 0..digests {
+        name.extend_from_slice(&[2, 32])?;
+        name.extend_from_slice(digest.as_slice())?;
+    }
+    name.extend_from_slice(&[8, 1, 66])?;
+    let mut value = Vec::new(rt.alloc());
+    value.push(7)?;
+    value.push(u8::try_from(name.len())?)?;
+    value.extend_from_slice(&name)?;
+    value.extend_from_slice(&[10, 4, 1, 2, 3, 4])?;
+    value.extend_from_slice(fields)?;
+    let mut octets = Vec::new(rt.alloc());
+    octets.push(5)?;
+    octets.push(u8::try_from(value.len())?)?;
+    octets.extend_from_slice(&value)?;
+    Ok(octets)
+}
+
+#[test]
+fn parameters_of_interests(rt: HostRuntime) -> Result<(), Fail> {
+    // The fields, the parameters, and the value of a signature.
+    let cases: [(&[u8], &[u8], Option<&[u8]>); 9] = [
+        (&[36, 0], b"", None),
+        (&[36, 1, 120], b"x", None),
+        // A second one is ignored, and the digest covers it.
+        (&[36, 1, 120, 36, 1, 121], b"x", None),
+        (&[36, 0, 44, 3, 27, 1, 0, 46, 1, 7], b"", Some(&[7])),
+        // Ignored elements between them.
+        (
+            &[36, 0, 240, 0, 44, 3, 27, 1, 0, 34, 0, 46, 1, 7],
+            b"",
+            Some(&[7]),
+        ),
+        // One without the other, and both in the other order.
+        (&[36, 0, 46, 1, 7], b"", None),
+        (&[36, 0, 44, 3, 27, 1, 0], b"", None),
+        (&[36, 0, 46, 1, 7, 44, 3, 27, 1, 0], b"", None),
+        (
+            &[36, 0, 44, 3, 27, 1, 0, 46, 1, 7, 46, 1, 8],
+            b"",
+            Some(&[7]),
+        ),
+    ];
+    for (fields, parameters, value) in cases {
+        let octets = with_parameters(&rt, fields, 1)?;
+        let Frame::Interest(interest) = read_frame(&octets)? else {
+            assert!(rt; false, "it is a Data");
+            return Ok(());
+        };
+        assert_eq!(rt; interest.parameters, Some(parameters), "{fields:?}");
+        assert_eq!(rt; interest.signature.map(|s| s.value), value, "{fields:?}");
+        let twice = with_parameters(&rt, fields, 2)?;
+        assert_eq!(rt;
+            fault_of(&twice),
+            Some(PacketFault::DigestWrong),
+            "{fields:?}"
+        );
+        let never = with_parameters(&rt, fields, 0)?;
+        assert_eq!(rt;
+            fault_of(&never),
+            Some(PacketFault::DigestMissing),
+            "{fields:?}"
+        );
+    }
+    // An InterestSignatureInfo without a type, and a critical element behind the parameters.
+    let faults: [(&[u8], PacketFault); 2] = [
+        (&[36, 0, 44, 0], PacketFault::BadField),
+        (&[36, 0, 33, 0], PacketFault::CriticalUnknown),
+    ];
+    for (fields, fault) in faults {
+        assert_eq!(rt;
+            fault_of(&with_parameters(&rt, fields, 1)?),
+            Some(fault),
+            "{fields:?}"
+        );
+    }
+    // A signature without parameters is ignored, even one that cannot be read.
+    for fields in [[10, 4, 1, 2, 3, 4, 44, 0], [10, 4, 1, 2, 3, 4, 46, 0]] {
+        let octets = packet(&rt, 5, &fields)?;
+        let Frame::Interest(interest) = read_frame(&octets)? else {
+            assert!(rt; false, "it is a Data");
+            return Ok(());
+        };
+        assert!(rt; interest.parameters.is_none() && interest.signature.is_none());
+    }
+    Ok(())
+}
+
 #[test]
 fn fields_of_interests(rt: HostRuntime) -> Result<(), Fail> {
     let fields = [

@@ -27,6 +27,8 @@ packet_name packet.NoName = codes "NoName"
 packet_name packet.CriticalUnknown = codes "CriticalUnknown"
 packet_name packet.BadField = codes "BadField"
 packet_name packet.NoNonce = codes "NoNonce"
+packet_name packet.DigestMissing = codes "DigestMissing"
+packet_name packet.DigestWrong = codes "DigestWrong"
 packet_name packet.DigestWithout = codes "DigestWithout"
 packet_name packet.TooLong = codes "TooLong"
 

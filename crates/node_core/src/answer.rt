@@ -99,6 +99,8 @@ fn put_fault(text: &mut Vec<u8>, fault: PacketFault) -> Result<(), Memory>
         PacketFault::CriticalUnknown => text.extend_from_slice(b"CriticalUnknown")?,
         PacketFault::BadField => text.extend_from_slice(b"BadField")?,
         PacketFault::NoNonce => text.extend_from_slice(b"NoNonce")?,
+        PacketFault::DigestMissing => text.extend_from_slice(b"DigestMissing")?,
+        PacketFault::DigestWrong => text.extend_from_slice(b"DigestWrong")?,
         PacketFault::DigestWithout => text.extend_from_slice(b"DigestWithout")?,
         PacketFault::TooLong => text.extend_from_slice(b"TooLong")?,
     }
