@@ -228,6 +228,74 @@ fn a_signed_interest(rt: HostRuntime) -> Result<(), Fail> {
     Ok(())
 }
 
+/// Each proper prefix of a signed Interest, and each of its octets set to 0 and to 255: behind the
+/// length of the packet, octets of components and of the Nonce make another Interest; the digest, and
+/// all octets from the parameters on, may not change.
+#[test]
+fn changed_octets(rt: HostRuntime) -> Result<(), Fail> {
+    for (place, old) in COMMAND.iter().enumerate() {
+        assert_eq!(rt;
+            fault_of(&COMMAND[..place]),
+            Some(PacketFault::Tlv(TlvFault::Truncated)),
+            "{place}"
+        );
+        for new in [0, 255] {
+            let mut octets = Vec::new(rt.alloc());
+            octets.extend_from_slice(&COMMAND)?;
+            octets[place] = new;
+            let fault = fault_of(&octets);
+            match place {
+                6..=14 | 17..=19 | 22..=24 | 27..=37 | 40..=49 | 86..=89 => {
+                    assert_eq!(rt; fault, None, "{place}")
+                }
+                52..=83 if new != *old => {
+                    assert_eq!(rt; fault, Some(PacketFault::DigestWrong), "{place}")
+                }
+                0..=5 | 90.. if new != *old => assert!(rt; fault.is_some(), "{place}"),
+                _ => {}
+            }
+        }
+    }
+    Ok(())
+}
+
+/// A name of so many empty components, and the fields behind it.
+fn with_name(rt: &HostRuntime, kind: u8, len: usize, fields: &[u8]) -> Result<Vec<u8>, Fail> {
+    let mut name = Vec::new(rt.alloc());
+    for _ in 0..len {
+        name.extend_from_slice(&[8, 0])?;
+    }
+    let mut value = Vec::new(rt.alloc());
+    value.push(7)?;
+    value.push(u8::try_from(name.len())?)?;
+    value.extend_from_slice(&name)?;
+    value.extend_from_slice(fields)?;
+    let mut octets = Vec::new(rt.alloc());
+    octets.push(kind)?;
+    octets.push(u8::try_from(value.len())?)?;
+    octets.extend_from_slice(&value)?;
+    Ok(octets)
+}
+
+#[test]
+fn lengths_of_names(rt: HostRuntime) -> Result<(), Fail> {
+    let nonce = [10, 4, 1, 2, 3, 4];
+    let signed = [22, 3, 27, 1, 0, 23, 0];
+    let bad = Some(PacketFault::BadField);
+    for (len, of_interest, of_data) in [
+        (0, Some(PacketFault::NoName), None),
+        (1, None, None),
+        (64, None, None),
+        (65, bad, bad),
+    ] {
+        let interest = with_name(&rt, 5, len, &nonce)?;
+        assert_eq!(rt; fault_of(&interest), of_interest, "{len}");
+        let data = with_name(&rt, 6, len, &signed)?;
+        assert_eq!(rt; fault_of(&data), of_data, "{len}");
+    }
+    Ok(())
+}
+
 /// An Interest with a Nonce and these fields from its ApplicationParameters on, whose name has so many
 /// right digests between two components.
 fn with_parameters(rt: &HostRuntime, fields: &[u8], digests: usize) -> Result<Vec<u8>, Fail> {
