@@ -152,7 +152,6 @@ impl<'a> Interest<'a> {
     }
 }
 
-#[tactic(auto, using(crate::proofs::Digests::many_digests))]
 /// The digests of parameters in a name.
 fn digests_of(name: Name<'_>) -> Digests<'_>
     ensures { AreDigests result (digests_in (components name.entry)) }
