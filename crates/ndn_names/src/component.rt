@@ -16,7 +16,7 @@ pub(crate) const PARAMETERS_SHA256_DIGEST: u16 = 2;
 /// The octets of a digest.
 pub(crate) const SHA256_LEN: usize = 32;
 
-/// A component of a name (NDN Packet Format 0.3, "Name Components"). It borrows its octets.
+/// A component of a name (NDN Packet Format 0.3, "Name"). It borrows its octets.
 #[derive(Clone, Copy, Debug)]
 pub struct Component<'a> {
     /// The TLV-TYPE, as 8 for a GenericNameComponent.

@@ -5,9 +5,10 @@ use ndn_tlv::Memory as NoMemory;
 use std::alloc::{AllocError, AllocFailed};
 use thiserror::Error;
 
-/// Why octets are no name, or why a name cannot grow (NDN Packet Format 0.3, "Name"). Components
-/// are read from left to right: the 65th is `TooManyComponents` whatever it holds, and of any
-/// other the first fault in this enum's order is told.
+/// Why octets or a text are no name, or why a name cannot grow (NDN Packet Format 0.3, "Name").
+/// Components are read from left to right: the 65th is `TooManyComponents` whatever it holds, and of
+/// any other in octets the first fault in this enum's order is told. `NameBuf::from_uri` says which
+/// fault of a text is told.
 #[derive(Clone, Copy, Debug, PartialEq, Eq, Error)]
 pub enum NameFault {
     /// A component's type is 0 or above 65535, or it is no element.

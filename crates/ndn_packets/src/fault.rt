@@ -5,10 +5,11 @@ use thiserror::Error;
 /// "Interest Packet" and "Data Packet").
 ///
 /// The order is: `TooLong` above 9,000 octets, the outer element, octets after it, its type,
-/// `TooLong` above 8,800 octets, the Name, the elements behind it one after the other, and last a
-/// field that is missing. Of an element `Tlv` is told first, then `CriticalUnknown`, then the fault
-/// of its value; a MetaInfo and a SignatureInfo tell the faults of their own elements in this order,
-/// and last a missing SignatureType.
+/// `TooLong` above 8,800 octets, the Name, the elements behind it one after the other, then a field
+/// that is missing, and last the digest of an Interest's parameters. Of an element `Tlv` is told first
+/// (never `BadInteger`), then `CriticalUnknown`, then the fault of its value; a MetaInfo, a
+/// SignatureInfo and an InterestSignatureInfo tell the faults of their own elements in this order, and
+/// the last two then a missing SignatureType.
 #[derive(Clone, Copy, Debug, PartialEq, Eq, Error)]
 pub enum PacketFault {
     /// An element cannot be read, one that this profile does not have among them.
@@ -17,7 +18,8 @@ pub enum PacketFault {
     /// A packet does not begin with a Name, or an Interest's Name is empty.
     #[error("no name")]
     NoName,
-    /// An element is no field, or no longer, and its type is odd or below 32.
+    /// An element is no field, or no longer, and its type is odd or below 32; but the types 128 to 252
+    /// in a MetaInfo, and 253 in a SignatureInfo, are ignored.
     #[error("an unknown element that may not be ignored")]
     CriticalUnknown,
     /// A field other than the Name and the Nonce is missing, or a field has a value that is not of

@@ -18,7 +18,7 @@ pub enum RunFault {
     /// The reader failed, or was called 4,294,967,295 times.
     #[error("the script cannot be read")]
     Read,
-    /// The writer failed, or took no octets.
+    /// The writer failed, took no octets, or was called 4,294,967,295 times for one answer.
     #[error("the answers cannot be written")]
     Write,
     /// The node cannot be made. Nothing was read or written.
