@@ -53,3 +53,20 @@ pub fn put_nni(out: &mut Vec<u8>, number: u64) -> Result<(), Memory>
     }
     Ok(())
 }
+
+/// The length of the shortest NonNegativeInteger of a number, in octets: 1, 2, 4 or 8 (NDN Packet
+/// Format 0.3, "Non-Negative Integer Encoding").
+#[tactic(auto, unfolding(crate::specs::Number::shortest_nni))]
+pub fn nni_len(number: u64) -> usize
+    ensures { result ≡ length (shortest_nni number) }
+{
+    if number < 256 {
+        1
+    } else if number < 65_536 {
+        2
+    } else if number < 4_294_967_296 {
+        4
+    } else {
+        8
+    }
+}

@@ -127,3 +127,20 @@ pub fn put_number(out: &mut Vec<u8>, number: u64) -> Result<(), Memory>
         put_long(out, 255, &number.to_be_bytes())
     }
 }
+
+/// The length of the shortest VAR-NUMBER of a number, in octets: 1, 3, 5 or 9 (NDN Packet Format 0.3,
+/// "Type-Length-Value (TLV) Encoding").
+#[tactic(auto, unfolding(crate::specs::Number::spelling))]
+pub fn number_len(number: u64) -> usize
+    ensures { result ≡ length (spelling number) }
+{
+    if number < 253 {
+        1
+    } else if number < 65_536 {
+        3
+    } else if number < 4_294_967_296 {
+        5
+    } else {
+        9
+    }
+}
