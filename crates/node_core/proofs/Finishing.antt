@@ -1,16 +1,16 @@
 -- From what was fed to what is known at the end of a run.
-use Rattle.std.proofs.Common.{◌≡◌, ℕ, zero, suc, ◌+◌, ◌<◌, ◌≤◌, List, [], ◌∷◌, ◌++◌, length, refl, sym, ap, ◌∙◌, arith, append_assoc, append-nil, length-append, subst, take}
+use Rattle.std.proofs.Common.{◌≡◌, ℕ, zero, suc, ◌+◌, ◌≤◌, List, [], ◌∷◌, ◌++◌, length, sym, ap, ◌∙◌, arith, append_assoc, append-nil, subst, take}
 use Rattle.std.specs.Prelude.{Option, Some, None, IfSome}
-use Rattle.std.specs.Io.KnownBytes.{Appends, Consumes, Keeps, IsAtEnd}
+use Rattle.std.specs.Io.KnownBytes.{Appends, Consumes, IsAtEnd}
 use Rattle.node_core.specs.Event.{PlainEvent}
 use Rattle.node_core.specs.State.{State, initial}
-use Rattle.node_core.specs.Line.{Lacks, IsBadLine}
+use Rattle.node_core.specs.Line.{Lacks}
 use Rattle.node_core.specs.Past.{Run, Start, Then, IsRun, Stands}
 use Rattle.node_core.proofs.Runs.{step_keeps, initial_stands}
-use Rattle.node_core.specs.Script.{Runs, run_from, ended, joined, AreLines, Say, BeginsWithLines, IsScript, BeginsWithEvents, IsScriptSoFar, IsBadAt, Ran}
-use Rattle.node_core.specs.Ending.{AppendsFront, Ends, Stops}
+use Rattle.node_core.specs.Script.{Runs, run_from, ended, joined, IsScript, BeginsWithEvents, IsBadAt, Ran}
+use Rattle.node_core.specs.Ending.{Ends, Stops}
 use Rattle.node_core.specs.Writing.{Outcome, Answered, NoMemory}
-use Rattle.node_core.specs.Play.{Place, IsPending, Plays, TurnsBad, FeedStops, LineStops}
+use Rattle.node_core.specs.Play.{Place, Plays, TurnsBad, FeedStops, LineStops}
 use Rattle.node_core.specs.declared.script.RunFault.{RunFault}
 use Rattle.node_core.specs.declared.script.RunFault.TheVariants as fault
 use Rattle.node_core.proofs.Known.{Appends-then, Appends-kept, AppendsFront-after, AppendsFront-all}

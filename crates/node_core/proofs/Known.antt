@@ -1,8 +1,7 @@
 -- Known octets that grow and shrink.
-use Rattle.std.proofs.Common.{◌≡◌, ℕ, List, [], ◌∷◌, ◌++◌, refl, sym, ap, ◌∙◌, append_assoc, append-nil, arith, length, take, drop}
+use Rattle.std.proofs.Common.{ℕ, List, [], ◌++◌, refl, sym, ap, ◌∙◌, append_assoc, append-nil}
 use Rattle.std.specs.Prelude.{Option, Some, None}
 use Rattle.std.specs.Io.KnownBytes.{Appends, Consumes, Keeps}
-use Rattle.std.proofs.lemmas.List.{take-append-drop}
 use Rattle.node_core.specs.Ending.{AppendsFront}
 
 pub Appends-start : (known : Option (List ℕ)) → Appends known known []

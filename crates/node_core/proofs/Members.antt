@@ -1,10 +1,10 @@
 -- Lists with a filter, and the list of open faces.
-use Rattle.std.proofs.Common.{◌≡◌, ℕ, suc, ◌+◌, ◌-◌, ◌<◌, ◌≤◌, ◌⊎◌, Bool, true, false, cond, not, eqb, ltb, List, [], ◌∷◌, ◌++◌, length, map, Option, Some, None, refl, sym, ap, subst, ◌∙◌, arith, inl, inr}
+use Rattle.std.proofs.Common.{◌≡◌, ℕ, suc, ◌+◌, ◌<◌, ◌≤◌, ◌⊎◌, Bool, true, false, cond, not, eqb, ltb, List, [], ◌∷◌, ◌++◌, length, Option, Some, None, refl, sym, ap, subst, ◌∙◌, arith, inl, inr}
 use Rattle.std.specs.Prelude.{filter, ◌||◌}
 use Rattle.std.specs.List.{list_any, AllByRecursion}
 use Rattle.std.proofs.lemmas.Bool.{eqb-true, eqb-false, ne_eqb, ltb-false, ltb-true}
 use Rattle.node_core.specs.declared.event.Scope.{Scope}
-use Rattle.node_core.specs.State.{FaceEntry, IsIn, IsRising, is_open, find_scope, numbers, others}
+use Rattle.node_core.specs.State.{FaceEntry, IsIn, IsRising, is_open, find_scope, numbers}
 use Rattle.node_core.specs.Step.{with_face, without_entry}
 
 -- what passes a test, with the list it came from

@@ -1,5 +1,5 @@
 -- Names that compare equal are equal.
-use Rattle.std.proofs.Common.{◌≡◌, List, Bool, true, false, refl, ap}
+use Rattle.std.proofs.Common.{◌≡◌, List, true, refl, ap}
 use Rattle.std.specs.declared.cmp.Ordering.{Ordering}
 use Rattle.std.specs.declared.cmp.Ordering.TheVariants.{Less, Equal, Greater}
 use Rattle.std.specs.Ordering.{is_eq}

@@ -1,13 +1,13 @@
 -- Sends in an outbox, and as text.
-use Rattle.std.proofs.Common.{◌≡◌, ℕ, zero, suc, ◌+◌, ◌-◌, ◌<◌, ◌≤◌, List, [], ◌∷◌, ◌++◌, length, map, get_or, take, drop, refl, sym, ap, ◌∙◌, arith, append_assoc, add-one, length-append, Bool, true, false, Result, Ok, Err}
-use Rattle.std.specs.Prelude.{Option, Some, None, slice_get, slice_range, OnOk}
+use Rattle.std.proofs.Common.{◌≡◌, ℕ, zero, suc, ◌-◌, ◌<◌, ◌≤◌, List, [], ◌∷◌, ◌++◌, length, map, take, drop, refl, sym, ap, ◌∙◌, arith, append_assoc, length-append, false, Result, Ok, Err}
+use Rattle.std.specs.Prelude.{Some, None, slice_get, slice_range, OnOk}
 use Rattle.std.specs.Result.{is_err}
 use Rattle.std.specs.List.{flat_map}
 use Rattle.std.proofs.Math.Seq.{drop-append_seam}
 use Rattle.std.proofs.lemmas.List.{take-append-le, drop-append-le, map-append, append-nil, length-drop}
 use Rattle.node_core.specs.declared.outbox.Sent.{Sent}
 use Rattle.node_core.specs.Event.{Send}
-use Rattle.node_core.specs.Outbox.{IsWithin, AreWithin, send_of, sends_of, placed}
+use Rattle.node_core.specs.Outbox.{AreWithin, send_of, sends_of, placed}
 use Rattle.node_core.proofs.Lists.{take_whole}
 
 -- the text of one more element

@@ -1,25 +1,23 @@
 -- Lines that were played one after another.
-use Rattle.std.proofs.Common.{◌≡◌, ◌≢◌, ℕ, zero, suc, ◌+◌, ◌<◌, ◌≤◌, ◌⊎◌, inl, inr, List, [], ◌∷◌, ◌++◌, length, refl, sym, ap, ◌∙◌, arith, append_assoc, append-nil, length-append, Result, Ok, Err, subst, add-one}
+use Rattle.std.proofs.Common.{◌≡◌, ℕ, suc, ◌+◌, ◌<◌, ◌≤◌, inl, inr, List, [], ◌∷◌, ◌++◌, length, refl, sym, ap, ◌∙◌, arith, append_assoc, append-nil, length-append, Result, Ok, Err, subst}
 use Rattle.std.proofs.Common.{Bool, true, false, ◌==◌, eq-eqb}
 use Rattle.std.proofs.lemmas.Bool.{eqb-true}
 use Rattle.node_core.proofs.Lists.{Lacks-append}
-use Rattle.std.specs.Prelude.{Option, Some, None, IfSome, IfOk, OnOk, OnErr}
-use Rattle.std.specs.List.{flat_map, AllByRecursion}
-use Rattle.std.specs.Io.KnownBytes.{Appends, Consumes, Keeps}
+use Rattle.std.specs.Prelude.{Option, IfOk, OnOk, OnErr}
+use Rattle.std.specs.Io.KnownBytes.{Appends}
 use Rattle.ndn_tlv.specs.declared.memory.Memory.{Memory}
 use Rattle.node_core.specs.declared.event.Verdict.{Verdict}
-use Rattle.node_core.specs.Event.{PlainEvent, Answer, Send}
-use Rattle.node_core.specs.State.{State, initial}
+use Rattle.node_core.specs.Event.{PlainEvent, Send}
+use Rattle.node_core.specs.State.{State}
 use Rattle.node_core.specs.Step.{Step, NeedsNoMemory}
 use Rattle.std.specs.Prelude.{IsOk}
-use Rattle.node_core.specs.Line.{Lacks, IsSkipped, IsEventLine, IsBadLine, IsShort}
-use Rattle.node_core.specs.Writing.{Outcome, Answered, NoMemory, said_text, lines_text, outcome_text, outcomes_text, script_text}
-use Rattle.node_core.specs.Script.{ended, joined, AreLines, Say, BeginsWithLines, IsScript, BeginsWithEvents, IsScriptSoFar, IsBadAt, IsOutcome, Runs, Ran}
-use Rattle.node_core.specs.Ending.{AppendsFront, Ends, Stops}
-use Rattle.node_core.specs.Play.{Place, HasRoom, IsNear, IsPending, PlaysEvent, EventStops, AddStops, Plays, TurnsBad, FeedStops, LineStops}
+use Rattle.node_core.specs.Line.{Lacks, IsSkipped, IsEventLine, IsBadLine}
+use Rattle.node_core.specs.Writing.{Outcome, Answered, NoMemory, said_text, lines_text, outcome_text, outcomes_text}
+use Rattle.node_core.specs.Script.{ended, joined, AreLines, Say, IsOutcome, Runs}
+use Rattle.node_core.specs.Play.{Place, IsPending, PlaysEvent, EventStops, AddStops, Plays, TurnsBad, FeedStops, LineStops}
 use Rattle.node_core.specs.declared.script.RunFault.{RunFault}
 use Rattle.node_core.specs.declared.script.RunFault.TheVariants as fault
-use Rattle.node_core.proofs.Known.{Appends-start, Appends-then, Appends-kept, AppendsFront-after, AppendsFront-all, none-from_Keeps}
+use Rattle.node_core.proofs.Known.{Appends-start, Appends-then, Appends-kept, AppendsFront-after, AppendsFront-all}
 
 -- ---- one reply
 

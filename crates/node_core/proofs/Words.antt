@@ -1,5 +1,5 @@
 -- The words of a line.
-use Rattle.std.proofs.Common.{◌≡◌, ◌≢◌, ℕ, zero, suc, ◌+◌, ◌*◌, ◌<◌, ◌≤◌, ◌^◌, ◌%◌, List, [], ◌∷◌, ◌++◌, length, get_or, refl, sym, ap, ◌∙◌, arith, Ok, Err, Result, codes}
+use Rattle.std.proofs.Common.{◌≡◌, ℕ, ◌*◌, ◌<◌, ◌^◌, ◌%◌, List, [], ◌∷◌, ◌++◌, length, get_or, refl, sym, ap, ◌∙◌, arith, Ok, Err, Result, codes}
 use Rattle.std.specs.Fmt.{decimal}
 use Rattle.std.proofs.Common.{◌==◌, Bool, true, false, cond}
 use Rattle.hex.specs.declared.error.FromHexError.{FromHexError}

@@ -5,7 +5,7 @@ use Rattle.node_core.specs.Event.{PlainEvent}
 use Rattle.node_core.specs.State.{State}
 use Rattle.node_core.specs.Line.{Lacks, IsBadLine}
 use Rattle.node_core.specs.Writing.{Outcome, outcome_text, outcomes_text}
-use Rattle.node_core.specs.Script.{AreLines, BeginsWithLines, IsOutcome, Runs, Say, ended, joined}
+use Rattle.node_core.specs.Script.{AreLines, IsOutcome, Runs, Say, ended, joined}
 use Rattle.node_core.specs.Ending.{AppendsFront}
 use Rattle.node_core.specs.declared.player.Player.{Player}
 use Rattle.node_core.specs.declared.script.RunFault.{RunFault}

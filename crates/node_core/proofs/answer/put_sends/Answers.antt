@@ -1,4 +1,4 @@
-use Rattle.std.proofs.Common.{◌≡◌, ◌++◌, ◌∙◌, sym, ap, List, ℕ, length, arith, add-one, suc, take, append_assoc, ◌<◌}
+use Rattle.std.proofs.Common.{◌++◌, ◌∙◌, sym, ap, List, ℕ, length, arith, add-one, take, ◌<◌}
 use Rattle.std.specs.List.{flat_map}
 use Rattle.node_core.specs.Writing.{send_text}
 use Rattle.node_core.proofs.Outboxes.{appended, flat_map-take_next, slice_get-there}

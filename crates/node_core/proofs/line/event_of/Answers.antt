@@ -1,4 +1,4 @@
-use Rattle.std.proofs.Common.{◌≡◌, List, ℕ, sym, ◌∙◌, ap, true, false, Bool, codes}
+use Rattle.std.proofs.Common.{sym, ◌∙◌}
 use Rattle.node_core.proofs.Lists.{differ_bytes}
 use Rattle.node_core.proofs.Words.{no_kind}
 use Rattle.node_core.proofs.line.event_of.Goals as goal

@@ -1,4 +1,3 @@
-use Rattle.std.proofs.Common.{◌≡◌}
 use Rattle.node_core.proofs.Lists.{Lacks-no_cut}
 use Rattle.node_core.proofs.Words.{down_text, down_words}
 use Rattle.node_core.proofs.line.face_down.Goals as goal

@@ -1,6 +1,3 @@
-use Rattle.std.proofs.Common.{◌≡◌}
-use Rattle.std.specs.Fmt.{decimal}
-use Rattle.node_core.specs.Line.{scope_word}
 use Rattle.node_core.proofs.Words.{up_text, up_words, up_lacks}
 use Rattle.node_core.proofs.line.face_up.Goals as goal
 

@@ -1,4 +1,3 @@
-use Rattle.std.proofs.Common.{◌≡◌}
 use Rattle.node_core.proofs.Words.{in_text, in_words, in_lacks}
 use Rattle.node_core.proofs.line.packet.Goals as goal
 

@@ -1,4 +1,4 @@
-use Rattle.std.proofs.Common.{◌≡◌, ◌+◌, arith, take, drop, ◌∷◌, ◌++◌, ◌∙◌, ap, List, ℕ, length}
+use Rattle.std.proofs.Common.{◌+◌, arith, take, ◌∷◌, ◌++◌, ◌∙◌, ap, List, ℕ}
 use Rattle.node_core.proofs.Lists.{Lacks-from_places, Lacks-take, split_at_place, take_rest}
 use Rattle.node_core.proofs.word.cut.Goals as goal
 

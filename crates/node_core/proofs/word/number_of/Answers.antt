@@ -1,4 +1,4 @@
-use Rattle.std.proofs.Common.{◌≡◌, ◌<◌, ℕ, arith, length, get_or, sym, ◌∙◌, ap, eq-eqb}
+use Rattle.std.proofs.Common.{◌≡◌, ◌<◌, arith, length, get_or, sym, ◌∙◌}
 use Rattle.std.proofs.lemmas.Bool.{eqb-true}
 use Rattle.node_core.proofs.Lists.{get_or-empty}
 use Rattle.node_core.proofs.Numbers.{no_leading_zero, first_of_decimal, decimal-IsUtf8, number_found, number_none}

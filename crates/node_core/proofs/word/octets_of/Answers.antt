@@ -1,4 +1,4 @@
-use Rattle.std.proofs.Common.{◌≡◌, ◌<◌, ℕ, List, [], arith, length, sym, ◌∙◌}
+use Rattle.std.proofs.Common.{sym, ◌∙◌}
 use Rattle.node_core.proofs.Lists.{empty_list, full_list}
 use Rattle.node_core.proofs.Words.{HexSpells-empty, HexSpells-from_decode}
 use Rattle.node_core.proofs.word.octets_of.Goals as goal

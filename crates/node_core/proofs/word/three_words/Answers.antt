@@ -1,4 +1,4 @@
-use Rattle.std.proofs.Common.{◌≡◌, ◌∷◌, ◌++◌, sym, ◌∙◌}
+use Rattle.std.proofs.Common.{◌∷◌, ◌++◌, sym, ◌∙◌}
 use Rattle.node_core.proofs.Lists.{Lacks-no_cut, cut_once}
 use Rattle.node_core.proofs.word.three_words.Goals as goal
 

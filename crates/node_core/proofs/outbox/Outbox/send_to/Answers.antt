@@ -1,4 +1,4 @@
-use Rattle.std.proofs.Common.{◌≡◌, ◌++◌, ◌∙◌, sym, ap, List, ℕ, length, arith}
+use Rattle.std.proofs.Common.{◌≡◌, ◌∙◌, sym, length, arith}
 use Rattle.node_core.proofs.Outboxes.{ok_part, within_after, sends_after}
 use Rattle.node_core.proofs.outbox.Outbox.send_to.Goals as goal
 

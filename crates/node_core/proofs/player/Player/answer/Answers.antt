@@ -1,4 +1,4 @@
-use Rattle.std.proofs.Common.{◌≡◌, ◌+◌, refl}
+use Rattle.std.proofs.Common.{◌+◌, refl}
 use Rattle.node_core.specs.Event.{plain}
 use Rattle.node_core.specs.Play.{Place, PlaysEvent, place_of}
 use Rattle.node_core.proofs.Playing.{PlaysEvent-from_step}

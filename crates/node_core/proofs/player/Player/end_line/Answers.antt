@@ -1,7 +1,7 @@
-use Rattle.std.proofs.Common.{◌≡◌, ◌+◌, refl, ap, List, ℕ, []}
+use Rattle.std.proofs.Common.{refl, []}
 use Rattle.std.proofs.lemmas.Result.{err_from_is_err_and}
-use Rattle.node_core.specs.Play.{Place, place_of, Plays}
-use Rattle.node_core.specs.Line.{LineIs, plain_line, IsEventLine, IsSkipped}
+use Rattle.node_core.specs.Play.{place_of}
+use Rattle.node_core.specs.Line.{plain_line}
 use Rattle.node_core.proofs.Known.{Appends-start}
 use Rattle.node_core.proofs.Playing.{LineStops-from_reply, Plays-skipped, Plays-event}
 use Rattle.node_core.proofs.player.Player.end_line.Goals as goal

@@ -1,4 +1,4 @@
-use Rattle.std.proofs.Common.{◌≡◌, ◌+◌, ◌≤◌, ◌++◌, ap, List, ℕ, length, arith}
+use Rattle.std.proofs.Common.{◌++◌, ap, arith}
 use Rattle.std.proofs.lemmas.Result.{err_from_is_err_and, IfErr-weaker}
 use Rattle.node_core.specs.Play.{Place, place_of, AddStops, FeedStops}
 use Rattle.node_core.proofs.Playing.{Fed-start, Fed-ended, FeedStops-add, FeedStops-line, FeedStops-last, LineStops-move, Plays-move, IsPending-none, length-cut}

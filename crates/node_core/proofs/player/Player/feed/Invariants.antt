@@ -1,4 +1,4 @@
-use Rattle.std.proofs.Common.{◌≡◌, ◌+◌, ◌≤◌, ◌++◌, length}
+use Rattle.std.proofs.Common.{◌+◌, ◌≤◌, ◌++◌, length}
 use Rattle.node_core.specs.Play.{place_of, IsPending}
 use Rattle.node_core.proofs.Playing.{Fed}
 use Rattle.node_core.proofs.player.Player.feed.Given as goal

@@ -1,4 +1,4 @@
-use Rattle.std.proofs.Common.{◌≡◌, ◌+◌, ◌*◌, ◌≤◌, ap, List, ℕ, [], ◌∷◌, ◌++◌, length, take, arith}
+use Rattle.std.proofs.Common.{ap, List, ℕ, [], ◌∷◌, ◌++◌, take, arith}
 use Rattle.std.specs.Io.KnownBytes.{Appends}
 use Rattle.std.proofs.lemmas.Result.{err_from_is_err_and, IfErr-weaker, on_ok_weaker}
 use Rattle.node_core.specs.Ending.{Ends, Stops}

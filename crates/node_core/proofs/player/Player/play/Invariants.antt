@@ -1,4 +1,4 @@
-use Rattle.std.proofs.Common.{◌≡◌, ℕ, ◌*◌, ◌≤◌, List, []}
+use Rattle.std.proofs.Common.{ℕ, ◌*◌, ◌≤◌, List, []}
 use Rattle.std.specs.Io.KnownBytes.{Consumes}
 use Rattle.node_core.specs.Play.{place_of, IsPending}
 use Rattle.node_core.proofs.Playing.{Fed}
