@@ -142,6 +142,36 @@ fn parameters_digest(rt: HostRuntime) -> Result<(), Fail> {
     )
 }
 
+/// A packet goes on without the link packet around it. A Nack and an idle link packet do not.
+#[test]
+fn link_packets(rt: HostRuntime) -> Result<(), Fail> {
+    replies(
+        &rt,
+        &[
+            "up 1 local 0",
+            "up 2 far 0",
+            "in 1 1000 6414fd03400101500d050b07030801410a0401020304",
+            "in 1 1000 6414fd03410101500d050b07030801410a0401020304",
+            "in 1 1000 6412530102500d050b07030801410a0401020304",
+            "in 2 1000 6400",
+            "in 2 1000 6418fd032005fd03210196500d050b07030801410a0401020304",
+            "in 2 1050 64166201075011060f070308014115017816031b01001700",
+        ],
+        &[
+            "1 passed",
+            "2 passed",
+            "3 passed",
+            "> 2 050b07030801410a0401020304",
+            "4 dropped Malformed LpField",
+            "5 dropped Malformed Fragmented",
+            "6 dropped Idle",
+            "7 dropped NoPending",
+            "8 passed",
+            "> 1 060f070308014115017816031b01001700",
+        ],
+    )
+}
+
 /// An Interest with all fields but parameters, whose lifetime of 256 milliseconds ends at 1256, and a
 /// Data with all fields.
 #[test]

@@ -4,10 +4,13 @@ pub mod FieldLists
 pub mod Numbers
 pub mod Locators
 pub mod MetaInfos
+pub mod Nacks
+pub mod Links
 pub mod SignatureInfos
 pub mod DataPackets
 pub mod Parameters
 pub mod Digests
 pub mod Interests
 pub mod Packets
+pub mod Wholes
 pub mod Answering

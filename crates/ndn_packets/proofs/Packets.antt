@@ -1,23 +1,27 @@
 -- The two laws: what is read is in the grammar, and what is in the grammar is read.
-use Rattle.std.proofs.Common.{◌≡◌, ℕ, ◌≤◌, ◌⊎◌, true, false, cond, not, eqb, ltb, List, [], ◌∷◌, ◌++◌, length, Result, Ok, Err, refl, sym, subst, ◌∙◌, arith, inl, inr}
-use Rattle.std.specs.Prelude.{◌||◌, IfOk}
-use Rattle.std.proofs.lemmas.Bool.{eqb-true, eqb-false, ltb-false, le-ltb, not-false, or_cases}
+use Rattle.std.proofs.Common.{◌≡◌, ℕ, ◌≤◌, ◌⊎◌, true, cond, ltb, List, [], ◌∷◌, ◌++◌, length, Option, Some, None, Result, Ok, Err, refl, sym, ap, subst, ◌∙◌, arith, inl, inr}
+use Rattle.std.specs.Prelude.{IfOk}
+use Rattle.std.proofs.lemmas.Bool.{ltb-false, le-ltb, ne_eqb, cases_eq}
 use Rattle.std.proofs.lemmas.List.{append-nil}
 use Rattle.ndn_tlv.specs.declared.fault.TlvFault.{TlvFault}
 use Rattle.ndn_tlv.specs.Number.{spelling}
 use Rattle.ndn_tlv.specs.Element.{Field, element, IsElement}
 use Rattle.ndn_tlv.specs.Reading.{◌>>=◌, on_result, element_at}
 use Rattle.ndn_tlv.proofs.Numbers.{IsBytes, IsBytes-back}
-use Rattle.ndn_tlv.proofs.Fields.{element_found}
+use Rattle.ndn_tlv.proofs.Fields.{element_found, seen}
 use Rattle.ndn_packets.specs.declared.fault.PacketFault.{PacketFault}
 use Rattle.ndn_packets.specs.declared.fault.PacketFault.TheVariants.{Tlv, BadField, TooLong}
-use Rattle.ndn_packets.specs.Packet.{PlainData, PlainFrame, AnInterest, AData}
-use Rattle.ndn_packets.specs.Grammar.{IsData, IsFrame}
-use Rattle.ndn_packets.specs.Reading.{is_nil, interest_at, data_at, packet_at, frame_at}
+use Rattle.ndn_packets.specs.Packet.{PlainInterest, PlainData, PlainFrame, AnInterest, AData, ANack, Idle}
+use Rattle.ndn_packets.specs.Grammar.{IsInterest, IsData}
+use Rattle.ndn_packets.specs.Link.{IsLinkPacket, IsFrame}
+use Rattle.ndn_packets.specs.Reading.{is_nil, interest_at, data_at}
+use Rattle.ndn_packets.specs.FrameReading.{only_element, interest_of, data_of, packet_of, nacked_of, outer_of, frame_at}
 use Rattle.ndn_packets.proofs.Steps.{bind_ok, guard_ok, good, err_is_not_ok, ok_is}
+use Rattle.ndn_packets.proofs.FieldLists.{MayBeBytes}
 use Rattle.ndn_packets.proofs.Locators.{element_alone}
 use Rattle.ndn_packets.proofs.Interests.{interest_found, interest_again, is_interest, interest_value}
 use Rattle.ndn_packets.proofs.DataPackets.{DataValue, data_found, data_again}
+use Rattle.ndn_packets.proofs.Links.{held, LinkValue, link_found, link_again}
 
 -- ---- a Data, by the value of its element
 
@@ -45,57 +49,130 @@ data_value text d h = record {
   info_is = h.info;
 }
 
--- ---- frames
+-- ---- one element
 
 is_nil_is : {A : Type 0} (xs : List A) → is_nil xs ≡ true → xs ≡ []
 is_nil_is [] e = refl
 is_nil_is (x ∷ xs) e = absurd cc
 
-outer_ok : (text : List ℕ) (r : Result (Field × List ℕ) TlvFault) (f : PlainFrame) → on_result (λ x. packet_at text x.0 x.1) (λ t. Err (Tlv t)) r ≡ Ok f → (x : Field × List ℕ) × (r ≡ Ok x) × (packet_at text x.0 x.1 ≡ Ok f)
-outer_ok text (Ok x) f e = (x, refl, e)
-outer_ok text (Err t) f e = absurd (err_is_not_ok _ f e)
-
 IsBytes-inside : (text value : List ℕ) (kind : ℕ) → IsBytes text → IsElement text kind value → IsBytes value
 IsBytes-inside text value kind fits outer = IsBytes-back (spelling (length value)) value (IsBytes-back (spelling kind) (spelling (length value) ++ value) (subst IsBytes outer.1 fits))
 
-packet_found : (text : List ℕ) (x : Field) (f : PlainFrame) → IsBytes text → IsElement text x.0 x.1 → length text ≤ 8800 → (x.0 ≡ 5) ⊎ (x.0 ≡ 6)
-    → cond (eqb x.0 5) (interest_at x.1 >>= λ i. Ok (AnInterest i)) (data_at x.1 >>= λ d. Ok (AData d)) ≡ Ok f → IsFrame text f
-packet_found text x f fits outer short kinds e =
-    let fits' = IsBytes-inside text x.1 x.0 fits outer in
-    elim (eqb x.0 5) as (λ b. eqb x.0 5 ≡ b → cond b (interest_at x.1 >>= λ i. Ok (AnInterest i)) (data_at x.1 >>= λ d. Ok (AData d)) ≡ Ok f → IsFrame text f) [
-      | true ↦ λ is e.
-          let b = bind_ok (interest_at x.1) (λ i. Ok (AnInterest i)) f e in
-          let own = subst (λ k. IsElement text k x.1) (eqb-true _ _ is) outer in
-          subst (IsFrame text) (ok_is (AnInterest b.0) f b.2) (is_interest text x.1 b.0 own short fits (interest_found x.1 b.0 fits' b.1))
-      | false ↦ λ is e.
-          let b = bind_ok (data_at x.1) (λ d. Ok (AData d)) f e in
-          let six : x.0 ≡ 6 = elim kinds [ inl five ↦ absurd (eqb-false x.0 5 is five) | inr six ↦ six ] in
-          let own = subst (λ k. IsElement text k x.1) six outer in
-          subst (IsFrame text) (ok_is (AData b.0) f b.2) (is_data text x.1 b.0 own short fits (data_found x.1 b.0 fits' b.1))
-    ] refl e
+one_element : (r : Result (Field × List ℕ) TlvFault) (outer : Field) → on_result (λ x. cond (is_nil x.1) (good x.0) (Err BadField)) (λ f. Err (Tlv f)) r ≡ Ok outer → r ≡ seen outer.0 outer.1 []
+one_element (Err f) outer e = absurd (err_is_not_ok _ outer e)
+one_element (Ok (f, [])) outer e = ap (λ (g : Field). seen g.0 g.1 []) (ok_is f outer e)
+one_element (Ok (f, o ∷ rest)) outer e = absurd (err_is_not_ok _ outer e)
 
-which_kind : (k : ℕ) → not (eqb k 5 || eqb k 6) ≡ false → (k ≡ 5) ⊎ (k ≡ 6)
-which_kind k e = elim (or_cases (eqb k 5) (eqb k 6) (not-false _ e)) [ inl five ↦ inl (eqb-true k 5 five) | inr six ↦ inr (eqb-true k 6 six) ]
+only_found : (text : List ℕ) (outer : Field) → IsBytes text → only_element text ≡ Ok outer → IsElement text outer.0 outer.1
+only_found text outer fits e =
+    let found = element_found text outer [] fits (one_element (element_at text) outer e) in
+    (found.0, found.1 ∙ append-nil (element outer))
+
+only_again : (text value : List ℕ) (kind : ℕ) → IsElement text kind value → only_element text ≡ Ok (kind, value)
+only_again text value kind outer = rw (element_alone text value kind outer) refl
+
+-- ---- packets, which their own element holds
+
+interest_of_found : (text value : List ℕ) (i : PlainInterest) → IsBytes text → IsElement text 5 value → interest_of text value ≡ Ok i → IsInterest text i
+interest_of_found text value i fits outer e =
+    let g = guard_ok (ltb 8800 (length text)) TooLong (interest_at value) i e in
+    is_interest text value i outer (ltb-false _ _ g.0) fits (interest_found value i (IsBytes-inside text value 5 fits outer) g.1)
+
+data_of_found : (text value : List ℕ) (d : PlainData) → IsBytes text → IsElement text 6 value → data_of text value ≡ Ok d → IsData text d
+data_of_found text value d fits outer e =
+    let g = guard_ok (ltb 8800 (length text)) TooLong (data_at value) d e in
+    is_data text value d outer (ltb-false _ _ g.0) fits (data_found value d (IsBytes-inside text value 6 fits outer) g.1)
+
+-- an Interest or a Data of this text
+abbrev IsPacketOf : List ℕ → PlainFrame → Type 0
+IsPacketOf text f = ((i : PlainInterest) × IsInterest text i × (AnInterest text i ≡ f)) ⊎ ((d : PlainData) × IsData text d × (AData text d ≡ f))
+
+packet_found : (text : List ℕ) (outer : Field) (f : PlainFrame) → IsBytes text → IsElement text outer.0 outer.1 → packet_of text outer ≡ Ok f → IsPacketOf text f
+packet_found text outer f fits own e =
+    elim (cases_eq outer.0 5) [
+      | inl is ↦
+          let i = bind_ok (interest_of text outer.1) (λ i. good (AnInterest text i)) f (subst (λ (k : ℕ). packet_of text (k, outer.1) ≡ Ok f) is e) in
+          inl (i.0, interest_of_found text outer.1 i.0 fits (subst (λ (k : ℕ). IsElement text k outer.1) is own) i.1, ok_is _ f i.2)
+      | inr no5 ↦ elim (cases_eq outer.0 6) [
+        | inl is ↦
+            let d = bind_ok (data_of text outer.1) (λ d. good (AData text d)) f (subst (λ (k : ℕ). packet_of text (k, outer.1) ≡ Ok f) is e) in
+            inr (d.0, data_of_found text outer.1 d.0 fits (subst (λ (k : ℕ). IsElement text k outer.1) is own) d.1, ok_is _ f d.2)
+        | inr no6 ↦ absurd (err_is_not_ok _ f (rw (ne_eqb outer.0 5 no5, ne_eqb outer.0 6 no6) at e))
+      ]
+    ]
+
+nacked_found : (reason : ℕ) (text : List ℕ) (outer : Field) (f : PlainFrame) → IsBytes text → IsElement text outer.0 outer.1 → nacked_of reason text outer ≡ Ok f → (i : PlainInterest) × IsInterest text i × (ANack reason text i ≡ f)
+nacked_found reason text outer f fits own e =
+    elim (cases_eq outer.0 5) [
+      | inl is ↦
+          let i = bind_ok (interest_of text outer.1) (λ i. good (ANack reason text i)) f (subst (λ (k : ℕ). nacked_of reason text (k, outer.1) ≡ Ok f) is e) in
+          (i.0, interest_of_found text outer.1 i.0 fits (subst (λ (k : ℕ). IsElement text k outer.1) is own) i.1, ok_is _ f i.2)
+      | inr no5 ↦ absurd (err_is_not_ok _ f (rw (ne_eqb outer.0 5 no5) at e))
+    ]
+
+interest_of_again : (text : List ℕ) (i : PlainInterest) (h : IsInterest text i) → interest_of text h.fields.value ≡ Ok i
+interest_of_again text i h =
+    rw (le-ltb 8800 (length text) h.fields.short) (interest_again h.fields.value i (IsBytes-inside text h.fields.value 5 h.fields.octets h.fields.outer) (interest_value text i h))
+
+data_of_again : (text : List ℕ) (d : PlainData) (h : IsData text d) → data_of text h.fields.value ≡ Ok d
+data_of_again text d h =
+    rw (le-ltb 8800 (length text) h.fields.short) (data_again h.fields.value d (IsBytes-inside text h.fields.value 6 h.fields.octets h.fields.outer) (data_value text d h))
+
+-- ---- frames
+
+is_link : (text value : List ℕ) (f : PlainFrame) (h : LinkValue value f) → IsElement text 100 value → length text ≤ 9000 → IsBytes text → IsLinkPacket text h.nack h.fragment
+is_link text value f h outer short fits = record { value = value; headers = h.headers; outer = outer; inner = h.inner; allowed = h.allowed; once = h.once; nacked = h.nacked; short = short; octets = fits }
+
+alone_is : (text : List ℕ) (f : PlainFrame) → IsPacketOf text f → IsFrame text f
+alone_is text f (inl i) = subst (IsFrame text) i.2 (i.1, inl refl)
+alone_is text f (inr d) = subst (IsFrame text) d.2 (d.1, inl refl)
+
+linked_is : (text : List ℕ) (nack : Option ℕ) (fragment : Option (List ℕ)) (f : PlainFrame) → MayBeBytes fragment → held nack fragment ≡ Ok f → IsLinkPacket text nack fragment → IsFrame text f
+linked_is text None None f fits e link = subst (IsFrame text) (ok_is Idle f e) link
+linked_is text (Some reason) None f fits e link = absurd (err_is_not_ok _ f e)
+linked_is text None (Some whole) f fits e link =
+    let o = bind_ok (only_element whole) (packet_of whole) f e in
+    elim (packet_found whole o.0 f fits (only_found whole o.0 fits o.1) o.2) [
+      | inl i ↦ subst (IsFrame text) i.2 (i.1, inr link)
+      | inr d ↦ subst (IsFrame text) d.2 (d.1, inr link)
+    ]
+linked_is text (Some reason) (Some whole) f fits e link =
+    let o = bind_ok (only_element whole) (nacked_of reason whole) f e in
+    let i = nacked_found reason whole o.0 f fits (only_found whole o.0 fits o.1) o.2 in
+    subst (IsFrame text) i.2 (i.1, link)
 
 pub frame_found : (text : List ℕ) (f : PlainFrame) → IsBytes text → frame_at text ≡ Ok f → IsFrame text f
 unfolding frame_at
 frame_found text f fits e =
-    let a = guard_ok (ltb 9000 (length text)) TooLong (on_result (λ x. packet_at text x.0 x.1) (λ t. Err (Tlv t)) (element_at text)) f e in
-    let o = outer_ok text (element_at text) f a.1 in
-    let x = o.0 in
-    let b = guard_ok (not (is_nil x.1)) BadField _ f o.2 in
-    let c = guard_ok (not (eqb x.0.0 5 || eqb x.0.0 6)) BadField _ f b.1 in
-    let d = guard_ok (ltb 8800 (length text)) TooLong _ f c.1 in
-    let found = element_found text x.0 x.1 fits o.1 in
-    let alone : text ≡ element x.0 = found.1 ∙ ((λ k. element x.0 ++ is_nil_is x.1 (not-false _ b.0) k) ∙ append-nil (element x.0)) in
-    packet_found text x.0 f fits (found.0, alone) (ltb-false _ _ d.0) (which_kind x.0.0 c.0) d.1
+    let a = guard_ok (ltb 9000 (length text)) TooLong (only_element text >>= outer_of text) f e in
+    let o = bind_ok (only_element text) (outer_of text) f a.1 in
+    let own = only_found text o.0 fits o.1 in
+    elim (cases_eq o.0.0 100) [
+      | inl is ↦
+          let outer = subst (λ (k : ℕ). IsElement text k o.0.1) is own in
+          let h = link_found o.0.1 f (IsBytes-inside text o.0.1 100 fits outer) (subst (λ (k : ℕ). outer_of text (k, o.0.1) ≡ Ok f) is o.2) in
+          linked_is text h.nack h.fragment f h.fits h.holds (is_link text o.0.1 f h outer (ltb-false _ _ a.0) fits)
+      | inr other ↦ alone_is text f (packet_found text o.0 f fits own (rw (ne_eqb o.0.0 100 other) at o.2))
+    ]
+
+link_again_in : (text : List ℕ) (nack : Option ℕ) (fragment : Option (List ℕ)) (f : PlainFrame) → IsLinkPacket text nack fragment → held nack fragment ≡ Ok f → frame_at text ≡ Ok f
+unfolding frame_at
+link_again_in text nack fragment f h holds =
+    rw (le-ltb 9000 (length text) h.short, only_again text h.value 100 h.outer) (link_again text nack fragment f h holds)
 
 pub frame_again : (text : List ℕ) (f : PlainFrame) → IsFrame text f → frame_at text ≡ Ok f
 unfolding frame_at
-frame_again text (AnInterest i) h =
-    rw (le-ltb 9000 (length text) (omega (arith, h.fields.short)), element_alone text h.fields.value 5 h.fields.outer, le-ltb 8800 (length text) h.fields.short, interest_again h.fields.value i (IsBytes-inside text h.fields.value 5 h.fields.octets h.fields.outer) (interest_value text i h)) refl
-frame_again text (AData d) h =
-    rw (le-ltb 9000 (length text) (omega (arith, h.fields.short)), element_alone text h.fields.value 6 h.fields.outer, le-ltb 8800 (length text) h.fields.short, data_again h.fields.value d (IsBytes-inside text h.fields.value 6 h.fields.octets h.fields.outer) (data_value text d h)) refl
+frame_again text (AnInterest whole i) (h, inl same) =
+    rw (same, le-ltb 9000 (length whole) (omega (arith, h.fields.short)), only_again whole h.fields.value 5 h.fields.outer, interest_of_again whole i h) refl
+frame_again text (AnInterest whole i) (h, inr link) =
+    link_again_in text None (Some whole) (AnInterest whole i) link (rw (only_again whole h.fields.value 5 h.fields.outer, interest_of_again whole i h) refl)
+frame_again text (AData whole d) (h, inl same) =
+    rw (same, le-ltb 9000 (length whole) (omega (arith, h.fields.short)), only_again whole h.fields.value 6 h.fields.outer, data_of_again whole d h) refl
+frame_again text (AData whole d) (h, inr link) =
+    link_again_in text None (Some whole) (AData whole d) link (rw (only_again whole h.fields.value 6 h.fields.outer, data_of_again whole d h) refl)
+frame_again text (ANack reason whole i) h =
+    link_again_in text (Some reason) (Some whole) (ANack reason whole i) h.1 (rw (only_again whole h.0.fields.value 5 h.0.fields.outer, interest_of_again whole i h.0) refl)
+frame_again text Idle h = link_again_in text None None Idle h refl
 
 pub found_from : {X : Type 0} (view : X → PlainFrame) (text : List ℕ) (r : Result X PacketFault) → IsBytes text → on_result (λ x. good (view x)) (λ f. Err f) r ≡ frame_at text → IfOk r (λ x. IsFrame text (view x))
 found_from view text (Ok x) fits e = frame_found text (view x) fits (sym e)

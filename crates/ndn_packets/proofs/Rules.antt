@@ -18,3 +18,5 @@ pub elements_of-empty : (value : List ℕ) → eqb (length value) 0 ≡ true →
 elements_of-empty value e = ap elements_of (nil_from_length value (eqb-true _ _ e)) ∙ elements_of-nil
 
 pub ruleset nil_tests = (is_nil-true, is_nil-false)
+
+pub ruleset no_elements = (elements_of-empty)

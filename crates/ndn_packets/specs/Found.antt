@@ -6,10 +6,15 @@ use Rattle.ndn_tlv.specs.Element.{Field}
 use Rattle.ndn_packets.specs.declared.interest.Digests.{Digests}
 use Rattle.ndn_packets.specs.declared.interest.Digests.TheVariants as digests
 use Rattle.ndn_packets.specs.declared.interest.Found.{Found as InterestFound}
+use Rattle.ndn_packets.specs.declared.link.Headers.{Headers}
 use Rattle.ndn_packets.specs.declared.signature.Found.{Found as InfoFound}
 use Rattle.ndn_packets.specs.declared.signature.SignatureInfo.{SignatureInfo}
 use Rattle.ndn_packets.specs.Packet.{PlainSignatureInfo, plain_locator}
 use Rattle.ndn_packets.specs.Reading.{InterestSoFar, DataSoFar, InfoSoFar}
+use Rattle.ndn_packets.specs.FrameReading.{LinkSoFar}
+
+abbrev pub link_so_far : Headers → LinkSoFar
+link_so_far h = record { sequence = h.sequence; frag_index = h.frag_index; frag_count = h.frag_count; pit_token = h.pit_token; nack = h.nack }
 
 abbrev pub info_so_far : InfoFound → InfoSoFar
 info_so_far f = record { kind = f.kind; locator = plain_locator f.locator; time = f.time; seq = f.seq }

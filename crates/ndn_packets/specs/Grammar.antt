@@ -6,7 +6,7 @@ use Rattle.ndn_tlv.specs.Element.{Field, element, IsElement, IsElements}
 use Rattle.ndn_names.specs.Name.{IsNameValue}
 use Rattle.ndn_packets.specs.Packet.{digests_in}
 use Rattle.ndn_packets.specs.Fields.{Fields, optional, flag, is_even_high, is_ignored_in_meta_info, is_ignored_in_signature_info, interest_schema, data_schema, meta_schema, info_schema}
-use Rattle.ndn_packets.specs.Packet.{PlainLocator, Missing, KeyName, Digest, Other, PlainSignatureInfo, PlainSignature, PlainInterest, PlainData, PlainFrame, AnInterest, AData}
+use Rattle.ndn_packets.specs.Packet.{PlainLocator, Missing, KeyName, Digest, Other, PlainSignatureInfo, PlainSignature, PlainInterest, PlainData}
 
 -- the text is at most 8,800 octets, one element of this type, which begins with a Name; of the elements after it these are the
 -- fields of the schema, and all others are ignored
@@ -126,8 +126,3 @@ pub record IsData (text : List ℕ) (d : PlainData) : Type 0 where
   pub name : IsNameValue name_value d.name
   pub freshness : IsFreshness meta_value d.freshness
   pub info : IsSignatureInfo info_value d.signature.info
-
--- A frame is one packet.
-abbrev pub IsFrame : List ℕ → PlainFrame → Type 0
-IsFrame text (AnInterest i) = IsInterest text i
-IsFrame text (AData d) = IsData text d

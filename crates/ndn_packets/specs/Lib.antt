@@ -1,7 +1,9 @@
 pub mod Packet
 pub mod Fields
 pub mod Grammar
+pub mod Link
 pub mod Answers
 pub mod Reading
+pub mod FrameReading
 pub mod FieldReader
 pub mod Found

@@ -43,9 +43,13 @@ pub record PlainData : Type 0 where
   pub content : Option (List ℕ)
   pub signature : PlainSignature
 
+-- What octets of a link hold: a packet with its received octets, which are its own element without what the link put around
+-- it, or nothing.
 pub data PlainFrame : Type 0 where
-  AnInterest : PlainInterest → PlainFrame
-  AData : PlainData → PlainFrame
+  AnInterest : (whole : List ℕ) (interest : PlainInterest) → PlainFrame
+  AData : (whole : List ℕ) (packet : PlainData) → PlainFrame
+  ANack : (reason : ℕ) (whole : List ℕ) (interest : PlainInterest) → PlainFrame
+  Idle : PlainFrame
 
 -- the components of a name that are digests of parameters
 abbrev pub digests_in : List Field → List Field
@@ -76,10 +80,7 @@ abbrev pub plain_data : Data → PlainData
 plain_data d = record { name = components d.name; freshness = d.freshness; content = option_map (λ c. c.now) d.content; signature = plain_signature d.signature }
 
 abbrev pub plain_frame : Frame → PlainFrame
-plain_frame (frames.Interest i) = AnInterest (plain_interest i)
-plain_frame (frames.Data d) = AData (plain_data d)
-
--- the received octets that a view was read from
-abbrev pub whole_of : Frame → List ℕ
-whole_of (frames.Interest i) = i.whole.now
-whole_of (frames.Data d) = d.whole.now
+plain_frame (frames.Interest i) = AnInterest i.whole.now (plain_interest i)
+plain_frame (frames.Data d) = AData d.whole.now (plain_data d)
+plain_frame (frames.Nack reason i) = ANack reason i.whole.now (plain_interest i)
+plain_frame frames.Idle = Idle

@@ -1,5 +1,5 @@
 -- Reading packets from left to right, with the first fault that is met (NDN Packet Format 0.3, "Interest Packet" and "Data Packet").
-use Rattle.std.specs.Prelude.{◌≡◌, ℕ, List, [], ◌∷◌, length, Option, None, Some, Result, Ok, Err, Bool, true, false, nat_lt, ◌==◌, ◌||◌, not, if◌then◌else◌}
+use Rattle.std.specs.Prelude.{ℕ, List, [], ◌∷◌, length, Option, None, Some, Result, Ok, Err, Bool, true, false, ◌==◌, not, if◌then◌else◌}
 use Rattle.std.specs.List.{filter_map, flat_map}
 use Rattle.std.specs.Result.{result_ok}
 use Rattle.std.specs.Str.{bytes_eq}
@@ -9,9 +9,9 @@ use Rattle.ndn_tlv.specs.Element.{Field, element}
 use Rattle.ndn_tlv.specs.Reading.{◌>>=◌, on_result, element_at, elements_of, nni_at}
 use Rattle.ndn_names.specs.Reading.{name_at}
 use Rattle.ndn_packets.specs.declared.fault.PacketFault.{PacketFault}
-use Rattle.ndn_packets.specs.declared.fault.PacketFault.TheVariants.{Tlv, NoName, CriticalUnknown, BadField, NoNonce, DigestMissing, DigestWrong, DigestWithout, TooLong}
+use Rattle.ndn_packets.specs.declared.fault.PacketFault.TheVariants.{Tlv, NoName, CriticalUnknown, BadField, NoNonce, DigestMissing, DigestWrong, DigestWithout}
 use Rattle.ndn_packets.specs.Fields.{is_even_high, is_ignored_in_meta_info, is_ignored_in_signature_info, is_follower, interest_schema, data_schema, meta_schema, info_schema}
-use Rattle.ndn_packets.specs.Packet.{digests_in, PlainLocator, Missing, KeyName, Digest, Other, PlainSignatureInfo, PlainSignature, PlainInterest, PlainData, PlainFrame, AnInterest, AData}
+use Rattle.ndn_packets.specs.Packet.{digests_in, PlainLocator, Missing, KeyName, Digest, Other, PlainSignatureInfo, PlainSignature, PlainInterest, PlainData}
 
 -- what of a schema stands behind a type that counts in it
 abbrev pub schema_after : ℕ → List ℕ → Option (List ℕ)
@@ -246,21 +246,3 @@ data_at value = do
   info ← found_or BadField s.info
   signature ← found_or BadField s.value
   Ok (record { name = first.0; freshness = s.freshness; content = s.content; signature = record { info = info; value = signature } })
-
--- the packet of an outer element, with what follows that element
-abbrev pub packet_at : List ℕ → Field → List ℕ → Result PlainFrame PacketFault
-packet_at text outer rest =
-    if not (is_nil rest) then Err BadField else (
-    if not (outer.0 == 5 || outer.0 == 6) then Err BadField else (
-    if nat_lt 8800 (length text) then Err TooLong else (
-    if outer.0 == 5 then (interest_at outer.1 >>= λ i. Ok (AnInterest i)) else
-    (data_at outer.1 >>= λ d. Ok (AData d)))))
-
-unfoldable pub frame_at : List ℕ → Result PlainFrame PacketFault
-frame_at text =
-    if nat_lt 9000 (length text) then Err TooLong else
-    on_result (λ x. packet_at text x.0 x.1) (λ f. Err (Tlv f)) (element_at text)
-
--- the first fault of a text that is no frame
-abbrev pub FaultOf : List ℕ → PacketFault → Type 0
-FaultOf text fault = frame_at text ≡ Err fault

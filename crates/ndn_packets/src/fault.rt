@@ -1,15 +1,17 @@
 use ndn_tlv::TlvFault;
 use thiserror::Error;
 
-/// Why octets are no packet of this profile: the first fault from the left (NDN Packet Format 0.3,
-/// "Interest Packet" and "Data Packet").
+/// Why octets are no frame of this profile: the first fault from the left (NDN Packet Format 0.3,
+/// "Interest Packet" and "Data Packet"; NDNLPv2, "Packet Format").
 ///
 /// The order is: `TooLong` above 9,000 octets, the outer element, octets after it, its type,
 /// `TooLong` above 8,800 octets, the Name, the elements behind it one after the other, then a field
 /// that is missing, and last the digest of an Interest's parameters. Of an element `Tlv` is told first
 /// (never `BadInteger`), then `CriticalUnknown`, then the fault of its value; a MetaInfo, a
 /// SignatureInfo and an InterestSignatureInfo tell the faults of their own elements in this order, and
-/// the last two then a missing SignatureType.
+/// the last two then a missing SignatureType. Of a header field of a link packet `Tlv` is told first,
+/// then `LpField`, then the fault of its value; a Nack tells those of its own elements, and a Fragment
+/// those of the packet in it, from the outer element on.
 #[derive(Clone, Copy, Debug, PartialEq, Eq, Error)]
 pub enum PacketFault {
     /// An element cannot be read, one that this profile does not have among them.
@@ -23,7 +25,9 @@ pub enum PacketFault {
     #[error("an unknown element that may not be ignored")]
     CriticalUnknown,
     /// A field other than the Name and the Nonce is missing, or a field has a value that is not of
-    /// its form; or the outer type is neither 5 nor 6, or octets follow the packet.
+    /// its form; or the outer type is none of 5, 6 and 100, or octets follow the outer element; or a
+    /// Fragment holds something else than one packet, or beside a Nack than one Interest, or a Nack
+    /// has no Fragment.
     #[error("a field is missing, or not of its form")]
     BadField,
     /// An Interest has no Nonce.
@@ -39,6 +43,14 @@ pub enum PacketFault {
     /// An Interest without ApplicationParameters has a digest of them in its name.
     #[error("a parameters digest without parameters")]
     DigestWithout,
+    /// A link packet is one of several fragments: its FragIndex is above 0, or its FragCount above 1.
+    #[error("a fragment of a packet")]
+    Fragmented,
+    /// A link packet has a header field twice that this profile knows, an element behind its Fragment, a
+    /// PitToken that is not of 1 to 32 octets, or a header field that this profile does not know and
+    /// whose type is not from 800 to 959 and divisible by 4.
+    #[error("a header field that a link packet may not have")]
+    LpField,
     /// The octets are more than 9,000, or those of a packet more than 8,800.
     #[error("too long")]
     TooLong,

@@ -1,22 +1,32 @@
-ghost use Rattle.std.specs.Prelude.{◌≡◌, ◌↔◌, ◌<◌, ℕ, List, [], slice_index, Ok, Err, IfOk, IfErr};
+ghost use Rattle.std.specs.Prelude.{◌≡◌, ◌↔◌, ◌<◌, ℕ, List, slice_index, Ok, Err, IfOk, IfErr};
 ghost use Rattle.ndn_tlv.specs.Reading.{on_result};
-ghost use Rattle.ndn_packets.specs.Packet.{PlainFrame, plain_frame, whole_of};
-ghost use Rattle.ndn_packets.specs.Grammar.{IsFrame};
-ghost use Rattle.ndn_packets.specs.Reading.{frame_at, packet_at, FaultOf};
+ghost use Rattle.ndn_packets.specs.Packet.{PlainFrame, plain_interest, plain_data, plain_frame};
+ghost use Rattle.ndn_packets.specs.Link.{IsFrame};
+ghost use Rattle.ndn_packets.specs.FrameReading.{only_element, interest_of, data_of, packet_of, nacked_of, frame_at, FaultOf};
 
 use crate::data::Data;
 use crate::fault::PacketFault;
 use crate::interest::Interest;
-use ndn_tlv::first_element;
+use crate::link::read_link;
+use ndn_tlv::{Element, first_element};
 
-/// What octets of a link hold (NDN Packet Format 0.3, "Interest Packet" and "Data Packet"): a view
-/// of those octets, which takes no memory.
+/// What octets of a link hold (NDN Packet Format 0.3, "Interest Packet" and "Data Packet"; NDNLPv2,
+/// "Network Nack"): a view of those octets, which takes no memory.
 #[derive(Clone, Copy, Debug)]
 pub enum Frame<'a> {
     /// An element of type 5.
     Interest(Interest<'a>),
     /// An element of type 6.
     Data(Data<'a>),
+    /// A link packet with a Nack.
+    Nack {
+        /// The NackReason, 0 where there is none: Congestion is 50, Duplicate 100, NoRoute 150.
+        reason: u64,
+        /// The Interest that is refused.
+        interest: Interest<'a>,
+    },
+    /// A link packet that holds no packet.
+    Idle,
 }
 
 /// The greatest length of the octets of a link, in octets.
@@ -25,18 +35,22 @@ const MAX_FRAME: usize = 9000;
 /// The greatest length of an Interest or a Data, in octets.
 const MAX_PACKET: usize = 8800;
 
-/// The type of an Interest and of a Data.
-const INTEREST: u32 = 5;
+/// The types of an Interest, a Data and a link packet.
+pub const INTEREST: u32 = 5;
 
-const DATA: u32 = 6;
+pub const DATA: u32 = 6;
 
-/// Reads octets of a link, which are one Interest or one Data of this profile (NDN Packet Format
-/// 0.3, "Interest Packet" and "Data Packet"). Their fields stand in the order of the standard, and
-/// other elements among them are ignored where their types allow it. The digest of an Interest's
-/// ApplicationParameters has to be right. The octets are at most 9,000, and those of a packet at most
-/// 8,800.
+const LINK_PACKET: u32 = 100;
+
+/// Reads octets of a link (NDN Packet Format 0.3, "Interest Packet" and "Data Packet"; NDNLPv2,
+/// "Packet Format"): one Interest or one Data of this profile, or a link packet around one. Fields stand
+/// in the order of the standard, and other elements among them are ignored where their types allow it.
+/// The digest of an Interest's ApplicationParameters has to be right. The octets are at most 9,000, and
+/// those of a packet at most 8,800. A packet's received octets are its own element, without the link
+/// packet's.
 ///
-/// Refuses all else by the first fault from the left: see `PacketFault`. No signature is verified.
+/// Refuses all else by the first fault from the left: see `PacketFault`. No signature is verified, and
+/// a PitToken is read and dropped.
 pub fn read_frame(octets: &[u8]) -> Result<Frame<'_>, PacketFault>
     // What is read is in the grammar.
     ensures found { IfOk result (λ frame. IsFrame octets.now (plain_frame frame)) }
@@ -46,42 +60,81 @@ pub fn read_frame(octets: &[u8]) -> Result<Frame<'_>, PacketFault>
     // Which fault it is.
     ensures fault { IfErr result (FaultOf octets.now) }
     ensures exact { on_result (λ f. Ok (plain_frame f)) Err result ≡ frame_at octets.now }
-    ensures whole { IfOk result (λ frame. whole_of frame ≡ octets.now) }
 {
     frame_of(octets)
 }
 
-#[tactic(auto, unfolding(crate::specs::Reading::frame_at))]
+#[tactic(auto, unfolding(crate::specs::FrameReading::frame_at))]
 fn frame_of(octets: &[u8]) -> Result<Frame<'_>, PacketFault>
-    ensures exact { on_result (λ f. Ok (plain_frame f)) Err result ≡ frame_at octets.now }
-    ensures whole { IfOk result (λ frame. whole_of frame ≡ octets.now) }
+    ensures { on_result (λ f. Ok (plain_frame f)) Err result ≡ frame_at octets.now }
 {
     if octets.len() > MAX_FRAME {
         return Err(PacketFault::TooLong);
     }
-    let (outer, rest) = first_element(octets).map_err(PacketFault::Tlv)?;
+    let outer = only_element(octets)?;
+    if outer.kind == LINK_PACKET {
+        return read_link(outer.value);
+    }
+    packet_of(octets, outer)
+}
+
+/// The one element that the octets are.
+pub(crate) fn only_element(octets: &[u8]) -> Result<Element<'_>, PacketFault>
+    ensures { on_result (λ e. Ok (e.kind, e.value.now)) Err result ≡ only_element octets.now }
+{
+    let (element, rest) = first_element(octets).map_err(PacketFault::Tlv)?;
     if !rest.is_empty() {
         return Err(PacketFault::BadField);
     }
-    packet_of(octets, outer.kind, outer.value)
+    Ok(element)
 }
 
-/// The packet of an outer element that is all of the octets.
-fn packet_of<'a>(octets: &'a [u8], kind: u32, value: &'a [u8]) -> Result<Frame<'a>, PacketFault>
-    ensures exact { on_result (λ f. Ok (plain_frame f)) Err result ≡ packet_at octets.now (kind, value.now) [] }
-    ensures whole { IfOk result (λ frame. whole_of frame ≡ octets.now) }
+/// The Interest or the Data that the octets are, whose element this is.
+pub(crate) fn packet_of<'a>(octets: &'a [u8], outer: Element<'a>) -> Result<Frame<'a>, PacketFault>
+    ensures { on_result (λ f. Ok (plain_frame f)) Err result ≡ packet_of octets.entry.now (outer.entry.kind, outer.entry.value.now) }
 {
-    if kind != INTEREST && kind != DATA {
+    match outer.kind {
+        INTEREST => Ok(Frame::Interest(interest_of(octets, outer.value)?)),
+        DATA => Ok(Frame::Data(data_of(octets, outer.value)?)),
+        _ => Err(PacketFault::BadField),
+    }
+}
+
+/// The Interest inside a Nack of this reason, that the octets are, whose element this is.
+pub(crate) fn nacked_of<'a>(
+    reason: u64,
+    octets: &'a [u8],
+    outer: Element<'a>,
+) -> Result<Frame<'a>, PacketFault>
+    ensures { on_result (λ f. Ok (plain_frame f)) Err result ≡ nacked_of reason octets.entry.now (outer.entry.kind, outer.entry.value.now) }
+{
+    if outer.kind != INTEREST {
         return Err(PacketFault::BadField);
     }
+    let interest = interest_of(octets, outer.value)?;
+    Ok(Frame::Nack { reason, interest })
+}
+
+/// The Interest that the octets are, whose value this is.
+fn interest_of<'a>(octets: &'a [u8], value: &'a [u8]) -> Result<Interest<'a>, PacketFault>
+    ensures exact { on_result (λ i. Ok (plain_interest i)) Err result ≡ interest_of octets.entry.now value.entry.now }
+    ensures whole { IfOk result (λ i. i.whole.now ≡ octets.entry.now) }
+{
     if octets.len() > MAX_PACKET {
         return Err(PacketFault::TooLong);
     }
-    if kind == INTEREST {
-        Ok(Frame::Interest(Interest::read(octets, value)?))
-    } else {
-        Ok(Frame::Data(Data::read(octets, value)?))
+    Interest::read(octets, value)
+}
+
+/// The Data that the octets are, whose value this is.
+fn data_of<'a>(octets: &'a [u8], value: &'a [u8]) -> Result<Data<'a>, PacketFault>
+    ensures exact { on_result (λ d. Ok (plain_data d)) Err result ≡ data_of octets.entry.now value.entry.now }
+    ensures whole { IfOk result (λ d. d.whole.now ≡ octets.entry.now) }
+{
+    if octets.len() > MAX_PACKET {
+        return Err(PacketFault::TooLong);
     }
+    Data::read(octets, value)
 }
 
 /// Law: octets are one frame at most, which `frame_at` reads.

@@ -50,9 +50,9 @@ const NONCE: u32 = 10;
 
 const INTEREST_LIFETIME: u32 = 12;
 
-const HOP_LIMIT: u32 = 34;
+pub const HOP_LIMIT: u32 = 34;
 
-const APPLICATION_PARAMETERS: u32 = 36;
+pub const APPLICATION_PARAMETERS: u32 = 36;
 
 const FIELDS: [u32; 9] = [
     CAN_BE_PREFIX,
@@ -70,7 +70,7 @@ const FIELDS: [u32; 9] = [
 const DEFAULT_LIFETIME: u64 = 4000;
 
 /// The type of a component that is the digest of ApplicationParameters.
-const PARAMETERS_SHA256_DIGEST: u16 = 2;
+pub const PARAMETERS_SHA256_DIGEST: u16 = 2;
 
 /// The fields of an Interest that were read so far.
 #[derive(Clone, Copy)]

@@ -1,4 +1,4 @@
-//! Interests and Data of the Named Data Networking packet format, read in place.
+//! Interests, Data and link packets of the Named Data Networking packet format, read in place.
 #![tactic(auto)]
 
 mod answers;
@@ -7,6 +7,7 @@ mod fault;
 mod field_reader;
 mod frame;
 mod interest;
+mod link;
 mod meta_info;
 mod schema;
 mod signature;

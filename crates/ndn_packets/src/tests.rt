@@ -1,3 +1,5 @@
+mod link;
+
 use super::*;
 use ndn_tlv::TlvFault;
 use sha2::{Digest, Sha256};
@@ -73,7 +75,7 @@ fn a_data(rt: HostRuntime) -> Result<(), Fail> {
 
 #[test]
 fn faults_of_texts(rt: HostRuntime) {
-    let cases: [(&[u8], PacketFault); 19] = [
+    let cases: [(&[u8], PacketFault); 20] = [
         // The length 11 in three octets.
         (
             &[5, 0xfd, 0, 11, 7, 3, 8, 1, 65, 10, 4, 1, 2, 3, 4],
@@ -85,14 +87,15 @@ fn faults_of_texts(rt: HostRuntime) {
             PacketFault::Tlv(TlvFault::TypeTooLarge),
         ),
         // Another outer type.
-        (&[100, 0], PacketFault::BadField),
-        (&[100, 5, 7, 3, 8, 1, 65], PacketFault::BadField),
+        (&[101, 0], PacketFault::BadField),
+        (&[7, 3, 8, 1, 65], PacketFault::BadField),
         // Octets after the packet, which are not read.
         (
             &[5, 11, 7, 3, 8, 1, 65, 10, 4, 1, 2, 3, 4, 0],
             PacketFault::BadField,
         ),
         (&[100, 0, 0], PacketFault::BadField),
+        (&[101, 0, 0], PacketFault::BadField),
         (&[5, 0, 5], PacketFault::BadField),
         // No Name in front, or an empty one in an Interest.
         (&[5, 0], PacketFault::NoName),
@@ -589,7 +592,7 @@ fn locator(rt: &HostRuntime, value: &[u8]) -> Result<Option<bool>, Fail> {
             Locator::Digest => Ok(None),
             Locator::Missing => Err(Fail::from("no KeyLocator")),
         },
-        Frame::Interest(_) => Err(Fail::from("an Interest")),
+        _ => Err(Fail::from("no Data")),
     }
 }
 
@@ -663,7 +666,7 @@ fn greatest_lengths(rt: HostRuntime) -> Result<(), Fail> {
     let zeros = filled(&rt, &[], 9001, &[])?;
     assert_eq!(rt; fault_of(&zeros), Some(PacketFault::TooLong));
     // An outer element that is no packet has no length of its own.
-    let other = filled(&rt, &[100, 0xfd, 0x23, 0x24], 8996, &[])?;
+    let other = filled(&rt, &[101, 0xfd, 0x23, 0x24], 8996, &[])?;
     assert_eq!(rt; other.len(), 9000);
     assert_eq!(rt; fault_of(&other), Some(PacketFault::BadField));
     Ok(())

@@ -1,11 +1,13 @@
 -- In a run each Data that is sent answers an Interest that is pending on that face.
-use Rattle.std.proofs.Common.{◌≡◌, ◌≢◌, ℕ, ◌<◌, ◌≤◌, ◌⊎◌, max, List, [], ◌∷◌, Option, Some, None, Result, Ok, Err, refl, sym, ap, subst, ◌∙◌, inl, inr, map}
+use Rattle.std.proofs.Common.{◌≡◌, ℕ, max, List, [], ◌∷◌, Option, Some, None, Result, Ok, Err, refl, sym, ap, subst, ◌∙◌, inl, inr}
 use Rattle.std.proofs.lemmas.Bool.{cases_eq, cases_lt}
-use Rattle.ndn_packets.specs.Packet.{PlainInterest, PlainData, PlainFrame, AnInterest, AData}
-use Rattle.ndn_packets.specs.Grammar.{IsFrame}
-use Rattle.ndn_packets.specs.Reading.{frame_at}
+use Rattle.ndn_packets.specs.Packet.{PlainInterest, PlainData, PlainFrame, AnInterest, AData, ANack, Idle as AnIdle}
+use Rattle.ndn_packets.specs.Grammar.{IsData}
+use Rattle.ndn_packets.specs.FrameReading.{frame_at}
 use Rattle.ndn_packets.specs.declared.fault.PacketFault.{PacketFault}
+use Rattle.ndn_packets.proofs.Steps.{good}
 use Rattle.ndn_packets.proofs.Packets.{frame_again}
+use Rattle.ndn_packets.proofs.Wholes.{interest_alone, data_alone}
 use Rattle.node_core.specs.declared.event.Scope.{Scope}
 use Rattle.node_core.specs.Event.{PlainEvent, Packet, FaceUp, FaceDown, Tick, Answer, Send}
 use Rattle.node_core.specs.State.{IsIn}
@@ -23,22 +25,29 @@ sent_to face text octets (f ∷ faces) h =
       | inr among ↦ let r = sent_to face text octets faces among in (inr r.0, r.1)
     ]
 
-not_both : (i : PlainInterest) (d : PlainData) (r : Result PlainFrame PacketFault) → r ≡ Ok (AnInterest i) → r ≡ Ok (AData d) → ⊥
-not_both i d r p q = cc
+-- what a text that is a Data reads as
+data_read : (text : List ℕ) (d : PlainData) → IsData text d → frame_at text ≡ Ok (AData text d)
+data_read text d is = frame_again text (AData text d) (is, inl refl)
 
-same_data : (d e : PlainData) (r : Result PlainFrame PacketFault) → r ≡ Ok (AData d) → r ≡ Ok (AData e) → d ≡ e
-same_data d e r p q = cc
+no_data : (text whole : List ℕ) (d : PlainData) (i : PlainInterest) → frame_at text ≡ Ok (AData text d) → whole ≡ text → frame_at whole ≡ Ok (AnInterest whole i) → ⊥
+no_data text whole d i read same interest = (let both : good (AData text d) ≡ good (AnInterest text i) = sym read ∙ subst (λ (w : List ℕ). frame_at w ≡ Ok (AnInterest w i)) same interest in cc)
 
-packet_promise : (past : Run) (f t : ℕ) (octets : List ℕ) (read : Result PlainFrame PacketFault) (answer : Answer) → frame_at octets ≡ read → MayReplyPacket past (max (now_of past) t) f octets read answer → EachDataIsAsked past (Packet f t octets) answer
+same_data : (text : List ℕ) (d e : PlainData) → frame_at text ≡ Ok (AData text d) → frame_at text ≡ Ok (AData text e) → e ≡ d
+same_data text d e p q = (let both : good (AData text e) ≡ good (AData text d) = sym q ∙ p in cc)
+
+packet_promise : (past : Run) (f t : ℕ) (octets : List ℕ) (read : Result PlainFrame PacketFault) (answer : Answer) → frame_at octets ≡ read → MayReplyPacket past (max (now_of past) t) f read answer → EachDataIsAsked past (Packet f t octets) answer
 packet_promise past f t octets (Err fault) answer is may = nothing_sent past (Packet f t octets) answer (ap (λ (a : Answer). a.sends) may)
-packet_promise past f t octets (Ok (AnInterest i)) answer is may = λ face text d among framed.
-    let to = sent_to face text octets may.1.0 (subst (λ (sends : List Send). IsIn (face, text) sends) may.1.3 among) in
-    absurd (not_both i d (frame_at octets) is (ap frame_at to.1 ∙ frame_again text (AData d) framed))
-packet_promise past f t octets (Ok (AData e)) answer is may = λ face text d among framed.
-    let to = sent_to face text octets may.1.0 (subst (λ (sends : List Send). IsIn (face, text) sends) may.1.3 among) in
-    let same = same_data e d (frame_at octets) is (ap frame_at to.1 ∙ frame_again text (AData d) framed) in
+packet_promise past f t octets (Ok (AnInterest whole i)) answer is may = λ face text d among framed.
+    let to = sent_to face text whole may.1.0 (subst (λ (sends : List Send). IsIn (face, text) sends) may.1.3 among) in
+    absurd (no_data text whole d i (data_read text d framed) to.1 (interest_alone octets whole i is))
+packet_promise past f t octets (Ok (AData whole e)) answer is may = λ face text d among framed.
+    let to = sent_to face text whole may.1.0 (subst (λ (sends : List Send). IsIn (face, text) sends) may.1.3 among) in
+    let own : frame_at octets ≡ Ok (AData text e) = subst (λ (w : List ℕ). frame_at octets ≡ Ok (AData w e)) to.1 is in
+    let same = same_data text d e (data_read text d framed) (data_alone octets text e own) in
     let asks = (may.1.2 face).0 to.0 in
-    (f, t, ap (λ o. Packet f t o) to.1, asks.0, subst (λ (x : PlainData). Asks past (max (now_of past) t) face x.name) same asks.1)
+    (f, t, octets, refl, subst (λ (x : PlainData). frame_at octets ≡ Ok (AData text x)) same own, asks.0, subst (λ (x : PlainData). Asks past (max (now_of past) t) face x.name) same asks.1)
+packet_promise past f t octets (Ok (ANack reason whole i)) answer is may = nothing_sent past (Packet f t octets) answer (ap (λ (a : Answer). a.sends) may)
+packet_promise past f t octets (Ok AnIdle) answer is may = nothing_sent past (Packet f t octets) answer (ap (λ (a : Answer). a.sends) may)
 
 receive_promise : (past : Run) (f t : ℕ) (octets : List ℕ) (scope : Option Scope) (answer : Answer) → MayReceive past (max (now_of past) t) f octets scope answer → EachDataIsAsked past (Packet f t octets) answer
 receive_promise past f t octets None answer may = nothing_sent past (Packet f t octets) answer (ap (λ (a : Answer). a.sends) may)

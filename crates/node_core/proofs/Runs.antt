@@ -1,22 +1,21 @@
 -- A step takes a run in which the node stands to that run with one more event.
-use Rattle.std.proofs.Common.{◌≡◌, ◌≢◌, ℕ, ◌+◌, ◌-◌, ◌<◌, ◌≤◌, ◌⊎◌, Bool, true, false, cond, not, eqb, ltb, leb, max, List, [], ◌∷◌, ◌++◌, length, drop, Option, Some, None, Result, Ok, Err, refl, sym, ap, subst, ◌∙◌, arith, inl, inr}
-use Rattle.std.specs.Prelude.{◌&&◌, filter}
-use Rattle.std.specs.List.{list_any}
-use Rattle.std.proofs.lemmas.Bool.{eqb-true, eqb-false, eq-eqb, ne_eqb, ltb-true, lt-ltb, leb-true, leb-false, and_parts, and_from, and_left, and_right, not-true, not_from_false, false_from_ne_true}
+use Rattle.std.proofs.Common.{◌≡◌, ◌≢◌, ℕ, ◌+◌, ◌<◌, ◌≤◌, true, false, cond, not, eqb, leb, max, List, [], ◌∷◌, ◌++◌, length, drop, Option, Some, None, Result, Ok, Err, refl, sym, ap, subst, ◌∙◌, arith, inl, inr}
+use Rattle.std.specs.Prelude.{◌&&◌}
+use Rattle.std.proofs.lemmas.Bool.{eqb-true, eqb-false, eq-eqb, ne_eqb, ltb-true, lt-ltb, leb-true, leb-false, and_parts, and_from, not-true, not_from_false, false_from_ne_true}
 use Rattle.std.proofs.lemmas.List.{drop_at, append-nil}
 use Rattle.ndn_tlv.specs.Element.{Field}
-use Rattle.ndn_packets.specs.Packet.{PlainInterest, PlainData, PlainFrame, AnInterest, AData}
-use Rattle.ndn_packets.specs.Reading.{frame_at}
+use Rattle.ndn_packets.specs.Packet.{PlainInterest, PlainData, PlainFrame, AnInterest, AData, ANack, Idle as AnIdle}
+use Rattle.ndn_packets.specs.FrameReading.{frame_at}
 use Rattle.ndn_packets.specs.declared.fault.PacketFault.{PacketFault}
 use Rattle.node_core.specs.declared.event.Scope.{Scope}
 use Rattle.node_core.specs.declared.event.Verdict.{Verdict}
 use Rattle.node_core.specs.declared.event.Verdict.TheVariants.{Passed, Dropped}
 use Rattle.node_core.specs.declared.event.DropReason.{DropReason}
-use Rattle.node_core.specs.declared.event.DropReason.TheVariants.{NoFace, Malformed, BadFace, FaceOpen, FacesFull}
+use Rattle.node_core.specs.declared.event.DropReason.TheVariants.{NoFace, Malformed, Idle, NoPending, BadFace, FaceOpen, FacesFull}
 use Rattle.node_core.specs.Event.{PlainEvent, Packet, FaceUp, FaceDown, Tick, Answer, Send}
-use Rattle.node_core.specs.State.{FaceEntry, Waiting, State, initial, IsIn, IsRising, is_open, find_scope, numbers, same_name, is_alive, survivors, asks_for, is_of, without_face, without_name, without, is_asking, others, askers}
-use Rattle.node_core.specs.Step.{moment, after_expiry, deadline, drop_answer, pass_answer, with_face, without_entry, after_opening, after_closing, after_interest, after_data, after_packet, effect_of, Step}
-use Rattle.node_core.specs.Past.{Run, Start, Then, now_of, scope_of, scope_after, count_of, asked_until, asked_until_after, asked_until_after_packet, Asks, IsOpen, GoTo, MayReplyPacket, MayOpen, MayClose, MayReceive, MayReply, IsRun, Stands}
+use Rattle.node_core.specs.State.{Waiting, State, initial, IsIn, IsRising, is_open, find_scope, numbers, same_name, is_alive, survivors, asks_for, is_of, without_face, without_name, without, is_asking, others, askers}
+use Rattle.node_core.specs.Step.{moment, after_expiry, deadline, drop_answer, pass_answer, with_face, without_entry, after_opening, after_interest, after_data, after_packet, effect_of, Step}
+use Rattle.node_core.specs.Past.{Run, Start, Then, now_of, scope_of, scope_after, count_of, asked_until, asked_until_after, asked_until_after_packet, Asks, IsOpen, MayReplyPacket, MayReceive, MayReply, IsRun, Stands}
 use Rattle.node_core.proofs.Names.{same_name_is, same_name_same}
 use Rattle.node_core.proofs.Members.{IsIn-filter_from, IsIn-filter_to, IsIn-append_left, IsIn-append_right, IsIn-append_from, IsRising-filter, any_from, any_to, find_scope-with_face, length-with_face, IsRising-with_face, find_scope-without_entry, IsRising-without_entry, length-without_entry, is_open_some, is_open_none, found_from_in, in_from_found}
 
@@ -69,16 +68,18 @@ received_open past now face octets (Some s) answer may is = (s, refl)
 packet_open : (f now from : ℕ) (name : List Field) (was : Option ℕ) (scope : Option Scope) (read : Result PlainFrame PacketFault) → (from ≡ f → (s : Scope) × (scope ≡ Some s)) → ((u : ℕ) → was ≡ Some u → (s : Scope) × (scope ≡ Some s))
     → (u : ℕ) → asked_until_after_packet was f name now from read ≡ Some u → (s : Scope) × (scope ≡ Some s)
 packet_open f now from name was scope (Err fault) own before u e = before u e
-packet_open f now from name was scope (Ok (AnInterest i)) own before u e =
+packet_open f now from name was scope (Ok (AnInterest whole i)) own before u e =
     elim (eqb from f && same_name i.name name) as (λ b. (eqb from f && same_name i.name name) ≡ b → cond b (Some (deadline now i.lifetime)) was ≡ Some u → (s : Scope) × (scope ≡ Some s)) [
       | true ↦ λ t _. own (eqb-true from f (and_parts _ _ t).0)
       | false ↦ λ _ e. before u e
     ] refl e
-packet_open f now from name was scope (Ok (AData d)) own before u e =
+packet_open f now from name was scope (Ok (AData whole d)) own before u e =
     elim (same_name d.name name) as (λ b. cond b None was ≡ Some u → (s : Scope) × (scope ≡ Some s)) [
       | true ↦ λ e. absurd (none_is_not_some u e)
       | false ↦ λ e. before u e
     ] e
+packet_open f now from name was scope (Ok (ANack reason whole i)) own before u e = before u e
+packet_open f now from name was scope (Ok AnIdle) own before u e = before u e
 
 event_open : (past : Run) (f : ℕ) (name : List Field) (was : Option ℕ) (before : (u : ℕ) → was ≡ Some u → IsOpen past f) (event : PlainEvent) (verdict : Verdict) (answer : Answer) → verdict ≡ answer.verdict → MayReply past event answer
     → (u : ℕ) → asked_until_after was f name (max (now_of past) (moment event)) event verdict ≡ Some u → (s : Scope) × (scope_after (scope_of past f) f event verdict ≡ Some s)
@@ -207,9 +208,9 @@ is_of_is f name p e = let parts = and_parts _ _ e in (eqb-true p.face f parts.0,
 is_of_same : (f : ℕ) (name : List Field) (p : Waiting) → p.face ≡ f → p.name ≡ name → is_of f name p ≡ true
 is_of_same f name p e g = and_from _ _ (eq-eqb p.face f e) (subst (λ n. same_name p.name n ≡ true) g (same_name_same p.name))
 
-interest_stands : (past : Run) (f t : ℕ) (octets : List ℕ) (i : PlainInterest) (s : State) → At past (max (now_of past) t) s → frame_at octets ≡ Ok (AnInterest i)
-    → Stands (Then past (Packet f t octets) (after_interest s f octets i).0) (after_interest s f octets i).1
-interest_stands past f t octets i s at read =
+interest_stands : (past : Run) (f t : ℕ) (octets whole : List ℕ) (i : PlainInterest) (s : State) → At past (max (now_of past) t) s → frame_at octets ≡ Ok (AnInterest whole i)
+    → Stands (Then past (Packet f t octets) (after_interest s f whole i).0) (after_interest s f whole i).1
+interest_stands past f t octets whole i s at read =
     let new : Waiting = record { face = f; name = i.name; deadline = deadline s.now i.lifetime } in
     let same_time : deadline s.now i.lifetime ≡ deadline (max (now_of past) t) i.lifetime = ap (λ n. deadline n i.lifetime) at.now_is in
     let reads : (face : ℕ) (name : List Field) → asked_until_after_packet (asked_until past face name) face name (max (now_of past) t) f (frame_at octets) ≡ cond (eqb f face && same_name i.name name) (Some (deadline (max (now_of past) t) i.lifetime)) (asked_until past face name) = λ face name. ap (asked_until_after_packet (asked_until past face name) face name (max (now_of past) t) f) read in
@@ -245,9 +246,9 @@ interest_stands past f t octets i s at read =
           );
     }
 
-data_stands : (past : Run) (f t : ℕ) (octets : List ℕ) (d : PlainData) (s : State) → At past (max (now_of past) t) s → frame_at octets ≡ Ok (AData d)
-    → Stands (Then past (Packet f t octets) (after_data s f octets d).0) (after_data s f octets d).1
-data_stands past f t octets d s at read =
+data_stands : (past : Run) (f t : ℕ) (octets whole : List ℕ) (d : PlainData) (s : State) → At past (max (now_of past) t) s → frame_at octets ≡ Ok (AData whole d)
+    → Stands (Then past (Packet f t octets) (after_data s f whole d).0) (after_data s f whole d).1
+data_stands past f t octets whole d s at read =
     let reads : (face : ℕ) (name : List Field) → asked_until_after_packet (asked_until past face name) face name (max (now_of past) t) f (frame_at octets) ≡ cond (same_name d.name name) None (asked_until past face name) = λ face name. ap (asked_until_after_packet (asked_until past face name) face name (max (now_of past) t) f) read in
     record {
       now = at.now_is;
@@ -288,15 +289,17 @@ asker_asks past run now s at f name g = (
 )
 
 packet_kept : (past : Run) → IsRun past → (f t : ℕ) (octets : List ℕ) (s : State) → At past (max (now_of past) t) s → (read : Result PlainFrame PacketFault) → frame_at octets ≡ read
-    → MayReplyPacket past (max (now_of past) t) f octets read (after_packet s f octets read).0 × Stands (Then past (Packet f t octets) (after_packet s f octets read).0) (after_packet s f octets read).1
+    → MayReplyPacket past (max (now_of past) t) f read (after_packet s f read).0 × Stands (Then past (Packet f t octets) (after_packet s f read).0) (after_packet s f read).1
 packet_kept past run f t octets s at (Err fault) is = (refl, refused_stands past (Packet f t octets) s (Malformed fault) at)
-packet_kept past run f t octets s at (Ok (AnInterest i)) is =
-    ((refl, (others f s.faces, IsRising-filter (λ x. not (eqb x f)) (numbers s.faces) at.rising, other_open past _ s at f, refl)), interest_stands past f t octets i s at is)
-packet_kept past run f t octets s at (Ok (AData d)) is =
-    ((refl, (askers f d.name s.faces s.pending, IsRising-filter (is_asking d.name s.pending) (others f s.faces) (IsRising-filter (λ x. not (eqb x f)) (numbers s.faces) at.rising), asker_asks past run _ s at f d.name, refl)), data_stands past f t octets d s at is)
+packet_kept past run f t octets s at (Ok (AnInterest whole i)) is =
+    ((refl, (others f s.faces, IsRising-filter (λ x. not (eqb x f)) (numbers s.faces) at.rising, other_open past _ s at f, refl)), interest_stands past f t octets whole i s at is)
+packet_kept past run f t octets s at (Ok (AData whole d)) is =
+    ((refl, (askers f d.name s.faces s.pending, IsRising-filter (is_asking d.name s.pending) (others f s.faces) (IsRising-filter (λ x. not (eqb x f)) (numbers s.faces) at.rising), asker_asks past run _ s at f d.name, refl)), data_stands past f t octets whole d s at is)
+packet_kept past run f t octets s at (Ok (ANack reason whole i)) is = (refl, refused_stands past (Packet f t octets) s NoPending at)
+packet_kept past run f t octets s at (Ok AnIdle) is = (refl, refused_stands past (Packet f t octets) s Idle at)
 
 received_kept_at : (past : Run) → IsRun past → (f t : ℕ) (octets : List ℕ) (s : State) → At past (max (now_of past) t) s → (o : Option Scope) → find_scope f s.faces ≡ o
-    → Kept past (Packet f t octets) (cond (is_open f s.faces) (after_packet s f octets (frame_at octets)) (drop_answer NoFace, s))
+    → Kept past (Packet f t octets) (cond (is_open f s.faces) (after_packet s f (frame_at octets)) (drop_answer NoFace, s))
 received_kept_at past run f t octets s at None none =
     let closed_past : scope_of past f ≡ None = sym (at.faces f) ∙ none in
     rw (is_open_none f s.faces none) (rw closed_past refl, refused_stands past (Packet f t octets) s NoFace at)

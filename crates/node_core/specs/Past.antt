@@ -1,17 +1,16 @@
 -- What a run of events and answers says, read off the past with no table.
-use Rattle.std.specs.Prelude.{◌≡◌, ◌≢◌, ℕ, ◌+◌, ◌-◌, ◌<◌, ◌≤◌, ◌↔◌, List, [], ◌∷◌, Bool, true, false, length, map, max, Option, None, Some, Result, Ok, Err, MatchOption, ◌==◌, ◌&&◌, if◌then◌else◌, not}
+use Rattle.std.specs.Prelude.{◌≡◌, ◌≢◌, ℕ, ◌+◌, ◌-◌, ◌<◌, ◌≤◌, ◌↔◌, List, [], length, max, Option, None, Some, Result, Ok, Err, MatchOption, ◌==◌, ◌&&◌, if◌then◌else◌}
 use Rattle.ndn_tlv.specs.Element.{Field}
-use Rattle.ndn_packets.specs.Packet.{PlainInterest, PlainData, PlainFrame, AnInterest, AData}
-use Rattle.ndn_packets.specs.Grammar.{IsFrame}
-use Rattle.ndn_packets.specs.Reading.{frame_at}
+use Rattle.ndn_packets.specs.Packet.{PlainData, PlainFrame, AnInterest, AData, ANack, Idle as AnIdle}
+use Rattle.ndn_packets.specs.Grammar.{IsData}
+use Rattle.ndn_packets.specs.FrameReading.{frame_at}
 use Rattle.ndn_packets.specs.declared.fault.PacketFault.{PacketFault}
 use Rattle.node_core.specs.declared.event.Scope.{Scope}
 use Rattle.node_core.specs.declared.event.Verdict.{Verdict}
 use Rattle.node_core.specs.declared.event.Verdict.TheVariants.{Passed, Dropped}
-use Rattle.node_core.specs.declared.event.DropReason.{DropReason}
-use Rattle.node_core.specs.declared.event.DropReason.TheVariants.{NoFace, Malformed, BadFace, FaceOpen, FacesFull}
+use Rattle.node_core.specs.declared.event.DropReason.TheVariants.{NoFace, Malformed, Idle, NoPending, BadFace, FaceOpen, FacesFull}
 use Rattle.node_core.specs.Event.{PlainEvent, Packet, FaceUp, FaceDown, Tick, Send, Answer}
-use Rattle.node_core.specs.State.{FaceEntry, Waiting, State, same_name, numbers, find_scope, IsIn, IsRising}
+use Rattle.node_core.specs.State.{State, same_name, numbers, find_scope, IsIn, IsRising}
 use Rattle.node_core.specs.Step.{moment, deadline, to_each, drop_answer, pass_answer}
 
 -- a run: nothing, or a run and then an event with its answer
@@ -53,8 +52,10 @@ count_of (Then before event answer) = count_after (count_of before) event answer
 -- not closed since. now is the moment of the event.
 abbrev pub asked_until_after_packet : Option ℕ → ℕ → List Field → ℕ → ℕ → Result PlainFrame PacketFault → Option ℕ
 asked_until_after_packet was face name now from (Err fault) = was
-asked_until_after_packet was face name now from (Ok (AnInterest i)) = if (from == face) && same_name i.name name then Some (deadline now i.lifetime) else was
-asked_until_after_packet was face name now from (Ok (AData d)) = if same_name d.name name then None else was
+asked_until_after_packet was face name now from (Ok (AnInterest whole i)) = if (from == face) && same_name i.name name then Some (deadline now i.lifetime) else was
+asked_until_after_packet was face name now from (Ok (AData whole d)) = if same_name d.name name then None else was
+asked_until_after_packet was face name now from (Ok (ANack reason whole i)) = was
+asked_until_after_packet was face name now from (Ok AnIdle) = was
 
 abbrev pub asked_until_after : Option ℕ → ℕ → List Field → ℕ → PlainEvent → Verdict → Option ℕ
 asked_until_after was face name now (Packet from t octets) Passed = asked_until_after_packet was face name now from (frame_at octets)
@@ -81,13 +82,15 @@ abbrev pub GoTo : (ℕ → Type 0) → List ℕ → List Send → Type 0
 GoTo P octets sends =
     (faces : List ℕ) × IsRising faces × ((face : ℕ) → IsIn face faces ↔ P face) × (sends ≡ to_each faces octets)
 
--- what may be answered to a packet on an open face, after this past, at this moment
-abbrev pub MayReplyPacket : Run → ℕ → ℕ → List ℕ → Result PlainFrame PacketFault → Answer → Type 0
-MayReplyPacket past now face octets (Err fault) answer = answer ≡ drop_answer (Malformed fault)
-MayReplyPacket past now face octets (Ok (AnInterest i)) answer =
-    (answer.verdict ≡ Passed) × GoTo (λ f. (f ≢ face) × IsOpen past f) octets answer.sends
-MayReplyPacket past now face octets (Ok (AData d)) answer =
-    (answer.verdict ≡ Passed) × GoTo (λ f. (f ≢ face) × Asks past now f d.name) octets answer.sends
+-- what may be answered to octets on an open face that are read so, after this past, at this moment
+abbrev pub MayReplyPacket : Run → ℕ → ℕ → Result PlainFrame PacketFault → Answer → Type 0
+MayReplyPacket past now face (Err fault) answer = answer ≡ drop_answer (Malformed fault)
+MayReplyPacket past now face (Ok (AnInterest whole i)) answer =
+    (answer.verdict ≡ Passed) × GoTo (λ f. (f ≢ face) × IsOpen past f) whole answer.sends
+MayReplyPacket past now face (Ok (AData whole d)) answer =
+    (answer.verdict ≡ Passed) × GoTo (λ f. (f ≢ face) × Asks past now f d.name) whole answer.sends
+MayReplyPacket past now face (Ok (ANack reason whole i)) answer = answer ≡ drop_answer NoPending
+MayReplyPacket past now face (Ok AnIdle) answer = answer ≡ drop_answer Idle
 
 abbrev pub MayOpen : ℕ → ℕ → Option Scope → Answer → Type 0
 MayOpen face count scope answer =
@@ -102,7 +105,7 @@ MayClose (Some scope) answer = answer ≡ pass_answer []
 
 abbrev pub MayReceive : Run → ℕ → ℕ → List ℕ → Option Scope → Answer → Type 0
 MayReceive past now face octets None answer = answer ≡ drop_answer NoFace
-MayReceive past now face octets (Some scope) answer = MayReplyPacket past now face octets (frame_at octets) answer
+MayReceive past now face octets (Some scope) answer = MayReplyPacket past now face (frame_at octets) answer
 
 -- what may be answered to an event after this past
 abbrev pub MayReply : Run → PlainEvent → Answer → Type 0
@@ -116,12 +119,13 @@ abbrev pub IsRun : Run → Type 0
 IsRun Start = Unit {0}
 IsRun (Then before event answer) = IsRun before × MayReply before event answer
 
--- Each Data that is sent is the received octets of the Data that comes in this event, and the face that it goes to,
--- another than its own, asks for its name.
+-- Each Data that is sent is the received octets of the Data that comes in this event, alone or in a link packet, and the face
+-- that it goes to, another than its own, asks for its name.
 abbrev pub EachDataIsAsked : Run → PlainEvent → Answer → Type 0
 EachDataIsAsked past event answer =
-    (face : ℕ) (text : List ℕ) (d : PlainData) → IsIn (face, text) answer.sends → IsFrame text (AData d)
-    → (from t : ℕ) × (event ≡ Packet from t text) × (face ≢ from) × Asks past (max (now_of past) t) face d.name
+    (face : ℕ) (text : List ℕ) (d : PlainData) → IsIn (face, text) answer.sends → IsData text d
+    → (from t : ℕ) × (octets : List ℕ) × (event ≡ Packet from t octets) × (frame_at octets ≡ Ok (AData text d)) × (face ≢ from)
+    × Asks past (max (now_of past) t) face d.name
 
 -- the first-path promise, of each event of a run
 abbrev pub KeepsPromise : Run → Type 0

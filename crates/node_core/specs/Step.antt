@@ -1,15 +1,15 @@
 -- One step of the forwarder (NFD Developer's Guide, "Forwarding").
-use Rattle.std.specs.Prelude.{◌≡◌, ℕ, ◌+◌, ◌-◌, ◌^◌, ◌≤◌, List, [], ◌∷◌, ◌++◌, ◌⊎◌, false, length, map, filter, max, min, nat_le, ◌==◌, not, Result, Ok, Err, if◌then◌else◌, nat_lt}
-use Rattle.ndn_packets.specs.Packet.{PlainInterest, PlainData, PlainFrame, AnInterest, AData}
-use Rattle.ndn_packets.specs.Reading.{frame_at}
+use Rattle.std.specs.Prelude.{◌≡◌, ℕ, ◌+◌, ◌-◌, ◌^◌, List, [], ◌∷◌, ◌++◌, ◌⊎◌, false, length, map, filter, max, min, nat_le, ◌==◌, not, Result, Ok, Err, if◌then◌else◌, nat_lt}
+use Rattle.ndn_packets.specs.Packet.{PlainInterest, PlainData, PlainFrame, AnInterest, AData, ANack, Idle as AnIdle}
+use Rattle.ndn_packets.specs.FrameReading.{frame_at}
 use Rattle.ndn_packets.specs.declared.fault.PacketFault.{PacketFault}
 use Rattle.node_core.specs.declared.event.Scope.{Scope}
 use Rattle.node_core.specs.declared.event.Verdict.{Verdict}
 use Rattle.node_core.specs.declared.event.Verdict.TheVariants.{Passed, Dropped}
 use Rattle.node_core.specs.declared.event.DropReason.{DropReason}
-use Rattle.node_core.specs.declared.event.DropReason.TheVariants.{NoFace, Malformed, BadFace, FaceOpen, FacesFull}
+use Rattle.node_core.specs.declared.event.DropReason.TheVariants.{NoFace, Malformed, Idle, NoPending, BadFace, FaceOpen, FacesFull}
 use Rattle.node_core.specs.Event.{PlainEvent, Packet, FaceUp, FaceDown, Tick, Send, Answer}
-use Rattle.node_core.specs.State.{FaceEntry, Waiting, State, is_open, survivors, without, without_face, without_name, others, askers}
+use Rattle.node_core.specs.State.{FaceEntry, State, is_open, survivors, without, without_face, without_name, others, askers}
 
 abbrev pub moment : PlainEvent → ℕ
 moment (Packet face now octets) = now
@@ -59,10 +59,10 @@ after_closing s face =
     then (pass_answer [], record { now = s.now; faces = without_entry face s.faces; pending = without_face face s.pending })
     else (drop_answer NoFace, s)
 
--- An Interest goes to every other face, and is pending on its own, in place of an older one of its name.
+-- An Interest goes to every other face, in its received octets, and is pending on its own, in place of an older one of its name.
 abbrev pub after_interest : State → ℕ → List ℕ → PlainInterest → Answer × State
-after_interest s face octets i = (
-  pass_answer (to_each (others face s.faces) octets),
+after_interest s face whole i = (
+  pass_answer (to_each (others face s.faces) whole),
   record {
     now = s.now;
     faces = s.faces;
@@ -72,24 +72,35 @@ after_interest s face octets i = (
 
 -- Data goes to each other face that asks for its name, and all Interests of its name end.
 abbrev pub after_data : State → ℕ → List ℕ → PlainData → Answer × State
-after_data s face octets d =
-    (pass_answer (to_each (askers face d.name s.faces s.pending) octets), record { now = s.now; faces = s.faces; pending = without_name d.name s.pending })
+after_data s face whole d =
+    (pass_answer (to_each (askers face d.name s.faces s.pending) whole), record { now = s.now; faces = s.faces; pending = without_name d.name s.pending })
 
-abbrev pub after_packet : State → ℕ → List ℕ → Result PlainFrame PacketFault → Answer × State
-after_packet s face octets (Err fault) = (drop_answer (Malformed fault), s)
-after_packet s face octets (Ok (AnInterest i)) = after_interest s face octets i
-after_packet s face octets (Ok (AData d)) = after_data s face octets d
+-- No Interest has a record of where it was sent yet, so a Nack answers none.
+abbrev pub after_packet : State → ℕ → Result PlainFrame PacketFault → Answer × State
+after_packet s face (Err fault) = (drop_answer (Malformed fault), s)
+after_packet s face (Ok (AnInterest whole i)) = after_interest s face whole i
+after_packet s face (Ok (AData whole d)) = after_data s face whole d
+after_packet s face (Ok (ANack reason whole i)) = (drop_answer NoPending, s)
+after_packet s face (Ok AnIdle) = (drop_answer Idle, s)
 
 -- what the event does once what is due is gone
 abbrev pub effect_of : State → PlainEvent → Answer × State
-effect_of s (Packet face now octets) = if is_open face s.faces then after_packet s face octets (frame_at octets) else (drop_answer NoFace, s)
+effect_of s (Packet face now octets) = if is_open face s.faces then after_packet s face (frame_at octets) else (drop_answer NoFace, s)
 effect_of s (FaceUp face scope now) = after_opening s face scope
 effect_of s (FaceDown face now) = after_closing s face
 effect_of s (Tick now) = (pass_answer [], s)
 
--- the face is not open, or the octets are no packet
+-- what is only dropped: all but an Interest and a Data
+abbrev pub IsDropped : Result PlainFrame PacketFault → Type 0
+IsDropped (Err fault) = Unit {0}
+IsDropped (Ok (AnInterest whole i)) = ⊥
+IsDropped (Ok (AData whole d)) = ⊥
+IsDropped (Ok (ANack reason whole i)) = Unit {0}
+IsDropped (Ok AnIdle) = Unit {0}
+
+-- the face is not open, or the octets hold neither an Interest nor a Data
 abbrev pub ReceivesNothing : State → ℕ → List ℕ → Type 0
-ReceivesNothing s face octets = (is_open face s.faces ≡ false) ⊎ ((fault : PacketFault) × (frame_at octets ≡ Err fault))
+ReceivesNothing s face octets = (is_open face s.faces ≡ false) ⊎ IsDropped (frame_at octets)
 
 -- the events whose step takes no memory
 abbrev pub NeedsNoMemory : State → PlainEvent → Type 0

@@ -30,11 +30,15 @@ packet_name packet.NoNonce = codes "NoNonce"
 packet_name packet.DigestMissing = codes "DigestMissing"
 packet_name packet.DigestWrong = codes "DigestWrong"
 packet_name packet.DigestWithout = codes "DigestWithout"
+packet_name packet.Fragmented = codes "Fragmented"
+packet_name packet.LpField = codes "LpField"
 packet_name packet.TooLong = codes "TooLong"
 
 abbrev pub reason_name : DropReason → List ℕ
 reason_name reason.NoFace = codes "NoFace"
 reason_name (reason.Malformed fault) = codes "Malformed " ++ packet_name fault
+reason_name reason.Idle = codes "Idle"
+reason_name reason.NoPending = codes "NoPending"
 reason_name reason.BadFace = codes "BadFace"
 reason_name reason.FaceOpen = codes "FaceOpen"
 reason_name reason.FacesFull = codes "FacesFull"

@@ -79,6 +79,8 @@ fn put_reason(text: &mut Vec<u8>, reason: DropReason) -> Result<(), Memory>
     match reason {
         DropReason::NoFace => text.extend_from_slice(b"NoFace")?,
         DropReason::Malformed(fault) => put_fault(text, fault)?,
+        DropReason::Idle => text.extend_from_slice(b"Idle")?,
+        DropReason::NoPending => text.extend_from_slice(b"NoPending")?,
         DropReason::BadFace => text.extend_from_slice(b"BadFace")?,
         DropReason::FaceOpen => text.extend_from_slice(b"FaceOpen")?,
         DropReason::FacesFull => text.extend_from_slice(b"FacesFull")?,
@@ -102,6 +104,8 @@ fn put_fault(text: &mut Vec<u8>, fault: PacketFault) -> Result<(), Memory>
         PacketFault::DigestMissing => text.extend_from_slice(b"DigestMissing")?,
         PacketFault::DigestWrong => text.extend_from_slice(b"DigestWrong")?,
         PacketFault::DigestWithout => text.extend_from_slice(b"DigestWithout")?,
+        PacketFault::Fragmented => text.extend_from_slice(b"Fragmented")?,
+        PacketFault::LpField => text.extend_from_slice(b"LpField")?,
         PacketFault::TooLong => text.extend_from_slice(b"TooLong")?,
     }
     Ok(())

@@ -50,6 +50,10 @@ pub enum DropReason {
     NoFace,
     /// The octets are no packet.
     Malformed(PacketFault),
+    /// The octets are a link packet that holds no packet.
+    Idle,
+    /// A Nack came for an Interest that is not known to have been sent there.
+    NoPending,
     /// A face has the number 0.
     BadFace,
     /// The face is open already.

@@ -123,7 +123,8 @@ impl Node {
     ///
     /// An Interest on an open face becomes pending there, in place of an older one of its name, and
     /// goes to every other face. Data goes to each other face on which an Interest of its name is
-    /// pending, and ends them. `Memory` changes nothing; face changes, moments and dropped packets
+    /// pending, and ends them. Both go on in their received octets, without a link packet around them. A
+    /// Nack and a link packet without a packet are dropped. `Memory` changes nothing; face changes, moments and dropped packets
     /// take no memory.
     pub fn step(&mut self, event: Event<'_>, outbox: &mut Outbox) -> Result<Verdict, Memory>
         // One step, octets to octets.
@@ -208,20 +209,21 @@ impl Node {
             self.advance(now);
             return Ok(Verdict::Dropped(DropReason::NoFace));
         }
-        match read_frame(octets) {
-            Err(fault) => {
-                self.advance(now);
-                Ok(Verdict::Dropped(DropReason::Malformed(fault)))
-            }
+        let reason = match read_frame(octets) {
             Ok(Frame::Interest(interest)) => {
                 self.forward_interest(face, now, &interest, outbox)?;
-                Ok(Verdict::Passed)
+                return Ok(Verdict::Passed);
             }
             Ok(Frame::Data(data)) => {
                 self.forward_data(face, now, &data, outbox)?;
-                Ok(Verdict::Passed)
+                return Ok(Verdict::Passed);
             }
-        }
+            Ok(Frame::Nack { .. }) => DropReason::NoPending,
+            Ok(Frame::Idle) => DropReason::Idle,
+            Err(fault) => DropReason::Malformed(fault),
+        };
+        self.advance(now);
+        Ok(Verdict::Dropped(reason))
     }
 
     fn forward_interest(

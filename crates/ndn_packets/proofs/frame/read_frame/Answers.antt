@@ -4,7 +4,7 @@ use Rattle.ndn_packets.proofs.Packets.{found_from, frame_again}
 use Rattle.ndn_packets.proofs.frame.read_frame.Goals as goal
 
 pub returns-clause-found : goal.returns-clause-found
-returns-clause-found c = found_from plain_frame c.args.octets.now c.frame_of.result (λ i. omega (arith, c.type_inv.octets i)) c.frame_of.ensures.exact
+returns-clause-found c = found_from plain_frame c.args.octets.now c.frame_of.result (λ i. omega (arith, c.type_inv.octets i)) c.frame_of.ensures
 
 pub returns-clause-only : goal.returns-clause-only
-returns-clause-only c = λ frame h. c.frame_of.ensures.exact ∙ frame_again c.args.octets.now frame h
+returns-clause-only c = λ frame h. c.frame_of.ensures ∙ frame_again c.args.octets.now frame h

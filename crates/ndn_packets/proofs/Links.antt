@@ -1,0 +1,379 @@
+-- A link packet that is read is in the grammar, and one in the grammar is read.
+use Rattle.std.proofs.Common.{◌≡◌, ℕ, suc, ◌<◌, ◌≤◌, Bool, true, false, cond, not, eqb, ltb, List, [], ◌∷◌, ◌++◌, length, map, Option, Some, None, Result, Ok, Err, refl, sym, ap, subst, ◌∙◌, arith, inl, inr}
+use Rattle.std.specs.Prelude.{◌||◌, is_some}
+use Rattle.std.specs.List.{AllByRecursion}
+use Rattle.std.proofs.lemmas.Bool.{ltb-true, ltb-false, le-ltb, leb-true, le-leb, eqb-true, ne_eqb, not-false, and_parts, or_parts, cases_eq}
+use Rattle.ndn_tlv.specs.declared.fault.TlvFault.{TlvFault}
+use Rattle.ndn_tlv.specs.Number.{IsNni}
+use Rattle.ndn_tlv.specs.Element.{Field, IsElements}
+use Rattle.ndn_tlv.specs.Reading.{◌>>=◌, elements_of}
+use Rattle.ndn_tlv.proofs.Numbers.{IsBytes}
+use Rattle.ndn_tlv.proofs.Fields.{elements_exact, elements_read}
+use Rattle.ndn_packets.specs.declared.fault.PacketFault.{PacketFault}
+use Rattle.ndn_packets.specs.declared.fault.PacketFault.TheVariants.{Fragmented, LpField}
+use Rattle.ndn_packets.specs.Packet.{PlainFrame}
+use Rattle.ndn_packets.specs.Fields.{optional}
+use Rattle.ndn_packets.specs.Reading.{nni_value_at}
+use Rattle.ndn_packets.specs.Link.{IsNack, IsNackOf, IsHeader, IsLinkPacket, headers_of, is_ignored_header, known_headers}
+use Rattle.ndn_packets.specs.FrameReading.{nack_at, LinkSoFar, no_headers_yet, is_token, is_refused_header, at_most, with_header, take_header, fragment_at, last_of, no_fragment, link_from, link_at}
+use Rattle.ndn_packets.proofs.Steps.{bind_ok, guard_ok, good, err_is_not_ok, none_is_not_some, some_is, ok_is, read, IsBytes-fields}
+use Rattle.ndn_packets.proofs.FieldLists.{MayBeBytes, AreBytes}
+use Rattle.ndn_packets.proofs.Numbers.{number_found, number_again}
+use Rattle.ndn_packets.proofs.Nacks.{nack_found, nack_again}
+
+-- ---- the header fields that a state leaves room for
+
+-- how many header fields of a type may still come, where one has been met or not
+abbrev room : Bool → ℕ
+room true = 0
+room false = 1
+
+-- the Nacks still to come, where one of a reason has been met or none, and the reason of the link packet's Nack
+abbrev NackAmong : Option ℕ → List Field → Option ℕ → Type 0
+NackAmong None nacks None = nacks ≡ []
+NackAmong None nacks (Some reason) = (value : List ℕ) × (nacks ≡ (800, value) ∷ []) × IsNack value reason
+NackAmong (Some met) nacks nack = (nacks ≡ []) × (nack ≡ Some met)
+
+record Room (s : LinkSoFar) (headers : List Field) (nack : Option ℕ) : Type 0 where
+  sequence : length (headers_of 81 headers) ≤ room s.sequence
+  frag_index : length (headers_of 82 headers) ≤ room s.frag_index
+  frag_count : length (headers_of 83 headers) ≤ room s.frag_count
+  pit_token : length (headers_of 98 headers) ≤ room s.pit_token
+  nacks : NackAmong s.nack (headers_of 800 headers) nack
+
+one_more : (met : Bool) (n : ℕ) → met ≡ false → n ≤ 0 → suc n ≤ room met
+one_more met n free h = rw free (omega arith)
+
+one_less : (met : Bool) (n : ℕ) → suc n ≤ room met → (met ≡ false) × (n ≤ 0)
+one_less true n h = absurd (omega arith)
+one_less false n h = (refl, omega arith)
+
+-- ---- one header field that is read
+
+record Found (s : LinkSoFar) (e : Field) (t : LinkSoFar) : Type 0 where
+  is_header : IsHeader e
+  leaves : (headers : List Field) (nack : Option ℕ) → Room t headers nack → Room s (e ∷ headers) nack
+
+at_most_found : (limit : ℕ) (v : List ℕ) (u t : LinkSoFar) → IsBytes v → at_most limit v u ≡ Ok t → (n : ℕ) × IsNni v n × (n ≤ limit) × (u ≡ t)
+at_most_found limit v u t fits e =
+    let n = bind_ok (nni_value_at v) (λ n. cond (ltb limit n) (Err Fragmented) (good u)) t e in
+    let g = guard_ok (ltb limit n.0) Fragmented (good u) t n.2 in
+    (n.0, number_found v n.0 fits n.1, ltb-false limit n.0 g.0, ok_is u t g.1)
+
+sequence_found : (s t : LinkSoFar) (v : List ℕ) → s.sequence ≡ false → with_header s (81, v) ≡ Ok t → Found s (81, v) t
+sequence_found s t v free e = subst (Found s (81, v)) (ok_is _ t e) (record {
+  is_header = inl refl;
+  leaves = λ headers nack r. record { sequence = one_more s.sequence _ free r.sequence; frag_index = r.frag_index; frag_count = r.frag_count; pit_token = r.pit_token; nacks = r.nacks };
+})
+
+frag_index_found : (s t : LinkSoFar) (v : List ℕ) → IsBytes v → s.frag_index ≡ false → with_header s (82, v) ≡ Ok t → Found s (82, v) t
+frag_index_found s t v fits free e =
+    let n = at_most_found 0 v _ t fits e in
+    let zero : n.0 ≡ 0 = omega (arith, n.2) in
+    subst (Found s (82, v)) n.3 (record {
+      is_header = inr (inl (refl, subst (IsNni v) zero n.1));
+      leaves = λ headers nack r. record { sequence = r.sequence; frag_index = one_more s.frag_index _ free r.frag_index; frag_count = r.frag_count; pit_token = r.pit_token; nacks = r.nacks };
+    })
+
+frag_count_found : (s t : LinkSoFar) (v : List ℕ) → IsBytes v → s.frag_count ≡ false → with_header s (83, v) ≡ Ok t → Found s (83, v) t
+frag_count_found s t v fits free e =
+    let n = at_most_found 1 v _ t fits e in
+    subst (Found s (83, v)) n.3 (record {
+      is_header = inr (inr (inl (refl, (n.0, n.1, n.2))));
+      leaves = λ headers nack r. record { sequence = r.sequence; frag_index = r.frag_index; frag_count = one_more s.frag_count _ free r.frag_count; pit_token = r.pit_token; nacks = r.nacks };
+    })
+
+pit_token_found : (s t : LinkSoFar) (v : List ℕ) → s.pit_token || not (is_token v) ≡ false → with_header s (98, v) ≡ Ok t → Found s (98, v) t
+pit_token_found s t v free e =
+    let parts = or_parts s.pit_token (not (is_token v)) free in
+    let sizes = and_parts _ _ (not-false (is_token v) parts.1) in
+    subst (Found s (98, v)) (ok_is _ t e) (record {
+      is_header = inr (inr (inr (inl (refl, leb-true 1 (length v) sizes.0, leb-true (length v) 32 sizes.1))));
+      leaves = λ headers nack r. record { sequence = r.sequence; frag_index = r.frag_index; frag_count = r.frag_count; pit_token = one_more s.pit_token _ parts.0 r.pit_token; nacks = r.nacks };
+    })
+
+first_nack : (met nack : Option ℕ) (v : List ℕ) (reason : ℕ) (nacks : List Field) → is_some met ≡ false → IsNack v reason → NackAmong (Some reason) nacks nack → NackAmong met ((800, v) ∷ nacks) nack
+first_nack (Some m) nack v reason nacks free is h = absurd cc
+first_nack None None v reason nacks free is h = absurd (none_is_not_some reason h.1)
+first_nack None (Some n) v reason nacks free is h = (v, ap (λ (fs : List Field). (800, v) ∷ fs) h.0, subst (IsNack v) (sym (some_is n reason h.1)) is)
+
+nack_header_found : (s t : LinkSoFar) (v : List ℕ) → IsBytes v → is_some s.nack ≡ false → with_header s (800, v) ≡ Ok t → Found s (800, v) t
+nack_header_found s t v fits free e =
+    let n = bind_ok (nack_at v) (λ reason. good (record { sequence = s.sequence; frag_index = s.frag_index; frag_count = s.frag_count; pit_token = s.pit_token; nack = Some reason })) t e in
+    let is = nack_found v n.0 fits n.1 in
+    subst (Found s (800, v)) (ok_is _ t n.2) (record {
+      is_header = inr (inr (inr (inr (inl (refl, (n.0, is))))));
+      leaves = λ headers nack r. record { sequence = r.sequence; frag_index = r.frag_index; frag_count = r.frag_count; pit_token = r.pit_token; nacks = first_nack s.nack nack v n.0 (headers_of 800 headers) free is r.nacks };
+    })
+
+-- an ignored header field is above all known ones, and counts for none of them
+above : (kind : ℕ) → is_ignored_header kind ≡ true → 800 < kind
+above kind is = ltb-true 800 kind (and_parts _ _ is).0
+
+ignored_found : (s : LinkSoFar) (e : Field) → is_ignored_header e.0 ≡ true → Found s e s
+ignored_found s e is =
+    let high = above e.0 is in
+    record {
+      is_header = inr (inr (inr (inr (inr is))));
+      leaves = λ headers nack r. record {
+        sequence = rw (ne_eqb e.0 81 (omega (arith, high))) r.sequence;
+        frag_index = rw (ne_eqb e.0 82 (omega (arith, high))) r.frag_index;
+        frag_count = rw (ne_eqb e.0 83 (omega (arith, high))) r.frag_count;
+        pit_token = rw (ne_eqb e.0 98 (omega (arith, high))) r.pit_token;
+        nacks = rw (ne_eqb e.0 800 (omega (arith, high))) r.nacks;
+      };
+    }
+
+abbrev FoundAt : LinkSoFar → LinkSoFar → List ℕ → ℕ → Type 0
+FoundAt s t v kind = is_refused_header s (kind, v) ≡ false → with_header s (kind, v) ≡ Ok t → Found s (kind, v) t
+
+header_found : (s t : LinkSoFar) (e : Field) → IsBytes e.1 → FoundAt s t e.1 e.0
+header_found s t e fits =
+    elim (cases_eq e.0 81) [
+      | inl is ↦ subst (FoundAt s t e.1) (sym is) (sequence_found s t e.1)
+      | inr no81 ↦ elim (cases_eq e.0 82) [
+        | inl is ↦ subst (FoundAt s t e.1) (sym is) (frag_index_found s t e.1 fits)
+        | inr no82 ↦ elim (cases_eq e.0 83) [
+          | inl is ↦ subst (FoundAt s t e.1) (sym is) (frag_count_found s t e.1 fits)
+          | inr no83 ↦ elim (cases_eq e.0 98) [
+            | inl is ↦ subst (FoundAt s t e.1) (sym is) (pit_token_found s t e.1)
+            | inr no98 ↦ elim (cases_eq e.0 800) [
+              | inl is ↦ subst (FoundAt s t e.1) (sym is) (nack_header_found s t e.1 fits)
+              | inr no800 ↦ rw (ne_eqb e.0 81 no81, ne_eqb e.0 82 no82, ne_eqb e.0 83 no83, ne_eqb e.0 98 no98, ne_eqb e.0 800 no800)
+                  (λ stands taken. subst (Found s e) (ok_is s t taken) (ignored_found s e (not-false _ stands)))
+            ]
+          ]
+        ]
+      ]
+    ]
+
+-- ---- one header field that is in the grammar
+
+record Again (s : LinkSoFar) (e : Field) (headers : List Field) (nack : Option ℕ) : Type 0 where
+  after : LinkSoFar
+  no_fragment : eqb e.0 80 ≡ false
+  taken : take_header s e ≡ Ok after
+  left : Room after headers nack
+
+abbrev AgainAt : LinkSoFar → List Field → Option ℕ → List ℕ → ℕ → Type 0
+AgainAt s headers nack v kind = Room s ((kind, v) ∷ headers) nack → Again s (kind, v) headers nack
+
+sequence_again : (s : LinkSoFar) (v : List ℕ) (headers : List Field) (nack : Option ℕ) → AgainAt s headers nack v 81
+sequence_again s v headers nack r =
+    let free = one_less s.sequence (length (headers_of 81 headers)) r.sequence in
+    record {
+      after = record { sequence = true; frag_index = s.frag_index; frag_count = s.frag_count; pit_token = s.pit_token; nack = s.nack };
+      no_fragment = refl;
+      taken = rw free.0 refl;
+      left = record { sequence = free.1; frag_index = r.frag_index; frag_count = r.frag_count; pit_token = r.pit_token; nacks = r.nacks };
+    }
+
+frag_index_again : (s : LinkSoFar) (v : List ℕ) (headers : List Field) (nack : Option ℕ) → IsNni v 0 → AgainAt s headers nack v 82
+frag_index_again s v headers nack is r =
+    let free = one_less s.frag_index (length (headers_of 82 headers)) r.frag_index in
+    record {
+      after = record { sequence = s.sequence; frag_index = true; frag_count = s.frag_count; pit_token = s.pit_token; nack = s.nack };
+      no_fragment = refl;
+      taken = rw (free.0, number_again v 0 is) refl;
+      left = record { sequence = r.sequence; frag_index = free.1; frag_count = r.frag_count; pit_token = r.pit_token; nacks = r.nacks };
+    }
+
+frag_count_again : (s : LinkSoFar) (v : List ℕ) (headers : List Field) (nack : Option ℕ) (n : ℕ) → IsNni v n → n ≤ 1 → AgainAt s headers nack v 83
+frag_count_again s v headers nack n is few r =
+    let free = one_less s.frag_count (length (headers_of 83 headers)) r.frag_count in
+    record {
+      after = record { sequence = s.sequence; frag_index = s.frag_index; frag_count = true; pit_token = s.pit_token; nack = s.nack };
+      no_fragment = refl;
+      taken = rw (free.0, number_again v n is, le-ltb 1 n few) refl;
+      left = record { sequence = r.sequence; frag_index = r.frag_index; frag_count = free.1; pit_token = r.pit_token; nacks = r.nacks };
+    }
+
+pit_token_again : (s : LinkSoFar) (v : List ℕ) (headers : List Field) (nack : Option ℕ) → 1 ≤ length v → length v ≤ 32 → AgainAt s headers nack v 98
+pit_token_again s v headers nack some few r =
+    let free = one_less s.pit_token (length (headers_of 98 headers)) r.pit_token in
+    record {
+      after = record { sequence = s.sequence; frag_index = s.frag_index; frag_count = s.frag_count; pit_token = true; nack = s.nack };
+      no_fragment = refl;
+      taken = rw (free.0, le-leb 1 (length v) some, le-leb (length v) 32 few) refl;
+      left = record { sequence = r.sequence; frag_index = r.frag_index; frag_count = r.frag_count; pit_token = free.1; nacks = r.nacks };
+    }
+
+only_nack : (met nack : Option ℕ) (v : List ℕ) (nacks : List Field) → NackAmong met ((800, v) ∷ nacks) nack → (reason : ℕ) × (met ≡ None) × IsNack v reason × NackAmong (Some reason) nacks nack
+only_nack (Some m) nack v nacks h = absurd (let no = h.0 in cc)
+only_nack None None v nacks h = absurd cc
+only_nack None (Some n) v nacks h =
+    let same : ◌≡◌ {A = Field} (800, h.0) (800, v) = cc (h.1) in
+    (n, refl, subst (λ (f : Field). IsNack f.1 n) same h.2, (cc (h.1), refl))
+
+nack_taken : (s : LinkSoFar) (v : List ℕ) (reason : ℕ) → s.nack ≡ None → nack_at v ≡ Ok reason
+    → take_header s (800, v) ≡ good (record { sequence = s.sequence; frag_index = s.frag_index; frag_count = s.frag_count; pit_token = s.pit_token; nack = Some reason })
+nack_taken s v reason free is = rw (free, is) refl
+
+nack_header_again : (s : LinkSoFar) (v : List ℕ) (headers : List Field) (nack : Option ℕ) → AgainAt s headers nack v 800
+nack_header_again s v headers nack r =
+    let only = only_nack s.nack nack v (headers_of 800 headers) r.nacks in
+    record {
+      after = record { sequence = s.sequence; frag_index = s.frag_index; frag_count = s.frag_count; pit_token = s.pit_token; nack = Some only.0 };
+      no_fragment = refl;
+      taken = nack_taken s v only.0 only.1 (nack_again v only.0 only.2);
+      left = record { sequence = r.sequence; frag_index = r.frag_index; frag_count = r.frag_count; pit_token = r.pit_token; nacks = only.3 };
+    }
+
+ignored_again : (s : LinkSoFar) (e : Field) (headers : List Field) (nack : Option ℕ) → is_ignored_header e.0 ≡ true → Room s (e ∷ headers) nack → Again s e headers nack
+ignored_again s e headers nack is r =
+    let high = above e.0 is in
+    let no81 = ne_eqb e.0 81 (omega (arith, high)) in
+    let no82 = ne_eqb e.0 82 (omega (arith, high)) in
+    let no83 = ne_eqb e.0 83 (omega (arith, high)) in
+    let no98 = ne_eqb e.0 98 (omega (arith, high)) in
+    let no800 = ne_eqb e.0 800 (omega (arith, high)) in
+    record {
+      after = s;
+      no_fragment = ne_eqb e.0 80 (omega (arith, high));
+      taken = rw (no81, no82, no83, no98, no800, is) refl;
+      left = record {
+        sequence = rw no81 at r.sequence;
+        frag_index = rw no82 at r.frag_index;
+        frag_count = rw no83 at r.frag_count;
+        pit_token = rw no98 at r.pit_token;
+        nacks = rw no800 at r.nacks;
+      };
+    }
+
+header_again : (s : LinkSoFar) (e : Field) (headers : List Field) (nack : Option ℕ) → IsHeader e → Room s (e ∷ headers) nack → Again s e headers nack
+header_again s e headers nack (inl is) = subst (AgainAt s headers nack e.1) (sym is) (sequence_again s e.1 headers nack)
+header_again s e headers nack (inr (inl h)) = subst (AgainAt s headers nack e.1) (sym h.0) (frag_index_again s e.1 headers nack h.1)
+header_again s e headers nack (inr (inr (inl h))) = subst (AgainAt s headers nack e.1) (sym h.0) (frag_count_again s e.1 headers nack h.1.0 h.1.1 h.1.2)
+header_again s e headers nack (inr (inr (inr (inl h)))) = subst (AgainAt s headers nack e.1) (sym h.0) (pit_token_again s e.1 headers nack h.1 h.2)
+header_again s e headers nack (inr (inr (inr (inr (inl h))))) = subst (AgainAt s headers nack e.1) (sym h.0) (nack_header_again s e.1 headers nack)
+header_again s e headers nack (inr (inr (inr (inr (inr is))))) = ignored_again s e headers nack is
+
+-- ---- the elements of a link packet
+
+-- what a Fragment that may be absent holds, beside a Nack of this reason or without one
+abbrev pub held : Option ℕ → Option (List ℕ) → Result PlainFrame PacketFault
+held nack None = no_fragment nack
+held nack (Some text) = fragment_at nack text
+
+record Parts (s : LinkSoFar) (elements : List (Result Field TlvFault)) (frame : PlainFrame) : Type 0 where
+  headers : List Field
+  fragment : Option (List ℕ)
+  nack : Option ℕ
+  all : elements ≡ map read (headers ++ optional 80 fragment)
+  allowed : AreBytes headers → AllByRecursion IsHeader headers × Room s headers nack
+  holds : held nack fragment ≡ Ok frame
+
+nothing_left : (nack : Option ℕ) → NackAmong nack [] nack
+nothing_left None = refl
+nothing_left (Some reason) = (refl, refl)
+
+no_more : (s : LinkSoFar) → Room s [] s.nack
+no_more s = record { sequence = omega arith; frag_index = omega arith; frag_count = omega arith; pit_token = omega arith; nacks = nothing_left s.nack }
+
+last_found : (elements : List (Result Field TlvFault)) (f frame : PlainFrame) → last_of f elements ≡ Ok frame → (elements ≡ []) × (f ≡ frame)
+last_found [] f frame e = (refl, ok_is f frame e)
+last_found (Err d ∷ elements) f frame e = absurd cc
+last_found (Ok x ∷ elements) f frame e = absurd cc
+
+parts_found : (s : LinkSoFar) (elements : List (Result Field TlvFault)) (frame : PlainFrame) → link_from s elements ≡ Ok frame → Parts s elements frame
+parts_found s [] frame e = record { headers = []; fragment = None; nack = s.nack; all = refl; allowed = λ fits. (tt, no_more s); holds = e }
+parts_found s (Err f ∷ elements) frame e = absurd (err_is_not_ok _ frame e)
+parts_found s (Ok x ∷ elements) frame e =
+    elim (eqb x.0 80) as (λ b. eqb x.0 80 ≡ b → cond b (fragment_at s.nack x.1 >>= λ f. last_of f elements) (take_header s x >>= λ t. link_from t elements) ≡ Ok frame → Parts s (Ok x ∷ elements) frame) [
+      | true ↦ λ is e.
+          let f = bind_ok (fragment_at s.nack x.1) (λ f. last_of f elements) frame e in
+          let last = last_found elements f.0 frame f.2 in
+          record {
+            headers = [];
+            fragment = Some x.1;
+            nack = s.nack;
+            all = λ k. read (eqb-true x.0 80 is k, x.1) ∷ last.0 k;
+            allowed = λ fits. (tt, no_more s);
+            holds = f.1 ∙ ap (λ (g : PlainFrame). good g) last.1;
+          }
+      | false ↦ λ _ e.
+          let t = bind_ok (take_header s x) (λ t. link_from t elements) frame e in
+          let g = guard_ok (is_refused_header s x) LpField (with_header s x) t.0 t.1 in
+          let p = parts_found t.0 elements frame t.2 in
+          record {
+            headers = x ∷ p.headers;
+            fragment = p.fragment;
+            nack = p.nack;
+            all = λ k. read x ∷ p.all k;
+            allowed = λ fits.
+                let first = header_found s t.0 x fits.0 g.0 g.1 in
+                let others = p.allowed fits.1 in
+                ((first.is_header, others.0), first.leaves p.headers p.nack others.1);
+            holds = p.holds;
+          }
+    ] refl e
+
+nack_is : (met nack : Option ℕ) → NackAmong met [] nack → met ≡ nack
+nack_is None None h = refl
+nack_is None (Some n) h = absurd (let no = h.1 in cc)
+nack_is (Some m) nack h = sym h.1
+
+parts_again : (s : LinkSoFar) (headers : List Field) (fragment : Option (List ℕ)) (nack : Option ℕ) (frame : PlainFrame) → AllByRecursion IsHeader headers → Room s headers nack → held nack fragment ≡ Ok frame
+    → link_from s (map read (headers ++ optional 80 fragment)) ≡ Ok frame
+parts_again s [] None nack frame allowed r holds = ap no_fragment (nack_is s.nack nack r.nacks) ∙ holds
+parts_again s [] (Some text) nack frame allowed r holds = rw (nack_is s.nack nack r.nacks, holds) refl
+parts_again s (e ∷ headers) fragment nack frame allowed r holds =
+    let a = header_again s e headers nack allowed.0 r in
+    rw (a.no_fragment, a.taken) (parts_again a.after headers fragment nack frame allowed.1 a.left holds)
+
+-- ---- the value of a link packet
+
+pub record LinkValue (value : List ℕ) (frame : PlainFrame) : Type 0 where
+  pub headers : List Field
+  pub fragment : Option (List ℕ)
+  pub nack : Option ℕ
+  pub inner : IsElements value (headers ++ optional 80 fragment)
+  pub allowed : AllByRecursion IsHeader headers
+  pub once : AllByRecursion (λ kind. length (headers_of kind headers) ≤ 1) known_headers
+  pub nacked : IsNackOf headers nack
+  pub fits : MayBeBytes fragment
+  pub holds : held nack fragment ≡ Ok frame
+
+nack_of : (headers : List Field) (nack : Option ℕ) → NackAmong None (headers_of 800 headers) nack → IsNackOf headers nack × (length (headers_of 800 headers) ≤ 1)
+nack_of headers None h = (h, omega (arith, ap length h))
+nack_of headers (Some reason) h = (h, omega (arith, ap length h.1))
+
+nack_among : (headers : List Field) (nack : Option ℕ) → IsNackOf headers nack → NackAmong None (headers_of 800 headers) nack
+nack_among headers None h = h
+nack_among headers (Some reason) h = h
+
+parts_bytes : (headers : List Field) (fragment : Option (List ℕ)) → AreBytes (headers ++ optional 80 fragment) → AreBytes headers × MayBeBytes fragment
+parts_bytes [] None fits = (tt, tt)
+parts_bytes [] (Some text) fits = (tt, fits.0)
+parts_bytes (e ∷ headers) fragment fits =
+    let others = parts_bytes headers fragment fits.1 in
+    ((fits.0, others.0), others.1)
+
+pub link_found : (value : List ℕ) (frame : PlainFrame) → IsBytes value → link_at value ≡ Ok frame → LinkValue value frame
+unfolding link_at
+link_found value frame fits e =
+    let p = parts_found no_headers_yet (elements_of value) frame e in
+    let inner = elements_read value (p.headers ++ optional 80 p.fragment) fits p.all in
+    let bytes = parts_bytes p.headers p.fragment (IsBytes-fields (p.headers ++ optional 80 p.fragment) (subst IsBytes inner.1 fits)) in
+    let allowed = p.allowed bytes.0 in
+    let r = allowed.1 in
+    let n = nack_of p.headers p.nack r.nacks in
+    record {
+      headers = p.headers;
+      fragment = p.fragment;
+      nack = p.nack;
+      inner = inner;
+      allowed = allowed.0;
+      once = (r.sequence, (r.frag_index, (r.frag_count, (r.pit_token, (n.1, tt)))));
+      nacked = n.0;
+      fits = bytes.1;
+      holds = p.holds;
+    }
+
+pub link_again : (text : List ℕ) (nack : Option ℕ) (fragment : Option (List ℕ)) (frame : PlainFrame) (h : IsLinkPacket text nack fragment) → held nack fragment ≡ Ok frame → link_at h.value ≡ Ok frame
+unfolding link_at
+link_again text nack fragment frame h holds =
+    let o = h.once in
+    ap (link_from no_headers_yet) (elements_exact h.value (h.headers ++ optional 80 fragment) h.inner)
+    ∙ parts_again no_headers_yet h.headers fragment nack frame h.allowed
+    (record { sequence = o.0; frag_index = o.1.0; frag_count = o.1.1.0; pit_token = o.1.1.1.0; nacks = nack_among h.headers nack h.nacked }) holds

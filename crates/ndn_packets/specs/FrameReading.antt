@@ -1,0 +1,126 @@
+-- Reading octets of a link from left to right, with the first fault that is met (NDNLPv2, "Packet Format", "Fragmentation",
+-- "Network Nack", "PIT Token").
+use Rattle.std.specs.Prelude.{◌≡◌, ℕ, List, [], ◌∷◌, length, Option, None, Some, Result, Ok, Err, Bool, true, false, is_some, nat_lt, nat_le, ◌==◌, ◌&&◌, ◌||◌, not, if◌then◌else◌}
+use Rattle.ndn_tlv.specs.declared.fault.TlvFault.{TlvFault}
+use Rattle.ndn_tlv.specs.Element.{Field}
+use Rattle.ndn_tlv.specs.Reading.{◌>>=◌, on_result, element_at, elements_of}
+use Rattle.ndn_packets.specs.declared.fault.PacketFault.{PacketFault}
+use Rattle.ndn_packets.specs.declared.fault.PacketFault.TheVariants.{Tlv, BadField, Fragmented, LpField, TooLong}
+use Rattle.ndn_packets.specs.Packet.{PlainInterest, PlainData, PlainFrame, AnInterest, AData, ANack, Idle}
+use Rattle.ndn_packets.specs.Link.{is_ignored_header, nack_schema}
+use Rattle.ndn_packets.specs.Reading.{packet_rule, fields_from, read_fields, is_nil, nni_value_at, interest_at, data_at}
+
+-- ---- packets
+
+-- the one element that a text is
+abbrev pub only_element : List ℕ → Result Field PacketFault
+only_element text = on_result (λ x. if is_nil x.1 then Ok x.0 else Err BadField) (λ f. Err (Tlv f)) (element_at text)
+
+-- the Interest and the Data of these octets, which are one element with this value
+abbrev pub interest_of : List ℕ → List ℕ → Result PlainInterest PacketFault
+interest_of text value = if nat_lt 8800 (length text) then Err TooLong else interest_at value
+
+abbrev pub data_of : List ℕ → List ℕ → Result PlainData PacketFault
+data_of text value = if nat_lt 8800 (length text) then Err TooLong else data_at value
+
+-- the packet of these octets, which are this element
+abbrev pub packet_of : List ℕ → Field → Result PlainFrame PacketFault
+packet_of text outer =
+    if outer.0 == 5 then (interest_of text outer.1 >>= λ i. Ok (AnInterest text i)) else (
+    if outer.0 == 6 then (data_of text outer.1 >>= λ d. Ok (AData text d)) else
+    Err BadField)
+
+-- the Interest inside a Nack
+abbrev pub nacked_of : ℕ → List ℕ → Field → Result PlainFrame PacketFault
+nacked_of reason text outer =
+    if outer.0 == 5 then (interest_of text outer.1 >>= λ i. Ok (ANack reason text i)) else Err BadField
+
+-- ---- link packets
+
+-- of a Nack: its NackReason
+abbrev pub take_nack_field : ℕ → Field → Result ℕ PacketFault
+take_nack_field reason f = nni_value_at f.1
+
+unfoldable pub nack_at : List ℕ → Result ℕ PacketFault
+nack_at value = read_fields take_nack_field 0 (fields_from packet_rule nack_schema (elements_of value))
+
+-- of header fields: which ones have been met, and the Nack's reason
+pub record LinkSoFar : Type 0 where
+  pub sequence : Bool
+  pub frag_index : Bool
+  pub frag_count : Bool
+  pub pit_token : Bool
+  pub nack : Option ℕ
+
+abbrev pub no_headers_yet : LinkSoFar
+no_headers_yet = record { sequence = false; frag_index = false; frag_count = false; pit_token = false; nack = None }
+
+abbrev pub is_token : List ℕ → Bool
+is_token value = nat_le 1 (length value) && nat_le (length value) 32
+
+-- whether a header field may not stand here: a known one stands once, and a token has from 1 to 32 octets
+abbrev pub is_refused_header : LinkSoFar → Field → Bool
+is_refused_header s h =
+    if h.0 == 81 then s.sequence else (
+    if h.0 == 82 then s.frag_index else (
+    if h.0 == 83 then s.frag_count else (
+    if h.0 == 98 then (s.pit_token || not (is_token h.1)) else (
+    if h.0 == 800 then is_some s.nack else
+    not (is_ignored_header h.0)))))
+
+-- a number that is at most this one
+abbrev pub at_most : ℕ → List ℕ → LinkSoFar → Result LinkSoFar PacketFault
+at_most limit value s = nni_value_at value >>= λ n. if nat_lt limit n then Err Fragmented else Ok s
+
+-- with a header field that may stand here
+abbrev pub with_header : LinkSoFar → Field → Result LinkSoFar PacketFault
+with_header s h =
+    if h.0 == 81 then Ok (record { sequence = true; frag_index = s.frag_index; frag_count = s.frag_count; pit_token = s.pit_token; nack = s.nack }) else (
+    if h.0 == 82 then at_most 0 h.1 (record { sequence = s.sequence; frag_index = true; frag_count = s.frag_count; pit_token = s.pit_token; nack = s.nack }) else (
+    if h.0 == 83 then at_most 1 h.1 (record { sequence = s.sequence; frag_index = s.frag_index; frag_count = true; pit_token = s.pit_token; nack = s.nack }) else (
+    if h.0 == 98 then Ok (record { sequence = s.sequence; frag_index = s.frag_index; frag_count = s.frag_count; pit_token = true; nack = s.nack }) else (
+    if h.0 == 800 then (nack_at h.1 >>= λ reason. Ok (record { sequence = s.sequence; frag_index = s.frag_index; frag_count = s.frag_count; pit_token = s.pit_token; nack = Some reason })) else
+    Ok s))))
+
+abbrev pub take_header : LinkSoFar → Field → Result LinkSoFar PacketFault
+take_header s h = if is_refused_header s h then Err LpField else with_header s h
+
+-- what a Fragment holds, beside a Nack of this reason or without one
+abbrev pub fragment_at : Option ℕ → List ℕ → Result PlainFrame PacketFault
+fragment_at None text = only_element text >>= packet_of text
+fragment_at (Some reason) text = only_element text >>= nacked_of reason text
+
+-- nothing may follow a Fragment
+abbrev pub last_of : PlainFrame → List (Result Field TlvFault) → Result PlainFrame PacketFault
+last_of frame [] = Ok frame
+last_of frame (Err f ∷ elements) = Err (Tlv f)
+last_of frame (Ok e ∷ elements) = Err LpField
+
+-- a link packet without a Fragment
+abbrev pub no_fragment : Option ℕ → Result PlainFrame PacketFault
+no_fragment None = Ok Idle
+no_fragment (Some reason) = Err BadField
+
+-- what a link packet holds, after these header fields
+abbrev pub link_from : LinkSoFar → List (Result Field TlvFault) → Result PlainFrame PacketFault
+link_from s [] = no_fragment s.nack
+link_from s (Err f ∷ elements) = Err (Tlv f)
+link_from s (Ok e ∷ elements) =
+    if e.0 == 80 then (fragment_at s.nack e.1 >>= λ frame. last_of frame elements) else
+    (take_header s e >>= λ t. link_from t elements)
+
+unfoldable pub link_at : List ℕ → Result PlainFrame PacketFault
+link_at value = link_from no_headers_yet (elements_of value)
+
+-- ---- frames
+
+-- what these octets hold, which are this element
+abbrev pub outer_of : List ℕ → Field → Result PlainFrame PacketFault
+outer_of text outer = if outer.0 == 100 then link_at outer.1 else packet_of text outer
+
+unfoldable pub frame_at : List ℕ → Result PlainFrame PacketFault
+frame_at text = if nat_lt 9000 (length text) then Err TooLong else (only_element text >>= outer_of text)
+
+-- the first fault of a text that is no frame
+abbrev pub FaultOf : List ℕ → PacketFault → Type 0
+FaultOf text fault = frame_at text ≡ Err fault
