@@ -14,7 +14,7 @@ use Rattle.ndn_packets.proofs.Steps.{bind_ok, good, err_is_not_ok, both_tests, r
 
 -- ---- a type in a schema
 
-abbrev Lacks : ℕ → List ℕ → Type 0
+abbrev pub Lacks : ℕ → List ℕ → Type 0
 Lacks kind schema = AllByRecursion (λ k. k ≢ kind) schema
 
 abbrev IsBehindNone : ℕ → List ℕ → Type 0

@@ -13,4 +13,15 @@ pub mod Digests
 pub mod Interests
 pub mod Packets
 pub mod Wholes
+pub mod Cuts
+pub mod Places
+pub mod Covers
+pub mod HopLimits
+pub mod Lengths
+pub mod DataWriting
+pub mod NackWriting
+pub mod InterestWriting
+pub mod Written
+pub mod WrittenNacks
+pub mod WrittenInterests
 pub mod Answering

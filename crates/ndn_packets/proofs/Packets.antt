@@ -63,12 +63,12 @@ one_element (Err f) outer e = absurd (err_is_not_ok _ outer e)
 one_element (Ok (f, [])) outer e = ap (λ (g : Field). seen g.0 g.1 []) (ok_is f outer e)
 one_element (Ok (f, o ∷ rest)) outer e = absurd (err_is_not_ok _ outer e)
 
-only_found : (text : List ℕ) (outer : Field) → IsBytes text → only_element text ≡ Ok outer → IsElement text outer.0 outer.1
+pub only_found : (text : List ℕ) (outer : Field) → IsBytes text → only_element text ≡ Ok outer → IsElement text outer.0 outer.1
 only_found text outer fits e =
     let found = element_found text outer [] fits (one_element (element_at text) outer e) in
     (found.0, found.1 ∙ append-nil (element outer))
 
-only_again : (text value : List ℕ) (kind : ℕ) → IsElement text kind value → only_element text ≡ Ok (kind, value)
+pub only_again : (text value : List ℕ) (kind : ℕ) → IsElement text kind value → only_element text ≡ Ok (kind, value)
 only_again text value kind outer = rw (element_alone text value kind outer) refl
 
 -- ---- packets, which their own element holds

@@ -5,5 +5,8 @@ pub mod Link
 pub mod Answers
 pub mod Reading
 pub mod FrameReading
+pub mod Covered
+pub mod HopLimit
+pub mod Writing
 pub mod FieldReader
 pub mod Found

@@ -27,11 +27,11 @@ pub struct Data<'a> {
 }
 
 /// The types of the fields of a Data behind its Name.
-const META_INFO: u32 = 20;
+pub const META_INFO: u32 = 20;
 
-const CONTENT: u32 = 21;
+pub const CONTENT: u32 = 21;
 
-const SIGNATURE_INFO: u32 = 22;
+pub const SIGNATURE_INFO: u32 = 22;
 
 pub const SIGNATURE_VALUE: u32 = 23;
 

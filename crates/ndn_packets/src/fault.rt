@@ -1,4 +1,4 @@
-use ndn_tlv::TlvFault;
+use ndn_tlv::{Memory, TlvFault};
 use thiserror::Error;
 
 /// Why octets are no frame of this profile: the first fault from the left (NDN Packet Format 0.3,
@@ -54,4 +54,29 @@ pub enum PacketFault {
     /// The octets are more than 9,000, or those of a packet more than 8,800.
     #[error("too long")]
     TooLong,
+}
+
+/// Why a packet is not written. Of several faults the first in this order is told.
+#[derive(Clone, Copy, Debug, PartialEq, Eq, Error)]
+pub enum WriteFault {
+    /// The name of an Interest is empty, or has a digest of parameters, which only the writer knows.
+    #[error("a name that no Interest may be written with")]
+    BadName,
+    /// The name would have more than 64 components, or the packet more than 8,800 octets.
+    #[error("too long")]
+    TooLong,
+    /// A growth of memory was refused.
+    #[error("out of memory")]
+    Memory,
+}
+
+impl From<Memory> for WriteFault {
+    ghost use Rattle.std.specs.Prelude.{◌≡◌};
+    ghost use Rattle.ndn_packets.specs.declared.fault.WriteFault.TheVariants.{Memory};
+
+    ghost from_gives = { λ _ fault. fault ≡ Memory };
+
+    fn from(_memory: Memory) -> WriteFault {
+        WriteFault::Memory
+    }
 }

@@ -33,14 +33,14 @@ pub enum Frame<'a> {
 const MAX_FRAME: usize = 9000;
 
 /// The greatest length of an Interest or a Data, in octets.
-const MAX_PACKET: usize = 8800;
+pub const MAX_PACKET: usize = 8800;
 
 /// The types of an Interest, a Data and a link packet.
 pub const INTEREST: u32 = 5;
 
 pub const DATA: u32 = 6;
 
-const LINK_PACKET: u32 = 100;
+pub const LINK_PACKET: u32 = 100;
 
 /// Reads octets of a link (NDN Packet Format 0.3, "Interest Packet" and "Data Packet"; NDNLPv2,
 /// "Packet Format"): one Interest or one Data of this profile, or a link packet around one. Fields stand

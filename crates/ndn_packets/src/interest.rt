@@ -40,15 +40,15 @@ pub struct Interest<'a> {
 }
 
 /// The types of the fields of an Interest behind its Name.
-const CAN_BE_PREFIX: u32 = 33;
+pub const CAN_BE_PREFIX: u32 = 33;
 
-const MUST_BE_FRESH: u32 = 18;
+pub const MUST_BE_FRESH: u32 = 18;
 
 const FORWARDING_HINT: u32 = 30;
 
-const NONCE: u32 = 10;
+pub const NONCE: u32 = 10;
 
-const INTEREST_LIFETIME: u32 = 12;
+pub const INTEREST_LIFETIME: u32 = 12;
 
 pub const HOP_LIMIT: u32 = 34;
 
@@ -109,7 +109,7 @@ impl<'a> Found<'a> {
 
 /// The digests of parameters in a name: none, the only one, or more.
 #[derive(Clone, Copy)]
-enum Digests<'a> {
+pub enum Digests<'a> {
     None,
     One(&'a [u8]),
     Many,
@@ -153,7 +153,7 @@ impl<'a> Interest<'a> {
 }
 
 /// The digests of parameters in a name.
-fn digests_of(name: Name<'_>) -> Digests<'_>
+pub fn digests_of(name: Name<'_>) -> Digests<'_>
     ensures { AreDigests result (digests_in (components name.entry)) }
 {
     let mut found = Digests::None;

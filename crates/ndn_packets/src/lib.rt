@@ -1,22 +1,33 @@
-//! Interests, Data and link packets of the Named Data Networking packet format, read in place.
+//! Interests, Data and link packets of the Named Data Networking packet format, read in place and
+//! written.
 #![tactic(auto)]
 
 mod answers;
+mod covered;
 mod data;
+mod data_writer;
 mod fault;
 mod field_reader;
 mod frame;
+mod hop_limit;
 mod interest;
+mod interest_writer;
 mod link;
 mod meta_info;
 mod schema;
 mod signature;
+mod writing;
 
+pub use covered::{Parts, signed_packets_have_covered_octets};
 pub use data::Data;
-pub use fault::PacketFault;
+pub use data_writer::{DataWriter, put_reply};
+pub use fault::{PacketFault, WriteFault};
 pub use frame::{Frame, frames_have_one_reading, read_frame};
+pub use hop_limit::hop_limit_mut;
 pub use interest::Interest;
-pub use signature::{Locator, Signature};
+pub use interest_writer::InterestWriter;
+pub use link::put_nack;
+pub use signature::{Locator, Sign, Signature};
 
 #[cfg(test)]
 mod tests;

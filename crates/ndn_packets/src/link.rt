@@ -1,16 +1,22 @@
 //! Link packets (NDNLPv2, "Packet Format", "Fragmentation", "Network Nack", "PIT Token").
 
-ghost use Rattle.std.specs.Prelude.{◌≡◌, Ok, Err};
+ghost use Rattle.std.specs.Prelude.{◌≡◌, ◌+◌, ◌≤◌, ◌++◌, length, take, vec_len, Ok, Err, OnOk, OnErr, IsOk};
+ghost use Rattle.std.specs.Vec.{vec_capacity};
+ghost use Rattle.ndn_tlv.specs.Number.{shortest_nni};
+ghost use Rattle.ndn_tlv.specs.Element.{element};
 ghost use Rattle.ndn_tlv.specs.Reading.{on_result, elements_of};
-ghost use Rattle.ndn_packets.specs.Packet.{PlainFrame, plain_frame};
-ghost use Rattle.ndn_packets.specs.Link.{is_ignored_header};
+ghost use Rattle.ndn_packets.specs.Packet.{PlainInterest, PlainFrame, ANack, plain_frame};
+ghost use Rattle.ndn_packets.specs.Grammar.{IsInterest};
+ghost use Rattle.ndn_packets.specs.Link.{IsFrame, is_ignored_header};
 ghost use Rattle.ndn_packets.specs.FrameReading.{LinkSoFar, at_most, nack_at, fragment_at, last_of, link_at};
+ghost use Rattle.ndn_packets.specs.Writing.{nack_text, IsLength};
 
 use crate::fault::PacketFault;
 use crate::field_reader::{FieldReader, number};
-use crate::frame::{Frame, nacked_of, only_element, packet_of};
+use crate::frame::{Frame, LINK_PACKET, nacked_of, only_element, packet_of};
 use crate::schema::Rules;
-use ndn_tlv::{Element, first_element};
+use crate::writing::{element_len, nni_element_len, put_header, put_nni_element};
+use ndn_tlv::{Element, Memory, first_element, put_element};
 
 /// The types of the elements of a link packet.
 const FRAGMENT: u32 = 80;
@@ -177,4 +183,61 @@ fn check_last(after: &[u8]) -> Result<(), PacketFault>
     }
     first_element(after).map_err(PacketFault::Tlv)?;
     Err(PacketFault::LpField)
+}
+
+/// Appends a Nack of a reason around an Interest's octets: a link packet (NDNLPv2, "Network Nack").
+/// The NackReason is always written, 0 too. Where memory is refused, nothing is appended.
+pub fn put_nack(out: &mut Vec<u8>, reason: u64, interest: &[u8]) -> Result<(), Memory>
+    ensures ok { OnOk result (out.new.items ≡ out.old.items ++ nack_text reason interest.now) }
+    ensures err { OnErr result (out.new.items ≡ out.old.items) }
+    // Where there is room, memory is not refused.
+    ensures room { vec_len out.old + length (nack_text reason interest.now) ≤ vec_capacity out.old → IsOk result }
+    ensures capacity { vec_capacity out.old ≤ vec_capacity out.new }
+    // Around octets that are one Interest it is a Nack of that reason and Interest.
+    ensures reads_back { (i : PlainInterest) → IsInterest interest.now i → IsFrame (nack_text reason interest.now) (ANack reason interest.now i) }
+{
+    let len = out.len();
+    let done = put_nack_parts(out, reason, interest);
+    if done.is_err() {
+        out.truncate(len);
+    }
+    done
+}
+
+#[tactic(auto, using(crate::proofs::NackWriting::nack_put, crate::proofs::NackWriting::nack_parts))]
+/// Appends a Nack, or some octets of it. Its length is reserved first: where it is greater than any
+/// memory has, that is refused.
+fn put_nack_parts(out: &mut Vec<u8>, reason: u64, interest: &[u8]) -> Result<(), Memory>
+    ensures ok { OnOk result (out.new.items ≡ out.old.items ++ nack_text reason interest.now) }
+    ensures begins { take (vec_len out.old) out.new.items ≡ out.old.items }
+    ensures room { vec_len out.old + length (nack_text reason interest.now) ≤ vec_capacity out.old → IsOk result }
+    ensures capacity { vec_capacity out.old ≤ vec_capacity out.new }
+{
+    let value_len = nack_value_len(reason, interest);
+    out.reserve(element_len(LINK_PACKET, value_len))?;
+    put_header(out, LINK_PACKET, value_len)?;
+    put_reason(out, reason)?;
+    put_element(out, FRAGMENT, interest)?;
+    Ok(())
+}
+
+/// The length of the value of a Nack's link packet. It stops at `usize::MAX`.
+fn nack_value_len(reason: u64, interest: &[u8]) -> usize
+    ensures { IsLength result (element (800, element (801, shortest_nni reason)) ++ element (80, interest.now)) }
+{
+    let nack_len = element_len(NACK, nni_element_len(NACK_REASON, reason));
+    nack_len.saturating_add(element_len(FRAGMENT, interest.len()))
+}
+
+#[tactic(auto, using(crate::proofs::Lengths::element_put))]
+/// Appends the header field of a Nack of a reason, or some octets of it.
+fn put_reason(out: &mut Vec<u8>, reason: u64) -> Result<(), Memory>
+    ensures ok { OnOk result (out.new.items ≡ out.old.items ++ element (800, element (801, shortest_nni reason))) }
+    ensures begins { take (vec_len out.old) out.new.items ≡ out.old.items }
+    ensures room { vec_len out.old + length (element (800, element (801, shortest_nni reason))) ≤ vec_capacity out.old → IsOk result }
+    ensures capacity { vec_capacity out.old ≤ vec_capacity out.new }
+{
+    put_header(out, NACK, nni_element_len(NACK_REASON, reason))?;
+    put_nni_element(out, NACK_REASON, reason)?;
+    Ok(())
 }

@@ -8,9 +8,9 @@ use crate::schema::Rules;
 /// The types of a ContentType, a FreshnessPeriod and a FinalBlockId.
 const CONTENT_TYPE: u32 = 24;
 
-const FRESHNESS_PERIOD: u32 = 25;
+pub const FRESHNESS_PERIOD: u32 = 25;
 
-const FINAL_BLOCK_ID: u32 = 26;
+pub const FINAL_BLOCK_ID: u32 = 26;
 
 /// The fields of a MetaInfo (NDN Packet Format 0.3, "MetaInfo").
 const FIELDS: [u32; 3] = [CONTENT_TYPE, FRESHNESS_PERIOD, FINAL_BLOCK_ID];

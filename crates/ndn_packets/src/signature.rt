@@ -39,6 +39,13 @@ pub struct Signature<'a> {
     pub value: &'a [u8],
 }
 
+/// How a packet is signed that is written.
+#[derive(Clone, Copy, Debug)]
+pub enum Sign {
+    /// DigestSha256: the value is SHA-256 of the covered octets (NDN Packet Format 0.3, "DigestSha256").
+    Digest,
+}
+
 /// A SignatureInfo.
 #[derive(Clone, Copy)]
 pub struct SignatureInfo<'a> {
@@ -80,15 +87,15 @@ struct Found<'a> {
 const KEY_DIGEST: u32 = 29;
 
 /// The types of the fields of a SignatureInfo.
-const SIGNATURE_TYPE: u32 = 27;
+pub const SIGNATURE_TYPE: u32 = 27;
 
 const KEY_LOCATOR: u32 = 28;
 
 const SIGNATURE_NONCE: u32 = 38;
 
-const SIGNATURE_TIME: u32 = 40;
+pub const SIGNATURE_TIME: u32 = 40;
 
-const SIGNATURE_SEQ_NUM: u32 = 42;
+pub const SIGNATURE_SEQ_NUM: u32 = 42;
 
 const FIELDS: [u32; 5] = [
     SIGNATURE_TYPE,

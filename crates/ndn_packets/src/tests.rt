@@ -1,4 +1,6 @@
+mod covered;
 mod link;
+mod writers;
 
 use super::*;
 use ndn_tlv::TlvFault;

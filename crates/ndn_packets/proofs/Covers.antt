@@ -1,0 +1,409 @@
+-- Which packets have octets that a signature covers, and which octets these are.
+use Rattle.std.proofs.Common.{◌≡◌, ◌≢◌, ℕ, ◌-◌, ◌⊎◌, Bool, List, [], ◌∷◌, ◌++◌, length, take, Option, None, Some, refl, sym, ap, subst, ◌∙◌, append_assoc, arith, inl, inr}
+use Rattle.std.specs.Prelude.{IsSome}
+use Rattle.std.specs.List.{flat_map, AllByRecursion}
+use Rattle.std.proofs.lemmas.Bool.{eqb-false}
+use Rattle.std.proofs.lemmas.List.{length-append, take_at}
+use Rattle.std.proofs.lemmas.List.Concat.{flat_map-cons}
+use Rattle.ndn_tlv.specs.Element.{Field, IsField, element, IsElement, IsElements}
+use Rattle.ndn_packets.specs.Packet.{PlainSignature, PlainInterest, PlainData}
+use Rattle.ndn_packets.specs.Fields.{Fields, optional, flag, is_even_high, interest_schema}
+use Rattle.ndn_packets.specs.Grammar.{IsSigned, IsInterest, IsData}
+use Rattle.ndn_packets.specs.Covered.{IsCut, from_first, CoversData, CoversInterest, EndsInDigest}
+use Rattle.ndn_packets.proofs.Steps.{ok_is, some_is, none_is_not_some}
+use Rattle.ndn_packets.proofs.Packets.{only_again}
+use Rattle.ndn_packets.proofs.Cuts.{cut_read, cut_is, never_cut, never_in, all_front, cut_among}
+use Rattle.ndn_packets.proofs.Places.{Others, Met, meet_parameters, meet_info, meet_signature, meet_value, Has, has_behind, has_back, others_lack, earlier_others, front_fields, back_fields, fields_are, earlier_front, other_optional, hop_apart, all_both}
+
+-- ---- what a reader has to find
+
+outer_one : (text : List ℕ) (kind : ℕ) (value other : List ℕ) → IsElement text kind value → IsElement text kind other → value ≡ other
+outer_one text kind value other a b = ap (λ (f : Field). f.1) (ok_is (kind, value) (kind, other) (sym (only_again text value kind a) ∙ only_again text other kind b))
+
+pub value_read : (text value covered : List ℕ) → IsElement text 6 value → (h : CoversData text covered) → from_first 23 value ≡ Some h.from_signature
+value_read text value covered outer h = ap (from_first 23) (outer_one text 6 value h.value outer h.outer) ∙ cut_read 23 h.value covered h.from_signature h.cut
+
+pub parameters_read : (name : List Field) (text value first second : List ℕ) → IsElement text 5 value → (h : CoversInterest name text first second) → from_first 36 value ≡ Some h.from_parameters
+parameters_read name text value first second outer h = ap (from_first 36) (outer_one text 5 value h.value outer h.outer) ∙ cut_read 36 h.value h.early h.from_parameters h.parameters
+
+pub info_read : (name : List Field) (text value first second from : List ℕ) → IsElement text 5 value → from_first 36 value ≡ Some from → (h : CoversInterest name text first second) → from_first 44 from ≡ Some h.from_info
+info_read name text value first second from outer there h =
+    let same : from ≡ h.from_parameters = some_is from h.from_parameters (sym there ∙ parameters_read name text value first second outer h) in
+    ap (from_first 44) same ∙ cut_read 44 h.from_parameters h.to_info h.from_info h.info
+
+pub signature_read : (name : List Field) (text value first second from from_info : List ℕ) → IsElement text 5 value → from_first 36 value ≡ Some from → from_first 44 from ≡ Some from_info
+    → (h : CoversInterest name text first second) → from_first 46 from_info ≡ Some h.from_signature
+signature_read name text value first second from from_info outer there info h =
+    let same : from_info ≡ h.from_info = some_is from_info h.from_info (sym info ∙ info_read name text value first second from outer there h) in
+    ap (from_first 46) same ∙ cut_read 46 h.from_info h.to_signature h.from_signature h.signature
+
+-- the octets between two cuts
+pub between : (from to_info from_info to_signature from_signature : List ℕ) → from ≡ to_info ++ from_info → from_info ≡ to_signature ++ from_signature
+    → take (length from - length from_signature) from ≡ to_info ++ to_signature
+between from to_info from_info to_signature from_signature info signature =
+    let all : from ≡ (to_info ++ to_signature) ++ from_signature = info ∙ ap (λ (t : List ℕ). to_info ++ t) signature ∙ sym (append_assoc to_info to_signature from_signature) in
+    let len : length (to_info ++ to_signature) ≡ length from - length from_signature = omega (arith, ap length all, length-append (to_info ++ to_signature) from_signature) in
+    ap (take (length from - length from_signature)) all ∙ take_at (to_info ++ to_signature) from_signature (length from - length from_signature) len
+
+-- ---- a Data
+
+pub data_covered : (text : List ℕ) (d : PlainData) → IsData text d → (covered : List ℕ) × CoversData text covered
+data_covered text d h =
+    let fields = h.fields in
+    let all = (7, h.name_value) ∷ fields.elements in
+    elim (meet_value is_even_high fields.elements _ fields.recognised) [
+      | inl m ↦ (
+        flat_map element ((7, h.name_value) ∷ m.front),
+        record {
+          value = fields.value;
+          from_signature = flat_map element ((23, m.value) ∷ m.back);
+          outer = fields.outer;
+          cut = subst (λ (t : List ℕ). IsCut 23 t (flat_map element ((7, h.name_value) ∷ m.front)) (flat_map element ((23, m.value) ∷ m.back))) (sym fields.inner.1)
+              (cut_among 23 m.value all ((7, h.name_value) ∷ m.front) m.back fields.inner.0 (ap (λ (es : List Field). (7, h.name_value) ∷ es) m.elements_are) (eqb-false 7 23 refl, m.none));
+        },
+      )
+      | inr m ↦
+          let signed : Has 23 (optional 20 h.meta_value ++ (optional 21 d.content ++ ((22, h.info_value) ∷ (23, d.signature.value) ∷ []))) =
+          has_behind 23 (optional 20 h.meta_value) _ (has_behind 23 (optional 21 d.content) ((22, h.info_value) ∷ (23, d.signature.value) ∷ []) (inr (inl refl))) in
+          absurd (others_lack 23 _ (earlier_others [] [] 23 _ m.1) signed)
+    ]
+
+-- ---- an Interest
+
+-- where a signature and what it covers stand among the octets
+record IsCutAt (value from_parameters from_info from_signature : List ℕ) : Type 0 where
+  early : List ℕ
+  to_info : List ℕ
+  to_signature : List ℕ
+  parameters : IsCut 36 value early from_parameters
+  info : IsCut 44 from_parameters to_info from_info
+  signature : IsCut 46 from_info to_signature from_signature
+
+abbrev Cuts : List ℕ → Type 0
+Cuts value = (from_parameters from_info from_signature : List ℕ) × IsCutAt value from_parameters from_info from_signature
+
+abbrev HasBoth : List Field → Type 0
+HasBoth fields = Has 44 fields × Has 46 fields
+
+-- the octets are cut so where there is an InterestSignatureInfo and an InterestSignatureValue
+abbrev Decided : List ℕ → List Field → Type 0
+Decided value fields = (Cuts value × HasBoth fields) ⊎ ((Cuts value → ⊥) × (HasBoth fields → ⊥))
+
+has_met : (ignores : ℕ → Bool) (kind : ℕ) (later : List ℕ) (elements fields : List Field) (m : Met ignores kind later elements fields) → Has kind fields
+has_met ignores kind later elements fields m = subst (Has kind) (sym m.fields_are) (has_behind kind m.early ((kind, m.value) ∷ m.late) (inl refl))
+
+-- a further field stands behind the one that was met
+later_met : (ignores : ℕ → Bool) (kind k : ℕ) (later : List ℕ) (elements fields : List Field) (m : Met ignores kind later elements fields) → Has k m.late → Has k fields
+later_met ignores kind k later elements fields m h = subst (Has k) (sym m.fields_are) (has_behind k m.early ((kind, m.value) ∷ m.late) (inr h))
+
+behind_met : (ignores : ℕ → Bool) (kind k : ℕ) (later : List ℕ) (elements fields : List Field) (m : Met ignores kind later elements fields) → Others k m.early → kind ≢ k → Has k fields → Has k m.late
+behind_met ignores kind k later elements fields m others other h =
+    elim (has_back k m.early ((kind, m.value) ∷ m.late) others (subst (Has k) m.fields_are h)) [
+      | inl same ↦ absurd (other same)
+      | inr there ↦ there
+    ]
+
+decided : (value : List ℕ) (name : List ℕ) (elements fields : List Field) → IsElements value ((7, name) ∷ elements) → Fields is_even_high interest_schema elements fields → Decided value fields
+decided value name elements fields inner recognised =
+    let all = (7, name) ∷ elements in
+    elim (meet_parameters is_even_high elements fields recognised) [
+      | inr p ↦ inr (
+        λ cuts. none_is_not_some cuts.0 (sym (ap (from_first 36) inner.1 ∙ never_in 36 all inner.0 (eqb-false 7 36 refl, p.0)) ∙ cut_read 36 value cuts.3.early cuts.0 cuts.3.parameters),
+        λ both. others_lack 44 fields (earlier_others (36 ∷ []) (46 ∷ []) 44 fields p.1) both.0,
+      )
+      | inl p ↦
+          let behind = (36, p.value) ∷ p.back in
+          let from = flat_map element behind in
+          let are : all ≡ ((7, name) ∷ p.front) ++ behind = ap (λ (es : List Field). (7, name) ∷ es) p.elements_are in
+          let before = flat_map element ((7, name) ∷ p.front) in
+          let cut : IsCut 36 value before from = subst (λ (t : List ℕ). IsCut 36 t before from) (sym inner.1) (cut_among 36 p.value all ((7, name) ∷ p.front) p.back inner.0 are (eqb-false 7 36 refl, p.none)) in
+          let sizes = (all_front IsField ((7, name) ∷ p.front) behind (subst (AllByRecursion IsField) are inner.0)).1 in
+          let d = decided_info value from before p.value p.back p.late cut refl sizes p.behind in
+          elim d [
+            | inl y ↦ inl (y.0, (later_met is_even_high 36 44 (44 ∷ 46 ∷ []) elements fields p y.1.0, later_met is_even_high 36 46 (44 ∷ 46 ∷ []) elements fields p y.1.1))
+            | inr n ↦ inr (
+              n.0,
+              λ both. n.1 (
+                behind_met is_even_high 36 44 (44 ∷ 46 ∷ []) elements fields p (earlier_others (36 ∷ []) (46 ∷ []) 44 p.early p.earlier) (eqb-false 36 44 refl) both.0,
+                behind_met is_even_high 36 46 (44 ∷ 46 ∷ []) elements fields p (earlier_others (36 ∷ 44 ∷ []) [] 46 p.early p.earlier) (eqb-false 36 46 refl) both.1,
+              ),
+            )
+          ]
+    ]
+  where
+    decided_signature : (value from from_info before to_info info : List ℕ) (elements fields : List Field) → IsCut 36 value before from → IsCut 44 from to_info from_info → from_info ≡ flat_map element ((44, info) ∷ elements)
+        → AllByRecursion IsField ((44, info) ∷ elements) → Fields is_even_high (46 ∷ []) elements fields → (Cuts value × Has 46 fields) ⊎ ((Cuts value → ⊥) × (Has 46 fields → ⊥))
+    decided_signature value from from_info before to_info info elements fields cut cut_info is sizes recognised =
+        let all = (44, info) ∷ elements in
+        elim (meet_signature is_even_high elements fields recognised) [
+          | inr s ↦ inr (
+            λ cuts. (
+                let at : from ≡ cuts.0 = cut_is 36 value from cuts.3.early cuts.0 (cut_read 36 value before from cut) cuts.3.parameters in
+                let at_info : from_info ≡ cuts.1 = cut_is 44 cuts.0 from_info cuts.3.to_info cuts.1 (ap (from_first 44) (sym at) ∙ cut_read 44 from to_info from_info cut_info) cuts.3.info in
+                let none : from_first 46 cuts.1 ≡ None = ap (from_first 46) (sym at_info ∙ is) ∙ never_in 46 all sizes (eqb-false 44 46 refl, s.0) in
+                never_cut 46 cuts.1 cuts.3.to_signature cuts.2 none cuts.3.signature),
+            others_lack 46 fields (earlier_others [] [] 46 fields s.1),
+          )
+          | inl s ↦
+              let from_signature = flat_map element ((46, s.value) ∷ s.back) in
+              let to_signature = flat_map element ((44, info) ∷ s.front) in
+              let are : all ≡ ((44, info) ∷ s.front) ++ (46, s.value) ∷ s.back = ap (λ (es : List Field). (44, info) ∷ es) s.elements_are in
+              let cut_signature : IsCut 46 from_info to_signature from_signature = subst (λ (t : List ℕ). IsCut 46 t to_signature from_signature) (sym is)
+              (cut_among 46 s.value all ((44, info) ∷ s.front) s.back sizes are (eqb-false 44 46 refl, s.none)) in
+              inl ((from, from_info, from_signature, record { early = before; to_info = to_info; to_signature = to_signature; parameters = cut; info = cut_info; signature = cut_signature }), has_met is_even_high 46 [] elements fields s)
+        ]
+
+    decided_info : (value from before parameters : List ℕ) (elements fields : List Field) → IsCut 36 value before from → from ≡ flat_map element ((36, parameters) ∷ elements)
+        → AllByRecursion IsField ((36, parameters) ∷ elements) → Fields is_even_high (44 ∷ 46 ∷ []) elements fields → Decided value fields
+    decided_info value from before parameters elements fields cut is sizes recognised =
+        let all = (36, parameters) ∷ elements in
+        elim (meet_info is_even_high elements fields recognised) [
+          | inr i ↦ inr (
+            λ cuts. (
+                let at : from ≡ cuts.0 = cut_is 36 value from cuts.3.early cuts.0 (cut_read 36 value before from cut) cuts.3.parameters in
+                let none : from_first 44 cuts.0 ≡ None = ap (from_first 44) (sym at ∙ is) ∙ never_in 44 all sizes (eqb-false 36 44 refl, i.0) in
+                never_cut 44 cuts.0 cuts.3.to_info cuts.1 none cuts.3.info),
+            λ both. others_lack 44 fields (earlier_others [] (46 ∷ []) 44 fields i.1) both.0,
+          )
+          | inl i ↦
+              let behind = (44, i.value) ∷ i.back in
+              let from_info = flat_map element behind in
+              let to_info = flat_map element ((36, parameters) ∷ i.front) in
+              let are : all ≡ ((36, parameters) ∷ i.front) ++ behind = ap (λ (es : List Field). (36, parameters) ∷ es) i.elements_are in
+              let cut_info : IsCut 44 from to_info from_info = subst (λ (t : List ℕ). IsCut 44 t to_info from_info) (sym is) (cut_among 44 i.value all ((36, parameters) ∷ i.front) i.back sizes are (eqb-false 36 44 refl, i.none)) in
+              let rest = (all_front IsField ((36, parameters) ∷ i.front) behind (subst (AllByRecursion IsField) are sizes)).1 in
+              elim (decided_signature value from from_info before to_info i.value i.back i.late cut cut_info refl rest i.behind) [
+                | inl y ↦ inl (y.0, (has_met is_even_high 44 (46 ∷ []) elements fields i, later_met is_even_high 44 46 (46 ∷ []) elements fields i y.1))
+                | inr n ↦ inr (n.0, λ both. n.1 (behind_met is_even_high 44 46 (46 ∷ []) elements fields i (earlier_others (44 ∷ []) [] 46 i.early i.earlier) (eqb-false 44 46 refl) both.1))
+              ]
+        ]
+
+-- ---- which Interests are signed
+
+signed_has : (parameters info value : Option (List ℕ)) (signature : Option PlainSignature) → IsSigned info value signature → HasBoth (back_fields parameters info value) → IsSome signature
+signed_has parameters None value signature h both =
+    absurd (others_lack 44 (optional 46 value) (other_optional 46 44 value (eqb-false 46 44 refl)) (has_back 44 (optional 36 parameters) (optional 46 value) (other_optional 36 44 parameters (eqb-false 36 44 refl)) both.0))
+signed_has parameters (Some v) None signature h both =
+    absurd (others_lack 46 ((44, v) ∷ []) (eqb-false 44 46 refl, tt) (has_back 46 (optional 36 parameters) ((44, v) ∷ []) (other_optional 36 46 parameters (eqb-false 36 46 refl)) both.1))
+signed_has parameters (Some v) (Some w) signature h both = rw h.2 refl
+
+has_signed : (parameters info value : Option (List ℕ)) (signature : Option PlainSignature) → IsSigned info value signature → IsSome signature → HasBoth (back_fields parameters info value)
+has_signed parameters None value signature h some = let none : IsSome {T = PlainSignature} None = subst IsSome h some in absurd cc
+has_signed parameters (Some v) None signature h some = let none : IsSome {T = PlainSignature} None = subst IsSome h.2 some in absurd cc
+has_signed parameters (Some v) (Some w) signature h some = (has_behind 44 (optional 36 parameters) _ (inl refl), has_behind 46 (optional 36 parameters) _ (inr (inl refl)))
+
+-- both stand behind the HopLimit
+module _ (prefix fresh : Bool) (hint : Option (List ℕ)) (nonce : List ℕ) (lifetime hop : Option (List ℕ)) (back : List Field) where
+  abbrev all_fields : List Field
+  all_fields = flag 33 prefix ++ (flag 18 fresh ++ (optional 30 hint ++ ((10, nonce) ∷ (optional 12 lifetime ++ (optional 34 hop ++ back)))))
+
+  are : all_fields ≡ front_fields prefix fresh hint nonce lifetime ++ (optional 34 hop ++ back)
+  are = fields_are prefix fresh hint nonce lifetime (optional 34 hop ++ back)
+
+  has_all : (kind : ℕ) → Has kind back → Has kind all_fields
+  has_all kind h = subst (Has kind) (sym are) (has_behind kind (front_fields prefix fresh hint nonce lifetime) (optional 34 hop ++ back) (has_behind kind (optional 34 hop) back h))
+
+  in_back : (kind : ℕ) → Others kind (front_fields prefix fresh hint nonce lifetime) → 34 ≢ kind → Has kind all_fields → Has kind back
+  in_back kind others other h =
+      has_back kind (optional 34 hop) back (other_optional 34 kind hop other) (has_back kind (front_fields prefix fresh hint nonce lifetime) (optional 34 hop ++ back) others (subst (Has kind) are h))
+
+  both_in_back : HasBoth all_fields → HasBoth back
+  both_in_back h =
+      let earlier = earlier_front (34 ∷ 36 ∷ 44 ∷ 46 ∷ []) prefix fresh hint nonce lifetime hop_apart in (
+        in_back 44 (earlier_others (34 ∷ 36 ∷ []) (46 ∷ []) 44 _ earlier) (eqb-false 34 44 refl) h.0,
+        in_back 46 (earlier_others (34 ∷ 36 ∷ 44 ∷ []) [] 46 _ earlier) (eqb-false 34 46 refl) h.1,
+      )
+
+pub interest_covered : (text : List ℕ) (i : PlainInterest) → IsInterest text i
+    → (((first second : List ℕ) × CoversInterest i.name text first second) → IsSome i.signature × EndsInDigest i.name) × ((IsSome i.signature × EndsInDigest i.name) → ((first second : List ℕ) × CoversInterest i.name text first second))
+interest_covered text i h =
+    let value = h.fields.value in
+    let back = back_fields i.parameters h.info_value h.signature_value in
+    let d = decided value h.name_value h.fields.elements _ h.fields.inner h.fields.recognised in (
+      λ x. (
+        elim d [
+          | inl y ↦ signed_has i.parameters h.info_value h.signature_value i.signature h.signature (both_in_back i.can_be_prefix i.must_be_fresh h.hint i.nonce h.lifetime_value h.hop_value back y.1)
+          | inr n ↦ absurd (n.0 (cuts_of x.2 (outer_one text 5 x.2.value value x.2.outer h.fields.outer)))
+        ],
+        (x.2.components, x.2.digest, x.2.named),
+      ),
+      λ s. elim d [
+        | inl y ↦ (
+          flat_map element s.1.0,
+          y.0.3.to_info ++ y.0.3.to_signature,
+          record {
+            components = s.1.0;
+            digest = s.1.1;
+            value = value;
+            early = y.0.3.early;
+            from_parameters = y.0.0;
+            to_info = y.0.3.to_info;
+            from_info = y.0.1;
+            to_signature = y.0.3.to_signature;
+            from_signature = y.0.2;
+            named = s.1.2;
+            outer = h.fields.outer;
+            parameters = y.0.3.parameters;
+            info = y.0.3.info;
+            signature = y.0.3.signature;
+            first_is = refl;
+            second_is = refl;
+          },
+        )
+        | inr n ↦
+            let both = has_signed i.parameters h.info_value h.signature_value i.signature h.signature s.0 in
+            let has = has_all i.can_be_prefix i.must_be_fresh h.hint i.nonce h.lifetime_value h.hop_value back in
+            absurd (n.1 (has 44 both.0, has 46 both.1))
+      ],
+    )
+  where
+    cuts_of : {first second value : List ℕ} (c : CoversInterest i.name text first second) → c.value ≡ value → Cuts value
+    cuts_of c same = subst Cuts same (
+      c.from_parameters,
+      c.from_info,
+      c.from_signature,
+      record {
+        early = c.early;
+        to_info = c.to_info;
+        to_signature = c.to_signature;
+        parameters = c.parameters;
+        info = c.info;
+        signature = c.signature;
+      },
+    )
+
+-- ---- what is covered ends where the signature's value begins
+
+-- the first field of a type in two lists that are the same
+first_value : (kind : ℕ) (xs us ys vs : List Field) (v w : List ℕ) → Others kind xs → Others kind us → xs ++ (kind, v) ∷ ys ≡ us ++ (kind, w) ∷ vs → v ≡ w
+first_value kind [] [] ys vs v w p q e = (let first : (kind, v) ≡ (kind, w) = cc in ap (λ (f : Field). f.1) first)
+first_value kind [] (u ∷ us) ys vs v w p q e = (let first : (kind, v) ≡ u = cc in absurd (q.0 (sym (ap (λ (f : Field). f.0) first))))
+first_value kind (x ∷ xs) [] ys vs v w p q e = (let first : x ≡ (kind, w) = cc in absurd (p.0 (ap (λ (f : Field). f.0) first)))
+first_value kind (x ∷ xs) (u ∷ us) ys vs v w p q e = (let rest : xs ++ (kind, v) ∷ ys ≡ us ++ (kind, w) ∷ vs = cc in first_value kind xs us ys vs v w p.1 q.1 rest)
+
+-- octets that begin with the element of a field, which is the first of its type
+record Begins (kind : ℕ) (from : List ℕ) (fields : List Field) : Type 0 where
+  value : List ℕ
+  after : List ℕ
+  early : List Field
+  late : List Field
+  from_is : from ≡ element (kind, value) ++ after
+  fields_are : fields ≡ early ++ (kind, value) ∷ late
+  others : Others kind early
+
+-- at a cut the field begins that is met among the elements
+begins : (ignores : ℕ → Bool) (kind : ℕ) (later : List ℕ) (octets before from : List ℕ) (first : Field) (elements fields : List Field) (m : Met ignores kind later elements fields) → first.0 ≢ kind
+    → octets ≡ flat_map element (first ∷ elements) → AllByRecursion IsField (first ∷ elements) → IsCut kind octets before from → from ≡ flat_map element ((kind, m.value) ∷ m.back)
+begins ignores kind later octets before from first elements fields m other is sizes cut =
+    let own : IsCut kind octets (flat_map element (first ∷ m.front)) (flat_map element ((kind, m.value) ∷ m.back)) =
+    subst (λ (t : List ℕ). IsCut kind t (flat_map element (first ∷ m.front)) (flat_map element ((kind, m.value) ∷ m.back))) (sym is)
+    (cut_among kind m.value (first ∷ elements) (first ∷ m.front) m.back sizes (ap (λ (es : List Field). first ∷ es) m.elements_are) (other, m.none)) in
+    sym (cut_is kind octets (flat_map element ((kind, m.value) ∷ m.back)) before from (cut_read kind octets _ _ own) cut)
+
+-- a field that begins behind another one
+begins_behind : (kind k : ℕ) (from : List ℕ) (v : List ℕ) (early late fields : List Field) → fields ≡ early ++ (k, v) ∷ late → Others kind early → k ≢ kind → Begins kind from late → Begins kind from fields
+begins_behind kind k from v early late fields is others other b = record {
+  value = b.value;
+  after = b.after;
+  early = early ++ (k, v) ∷ b.early;
+  late = b.late;
+  from_is = b.from_is;
+  fields_are = is ∙ ap (λ (fs : List Field). early ++ (k, v) ∷ fs) b.fields_are ∙ sym (append_assoc early ((k, v) ∷ b.early) ((kind, b.value) ∷ b.late));
+  others = all_both (λ f. f.0 ≢ kind) early ((k, v) ∷ b.early) others (other, b.others);
+}
+
+-- the elements behind the one that was met have sizes too
+sizes_behind : (ignores : ℕ → Bool) (kind : ℕ) (later : List ℕ) (first : Field) (elements fields : List Field) (m : Met ignores kind later elements fields) → AllByRecursion IsField (first ∷ elements)
+    → AllByRecursion IsField ((kind, m.value) ∷ m.back)
+sizes_behind ignores kind later first elements fields m sizes = (all_front IsField m.front ((kind, m.value) ∷ m.back) (subst (AllByRecursion IsField) m.elements_are sizes.1)).1
+
+begins_value : (from_info to_signature from_signature info : List ℕ) (elements fields : List Field) → from_info ≡ flat_map element ((44, info) ∷ elements) → AllByRecursion IsField ((44, info) ∷ elements)
+    → Fields is_even_high (46 ∷ []) elements fields → IsCut 46 from_info to_signature from_signature → Begins 46 from_signature fields
+begins_value from_info to_signature from_signature info elements fields is sizes recognised cut =
+    elim (meet_signature is_even_high elements fields recognised) [
+      | inl m ↦ record {
+        value = m.value;
+        after = flat_map element m.back;
+        early = m.early;
+        late = m.late;
+        from_is = begins is_even_high 46 [] from_info to_signature from_signature (44, info) elements fields m (eqb-false 44 46 refl) is sizes cut ∙ flat_map-cons element (46, m.value) m.back;
+        fields_are = m.fields_are;
+        others = earlier_others [] [] 46 m.early m.earlier;
+      }
+      | inr n ↦ absurd (never_cut 46 from_info to_signature from_signature (ap (from_first 46) is ∙ never_in 46 ((44, info) ∷ elements) sizes (eqb-false 44 46 refl, n.0)) cut)
+    ]
+
+begins_info : (from_parameters to_info from_info to_signature from_signature parameters : List ℕ) (elements fields : List Field) → from_parameters ≡ flat_map element ((36, parameters) ∷ elements)
+    → AllByRecursion IsField ((36, parameters) ∷ elements) → Fields is_even_high (44 ∷ 46 ∷ []) elements fields → IsCut 44 from_parameters to_info from_info → IsCut 46 from_info to_signature from_signature
+    → Begins 46 from_signature fields
+begins_info from_parameters to_info from_info to_signature from_signature parameters elements fields is sizes recognised cut cut_signature =
+    elim (meet_info is_even_high elements fields recognised) [
+      | inl m ↦
+          let at = begins is_even_high 44 (46 ∷ []) from_parameters to_info from_info (36, parameters) elements fields m (eqb-false 36 44 refl) is sizes cut in
+          let b = begins_value from_info to_signature from_signature m.value m.back m.late at (sizes_behind is_even_high 44 (46 ∷ []) (36, parameters) elements fields m sizes) m.behind cut_signature in
+          begins_behind 46 44 from_signature m.value m.early m.late fields m.fields_are (earlier_others (44 ∷ []) [] 46 m.early m.earlier) (eqb-false 44 46 refl) b
+      | inr n ↦ absurd (never_cut 44 from_parameters to_info from_info (ap (from_first 44) is ∙ never_in 44 ((36, parameters) ∷ elements) sizes (eqb-false 36 44 refl, n.0)) cut)
+    ]
+
+begins_parameters : (value early from_parameters to_info from_info to_signature from_signature name : List ℕ) (elements fields : List Field) → IsElements value ((7, name) ∷ elements) → Fields is_even_high interest_schema elements fields
+    → IsCut 36 value early from_parameters → IsCut 44 from_parameters to_info from_info → IsCut 46 from_info to_signature from_signature → Begins 46 from_signature fields
+begins_parameters value early from_parameters to_info from_info to_signature from_signature name elements fields inner recognised cut cut_info cut_signature =
+    elim (meet_parameters is_even_high elements fields recognised) [
+      | inl m ↦
+          let at = begins is_even_high 36 (44 ∷ 46 ∷ []) value early from_parameters (7, name) elements fields m (eqb-false 7 36 refl) inner.1 inner.0 cut in
+          let b = begins_info from_parameters to_info from_info to_signature from_signature m.value m.back m.late at (sizes_behind is_even_high 36 (44 ∷ 46 ∷ []) (7, name) elements fields m inner.0) m.behind cut_info cut_signature in
+          begins_behind 46 36 from_signature m.value m.early m.late fields m.fields_are (earlier_others (36 ∷ 44 ∷ []) [] 46 m.early m.earlier) (eqb-false 36 46 refl) b
+      | inr n ↦ absurd (never_cut 36 value early from_parameters (ap (from_first 36) inner.1 ∙ never_in 36 ((7, name) ∷ elements) inner.0 (eqb-false 7 36 refl, n.0)) cut)
+    ]
+
+pub data_ends : (text : List ℕ) (d : PlainData) (covered : List ℕ) → IsData text d → CoversData text covered → (after : List ℕ) × IsElement text 6 (covered ++ (element (23, d.signature.value) ++ after))
+data_ends text d covered h c =
+    let fields = h.fields in
+    let inside = outer_one text 6 c.value fields.value c.outer fields.outer in
+    elim (meet_value is_even_high fields.elements _ fields.recognised) [
+      | inl m ↦
+          let at = begins is_even_high 23 [] c.value covered c.from_signature (7, h.name_value) fields.elements _ m (eqb-false 7 23 refl) (inside ∙ fields.inner.1) fields.inner.0 c.cut in
+          let before = optional 20 h.meta_value ++ (optional 21 d.content ++ (22, h.info_value) ∷ []) in
+          let others : Others 23 before = all_both (λ f. f.0 ≢ 23) (optional 20 h.meta_value) _ (other_optional 20 23 h.meta_value (eqb-false 20 23 refl))
+          (all_both (λ f. f.0 ≢ 23) (optional 21 d.content) ((22, h.info_value) ∷ []) (other_optional 21 23 d.content (eqb-false 21 23 refl)) (eqb-false 22 23 refl, tt)) in
+          let are : optional 20 h.meta_value ++ (optional 21 d.content ++ ((22, h.info_value) ∷ (23, d.signature.value) ∷ [])) ≡ before ++ (23, d.signature.value) ∷ [] =
+          ap (λ (fs : List Field). optional 20 h.meta_value ++ fs) (sym (append_assoc (optional 21 d.content) ((22, h.info_value) ∷ []) ((23, d.signature.value) ∷ [])))
+          ∙ sym (append_assoc (optional 20 h.meta_value) (optional 21 d.content ++ (22, h.info_value) ∷ []) ((23, d.signature.value) ∷ [])) in
+          let same : m.value ≡ d.signature.value = first_value 23 m.early before m.late [] m.value d.signature.value (earlier_others [] [] 23 m.early m.earlier) others (sym m.fields_are ∙ are) in
+          let from : c.from_signature ≡ element (23, d.signature.value) ++ flat_map element m.back = at ∙ flat_map-cons element (23, m.value) m.back ∙ ap (λ (v : List ℕ). element (23, v) ++ flat_map element m.back) same in
+          (flat_map element m.back, subst (IsElement text 6) (c.cut.octets_are ∙ ap (λ (t : List ℕ). covered ++ t) from) c.outer)
+      | inr n ↦ absurd (never_cut 23 c.value covered c.from_signature (ap (from_first 23) (inside ∙ fields.inner.1) ∙ never_in 23 ((7, h.name_value) ∷ fields.elements) fields.inner.0 (eqb-false 7 23 refl, n.0)) c.cut)
+    ]
+
+-- the value of a signature is that of the field
+signed_value : (info value : Option (List ℕ)) (signature : Option PlainSignature) (s : PlainSignature) → IsSigned info value signature → signature ≡ Some s → value ≡ Some s.value
+signed_value None value signature s h is = absurd (none_is_not_some s (sym h ∙ is))
+signed_value (Some v) None signature s h is = absurd (none_is_not_some s (sym h.2 ∙ is))
+signed_value (Some v) (Some w) signature s h is = ap (λ (t : PlainSignature). Some t.value) (some_is _ s (sym h.2 ∙ is))
+
+pub interest_ends : (text : List ℕ) (i : PlainInterest) (s : PlainSignature) (first second : List ℕ) → IsInterest text i → i.signature ≡ Some s → CoversInterest i.name text first second
+    → (early after : List ℕ) × IsElement text 5 (early ++ (second ++ (element (46, s.value) ++ after)))
+interest_ends text i s first second h signed c =
+    let fields = h.fields in
+    let inside = outer_one text 5 c.value fields.value c.outer fields.outer in
+    let b = begins_parameters c.value c.early c.from_parameters c.to_info c.from_info c.to_signature c.from_signature h.name_value fields.elements _ (subst (λ (t : List ℕ). IsElements t ((7, h.name_value) ∷ fields.elements)) (sym inside) fields.inner)
+    fields.recognised c.parameters c.info c.signature in
+    let value = signed_value h.info_value h.signature_value i.signature s h.signature signed in
+    let early = front_fields i.can_be_prefix i.must_be_fresh h.hint i.nonce h.lifetime_value in
+    let later = optional 34 h.hop_value ++ (optional 36 i.parameters ++ optional 44 h.info_value) in
+    let others : Others 46 (early ++ later) = all_both (λ f. f.0 ≢ 46) early later
+    (earlier_others (34 ∷ 36 ∷ 44 ∷ []) [] 46 early (earlier_front (34 ∷ 36 ∷ 44 ∷ 46 ∷ []) i.can_be_prefix i.must_be_fresh h.hint i.nonce h.lifetime_value hop_apart))
+    (all_both (λ f. f.0 ≢ 46) (optional 34 h.hop_value) _ (other_optional 34 46 h.hop_value (eqb-false 34 46 refl))
+    (all_both (λ f. f.0 ≢ 46) (optional 36 i.parameters) (optional 44 h.info_value) (other_optional 36 46 i.parameters (eqb-false 36 46 refl)) (other_optional 44 46 h.info_value (eqb-false 44 46 refl)))) in
+    let last : later ++ optional 46 h.signature_value ≡ optional 34 h.hop_value ++ back_fields i.parameters h.info_value h.signature_value =
+    append_assoc (optional 34 h.hop_value) (optional 36 i.parameters ++ optional 44 h.info_value) (optional 46 h.signature_value)
+    ∙ ap (λ (fs : List Field). optional 34 h.hop_value ++ fs) (append_assoc (optional 36 i.parameters) (optional 44 h.info_value) (optional 46 h.signature_value)) in
+    let are : (early ++ later) ++ (46, s.value) ∷ [] ≡ b.early ++ (46, b.value) ∷ b.late =
+    append_assoc early later ((46, s.value) ∷ []) ∙ ap (λ (v : Option (List ℕ)). early ++ (later ++ optional 46 v)) (sym value) ∙ ap (λ (fs : List Field). early ++ fs) last
+    ∙ sym (fields_are i.can_be_prefix i.must_be_fresh h.hint i.nonce h.lifetime_value (optional 34 h.hop_value ++ back_fields i.parameters h.info_value h.signature_value)) ∙ b.fields_are in
+    let same : s.value ≡ b.value = first_value 46 (early ++ later) b.early [] b.late s.value b.value others b.others are in
+    let from : c.from_signature ≡ element (46, s.value) ++ b.after = b.from_is ∙ ap (λ (v : List ℕ). element (46, v) ++ b.after) (sym same) in
+    let whole : c.value ≡ c.early ++ (second ++ (element (46, s.value) ++ b.after)) =
+    c.parameters.octets_are ∙ ap (λ (t : List ℕ). c.early ++ t) (c.info.octets_are ∙ ap (λ (t : List ℕ). c.to_info ++ t) (c.signature.octets_are ∙ ap (λ (t : List ℕ). c.to_signature ++ t) from)
+    ∙ sym (append_assoc c.to_info c.to_signature (element (46, s.value) ++ b.after)) ∙ ap (λ (t : List ℕ). t ++ (element (46, s.value) ++ b.after)) (sym c.second_is)) in
+    (c.early, b.after, subst (IsElement text 5) whole c.outer)

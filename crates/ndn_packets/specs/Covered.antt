@@ -1,0 +1,64 @@
+-- The octets that a signature covers (NDN Packet Format 0.3, "Data Packet" and "Signed Interest").
+use Rattle.std.specs.Prelude.{◌≡◌, ◌≢◌, ℕ, zero, suc, List, [], ◌∷◌, ◌++◌, length, flat_map, Option, None, Some, ◌==◌, if◌then◌else◌}
+use Rattle.std.specs.List.{AllByRecursion}
+use Rattle.ndn_tlv.specs.Element.{Field, IsField, element, IsElement}
+use Rattle.ndn_tlv.specs.Reading.{on_result, element_at}
+use Rattle.ndn_packets.specs.Packet.{PlainFrame, AnInterest, AData, ANack, Idle}
+
+-- Octets are cut in front of the first element of this type: before it stand whole elements of other types, behind it anything.
+pub record IsCut (kind : ℕ) (octets before from : List ℕ) : Type 0 where
+  pub others : List Field
+  pub value : List ℕ
+  pub after : List ℕ
+  pub sizes : AllByRecursion IsField others × IsField (kind, value)
+  pub first_one : AllByRecursion (λ e. e.0 ≢ kind) others
+  pub before_is : before ≡ flat_map element others
+  pub from_is : from ≡ element (kind, value) ++ after
+  pub octets_are : octets ≡ before ++ from
+
+-- The octets from there on, as a reader finds them that looks at no more than n elements.
+unfoldable pub from_within : ℕ → ℕ → List ℕ → Option (List ℕ)
+from_within zero kind octets = None
+from_within (suc n) kind octets = on_result (λ x. if x.0.0 == kind then Some octets else from_within n kind x.1) (λ _. None) (element_at octets)
+
+unfoldable pub from_first : ℕ → List ℕ → Option (List ℕ)
+from_first kind octets = from_within (length octets) kind octets
+
+-- of a Data: from its Name up to, and without, the SignatureValue
+pub record CoversData (text covered : List ℕ) : Type 0 where
+  pub value : List ℕ
+  pub from_signature : List ℕ
+  pub outer : IsElement text 6 value
+  pub cut : IsCut 23 value covered from_signature
+
+-- Of an Interest of this name: first the components before the digest of parameters, which is the last one, and second its octets
+-- from the ApplicationParameters up to, and without, the InterestSignatureValue. That is the first one behind the first
+-- InterestSignatureInfo behind the first ApplicationParameters: the one that counts.
+pub record CoversInterest (name : List Field) (text first second : List ℕ) : Type 0 where
+  pub components : List Field
+  pub digest : List ℕ
+  pub value : List ℕ
+  pub early : List ℕ
+  pub from_parameters : List ℕ
+  pub to_info : List ℕ
+  pub from_info : List ℕ
+  pub to_signature : List ℕ
+  pub from_signature : List ℕ
+  pub named : name ≡ components ++ (2, digest) ∷ []
+  pub outer : IsElement text 5 value
+  pub parameters : IsCut 36 value early from_parameters
+  pub info : IsCut 44 from_parameters to_info from_info
+  pub signature : IsCut 46 from_info to_signature from_signature
+  pub first_is : first ≡ flat_map element components
+  pub second_is : second ≡ to_info ++ to_signature
+
+-- The octets that the signature of a packet covers, in two parts; those of a Data are all in the first.
+abbrev pub Covered : PlainFrame → List ℕ → List ℕ → Type 0
+Covered (AnInterest whole i) first second = CoversInterest i.name whole first second
+Covered (AData whole d) first second = CoversData whole first × (second ≡ [])
+Covered (ANack reason whole i) first second = ⊥
+Covered Idle first second = ⊥
+
+-- the last component is a digest of parameters
+abbrev pub EndsInDigest : List Field → Type 0
+EndsInDigest name = (front : List Field) × (digest : List ℕ) × (name ≡ front ++ (2, digest) ∷ [])

@@ -1,0 +1,51 @@
+-- Where the HopLimit of an Interest stands (NDN Packet Format 0.3, "Interest Packet", "HopLimit").
+use Rattle.std.specs.Prelude.{◌≡◌, ℕ, ◌+◌, ◌-◌, List, length, Option, None, Some, Result, Ok, Err, is_some, slice_set, ◌==◌, ◌&&◌, if◌then◌else◌}
+use Rattle.std.specs.Borrow.{LendsIf, MutBor, Fml, Array, u8}
+use Rattle.ndn_tlv.specs.Reading.{on_result, element_at}
+use Rattle.ndn_packets.specs.declared.fault.PacketFault.{PacketFault}
+use Rattle.ndn_packets.specs.Packet.{PlainInterest, PlainFrame, AnInterest, AData, ANack, Idle}
+use Rattle.ndn_packets.specs.Grammar.{IsInterest}
+use Rattle.ndn_packets.specs.Covered.{from_first}
+use Rattle.ndn_packets.specs.FrameReading.{frame_at}
+
+-- the text is an Interest that has this HopLimit
+abbrev pub HasHopLimit : List ℕ → ℕ → Type 0
+HasHopLimit text limit = (i : PlainInterest) × IsInterest text i × (i.hop_limit ≡ Some limit)
+
+-- The place of the HopLimit's octet, which is the third of its element, behind the type and the length, in an Interest that has
+-- one; else the end of the octets.
+abbrev pub place_from : List ℕ → Option (List ℕ) → ℕ
+place_from text None = length text
+place_from text (Some from) = (length text - length from) + 2
+
+abbrev pub place_in : List ℕ → Result PlainFrame PacketFault → ℕ
+place_in text (Ok (AnInterest whole i)) =
+    if (length whole == length text) && is_some i.hop_limit
+    then place_from text (on_result (λ outer. from_first 34 outer.0.1) (λ _. None) (element_at text)) else length text
+place_in text (Ok (AData whole d)) = length text
+place_in text (Ok (ANack reason whole i)) = length text
+place_in text (Ok Idle) = length text
+place_in text (Err fault) = length text
+
+abbrev pub hop_place : List ℕ → ℕ
+hop_place text = place_in text (frame_at text)
+
+-- the text with this octet there
+abbrev pub with_octet : List ℕ → ℕ → List ℕ
+with_octet text octet = slice_set text (hop_place text) octet
+
+-- that octet is lent: what is left there stands there afterwards, and all other octets stay
+abbrev pub LendsHopLimit : MutBor (List ℕ) → Option (MutBor ℕ) → Fml
+LendsHopLimit octets limit = LendsIf (Array u8 0) u8 octets limit (with_octet octets.now) octets.now
+
+abbrev pub with_limit : PlainInterest → ℕ → PlainInterest
+with_limit i limit = record {
+  name = i.name;
+  can_be_prefix = i.can_be_prefix;
+  must_be_fresh = i.must_be_fresh;
+  nonce = i.nonce;
+  lifetime = i.lifetime;
+  hop_limit = Some limit;
+  parameters = i.parameters;
+  signature = i.signature;
+}

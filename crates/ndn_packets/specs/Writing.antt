@@ -1,0 +1,185 @@
+-- What writers write (NDN Packet Format 0.3, "Interest Packet", "Data Packet", "Signature", "Signed Interest"; NDNLPv2, "Network
+-- Nack"): the fields that are asked for, each in its shortest form.
+use Rattle.std.specs.Prelude.{◌≡◌, ℕ, ◌<◌, List, [], ◌∷◌, ◌++◌, ◌-◌, ◌^◌, min, length, replicate, Option, None, Some, IfSome, OnSome, slice_index, Bool, nat_lt, flat_map, unwrap_or, ◌||◌, not, if◌then◌else◌}
+use Rattle.std.specs.Option.{option_map}
+use Rattle.sha2.specs.Sha256.{sha256}
+use Rattle.ndn_tlv.specs.Number.{shortest_nni}
+use Rattle.ndn_tlv.specs.Element.{Field, element}
+use Rattle.ndn_names.specs.View.{components}
+use Rattle.ndn_packets.specs.declared.fault.WriteFault.{WriteFault}
+use Rattle.ndn_packets.specs.declared.fault.WriteFault.TheVariants.{BadName, TooLong}
+use Rattle.ndn_packets.specs.declared.signature.Sign.{Sign}
+use Rattle.ndn_packets.specs.declared.interest_writer.InterestWriter.{InterestWriter}
+use Rattle.ndn_packets.specs.declared.data_writer.DataWriter.{DataWriter}
+use Rattle.ndn_packets.specs.Packet.{digests_in, Missing, PlainSignatureInfo, PlainInterest, PlainData}
+use Rattle.ndn_packets.specs.Fields.{optional, flag}
+use Rattle.ndn_packets.specs.Reading.{is_nil}
+
+abbrev pub octets : List Field → List ℕ
+octets fields = flat_map element fields
+
+abbrev pub number : ℕ → Option ℕ → List Field
+number kind n = optional kind (option_map shortest_nni n)
+
+-- ---- signatures
+
+-- the fields of the SignatureInfo of a signature of type 0, DigestSha256
+abbrev pub info_fields : Option ℕ → Option ℕ → List Field
+info_fields time seq = (27, 0 ∷ []) ∷ (number 40 time ++ number 42 seq)
+
+abbrev pub digest_info : Option ℕ → Option ℕ → PlainSignatureInfo
+digest_info time seq = record { kind = 0; locator = Missing; time = time; seq = seq }
+
+-- ---- Interests
+
+-- the ApplicationParameters: a signed Interest has some, if only empty ones
+abbrev pub parameters_of : Option Sign → Option (List ℕ) → Option (List ℕ)
+parameters_of None parameters = parameters
+parameters_of (Some signed) parameters = Some (unwrap_or parameters [])
+
+-- what the signature of an Interest covers behind its name's components
+abbrev pub covered_fields : InterestWriter → List Field
+covered_fields w = (36, unwrap_or (option_map (λ p. p.now) w.parameters) []) ∷ (44, octets (info_fields w.time w.seq)) ∷ []
+
+abbrev pub interest_digest : InterestWriter → List ℕ
+interest_digest w = sha256 (octets (components w.name) ++ octets (covered_fields w))
+
+-- the fields from the ApplicationParameters on
+abbrev pub later_fields : InterestWriter → Option Sign → List Field
+later_fields w None = optional 36 (option_map (λ p. p.now) w.parameters)
+later_fields w (Some signed) = covered_fields w ++ (46, interest_digest w) ∷ []
+
+-- the fields before them
+abbrev pub early_fields : InterestWriter → List Field
+early_fields w =
+    flag 33 w.can_be_prefix ++ (flag 18 w.must_be_fresh ++ ((10, w.nonce) ∷ (number 12 w.lifetime ++ optional 34 (option_map (λ limit. limit ∷ []) w.hop_limit))))
+
+-- the name, and behind it the digest of the parameters, where there are some
+abbrev pub with_digest : List Field → List Field → List Field
+with_digest name [] = name
+with_digest name (f ∷ fields) = name ++ (2, sha256 (octets (f ∷ fields))) ∷ []
+
+abbrev pub interest_name : InterestWriter → List Field
+interest_name w = with_digest (components w.name) (later_fields w w.sign)
+
+abbrev pub interest_text : InterestWriter → List ℕ
+interest_text w = element (5, octets ((7, octets (interest_name w)) ∷ (early_fields w ++ later_fields w w.sign)))
+
+-- the Interest that is asked for
+abbrev pub interest_asked : InterestWriter → PlainInterest
+interest_asked w = record {
+  name = interest_name w;
+  can_be_prefix = w.can_be_prefix;
+  must_be_fresh = w.must_be_fresh;
+  nonce = w.nonce;
+  lifetime = unwrap_or w.lifetime 4000;
+  hop_limit = w.hop_limit;
+  parameters = parameters_of w.sign (option_map (λ p. p.now) w.parameters);
+  signature = option_map (λ signed. record { info = digest_info w.time w.seq; value = interest_digest w }) w.sign;
+}
+
+abbrev pub is_bad_name : List Field → Bool
+is_bad_name name = is_nil name || not (is_nil (digests_in name))
+
+-- why an Interest is not written, but for memory
+abbrev pub interest_refusal : InterestWriter → Option WriteFault
+interest_refusal w =
+    if is_bad_name (components w.name) then Some BadName else (
+    if nat_lt 64 (length (interest_name w)) || nat_lt 8800 (length (interest_text w)) then Some TooLong else
+    None)
+
+-- ---- Data
+
+-- a MetaInfo, where it has a field
+abbrev pub meta_of : List Field → Option (List ℕ)
+meta_of [] = None
+meta_of (f ∷ fields) = Some (octets (f ∷ fields))
+
+-- FreshnessPeriod, and as FinalBlockId one component of type 50, a segment number
+abbrev pub meta_fields : Option ℕ → Option ℕ → List Field
+meta_fields freshness last = number 25 freshness ++ optional 26 (option_map (λ n. element (50, shortest_nni n)) last)
+
+-- what the signature of a Data covers
+abbrev pub data_fields : List Field → Option (List ℕ) → Option (List ℕ) → List Field
+data_fields name meta content = (7, octets name) ∷ (optional 20 meta ++ (optional 21 content ++ (22, octets (info_fields None None)) ∷ []))
+
+abbrev pub data_digest : List Field → Option (List ℕ) → Option (List ℕ) → List ℕ
+data_digest name meta content = sha256 (octets (data_fields name meta content))
+
+abbrev pub signed_data : List Field → Option (List ℕ) → Option (List ℕ) → List ℕ
+signed_data name meta content = element (6, octets (data_fields name meta content ++ (23, data_digest name meta content) ∷ []))
+
+abbrev pub meta_asked : DataWriter → Option (List ℕ)
+meta_asked w = meta_of (meta_fields w.freshness w.last)
+
+abbrev pub content_asked : DataWriter → Option (List ℕ)
+content_asked w = option_map (λ c. c.now) w.content
+
+abbrev pub data_text : DataWriter → List ℕ
+data_text w = signed_data (components w.name) (meta_asked w) (content_asked w)
+
+-- a Data of this name, FreshnessPeriod, MetaInfo and Content
+abbrev pub plain_data_of : List Field → ℕ → Option (List ℕ) → Option (List ℕ) → PlainData
+plain_data_of name freshness meta content =
+    record { name = name; freshness = freshness; content = content; signature = record { info = digest_info None None; value = data_digest name meta content } }
+
+abbrev pub data_asked : DataWriter → PlainData
+data_asked w = plain_data_of (components w.name) (unwrap_or w.freshness 0) (meta_asked w) (content_asked w)
+
+-- why a Data is not written, but for memory
+abbrev pub data_refusal : DataWriter → Option WriteFault
+data_refusal w = if nat_lt 8800 (length (data_text w)) then Some TooLong else None
+
+-- a reply: a Data without MetaInfo
+abbrev pub reply_text : List Field → List ℕ → List ℕ
+reply_text name content = signed_data name None (Some content)
+
+abbrev pub reply_asked : List Field → List ℕ → PlainData
+reply_asked name content = plain_data_of name 0 None (Some content)
+
+-- ---- Nacks
+
+-- a link packet with a Nack of this reason around octets
+abbrev pub nack_text : ℕ → List ℕ → List ℕ
+nack_text reason interest = element (100, octets ((800, octets ((801, shortest_nni reason) ∷ [])) ∷ (80, interest) ∷ []))
+
+-- ---- lengths
+
+-- the number is the length of the octets, or the greatest `usize` where they are longer
+abbrev pub IsLength : ℕ → List ℕ → Type 0
+IsLength n octets = n ≡ min (length octets) (2 ^ 64 - 1)
+
+-- ---- what the types of a writer's fields say
+
+abbrev pub AreOctets : List ℕ → Type 0
+AreOctets octets = (i : ℕ) → slice_index octets i < 256
+
+abbrev pub IsU64 : Option ℕ → Type 0
+IsU64 n = IfSome n (λ k. k < 2 ^ 64)
+
+pub record SoundData (w : DataWriter) : Type 0 where
+  pub name : AreOctets (octets (components w.name))
+  pub freshness : IsU64 w.freshness
+  pub last : IsU64 w.last
+  pub content : IfSome w.content (λ c. AreOctets c.now)
+
+pub record SoundInterest (w : InterestWriter) : Type 0 where
+  pub name : AreOctets (octets (components w.name))
+  pub nonce : AreOctets w.nonce
+  pub nonce_len : length w.nonce ≡ 4
+  pub lifetime : IsU64 w.lifetime
+  pub hop_limit : IfSome w.hop_limit (λ n. n < 256)
+  pub parameters : IfSome w.parameters (λ p. AreOctets p.now)
+  pub time : OnSome w.sign (IsU64 w.time)
+  pub seq : OnSome w.sign (IsU64 w.seq)
+
+-- ---- a name before its digest is known
+
+-- the name, and behind it these octets in place of the digest of the parameters
+abbrev pub name_with : List ℕ → List Field → List Field → List Field
+name_with digest name [] = name
+name_with digest name (f ∷ fields) = name ++ (2, digest) ∷ []
+
+-- the name with zeros in that place
+abbrev pub zeroed_name : InterestWriter → List Field
+zeroed_name w = name_with (replicate 32 0) (components w.name) (later_fields w w.sign)

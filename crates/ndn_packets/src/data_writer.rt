@@ -1,0 +1,256 @@
+ghost use Rattle.std.specs.Vec.{vec_capacity};
+ghost use Rattle.std.specs.Prelude.{◌≡◌, ◌+◌, ◌≤◌, ◌++◌, [], IsOk, None, Some, length, take, vec_len, option_map, OnOk, OnErr};
+ghost use Rattle.ndn_tlv.specs.Number.{shortest_nni};
+ghost use Rattle.ndn_tlv.specs.Element.{element};
+ghost use Rattle.ndn_names.specs.View.{components};
+ghost use Rattle.ndn_packets.specs.Packet.{AData};
+ghost use Rattle.ndn_packets.specs.Grammar.{IsData};
+ghost use Rattle.ndn_packets.specs.Covered.{Covered};
+ghost use Rattle.ndn_packets.specs.Fields.{optional};
+ghost use Rattle.ndn_packets.specs.Writing.{octets, data_fields, reply_text, reply_asked, IsU64};
+
+use crate::data::{CONTENT, META_INFO, SIGNATURE_INFO, SIGNATURE_VALUE};
+use crate::fault::WriteFault;
+use crate::field_reader::NAME;
+use crate::frame::{DATA, MAX_PACKET};
+use crate::meta_info::{FINAL_BLOCK_ID, FRESHNESS_PERIOD};
+use crate::signature::Sign;
+use crate::writing::{
+    DIGEST_LEN, element_len, info_len, nni_element_len, number_field_len, octets_len, optional_len,
+    put_header, put_info, put_nni_element, put_number_field, put_optional,
+};
+use ndn_names::Name;
+use ndn_tlv::{Memory, put_element};
+use sha2::{Digest, Sha256};
+
+/// The type of a component that is a segment number (NDN Naming Conventions, "Segmentation").
+const SEGMENT: u32 = 50;
+
+/// A Data to write (NDN Packet Format 0.3, "Data Packet").
+#[derive(Clone, Copy, Debug)]
+pub struct DataWriter<'a> {
+    /// The name, which may be empty.
+    pub name: Name<'a>,
+    /// The FreshnessPeriod in milliseconds.
+    pub freshness: Option<u64>,
+    /// The segment number of the last segment, which is written as the FinalBlockId.
+    pub last: Option<u64>,
+    /// The value of the Content.
+    pub content: Option<&'a [u8]>,
+    pub sign: Sign,
+}
+
+impl DataWriter<'_> {
+    ghost use Rattle.std.specs.Vec.{vec_capacity};
+    ghost use Rattle.std.specs.Prelude.{◌≡◌, ◌+◌, ◌≤◌, ◌++◌, IsOk, [], ◌∷◌, length, take, vec_len, None, OnOk, OnErr, Err, MatchOption, IfErr};
+    ghost use Rattle.ndn_names.specs.View.{components};
+    ghost use Rattle.ndn_packets.specs.Grammar.{IsData};
+    ghost use Rattle.ndn_packets.specs.Packet.{AData};
+    ghost use Rattle.ndn_packets.specs.Covered.{Covered};
+    ghost use Rattle.ndn_packets.specs.Fields.{optional};
+    ghost use Rattle.ndn_packets.specs.Writing.{octets, data_fields, data_digest, meta_fields, meta_asked, content_asked, data_text, data_asked, data_refusal, IsLength, IsU64, SoundData};
+
+    /// Appends the Data, its fields in the standard's order and in their shortest forms, and none that
+    /// is not asked for: without a FreshnessPeriod and a last segment there is no MetaInfo.
+    ///
+    /// Refuses it by the first fault in the order of `WriteFault`, and then appends nothing; `BadName`
+    /// never comes.
+    pub fn write(&self, out: &mut Vec<u8>) -> Result<(), WriteFault>
+        ensures ok { OnOk result (out.new.items ≡ out.old.items ++ data_text self.now) }
+        ensures err { OnErr result (out.new.items ≡ out.old.items) }
+        // Which fault it is: where there is no cause, memory was refused.
+        ensures fault { MatchOption (data_refusal self.now)
+            (IfErr result (λ fault. fault ≡ WriteFault.Memory))
+            (λ fault. result ≡ Err fault) }
+        // Where there is room, memory is not refused.
+        ensures room { data_refusal self.now ≡ None → vec_len out.old + length (data_text self.now) ≤ vec_capacity out.old → IsOk result }
+        ensures capacity { vec_capacity out.old ≤ vec_capacity out.new }
+        // What is written is in the grammar, and is what was asked for.
+        ensures reads_back { data_refusal self.now ≡ None → IsData (data_text self.now) (data_asked self.now) }
+        // The signature is of the octets that it covers.
+        ensures signed { data_refusal self.now ≡ None → Covered (AData (data_text self.now) (data_asked self.now)) (octets (data_fields (components self.now.name) (meta_asked self.now) (content_asked self.now))) [] }
+    {
+        if self.packet_len() > MAX_PACKET {
+            return Err(WriteFault::TooLong);
+        }
+        self.put(out)?;
+        Ok(())
+    }
+
+    #[tactic(auto, using(crate::proofs::Lengths::fields_are_long))]
+    /// The length of the value of the MetaInfo, 0 where there is none.
+    fn meta_len(&self) -> usize
+        ensures exact { result ≡ length (octets (meta_fields self.now.freshness self.now.last)) }
+        ensures small { result ≤ 70 }
+        ensures freshness { IsU64 self.now.freshness }
+        ensures last { IsU64 self.now.last }
+    {
+        number_field_len(FRESHNESS_PERIOD, self.freshness) + last_len(self.last)
+    }
+
+    #[tactic(auto, using(crate::proofs::DataWriting::meta_absent, crate::proofs::DataWriting::meta_present))]
+    /// The length of the MetaInfo, 0 where there is none.
+    fn meta_field_len(&self) -> usize
+        ensures len { IsLength result (octets (optional 20 (meta_asked self.now))) }
+        ensures freshness { IsU64 self.now.freshness }
+        ensures last { IsU64 self.now.last }
+    {
+        match self.meta_len() {
+            0 => 0,
+            len => element_len(META_INFO, len),
+        }
+    }
+
+    /// The length of what the signature covers. It stops at `usize::MAX`.
+    fn covered_len(&self) -> usize
+        ensures len { IsLength result (octets (data_fields (components self.now.name) (meta_asked self.now) (content_asked self.now))) }
+        // The proofs that what is written is a packet need this.
+        ensures sound { SoundData self.now }
+    {
+        element_len(NAME, octets_len(self.name.as_octets()))
+            .saturating_add(self.meta_field_len())
+            .saturating_add(optional_len(CONTENT, self.content))
+            .saturating_add(element_len(SIGNATURE_INFO, info_len(None, None)))
+    }
+
+    /// The length of the packet's value. It stops at `usize::MAX`.
+    fn value_len(&self) -> usize
+        ensures len { IsLength result (octets (data_fields (components self.now.name) (meta_asked self.now) (content_asked self.now) ++ (23, data_digest (components self.now.name) (meta_asked self.now) (content_asked self.now)) ∷ [])) }
+        // The proofs that what is written is a packet need this.
+        ensures sound { SoundData self.now }
+    {
+        self.covered_len()
+            .saturating_add(element_len(SIGNATURE_VALUE, DIGEST_LEN))
+    }
+
+    /// The length of the packet. It stops at `usize::MAX`.
+    fn packet_len(&self) -> usize
+        ensures len { IsLength result (data_text self.now) }
+        // The proofs that what is written is a packet need this.
+        ensures sound { SoundData self.now }
+    {
+        element_len(DATA, self.value_len())
+    }
+
+    #[tactic(auto, using(crate::proofs::DataWriting::meta_absent, crate::proofs::DataWriting::meta_put))]
+    /// Appends the MetaInfo, where there is one, or some octets of it.
+    fn put_meta(&self, out: &mut Vec<u8>) -> Result<(), Memory>
+        ensures ok { OnOk result (out.new.items ≡ out.old.items ++ octets (optional 20 (meta_asked self.now))) }
+        ensures begins { take (vec_len out.old) out.new.items ≡ out.old.items }
+        ensures room { vec_len out.old + length (octets (optional 20 (meta_asked self.now))) ≤ vec_capacity out.old → IsOk result }
+        ensures capacity { vec_capacity out.old ≤ vec_capacity out.new }
+    {
+        let len = self.meta_len();
+        if len == 0 {
+            return Ok(());
+        }
+        put_header(out, META_INFO, len)?;
+        put_number_field(out, FRESHNESS_PERIOD, self.freshness)?;
+        put_last(out, self.last)?;
+        Ok(())
+    }
+
+    #[tactic(auto, using(crate::proofs::DataWriting::covered_put))]
+    /// Appends what the signature covers, or some octets of it.
+    fn put_covered(&self, out: &mut Vec<u8>) -> Result<(), Memory>
+        ensures ok { OnOk result (out.new.items ≡ out.old.items ++ octets (data_fields (components self.now.name) (meta_asked self.now) (content_asked self.now))) }
+        ensures begins { take (vec_len out.old) out.new.items ≡ out.old.items }
+        ensures room { vec_len out.old + length (octets (data_fields (components self.now.name) (meta_asked self.now) (content_asked self.now))) ≤ vec_capacity out.old → IsOk result }
+        ensures capacity { vec_capacity out.old ≤ vec_capacity out.new }
+    {
+        put_element(out, NAME, self.name.as_octets())?;
+        self.put_meta(out)?;
+        put_optional(out, CONTENT, self.content)?;
+        put_info(out, SIGNATURE_INFO, None, None)?;
+        Ok(())
+    }
+
+    /// Appends the Data, or some octets of it. Its length is reserved first: where it is greater than
+    /// any memory has, that is refused.
+    fn put_parts(&self, out: &mut Vec<u8>) -> Result<(), Memory>
+        ensures ok { OnOk result (out.new.items ≡ out.old.items ++ data_text self.now) }
+        ensures begins { take (vec_len out.old) out.new.items ≡ out.old.items }
+        ensures room { vec_len out.old + length (data_text self.now) ≤ vec_capacity out.old → IsOk result }
+        ensures capacity { vec_capacity out.old ≤ vec_capacity out.new }
+        // The proofs that what is written is a packet need this.
+        ensures sound { SoundData self.now }
+    {
+        out.reserve(self.packet_len())?;
+        put_header(out, DATA, self.value_len())?;
+        let start = out.len();
+        self.put_covered(out)?;
+        let digest = Sha256::digest(&out[start..]);
+        put_element(out, SIGNATURE_VALUE, &digest)?;
+        Ok(())
+    }
+
+    /// Appends the Data, of any length. Where memory is refused, nothing is appended.
+    fn put(&self, out: &mut Vec<u8>) -> Result<(), Memory>
+        ensures ok { OnOk result (out.new.items ≡ out.old.items ++ data_text self.now) }
+        ensures err { OnErr result (out.new.items ≡ out.old.items) }
+        ensures room { vec_len out.old + length (data_text self.now) ≤ vec_capacity out.old → IsOk result }
+        ensures capacity { vec_capacity out.old ≤ vec_capacity out.new }
+        // The proofs that what is written is a packet need this.
+        ensures sound { SoundData self.now }
+    {
+        let len = out.len();
+        let done = self.put_parts(out);
+        if done.is_err() {
+            out.truncate(len);
+        }
+        done
+    }
+}
+
+#[tactic(auto, using(crate::proofs::DataWriting::last_is_short, crate::proofs::DataWriting::last_is_long))]
+/// The length of a FinalBlockId, 0 where there is none.
+fn last_len(last: Option<u64>) -> usize
+    ensures exact { result ≡ length (octets (optional 26 (option_map (λ n. element (50, shortest_nni n)) last))) }
+    ensures small { result ≤ 44 }
+    ensures sound { IsU64 last }
+{
+    match last {
+        None => 0,
+        Some(last) => element_len(FINAL_BLOCK_ID, nni_element_len(SEGMENT, last)),
+    }
+}
+
+/// Appends a FinalBlockId, where there is one, or some octets of it.
+fn put_last(out: &mut Vec<u8>, last: Option<u64>) -> Result<(), Memory>
+    ensures ok { OnOk result (out.new.items ≡ out.old.items ++ octets (optional 26 (option_map (λ n. element (50, shortest_nni n)) last))) }
+    ensures begins { take (vec_len out.old) out.new.items ≡ out.old.items }
+    ensures room { vec_len out.old + length (octets (optional 26 (option_map (λ n. element (50, shortest_nni n)) last))) ≤ vec_capacity out.old → IsOk result }
+    ensures capacity { vec_capacity out.old ≤ vec_capacity out.new }
+{
+    if let Some(last) = last {
+        put_header(out, FINAL_BLOCK_ID, nni_element_len(SEGMENT, last))?;
+        put_nni_element(out, SEGMENT, last)?;
+    }
+    Ok(())
+}
+
+/// Appends a Data of a name and a Content, without MetaInfo, signed with DigestSha256, of any length.
+/// Where memory is refused, nothing is appended.
+pub fn put_reply(out: &mut Vec<u8>, name: Name<'_>, content: &[u8]) -> Result<(), Memory>
+    ensures ok { OnOk result (out.new.items ≡ out.old.items ++ reply_text (components name.entry) content.now) }
+    ensures err { OnErr result (out.new.items ≡ out.old.items) }
+    // Where there is room, memory is not refused.
+    ensures room { vec_len out.old + length (reply_text (components name.entry) content.now) ≤ vec_capacity out.old → IsOk result }
+    ensures capacity { vec_capacity out.old ≤ vec_capacity out.new }
+    // What is written is in the grammar, where it is no longer than a packet may be.
+    ensures reads_back { length (reply_text (components name.entry) content.now) ≤ 8800
+        → IsData (reply_text (components name.entry) content.now) (reply_asked (components name.entry) content.now) }
+    // The signature is of the octets that it covers.
+    ensures signed { length (reply_text (components name.entry) content.now) ≤ 8800
+        → Covered (AData (reply_text (components name.entry) content.now) (reply_asked (components name.entry) content.now))
+        (octets (data_fields (components name.entry) None (Some content.now))) [] }
+{
+    let reply = DataWriter {
+        name,
+        freshness: None,
+        last: None,
+        content: Some(content),
+        sign: Sign::Digest,
+    };
+    reply.put(out)
+}

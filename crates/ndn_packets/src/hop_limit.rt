@@ -1,0 +1,54 @@
+//! The HopLimit of an Interest, in place (NDN Packet Format 0.3, "Interest Packet", "HopLimit").
+
+ghost use Rattle.std.specs.Prelude.{◌≡◌, ◌↔◌, ℕ, ◌<◌, Some, IsSome, IfSome, slice_index};
+ghost use Rattle.std.specs.Borrow.{sem};
+ghost use Rattle.ndn_packets.specs.Packet.{PlainInterest};
+ghost use Rattle.ndn_packets.specs.Grammar.{IsInterest};
+ghost use Rattle.ndn_packets.specs.HopLimit.{HasHopLimit, LendsHopLimit, hop_place, with_octet, with_limit};
+
+use crate::covered::from_first;
+use crate::frame::{Frame, read_frame};
+use crate::interest::HOP_LIMIT;
+use ndn_tlv::first_element;
+
+/// The octet of the HopLimit, to change it, where the octets are one Interest that has a HopLimit.
+pub fn hop_limit_mut(octets: &mut [u8]) -> Option<&mut u8>
+    // All other octets stay.
+    ensures* lends { sem 𝓛 (LendsHopLimit octets.entry result) }
+    // It is there where an Interest with a HopLimit is, and is that one's.
+    ensures found { IfSome result (λ limit. HasHopLimit octets.entry.now limit.now) }
+    ensures only { (limit : ℕ) → HasHopLimit octets.entry.now limit → IsSome result }
+    // Whatever is written there, the octets are still that Interest, with that HopLimit.
+    ensures still { (i : PlainInterest) (old limit : ℕ) → limit < 256 → IsInterest octets.entry.now i → i.hop_limit ≡ Some old
+        → IsInterest (with_octet octets.entry.now limit) (with_limit i limit) }
+{
+    let place = hop_place(octets);
+    // `get_mut` does not say what the slice ends as.
+    if place >= octets.len() {
+        return None;
+    }
+    Some(&mut octets[place])
+}
+
+/// The place of the HopLimit's octet in an Interest that has one; else the end of the octets.
+fn hop_place(octets: &[u8]) -> usize
+    ensures exact { result ≡ hop_place octets.now }
+    // The proof of `hop_limit_mut` needs that octets are below 256.
+    ensures octets { (i : ℕ) → slice_index octets.now i < 256 }
+{
+    let end = octets.len();
+    let Ok(Frame::Interest(interest)) = read_frame(octets) else {
+        return end;
+    };
+    if interest.whole.len() != end || interest.hop_limit.is_none() {
+        return end;
+    }
+    let Ok((outer, _)) = first_element(octets) else {
+        return end;
+    };
+    match from_first(outer.value, HOP_LIMIT) {
+        None => end,
+        // Behind the type and the length, one octet each.
+        Some(from) => end - from.len() + 2,
+    }
+}

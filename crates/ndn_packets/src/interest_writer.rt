@@ -1,0 +1,361 @@
+ghost use Rattle.std.specs.Vec.{vec_capacity};
+ghost use Rattle.std.specs.Prelude.{◌≡◌, ◌-◌, ◌+◌, ◌<◌, ◌≤◌, ◌++◌, [], ◌∷◌, drop, length, take, vec_len, option_map, IsOk, OnOk, IfSome};
+ghost use Rattle.sha2.specs.Sha256.{sha256};
+ghost use Rattle.ndn_names.specs.View.{components};
+ghost use Rattle.ndn_packets.specs.Fields.{optional, flag};
+ghost use Rattle.ndn_packets.specs.Writing.{octets, is_bad_name, IsLength};
+
+use crate::fault::WriteFault;
+use crate::field_reader::NAME;
+use crate::frame::{INTEREST, MAX_PACKET};
+use crate::interest::{
+    APPLICATION_PARAMETERS, CAN_BE_PREFIX, Digests, HOP_LIMIT, INTEREST_LIFETIME, MUST_BE_FRESH,
+    NONCE, PARAMETERS_SHA256_DIGEST, digests_of,
+};
+use crate::schema::{INTEREST_SIGNATURE_INFO, INTEREST_SIGNATURE_VALUE};
+use crate::signature::Sign;
+use crate::writing::{
+    DIGEST_LEN, element_len, info_len, number_field_len, octets_len, optional_len, overwrite,
+    put_header, put_info, put_number_field, put_optional,
+};
+use ndn_names::{MAX_COMPONENTS, Name};
+use ndn_tlv::{Memory, put_element};
+use sha2::{Digest, Sha256};
+
+/// An Interest to write (NDN Packet Format 0.3, "Interest Packet").
+#[derive(Clone, Copy, Debug)]
+pub struct InterestWriter<'a> {
+    /// The name, without the digest of parameters, which is put behind it where there are some.
+    pub name: Name<'a>,
+    pub can_be_prefix: bool,
+    pub must_be_fresh: bool,
+    /// The value of the Nonce, 4 octets as they stand.
+    pub nonce: [u8; 4],
+    /// The InterestLifetime in milliseconds.
+    pub lifetime: Option<u64>,
+    /// The HopLimit, in hops.
+    pub hop_limit: Option<u8>,
+    /// The value of the ApplicationParameters. A signed Interest without any gets empty ones.
+    pub parameters: Option<&'a [u8]>,
+    /// The signature, where there is one.
+    pub sign: Option<Sign>,
+    /// The SignatureTime of a signature, in milliseconds since 1970.
+    pub time: Option<u64>,
+    /// The SignatureSeqNum of a signature.
+    pub seq: Option<u64>,
+}
+
+impl InterestWriter<'_> {
+    ghost use Rattle.std.specs.Vec.{vec_capacity};
+    ghost use Rattle.std.specs.Prelude.{◌≡◌, ◌<◌, ◌≤◌, ◌+◌, ◌++◌, [], ◌∷◌, length, take, vec_len, IsOk, not, unwrap_or, option_map, None, OnOk, OnErr, Err, MatchOption, IfErr, IfSome, OnSome};
+    ghost use Rattle.ndn_names.specs.View.{components};
+    ghost use Rattle.ndn_packets.specs.Grammar.{IsInterest};
+    ghost use Rattle.ndn_packets.specs.Packet.{AnInterest};
+    ghost use Rattle.ndn_packets.specs.Covered.{Covered};
+    ghost use Rattle.ndn_packets.specs.Writing.{octets, early_fields, later_fields, covered_fields, interest_digest, interest_name, zeroed_name, interest_text, interest_asked, interest_refusal, IsLength, AreOctets, IsU64, SoundInterest};
+    ghost use Rattle.ndn_packets.specs.Reading.{is_nil};
+    ghost use Rattle.ndn_tlv.specs.Element.{element};
+
+    #[tactic(auto, using(crate::proofs::WrittenInterests::interest_reads_back, crate::proofs::WrittenInterests::interest_signed))]
+    /// Appends the Interest, its fields in the standard's order and in their shortest forms, and none
+    /// that is not asked for.
+    ///
+    /// Refuses it by the first fault in the order of `WriteFault`, and then appends nothing.
+    pub fn write(&self, out: &mut Vec<u8>) -> Result<(), WriteFault>
+        ensures ok { OnOk result (out.new.items ≡ out.old.items ++ interest_text self.now) }
+        ensures err { OnErr result (out.new.items ≡ out.old.items) }
+        // Which fault it is: where there is no cause, memory was refused.
+        ensures fault { MatchOption (interest_refusal self.now)
+            (IfErr result (λ fault. fault ≡ WriteFault.Memory))
+            (λ fault. result ≡ Err fault) }
+        // Where there is room, memory is not refused.
+        ensures room { interest_refusal self.now ≡ None → vec_len out.old + length (interest_text self.now) ≤ vec_capacity out.old → IsOk result }
+        ensures capacity { vec_capacity out.old ≤ vec_capacity out.new }
+        // What is written is in the grammar, and is what was asked for.
+        ensures reads_back { interest_refusal self.now ≡ None → IsInterest (interest_text self.now) (interest_asked self.now) }
+        // A signature is of the octets that it covers.
+        ensures signed { interest_refusal self.now ≡ None → OnSome self.now.sign (Covered (AnInterest (interest_text self.now) (interest_asked self.now)) (octets (components self.now.name)) (octets (covered_fields self.now))) }
+    {
+        if let Some(fault) = self.refusal() {
+            return Err(fault);
+        }
+        let len = out.len();
+        let done = self.put_parts(out);
+        if done.is_err() {
+            out.truncate(len);
+        }
+        Ok(done?)
+    }
+
+    /// Why the Interest is not written, but for memory.
+    fn refusal(&self) -> Option<WriteFault>
+        ensures which { result ≡ interest_refusal self.now }
+        // The proofs that what is written is a packet need this.
+        ensures sound { interest_refusal self.now ≡ None → SoundInterest self.now }
+    {
+        if is_bad_name(self.name) {
+            return Some(WriteFault::BadName);
+        }
+        if self.component_count() > MAX_COMPONENTS || self.packet_len() > MAX_PACKET {
+            return Some(WriteFault::TooLong);
+        }
+        None
+    }
+
+    /// The number of components of the name, with the digest of the parameters.
+    fn component_count(&self) -> usize
+        ensures { result ≡ length (interest_name self.now) }
+    {
+        self.name.len() + usize::from(self.has_digest())
+    }
+
+    /// Whether there are ApplicationParameters, whose digest then stands in the name.
+    fn has_digest(&self) -> bool
+        ensures { result ≡ not (is_nil (later_fields self.now self.now.sign)) }
+    {
+        self.parameters.is_some() || self.sign.is_some()
+    }
+
+    /// The length of the name's value. It stops at `usize::MAX`.
+    fn name_len(&self) -> usize
+        ensures len { IsLength result (octets (interest_name self.now)) }
+        ensures sound { AreOctets (octets (components self.now.name)) }
+    {
+        let len = octets_len(self.name.as_octets());
+        if self.has_digest() {
+            len.saturating_add(element_len(u32::from(PARAMETERS_SHA256_DIGEST), DIGEST_LEN))
+        } else {
+            len
+        }
+    }
+
+    /// The length of the fields between the name and the ApplicationParameters. It stops at `usize::MAX`.
+    fn early_len(&self) -> usize
+        ensures len { IsLength result (octets (early_fields self.now)) }
+        ensures nonce { AreOctets self.now.nonce }
+        ensures nonce_len { length self.now.nonce ≡ 4 }
+        ensures lifetime { IsU64 self.now.lifetime }
+        ensures hop_limit { IfSome self.now.hop_limit (λ n. n < 256) }
+    {
+        flag_len(CAN_BE_PREFIX, self.can_be_prefix)
+            .saturating_add(flag_len(MUST_BE_FRESH, self.must_be_fresh))
+            .saturating_add(element_len(NONCE, octets_len(&self.nonce)))
+            .saturating_add(number_field_len(INTEREST_LIFETIME, self.lifetime))
+            .saturating_add(octet_field_len(HOP_LIMIT, self.hop_limit))
+    }
+
+    /// The length of the fields from the ApplicationParameters on. It stops at `usize::MAX`.
+    fn later_len(&self) -> usize
+        ensures len { IsLength result (octets (later_fields self.now self.now.sign)) }
+        ensures parameters { IfSome self.now.parameters (λ p. AreOctets p.now) }
+        ensures time { OnSome self.now.sign (IsU64 self.now.time) }
+        ensures seq { OnSome self.now.sign (IsU64 self.now.seq) }
+    {
+        match self.sign {
+            None => optional_len(APPLICATION_PARAMETERS, self.parameters),
+            Some(Sign::Digest) => element_len(
+                APPLICATION_PARAMETERS,
+                octets_len(self.parameter_octets()),
+            ).saturating_add(element_len(INTEREST_SIGNATURE_INFO, info_len(self.time, self.seq)))
+                .saturating_add(element_len(INTEREST_SIGNATURE_VALUE, DIGEST_LEN)),
+        }
+    }
+
+    /// The value of the ApplicationParameters, empty where none are asked for.
+    fn parameter_octets(&self) -> &[u8]
+        ensures { result.now ≡ unwrap_or (option_map (λ p. p.now) self.now.parameters) [] }
+    {
+        match self.parameters {
+            None => &[],
+            Some(parameters) => parameters,
+        }
+    }
+
+    /// The length of the packet's value. It stops at `usize::MAX`.
+    fn value_len(&self) -> usize
+        ensures len { IsLength result (octets ((7, octets (interest_name self.now)) ∷ (early_fields self.now ++ later_fields self.now self.now.sign))) }
+        // The proofs that what is written is a packet need this.
+        ensures sound { SoundInterest self.now }
+    {
+        element_len(NAME, self.name_len())
+            .saturating_add(self.early_len())
+            .saturating_add(self.later_len())
+    }
+
+    /// The length of the packet. It stops at `usize::MAX`.
+    fn packet_len(&self) -> usize
+        ensures len { IsLength result (interest_text self.now) }
+        // The proofs that what is written is a packet need this.
+        ensures sound { SoundInterest self.now }
+    {
+        element_len(INTEREST, self.value_len())
+    }
+
+    /// Appends the fields from the ApplicationParameters on, or some octets of them.
+    fn put_later(&self, out: &mut Vec<u8>) -> Result<(), Memory>
+        ensures ok { OnOk result (out.new.items ≡ out.old.items ++ octets (later_fields self.now self.now.sign)) }
+        ensures begins { take (vec_len out.old) out.new.items ≡ out.old.items }
+        ensures room { vec_len out.old + length (octets (later_fields self.now self.now.sign)) ≤ vec_capacity out.old → IsOk result }
+        ensures capacity { vec_capacity out.old ≤ vec_capacity out.new }
+    {
+        match self.sign {
+            None => put_optional(out, APPLICATION_PARAMETERS, self.parameters),
+            Some(Sign::Digest) => {
+                let start = out.len();
+                self.put_covered(out)?;
+                let value = self.signature_value(&out[start..]);
+                put_element(out, INTEREST_SIGNATURE_VALUE, &value)
+            }
+        }
+    }
+
+    /// Appends what the signature covers behind the name's components, or some octets of it.
+    fn put_covered(&self, out: &mut Vec<u8>) -> Result<(), Memory>
+        ensures ok { OnOk result (out.new.items ≡ out.old.items ++ octets (covered_fields self.now)) }
+        ensures begins { take (vec_len out.old) out.new.items ≡ out.old.items }
+        ensures room { vec_len out.old + length (octets (covered_fields self.now)) ≤ vec_capacity out.old → IsOk result }
+        ensures capacity { vec_capacity out.old ≤ vec_capacity out.new }
+    {
+        put_element(out, APPLICATION_PARAMETERS, self.parameter_octets())?;
+        put_info(out, INTEREST_SIGNATURE_INFO, self.time, self.seq)
+    }
+
+    /// The value of the signature, which covers the name's components and these octets.
+    fn signature_value(&self, covered: &[u8]) -> [u8; DIGEST_LEN]
+        requires { covered.now ≡ octets (covered_fields self.now) }
+        ensures { result ≡ interest_digest self.now }
+    {
+        let mut hasher = Sha256::new();
+        hasher.update(self.name.as_octets());
+        hasher.update(covered);
+        hasher.finalize()
+    }
+
+    /// Appends the name's element, or some octets of it. Where a digest of parameters stands in it, that
+    /// is zeros yet.
+    fn put_name(&self, out: &mut Vec<u8>) -> Result<(), Memory>
+        requires short { length (octets (interest_name self.now)) ≤ 8800 }
+        ensures ok { OnOk result (out.new.items ≡ out.old.items ++ element (7, octets (zeroed_name self.now))) }
+        ensures begins { take (vec_len out.old) out.new.items ≡ out.old.items }
+        ensures room { vec_len out.old + length (element (7, octets (zeroed_name self.now))) ≤ vec_capacity out.old → IsOk result }
+        ensures capacity { vec_capacity out.old ≤ vec_capacity out.new }
+    {
+        put_header(out, NAME, self.name_len())?;
+        out.extend_from_slice(self.name.as_octets())?;
+        if self.has_digest() {
+            put_element(out, u32::from(PARAMETERS_SHA256_DIGEST), &[0; DIGEST_LEN])?;
+        }
+        Ok(())
+    }
+
+    /// Appends the fields between the name and the ApplicationParameters, or some octets of them.
+    fn put_early(&self, out: &mut Vec<u8>) -> Result<(), Memory>
+        ensures ok { OnOk result (out.new.items ≡ out.old.items ++ octets (early_fields self.now)) }
+        ensures begins { take (vec_len out.old) out.new.items ≡ out.old.items }
+        ensures room { vec_len out.old + length (octets (early_fields self.now)) ≤ vec_capacity out.old → IsOk result }
+        ensures capacity { vec_capacity out.old ≤ vec_capacity out.new }
+    {
+        put_flag(out, CAN_BE_PREFIX, self.can_be_prefix)?;
+        put_flag(out, MUST_BE_FRESH, self.must_be_fresh)?;
+        put_element(out, NONCE, &self.nonce)?;
+        put_number_field(out, INTEREST_LIFETIME, self.lifetime)?;
+        put_octet_field(out, HOP_LIMIT, self.hop_limit)?;
+        Ok(())
+    }
+
+    /// Appends the fields of the Interest, or some octets of them.
+    fn put_fields(&self, out: &mut Vec<u8>) -> Result<(), Memory>
+        requires short { length (octets (interest_name self.now)) ≤ 8800 }
+        ensures ok { OnOk result (out.new.items ≡ out.old.items ++ octets ((7, octets (interest_name self.now)) ∷ (early_fields self.now ++ later_fields self.now self.now.sign))) }
+        ensures begins { take (vec_len out.old) out.new.items ≡ out.old.items }
+        ensures room { vec_len out.old + length (octets ((7, octets (interest_name self.now)) ∷ (early_fields self.now ++ later_fields self.now self.now.sign))) ≤ vec_capacity out.old → IsOk result }
+        ensures capacity { vec_capacity out.old ≤ vec_capacity out.new }
+    {
+        self.put_name(out)?;
+        let digest_end = out.len();
+        self.put_early(out)?;
+        let start = out.len();
+        self.put_later(out)?;
+        if self.has_digest() {
+            put_digest(out, digest_end, start);
+        }
+        Ok(())
+    }
+
+    /// Appends the Interest, or some octets of it.
+    fn put_parts(&self, out: &mut Vec<u8>) -> Result<(), Memory>
+        requires short { length (interest_text self.now) ≤ 8800 }
+        ensures ok { OnOk result (out.new.items ≡ out.old.items ++ interest_text self.now) }
+        ensures begins { take (vec_len out.old) out.new.items ≡ out.old.items }
+        ensures room { vec_len out.old + length (interest_text self.now) ≤ vec_capacity out.old → IsOk result }
+        ensures capacity { vec_capacity out.old ≤ vec_capacity out.new }
+    {
+        out.reserve(self.packet_len())?;
+        put_header(out, INTEREST, self.value_len())?;
+        self.put_fields(out)
+    }
+}
+
+/// Puts the digest of the octets from `start` on over those that end at `digest_end`.
+fn put_digest(octets: &mut [u8], digest_end: usize, start: usize)
+    requires after { 32 ≤ digest_end }
+    requires before { digest_end ≤ start }
+    requires inside { start ≤ length octets.old }
+    ensures { octets.new ≡ take (digest_end - 32) octets.old ++ (sha256 (drop start octets.old) ++ drop digest_end octets.old) }
+{
+    let digest = Sha256::digest(&octets[start..]);
+    overwrite(octets, digest_end - DIGEST_LEN, &digest);
+}
+
+/// Whether no Interest may be written with a name.
+fn is_bad_name(name: Name<'_>) -> bool
+    ensures { result ≡ is_bad_name (components name.entry) }
+{
+    name.is_empty() || !matches!(digests_of(name), Digests::None)
+}
+
+/// The length of a flag, 0 where it is not set.
+fn flag_len(kind: u32, set: bool) -> usize
+    ensures { IsLength result (octets (flag kind set)) }
+{
+    if set { element_len(kind, 0) } else { 0 }
+}
+
+/// The length of an octet's field that may be absent.
+fn octet_field_len(kind: u32, octet: Option<u8>) -> usize
+    ensures len { IsLength result (octets (optional kind (option_map (λ n. n ∷ []) octet))) }
+    ensures sound { IfSome octet (λ n. n < 256) }
+{
+    match octet {
+        None => 0,
+        Some(octet) => element_len(kind, octets_len(&[octet])),
+    }
+}
+
+/// Appends an octet's field, where it is there, or some octets of it.
+fn put_octet_field(out: &mut Vec<u8>, kind: u32, octet: Option<u8>) -> Result<(), Memory>
+    requires { 1 ≤ kind }
+    ensures ok { OnOk result (out.new.items ≡ out.old.items ++ octets (optional kind (option_map (λ n. n ∷ []) octet))) }
+    ensures begins { take (vec_len out.old) out.new.items ≡ out.old.items }
+    ensures room { vec_len out.old + length (octets (optional kind (option_map (λ n. n ∷ []) octet))) ≤ vec_capacity out.old → IsOk result }
+    ensures capacity { vec_capacity out.old ≤ vec_capacity out.new }
+{
+    match octet {
+        None => Ok(()),
+        Some(octet) => put_element(out, kind, &[octet]),
+    }
+}
+
+/// Appends a flag, where it is set, or some octets of it.
+fn put_flag(out: &mut Vec<u8>, kind: u32, set: bool) -> Result<(), Memory>
+    requires { 1 ≤ kind }
+    ensures ok { OnOk result (out.new.items ≡ out.old.items ++ octets (flag kind set)) }
+    ensures begins { take (vec_len out.old) out.new.items ≡ out.old.items }
+    ensures room { vec_len out.old + length (octets (flag kind set)) ≤ vec_capacity out.old → IsOk result }
+    ensures capacity { vec_capacity out.old ≤ vec_capacity out.new }
+{
+    if set {
+        return put_element(out, kind, &[]);
+    }
+    Ok(())
+}
