@@ -1,0 +1,6 @@
+pub mod Tags
+pub mod Lines
+pub mod Digits
+pub mod Keys
+pub mod Books
+pub mod Files

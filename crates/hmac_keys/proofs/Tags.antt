@@ -1,0 +1,39 @@
+-- The blocks of HMAC, and comparing tags without an early end.
+use Rattle.std.proofs.Common.{◌≡◌, ℕ, ◌+◌, ◌<◌, List, [], ◌∷◌, ◌++◌, length, get_or, take, refl, sym, ap, ◌∙◌, arith}
+use Rattle.std.specs.Prelude.{◌↔◌}
+use Rattle.std.specs.Int.Bits.{bit_or, bit_xor, xor_zero_r, xor_self, xor_assoc, or_add_and, and_le_l, and_le_r}
+use Rattle.std.proofs.Math.ListN.{set}
+use Rattle.std.proofs.lemmas.List.{take_more, take_more_set, take_more_same, map-append, get_or-take, take-take}
+use Rattle.hmac_keys.specs.Mac.{xor_each}
+
+-- one octet more is combined with the pad
+pub combined_more : (block out : List ℕ) (pad i : ℕ) → i < length block → i < length out → take i out ≡ xor_each pad (take i block)
+    → take (i + 1) (set out i (bit_xor (get_or block i 0) pad)) ≡ xor_each pad (take (i + 1) block)
+combined_more block out pad i a b h =
+    take_more_set out i (bit_xor (get_or block i 0) pad) b ∙ ap (λ (front : List ℕ). front ++ bit_xor (get_or block i 0) pad ∷ []) h
+    ∙ sym (ap (xor_each pad) (take_more block i 0 a) ∙ map-append (λ o. bit_xor o pad) (take i block) (get_or block i 0 ∷ []))
+
+-- the octets compared so far are equal just where no difference was found
+abbrev pub HasCompared : List ℕ → List ℕ → ℕ → ℕ → Type 0
+HasCompared xs ys difference i = (difference ≡ 0) ↔ (take i xs ≡ take i ys)
+
+same_at : (xs ys : List ℕ) (i : ℕ) → take (i + 1) xs ≡ take (i + 1) ys → get_or xs i 0 ≡ get_or ys i 0
+same_at xs ys i e = sym (get_or-take (i + 1) xs i 0 (omega arith)) ∙ ap (λ (l : List ℕ). get_or l i 0) e ∙ get_or-take (i + 1) ys i 0 (omega arith)
+
+same_before : (xs ys : List ℕ) (i : ℕ) → take (i + 1) xs ≡ take (i + 1) ys → take i xs ≡ take i ys
+same_before xs ys i e = sym (take-take i (i + 1) xs (omega arith)) ∙ ap (take i) e ∙ take-take i (i + 1) ys (omega arith)
+
+neither : (a b : ℕ) → bit_or a b ≡ 0 → (a ≡ 0) × (b ≡ 0)
+neither a b e = omega (arith, or_add_and a b, and_le_l a b, and_le_r a b)
+
+no_difference : (a b : ℕ) → bit_xor a b ≡ 0 → a ≡ b
+no_difference a b e = sym (xor_zero_r a) ∙ ap (bit_xor a) (sym (xor_self b)) ∙ sym (xor_assoc a b b) ∙ ap (λ (n : ℕ). bit_xor n b) e
+
+pub compared_more : (xs ys : List ℕ) (difference i : ℕ) → i < length xs → i < length ys → HasCompared xs ys difference i
+    → HasCompared xs ys (bit_or difference (bit_xor (get_or xs i 0) (get_or ys i 0))) (i + 1)
+compared_more xs ys difference i a b h = (
+  λ e.
+      let none = neither difference (bit_xor (get_or xs i 0) (get_or ys i 0)) e in
+      take_more_same xs ys i 0 a b (h.0 none.0) (no_difference _ _ none.1),
+  λ e. rw (h.1 (same_before xs ys i e), same_at xs ys i e, xor_self (get_or ys i 0)) refl,
+)

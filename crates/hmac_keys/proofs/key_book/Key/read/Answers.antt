@@ -1,0 +1,24 @@
+use Rattle.std.proofs.Common.{refl, inl, rules}
+use Rattle.hmac_keys.proofs.Lines.{space_parts, space_whole}
+use Rattle.hmac_keys.proofs.Keys.{name_fault, octets_fault, key_parts}
+use Rattle.hmac_keys.proofs.key_book.Key.read.Goals as goal
+
+pub returns-in_err-name-in-Some : goal.returns-in_err-name-in-Some
+returns-in_err-name-in-Some c =
+    let split = space_parts c.args.line.now c.in-Some.uri c.in-Some.digits c.in-Some.ensures.cases in
+    let fault = name_fault c.args.number c.args.line.now c.in-Some.uri.now c.in-Some.digits.now c.in_err-name-in-Some.field-0.0 split c.in_err-name-in-Some.ensures in
+    search rules
+
+pub returns-in_err-octets-in-Some : goal.returns-in_err-octets-in-Some
+returns-in_err-octets-in-Some c =
+    let split = space_parts c.args.line.now c.in-Some.uri c.in-Some.digits c.in-Some.ensures.cases in
+    let fault = octets_fault c.args.number c.args.line.now c.in-Some.uri.now c.in-Some.digits.now c.in_ok-name-in-Some.name c.in_err-octets-in-Some.field-0.0 split c.in_ok-name-in-Some.ensures c.in_err-octets-in-Some.ensures in
+    search rules
+
+pub returns-in-None : goal.returns-in-None
+returns-in-None c = inl (rw (space_whole c.args.line.now c.in-None.ensures.cases) refl, refl)
+
+pub returns-in_ok-octets-in-Some : goal.returns-in_ok-octets-in-Some
+returns-in_ok-octets-in-Some c =
+    let split = space_parts c.args.line.now c.in-Some.uri c.in-Some.digits c.in-Some.ensures.cases in
+    key_parts c.args.line.now c.in-Some.uri.now c.in-Some.digits.now c.in_ok-name-in-Some.name c.in_ok-octets-in-Some.octets.items split c.in_ok-name-in-Some.ensures c.in_ok-octets-in-Some.ensures

@@ -1,0 +1,147 @@
+//! Books of named keys.
+
+use crate::fault::KeyFault;
+use crate::key_line::{first_line, is_skipped, name_of, octets_of};
+use ndn_names::{Name, NameBuf};
+use std::alloc::Global;
+use std::marker::Model;
+
+/// The greatest number of keys in a book.
+const MAX_KEYS: usize = 256;
+
+/// A key and its name.
+#[derive(Drop)]
+struct Key {
+    name: NameBuf,
+    octets: Vec<u8>,
+}
+
+impl Key {
+    ghost use Rattle.std.specs.Prelude.{◌≡◌, Some, MatchResult};
+    ghost use Rattle.hmac_keys.specs.KeyReading.{key_in};
+    ghost use Rattle.hmac_keys.specs.LineFault.{IsLineFault};
+
+    /// The key of a line of this number, which is not skipped.
+    fn read(alloc: Global, number: u64, line: &str) -> Result<Key, KeyFault>
+        ensures { MatchResult result (λ key. key_in line.now ≡ Some (key.name, key.octets.items)) (IsLineFault number (key_in line.now)) }
+    {
+        match line.rsplit_once(' ') {
+            None => Err(KeyFault::BadLine(number)),
+            Some((uri, digits)) => {
+                let name = name_of(alloc, number, uri)?;
+                let octets = octets_of(alloc, number, digits)?;
+                Ok(Key { name, octets })
+            }
+        }
+    }
+}
+
+/// Keys, at most 256, each under its own name.
+#[derive(Drop)]
+pub struct KeyBook {
+    keys: Vec<Key>,
+}
+
+impl Model for KeyBook {
+    ghost use Rattle.std.specs.Prelude.{List, length, ◌≤◌};
+    ghost use Rattle.hmac_keys.specs.KeyFile.{NamedKey, AreApart};
+
+    ghost Value = { List NamedKey };
+
+    ghost use Rattle.hmac_keys.specs.Shown.{named_keys};
+
+    ghost view = { λ book. named_keys book.keys.items };
+
+    ghost invariant = { λ book. AreApart (named_keys book.keys.items) × (length (named_keys book.keys.items) ≤ 256) };
+}
+
+impl KeyBook {
+    ghost use Rattle.std.specs.Prelude.{◌≡◌, ◌⊎◌, ℕ, Ok, IfOk, IfErr, IsErrOf, MatchOption, MatchResult, List, [], length};
+    ghost use Rattle.ndn_names.specs.View.{components};
+    ghost use Rattle.hmac_keys.specs.KeyFile.{NamedKey, KeysOf, IsAmong};
+    ghost use Rattle.hmac_keys.specs.KeyReading.{keys_in, after_line, with_key, IsFaultOf};
+
+    /// The book without keys.
+    pub fn new(alloc: Global) -> KeyBook
+        ensures { result ≡ [] }
+    {
+        KeyBook {
+            keys: Vec::new(alloc),
+        }
+    }
+
+    /// Reads a key file, of at most 256 keys. Its lines are parted by LF. The last space of a line
+    /// parts the URI of a name that is not empty, as `NameBuf::from_uri` reads it, from the key: 1
+    /// to 256 octets in hexadecimal digits of either case. A CR belongs to its line. Empty lines, and
+    /// those that begin with `;`, are skipped, but are counted.
+    ///
+    /// Refuses it by its first faulty line, and then reads no key: see `KeyFault`. Two names are one
+    /// if their components are, however the URIs spell them. `Memory` may come at any text.
+    pub fn read(alloc: Global, text: &str) -> Result<KeyBook, KeyFault>
+        // What is read, the text spells.
+        ensures found { IfOk result (KeysOf text.now) }
+        // What the text spells is read, but for memory.
+        ensures only { (keys : List NamedKey) → KeysOf text.now keys → (result ≡ Ok keys) ⊎ IsErrOf result KeyFault.Memory }
+        // Which fault it is.
+        ensures fault { IfErr result (IsFaultOf (keys_in text.now)) }
+    {
+        let mut book = KeyBook::new(alloc);
+        let mut rest = text;
+        let mut number = 0;
+        while !rest.is_empty() {
+            let (line, after) = first_line(rest);
+            number += 1;
+            book.add_line(alloc, number, line)?;
+            rest = after;
+        }
+        Ok(book)
+    }
+
+    /// Adds the key of a line of this number, if the line is not skipped.
+    fn add_line(&mut self, alloc: Global, number: u64, line: &str) -> Result<(), KeyFault>
+        ensures { MatchResult result (λ _. after_line number self.old line.now ≡ Ok self.new)
+            (IsFaultOf (after_line number self.old line.now)) }
+    {
+        if is_skipped(line) {
+            return Ok(());
+        }
+        let key = Key::read(alloc, number, line)?;
+        self.add(number, key)
+    }
+
+    /// Adds a key that a line of this number has.
+    fn add(&mut self, number: u64, key: Key) -> Result<(), KeyFault>
+        ensures { let next = with_key number self.old (key.name, key.octets.items) in
+            MatchResult result (λ _. next ≡ Ok self.new) (IsFaultOf next) }
+    {
+        if self.find(key.name.view()).is_some() {
+            return Err(KeyFault::TwiceNamed(number));
+        }
+        if self.len() == MAX_KEYS {
+            return Err(KeyFault::TooMany);
+        }
+        self.keys.push(key)?;
+        Ok(())
+    }
+
+    /// The octets of the key that has this very name, if there is one. It takes no memory.
+    pub fn find(&self, name: Name<'_>) -> Option<&[u8]>
+        ensures { MatchOption result
+            ((octets : List ℕ) → IsAmong (components name.entry, octets) self.now → ⊥)
+            (λ octets. IsAmong (components name.entry, octets.now) self.now) }
+    {
+        for key in &self.keys {
+            if key.name.view().compare(name).is_eq() {
+                return Some(&key.octets);
+            }
+        }
+        None
+    }
+
+    /// The number of keys, 256 at most.
+    pub fn len(&self) -> usize
+        ensures { result ≡ length self.now }
+    {
+        self.keys.len()
+    }
+}

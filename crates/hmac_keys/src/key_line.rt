@@ -1,0 +1,66 @@
+//! Lines of key files.
+
+ghost use Rattle.std.specs.Prelude.{◌≡◌, ◌≢◌, ◌<◌, ◌⊎◌, Some, [], ◌∷◌, length, MatchResult};
+ghost use Rattle.hmac_keys.specs.KeyFile.{lines_of, is_skipped};
+ghost use Rattle.hmac_keys.specs.KeyReading.{name_of, octets_of};
+ghost use Rattle.hmac_keys.specs.LineFault.{IsLineFault};
+
+use crate::fault::KeyFault;
+use hex::FromHexError;
+use ndn_names::{NameBuf, NameFault};
+use std::alloc::Global;
+
+/// The greatest length of a key, in octets.
+const MAX_KEY_LEN: usize = 256;
+
+/// The first line, and the text behind its LF; all of the text and nothing, where it has no LF.
+pub(crate) fn first_line(text: &str) -> (&str, &str)
+    requires { text.now ≢ [] }
+    ensures lines { (lines_of text.now ≡ result.0.now ∷ lines_of result.1.now)
+        ⊎ ((lines_of text.now ≡ result.0.now ∷ []) × (result.1.now ≡ [])) }
+    ensures shorter { length result.1.now < length text.now }
+{
+    match text.split_once('\n') {
+        Some(parts) => parts,
+        None => (text, ""),
+    }
+}
+
+/// Whether the line is empty, or begins with a semicolon.
+pub(crate) fn is_skipped(line: &str) -> bool
+    ensures { result ≡ is_skipped line.now }
+{
+    line.is_empty() || line.starts_with(';')
+}
+
+/// The name of a URI in a line of this number, if it is not empty.
+pub(crate) fn name_of(alloc: Global, number: u64, uri: &str) -> Result<NameBuf, KeyFault>
+    ensures { MatchResult result (λ name. name_of uri.now ≡ Some name) (IsLineFault number (name_of uri.now)) }
+{
+    match NameBuf::from_uri(alloc, uri) {
+        Err(NameFault::Memory) => Err(KeyFault::Memory),
+        Err(_) => Err(KeyFault::BadLine(number)),
+        Ok(name) => {
+            if name.view().is_empty() {
+                return Err(KeyFault::BadLine(number));
+            }
+            Ok(name)
+        }
+    }
+}
+
+/// The octets of the hexadecimal digits in a line of this number, if they are from 1 to 256.
+pub(crate) fn octets_of(alloc: Global, number: u64, digits: &str) -> Result<Vec<u8>, KeyFault>
+    ensures { MatchResult result (λ octets. octets_of digits.now ≡ Some octets.items) (IsLineFault number (octets_of digits.now)) }
+{
+    match hex::decode(alloc, digits.as_bytes()) {
+        Err(FromHexError::OutOfMemory) => Err(KeyFault::Memory),
+        Err(_) => Err(KeyFault::BadLine(number)),
+        Ok(octets) => {
+            if octets.is_empty() || octets.len() > MAX_KEY_LEN {
+                return Err(KeyFault::BadLine(number));
+            }
+            Ok(octets)
+        }
+    }
+}

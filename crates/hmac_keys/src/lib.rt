@@ -1,0 +1,14 @@
+//! HMAC with SHA-256, and books of named keys.
+#![tactic(auto)]
+
+mod fault;
+mod hmac;
+mod key_book;
+mod key_line;
+
+pub use fault::KeyFault;
+pub use hmac::{hmac_sha256, tags_equal};
+pub use key_book::KeyBook;
+
+#[cfg(test)]
+mod tests;
