@@ -7,6 +7,7 @@ use Rattle.ndn_tlv.specs.Number.{spelling, shortest_nni}
 use Rattle.ndn_tlv.specs.Element.{Field, element}
 use Rattle.ndn_tlv.proofs.Numbers.{length-spelling_nine, length-spelling_pos}
 use Rattle.ndn_tlv.proofs.Integers.{length-shortest_eight}
+use Rattle.ndn_packets.specs.declared.signature.Sign.{Sign}
 use Rattle.ndn_packets.specs.Fields.{optional}
 use Rattle.ndn_packets.specs.Writing.{octets, number, info_fields, meta_of, meta_fields, data_fields, IsLength}
 use Rattle.ndn_packets.proofs.Lengths.{length-element, sum_is_long, element_put}
@@ -52,23 +53,23 @@ meta_put old freshness last len is some =
 
 -- ---- what the signature covers
 
-data_octets : (name : List Field) (meta content : Option (List ℕ)) → octets (data_fields name meta content)
-    ≡ ((element (7, octets name) ++ octets (optional 20 meta)) ++ octets (optional 21 content)) ++ element (22, octets (info_fields None None))
-data_octets name meta content = simp (append_assoc, flat_map-append, append-nil)
+data_octets : (signed : Sign) (name : List Field) (meta content : Option (List ℕ)) → octets (data_fields signed name meta content)
+    ≡ ((element (7, octets name) ++ octets (optional 20 meta)) ++ octets (optional 21 content)) ++ element (22, octets (info_fields signed None None))
+data_octets signed name meta content = simp (append_assoc, flat_map-append, append-nil)
 
-pub covered_put : (old : List ℕ) (name : List Field) (meta content : Option (List ℕ))
-    → (((old ++ element (7, octets name)) ++ octets (optional 20 meta)) ++ octets (optional 21 content)) ++ element (22, octets (info_fields None None)) ≡ old ++ octets (data_fields name meta content)
-covered_put old name meta content = simp (append_assoc, flat_map-append, append-nil)
+pub covered_put : (old : List ℕ) (signed : Sign) (name : List Field) (meta content : Option (List ℕ))
+    → (((old ++ element (7, octets name)) ++ octets (optional 20 meta)) ++ octets (optional 21 content)) ++ element (22, octets (info_fields signed None None)) ≡ old ++ octets (data_fields signed name meta content)
+covered_put old signed name meta content = simp (append_assoc, flat_map-append, append-nil)
 
-pub covered_is_long : (name : List Field) (meta content : Option (List ℕ)) (n m o i : ℕ)
-    → IsLength n (element (7, octets name)) → IsLength m (octets (optional 20 meta)) → IsLength o (octets (optional 21 content)) → IsLength i (element (22, octets (info_fields None None)))
-    → IsLength (min (min (min (n + m) (2 ^ 64 - 1) + o) (2 ^ 64 - 1) + i) (2 ^ 64 - 1)) (octets (data_fields name meta content))
-covered_is_long name meta content n m o i p q r s =
+pub covered_is_long : (signed : Sign) (name : List Field) (meta content : Option (List ℕ)) (n m o i : ℕ)
+    → IsLength n (element (7, octets name)) → IsLength m (octets (optional 20 meta)) → IsLength o (octets (optional 21 content)) → IsLength i (element (22, octets (info_fields signed None None)))
+    → IsLength (min (min (min (n + m) (2 ^ 64 - 1) + o) (2 ^ 64 - 1) + i) (2 ^ 64 - 1)) (octets (data_fields signed name meta content))
+covered_is_long signed name meta content n m o i p q r s =
     rw data_octets (sum_is_long _ _ _ _ (sum_is_long _ _ _ _ (sum_is_long _ _ _ _ p q) r) s)
 
-pub signed_is_long : (name : List Field) (meta content : Option (List ℕ)) (n m : ℕ) (digest : List ℕ) → IsLength n (octets (data_fields name meta content)) → IsLength m (element (23, digest))
-    → IsLength (min (n + m) (2 ^ 64 - 1)) (octets (data_fields name meta content ++ (23, digest) ∷ []))
-signed_is_long name meta content n m digest p q =
-    let fields = data_fields name meta content in
-    let joined : octets (fields ++ (23, digest) ∷ []) ≡ octets fields ++ element (23, digest) = flat_map-append element fields ((23, digest) ∷ []) ∙ ap (λ (x : List ℕ). octets fields ++ x) (append-nil (element (23, digest))) in
-    subst (λ (x : List ℕ). IsLength (min (n + m) (2 ^ 64 - 1)) x) (sym joined) (sum_is_long n m (octets fields) (element (23, digest)) p q)
+pub signed_is_long : (signed : Sign) (name : List Field) (meta content : Option (List ℕ)) (n m : ℕ) (value : List ℕ) → IsLength n (octets (data_fields signed name meta content)) → IsLength m (element (23, value))
+    → IsLength (min (n + m) (2 ^ 64 - 1)) (octets (data_fields signed name meta content ++ (23, value) ∷ []))
+signed_is_long signed name meta content n m value p q =
+    let fields = data_fields signed name meta content in
+    let joined : octets (fields ++ (23, value) ∷ []) ≡ octets fields ++ element (23, value) = flat_map-append element fields ((23, value) ∷ []) ∙ ap (λ (x : List ℕ). octets fields ++ x) (append-nil (element (23, value))) in
+    subst (λ (x : List ℕ). IsLength (min (n + m) (2 ^ 64 - 1)) x) (sym joined) (sum_is_long n m (octets fields) (element (23, value)) p q)

@@ -16,14 +16,17 @@ use Rattle.ndn_names.specs.declared.name.Name.{Name}
 use Rattle.ndn_names.specs.View.{components}
 use Rattle.ndn_packets.specs.declared.fault.WriteFault.{WriteFault}
 use Rattle.ndn_packets.specs.declared.fault.WriteFault.TheVariants.{TooLong}
+use Rattle.ndn_packets.specs.declared.signature.Sign.{Sign}
+use Rattle.ndn_packets.specs.declared.signature.Sign.TheVariants as sign
 use Rattle.ndn_packets.specs.declared.data_writer.DataWriter.{DataWriter}
 use Rattle.ndn_names.specs.Name.{IsComponent, IsName, IsNameValue}
 use Rattle.ndn_packets.specs.Fields.{Counts, Fields, is_follower, optional, flag, is_even_high, is_ignored_in_meta_info, is_ignored_in_signature_info, data_schema, meta_schema, info_schema}
-use Rattle.ndn_packets.specs.Grammar.{IsPacket, IsNumber, IsMetaInfo, IsSignatureInfo, IsFreshness, IsData}
-use Rattle.ndn_packets.specs.Writing.{octets, number, info_fields, digest_info, meta_of, meta_fields, data_fields, data_digest, signed_data, plain_data_of, meta_asked, content_asked, data_text, data_asked, data_refusal, reply_text, reply_asked}
+use Rattle.ndn_packets.specs.Grammar.{IsPacket, IsNumber, IsLocator, IsMetaInfo, IsSignatureInfo, IsFreshness, IsData}
+use Rattle.ndn_packets.specs.Writing.{octets, number, kind_of, locator_of, locator_value, info_fields, info_asked, value_of, meta_of, meta_fields, data_fields, data_value, signed_data, plain_data_of, meta_asked, content_asked, data_text, data_asked, data_refusal, reply_text, reply_asked, IsSoundSign, SoundData}
 use Rattle.ndn_packets.specs.Packet.{AData}
 use Rattle.ndn_packets.specs.Covered.{IsCut, Covered}
 use Rattle.ndn_packets.proofs.Steps.{both_tests}
+use Rattle.ndn_packets.proofs.Lengths.{info_is_long}
 use Rattle.ndn_packets.proofs.FieldLists.{MayBeBytes, AreBytes}
 
 -- ---- octets
@@ -195,28 +198,66 @@ pub number_fits : (kind : ℕ) (n : Option ℕ) → IsType kind → AllByRecursi
 number_fits kind None is = tt
 number_fits kind (Some k) is = ((is.0, is.1, omega (arith, length-shortest_eight k)), tt)
 
+-- ---- names
+
+name_types : (name : List Field) → AllByRecursion IsComponent name → AllByRecursion (λ f. IsType f.0) name
+name_types [] h = tt
+name_types (c ∷ name) h = ((h.0.0, omega (arith, h.0.1)), name_types name h.1)
+
+pub name_written : (name : List Field) → IsName name → length (octets name) < 2 ^ 64 → IsNameValue (octets name) name
+name_written name is short = ((sized name (name_types name is.1) short, refl), is)
+
 -- ---- SignatureInfo
 
-pub bytes_of_info : (time seq : Option ℕ) → AreBytes (info_fields time seq)
-bytes_of_info time seq = (IsBytes-one 0 (omega arith), all_append (λ f. IsBytes f.1) (number 40 time) (number 42 seq) (bytes_of_number 40 time) (bytes_of_number 42 seq))
+bytes_of_locator : (signed : Sign) → IsSoundSign signed → MayBeBytes (locator_value signed)
+bytes_of_locator sign.Digest is = tt
+bytes_of_locator (sign.Hmac name key) is = IsBytes-element (7, octets (components name)) is
 
-pub info_written : (time seq : Option ℕ) → IfSome time (λ k. k < 2 ^ 64) → IfSome seq (λ k. k < 2 ^ 64) → IsSignatureInfo (octets (info_fields time seq)) (digest_info time seq)
-info_written time seq time_fits seq_fits =
-    let fit : AllByRecursion IsField (info_fields time seq) =
-    ((omega arith, omega arith, omega arith), all_append IsField (number 40 time) (number 42 seq) (number_fits 40 time (search rules)) (number_fits 42 seq (search rules))) in
+kind_below : (signed : Sign) → kind_of signed < 253
+kind_below sign.Digest = omega arith
+kind_below (sign.Hmac name key) = omega arith
+
+pub bytes_of_info : (signed : Sign) (time seq : Option ℕ) → IsSoundSign signed → AreBytes (info_fields signed time seq)
+bytes_of_info signed time seq is = (
+  IsBytes-one (kind_of signed) (omega (arith, kind_below signed)),
+  all_append (λ f. IsBytes f.1) (optional 28 (locator_value signed)) _ (bytes_of_optional 28 (locator_value signed) (bytes_of_locator signed is))
+      (all_append (λ f. IsBytes f.1) (number 40 time) (number 42 seq) (bytes_of_number 40 time) (bytes_of_number 42 seq)),
+)
+
+pub IsBytes-value_of : (signed : Sign) (covered : List ℕ) → IsBytes (value_of signed covered)
+IsBytes-value_of sign.Digest covered = IsBytes-sha256 covered
+IsBytes-value_of (sign.Hmac name key) covered = IsBytes-sha256 _
+
+locator_written : (signed : Sign) → length (octets (optional 28 (locator_value signed))) < 2 ^ 64 → IsLocator (locator_value signed) (locator_of signed)
+locator_written sign.Digest short = refl
+locator_written (sign.Hmac name key) short =
+    let value = octets (components name) in
+    let fits : length value < 2 ^ 64 = omega (arith, short, length-value (7, value), length-value (28, element (7, value)), length-append (element (28, element (7, value))) []) in
+    (value, ((omega arith, omega arith, fits), refl), name_written (components name) name.spelled.1 fits)
+
+info_types : AllByRecursion IsType info_schema
+info_types = search rules
+
+pub info_written : (signed : Sign) (time seq : Option ℕ) → IfSome time (λ k. k < 2 ^ 64) → IfSome seq (λ k. k < 2 ^ 64) → length (octets (info_fields signed time seq)) < 2 ^ 64
+    → IsSignatureInfo (octets (info_fields signed time seq)) (info_asked signed time seq)
+info_written signed time seq time_fits seq_fits short =
+    let kind = kind_of signed in
+    let locator = locator_value signed in
     let from40 = maybe (42 ∷ []) 40 (option_map shortest_nni time) (number 42 seq) (search rules) (last [] 42 (option_map shortest_nni seq)) in
-    let from28 = maybe (38 ∷ 40 ∷ 42 ∷ []) 28 None _ (search rules) (maybe (40 ∷ 42 ∷ []) 38 None (number 40 time ++ number 42 seq) (search rules) from40) in
+    let from38 = maybe (40 ∷ 42 ∷ []) 38 None (number 40 time ++ number 42 seq) (search rules) from40 in
+    let from28 = maybe (38 ∷ 40 ∷ 42 ∷ []) 28 locator (number 40 time ++ number 42 seq) (search rules) from38 in
+    let order = leads (28 ∷ 38 ∷ 40 ∷ 42 ∷ []) 27 (kind ∷ []) (optional 28 locator ++ (number 40 time ++ number 42 seq)) from28 in
     record {
-      kind_value = 0 ∷ [];
-      locator_value = None;
+      kind_value = kind ∷ [];
+      locator_value = locator;
       nonce = None;
       time_value = option_map shortest_nni time;
       seq_value = option_map shortest_nni seq;
-      elements = info_fields time seq;
-      inner = (fit, refl);
-      recognised = in_order is_ignored_in_signature_info info_schema (info_fields time seq) (leads (28 ∷ 38 ∷ 40 ∷ 42 ∷ []) 27 (0 ∷ []) (number 40 time ++ number 42 seq) from28);
-      kind = inl (omega arith, refl);
-      locator = refl;
+      elements = info_fields signed time seq;
+      inner = (sized (info_fields signed time seq) (types_of IsType info_schema (info_fields signed time seq) order info_types) short, refl);
+      recognised = in_order is_ignored_in_signature_info info_schema (info_fields signed time seq) order;
+      kind = inl (omega (arith, kind_below signed), refl);
+      locator = locator_written signed (omega (arith, short, info_is_long signed time seq));
       time = is_number time time_fits;
       seq = is_number seq seq_fits;
     }
@@ -238,14 +279,6 @@ packet_written kind schema name_value elements fields is types order same fits s
       short = short;
       octets = IsBytes-element (kind, value) (IsBytes-octets ((7, name_value) ∷ elements) fits);
     }
-
--- a name in a packet
-name_types : (name : List Field) → AllByRecursion IsComponent name → AllByRecursion (λ f. IsType f.0) name
-name_types [] h = tt
-name_types (c ∷ name) h = ((h.0.0, omega (arith, h.0.1)), name_types name h.1)
-
-pub name_written : (name : List Field) → IsName name → length (octets name) < 2 ^ 64 → IsNameValue (octets name) name
-name_written name is short = ((sized name (name_types name is.1) short, refl), is)
 
 -- ---- Data
 
@@ -302,65 +335,70 @@ cut_written kind value before behind fit first =
     }
 
 -- the elements of a Data behind its Name, and its fields
-abbrev data_elements : List Field → Option (List ℕ) → Option (List ℕ) → List Field
-data_elements name meta content = (optional 20 meta ++ (optional 21 content ++ (22, octets (info_fields None None)) ∷ [])) ++ (23, data_digest name meta content) ∷ []
+abbrev data_elements : Sign → List Field → Option (List ℕ) → Option (List ℕ) → List Field
+data_elements signed name meta content = (optional 20 meta ++ (optional 21 content ++ (22, octets (info_fields signed None None)) ∷ [])) ++ (23, data_value signed name meta content) ∷ []
 
-abbrev data_grouped : List Field → Option (List ℕ) → Option (List ℕ) → List Field
-data_grouped name meta content = optional 20 meta ++ (optional 21 content ++ (22, octets (info_fields None None)) ∷ (23, data_digest name meta content) ∷ [])
+abbrev data_grouped : Sign → List Field → Option (List ℕ) → Option (List ℕ) → List Field
+data_grouped signed name meta content = optional 20 meta ++ (optional 21 content ++ (22, octets (info_fields signed None None)) ∷ (23, data_value signed name meta content) ∷ [])
 
-data_same : (name : List Field) (meta content : Option (List ℕ)) → data_elements name meta content ≡ data_grouped name meta content
-data_same name meta content = simp append_assoc
+data_same : (signed : Sign) (name : List Field) (meta content : Option (List ℕ)) → data_elements signed name meta content ≡ data_grouped signed name meta content
+data_same signed name meta content = simp append_assoc
 
 data_order : (meta content : Option (List ℕ)) (info digest : List ℕ) → InOrder data_schema (optional 20 meta ++ (optional 21 content ++ (22, info) ∷ (23, digest) ∷ []))
 data_order meta content info digest =
     maybe (21 ∷ 22 ∷ 23 ∷ []) 20 meta (optional 21 content ++ (22, info) ∷ (23, digest) ∷ []) (search rules)
     (maybe (22 ∷ 23 ∷ []) 21 content ((22, info) ∷ (23, digest) ∷ []) (search rules) (leads (23 ∷ []) 22 info ((23, digest) ∷ []) (last [] 23 (Some digest))))
 
-data_bytes : (name : List Field) (meta content : Option (List ℕ)) → MayBeBytes meta → MayBeBytes content → AreBytes (data_elements name meta content)
-data_bytes name meta content meta_fits content_fits =
-    let info = IsBytes-octets (info_fields None None) (bytes_of_info None None) in
-    subst AreBytes (sym (data_same name meta content))
+data_bytes : (signed : Sign) (name : List Field) (meta content : Option (List ℕ)) → IsSoundSign signed → MayBeBytes meta → MayBeBytes content → AreBytes (data_elements signed name meta content)
+data_bytes signed name meta content sign_fits meta_fits content_fits =
+    let info = IsBytes-octets (info_fields signed None None) (bytes_of_info signed None None sign_fits) in
+    subst AreBytes (sym (data_same signed name meta content))
     (all_append (λ f. IsBytes f.1) (optional 20 meta) _ (bytes_of_optional 20 meta meta_fits)
-    (all_append (λ f. IsBytes f.1) (optional 21 content) _ (bytes_of_optional 21 content content_fits) (info, (IsBytes-sha256 (octets (data_fields name meta content)), tt))))
+    (all_append (λ f. IsBytes f.1) (optional 21 content) _ (bytes_of_optional 21 content content_fits) (info, (IsBytes-value_of signed (octets (data_fields signed name meta content)), tt))))
 
 data_types : AllByRecursion IsType data_schema
 data_types = search rules
 
-unfoldable data_packet : (name : List Field) (meta content : Option (List ℕ)) → IsBytes (octets name) → MayBeBytes meta → MayBeBytes content → length (signed_data name meta content) ≤ 8800
-    → IsPacket (signed_data name meta content) 6 is_even_high data_schema (octets name) (data_grouped name meta content)
-data_packet name meta content name_fits meta_fits content_fits short =
-    let same = data_same name meta content in
-    let order = data_order meta content (octets (info_fields None None)) (data_digest name meta content) in
-    packet_written 6 data_schema (octets name) (data_elements name meta content) (data_grouped name meta content) (omega arith, omega arith) data_types (subst (InOrder data_schema) (sym same) order) same
-    (name_fits, data_bytes name meta content meta_fits content_fits) short
+unfoldable data_packet : (signed : Sign) (name : List Field) (meta content : Option (List ℕ)) → IsSoundSign signed → IsBytes (octets name) → MayBeBytes meta → MayBeBytes content → length (signed_data signed name meta content) ≤ 8800
+    → IsPacket (signed_data signed name meta content) 6 is_even_high data_schema (octets name) (data_grouped signed name meta content)
+data_packet signed name meta content sign_fits name_fits meta_fits content_fits short =
+    let same = data_same signed name meta content in
+    let order = data_order meta content (octets (info_fields signed None None)) (data_value signed name meta content) in
+    packet_written 6 data_schema (octets name) (data_elements signed name meta content) (data_grouped signed name meta content) (omega arith, omega arith) data_types (subst (InOrder data_schema) (sym same) order) same
+    (name_fits, data_bytes signed name meta content sign_fits meta_fits content_fits) short
 
-pub data_written : (name : List Field) (freshness : ℕ) (meta content : Option (List ℕ)) → IsName name → IsBytes (octets name) → MayBeBytes meta → IsFreshness meta freshness → MayBeBytes content
-    → length (signed_data name meta content) ≤ 8800 → IsData (signed_data name meta content) (plain_data_of name freshness meta content)
-data_written name freshness meta content is name_fits meta_fits fresh content_fits short =
-    let packet = data_packet name meta content name_fits meta_fits content_fits short in
+pub data_written : (signed : Sign) (name : List Field) (freshness : ℕ) (meta content : Option (List ℕ)) → IsSoundSign signed → IsName name → IsBytes (octets name) → MayBeBytes meta → IsFreshness meta freshness → MayBeBytes content
+    → length (signed_data signed name meta content) ≤ 8800 → IsData (signed_data signed name meta content) (plain_data_of signed name freshness meta content)
+unfolding data_packet packet_written
+data_written signed name freshness meta content sign_fits is name_fits meta_fits fresh content_fits short =
+    let packet = data_packet signed name meta content sign_fits name_fits meta_fits content_fits short in
+    let info : List Field = (22, octets (info_fields signed None None)) ∷ [] in
+    let covered = (all_split IsField (optional 20 meta ++ (optional 21 content ++ info)) _ packet.inner.0.1).0 in
+    let behind_meta = (all_split IsField (optional 20 meta) (optional 21 content ++ info) covered).1 in
+    let info_fits = (all_split IsField (optional 21 content) info behind_meta).1.0.2 in
     record {
       name_value = octets name;
       meta_value = meta;
-      info_value = octets (info_fields None None);
+      info_value = octets (info_fields signed None None);
       fields = packet;
       name = name_written name is packet.inner.0.0.2;
       freshness = fresh;
-      info = info_written None None tt tt;
+      info = info_written signed None None tt tt info_fits;
     }
 
-pub data_covered : (name : List Field) (freshness : ℕ) (meta content : Option (List ℕ)) → IsBytes (octets name) → MayBeBytes meta → MayBeBytes content → length (signed_data name meta content) ≤ 8800
-    → Covered (AData (signed_data name meta content) (plain_data_of name freshness meta content)) (octets (data_fields name meta content)) []
+pub data_covered : (signed : Sign) (name : List Field) (freshness : ℕ) (meta content : Option (List ℕ)) → IsSoundSign signed → IsBytes (octets name) → MayBeBytes meta → MayBeBytes content → length (signed_data signed name meta content) ≤ 8800
+    → Covered (AData (signed_data signed name meta content) (plain_data_of signed name freshness meta content)) (octets (data_fields signed name meta content)) []
 unfolding data_packet packet_written
-data_covered name freshness meta content name_fits meta_fits content_fits short =
-    let packet = data_packet name meta content name_fits meta_fits content_fits short in
-    let info = octets (info_fields None None) in
-    let digest = data_digest name meta content in
+data_covered signed name freshness meta content sign_fits name_fits meta_fits content_fits short =
+    let packet = data_packet signed name meta content sign_fits name_fits meta_fits content_fits short in
+    let info = octets (info_fields signed None None) in
+    let digest = data_value signed name meta content in
     let order = leads (20 ∷ 21 ∷ 22 ∷ []) 7 (octets name) _ (maybe (21 ∷ 22 ∷ []) 20 meta _ (search rules) (maybe (22 ∷ []) 21 content ((22, info) ∷ []) (search rules) (last [] 22 (Some info)))) in (
       record {
         value = packet.value;
         from_signature = octets ((23, digest) ∷ []);
         outer = packet.outer;
-        cut = cut_written 23 digest (data_fields name meta content) [] packet.inner.0 (types_of (λ k. k ≢ 23) (7 ∷ 20 ∷ 21 ∷ 22 ∷ []) (data_fields name meta content) order (search rules));
+        cut = cut_written 23 digest (data_fields signed name meta content) [] packet.inner.0 (types_of (λ k. k ≢ 23) (7 ∷ 20 ∷ 21 ∷ 22 ∷ []) (data_fields signed name meta content) order (search rules));
       },
       refl,
     )
@@ -373,20 +411,20 @@ not_refused false fault others e = (refl, e)
 data_short : (w : DataWriter) → data_refusal w ≡ None → length (data_text w) ≤ 8800
 data_short w e = ltb-false 8800 (length (data_text w)) (not_refused (ltb 8800 (length (data_text w))) TooLong None e).0
 
-pub data_reads_back : (w : DataWriter) → IsBytes (octets (components w.name)) → IfSome w.freshness (λ n. n < 2 ^ 64) → IfSome w.content (λ c. IsBytes c.now) → data_refusal w ≡ None → IsData (data_text w) (data_asked w)
-data_reads_back w name_fits freshness_fits content_fits e =
-    data_written (components w.name) (unwrap_or w.freshness 0) (meta_asked w) (content_asked w) w.name.spelled.1 name_fits (bytes_of_meta w.freshness w.last)
-    (freshness_written w.freshness w.last freshness_fits) (bytes_behind w.content content_fits) (data_short w e)
+pub data_reads_back : (w : DataWriter) → SoundData w → data_refusal w ≡ None → IsData (data_text w) (data_asked w)
+data_reads_back w is e =
+    data_written w.sign (components w.name) (unwrap_or w.freshness 0) (meta_asked w) (content_asked w) is.sign w.name.spelled.1 is.name (bytes_of_meta w.freshness w.last)
+    (freshness_written w.freshness w.last is.freshness) (bytes_behind w.content is.content) (data_short w e)
 
-pub data_signed : (w : DataWriter) → IsBytes (octets (components w.name)) → IfSome w.content (λ c. IsBytes c.now) → data_refusal w ≡ None
-    → Covered (AData (data_text w) (data_asked w)) (octets (data_fields (components w.name) (meta_asked w) (content_asked w))) []
-data_signed w name_fits content_fits e =
-    data_covered (components w.name) (unwrap_or w.freshness 0) (meta_asked w) (content_asked w) name_fits (bytes_of_meta w.freshness w.last) (bytes_behind w.content content_fits) (data_short w e)
+pub data_signed : (w : DataWriter) → SoundData w → data_refusal w ≡ None
+    → Covered (AData (data_text w) (data_asked w)) (octets (data_fields w.sign (components w.name) (meta_asked w) (content_asked w))) []
+data_signed w is e =
+    data_covered w.sign (components w.name) (unwrap_or w.freshness 0) (meta_asked w) (content_asked w) is.sign is.name (bytes_of_meta w.freshness w.last) (bytes_behind w.content is.content) (data_short w e)
 
 pub reply_reads_back : (name : Name) (content : List ℕ) → IsBytes (octets (components name)) → IsBytes content → length (reply_text (components name) content) ≤ 8800
     → IsData (reply_text (components name) content) (reply_asked (components name) content)
-reply_reads_back name content name_fits content_fits short = data_written (components name) 0 None (Some content) name.spelled.1 name_fits tt refl content_fits short
+reply_reads_back name content name_fits content_fits short = data_written sign.Digest (components name) 0 None (Some content) tt name.spelled.1 name_fits tt refl content_fits short
 
 pub reply_signed : (name : Name) (content : List ℕ) → IsBytes (octets (components name)) → IsBytes content → length (reply_text (components name) content) ≤ 8800
-    → Covered (AData (reply_text (components name) content) (reply_asked (components name) content)) (octets (data_fields (components name) None (Some content))) []
-reply_signed name content name_fits content_fits short = data_covered (components name) 0 None (Some content) name_fits tt content_fits short
+    → Covered (AData (reply_text (components name) content) (reply_asked (components name) content)) (octets (data_fields sign.Digest (components name) None (Some content))) []
+reply_signed name content name_fits content_fits short = data_covered sign.Digest (components name) 0 None (Some content) tt name_fits tt content_fits short

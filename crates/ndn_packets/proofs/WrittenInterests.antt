@@ -5,7 +5,7 @@ use Rattle.std.specs.Option.{option_map}
 use Rattle.std.specs.List.{AllByRecursion}
 use Rattle.std.proofs.lemmas.Bool.{ltb-false}
 use Rattle.std.proofs.lemmas.Grind.{flat_map-append}
-use Rattle.std.proofs.lemmas.List.{append-nil}
+use Rattle.std.proofs.lemmas.List.{append-nil, length-append}
 use Rattle.std.proofs.lemmas.List.Elements.{filter-append}
 use Rattle.sha2.specs.Sha256.{sha256}
 use Rattle.sha2.proofs.Facts256.{length-sha256}
@@ -22,10 +22,11 @@ use Rattle.ndn_packets.specs.Fields.{optional, flag, is_even_high, interest_sche
 use Rattle.ndn_packets.specs.Grammar.{IsPacket, IsOctet, from_parameters, IsDigested, IsSigned, IsInterest}
 use Rattle.ndn_packets.specs.Covered.{CoversInterest, Covered}
 use Rattle.ndn_packets.specs.Reading.{is_nil}
-use Rattle.ndn_packets.specs.Writing.{octets, number, info_fields, digest_info, parameters_of, covered_fields, interest_digest, later_fields, with_digest, interest_name, interest_text, interest_asked, is_bad_name, interest_refusal, IsU64, SoundInterest}
+use Rattle.ndn_packets.specs.Writing.{octets, number, info_fields, info_asked, parameters_of, covered_fields, interest_value, later_fields, with_digest, interest_name, interest_text, interest_asked, is_bad_name, interest_refusal, IsU64, IsSoundSign, SoundInterest}
 use Rattle.ndn_packets.proofs.Steps.{not_nil}
 use Rattle.ndn_packets.proofs.FieldLists.{MayBeBytes, AreBytes}
-use Rattle.ndn_packets.proofs.Written.{IsType, InOrder, leads, maybe, flagged, last, all_append, all_split, bytes_of_optional, bytes_behind, bytes_of_number, bytes_of_info, bytes_of_nothing, IsBytes-one, IsBytes-octets, IsBytes-sha256, is_number, info_written, packet_written, name_written, cut_written, not_refused}
+use Rattle.ndn_packets.proofs.Lengths.{fields_are_long}
+use Rattle.ndn_packets.proofs.Written.{IsType, InOrder, leads, maybe, flagged, last, all_append, all_split, bytes_of_optional, bytes_behind, bytes_of_number, bytes_of_info, bytes_of_nothing, IsBytes-one, IsBytes-octets, IsBytes-sha256, IsBytes-value_of, length-value, is_number, info_written, packet_written, name_written, cut_written, not_refused}
 
 -- ---- the name with its digest
 
@@ -214,7 +215,7 @@ asked w sign = record {
   lifetime = unwrap_or w.lifetime 4000;
   hop_limit = w.hop_limit;
   parameters = parameters_of sign (asked_parameters w);
-  signature = option_map (λ signed. record { info = digest_info w.time w.seq; value = interest_digest w }) sign;
+  signature = option_map (λ signed. record { info = info_asked signed w.time w.seq; value = interest_value w signed }) sign;
 }
 
 -- why it is not refused
@@ -236,8 +237,21 @@ fits_of w sign is good = record {
   hop_below = is.hop_limit;
 }
 
-ends_of : (w : InterestWriter) (sign : Option Sign) → SoundInterest w → OnSome sign (IsU64 w.time × IsU64 w.seq) → IsGood w sign → Ends (asked w sign) (later_fields w sign)
-ends_of w None is times good = record {
+-- a SignatureInfo is no longer than the Interest that it stands in
+info_inside : (front : List Field) (p info : List ℕ) (behind : List Field) → length info ≤ length (element (5, octets (front ++ (36, p) ∷ (44, info) ∷ behind)))
+info_inside front p info behind =
+    let later : List Field = (36, p) ∷ (44, info) ∷ behind in
+    omega (
+      arith,
+      length-value (5, octets (front ++ later)),
+      fields_are_long front later,
+      length-append (element (36, p)) (octets ((44, info) ∷ behind)),
+      length-append (element (44, info)) (octets behind),
+      length-value (44, info),
+    )
+
+ends_of : (w : InterestWriter) (sign : Option Sign) → SoundInterest w → IfSome sign IsSoundSign → OnSome sign (IsU64 w.time × IsU64 w.seq) → IsGood w sign → Ends (asked w sign) (later_fields w sign)
+ends_of w None is key times good = record {
   info = None;
   value = None;
   grouped = sym (append-nil (optional 36 (asked_parameters w)));
@@ -250,21 +264,27 @@ ends_of w None is times good = record {
     digested : (parameters : Option (List ℕ)) → IsDigested (with_digest (components w.name) (optional 36 parameters)) (optional 36 parameters) parameters
     digested None = good.none
     digested (Some p) = one_digest (components w.name) (sha256 (octets ((36, p) ∷ []))) good.none
-ends_of w (Some signed) is times good = record {
-  info = Some (octets (info_fields w.time w.seq));
-  value = Some (interest_digest w);
+ends_of w (Some signed) is key times good = record {
+  info = Some (octets (info_fields signed w.time w.seq));
+  value = Some (interest_value w signed);
   grouped = refl;
   order =
-      leads (44 ∷ 46 ∷ []) 36 (unwrap_or (asked_parameters w) []) ((44, octets (info_fields w.time w.seq)) ∷ (46, interest_digest w) ∷ [])
-      (leads (46 ∷ []) 44 (octets (info_fields w.time w.seq)) ((46, interest_digest w) ∷ []) (last [] 46 (Some (interest_digest w))));
-  bytes = (of_parameters (asked_parameters w) (bytes_behind w.parameters is.parameters), (IsBytes-octets (info_fields w.time w.seq) (bytes_of_info w.time w.seq), (IsBytes-sha256 _, tt)));
+      leads (44 ∷ 46 ∷ []) 36 (unwrap_or (asked_parameters w) []) ((44, octets (info_fields signed w.time w.seq)) ∷ (46, interest_value w signed) ∷ [])
+      (leads (46 ∷ []) 44 (octets (info_fields signed w.time w.seq)) ((46, interest_value w signed) ∷ []) (last [] 46 (Some (interest_value w signed))));
+  bytes = (of_parameters (asked_parameters w) (bytes_behind w.parameters is.parameters), (IsBytes-octets (info_fields signed w.time w.seq) (bytes_of_info signed w.time w.seq key), (IsBytes-value_of signed _, tt)));
   digested = one_digest (components w.name) (sha256 (octets (later_fields w (Some signed)))) good.none;
-  signed = (digest_info w.time w.seq, info_written w.time w.seq times.0 times.1, refl);
+  signed = (info_asked signed w.time w.seq, info_written signed w.time w.seq times.0 times.1 (info_short signed good), refl);
 }
   where
     of_parameters : (parameters : Option (List ℕ)) → MayBeBytes parameters → IsBytes (unwrap_or parameters [])
     of_parameters None h = bytes_of_nothing
     of_parameters (Some p) h = h
+
+    info_short : (signed : Sign) → IsGood w (Some signed) → length (octets (info_fields signed w.time w.seq)) < 2 ^ 64
+    info_short signed good =
+        let i = asked w (Some signed) in
+        let inside = info_inside ((7, octets i.name) ∷ early i w.lifetime) (unwrap_or (asked_parameters w) []) (octets (info_fields signed w.time w.seq)) ((46, interest_value w signed) ∷ []) in
+        omega (arith, good.short, inside)
 
 -- ---- what a writer does not refuse
 
@@ -292,13 +312,13 @@ times_of w (Some signed) time seq = (time, seq)
 pub interest_reads_back : (w : InterestWriter) → SoundInterest w → interest_refusal w ≡ None → IsInterest (interest_text w) (interest_asked w)
 interest_reads_back w is e =
     let good = is_good w e in
-    interest_written (asked w w.sign) w.lifetime (later_fields w w.sign) (ends_of w w.sign is (times_of w w.sign is.time is.seq) good) (fits_of w w.sign is good) good.short
+    interest_written (asked w w.sign) w.lifetime (later_fields w w.sign) (ends_of w w.sign is is.sign (times_of w w.sign is.time is.seq) good) (fits_of w w.sign is good) good.short
 
-covered_by : (w : InterestWriter) (sign : Option Sign) → SoundInterest w → OnSome sign (IsU64 w.time × IsU64 w.seq) → IsGood w sign
-    → OnSome sign (CoversInterest (with_digest (components w.name) (later_fields w sign)) (text_of (asked w sign) w.lifetime (later_fields w sign)) (octets (components w.name)) (octets (covered_fields w)))
-covered_by w None is times good = tt
-covered_by w (Some signed) is times good =
-    interest_covered (asked w (Some signed)) w.lifetime (components w.name) _ _ _ _ refl (ends_of w (Some signed) is times good) (fits_of w (Some signed) is good) good.short
+covered_by : (w : InterestWriter) (sign : Option Sign) → SoundInterest w → IfSome sign IsSoundSign → OnSome sign (IsU64 w.time × IsU64 w.seq) → IsGood w sign
+    → IfSome sign (λ signed. CoversInterest (with_digest (components w.name) (later_fields w sign)) (text_of (asked w sign) w.lifetime (later_fields w sign)) (octets (components w.name)) (octets (covered_fields w signed)))
+covered_by w None is key times good = tt
+covered_by w (Some signed) is key times good =
+    interest_covered (asked w (Some signed)) w.lifetime (components w.name) _ _ _ _ refl (ends_of w (Some signed) is key times good) (fits_of w (Some signed) is good) good.short
 
-pub interest_signed : (w : InterestWriter) → SoundInterest w → interest_refusal w ≡ None → OnSome w.sign (Covered (AnInterest (interest_text w) (interest_asked w)) (octets (components w.name)) (octets (covered_fields w)))
-interest_signed w is e = covered_by w w.sign is (times_of w w.sign is.time is.seq) (is_good w e)
+pub interest_signed : (w : InterestWriter) → SoundInterest w → interest_refusal w ≡ None → IfSome w.sign (λ signed. Covered (AnInterest (interest_text w) (interest_asked w)) (octets (components w.name)) (octets (covered_fields w signed)))
+interest_signed w is e = covered_by w w.sign is is.sign (times_of w w.sign is.time is.seq) (is_good w e)

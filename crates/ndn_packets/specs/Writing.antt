@@ -1,6 +1,6 @@
 -- What writers write (NDN Packet Format 0.3, "Interest Packet", "Data Packet", "Signature", "Signed Interest"; NDNLPv2, "Network
 -- Nack"): the fields that are asked for, each in its shortest form.
-use Rattle.std.specs.Prelude.{◌≡◌, ℕ, ◌<◌, List, [], ◌∷◌, ◌++◌, ◌-◌, ◌^◌, min, length, replicate, Option, None, Some, IfSome, OnSome, slice_index, Bool, nat_lt, flat_map, unwrap_or, ◌||◌, not, if◌then◌else◌}
+use Rattle.std.specs.Prelude.{◌≡◌, ℕ, ◌<◌, List, [], ◌∷◌, ◌++◌, ◌-◌, ◌^◌, min, length, replicate, Option, None, Some, IfSome, OnSome, slice_index, Bool, nat_lt, flat_map, unwrap_or, ⊤, ◌||◌, not, if◌then◌else◌}
 use Rattle.std.specs.Option.{option_map}
 use Rattle.sha2.specs.Sha256.{sha256}
 use Rattle.ndn_tlv.specs.Number.{shortest_nni}
@@ -8,10 +8,12 @@ use Rattle.ndn_tlv.specs.Element.{Field, element}
 use Rattle.ndn_names.specs.View.{components}
 use Rattle.ndn_packets.specs.declared.fault.WriteFault.{WriteFault}
 use Rattle.ndn_packets.specs.declared.fault.WriteFault.TheVariants.{BadName, TooLong}
+use Rattle.hmac_keys.specs.Mac.{Mac}
 use Rattle.ndn_packets.specs.declared.signature.Sign.{Sign}
+use Rattle.ndn_packets.specs.declared.signature.Sign.TheVariants as sign
 use Rattle.ndn_packets.specs.declared.interest_writer.InterestWriter.{InterestWriter}
 use Rattle.ndn_packets.specs.declared.data_writer.DataWriter.{DataWriter}
-use Rattle.ndn_packets.specs.Packet.{digests_in, Missing, PlainSignatureInfo, PlainInterest, PlainData}
+use Rattle.ndn_packets.specs.Packet.{digests_in, PlainLocator, Missing, KeyName, PlainSignatureInfo, PlainInterest, PlainData}
 use Rattle.ndn_packets.specs.Fields.{optional, flag}
 use Rattle.ndn_packets.specs.Reading.{is_nil}
 
@@ -23,12 +25,31 @@ number kind n = optional kind (option_map shortest_nni n)
 
 -- ---- signatures
 
--- the fields of the SignatureInfo of a signature of type 0, DigestSha256
-abbrev pub info_fields : Option ℕ → Option ℕ → List Field
-info_fields time seq = (27, 0 ∷ []) ∷ (number 40 time ++ number 42 seq)
+-- the SignatureType: DigestSha256 or HmacWithSha256
+abbrev pub kind_of : Sign → ℕ
+kind_of sign.Digest = 0
+kind_of (sign.Hmac name key) = 4
 
-abbrev pub digest_info : Option ℕ → Option ℕ → PlainSignatureInfo
-digest_info time seq = record { kind = 0; locator = Missing; time = time; seq = seq }
+-- the KeyLocator: none, or the key's name
+abbrev pub locator_of : Sign → PlainLocator
+locator_of sign.Digest = Missing
+locator_of (sign.Hmac name key) = KeyName (components name)
+
+abbrev pub locator_value : Sign → Option (List ℕ)
+locator_value sign.Digest = None
+locator_value (sign.Hmac name key) = Some (element (7, octets (components name)))
+
+-- the fields of a SignatureInfo
+abbrev pub info_fields : Sign → Option ℕ → Option ℕ → List Field
+info_fields signed time seq = (27, kind_of signed ∷ []) ∷ (optional 28 (locator_value signed) ++ (number 40 time ++ number 42 seq))
+
+abbrev pub info_asked : Sign → Option ℕ → Option ℕ → PlainSignatureInfo
+info_asked signed time seq = record { kind = kind_of signed; locator = locator_of signed; time = time; seq = seq }
+
+-- the value of a signature that covers these octets
+abbrev pub value_of : Sign → List ℕ → List ℕ
+value_of sign.Digest covered = sha256 covered
+value_of (sign.Hmac name key) covered = Mac key.now covered
 
 -- ---- Interests
 
@@ -38,16 +59,16 @@ parameters_of None parameters = parameters
 parameters_of (Some signed) parameters = Some (unwrap_or parameters [])
 
 -- what the signature of an Interest covers behind its name's components
-abbrev pub covered_fields : InterestWriter → List Field
-covered_fields w = (36, unwrap_or (option_map (λ p. p.now) w.parameters) []) ∷ (44, octets (info_fields w.time w.seq)) ∷ []
+abbrev pub covered_fields : InterestWriter → Sign → List Field
+covered_fields w signed = (36, unwrap_or (option_map (λ p. p.now) w.parameters) []) ∷ (44, octets (info_fields signed w.time w.seq)) ∷ []
 
-abbrev pub interest_digest : InterestWriter → List ℕ
-interest_digest w = sha256 (octets (components w.name) ++ octets (covered_fields w))
+abbrev pub interest_value : InterestWriter → Sign → List ℕ
+interest_value w signed = value_of signed (octets (components w.name) ++ octets (covered_fields w signed))
 
 -- the fields from the ApplicationParameters on
 abbrev pub later_fields : InterestWriter → Option Sign → List Field
 later_fields w None = optional 36 (option_map (λ p. p.now) w.parameters)
-later_fields w (Some signed) = covered_fields w ++ (46, interest_digest w) ∷ []
+later_fields w (Some signed) = covered_fields w signed ++ (46, interest_value w signed) ∷ []
 
 -- the fields before them
 abbrev pub early_fields : InterestWriter → List Field
@@ -75,7 +96,7 @@ interest_asked w = record {
   lifetime = unwrap_or w.lifetime 4000;
   hop_limit = w.hop_limit;
   parameters = parameters_of w.sign (option_map (λ p. p.now) w.parameters);
-  signature = option_map (λ signed. record { info = digest_info w.time w.seq; value = interest_digest w }) w.sign;
+  signature = option_map (λ signed. record { info = info_asked signed w.time w.seq; value = interest_value w signed }) w.sign;
 }
 
 abbrev pub is_bad_name : List Field → Bool
@@ -100,14 +121,14 @@ abbrev pub meta_fields : Option ℕ → Option ℕ → List Field
 meta_fields freshness last = number 25 freshness ++ optional 26 (option_map (λ n. element (50, shortest_nni n)) last)
 
 -- what the signature of a Data covers
-abbrev pub data_fields : List Field → Option (List ℕ) → Option (List ℕ) → List Field
-data_fields name meta content = (7, octets name) ∷ (optional 20 meta ++ (optional 21 content ++ (22, octets (info_fields None None)) ∷ []))
+abbrev pub data_fields : Sign → List Field → Option (List ℕ) → Option (List ℕ) → List Field
+data_fields signed name meta content = (7, octets name) ∷ (optional 20 meta ++ (optional 21 content ++ (22, octets (info_fields signed None None)) ∷ []))
 
-abbrev pub data_digest : List Field → Option (List ℕ) → Option (List ℕ) → List ℕ
-data_digest name meta content = sha256 (octets (data_fields name meta content))
+abbrev pub data_value : Sign → List Field → Option (List ℕ) → Option (List ℕ) → List ℕ
+data_value signed name meta content = value_of signed (octets (data_fields signed name meta content))
 
-abbrev pub signed_data : List Field → Option (List ℕ) → Option (List ℕ) → List ℕ
-signed_data name meta content = element (6, octets (data_fields name meta content ++ (23, data_digest name meta content) ∷ []))
+abbrev pub signed_data : Sign → List Field → Option (List ℕ) → Option (List ℕ) → List ℕ
+signed_data signed name meta content = element (6, octets (data_fields signed name meta content ++ (23, data_value signed name meta content) ∷ []))
 
 abbrev pub meta_asked : DataWriter → Option (List ℕ)
 meta_asked w = meta_of (meta_fields w.freshness w.last)
@@ -116,26 +137,26 @@ abbrev pub content_asked : DataWriter → Option (List ℕ)
 content_asked w = option_map (λ c. c.now) w.content
 
 abbrev pub data_text : DataWriter → List ℕ
-data_text w = signed_data (components w.name) (meta_asked w) (content_asked w)
+data_text w = signed_data w.sign (components w.name) (meta_asked w) (content_asked w)
 
 -- a Data of this name, FreshnessPeriod, MetaInfo and Content
-abbrev pub plain_data_of : List Field → ℕ → Option (List ℕ) → Option (List ℕ) → PlainData
-plain_data_of name freshness meta content =
-    record { name = name; freshness = freshness; content = content; signature = record { info = digest_info None None; value = data_digest name meta content } }
+abbrev pub plain_data_of : Sign → List Field → ℕ → Option (List ℕ) → Option (List ℕ) → PlainData
+plain_data_of signed name freshness meta content =
+    record { name = name; freshness = freshness; content = content; signature = record { info = info_asked signed None None; value = data_value signed name meta content } }
 
 abbrev pub data_asked : DataWriter → PlainData
-data_asked w = plain_data_of (components w.name) (unwrap_or w.freshness 0) (meta_asked w) (content_asked w)
+data_asked w = plain_data_of w.sign (components w.name) (unwrap_or w.freshness 0) (meta_asked w) (content_asked w)
 
 -- why a Data is not written, but for memory
 abbrev pub data_refusal : DataWriter → Option WriteFault
 data_refusal w = if nat_lt 8800 (length (data_text w)) then Some TooLong else None
 
--- a reply: a Data without MetaInfo
+-- a reply: a Data without MetaInfo, signed with DigestSha256
 abbrev pub reply_text : List Field → List ℕ → List ℕ
-reply_text name content = signed_data name None (Some content)
+reply_text name content = signed_data sign.Digest name None (Some content)
 
 abbrev pub reply_asked : List Field → List ℕ → PlainData
-reply_asked name content = plain_data_of name 0 None (Some content)
+reply_asked name content = plain_data_of sign.Digest name 0 None (Some content)
 
 -- ---- Nacks
 
@@ -157,11 +178,17 @@ AreOctets octets = (i : ℕ) → slice_index octets i < 256
 abbrev pub IsU64 : Option ℕ → Type 0
 IsU64 n = IfSome n (λ k. k < 2 ^ 64)
 
+-- the name of a key is octets
+abbrev pub IsSoundSign : Sign → Type 0
+IsSoundSign sign.Digest = ⊤
+IsSoundSign (sign.Hmac name key) = AreOctets (octets (components name))
+
 pub record SoundData (w : DataWriter) : Type 0 where
   pub name : AreOctets (octets (components w.name))
   pub freshness : IsU64 w.freshness
   pub last : IsU64 w.last
   pub content : IfSome w.content (λ c. AreOctets c.now)
+  pub sign : IsSoundSign w.sign
 
 pub record SoundInterest (w : InterestWriter) : Type 0 where
   pub name : AreOctets (octets (components w.name))
@@ -172,6 +199,7 @@ pub record SoundInterest (w : InterestWriter) : Type 0 where
   pub parameters : IfSome w.parameters (λ p. AreOctets p.now)
   pub time : OnSome w.sign (IsU64 w.time)
   pub seq : OnSome w.sign (IsU64 w.seq)
+  pub sign : IfSome w.sign IsSoundSign
 
 -- ---- a name before its digest is known
 

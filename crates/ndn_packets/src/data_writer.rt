@@ -7,6 +7,7 @@ ghost use Rattle.ndn_packets.specs.Packet.{AData};
 ghost use Rattle.ndn_packets.specs.Grammar.{IsData};
 ghost use Rattle.ndn_packets.specs.Covered.{Covered};
 ghost use Rattle.ndn_packets.specs.Fields.{optional};
+ghost use Rattle.ndn_packets.specs.declared.signature.Sign.TheVariants as sign;
 ghost use Rattle.ndn_packets.specs.Writing.{octets, data_fields, reply_text, reply_asked, IsU64};
 
 use crate::data::{CONTENT, META_INFO, SIGNATURE_INFO, SIGNATURE_VALUE};
@@ -16,12 +17,11 @@ use crate::frame::{DATA, MAX_PACKET};
 use crate::meta_info::{FINAL_BLOCK_ID, FRESHNESS_PERIOD};
 use crate::signature::Sign;
 use crate::writing::{
-    DIGEST_LEN, element_len, info_len, nni_element_len, number_field_len, octets_len, optional_len,
-    put_header, put_info, put_nni_element, put_number_field, put_optional,
+    DIGEST_LEN, element_len, info_len, name_element_len, nni_element_len, number_field_len,
+    optional_len, put_header, put_info, put_nni_element, put_number_field, put_optional,
 };
 use ndn_names::Name;
 use ndn_tlv::{Memory, put_element};
-use sha2::{Digest, Sha256};
 
 /// The type of a component that is a segment number (NDN Naming Conventions, "Segmentation").
 const SEGMENT: u32 = 50;
@@ -37,7 +37,8 @@ pub struct DataWriter<'a> {
     pub last: Option<u64>,
     /// The value of the Content.
     pub content: Option<&'a [u8]>,
-    pub sign: Sign,
+    /// The signature.
+    pub sign: Sign<'a>,
 }
 
 impl DataWriter<'_> {
@@ -48,7 +49,7 @@ impl DataWriter<'_> {
     ghost use Rattle.ndn_packets.specs.Packet.{AData};
     ghost use Rattle.ndn_packets.specs.Covered.{Covered};
     ghost use Rattle.ndn_packets.specs.Fields.{optional};
-    ghost use Rattle.ndn_packets.specs.Writing.{octets, data_fields, data_digest, meta_fields, meta_asked, content_asked, data_text, data_asked, data_refusal, IsLength, IsU64, SoundData};
+    ghost use Rattle.ndn_packets.specs.Writing.{octets, data_fields, data_value, meta_fields, meta_asked, content_asked, data_text, data_asked, data_refusal, IsLength, IsU64, SoundData};
 
     /// Appends the Data, its fields in the standard's order and in their shortest forms, and none that
     /// is not asked for: without a FreshnessPeriod and a last segment there is no MetaInfo.
@@ -68,7 +69,7 @@ impl DataWriter<'_> {
         // What is written is in the grammar, and is what was asked for.
         ensures reads_back { data_refusal self.now ≡ None → IsData (data_text self.now) (data_asked self.now) }
         // The signature is of the octets that it covers.
-        ensures signed { data_refusal self.now ≡ None → Covered (AData (data_text self.now) (data_asked self.now)) (octets (data_fields (components self.now.name) (meta_asked self.now) (content_asked self.now))) [] }
+        ensures signed { data_refusal self.now ≡ None → Covered (AData (data_text self.now) (data_asked self.now)) (octets (data_fields self.now.sign (components self.now.name) (meta_asked self.now) (content_asked self.now))) [] }
     {
         if self.packet_len() > MAX_PACKET {
             return Err(WriteFault::TooLong);
@@ -103,19 +104,19 @@ impl DataWriter<'_> {
 
     /// The length of what the signature covers. It stops at `usize::MAX`.
     fn covered_len(&self) -> usize
-        ensures len { IsLength result (octets (data_fields (components self.now.name) (meta_asked self.now) (content_asked self.now))) }
+        ensures len { IsLength result (octets (data_fields self.now.sign (components self.now.name) (meta_asked self.now) (content_asked self.now))) }
         // The proofs that what is written is a packet need this.
         ensures sound { SoundData self.now }
     {
-        element_len(NAME, octets_len(self.name.as_octets()))
+        name_element_len(self.name)
             .saturating_add(self.meta_field_len())
             .saturating_add(optional_len(CONTENT, self.content))
-            .saturating_add(element_len(SIGNATURE_INFO, info_len(None, None)))
+            .saturating_add(element_len(SIGNATURE_INFO, info_len(self.sign, None, None)))
     }
 
     /// The length of the packet's value. It stops at `usize::MAX`.
     fn value_len(&self) -> usize
-        ensures len { IsLength result (octets (data_fields (components self.now.name) (meta_asked self.now) (content_asked self.now) ++ (23, data_digest (components self.now.name) (meta_asked self.now) (content_asked self.now)) ∷ [])) }
+        ensures len { IsLength result (octets (data_fields self.now.sign (components self.now.name) (meta_asked self.now) (content_asked self.now) ++ (23, data_value self.now.sign (components self.now.name) (meta_asked self.now) (content_asked self.now)) ∷ [])) }
         // The proofs that what is written is a packet need this.
         ensures sound { SoundData self.now }
     {
@@ -153,15 +154,15 @@ impl DataWriter<'_> {
     #[tactic(auto, using(crate::proofs::DataWriting::covered_put))]
     /// Appends what the signature covers, or some octets of it.
     fn put_covered(&self, out: &mut Vec<u8>) -> Result<(), Memory>
-        ensures ok { OnOk result (out.new.items ≡ out.old.items ++ octets (data_fields (components self.now.name) (meta_asked self.now) (content_asked self.now))) }
+        ensures ok { OnOk result (out.new.items ≡ out.old.items ++ octets (data_fields self.now.sign (components self.now.name) (meta_asked self.now) (content_asked self.now))) }
         ensures begins { take (vec_len out.old) out.new.items ≡ out.old.items }
-        ensures room { vec_len out.old + length (octets (data_fields (components self.now.name) (meta_asked self.now) (content_asked self.now))) ≤ vec_capacity out.old → IsOk result }
+        ensures room { vec_len out.old + length (octets (data_fields self.now.sign (components self.now.name) (meta_asked self.now) (content_asked self.now))) ≤ vec_capacity out.old → IsOk result }
         ensures capacity { vec_capacity out.old ≤ vec_capacity out.new }
     {
         put_element(out, NAME, self.name.as_octets())?;
         self.put_meta(out)?;
         put_optional(out, CONTENT, self.content)?;
-        put_info(out, SIGNATURE_INFO, None, None)?;
+        put_info(out, SIGNATURE_INFO, self.sign, None, None)?;
         Ok(())
     }
 
@@ -179,8 +180,8 @@ impl DataWriter<'_> {
         put_header(out, DATA, self.value_len())?;
         let start = out.len();
         self.put_covered(out)?;
-        let digest = Sha256::digest(&out[start..]);
-        put_element(out, SIGNATURE_VALUE, &digest)?;
+        let value = self.sign.value(&out[start..], &[]);
+        put_element(out, SIGNATURE_VALUE, &value)?;
         Ok(())
     }
 
@@ -243,14 +244,20 @@ pub fn put_reply(out: &mut Vec<u8>, name: Name<'_>, content: &[u8]) -> Result<()
     // The signature is of the octets that it covers.
     ensures signed { length (reply_text (components name.entry) content.now) ≤ 8800
         → Covered (AData (reply_text (components name.entry) content.now) (reply_asked (components name.entry) content.now))
-        (octets (data_fields (components name.entry) None (Some content.now))) [] }
+        (octets (data_fields sign.Digest (components name.entry) None (Some content.now))) [] }
 {
-    let reply = DataWriter {
+    reply(name, content).put(out)
+}
+
+/// A Data of a name and a Content, without MetaInfo, signed with DigestSha256.
+fn reply<'a>(name: Name<'a>, content: &'a [u8]) -> DataWriter<'a>
+    ensures { result ≡ record { name = name.entry; freshness = None; last = None; content = Some content.entry; sign = sign.Digest } }
+{
+    DataWriter {
         name,
         freshness: None,
         last: None,
         content: Some(content),
         sign: Sign::Digest,
-    };
-    reply.put(out)
+    }
 }

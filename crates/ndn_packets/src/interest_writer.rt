@@ -38,7 +38,7 @@ pub struct InterestWriter<'a> {
     /// The value of the ApplicationParameters. A signed Interest without any gets empty ones.
     pub parameters: Option<&'a [u8]>,
     /// The signature, where there is one.
-    pub sign: Option<Sign>,
+    pub sign: Option<Sign<'a>>,
     /// The SignatureTime of a signature, in milliseconds since 1970.
     pub time: Option<u64>,
     /// The SignatureSeqNum of a signature.
@@ -52,11 +52,11 @@ impl InterestWriter<'_> {
     ghost use Rattle.ndn_packets.specs.Grammar.{IsInterest};
     ghost use Rattle.ndn_packets.specs.Packet.{AnInterest};
     ghost use Rattle.ndn_packets.specs.Covered.{Covered};
-    ghost use Rattle.ndn_packets.specs.Writing.{octets, early_fields, later_fields, covered_fields, interest_digest, interest_name, zeroed_name, interest_text, interest_asked, interest_refusal, IsLength, AreOctets, IsU64, SoundInterest};
+    ghost use Rattle.ndn_packets.specs.Writing.{octets, early_fields, later_fields, covered_fields, interest_value, interest_name, zeroed_name, interest_text, interest_asked, interest_refusal, IsLength, AreOctets, IsU64, IsSoundSign, SoundInterest};
     ghost use Rattle.ndn_packets.specs.Reading.{is_nil};
     ghost use Rattle.ndn_tlv.specs.Element.{element};
 
-    #[tactic(auto, using(crate::proofs::WrittenInterests::interest_reads_back, crate::proofs::WrittenInterests::interest_signed))]
+    #[tactic(auto, using(crate::proofs::WrittenInterests::interest_reads_back))]
     /// Appends the Interest, its fields in the standard's order and in their shortest forms, and none
     /// that is not asked for.
     ///
@@ -74,7 +74,7 @@ impl InterestWriter<'_> {
         // What is written is in the grammar, and is what was asked for.
         ensures reads_back { interest_refusal self.now ≡ None → IsInterest (interest_text self.now) (interest_asked self.now) }
         // A signature is of the octets that it covers.
-        ensures signed { interest_refusal self.now ≡ None → OnSome self.now.sign (Covered (AnInterest (interest_text self.now) (interest_asked self.now)) (octets (components self.now.name)) (octets (covered_fields self.now))) }
+        ensures signed { interest_refusal self.now ≡ None → IfSome self.now.sign (λ signed. Covered (AnInterest (interest_text self.now) (interest_asked self.now)) (octets (components self.now.name)) (octets (covered_fields self.now signed))) }
     {
         if let Some(fault) = self.refusal() {
             return Err(fault);
@@ -150,13 +150,15 @@ impl InterestWriter<'_> {
         ensures parameters { IfSome self.now.parameters (λ p. AreOctets p.now) }
         ensures time { OnSome self.now.sign (IsU64 self.now.time) }
         ensures seq { OnSome self.now.sign (IsU64 self.now.seq) }
+        ensures sign { IfSome self.now.sign IsSoundSign }
     {
         match self.sign {
             None => optional_len(APPLICATION_PARAMETERS, self.parameters),
-            Some(Sign::Digest) => element_len(
-                APPLICATION_PARAMETERS,
-                octets_len(self.parameter_octets()),
-            ).saturating_add(element_len(INTEREST_SIGNATURE_INFO, info_len(self.time, self.seq)))
+            Some(sign) => element_len(APPLICATION_PARAMETERS, octets_len(self.parameter_octets()))
+                .saturating_add(element_len(
+                    INTEREST_SIGNATURE_INFO,
+                    info_len(sign, self.time, self.seq),
+                ))
                 .saturating_add(element_len(INTEREST_SIGNATURE_VALUE, DIGEST_LEN)),
         }
     }
@@ -200,35 +202,32 @@ impl InterestWriter<'_> {
     {
         match self.sign {
             None => put_optional(out, APPLICATION_PARAMETERS, self.parameters),
-            Some(Sign::Digest) => {
+            Some(sign) => {
                 let start = out.len();
-                self.put_covered(out)?;
-                let value = self.signature_value(&out[start..]);
+                self.put_covered(out, sign)?;
+                let value = self.signature_value(sign, &out[start..]);
                 put_element(out, INTEREST_SIGNATURE_VALUE, &value)
             }
         }
     }
 
     /// Appends what the signature covers behind the name's components, or some octets of it.
-    fn put_covered(&self, out: &mut Vec<u8>) -> Result<(), Memory>
-        ensures ok { OnOk result (out.new.items ≡ out.old.items ++ octets (covered_fields self.now)) }
+    fn put_covered(&self, out: &mut Vec<u8>, sign: Sign<'_>) -> Result<(), Memory>
+        ensures ok { OnOk result (out.new.items ≡ out.old.items ++ octets (covered_fields self.now sign.entry)) }
         ensures begins { take (vec_len out.old) out.new.items ≡ out.old.items }
-        ensures room { vec_len out.old + length (octets (covered_fields self.now)) ≤ vec_capacity out.old → IsOk result }
+        ensures room { vec_len out.old + length (octets (covered_fields self.now sign.entry)) ≤ vec_capacity out.old → IsOk result }
         ensures capacity { vec_capacity out.old ≤ vec_capacity out.new }
     {
         put_element(out, APPLICATION_PARAMETERS, self.parameter_octets())?;
-        put_info(out, INTEREST_SIGNATURE_INFO, self.time, self.seq)
+        put_info(out, INTEREST_SIGNATURE_INFO, sign, self.time, self.seq)
     }
 
     /// The value of the signature, which covers the name's components and these octets.
-    fn signature_value(&self, covered: &[u8]) -> [u8; DIGEST_LEN]
-        requires { covered.now ≡ octets (covered_fields self.now) }
-        ensures { result ≡ interest_digest self.now }
+    fn signature_value(&self, sign: Sign<'_>, covered: &[u8]) -> [u8; DIGEST_LEN]
+        requires { covered.now ≡ octets (covered_fields self.now sign) }
+        ensures { result ≡ interest_value self.now sign.entry }
     {
-        let mut hasher = Sha256::new();
-        hasher.update(self.name.as_octets());
-        hasher.update(covered);
-        hasher.finalize()
+        sign.value(self.name.as_octets(), covered)
     }
 
     /// Appends the name's element, or some octets of it. Where a digest of parameters stands in it, that

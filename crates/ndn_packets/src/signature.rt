@@ -8,8 +8,10 @@ ghost use Rattle.ndn_packets.specs.Found.{plain_info, info_so_far};
 use crate::fault::PacketFault;
 use crate::field_reader::{FieldReader, NAME, number};
 use crate::schema::Rules;
+use hmac_keys::hmac_sha256;
 use ndn_names::Name;
 use ndn_tlv::first_element;
+use sha2::{Digest, Sha256};
 
 /// What a SignatureInfo says of the key (NDN Packet Format 0.3, "KeyLocator").
 #[derive(Clone, Copy, Debug)]
@@ -41,9 +43,37 @@ pub struct Signature<'a> {
 
 /// How a packet is signed that is written.
 #[derive(Clone, Copy, Debug)]
-pub enum Sign {
+pub enum Sign<'a> {
     /// DigestSha256: the value is SHA-256 of the covered octets (NDN Packet Format 0.3, "DigestSha256").
     Digest,
+    /// HmacWithSha256: the value is the covered octets' HMAC with SHA-256 under a key of any length, whose
+    /// name is the KeyLocator (NDN Packet Format 0.3, "SignatureHmacWithSha256").
+    Hmac {
+        /// The key's name.
+        name: Name<'a>,
+        /// The key's octets.
+        key: &'a [u8],
+    },
+}
+
+impl Sign<'_> {
+    ghost use Rattle.std.specs.Prelude.{◌≡◌, ◌++◌};
+    ghost use Rattle.ndn_packets.specs.Writing.{value_of};
+
+    /// The value of a signature that covers two slices, one after the other.
+    pub(crate) fn value(self, first: &[u8], second: &[u8]) -> [u8; 32]
+        ensures { result ≡ value_of self.entry (first.now ++ second.now) }
+    {
+        match self {
+            Sign::Digest => {
+                let mut hasher = Sha256::new();
+                hasher.update(first);
+                hasher.update(second);
+                hasher.finalize()
+            }
+            Sign::Hmac { key, .. } => hmac_sha256(key, first, second),
+        }
+    }
 }
 
 /// A SignatureInfo.
@@ -89,7 +119,7 @@ const KEY_DIGEST: u32 = 29;
 /// The types of the fields of a SignatureInfo.
 pub const SIGNATURE_TYPE: u32 = 27;
 
-const KEY_LOCATOR: u32 = 28;
+pub const KEY_LOCATOR: u32 = 28;
 
 const SIGNATURE_NONCE: u32 = 38;
 

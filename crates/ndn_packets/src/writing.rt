@@ -4,10 +4,13 @@ ghost use Rattle.std.specs.Prelude.{◌≡◌, ◌<◌, ◌≤◌, ◌+◌, ◌^
 ghost use Rattle.std.specs.Vec.{vec_capacity};
 ghost use Rattle.ndn_tlv.specs.Number.{spelling, shortest_nni};
 ghost use Rattle.ndn_tlv.specs.Element.{element};
+ghost use Rattle.ndn_names.specs.View.{components};
 ghost use Rattle.ndn_packets.specs.Fields.{optional};
-ghost use Rattle.ndn_packets.specs.Writing.{octets, number, info_fields, IsLength, AreOctets, IsU64};
+ghost use Rattle.ndn_packets.specs.Writing.{octets, number, kind_of, locator_value, info_fields, IsLength, AreOctets, IsU64, IsSoundSign};
 
-use crate::signature::{SIGNATURE_SEQ_NUM, SIGNATURE_TIME, SIGNATURE_TYPE};
+use crate::field_reader::NAME;
+use crate::signature::{KEY_LOCATOR, SIGNATURE_SEQ_NUM, SIGNATURE_TIME, SIGNATURE_TYPE, Sign};
+use ndn_names::Name;
 use ndn_tlv::{Memory, nni_len, number_len, put_element, put_nni, put_number};
 
 /// The length of a SHA-256 digest, in octets.
@@ -15,6 +18,9 @@ pub const DIGEST_LEN: usize = 32;
 
 /// The SignatureType of DigestSha256.
 const DIGEST_SHA256: u64 = 0;
+
+/// The SignatureType of HmacWithSha256.
+const HMAC_WITH_SHA256: u64 = 4;
 
 /// The length of octets.
 pub fn octets_len(octets: &[u8]) -> usize
@@ -68,17 +74,47 @@ pub fn number_field_len(kind: u32, asked: Option<u64>) -> usize
     }
 }
 
+/// The length of an element that is a Name. It stops at `usize::MAX`.
+pub fn name_element_len(name: Name<'_>) -> usize
+    ensures len { IsLength result (element (7, octets (components name.entry))) }
+    ensures sound { AreOctets (octets (components name.entry)) }
+{
+    element_len(NAME, octets_len(name.as_octets()))
+}
+
+/// The SignatureType.
+fn kind_of(sign: Sign<'_>) -> u64
+    ensures { result ≡ kind_of sign.entry }
+{
+    match sign {
+        Sign::Digest => DIGEST_SHA256,
+        Sign::Hmac { .. } => HMAC_WITH_SHA256,
+    }
+}
+
+/// The length of the KeyLocator, 0 where there is none. It stops at `usize::MAX`.
+fn locator_len(sign: Sign<'_>) -> usize
+    ensures len { IsLength result (octets (optional 28 (locator_value sign.entry))) }
+    ensures sound { IsSoundSign sign.entry }
+{
+    match sign {
+        Sign::Digest => 0,
+        Sign::Hmac { name, .. } => element_len(KEY_LOCATOR, name_element_len(name)),
+    }
+}
+
 #[tactic(auto, using(crate::proofs::Lengths::info_is_long))]
-/// The length of the value of a SignatureInfo, or an InterestSignatureInfo, of DigestSha256.
-pub fn info_len(time: Option<u64>, seq: Option<u64>) -> usize
-    ensures exact { result ≡ length (octets (info_fields time seq)) }
-    ensures small { result ≤ 78 }
+/// The length of the value of a SignatureInfo, or an InterestSignatureInfo. It stops at `usize::MAX`.
+pub fn info_len(sign: Sign<'_>, time: Option<u64>, seq: Option<u64>) -> usize
+    ensures len { IsLength result (octets (info_fields sign.entry time seq)) }
     ensures time { IsU64 time }
     ensures seq { IsU64 seq }
+    ensures sign { IsSoundSign sign.entry }
 {
-    nni_element_len(SIGNATURE_TYPE, DIGEST_SHA256)
+    let numbers_len = nni_element_len(SIGNATURE_TYPE, kind_of(sign))
         + number_field_len(SIGNATURE_TIME, time)
-        + number_field_len(SIGNATURE_SEQ_NUM, seq)
+        + number_field_len(SIGNATURE_SEQ_NUM, seq);
+    locator_len(sign).saturating_add(numbers_len)
 }
 
 /// Appends the type of an element and the length of its value, or some octets of them.
@@ -132,21 +168,36 @@ pub fn put_optional(out: &mut Vec<u8>, kind: u32, value: Option<&[u8]>) -> Resul
     }
 }
 
-#[tactic(auto, using(crate::proofs::Lengths::info_put))]
-/// Appends a SignatureInfo, or an InterestSignatureInfo, of DigestSha256, or some octets of it.
+/// Appends the KeyLocator, where there is one, or some octets of it.
+fn put_locator(out: &mut Vec<u8>, sign: Sign<'_>) -> Result<(), Memory>
+    ensures ok { OnOk result (out.new.items ≡ out.old.items ++ octets (optional 28 (locator_value sign.entry))) }
+    ensures begins { take (vec_len out.old) out.new.items ≡ out.old.items }
+    ensures room { vec_len out.old + length (octets (optional 28 (locator_value sign.entry))) ≤ vec_capacity out.old → IsOk result }
+    ensures capacity { vec_capacity out.old ≤ vec_capacity out.new }
+{
+    if let Sign::Hmac { name, .. } = sign {
+        put_header(out, KEY_LOCATOR, name_element_len(name))?;
+        put_element(out, NAME, name.as_octets())?;
+    }
+    Ok(())
+}
+
+/// Appends a SignatureInfo, or an InterestSignatureInfo, or some octets of it.
 pub fn put_info(
     out: &mut Vec<u8>,
     kind: u32,
+    sign: Sign<'_>,
     time: Option<u64>,
     seq: Option<u64>,
 ) -> Result<(), Memory>
-    ensures ok { OnOk result (out.new.items ≡ out.old.items ++ element (kind, octets (info_fields time seq))) }
+    ensures ok { OnOk result (out.new.items ≡ out.old.items ++ element (kind, octets (info_fields sign.entry time seq))) }
     ensures begins { take (vec_len out.old) out.new.items ≡ out.old.items }
-    ensures room { vec_len out.old + length (element (kind, octets (info_fields time seq))) ≤ vec_capacity out.old → IsOk result }
+    ensures room { vec_len out.old + length (element (kind, octets (info_fields sign.entry time seq))) ≤ vec_capacity out.old → IsOk result }
     ensures capacity { vec_capacity out.old ≤ vec_capacity out.new }
 {
-    put_header(out, kind, info_len(time, seq))?;
-    put_nni_element(out, SIGNATURE_TYPE, DIGEST_SHA256)?;
+    put_header(out, kind, info_len(sign, time, seq))?;
+    put_nni_element(out, SIGNATURE_TYPE, kind_of(sign))?;
+    put_locator(out, sign)?;
     put_number_field(out, SIGNATURE_TIME, time)?;
     put_number_field(out, SIGNATURE_SEQ_NUM, seq)?;
     Ok(())

@@ -232,3 +232,95 @@ fn room_is_used(rt: HostRuntime) -> Result<(), Fail> {
     assert!(rt; out.starts_with(&INTEREST) && out.ends_with(&NACK));
     Ok(())
 }
+
+/// The signature by the key "key" of this name.
+fn by_key(name: &[u8]) -> Result<Sign<'_>, Fail> {
+    let name = Name::read(name)?;
+    Ok(Sign::Hmac { name, key: b"key" })
+}
+
+#[test]
+fn a_command_signed_by_a_key(rt: HostRuntime) -> Result<(), Fail> {
+    let sign = by_key(&COMMAND[101..114])?;
+    let command = InterestWriter {
+        sign: Some(sign),
+        time: Some(1_000_000),
+        ..plain_interest(Name::read(&COMMAND[4..50])?)
+    };
+    let mut out = Vec::new(rt.alloc());
+    command.write(&mut out)?;
+    assert_eq!(rt; out.as_slice(), COMMAND.as_slice());
+    let Frame::Interest(interest) = read_frame(&out)? else {
+        assert!(rt; false, "it is no Interest");
+        return Ok(());
+    };
+    let signature = interest.signature.ok_or("no signature")?;
+    assert_eq!(rt; signature.kind, 4);
+    assert_eq!(rt; signature.value, &COMMAND[122..]);
+    let Locator::Name(key_name) = signature.locator else {
+        assert!(rt; false, "it names no key");
+        return Ok(());
+    };
+    assert_eq!(rt; key_name.as_octets(), &COMMAND[101..114]);
+    Ok(())
+}
+
+/// The HMAC with the key "key" of the octets of the Data below from its Name to before the
+/// SignatureValue, computed apart from this library.
+const DATA_VALUE: [u8; 32] = [
+    157, 166, 129, 101, 209, 76, 116, 171, 240, 211, 244, 244, 13, 160, 146, 71, 119, 101, 116,
+    144, 40, 61, 11, 211, 148, 175, 31, 100, 133, 92, 139, 0,
+];
+
+#[test]
+fn data_signed_by_a_key(rt: HostRuntime) -> Result<(), Fail> {
+    let sign = by_key(&COMMAND[101..114])?;
+    let keyed = DataWriter {
+        sign,
+        ..plain_data(Name::read(&NAME[2..])?)
+    };
+    let mut out = Vec::new(rt.alloc());
+    keyed.write(&mut out)?;
+    let front = [
+        6, 64, 7, 3, 8, 1, 65, 21, 1, 120, 22, 20, 27, 1, 4, 28, 15, 7, 13, 8, 3, 111, 112, 115, 8,
+        3, 75, 69, 89, 8, 1, 49, 23, 32,
+    ];
+    assert!(rt; out.starts_with(&front), "{out:?}");
+    let Frame::Data(data) = read_frame(&out)? else {
+        assert!(rt; false, "it is no Data");
+        return Ok(());
+    };
+    assert_eq!(rt; data.signature.kind, 4);
+    assert_eq!(rt; data.signature.value, DATA_VALUE.as_slice());
+    let Locator::Name(key_name) = data.signature.locator else {
+        assert!(rt; false, "it names no key");
+        return Ok(());
+    };
+    assert_eq!(rt; key_name.as_octets(), &COMMAND[101..114]);
+    Ok(())
+}
+
+/// A key's name so long that a Data has 8,800 octets, and one more.
+#[test]
+fn lengths_of_key_names(rt: HostRuntime) -> Result<(), Fail> {
+    let name = Name::read(&NAME[2..])?;
+    for (len, result) in [(0x1f, Ok(())), (0x20, Err(WriteFault::TooLong))] {
+        let octets = filled(&rt, &[8, 0xfd, 0x22, len], 0x2200 + usize::from(len), &[])?;
+        let sign = by_key(&octets)?;
+        let keyed = DataWriter {
+            sign,
+            ..plain_data(name)
+        };
+        let mut out = Vec::new(rt.alloc());
+        assert_eq!(rt; keyed.write(&mut out), result, "{len}");
+        assert!(rt; out.is_empty() || out.len() == 8800 && read_frame(&out).is_ok());
+        let command = InterestWriter {
+            sign: Some(sign),
+            ..plain_interest(name)
+        };
+        let mut out = Vec::new(rt.alloc());
+        assert_eq!(rt; command.write(&mut out), Err(WriteFault::TooLong));
+        assert!(rt; out.is_empty());
+    }
+    Ok(())
+}

@@ -2,21 +2,13 @@ use Rattle.ndn_packets.proofs.Written.{data_reads_back, data_signed}
 use Rattle.ndn_packets.proofs.data_writer.DataWriter.write.Goals as goal
 
 pub returns-in_err-put-clause-reads_back : goal.returns-in_err-put-clause-reads_back
-returns-in_err-put-clause-reads_back c =
-    let sound = c.packet_len.ensures.sound in
-    data_reads_back c.args.self.now sound.name sound.freshness sound.content
+returns-in_err-put-clause-reads_back c = data_reads_back c.args.self.now c.packet_len.ensures.sound
 
 pub returns-in_err-put-clause-signed : goal.returns-in_err-put-clause-signed
-returns-in_err-put-clause-signed c =
-    let sound = c.packet_len.ensures.sound in
-    data_signed c.args.self.now sound.name sound.content
+returns-in_err-put-clause-signed c = data_signed c.args.self.now c.packet_len.ensures.sound
 
 pub returns-clause-reads_back : goal.returns-clause-reads_back
-returns-clause-reads_back c =
-    let sound = c.packet_len.ensures.sound in
-    data_reads_back c.args.self.now sound.name sound.freshness sound.content
+returns-clause-reads_back c = data_reads_back c.args.self.now c.packet_len.ensures.sound
 
 pub returns-clause-signed : goal.returns-clause-signed
-returns-clause-signed c =
-    let sound = c.packet_len.ensures.sound in
-    data_signed c.args.self.now sound.name sound.content
+returns-clause-signed c = data_signed c.args.self.now c.packet_len.ensures.sound

@@ -1,24 +1,24 @@
 use Rattle.std.proofs.Common.{ℕ, List, subst, [], ◌++◌, arith}
-use Rattle.sha2.proofs.Facts256.{length-sha256}
 use Rattle.ndn_names.specs.View.{components}
 use Rattle.std.specs.Prelude.{unwrap_or}
 use Rattle.std.specs.Option.{option_map}
-use Rattle.ndn_packets.specs.Writing.{octets, info_fields, covered_fields, interest_digest, IsLength, AreOctets}
-use Rattle.ndn_packets.proofs.Lengths.{exact_is_long}
+use Rattle.ndn_packets.specs.Writing.{octets, info_fields, covered_fields, interest_value, IsLength, AreOctets}
+use Rattle.ndn_packets.proofs.Lengths.{length-value_of}
 use Rattle.ndn_packets.proofs.InterestWriting.{later_is_long, parameters_are_sound}
 use Rattle.ndn_packets.proofs.interest_writer.InterestWriter.later_len.Goals as goal
 
-pub returns-in-Some-Digest-clause-len : goal.returns-in-Some-Digest-clause-len
-returns-in-Some-Digest-clause-len c =
+pub returns-in-Some-clause-len : goal.returns-in-Some-clause-len
+returns-in-Some-clause-len c =
     let writer = c.args.self.now in
     let parameters = unwrap_or (option_map (λ p. p.now) writer.parameters) [] in
-    let info = octets (info_fields writer.time writer.seq) in
-    rw (c.in-Some-Digest.is, c.saturating_add-in-Some-Digest.ensures, c.saturating_add.ensures)
-    (later_is_long parameters info (interest_digest writer) c.element_len.result c.element_len-in-Some-Digest.result c.element_len-in-Some-Digest-2.result
+    let info = octets (info_fields c.in-Some.sign writer.time writer.seq) in
+    let value = interest_value writer c.in-Some.sign in
+    rw (c.in-Some.is, c.saturating_add-in-Some.ensures, c.saturating_add.ensures)
+    (later_is_long parameters info value c.element_len.result c.element_len-in-Some.result c.element_len-in-Some-2.result
     (c.element_len.ensures parameters (subst (λ (x : List ℕ). IsLength c.octets_len.result x) c.parameter_octets.ensures c.octets_len.ensures.len))
-    (c.element_len-in-Some-Digest.ensures info (exact_is_long c.info_len.result info c.info_len.ensures.exact (omega arith)))
-    (c.element_len-in-Some-Digest-2.ensures (interest_digest writer) (omega (arith, length-sha256 (octets (components writer.name) ++ octets (covered_fields writer))))))
+    (c.element_len-in-Some.ensures info c.info_len.ensures.len)
+    (c.element_len-in-Some-2.ensures value (omega (arith, length-value_of c.in-Some.sign (octets (components writer.name) ++ octets (covered_fields writer c.in-Some.sign))))))
 
-pub returns-in-Some-Digest-clause-parameters : goal.returns-in-Some-Digest-clause-parameters
-returns-in-Some-Digest-clause-parameters c =
+pub returns-in-Some-clause-parameters : goal.returns-in-Some-clause-parameters
+returns-in-Some-clause-parameters c =
     parameters_are_sound c.args.self.now.parameters (subst (λ (x : List ℕ). AreOctets x) c.parameter_octets.ensures c.octets_len.ensures.sound)

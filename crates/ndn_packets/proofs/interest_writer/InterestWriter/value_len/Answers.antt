@@ -19,4 +19,5 @@ returns-clause-sound c = record {
   parameters = c.later_len.ensures.parameters;
   time = c.later_len.ensures.time;
   seq = c.later_len.ensures.seq;
+  sign = c.later_len.ensures.sign;
 }
