@@ -12,7 +12,7 @@ use Rattle.ndn_packets.specs.declared.fault.PacketFault.TheVariants.{BadField}
 use Rattle.ndn_packets.specs.Packet.{PlainSignatureInfo, PlainData}
 use Rattle.ndn_packets.specs.Fields.{Fields, optional, is_even_high, data_schema}
 use Rattle.ndn_packets.specs.Grammar.{IsFreshness, IsSignatureInfo}
-use Rattle.ndn_packets.specs.Reading.{packet_rule, fields_from, read_fields, leading_name_at, meta_at, info_at, DataSoFar, nothing_yet, take_data_field, found_or, data_at}
+use Rattle.ndn_packets.specs.Reading.{fields_from, read_fields, leading_name_at, meta_at, info_at, DataSoFar, nothing_yet, take_data_field, found_or, data_at}
 use Rattle.ndn_packets.proofs.Steps.{bind_ok, good, ok_is, found_some, some_is, none_is_not_some, read, IsBytes-fields, Leads, lead}
 use Rattle.ndn_packets.proofs.FieldLists.{FieldsRead, fields_found, fields_again, fields_in, fields_keep, Took, took_first, MayBeBytes, AreBytes, bytes_first}
 use Rattle.ndn_packets.proofs.MetaInfos.{meta_found, meta_again}
@@ -130,7 +130,7 @@ fields_bytes meta content info signature h =
     (first.0, second.1.0)
 
 joined : (value : List ℕ) (name : List Field) (later : List (Result Field TlvFault)) (t : DataSoFar) (info : PlainSignatureInfo) (signature : List ℕ) → IsBytes value → Leads (elements_of value) name later
-    → FieldsRead take_data_field packet_rule data_schema later nothing_yet t → t.info ≡ Some info → t.value ≡ Some signature → DataValue value (data_of name t.freshness t.content info signature)
+    → FieldsRead take_data_field is_even_high data_schema later nothing_yet t → t.info ≡ Some info → t.value ≡ Some signature → DataValue value (data_of name t.freshness t.content info signature)
 joined value name later t info signature fits l r info_is value_is =
     let f = data_fields r.plain r.fields t r.recognised r.taken in
     let i = info_there f.info f.said info f.info_is (sym (ap (λ (u : DataSoFar). u.info) f.made) ∙ info_is) in
@@ -152,28 +152,28 @@ joined value name later t info signature fits l r info_is value_is =
     } in
     subst (λ (u : DataSoFar). DataValue value (data_of name u.freshness u.content info signature)) (sym f.made) parts
 
-after_fields : (value : List ℕ) (first : List Field × List (Result Field TlvFault)) (t : DataSoFar) (d : PlainData) → IsBytes value → leading_name_at (elements_of value) ≡ Ok first → read_fields take_data_field nothing_yet (fields_from packet_rule data_schema first.1) ≡ Ok t
+after_fields : (value : List ℕ) (first : List Field × List (Result Field TlvFault)) (t : DataSoFar) (d : PlainData) → IsBytes value → leading_name_at (elements_of value) ≡ Ok first → read_fields take_data_field nothing_yet (fields_from is_even_high data_schema first.1) ≡ Ok t
     → (found_or BadField t.info >>= λ info. found_or BadField t.value >>= λ signature. good (data_of first.0 t.freshness t.content info signature)) ≡ Ok d → DataValue value d
 after_fields value first t d fits name_is fields_are e =
     let i = bind_ok (found_or BadField t.info) (λ info. found_or BadField t.value >>= λ signature. good (data_of first.0 t.freshness t.content info signature)) d e in
     let v = bind_ok (found_or BadField t.value) (λ signature. good (data_of first.0 t.freshness t.content i.0 signature)) d i.2 in
     subst (DataValue value) (ok_is (data_of first.0 t.freshness t.content i.0 v.0) d v.2)
-    (joined value first.0 first.1 t i.0 v.0 fits (lead (elements_of value) first name_is) (fields_found take_data_field packet_rule data_schema first.1 nothing_yet t fields_are)
+    (joined value first.0 first.1 t i.0 v.0 fits (lead (elements_of value) first name_is) (fields_found take_data_field is_even_high data_schema first.1 nothing_yet t fields_are)
     (found_some BadField t.info i.0 i.1) (found_some BadField t.value v.0 v.1))
 
 pub data_found : (value : List ℕ) (d : PlainData) → IsBytes value → data_at value ≡ Ok d → DataValue value d
 unfolding data_at
 data_found value d fits e =
     let a = bind_ok (leading_name_at (elements_of value))
-    (λ first. read_fields take_data_field nothing_yet (fields_from packet_rule data_schema first.1) >>= λ t. found_or BadField t.info >>= λ info. found_or BadField t.value >>= λ signature. good (data_of first.0 t.freshness t.content info signature)) d e in
-    let b = bind_ok (read_fields take_data_field nothing_yet (fields_from packet_rule data_schema a.0.1))
+    (λ first. read_fields take_data_field nothing_yet (fields_from is_even_high data_schema first.1) >>= λ t. found_or BadField t.info >>= λ info. found_or BadField t.value >>= λ signature. good (data_of first.0 t.freshness t.content info signature)) d e in
+    let b = bind_ok (read_fields take_data_field nothing_yet (fields_from is_even_high data_schema a.0.1))
     (λ t. found_or BadField t.info >>= λ info. found_or BadField t.value >>= λ signature. good (data_of a.0.0 t.freshness t.content info signature)) d a.2 in
     after_fields value a.0 b.0 d fits a.1 b.1 b.2
 
 -- ---- what is in the grammar is read
 
 data_computes : (value name_value : List ℕ) (elements : List Field) (meta content : Option (List ℕ)) (info_value : List ℕ) (name : List Field) (freshness : ℕ) (info : PlainSignatureInfo) (signature : List ℕ)
-    → elements_of value ≡ map read ((7, name_value) ∷ elements) → name_at name_value ≡ Ok name → fields_from packet_rule data_schema (map read elements) ≡ map good (fields_with meta content info_value signature)
+    → elements_of value ≡ map read ((7, name_value) ∷ elements) → name_at name_value ≡ Ok name → fields_from is_even_high data_schema (map read elements) ≡ map good (fields_with meta content info_value signature)
     → ReadsFreshness meta freshness → info_at info_value ≡ Ok info → data_at value ≡ good (data_of name freshness content info signature)
 unfolding data_at
 data_computes value name_value elements None None info_value name freshness info signature all name_is fields_are meta_is info_is = rw (all, name_is, fields_are, info_is, meta_is) refl
@@ -190,5 +190,5 @@ data_again value d fits h =
     let bytes = IsBytes-fields ((7, h.name_value) ∷ h.elements) (subst IsBytes h.inner.1 fits) in
     let kept = fields_keep (λ f. IsBytes f.1) is_even_high data_schema h.elements (fields_with h.meta_value d.content h.info_value d.signature.value) h.recognised bytes.1 in
     data_computes value h.name_value h.elements h.meta_value d.content h.info_value d.name d.freshness d.signature.info d.signature.value (elements_exact value ((7, h.name_value) ∷ h.elements) h.inner)
-    (name_again h.name_value d.name h.name_is) (fields_again packet_rule data_schema h.elements _ h.recognised) (reads_freshness h.meta_value d.freshness h.freshness_is)
+    (name_again h.name_value d.name h.name_is) (fields_again is_even_high data_schema h.elements _ h.recognised) (reads_freshness h.meta_value d.freshness h.freshness_is)
     (info_again h.info_value d.signature.info (fields_bytes h.meta_value d.content h.info_value d.signature.value kept).1 h.info_is)

@@ -9,7 +9,7 @@ use Rattle.ndn_tlv.proofs.Numbers.{IsBytes}
 use Rattle.ndn_packets.specs.declared.fault.PacketFault.{PacketFault}
 use Rattle.ndn_packets.specs.declared.fault.PacketFault.TheVariants.{CriticalUnknown}
 use Rattle.ndn_packets.specs.Fields.{Counts, Fields, is_follower, optional}
-use Rattle.ndn_packets.specs.Reading.{schema_after, on_option, Rule, fields_from, read_fields}
+use Rattle.ndn_packets.specs.Reading.{schema_after, on_option, fields_from, read_fields}
 use Rattle.ndn_packets.proofs.Steps.{bind_ok, good, err_is_not_ok, both_tests, read}
 
 -- ---- a type in a schema
@@ -89,24 +89,24 @@ after_none kind schema none = found (schema_after kind schema) (after_found kind
 
 -- ---- what a reading that succeeded has read
 
-pub record FieldsRead {S : Type 0} (take : S → Field → Result S PacketFault) (rule : Rule) (schema : List ℕ) (elements : List (Result Field TlvFault)) (s t : S) : Type 0 where
+pub record FieldsRead {S : Type 0} (take : S → Field → Result S PacketFault) (ignores : ℕ → Bool) (schema : List ℕ) (elements : List (Result Field TlvFault)) (s t : S) : Type 0 where
   pub plain : List Field
   pub fields : List Field
   pub all : elements ≡ map read plain
-  pub recognised : Fields rule.ignores schema plain fields
+  pub recognised : Fields ignores schema plain fields
   pub taken : read_fields take s (map good fields) ≡ Ok t
 
-pub fields_found : {S : Type 0} (take : S → Field → Result S PacketFault) (rule : Rule) (schema : List ℕ) (elements : List (Result Field TlvFault)) (s t : S)
-    → read_fields take s (fields_from rule schema elements) ≡ Ok t → FieldsRead take rule schema elements s t
-fields_found take rule schema [] s t e = record { plain = []; fields = []; all = refl; recognised = refl; taken = e }
-fields_found take rule schema (Err f ∷ elements) s t e = absurd (err_is_not_ok _ t e)
-fields_found take rule schema (Ok x ∷ elements) s t e =
+pub fields_found : {S : Type 0} (take : S → Field → Result S PacketFault) (ignores : ℕ → Bool) (schema : List ℕ) (elements : List (Result Field TlvFault)) (s t : S)
+    → read_fields take s (fields_from ignores schema elements) ≡ Ok t → FieldsRead take ignores schema elements s t
+fields_found take ignores schema [] s t e = record { plain = []; fields = []; all = refl; recognised = refl; taken = e }
+fields_found take ignores schema (Err f ∷ elements) s t e = absurd (err_is_not_ok _ t e)
+fields_found take ignores schema (Ok x ∷ elements) s t e =
     elim (schema_after x.0 schema) as (λ r. IsAfter x.0 schema r
-    → read_fields take s (on_option (λ later. Ok x ∷ fields_from rule later elements) (cond (rule.ignores x.0) (fields_from rule schema elements) (Err CriticalUnknown ∷ [])) r) ≡ Ok t
-    → FieldsRead take rule schema (Ok x ∷ elements) s t) [
+    → read_fields take s (on_option (λ later. Ok x ∷ fields_from ignores later elements) (cond (ignores x.0) (fields_from ignores schema elements) (Err CriticalUnknown ∷ [])) r) ≡ Ok t
+    → FieldsRead take ignores schema (Ok x ∷ elements) s t) [
       | Some later ↦ λ before e.
-          let m = bind_ok (take s x) (λ u. read_fields take u (fields_from rule later elements)) t e in
-          let r = fields_found take rule later elements m.0 t m.2 in
+          let m = bind_ok (take s x) (λ u. read_fields take u (fields_from ignores later elements)) t e in
+          let r = fields_found take ignores later elements m.0 t m.2 in
           record {
             plain = x ∷ r.plain;
             fields = x ∷ r.fields;
@@ -115,9 +115,9 @@ fields_found take rule schema (Ok x ∷ elements) s t e =
             taken = ap (λ (q : Result _ PacketFault). q >>= λ u. read_fields take u (map good r.fields)) m.1 ∙ r.taken;
           }
       | None ↦ λ none e.
-          elim (rule.ignores x.0) as (λ b. rule.ignores x.0 ≡ b → read_fields take s (cond b (fields_from rule schema elements) (Err CriticalUnknown ∷ [])) ≡ Ok t → FieldsRead take rule schema (Ok x ∷ elements) s t) [
+          elim (ignores x.0) as (λ b. ignores x.0 ≡ b → read_fields take s (cond b (fields_from ignores schema elements) (Err CriticalUnknown ∷ [])) ≡ Ok t → FieldsRead take ignores schema (Ok x ∷ elements) s t) [
             | true ↦ λ ignored e.
-                let r = fields_found take rule schema elements s t e in
+                let r = fields_found take ignores schema elements s t e in
                 record {
                   plain = x ∷ r.plain;
                   fields = r.fields;
@@ -129,11 +129,11 @@ fields_found take rule schema (Ok x ∷ elements) s t e =
           ] refl e
     ] (after_found x.0 schema) e
 
-pub fields_again : (rule : Rule) (schema : List ℕ) (plain fields : List Field) → Fields rule.ignores schema plain fields → fields_from rule schema (map read plain) ≡ map good fields
-fields_again rule schema [] fields h = ap (map good) (sym h)
-fields_again rule schema (e ∷ plain) fields (inl h) =
-    rw (after_again e.0 schema h.0 h.2) (ap (λ (fs : List (Result Field PacketFault)). good e ∷ fs) (fields_again rule h.0 plain h.1 h.4) ∙ ap (map good) (sym h.3))
-fields_again rule schema (e ∷ plain) fields (inr h) = rw (after_none e.0 schema h.0, h.1) (fields_again rule schema plain fields h.2)
+pub fields_again : (ignores : ℕ → Bool) (schema : List ℕ) (plain fields : List Field) → Fields ignores schema plain fields → fields_from ignores schema (map read plain) ≡ map good fields
+fields_again ignores schema [] fields h = ap (map good) (sym h)
+fields_again ignores schema (e ∷ plain) fields (inl h) =
+    rw (after_again e.0 schema h.0 h.2) (ap (λ (fs : List (Result Field PacketFault)). good e ∷ fs) (fields_again ignores h.0 plain h.1 h.4) ∙ ap (map good) (sym h.3))
+fields_again ignores schema (e ∷ plain) fields (inr h) = rw (after_none e.0 schema h.0, h.1) (fields_again ignores schema plain fields h.2)
 
 -- ---- the fields of a schema are fields that may be absent, in its order
 

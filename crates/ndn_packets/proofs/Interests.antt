@@ -15,7 +15,7 @@ use Rattle.ndn_packets.specs.declared.fault.PacketFault.TheVariants.{NoName, Bad
 use Rattle.ndn_packets.specs.Packet.{PlainSignatureInfo, PlainSignature, PlainInterest, digests_in}
 use Rattle.ndn_packets.specs.Fields.{Fields, optional, flag, is_even_high, interest_schema}
 use Rattle.ndn_packets.specs.Grammar.{IsNumber, IsOctet, IsSignatureInfo, IsDigested, IsSigned, IsInterest}
-use Rattle.ndn_packets.specs.Reading.{packet_rule, fields_from, read_fields, leading_name_at, nni_value_at, octet_at, parameters_on, octets_of_read, digest_fault, signature_of, on_option, info_at, InterestSoFar, no_fields_yet, take_interest_field, interest_made, is_nil, found_or, interest_at}
+use Rattle.ndn_packets.specs.Reading.{fields_from, read_fields, leading_name_at, nni_value_at, octet_at, parameters_on, octets_of_read, digest_fault, signature_of, on_option, info_at, InterestSoFar, no_fields_yet, take_interest_field, interest_made, is_nil, found_or, interest_at}
 use Rattle.ndn_packets.proofs.Rules.{is_nil-false}
 use Rattle.ndn_packets.proofs.Steps.{bind_ok, good, err_is_not_ok, unless_ok, ok_is, found_some, not_nil, read, IsBytes-fields, Leads, lead}
 use Rattle.ndn_packets.proofs.FieldLists.{FieldsRead, fields_found, fields_again, fields_in, fields_keep, Took, took_first, took_again, MayBeBytes, AreBytes, bytes_first}
@@ -254,7 +254,7 @@ no_fault None x y e = (refl, ok_is x y e)
 no_fault (Some f) x y e = absurd (err_is_not_ok f y e)
 
 joined : (value : List ℕ) (name : List Field) (later : List (Result Field TlvFault)) (t : InterestSoFar) (nonce : List ℕ) → IsBytes value → Leads (elements_of value) name later → name ≢ []
-    → digest_fault t.parameters (digests_in name) (right_digest later) ≡ None → FieldsRead take_interest_field packet_rule interest_schema later no_fields_yet t → t.nonce ≡ Some nonce
+    → digest_fault t.parameters (digests_in name) (right_digest later) ≡ None → FieldsRead take_interest_field is_even_high interest_schema later no_fields_yet t → t.nonce ≡ Some nonce
     → InterestValue value (interest_made name t nonce)
 joined value name later t nonce fits l named right r nonce_is =
     let inner = elements_read value ((7, l.value) ∷ r.plain) fits (l.front ∙ (λ k. read (7, l.value) ∷ r.all k)) in
@@ -284,25 +284,25 @@ joined value name later t nonce fits l named right r nonce_is =
     subst (λ (u : InterestSoFar). InterestValue value (interest_made name u nonce)) (sym f.made) parts
 
 after_name : (value : List ℕ) (first : List Field × List (Result Field TlvFault)) (t : InterestSoFar) (i : PlainInterest) → IsBytes value → leading_name_at (elements_of value) ≡ Ok first → first.0 ≢ []
-    → read_fields take_interest_field no_fields_yet (fields_from packet_rule interest_schema first.1) ≡ Ok t
+    → read_fields take_interest_field no_fields_yet (fields_from is_even_high interest_schema first.1) ≡ Ok t
     → (found_or NoNonce t.nonce >>= λ nonce. unless_digest first.0 first.1 t nonce) ≡ Ok i → InterestValue value i
 after_name value first t i fits name_is named fields_are e =
     let n = bind_ok (found_or NoNonce t.nonce) (λ nonce. unless_digest first.0 first.1 t nonce) i e in
     let g = no_fault (digest_fault t.parameters (digests_in first.0) (right_digest first.1)) (interest_made first.0 t n.0) i n.2 in
     subst (InterestValue value) g.1
     (joined value first.0 first.1 t n.0 fits (lead (elements_of value) first name_is) named g.0
-    (fields_found take_interest_field packet_rule interest_schema first.1 no_fields_yet t fields_are) (found_some NoNonce t.nonce n.0 n.1))
+    (fields_found take_interest_field is_even_high interest_schema first.1 no_fields_yet t fields_are) (found_some NoNonce t.nonce n.0 n.1))
 
 pub interest_found : (value : List ℕ) (i : PlainInterest) → IsBytes value → interest_at value ≡ Ok i → InterestValue value i
 unfolding interest_at
 interest_found value i fits e =
     let a = bind_ok (leading_name_at (elements_of value))
-    (λ first. cond (is_nil first.0) (Err NoName) (good first.0) >>= λ name. read_fields take_interest_field no_fields_yet (fields_from packet_rule interest_schema first.1)
+    (λ first. cond (is_nil first.0) (Err NoName) (good first.0) >>= λ name. read_fields take_interest_field no_fields_yet (fields_from is_even_high interest_schema first.1)
     >>= λ t. found_or NoNonce t.nonce >>= λ nonce. unless_digest name first.1 t nonce) i e in
     let g = unless_ok (is_nil a.0.0) NoName a.0.0
-    (λ name. read_fields take_interest_field no_fields_yet (fields_from packet_rule interest_schema a.0.1)
+    (λ name. read_fields take_interest_field no_fields_yet (fields_from is_even_high interest_schema a.0.1)
     >>= λ t. found_or NoNonce t.nonce >>= λ nonce. unless_digest name a.0.1 t nonce) i a.2 in
-    let b = bind_ok (read_fields take_interest_field no_fields_yet (fields_from packet_rule interest_schema a.0.1))
+    let b = bind_ok (read_fields take_interest_field no_fields_yet (fields_from is_even_high interest_schema a.0.1))
     (λ t. found_or NoNonce t.nonce >>= λ nonce. unless_digest a.0.0 a.0.1 t nonce) i g.1 in
     after_name value a.0 b.0 i fits a.1 (not_nil a.0.0 g.0) b.1 b.2
 
@@ -398,7 +398,7 @@ fields_computed prefix fresh hint nonce lifetime hop parameters info value numbe
     ∙ took_again take s44 s46 46 value [] (value_again value parameters said s34)
 
 interest_computes : (value name_value : List ℕ) (elements fields : List Field) (name : List Field) (t : InterestSoFar) (nonce : List ℕ) → IsElements value ((7, name_value) ∷ elements) → IsNameValue name_value name → name ≢ []
-    → digest_fault t.parameters (digests_in name) (right_digest (map read elements)) ≡ None → fields_from packet_rule interest_schema (map read elements) ≡ map good fields
+    → digest_fault t.parameters (digests_in name) (right_digest (map read elements)) ≡ None → fields_from is_even_high interest_schema (map read elements) ≡ map good fields
     → read_fields take_interest_field no_fields_yet (map good fields) ≡ Ok t → t.nonce ≡ Some nonce → interest_at value ≡ good (interest_made name t nonce)
 unfolding interest_at
 interest_computes value name_value elements fields name t nonce inner name_is named right fields_are taken nonce_is =
@@ -431,7 +431,7 @@ interest_again value i fits h =
     let bytes = IsBytes-fields ((7, h.name_value) ∷ h.elements) (subst IsBytes h.inner.1 fits) in
     let kept = fields_keep (λ f. IsBytes f.1) is_even_high interest_schema h.elements fields h.recognised bytes.1 in
     let info_fits = info_bytes i.can_be_prefix i.must_be_fresh h.hint i.nonce h.lifetime_value h.hop_value i.parameters h.info_value h.signature_value kept in
-    interest_computes value h.name_value h.elements fields i.name t i.nonce h.inner h.name_is h.named (digest_again i.name h.elements i.parameters h.digested) (fields_again packet_rule interest_schema h.elements fields h.recognised)
+    interest_computes value h.name_value h.elements fields i.name t i.nonce h.inner h.name_is h.named (digest_again i.name h.elements i.parameters h.digested) (fields_again is_even_high interest_schema h.elements fields h.recognised)
     (fields_computed i.can_be_prefix i.must_be_fresh h.hint i.nonce h.lifetime_value h.hop_value i.parameters h.info_value h.signature_value h.lifetime_is.0 i.hop_limit s.0 h.nonce_is h.lifetime_is.1 h.hop_is info_fits s.1) refl
     ∙ (λ k. good (record { name = i.name; can_be_prefix = i.can_be_prefix; must_be_fresh = i.must_be_fresh; nonce = i.nonce; lifetime = sym h.lifetime_is.2 k; hop_limit = i.hop_limit; parameters = i.parameters; signature = s.2 k }))
 

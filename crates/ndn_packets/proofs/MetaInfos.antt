@@ -8,7 +8,7 @@ use Rattle.ndn_tlv.proofs.Numbers.{IsBytes}
 use Rattle.ndn_tlv.proofs.Fields.{elements_exact, elements_read}
 use Rattle.ndn_packets.specs.Fields.{Fields, optional, is_ignored_in_meta_info, meta_schema}
 use Rattle.ndn_packets.specs.Grammar.{IsNumber, IsMetaInfo}
-use Rattle.ndn_packets.specs.Reading.{read_fields, meta_rule, nni_value_at, take_meta_field, meta_at}
+use Rattle.ndn_packets.specs.Reading.{read_fields, nni_value_at, take_meta_field, meta_at}
 use Rattle.ndn_packets.proofs.Steps.{bind_ok, good, ok_is, IsBytes-fields}
 use Rattle.ndn_packets.proofs.FieldLists.{FieldsRead, fields_found, fields_again, fields_in, fields_keep, Took, took_first, MayBeBytes, bytes_first}
 use Rattle.ndn_packets.proofs.Numbers.{number_found, number_again}
@@ -29,7 +29,7 @@ final_block_taken : (value : Option (List ℕ)) (s t : ℕ) → Took take_meta_f
 final_block_taken None s t took = took
 final_block_taken (Some v) s t took = sym (ok_is s t took)
 
-joined : (value : List ℕ) (freshness : ℕ) → IsBytes value → FieldsRead take_meta_field meta_rule meta_schema (elements_of value) 0 freshness → IsMetaInfo value freshness
+joined : (value : List ℕ) (freshness : ℕ) → IsBytes value → FieldsRead take_meta_field is_ignored_in_meta_info meta_schema (elements_of value) 0 freshness → IsMetaInfo value freshness
 joined value freshness fits r =
     let inner = elements_read value r.plain fits r.all in
     let c = fields_in is_ignored_in_meta_info meta_schema r.plain r.fields r.recognised in
@@ -57,7 +57,7 @@ joined value freshness fits r =
 
 pub meta_found : (value : List ℕ) (freshness : ℕ) → IsBytes value → meta_at value ≡ Ok freshness → IsMetaInfo value freshness
 unfolding meta_at
-meta_found value freshness fits e = joined value freshness fits (fields_found take_meta_field meta_rule meta_schema (elements_of value) 0 freshness e)
+meta_found value freshness fits e = joined value freshness fits (fields_found take_meta_field is_ignored_in_meta_info meta_schema (elements_of value) 0 freshness e)
 
 -- ---- what is in the grammar
 
@@ -77,6 +77,6 @@ pub meta_again : (value : List ℕ) (freshness : ℕ) → IsMetaInfo value fresh
 unfolding meta_at
 meta_again value freshness h =
     let fields = optional 24 h.content_type ++ (optional 25 h.period ++ optional 26 h.final_block) in
-    rw (elements_exact value h.elements h.inner, fields_again meta_rule meta_schema h.elements fields h.recognised)
+    rw (elements_exact value h.elements h.inner, fields_again is_ignored_in_meta_info meta_schema h.elements fields h.recognised)
     (content_type_again h.content_type h.content_type_number.0 0 (optional 25 h.period ++ optional 26 h.final_block) h.content_type_number.1
     ∙ (period_again h.period h.final_block h.period_number.0 h.period_number.1 ∙ ap (λ (n : ℕ). good n) (sym h.period_number.2)))

@@ -8,7 +8,7 @@ use Rattle.ndn_tlv.proofs.Numbers.{IsBytes}
 use Rattle.ndn_tlv.proofs.Fields.{elements_exact, elements_read}
 use Rattle.ndn_packets.specs.Fields.{Fields, optional, is_even_high}
 use Rattle.ndn_packets.specs.Grammar.{IsNumber}
-use Rattle.ndn_packets.specs.Reading.{read_fields, packet_rule}
+use Rattle.ndn_packets.specs.Reading.{read_fields}
 use Rattle.ndn_packets.specs.Link.{nack_schema, IsNack}
 use Rattle.ndn_packets.specs.FrameReading.{take_nack_field, nack_at}
 use Rattle.ndn_packets.proofs.Steps.{good, ok_is, IsBytes-fields}
@@ -19,7 +19,7 @@ reason_taken : (value : Option (List ℕ)) (t : ℕ) → MayBeBytes value → To
 reason_taken None t fits took = (None, refl, took)
 reason_taken (Some v) t fits took = (Some t, (t, number_found v t fits took, refl), refl)
 
-joined : (value : List ℕ) (reason : ℕ) → IsBytes value → FieldsRead take_nack_field packet_rule nack_schema (elements_of value) 0 reason → IsNack value reason
+joined : (value : List ℕ) (reason : ℕ) → IsBytes value → FieldsRead take_nack_field is_even_high nack_schema (elements_of value) 0 reason → IsNack value reason
 joined value reason fits r =
     let inner = elements_read value r.plain fits r.all in
     let f = fields_in is_even_high nack_schema r.plain r.fields r.recognised in
@@ -38,7 +38,7 @@ joined value reason fits r =
 
 pub nack_found : (value : List ℕ) (reason : ℕ) → IsBytes value → nack_at value ≡ Ok reason → IsNack value reason
 unfolding nack_at
-nack_found value reason fits e = joined value reason fits (fields_found take_nack_field packet_rule nack_schema (elements_of value) 0 reason e)
+nack_found value reason fits e = joined value reason fits (fields_found take_nack_field is_even_high nack_schema (elements_of value) 0 reason e)
 
 reason_again : (value : Option (List ℕ)) (n : Option ℕ) → IsNumber value n → read_fields take_nack_field 0 (map good (optional 801 value)) ≡ Ok (unwrap_or n 0)
 reason_again None n h = ap (λ (o : Option ℕ). good (unwrap_or o 0)) (sym h)
@@ -47,5 +47,5 @@ reason_again (Some v) n h = rw (number_again v h.0 h.1) (ap (λ (o : Option ℕ)
 pub nack_again : (value : List ℕ) (reason : ℕ) → IsNack value reason → nack_at value ≡ Ok reason
 unfolding nack_at
 nack_again value reason h =
-    rw (elements_exact value h.elements h.inner, fields_again packet_rule nack_schema h.elements (optional 801 h.reason_value) h.recognised)
+    rw (elements_exact value h.elements h.inner, fields_again is_even_high nack_schema h.elements (optional 801 h.reason_value) h.recognised)
     (reason_again h.reason_value h.number.0 h.number.1 ∙ ap (λ (n : ℕ). good n) (sym h.number.2))

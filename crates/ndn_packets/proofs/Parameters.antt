@@ -13,10 +13,10 @@ use Rattle.ndn_tlv.specs.Reading.{elements_of}
 use Rattle.ndn_tlv.proofs.Numbers.{IsBytes}
 use Rattle.ndn_tlv.proofs.Fields.{elements_read}
 use Rattle.ndn_packets.specs.declared.field_reader.FieldReader.{FieldReader}
-use Rattle.ndn_packets.specs.Fields.{is_follower, interest_schema}
+use Rattle.ndn_packets.specs.Fields.{is_follower, interest_schema, is_even_high}
 use Rattle.ndn_packets.specs.FieldReader.{StandsHere}
 use Rattle.ndn_packets.specs.Grammar.{from_parameters}
-use Rattle.ndn_packets.specs.Reading.{schema_after, parameters_on, octets_of_read, fields_from, read_fields, packet_rule, InterestSoFar, no_fields_yet, with_parameters, take_interest_field}
+use Rattle.ndn_packets.specs.Reading.{schema_after, parameters_on, octets_of_read, fields_from, read_fields, InterestSoFar, no_fields_yet, with_parameters, take_interest_field}
 use Rattle.ndn_packets.proofs.Steps.{read, some_is, none_is_not_some}
 use Rattle.ndn_packets.proofs.FieldLists.{fields_found}
 
@@ -122,10 +122,10 @@ parameters_octets fields = ap octets_of_read (parameters_read fields) ∙ octets
 
 -- the octets are those of the elements, where all of these can be read
 pub stand_last : {A : Type 0} (view : A → List ℕ) (text : List ℕ) (fields : FieldReader) (parameters : Option A) (from : List ℕ) (t : InterestSoFar)
-    → read_fields take_interest_field no_fields_yet (fields_from packet_rule interest_schema (elements_of text)) ≡ Ok t → Stand text fields (option_map view parameters) from
+    → read_fields take_interest_field no_fields_yet (fields_from is_even_high interest_schema (elements_of text)) ≡ Ok t → Stand text fields (option_map view parameters) from
     → OnSome parameters (from ≡ octets_of_read (parameters_on (elements_of text)))
 stand_last view text fields None from t read_all h = tt
 stand_last view text fields (Some parameters) from t read_all h =
-    let r = fields_found take_interest_field packet_rule interest_schema (elements_of text) no_fields_yet t read_all in
+    let r = fields_found take_interest_field is_even_high interest_schema (elements_of text) no_fields_yet t read_all in
     let there : parameters_on (elements_of text) ≡ map read (from_parameters r.plain) = ap parameters_on r.all ∙ parameters_read r.plain in
     (elements_read from (from_parameters r.plain) h.2 (h.1 ∙ there)).1 ∙ sym (parameters_octets r.plain) ∙ ap (λ (es : List (Result Field TlvFault)). octets_of_read (parameters_on es)) (sym r.all)

@@ -10,7 +10,7 @@ use Rattle.ndn_packets.specs.declared.fault.PacketFault.TheVariants.{BadField}
 use Rattle.ndn_packets.specs.Packet.{PlainLocator, Missing, PlainSignatureInfo}
 use Rattle.ndn_packets.specs.Fields.{Fields, optional, is_ignored_in_signature_info, info_schema}
 use Rattle.ndn_packets.specs.Grammar.{IsNumber, IsLocator, IsSignatureInfo}
-use Rattle.ndn_packets.specs.Reading.{fields_from, read_fields, nni_value_at, info_rule, InfoSoFar, no_info_yet, take_info_field, found_or, info_at}
+use Rattle.ndn_packets.specs.Reading.{fields_from, read_fields, nni_value_at, InfoSoFar, no_info_yet, take_info_field, found_or, info_at}
 use Rattle.ndn_packets.proofs.Steps.{bind_ok, good, ok_is, found_some, some_is, none_is_not_some, IsBytes-fields}
 use Rattle.ndn_packets.proofs.FieldLists.{fields_found, fields_again, InSchema, fields_in, Took, took_first, took_again, fields_keep, MayBeBytes, AreBytes, bytes_first}
 use Rattle.ndn_packets.proofs.Numbers.{number_found, number_again}
@@ -140,9 +140,9 @@ joined value elements fields t kind inner recognised p is =
 pub info_found : (value : List ℕ) (s : PlainSignatureInfo) → IsBytes value → info_at value ≡ Ok s → IsSignatureInfo value s
 unfolding info_at
 info_found value s fits e =
-    let a = bind_ok (read_fields take_info_field no_info_yet (fields_from info_rule info_schema (elements_of value))) (λ t. found_or BadField t.kind >>= λ kind. good (info_of t kind)) s e in
+    let a = bind_ok (read_fields take_info_field no_info_yet (fields_from is_ignored_in_signature_info info_schema (elements_of value))) (λ t. found_or BadField t.kind >>= λ kind. good (info_of t kind)) s e in
     let b = bind_ok (found_or BadField a.0.kind) (λ kind. good (info_of a.0 kind)) s a.2 in
-    let r = fields_found take_info_field info_rule info_schema (elements_of value) no_info_yet a.0 a.1 in
+    let r = fields_found take_info_field is_ignored_in_signature_info info_schema (elements_of value) no_info_yet a.0 a.1 in
     let inner = elements_read value r.plain fits r.all in
     let fit = fields_keep (λ f. IsBytes f.1) is_ignored_in_signature_info info_schema r.plain r.fields r.recognised (IsBytes-fields r.plain (subst IsBytes inner.1 fits)) in
     let parts = info_parts r.fields a.0 fit (fields_in is_ignored_in_signature_info info_schema r.plain r.fields r.recognised) r.taken in
@@ -194,4 +194,4 @@ pub info_again : (value : List ℕ) (s : PlainSignatureInfo) → IsBytes value �
 unfolding info_at
 info_again value s fits h =
     let fields = info_fields (Some h.kind_value) h.locator_value h.nonce h.time_value h.seq_value in
-    rw (elements_exact value h.elements h.inner, fields_again info_rule info_schema h.elements fields h.recognised, fields_read value s h (locator_bytes value s fits h)) refl
+    rw (elements_exact value h.elements h.inner, fields_again is_ignored_in_signature_info info_schema h.elements fields h.recognised, fields_read value s h (locator_bytes value s fits h)) refl

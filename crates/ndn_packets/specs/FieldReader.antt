@@ -1,5 +1,5 @@
 -- What a reader of fields has left.
-use Rattle.std.specs.Prelude.{◌≡◌, ◌∷◌, List, Result, Ok, Some, IsSome}
+use Rattle.std.specs.Prelude.{◌≡◌, ◌∷◌, ℕ, Bool, List, Result, Ok, Some, IsSome}
 use Rattle.ndn_tlv.specs.Element.{Field}
 use Rattle.ndn_tlv.specs.Reading.{elements_of}
 use Rattle.ndn_packets.specs.declared.fault.PacketFault.{PacketFault}
@@ -7,15 +7,16 @@ use Rattle.ndn_packets.specs.declared.field_reader.FieldReader.{FieldReader}
 use Rattle.ndn_packets.specs.declared.schema.Rules.{Rules}
 use Rattle.ndn_packets.specs.declared.schema.Rules.TheVariants as rules
 use Rattle.ndn_tlv.specs.declared.element.Element.{Element}
-use Rattle.ndn_packets.specs.Reading.{schema_after, parameters_on, Rule, packet_rule, meta_rule, info_rule, fields_from}
+use Rattle.ndn_packets.specs.Fields.{is_even_high, is_ignored_in_meta_info, is_ignored_in_signature_info}
+use Rattle.ndn_packets.specs.Reading.{schema_after, parameters_on, fields_from}
 
-abbrev pub rule_of : Rules → Rule
-rule_of rules.Packet = packet_rule
-rule_of rules.MetaInfo = meta_rule
-rule_of rules.SignatureInfo = info_rule
+abbrev pub ignored_by : Rules → ℕ → Bool
+ignored_by rules.Packet = is_even_high
+ignored_by rules.MetaInfo = is_ignored_in_meta_info
+ignored_by rules.SignatureInfo = is_ignored_in_signature_info
 
 abbrev pub fields_left : FieldReader → List (Result Field PacketFault)
-fields_left f = fields_from (rule_of f.rules) f.schema.now (elements_of f.rest.now)
+fields_left f = fields_from (ignored_by f.rules) f.schema.now (elements_of f.rest.now)
 
 -- where the field e stands that a reader just gave: its octets and those after it; nothing before it is ApplicationParameters,
 -- where these could still come

@@ -8,7 +8,8 @@ use Rattle.ndn_packets.specs.declared.fault.PacketFault.{PacketFault}
 use Rattle.ndn_packets.specs.declared.fault.PacketFault.TheVariants.{Tlv, BadField, Fragmented, LpField, TooLong}
 use Rattle.ndn_packets.specs.Packet.{PlainInterest, PlainData, PlainFrame, AnInterest, AData, ANack, Idle}
 use Rattle.ndn_packets.specs.Link.{is_ignored_header, nack_schema}
-use Rattle.ndn_packets.specs.Reading.{packet_rule, fields_from, read_fields, is_nil, nni_value_at, interest_at, data_at}
+use Rattle.ndn_packets.specs.Fields.{is_even_high}
+use Rattle.ndn_packets.specs.Reading.{fields_from, read_fields, is_nil, nni_value_at, interest_at, data_at}
 
 -- ---- packets
 
@@ -42,7 +43,7 @@ abbrev pub take_nack_field : ℕ → Field → Result ℕ PacketFault
 take_nack_field reason f = nni_value_at f.1
 
 unfoldable pub nack_at : List ℕ → Result ℕ PacketFault
-nack_at value = read_fields take_nack_field 0 (fields_from packet_rule nack_schema (elements_of value))
+nack_at value = read_fields take_nack_field 0 (fields_from is_even_high nack_schema (elements_of value))
 
 -- of header fields: which ones have been met, and the Nack's reason
 pub record LinkSoFar : Type 0 where

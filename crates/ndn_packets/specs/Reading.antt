@@ -22,27 +22,14 @@ abbrev pub on_option : {A C : Type 0} → (A → C) → C → Option A → C
 on_option f c None = c
 on_option f c (Some x) = f x
 
--- how a reader goes over elements: which it ignores
-pub record Rule : Type 0 where
-  pub ignores : ℕ → Bool
-
-abbrev pub packet_rule : Rule
-packet_rule = record { ignores = is_even_high }
-
-abbrev pub meta_rule : Rule
-meta_rule = record { ignores = is_ignored_in_meta_info }
-
-abbrev pub info_rule : Rule
-info_rule = record { ignores = is_ignored_in_signature_info }
-
 -- The fields of a schema among elements, in the schema's order, up to the end or to the first element that cannot be read or is
 -- refused, which is then the last.
-abbrev pub fields_from : Rule → List ℕ → List (Result Field TlvFault) → List (Result Field PacketFault)
-fields_from rule schema [] = []
-fields_from rule schema (Err f ∷ elements) = Err (Tlv f) ∷ []
-fields_from rule schema (Ok e ∷ elements) =
-    on_option (λ later. Ok e ∷ fields_from rule later elements)
-    (if rule.ignores e.0 then fields_from rule schema elements else Err CriticalUnknown ∷ []) (schema_after e.0 schema)
+abbrev pub fields_from : (ℕ → Bool) → List ℕ → List (Result Field TlvFault) → List (Result Field PacketFault)
+fields_from ignores schema [] = []
+fields_from ignores schema (Err f ∷ elements) = Err (Tlv f) ∷ []
+fields_from ignores schema (Ok e ∷ elements) =
+    on_option (λ later. Ok e ∷ fields_from ignores later elements)
+    (if ignores e.0 then fields_from ignores schema elements else Err CriticalUnknown ∷ []) (schema_after e.0 schema)
 
 -- what has been read, after each of the fields in turn
 abbrev pub read_fields : {S : Type 0} → (S → Field → Result S PacketFault) → S → List (Result Field PacketFault) → Result S PacketFault
@@ -86,7 +73,7 @@ take_meta_field freshness f =
     if f.0 == 25 then nni_value_at f.1 else Ok freshness)
 
 unfoldable pub meta_at : List ℕ → Result ℕ PacketFault
-meta_at value = read_fields take_meta_field 0 (fields_from meta_rule meta_schema (elements_of value))
+meta_at value = read_fields take_meta_field 0 (fields_from is_ignored_in_meta_info meta_schema (elements_of value))
 
 -- what a KeyLocator says: its first element, and the octets after it, of which there must be none
 abbrev pub locator_of : Field → List ℕ → PlainLocator
@@ -118,7 +105,7 @@ take_info_field s f =
 
 unfoldable pub info_at : List ℕ → Result PlainSignatureInfo PacketFault
 info_at value = do
-  s ← read_fields take_info_field no_info_yet (fields_from info_rule info_schema (elements_of value))
+  s ← read_fields take_info_field no_info_yet (fields_from is_ignored_in_signature_info info_schema (elements_of value))
   kind ← found_or BadField s.kind
   Ok (record { kind = kind; locator = s.locator; time = s.time; seq = s.seq })
 
@@ -218,7 +205,7 @@ unfoldable pub interest_at : List ℕ → Result PlainInterest PacketFault
 interest_at value = do
   first ← leading_name_at (elements_of value)
   name ← if is_nil first.0 then Err NoName else Ok first.0
-  s ← read_fields take_interest_field no_fields_yet (fields_from packet_rule interest_schema first.1)
+  s ← read_fields take_interest_field no_fields_yet (fields_from is_even_high interest_schema first.1)
   nonce ← found_or NoNonce s.nonce
   on_option (λ fault. Err fault) (Ok (interest_made name s nonce)) (digest_fault s.parameters (digests_in name) (sha256 (octets_of_read (parameters_on first.1))))
 
@@ -242,7 +229,7 @@ take_data_field s f =
 unfoldable pub data_at : List ℕ → Result PlainData PacketFault
 data_at value = do
   first ← leading_name_at (elements_of value)
-  s ← read_fields take_data_field nothing_yet (fields_from packet_rule data_schema first.1)
+  s ← read_fields take_data_field nothing_yet (fields_from is_even_high data_schema first.1)
   info ← found_or BadField s.info
   signature ← found_or BadField s.value
   Ok (record { name = first.0; freshness = s.freshness; content = s.content; signature = record { info = info; value = signature } })

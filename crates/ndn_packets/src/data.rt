@@ -1,7 +1,7 @@
 ghost use Rattle.std.specs.Prelude.{◌≡◌, [], ◌∷◌, Ok, Err};
 ghost use Rattle.ndn_tlv.specs.Reading.{elements_of, on_result};
-ghost use Rattle.ndn_packets.specs.Fields.{data_schema};
-ghost use Rattle.ndn_packets.specs.Reading.{packet_rule, read_fields, take_data_field, nothing_yet, fields_from};
+ghost use Rattle.ndn_packets.specs.Fields.{data_schema, is_even_high};
+ghost use Rattle.ndn_packets.specs.Reading.{read_fields, take_data_field, nothing_yet, fields_from};
 ghost use Rattle.ndn_packets.specs.Found.{so_far};
 
 use crate::fault::PacketFault;
@@ -76,7 +76,7 @@ impl<'a> Data<'a> {
 /// The fields behind the Name.
 fn fields_of(rest: &[u8]) -> Result<Found<'_>, PacketFault>
     ensures { on_result (λ f. Ok (so_far f)) Err result
-        ≡ read_fields take_data_field nothing_yet (fields_from packet_rule data_schema (elements_of rest.now)) }
+        ≡ read_fields take_data_field nothing_yet (fields_from is_even_high data_schema (elements_of rest.now)) }
 {
     let mut fields = FieldReader::new(Rules::Packet, rest, &FIELDS);
     let mut found = Found {

@@ -2,7 +2,7 @@ ghost use Rattle.std.specs.Prelude.{◌≡◌, ◌<◌, ℕ, List, [], ◌∷◌
 ghost use Rattle.ndn_tlv.specs.Reading.{elements_of, on_result};
 ghost use Rattle.ndn_names.specs.View.{components};
 ghost use Rattle.ndn_packets.specs.Reading.{schema_after, fields_from, leading_name_at, nni_value_at};
-ghost use Rattle.ndn_packets.specs.FieldReader.{rule_of, fields_left, StandsHere};
+ghost use Rattle.ndn_packets.specs.FieldReader.{ignored_by, fields_left, StandsHere};
 
 use crate::fault::PacketFault;
 use crate::schema::{Rules, is_follower};
@@ -24,7 +24,7 @@ pub struct FieldReader<'a> {
 
 impl<'a> FieldReader<'a> {
     pub fn new(rules: Rules, value: &'a [u8], schema: &'a [u32]) -> FieldReader<'a>
-        ensures fields { fields_left result ≡ fields_from (rule_of rules) schema.entry.now (elements_of value.entry.now) }
+        ensures fields { fields_left result ≡ fields_from (ignored_by rules) schema.entry.now (elements_of value.entry.now) }
         ensures schema { result.schema.now ≡ schema.entry.now }
         ensures rest { result.rest.now ≡ value.entry.now }
     {

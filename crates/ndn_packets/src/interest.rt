@@ -1,11 +1,11 @@
 ghost use Rattle.std.specs.Prelude.{◌≡◌, Ok, Err, IfOk, OnSome, option_map, true, length, ◌==◌, if◌then◌else◌};
-ghost use Rattle.ndn_packets.specs.Fields.{interest_schema};
+ghost use Rattle.ndn_packets.specs.Fields.{interest_schema, is_even_high};
 ghost use Rattle.ndn_packets.specs.declared.fault.PacketFault.TheVariants.{BadField};
 ghost use Rattle.ndn_tlv.specs.Reading.{elements_of, on_result};
 ghost use Rattle.ndn_names.specs.View.{components};
 ghost use Rattle.sha2.specs.Sha256.{sha256};
 ghost use Rattle.ndn_packets.specs.Packet.{digests_in, plain_signature};
-ghost use Rattle.ndn_packets.specs.Reading.{packet_rule, read_fields, take_interest_field, no_fields_yet, fields_from, octet_at, is_nil, parameters_on, octets_of_read, digest_fault, signature_of};
+ghost use Rattle.ndn_packets.specs.Reading.{read_fields, take_interest_field, no_fields_yet, fields_from, octet_at, is_nil, parameters_on, octets_of_read, digest_fault, signature_of};
 ghost use Rattle.ndn_packets.specs.Found.{AreDigests, plain_info, interest_so_far};
 
 use crate::fault::PacketFault;
@@ -206,7 +206,7 @@ fn signature_of<'a>(
 /// The fields behind the Name.
 fn fields_of(rest: &[u8]) -> Result<Found<'_>, PacketFault>
     ensures walk { on_result (λ f. Ok (interest_so_far f)) Err result
-        ≡ read_fields take_interest_field no_fields_yet (fields_from packet_rule interest_schema (elements_of rest.now)) }
+        ≡ read_fields take_interest_field no_fields_yet (fields_from is_even_high interest_schema (elements_of rest.now)) }
     ensures parameters { IfOk result (λ f. OnSome f.parameters (f.from_parameters.now ≡ octets_of_read (parameters_on (elements_of rest.now)))) }
 {
     let mut fields = FieldReader::new(Rules::Packet, rest, &FIELDS);

@@ -1,6 +1,6 @@
 ghost use Rattle.std.specs.Prelude.{◌≡◌};
-ghost use Rattle.ndn_packets.specs.Fields.{is_follower};
-ghost use Rattle.ndn_packets.specs.FieldReader.{rule_of};
+ghost use Rattle.ndn_packets.specs.Fields.{is_follower, is_even_high};
+ghost use Rattle.ndn_packets.specs.FieldReader.{ignored_by};
 
 /// The type of an InterestSignatureInfo (NDN Packet Format 0.3, "Signed Interest").
 pub const INTEREST_SIGNATURE_INFO: u32 = 44;
@@ -23,7 +23,7 @@ pub enum Rules {
 impl Rules {
     /// Whether an element of this type, which is no field, is ignored.
     pub fn ignores(self, kind: u32) -> bool
-        ensures { result ≡ (rule_of self).ignores kind }
+        ensures { result ≡ ignored_by self kind }
     {
         let is_even_high = kind >= 32 && kind % 2 == 0;
         match self {

@@ -1,8 +1,8 @@
 ghost use Rattle.std.specs.Prelude.{◌≡◌, [], ◌∷◌, Ok, Err};
 ghost use Rattle.ndn_tlv.specs.Reading.{elements_of, on_result};
-ghost use Rattle.ndn_packets.specs.Fields.{info_schema};
+ghost use Rattle.ndn_packets.specs.Fields.{info_schema, is_ignored_in_signature_info};
 ghost use Rattle.ndn_packets.specs.Packet.{plain_locator};
-ghost use Rattle.ndn_packets.specs.Reading.{info_rule, info_at, locator_at, no_info_yet, take_info_field, read_fields, fields_from};
+ghost use Rattle.ndn_packets.specs.Reading.{info_at, locator_at, no_info_yet, take_info_field, read_fields, fields_from};
 ghost use Rattle.ndn_packets.specs.Found.{plain_info, info_so_far};
 
 use crate::fault::PacketFault;
@@ -176,7 +176,7 @@ pub(crate) fn signature_info(value: &[u8]) -> Result<SignatureInfo<'_>, PacketFa
 /// The fields of a SignatureInfo.
 fn fields_of(value: &[u8]) -> Result<Found<'_>, PacketFault>
     ensures { on_result (λ f. Ok (info_so_far f)) Err result
-        ≡ read_fields take_info_field no_info_yet (fields_from info_rule info_schema (elements_of value.now)) }
+        ≡ read_fields take_info_field no_info_yet (fields_from is_ignored_in_signature_info info_schema (elements_of value.now)) }
 {
     let mut fields = FieldReader::new(Rules::SignatureInfo, value, &FIELDS);
     let mut found = Found {

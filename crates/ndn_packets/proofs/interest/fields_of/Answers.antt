@@ -1,8 +1,8 @@
 use Rattle.std.proofs.Common.{rules, ◌≡◌, Ok}
 use Rattle.ndn_tlv.specs.Reading.{elements_of}
-use Rattle.ndn_packets.specs.Fields.{interest_schema}
+use Rattle.ndn_packets.specs.Fields.{interest_schema, is_even_high}
 use Rattle.ndn_packets.specs.Found.{interest_so_far}
-use Rattle.ndn_packets.specs.Reading.{packet_rule, read_fields, take_interest_field, no_fields_yet, fields_from}
+use Rattle.ndn_packets.specs.Reading.{read_fields, take_interest_field, no_fields_yet, fields_from}
 use Rattle.ndn_packets.proofs.Parameters.{stand_still, stand_last}
 use Rattle.ndn_packets.proofs.interest.fields_of.Goals as goal
 
@@ -11,5 +11,5 @@ loop-field-preserved c = (search rules, search (rules, stand_still))
 
 pub returns-clause-parameters : goal.returns-clause-parameters
 returns-clause-parameters c =
-    let read_all : read_fields take_interest_field no_fields_yet (fields_from packet_rule interest_schema (elements_of c.args.rest.now)) ≡ Ok (interest_so_far c.loop-field.found) = search rules in
+    let read_all : read_fields take_interest_field no_fields_yet (fields_from is_even_high interest_schema (elements_of c.args.rest.now)) ≡ Ok (interest_so_far c.loop-field.found) = search rules in
     stand_last _ c.args.rest.now c.loop-field.fields c.loop-field.found.parameters c.loop-field.found.from_parameters.now (interest_so_far c.loop-field.found) read_all c.loop-field.invariant.1

@@ -1,15 +1,15 @@
 use Rattle.std.proofs.Common.{◌≡◌, length}
 use Rattle.ndn_tlv.specs.Reading.{elements_of}
-use Rattle.ndn_packets.specs.Fields.{interest_schema}
+use Rattle.ndn_packets.specs.Fields.{interest_schema, is_even_high}
 use Rattle.ndn_packets.specs.FieldReader.{fields_left}
 use Rattle.ndn_packets.specs.Found.{interest_so_far}
-use Rattle.ndn_packets.specs.Reading.{packet_rule, read_fields, take_interest_field, no_fields_yet, fields_from}
+use Rattle.ndn_packets.specs.Reading.{read_fields, take_interest_field, no_fields_yet, fields_from}
 use Rattle.ndn_packets.proofs.Parameters.{Stand}
 use Rattle.ndn_packets.proofs.interest.fields_of.Given as goal
 
 abbrev pub invariant-loop-field : goal.invariant-loop-field
 invariant-loop-field l =
-    (read_fields take_interest_field (interest_so_far l.found) (fields_left l.fields) ≡ read_fields take_interest_field no_fields_yet (fields_from packet_rule interest_schema (elements_of l.fn.rest)))
+    (read_fields take_interest_field (interest_so_far l.found) (fields_left l.fields) ≡ read_fields take_interest_field no_fields_yet (fields_from is_even_high interest_schema (elements_of l.fn.rest)))
     × Stand l.fn.rest l.fields (interest_so_far l.found).parameters l.found.from_parameters.now
 
 abbrev pub decreases-loop-field : goal.decreases-loop-field
