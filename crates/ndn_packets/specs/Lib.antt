@@ -10,3 +10,4 @@ pub mod HopLimit
 pub mod Writing
 pub mod FieldReader
 pub mod Found
+pub mod FaultName

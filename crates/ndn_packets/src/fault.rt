@@ -56,6 +56,35 @@ pub enum PacketFault {
     TooLong,
 }
 
+impl PacketFault {
+    ghost use Rattle.std.specs.Prelude.{◌≡◌};
+    ghost use Rattle.ndn_packets.specs.FaultName.{packet_name};
+
+    /// The name of the fault, as scripts and the client print it: a `Tlv` has the name of its own fault
+    /// behind it.
+    pub fn name(self) -> &'static str
+        ensures { result.now ≡ packet_name self }
+    {
+        match self {
+            PacketFault::Tlv(TlvFault::Truncated) => "Tlv Truncated",
+            PacketFault::Tlv(TlvFault::NotShortest) => "Tlv NotShortest",
+            PacketFault::Tlv(TlvFault::TypeZero) => "Tlv TypeZero",
+            PacketFault::Tlv(TlvFault::TypeTooLarge) => "Tlv TypeTooLarge",
+            PacketFault::Tlv(TlvFault::BadInteger) => "Tlv BadInteger",
+            PacketFault::NoName => "NoName",
+            PacketFault::CriticalUnknown => "CriticalUnknown",
+            PacketFault::BadField => "BadField",
+            PacketFault::NoNonce => "NoNonce",
+            PacketFault::DigestMissing => "DigestMissing",
+            PacketFault::DigestWrong => "DigestWrong",
+            PacketFault::DigestWithout => "DigestWithout",
+            PacketFault::Fragmented => "Fragmented",
+            PacketFault::LpField => "LpField",
+            PacketFault::TooLong => "TooLong",
+        }
+    }
+}
+
 /// Why a packet is not written. Of several faults the first in this order is told.
 #[derive(Clone, Copy, Debug, PartialEq, Eq, Error)]
 pub enum WriteFault {
@@ -68,6 +97,22 @@ pub enum WriteFault {
     /// A growth of memory was refused.
     #[error("out of memory")]
     Memory,
+}
+
+impl WriteFault {
+    ghost use Rattle.std.specs.Prelude.{◌≡◌};
+    ghost use Rattle.ndn_packets.specs.FaultName.{write_name};
+
+    /// The name of the fault, as the client prints it.
+    pub fn name(self) -> &'static str
+        ensures { result.now ≡ write_name self }
+    {
+        match self {
+            WriteFault::BadName => "BadName",
+            WriteFault::TooLong => "TooLong",
+            WriteFault::Memory => "Memory",
+        }
+    }
 }
 
 impl From<Memory> for WriteFault {

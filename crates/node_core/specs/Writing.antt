@@ -4,35 +4,12 @@ use Rattle.std.specs.List.{flat_map}
 use Rattle.std.specs.Fmt.{decimal}
 use Rattle.hex.specs.Hex.{encode_lower}
 use Rattle.ndn_tlv.specs.declared.memory.Memory.{Memory}
-use Rattle.ndn_tlv.specs.declared.fault.TlvFault.{TlvFault}
-use Rattle.ndn_tlv.specs.declared.fault.TlvFault.TheVariants as tlv
-use Rattle.ndn_packets.specs.declared.fault.PacketFault.{PacketFault}
-use Rattle.ndn_packets.specs.declared.fault.PacketFault.TheVariants as packet
+use Rattle.ndn_packets.specs.FaultName.{packet_name}
 use Rattle.node_core.specs.declared.event.DropReason.{DropReason}
 use Rattle.node_core.specs.declared.event.DropReason.TheVariants as reason
 use Rattle.node_core.specs.declared.event.Verdict.{Verdict}
 use Rattle.node_core.specs.declared.event.Verdict.TheVariants as verdict
 use Rattle.node_core.specs.Event.{Answer, Send}
-
-abbrev pub tlv_name : TlvFault → List ℕ
-tlv_name tlv.Truncated = codes "Truncated"
-tlv_name tlv.NotShortest = codes "NotShortest"
-tlv_name tlv.TypeZero = codes "TypeZero"
-tlv_name tlv.TypeTooLarge = codes "TypeTooLarge"
-tlv_name tlv.BadInteger = codes "BadInteger"
-
-abbrev pub packet_name : PacketFault → List ℕ
-packet_name (packet.Tlv fault) = codes "Tlv " ++ tlv_name fault
-packet_name packet.NoName = codes "NoName"
-packet_name packet.CriticalUnknown = codes "CriticalUnknown"
-packet_name packet.BadField = codes "BadField"
-packet_name packet.NoNonce = codes "NoNonce"
-packet_name packet.DigestMissing = codes "DigestMissing"
-packet_name packet.DigestWrong = codes "DigestWrong"
-packet_name packet.DigestWithout = codes "DigestWithout"
-packet_name packet.Fragmented = codes "Fragmented"
-packet_name packet.LpField = codes "LpField"
-packet_name packet.TooLong = codes "TooLong"
 
 abbrev pub reason_name : DropReason → List ℕ
 reason_name reason.NoFace = codes "NoFace"

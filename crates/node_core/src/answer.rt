@@ -1,12 +1,11 @@
 ghost use Rattle.std.specs.Prelude.{◌≡◌, ◌++◌, codes, OnOk};
 ghost use Rattle.std.specs.Fmt.{decimal};
 ghost use Rattle.std.specs.List.{flat_map};
-ghost use Rattle.node_core.specs.Writing.{tlv_name, packet_name, reason_name, said_text, send_text, lines_text};
+ghost use Rattle.node_core.specs.Writing.{reason_name, said_text, send_text, lines_text};
 
 use crate::event::{DropReason, Verdict};
 use crate::outbox::Outbox;
-use ndn_packets::PacketFault;
-use ndn_tlv::{Memory, TlvFault};
+use ndn_tlv::Memory;
 use std::alloc::Global;
 use std::io::Write;
 
@@ -78,7 +77,10 @@ fn put_reason(text: &mut Vec<u8>, reason: DropReason) -> Result<(), Memory>
     text.extend_from_slice(b"dropped ")?;
     match reason {
         DropReason::NoFace => text.extend_from_slice(b"NoFace")?,
-        DropReason::Malformed(fault) => put_fault(text, fault)?,
+        DropReason::Malformed(fault) => {
+            text.extend_from_slice(b"Malformed ")?;
+            text.extend_from_slice(fault.name().as_bytes())?;
+        }
         DropReason::Idle => text.extend_from_slice(b"Idle")?,
         DropReason::NoPending => text.extend_from_slice(b"NoPending")?,
         DropReason::BadFace => text.extend_from_slice(b"BadFace")?,
@@ -86,39 +88,4 @@ fn put_reason(text: &mut Vec<u8>, reason: DropReason) -> Result<(), Memory>
         DropReason::FacesFull => text.extend_from_slice(b"FacesFull")?,
     }
     Ok(())
-}
-
-fn put_fault(text: &mut Vec<u8>, fault: PacketFault) -> Result<(), Memory>
-    ensures { OnOk result (text.new.items ≡ text.old.items ++ (codes "Malformed " ++ packet_name fault)) }
-{
-    text.extend_from_slice(b"Malformed ")?;
-    match fault {
-        PacketFault::Tlv(fault) => {
-            text.extend_from_slice(b"Tlv ")?;
-            text.extend_from_slice(tlv_name(fault).as_bytes())?;
-        }
-        PacketFault::NoName => text.extend_from_slice(b"NoName")?,
-        PacketFault::CriticalUnknown => text.extend_from_slice(b"CriticalUnknown")?,
-        PacketFault::BadField => text.extend_from_slice(b"BadField")?,
-        PacketFault::NoNonce => text.extend_from_slice(b"NoNonce")?,
-        PacketFault::DigestMissing => text.extend_from_slice(b"DigestMissing")?,
-        PacketFault::DigestWrong => text.extend_from_slice(b"DigestWrong")?,
-        PacketFault::DigestWithout => text.extend_from_slice(b"DigestWithout")?,
-        PacketFault::Fragmented => text.extend_from_slice(b"Fragmented")?,
-        PacketFault::LpField => text.extend_from_slice(b"LpField")?,
-        PacketFault::TooLong => text.extend_from_slice(b"TooLong")?,
-    }
-    Ok(())
-}
-
-fn tlv_name(fault: TlvFault) -> &'static str
-    ensures { result.now ≡ tlv_name fault }
-{
-    match fault {
-        TlvFault::Truncated => "Truncated",
-        TlvFault::NotShortest => "NotShortest",
-        TlvFault::TypeZero => "TypeZero",
-        TlvFault::TypeTooLarge => "TypeTooLarge",
-        TlvFault::BadInteger => "BadInteger",
-    }
 }
