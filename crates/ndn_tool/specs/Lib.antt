@@ -1,0 +1,7 @@
+pub mod Word
+pub mod Options
+pub mod Job
+pub mod Fault
+pub mod Command
+pub mod Show
+pub mod Answer

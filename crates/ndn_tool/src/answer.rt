@@ -1,0 +1,149 @@
+//! The answer to a job.
+ghost use Rattle.std.specs.Prelude.{◌≡◌, ◌++◌, List, ℕ, IfOk, OnErr, MatchResult, option_map};
+ghost use Rattle.ndn_tool.specs.Answer.{IsAnswer, IsRefusal, IsInterestAnswer, IsInterestRefusal, IsDataAnswer, IsDataRefusal, IsTagAnswer, IsTagRefusal, IsShown, IsNotShown, IsHmac, SignsInterest, SignsData, IsNoKey, hex_line};
+
+use crate::fault::ToolFault;
+use crate::job::{DataJob, InterestJob, Job, TagJob};
+use crate::show::put_frame;
+use hmac_keys::{KeyBook, hmac_sha256};
+use ndn_names::NameBuf;
+use ndn_packets::{DataWriter, InterestWriter, Sign, read_frame};
+use ndn_tlv::Memory;
+use std::alloc::{AllocError, Global};
+
+/// Appends what the program prints for a job, with the keys of its key file.
+///
+/// Refuses it by cause, and else by `Memory`, and then appends nothing. `Usage` never comes.
+pub fn answer(alloc: Global, job: &Job, book: &KeyBook, out: &mut Vec<u8>) -> Result<(), ToolFault>
+    ensures answered { MatchResult result
+        (λ _. (text : List ℕ) × IsAnswer job.now book.now text × (out.new.items ≡ out.old.items ++ text))
+        (IsRefusal job.now book.now) }
+    ensures err { OnErr result (out.new.items ≡ out.old.items) }
+{
+    let text = text_of(alloc, job, book)?;
+    out.extend_from_slice(&text)?;
+    Ok(())
+}
+
+fn text_of(alloc: Global, job: &Job, book: &KeyBook) -> Result<Vec<u8>, ToolFault>
+    ensures { MatchResult result (λ text. IsAnswer job.now book.now text.items) (IsRefusal job.now book.now) }
+{
+    match job {
+        Job::Help(help) => Ok(help.to_string(alloc)?.into_bytes()),
+        Job::Interest(job) => interest_text(alloc, job, book),
+        Job::Data(job) => data_text(alloc, job, book),
+        Job::Tag(job) => tag_text(alloc, job, book),
+        Job::Show(octets) => shown_text(alloc, octets),
+    }
+}
+
+fn interest_text(alloc: Global, job: &InterestJob, book: &KeyBook) -> Result<Vec<u8>, ToolFault>
+    ensures { MatchResult result (λ text. IsInterestAnswer job.now book.now text.items) (IsInterestRefusal job.now book.now) }
+{
+    let sign = interest_sign(&job.key.key, book)?;
+    let writer = InterestWriter {
+        name: job.name.view(),
+        can_be_prefix: job.can_be_prefix,
+        must_be_fresh: job.must_be_fresh,
+        nonce: job.nonce,
+        lifetime: job.lifetime,
+        hop_limit: job.hop_limit,
+        parameters: octets_in(&job.parameters),
+        sign,
+        time: job.time,
+        seq: job.seq,
+    };
+    let mut packet = Vec::new(alloc);
+    writer.write(&mut packet)?;
+    Ok(hex_line(alloc, &packet)?)
+}
+
+fn data_text(alloc: Global, job: &DataJob, book: &KeyBook) -> Result<Vec<u8>, ToolFault>
+    ensures { MatchResult result (λ text. IsDataAnswer job.now book.now text.items) (IsDataRefusal job.now book.now) }
+{
+    let sign = data_sign(&job.key.key, book)?;
+    let writer = DataWriter {
+        name: job.name.view(),
+        freshness: job.freshness,
+        last: None,
+        content: octets_in(&job.content),
+        sign,
+    };
+    let mut packet = Vec::new(alloc);
+    writer.write(&mut packet)?;
+    Ok(hex_line(alloc, &packet)?)
+}
+
+fn tag_text(alloc: Global, job: &TagJob, book: &KeyBook) -> Result<Vec<u8>, ToolFault>
+    ensures { MatchResult result (λ text. IsTagAnswer job.now book.now text.items) (IsTagRefusal job.now book.now) }
+{
+    match book.find(job.key.view()) {
+        None => Err(ToolFault::NoKey),
+        Some(key) => Ok(hex_line(alloc, &hmac_sha256(key, &job.octets, &[]))?),
+    }
+}
+
+fn shown_text(alloc: Global, octets: &[u8]) -> Result<Vec<u8>, ToolFault>
+    ensures { MatchResult result (λ text. IsShown octets.now text.items) (IsNotShown octets.now) }
+{
+    match read_frame(octets) {
+        Err(fault) => Err(ToolFault::Packet(fault)),
+        Ok(frame) => {
+            let mut text = Vec::new(alloc);
+            put_frame(alloc, &mut text, &frame)?;
+            Ok(text)
+        }
+    }
+}
+
+/// The signature of an Interest: by its key, or none.
+fn interest_sign<'a>(
+    key: &'a Option<NameBuf>,
+    book: &'a KeyBook,
+) -> Result<Option<Sign<'a>>, ToolFault>
+    ensures { MatchResult result (SignsInterest key.now book.now) (IsNoKey key.now book.now) }
+{
+    match key {
+        None => Ok(None),
+        Some(name) => Ok(Some(hmac_of(name, book)?)),
+    }
+}
+
+/// The signature of a Data: by its key, or by DigestSha256.
+fn data_sign<'a>(key: &'a Option<NameBuf>, book: &'a KeyBook) -> Result<Sign<'a>, ToolFault>
+    ensures { MatchResult result (SignsData key.now book.now) (IsNoKey key.now book.now) }
+{
+    match key {
+        None => Ok(Sign::Digest),
+        Some(name) => hmac_of(name, book),
+    }
+}
+
+/// A signature by the key of this name.
+fn hmac_of<'a>(name: &'a NameBuf, book: &'a KeyBook) -> Result<Sign<'a>, ToolFault>
+    ensures { MatchResult result (IsHmac name.now book.now) (IsNoKey (Some name.now) book.now) }
+{
+    let name = name.view();
+    match book.find(name) {
+        None => Err(ToolFault::NoKey),
+        Some(key) => Ok(Sign::Hmac { name, key }),
+    }
+}
+
+fn octets_in(octets: &Option<Vec<u8>>) -> Option<&[u8]>
+    ensures { option_map (λ o. o.now) result ≡ option_map (λ o. o.items) octets.now }
+{
+    match octets {
+        None => None,
+        Some(octets) => Some(octets.as_slice()),
+    }
+}
+
+/// A line of hexadecimal.
+fn hex_line(alloc: Global, octets: &[u8]) -> Result<Vec<u8>, AllocError>
+    ensures { IfOk result (λ text. text.items ≡ hex_line octets.now) }
+{
+    let mut text = hex::encode(alloc, octets)?;
+    text.push('\n')?;
+    Ok(text.into_bytes())
+}

@@ -1,0 +1,202 @@
+//! The command line, and its help.
+ghost use Rattle.std.specs.Prelude.{◌≡◌};
+ghost use Rattle.clap.specs.Words.{kind_of};
+ghost use Rattle.ndn_tool.specs.Command.{reading_of};
+
+use crate::fault::{ToolFault, Usage};
+use crate::job::{DataJob, InterestJob, Job, TagJob};
+use crate::options::needed;
+use crate::word::octets_of;
+use clap::error::ErrorKind;
+use clap::{Arg, ArgAction, ArgMatches, Command, Error};
+use std::alloc::{AllocError, Global};
+use std::convert::AsStr;
+
+const ABOUT: &str =
+    "A client of Named Data Networking: writes packets, computes tags and shows what packets hold.";
+
+const AFTER: &str =
+    "Packets and other octets are in hexadecimal, two digits for each octet, of either case. URI is the text
+of a name, as /A/seg=5. Numbers are in decimal digits.
+
+A key file has on each line the URI of a key's name, a space, and the key in hexadecimal. Empty lines,
+and lines that begin with ;, are skipped.
+
+Example: a key, a signed Interest, and what it holds.
+  $ echo '/ops/KEY/1 6b6579' > ops.keys
+  $ packet=$(ndn_tool interest /A --nonce 01020304 --keys ops.keys --key /ops/KEY/1 --time 1000000)
+  $ ndn_tool show $packet
+
+Exit status: 0 where the answer is printed, 1 for a fault in a key file, a key that is not there or a
+packet that cannot be read or written, 2 for a wrong command line, 3 where reading, writing or memory
+fails.";
+
+const AFTER_INTEREST: &str =
+    "With --key the Interest is signed with HmacWithSha256, and has parameters, empty ones where no others are
+given; their digest is put behind the name. --time and --seq are of signed Interests.
+
+Example: the Interest /A, which waits for 4,000 milliseconds.
+  $ ndn_tool interest /A --nonce 01020304
+  050b07030801410a0401020304";
+
+const AFTER_DATA: &str =
+    "Without --key the Data is signed with DigestSha256, and with --key with HmacWithSha256.
+
+Example: a Data named /A whose content is the letter x.
+  $ ndn_tool data /A --content 78
+  062f070308014115017816031b01001720e4f0b5aed03446e702356a360c7194c208b8b6a28ff30de430f1baa08ba29266";
+
+const AFTER_TAG: &str =
+    "Example: the tag of the text `what do ya want for nothing?` under the key `Jefe`.
+  $ echo '/k 4a656665' > k.keys
+  $ ndn_tool tag 7768617420646f2079612077616e7420666f72206e6f7468696e673f --keys k.keys --key /k
+  5bdcc146bf60754e6a042426089575c75a003f089d2739839dec58b964ec3843";
+
+const AFTER_SHOW: &str =
+    "A line for each thing that the packet has, and always one for the lifetime of an Interest and the
+freshness of a Data; - stands for no octets.
+
+Example: a Data named /A.
+  $ ndn_tool show 060f070308014115017816031b01001700
+  data /A
+  freshness 0
+  content 78
+  signature 0 -";
+
+/// Reads the words of a command line, of which the first is the program's name.
+///
+/// Refuses it by `Usage` where it is wrong, and else by `Memory`.
+pub fn parse_words<S: AsStr>(alloc: Global, words: &[S]) -> Result<Job, ToolFault> {
+    let mut command = command(alloc)?;
+    match command.try_get_matches_from_mut(words) {
+        Ok(matches) => job_of(alloc, &matches),
+        Err(error) => answer_to(error),
+    }
+}
+
+fn answer_to(error: Error) -> Result<Job, ToolFault>
+    ensures { result ≡ reading_of (kind_of error) error }
+{
+    match error.kind() {
+        ErrorKind::DisplayHelp => Ok(Job::Help(error)),
+        ErrorKind::OutOfMemory => Err(ToolFault::Memory),
+        _ => Err(ToolFault::Usage(Usage::Words(error))),
+    }
+}
+
+/// The job of the subcommand that was found.
+fn job_of(alloc: Global, matches: &ArgMatches<'_>) -> Result<Job, ToolFault> {
+    match matches.subcommand() {
+        Some(("interest", options)) => Ok(Job::Interest(InterestJob::read(alloc, options)?)),
+        Some(("data", options)) => Ok(Job::Data(DataJob::read(alloc, options)?)),
+        Some(("tag", options)) => Ok(Job::Tag(TagJob::read(alloc, options)?)),
+        Some((_, options)) => Ok(Job::Show(octets_of(alloc, "HEX", needed(options, "HEX")?)?)),
+        None => Err(ToolFault::Usage(Usage::Word {
+            place: "the first word",
+            wanted: "a subcommand",
+        })),
+    }
+}
+
+fn command<'a>(alloc: Global) -> Result<Command<'a>, AllocError> {
+    Command::new(alloc, "ndn_tool")
+        .about(ABOUT)
+        .after_help(AFTER)
+        .disable_help_subcommand(true)
+        .subcommand_required(true)
+        .arg_required_else_help(true)
+        .subcommand(interest_command(alloc)?)?
+        .subcommand(data_command(alloc)?)?
+        .subcommand(tag_command(alloc)?)?
+        .subcommand(show_command(alloc)?)
+}
+
+fn interest_command<'a>(alloc: Global) -> Result<Command<'a>, AllocError> {
+    let command = Command::new(alloc, "interest")
+        .about("Writes an Interest, and prints it")
+        .after_help(AFTER_INTEREST)
+        .arg(word(alloc, "URI", "The name"))?
+        .arg(option(alloc, "nonce", "HEX", "The Nonce, 4 octets").required(true))?
+        .arg(flag(alloc, "can-be-prefix", "Data of longer names answer too"))?
+        .arg(flag(
+            alloc,
+            "must-be-fresh",
+            "Data that is not fresh does not answer",
+        ))?
+        .arg(option(
+            alloc,
+            "lifetime",
+            "N",
+            "The lifetime in milliseconds; 4000 where none is given",
+        ))?
+        .arg(option(
+            alloc,
+            "hop-limit",
+            "N",
+            "How many hops it may go, at most 255",
+        ))?
+        .arg(option(alloc, "parameters", "HEX", "The application parameters"))?
+        .arg(option(
+            alloc,
+            "time",
+            "N",
+            "The time of the signature, in milliseconds since 1970",
+        ))?
+        .arg(option(alloc, "seq", "N", "The sequence number of the signature"))?;
+    with_key(alloc, command)
+}
+
+fn data_command<'a>(alloc: Global) -> Result<Command<'a>, AllocError> {
+    let command = Command::new(alloc, "data")
+        .about("Writes a Data, and prints it")
+        .after_help(AFTER_DATA)
+        .arg(word(alloc, "URI", "The name"))?
+        .arg(option(alloc, "content", "HEX", "The content"))?
+        .arg(option(
+            alloc,
+            "freshness",
+            "N",
+            "How long it is fresh, in milliseconds",
+        ))?;
+    with_key(alloc, command)
+}
+
+fn tag_command<'a>(alloc: Global) -> Result<Command<'a>, AllocError> {
+    Command::new(alloc, "tag")
+        .about("Computes the HMAC with SHA-256 of octets, and prints it")
+        .after_help(AFTER_TAG)
+        .arg(word(alloc, "HEX", "The octets"))?
+        .arg(option(alloc, "keys", "FILE", "The key file").required(true))?
+        .arg(option(alloc, "key", "URI", "The name of the key").required(true))
+}
+
+fn show_command<'a>(alloc: Global) -> Result<Command<'a>, AllocError> {
+    Command::new(alloc, "show")
+        .about("Shows what a packet holds")
+        .after_help(AFTER_SHOW)
+        .arg(word(alloc, "HEX", "The packet, alone or in a link packet"))
+}
+
+/// With the options of a key.
+fn with_key<'a>(alloc: Global, command: Command<'a>) -> Result<Command<'a>, AllocError> {
+    command
+        .arg(option(alloc, "keys", "FILE", "The key file"))?
+        .arg(option(alloc, "key", "URI", "The name of the key to sign with"))
+}
+
+/// A word that has to be there.
+fn word<'a>(alloc: Global, id: &'a str, help: &'a str) -> Arg<'a> {
+    Arg::new(alloc, id).required(true).help(help)
+}
+
+/// An option with a value.
+fn option<'a>(alloc: Global, id: &'a str, value: &'a str, help: &'a str) -> Arg<'a> {
+    Arg::new(alloc, id).long(id).value_name(value).help(help)
+}
+
+fn flag<'a>(alloc: Global, id: &'a str, help: &'a str) -> Arg<'a> {
+    Arg::new(alloc, id)
+        .long(id)
+        .action(ArgAction::SetTrue)
+        .help(help)
+}

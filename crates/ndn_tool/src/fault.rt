@@ -1,0 +1,177 @@
+//! Why the program stops: what it says, and the status that it exits with.
+use hmac_keys::KeyFault;
+use ndn_packets::{PacketFault, WriteFault};
+use ndn_tlv::Memory;
+use std::alloc::AllocError;
+use std::fmt;
+
+/// What is wrong with a command line.
+#[derive(Debug, Drop)]
+pub enum Usage {
+    /// The words are no command line.
+    Words(clap::Error),
+    /// The word at a place is not what stands there.
+    Word {
+        /// The place, as the help names it.
+        place: &'static str,
+        /// What a right word is.
+        wanted: &'static str,
+    },
+}
+
+/// Why a job is not done.
+#[derive(Debug, Drop)]
+pub enum ToolFault {
+    /// The command line is wrong.
+    Usage(Usage),
+    /// The key is not in the key file.
+    NoKey,
+    /// The packet cannot be written.
+    Write(WriteFault),
+    /// The octets that are to be shown are no packet.
+    Packet(PacketFault),
+    /// A growth of memory was refused.
+    Memory,
+}
+
+/// Why the program has not done what it was asked.
+#[derive(Debug, Drop)]
+pub enum Fault {
+    /// The job is not done.
+    Tool(ToolFault),
+    /// A word of the command line is not UTF-8.
+    NotText,
+    /// The key file is none.
+    Keys(KeyFault),
+    /// The key file cannot be read.
+    Read,
+    /// Standard output cannot be written.
+    Write,
+}
+
+impl ToolFault {
+    ghost use Rattle.std.specs.Prelude.{◌≡◌};
+    ghost use Rattle.ndn_tool.specs.Fault.{tool_status};
+
+    /// The exit status: 1 for a key that is not there and for a packet, 2 for a wrong command line, 3
+    /// where memory was refused.
+    pub fn exit_status(&self) -> u8
+        ensures { result ≡ tool_status self.now }
+    {
+        match self {
+            ToolFault::Usage(_) => 2,
+            ToolFault::NoKey
+            | ToolFault::Write(WriteFault::BadName | WriteFault::TooLong)
+            | ToolFault::Packet(_) => 1,
+            ToolFault::Write(WriteFault::Memory) | ToolFault::Memory => 3,
+        }
+    }
+}
+
+impl Fault {
+    ghost use Rattle.std.specs.Prelude.{◌≡◌};
+    ghost use Rattle.ndn_tool.specs.Fault.{status_of};
+
+    /// The exit status: that of the job's fault, or 1 for a key file that is none, 2 for a wrong
+    /// command line, 3 where reading, writing or memory failed.
+    pub fn exit_status(&self) -> u8
+        ensures { result ≡ status_of self.now }
+    {
+        match self {
+            Fault::Tool(fault) => fault.exit_status(),
+            Fault::NotText => 2,
+            Fault::Keys(KeyFault::BadLine(_) | KeyFault::TwiceNamed(_) | KeyFault::TooMany) => 1,
+            Fault::Keys(KeyFault::Memory) | Fault::Read | Fault::Write => 3,
+        }
+    }
+}
+
+impl fmt::Display for ToolFault {
+    ghost use Rattle.ndn_tool.specs.Fault.{tool_text};
+
+    // Each text ends its line.
+    ghost output = { tool_text };
+
+    fn fmt<W: fmt::Write>(&self, f: &mut fmt::Formatter<W>) -> fmt::Result {
+        match self {
+            ToolFault::Usage(Usage::Words(error)) => error.fmt(f),
+            ToolFault::Usage(Usage::Word { place, wanted }) => {
+                writeln!(f, "error: a wrong value for {place}: give {wanted}")
+            }
+            ToolFault::NoKey => f.write_str("key not found\n"),
+            ToolFault::Write(WriteFault::Memory) | ToolFault::Memory => {
+                f.write_str("error: out of memory\n")
+            }
+            ToolFault::Write(fault) => writeln!(f, "{}", fault.name()),
+            ToolFault::Packet(fault) => writeln!(f, "{}", fault.name()),
+        }
+    }
+}
+
+impl fmt::Display for Fault {
+    ghost use Rattle.ndn_tool.specs.Fault.{text_of};
+
+    // Each text ends its line.
+    ghost output = { text_of };
+
+    fn fmt<W: fmt::Write>(&self, f: &mut fmt::Formatter<W>) -> fmt::Result {
+        match self {
+            Fault::Tool(fault) => fault.fmt(f),
+            Fault::NotText => f.write_str("error: a word of the command line is not UTF-8 text\n"),
+            Fault::Keys(KeyFault::BadLine(line)) => writeln!(f, "keys:{line}: BadLine"),
+            Fault::Keys(KeyFault::TwiceNamed(line)) => writeln!(f, "keys:{line}: TwiceNamed"),
+            Fault::Keys(KeyFault::TooMany) => f.write_str("keys:0: TooMany\n"),
+            Fault::Keys(KeyFault::Memory) => f.write_str("error: out of memory\n"),
+            Fault::Read => f.write_str("error: the key file cannot be read\n"),
+            Fault::Write => f.write_str("error: standard output cannot be written\n"),
+        }
+    }
+}
+
+impl From<WriteFault> for ToolFault {
+    ghost use Rattle.std.specs.Prelude.{◌≡◌};
+    ghost use Rattle.ndn_tool.specs.Fault.{fault_of_write};
+
+    ghost from_gives = { λ why fault. fault ≡ fault_of_write why };
+
+    fn from(fault: WriteFault) -> ToolFault {
+        match fault {
+            WriteFault::BadName | WriteFault::TooLong => ToolFault::Write(fault),
+            WriteFault::Memory => ToolFault::Memory,
+        }
+    }
+}
+
+impl From<Memory> for ToolFault {
+    ghost use Rattle.std.specs.Prelude.{◌≡◌};
+    ghost use Rattle.ndn_tool.specs.declared.fault.ToolFault.TheVariants.{Memory};
+
+    ghost from_gives = { λ _ fault. fault ≡ Memory };
+
+    fn from(_memory: Memory) -> ToolFault {
+        ToolFault::Memory
+    }
+}
+
+impl From<AllocError> for ToolFault {
+    ghost use Rattle.std.specs.Prelude.{◌≡◌};
+    ghost use Rattle.ndn_tool.specs.declared.fault.ToolFault.TheVariants.{Memory};
+
+    ghost from_gives = { λ _ fault. fault ≡ Memory };
+
+    fn from(_error: AllocError) -> ToolFault {
+        ToolFault::Memory
+    }
+}
+
+impl From<ToolFault> for Fault {
+    fn from(fault: ToolFault) -> Fault {
+        Fault::Tool(fault)
+    }
+}
+
+impl From<AllocError> for Fault {
+    fn from(_error: AllocError) -> Fault {
+        Fault::Tool(ToolFault::Memory)
+    }
+}

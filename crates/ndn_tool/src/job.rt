@@ -1,0 +1,172 @@
+//! What a command line asks for.
+
+use crate::fault::ToolFault;
+use crate::options;
+use crate::word::{name_of, nonce_of, octets_of};
+use clap::{ArgMatches, Error};
+use ndn_names::NameBuf;
+use std::alloc::Global;
+
+/// What a command line asks for: a subcommand with its options.
+#[derive(Drop)]
+pub enum Job {
+    /// A text of help.
+    Help(Error),
+    /// To write an Interest.
+    Interest(InterestJob),
+    /// To write a Data.
+    Data(DataJob),
+    /// To compute the tag of octets.
+    Tag(TagJob),
+    /// To show what octets of a link hold.
+    Show(Vec<u8>),
+}
+
+/// The key of a signature: the file that it is in, and its name.
+#[derive(Drop)]
+pub struct KeyChoice {
+    /// The path of the key file, if there is one.
+    pub keys: Option<String>,
+    /// The name of the key, if there is one.
+    pub key: Option<NameBuf>,
+}
+
+/// An Interest to write.
+#[derive(Drop)]
+pub struct InterestJob {
+    pub name: NameBuf,
+    pub can_be_prefix: bool,
+    pub must_be_fresh: bool,
+    /// The value of the Nonce, 4 octets as they stand.
+    pub nonce: [u8; 4],
+    /// The InterestLifetime in milliseconds.
+    pub lifetime: Option<u64>,
+    /// The HopLimit, in hops.
+    pub hop_limit: Option<u8>,
+    /// The value of the ApplicationParameters.
+    pub parameters: Option<Vec<u8>>,
+    /// The SignatureTime, in milliseconds since 1970, of a signed Interest.
+    pub time: Option<u64>,
+    /// The SignatureSeqNum of a signed Interest.
+    pub seq: Option<u64>,
+    /// The key of its signature; without one it is not signed.
+    pub key: KeyChoice,
+}
+
+/// A Data to write.
+#[derive(Drop)]
+pub struct DataJob {
+    pub name: NameBuf,
+    /// The value of the Content.
+    pub content: Option<Vec<u8>>,
+    /// The FreshnessPeriod in milliseconds.
+    pub freshness: Option<u64>,
+    /// The key of its signature; without one it is signed with DigestSha256.
+    pub key: KeyChoice,
+}
+
+/// Octets, and the key to compute their tag with.
+#[derive(Drop)]
+pub struct TagJob {
+    pub octets: Vec<u8>,
+    /// The path of the key file.
+    pub keys: String,
+    /// The name of the key.
+    pub key: NameBuf,
+}
+
+impl Job {
+    ghost use Rattle.std.specs.Prelude.{◌≡◌, option_map};
+    ghost use Rattle.ndn_tool.specs.Job.{key_file_of};
+
+    /// The path of the key file that the job names, if it names one.
+    pub fn key_file(&self) -> Option<&str>
+        ensures { option_map (λ path. path.now) result ≡ key_file_of self.now }
+    {
+        match self {
+            Job::Interest(job) => job.key.path(),
+            Job::Data(job) => job.key.path(),
+            Job::Tag(job) => Some(job.keys.as_str()),
+            Job::Help(_) | Job::Show(_) => None,
+        }
+    }
+}
+
+impl InterestJob {
+    ghost use Rattle.std.specs.Prelude.{IfOk};
+    ghost use Rattle.ndn_tool.specs.Options.{IsInterestJob};
+
+    /// The Interest that the options of `interest` ask for.
+    pub fn read(alloc: Global, options: &ArgMatches<'_>) -> Result<InterestJob, ToolFault>
+        ensures { IfOk result (IsInterestJob options.now) }
+    {
+        Ok(InterestJob {
+            name: name_of(alloc, "URI", options::needed(options, "URI")?)?,
+            can_be_prefix: options::flag(options, "can-be-prefix"),
+            must_be_fresh: options::flag(options, "must-be-fresh"),
+            nonce: nonce_of("nonce", options::needed(options, "nonce")?)?,
+            lifetime: options::number(options, "lifetime")?,
+            hop_limit: options::hops(options, "hop-limit")?,
+            parameters: options::octets(alloc, options, "parameters")?,
+            time: options::number(options, "time")?,
+            seq: options::number(options, "seq")?,
+            key: KeyChoice::read(alloc, options)?,
+        })
+    }
+}
+
+impl DataJob {
+    ghost use Rattle.std.specs.Prelude.{IfOk};
+    ghost use Rattle.ndn_tool.specs.Options.{IsDataJob};
+
+    /// The Data that the options of `data` ask for.
+    pub fn read(alloc: Global, options: &ArgMatches<'_>) -> Result<DataJob, ToolFault>
+        ensures { IfOk result (IsDataJob options.now) }
+    {
+        Ok(DataJob {
+            name: name_of(alloc, "URI", options::needed(options, "URI")?)?,
+            content: options::octets(alloc, options, "content")?,
+            freshness: options::number(options, "freshness")?,
+            key: KeyChoice::read(alloc, options)?,
+        })
+    }
+}
+
+impl TagJob {
+    ghost use Rattle.std.specs.Prelude.{IfOk};
+    ghost use Rattle.ndn_tool.specs.Options.{IsTagJob};
+
+    /// The octets and the key that the options of `tag` name.
+    pub fn read(alloc: Global, options: &ArgMatches<'_>) -> Result<TagJob, ToolFault>
+        ensures { IfOk result (IsTagJob options.now) }
+    {
+        Ok(TagJob {
+            octets: octets_of(alloc, "HEX", options::needed(options, "HEX")?)?,
+            keys: String::from_str(alloc, options::needed(options, "keys")?)?,
+            key: name_of(alloc, "key", options::needed(options, "key")?)?,
+        })
+    }
+}
+
+impl KeyChoice {
+    ghost use Rattle.std.specs.Prelude.{◌≡◌, option_map, IfOk, string_bytes};
+    ghost use Rattle.ndn_tool.specs.Options.{IsKeyChoice};
+
+    fn read(alloc: Global, options: &ArgMatches<'_>) -> Result<KeyChoice, ToolFault>
+        ensures { IfOk result (IsKeyChoice options.now) }
+    {
+        Ok(KeyChoice {
+            keys: options::path(alloc, options, "keys")?,
+            key: options::name(alloc, options, "key")?,
+        })
+    }
+
+    fn path(&self) -> Option<&str>
+        ensures { option_map (λ path. path.now) result ≡ option_map string_bytes self.now.keys }
+    {
+        match &self.keys {
+            None => None,
+            Some(path) => Some(path.as_str()),
+        }
+    }
+}

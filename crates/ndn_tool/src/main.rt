@@ -1,0 +1,78 @@
+//! The client of a Named Data Networking node: writes packets, computes tags and shows what packets
+//! hold.
+#![tactic(auto)]
+
+mod answer;
+mod command;
+mod fault;
+mod job;
+mod options;
+mod show;
+mod word;
+
+use answer::answer;
+use command::parse_words;
+use fault::{Fault, ToolFault};
+use hmac_keys::{KeyBook, KeyFault};
+use job::Job;
+use std::alloc::Global;
+use std::env::Env;
+use std::io::Write;
+use std::process::ExitCode;
+use std::rt::Files;
+use std::{env, fs, io, str};
+
+fn main(rt: HostRuntime) -> ExitCode {
+    let Err(fault) = obey(&rt) else {
+        return ExitCode::SUCCESS;
+    };
+    let status = fault.exit_status();
+    // Where standard error takes no text, the status alone tells.
+    let _told = rt.eprint(fault);
+    ExitCode::from(status)
+}
+
+/// Does what the command line asks for, and prints the answer.
+fn obey<R: Env + AllocGlobal + Files + Print>(rt: &R) -> Result<(), Fault> {
+    let words = words_of(rt)?;
+    let job = parse_words(rt.alloc(), words.as_slice())?;
+    let book = book_of(rt, &job)?;
+    let mut text = Vec::new(rt.alloc());
+    answer(rt.alloc(), &job, &book, &mut text)?;
+    io::writer(rt).write_all(&text).map_err(|_| Fault::Write)
+}
+
+fn words_of<R: Env + AllocGlobal>(rt: &R) -> Result<Vec<String>, Fault> {
+    match env::args(rt) {
+        Ok(words) => Ok(words.collect(rt.alloc())?),
+        Err(error) if error.kind() == io::ErrorKind::OutOfMemory => {
+            Err(Fault::Tool(ToolFault::Memory))
+        }
+        Err(_) => Err(Fault::NotText),
+    }
+}
+
+/// The keys of the key file that the job names, or none.
+fn book_of<R: AllocGlobal + Files>(rt: &R, job: &Job) -> Result<KeyBook, Fault> {
+    let Some(path) = job.key_file() else {
+        return Ok(KeyBook::new(rt.alloc()));
+    };
+    match fs::read(rt, path) {
+        Ok(octets) => read_book(rt.alloc(), &octets),
+        Err(error) if error.kind() == io::ErrorKind::OutOfMemory => {
+            Err(Fault::Tool(ToolFault::Memory))
+        }
+        Err(_) => Err(Fault::Read),
+    }
+}
+
+/// The keys of a key file. One that is not UTF-8 is a bad line, which has no number.
+fn read_book(alloc: Global, octets: &[u8]) -> Result<KeyBook, Fault> {
+    match str::from_utf8(octets) {
+        Ok(text) => KeyBook::read(alloc, text).map_err(Fault::Keys),
+        Err(_) => Err(Fault::Keys(KeyFault::BadLine(0))),
+    }
+}
+
+#[cfg(test)]
+mod tests;
