@@ -1,15 +1,17 @@
 -- Which packets have octets that a signature covers, and which octets these are.
-use Rattle.std.proofs.Common.{◌≡◌, ◌≢◌, ℕ, ◌-◌, ◌⊎◌, Bool, List, [], ◌∷◌, ◌++◌, length, take, Option, None, Some, refl, sym, ap, subst, ◌∙◌, append_assoc, arith, inl, inr}
+use Rattle.std.proofs.Common.{◌≡◌, ◌≢◌, ℕ, ◌-◌, ◌⊎◌, Bool, eqb, List, [], ◌∷◌, ◌++◌, length, take, Option, None, Some, refl, sym, ap, subst, ◌∙◌, append_assoc, arith, inl, inr}
 use Rattle.std.specs.Prelude.{IsSome}
 use Rattle.std.specs.List.{flat_map, AllByRecursion}
-use Rattle.std.proofs.lemmas.Bool.{eqb-false}
-use Rattle.std.proofs.lemmas.List.{length-append, take_at}
+use Rattle.std.proofs.lemmas.Bool.{eqb-false, ne_eqb}
+use Rattle.std.proofs.lemmas.List.{length-append, take_at, append_cancel_right}
 use Rattle.std.proofs.lemmas.List.Concat.{flat_map-cons}
+use Rattle.std.proofs.lemmas.List.Elements.{filter-append}
+use Rattle.sha2.specs.Sha256.{sha256}
 use Rattle.ndn_tlv.specs.Element.{Field, IsField, element, IsElement, IsElements}
-use Rattle.ndn_packets.specs.Packet.{PlainSignature, PlainInterest, PlainData}
+use Rattle.ndn_packets.specs.Packet.{PlainSignature, PlainInterest, PlainData, PlainFrame, AnInterest, AData, ANack, Idle, digests_in}
 use Rattle.ndn_packets.specs.Fields.{Fields, optional, flag, is_even_high, interest_schema}
-use Rattle.ndn_packets.specs.Grammar.{IsSigned, IsInterest, IsData}
-use Rattle.ndn_packets.specs.Covered.{IsCut, from_first, CoversData, CoversInterest, EndsInDigest}
+use Rattle.ndn_packets.specs.Grammar.{IsSigned, IsDigested, from_parameters, IsInterest, IsData}
+use Rattle.ndn_packets.specs.Covered.{IsCut, from_first, CoversData, CoversInterest, Covered, EndsInDigest, EndsAtSignature}
 use Rattle.ndn_packets.proofs.Steps.{ok_is, some_is, none_is_not_some}
 use Rattle.ndn_packets.proofs.Packets.{only_again}
 use Rattle.ndn_packets.proofs.Cuts.{cut_read, cut_is, never_cut, never_in, all_front, cut_among}
@@ -381,9 +383,10 @@ signed_value None value signature s h is = absurd (none_is_not_some s (sym h ∙
 signed_value (Some v) None signature s h is = absurd (none_is_not_some s (sym h.2 ∙ is))
 signed_value (Some v) (Some w) signature s h is = ap (λ (t : PlainSignature). Some t.value) (some_is _ s (sym h.2 ∙ is))
 
-pub interest_ends : (text : List ℕ) (i : PlainInterest) (s : PlainSignature) (first second : List ℕ) → IsInterest text i → i.signature ≡ Some s → CoversInterest i.name text first second
-    → (early after : List ℕ) × IsElement text 5 (early ++ (second ++ (element (46, s.value) ++ after)))
-interest_ends text i s first second h signed c =
+-- what is behind the second part begins with the element of the signature's value
+value_at : (text : List ℕ) (i : PlainInterest) (s : PlainSignature) (first second : List ℕ) → IsInterest text i → i.signature ≡ Some s → (c : CoversInterest i.name text first second)
+    → (after : List ℕ) × (c.from_signature ≡ element (46, s.value) ++ after)
+value_at text i s first second h signed c =
     let fields = h.fields in
     let inside = outer_one text 5 c.value fields.value c.outer fields.outer in
     let b = begins_parameters c.value c.early c.from_parameters c.to_info c.from_info c.to_signature c.from_signature h.name_value fields.elements _ (subst (λ (t : List ℕ). IsElements t ((7, h.name_value) ∷ fields.elements)) (sym inside) fields.inner)
@@ -402,8 +405,83 @@ interest_ends text i s first second h signed c =
     append_assoc early later ((46, s.value) ∷ []) ∙ ap (λ (v : Option (List ℕ)). early ++ (later ++ optional 46 v)) (sym value) ∙ ap (λ (fs : List Field). early ++ fs) last
     ∙ sym (fields_are i.can_be_prefix i.must_be_fresh h.hint i.nonce h.lifetime_value (optional 34 h.hop_value ++ back_fields i.parameters h.info_value h.signature_value)) ∙ b.fields_are in
     let same : s.value ≡ b.value = first_value 46 (early ++ later) b.early [] b.late s.value b.value others b.others are in
-    let from : c.from_signature ≡ element (46, s.value) ++ b.after = b.from_is ∙ ap (λ (v : List ℕ). element (46, v) ++ b.after) (sym same) in
-    let whole : c.value ≡ c.early ++ (second ++ (element (46, s.value) ++ b.after)) =
-    c.parameters.octets_are ∙ ap (λ (t : List ℕ). c.early ++ t) (c.info.octets_are ∙ ap (λ (t : List ℕ). c.to_info ++ t) (c.signature.octets_are ∙ ap (λ (t : List ℕ). c.to_signature ++ t) from)
-    ∙ sym (append_assoc c.to_info c.to_signature (element (46, s.value) ++ b.after)) ∙ ap (λ (t : List ℕ). t ++ (element (46, s.value) ++ b.after)) (sym c.second_is)) in
-    (c.early, b.after, subst (IsElement text 5) whole c.outer)
+    (b.after, b.from_is ∙ ap (λ (v : List ℕ). element (46, v) ++ b.after) (sym same))
+
+-- the octets of the digest begin at the first ApplicationParameters
+from_met : (front back : List Field) (value : List ℕ) → Others 36 front → from_parameters (front ++ (36, value) ∷ back) ≡ (36, value) ∷ back
+from_met [] back value others = refl
+from_met (e ∷ front) back value others = rw (ne_eqb e.0 36 others.0) (from_met front back value others.1)
+
+parameters_at : (value early from name : List ℕ) (elements fields : List Field) → IsElements value ((7, name) ∷ elements) → Fields is_even_high interest_schema elements fields → IsCut 36 value early from
+    → from ≡ flat_map element (from_parameters elements)
+parameters_at value early from name elements fields inner recognised cut =
+    elim (meet_parameters is_even_high elements fields recognised) [
+      | inl m ↦
+          begins is_even_high 36 (44 ∷ 46 ∷ []) value early from (7, name) elements fields m (eqb-false 7 36 refl) inner.1 inner.0 cut
+          ∙ ap (flat_map element) (sym (ap from_parameters m.elements_are ∙ from_met m.front m.back m.value m.none))
+      | inr n ↦ absurd (never_cut 36 value early from (ap (from_first 36) inner.1 ∙ never_in 36 ((7, name) ∷ elements) inner.0 (eqb-false 7 36 refl, n.0)) cut)
+    ]
+
+same_last : {A : Type 0} (xs ys : List A) (x y : A) → xs ++ x ∷ [] ≡ ys ++ y ∷ [] → (xs ≡ ys) × (x ≡ y)
+same_last [] [] x y e = (refl, cc)
+same_last [] (b ∷ []) x y e = absurd cc
+same_last [] (b ∷ c ∷ ys) x y e = absurd cc
+same_last (a ∷ []) [] x y e = absurd cc
+same_last (a ∷ c ∷ xs) [] x y e = absurd cc
+same_last (a ∷ xs) (b ∷ ys) x y e =
+    let first : a ≡ b = cc in
+    let rest : xs ++ x ∷ [] ≡ ys ++ y ∷ [] = cc in
+    let r = same_last xs ys x y rest in
+    ((λ k. first k ∷ r.0 k), r.1)
+
+never_empty : {A : Type 0} (xs : List A) (x : A) → xs ++ x ∷ [] ≡ [] → ⊥
+never_empty [] x e = cc
+never_empty (a ∷ xs) x e = cc
+
+-- the digest at the end of a name is the right one
+digest_is : (name elements components : List Field) (digest : List ℕ) (parameters : Option (List ℕ)) → name ≡ components ++ (2, digest) ∷ [] → IsDigested name elements parameters
+    → digest ≡ sha256 (flat_map element (from_parameters elements))
+digest_is name elements components digest None is h =
+    absurd (never_empty (digests_in components) (2, digest) (sym (filter-append (λ (c : Field). eqb c.0 2) components ((2, digest) ∷ [])) ∙ ap digests_in (sym is) ∙ h))
+digest_is name elements components digest (Some p) is h =
+    let right = sha256 (flat_map element (from_parameters elements)) in
+    ap (λ (f : Field). f.1) (same_last (digests_in components) [] (2, digest) (2, right) (sym (filter-append (λ (c : Field). eqb c.0 2) components ((2, digest) ∷ [])) ∙ ap digests_in (sym is) ∙ h)).1
+
+pub interest_ends : (text : List ℕ) (i : PlainInterest) (s : PlainSignature) (first second : List ℕ) → IsInterest text i → i.signature ≡ Some s → CoversInterest i.name text first second
+    → EndsAtSignature i.name s.value text first second
+interest_ends text i s first second h signed c =
+    let fields = h.fields in
+    let v = value_at text i s first second h signed c in
+    let inner = subst (λ (t : List ℕ). IsElements t ((7, h.name_value) ∷ fields.elements)) (outer_one text 5 fields.value c.value fields.outer c.outer) fields.inner in
+    let from : c.from_parameters ≡ second ++ (element (46, s.value) ++ v.0) = c.info.octets_are ∙ ap (λ (t : List ℕ). c.to_info ++ t) (c.signature.octets_are ∙ ap (λ (t : List ℕ). c.to_signature ++ t) v.1)
+    ∙ sym (append_assoc c.to_info c.to_signature (element (46, s.value) ++ v.0)) ∙ ap (λ (t : List ℕ). t ++ (element (46, s.value) ++ v.0)) (sym c.second_is) in
+    let digest : c.digest ≡ sha256 (second ++ (element (46, s.value) ++ v.0)) = digest_is i.name fields.elements c.components c.digest i.parameters c.named h.digested
+    ∙ ap sha256 (sym (parameters_at c.value c.early c.from_parameters h.name_value fields.elements _ inner fields.recognised c.parameters) ∙ from) in
+    record {
+      components = c.components;
+      early = c.early;
+      after = v.0;
+      named = c.named ∙ ap (λ (d : List ℕ). c.components ++ (2, d) ∷ []) digest;
+      first_is = c.first_is;
+      outer = subst (IsElement text 5) (c.parameters.octets_are ∙ ap (λ (t : List ℕ). c.early ++ t) from) c.outer;
+    }
+
+-- ---- covered octets are given by the packet
+
+-- octets are cut in one place
+one_cut : (kind : ℕ) (octets other before from front back : List ℕ) → octets ≡ other → IsCut kind octets before from → IsCut kind other front back → (before ≡ front) × (from ≡ back)
+one_cut kind octets other before from front back same cut again =
+    let behind : from ≡ back = cut_is kind other from front back (ap (from_first kind) (sym same) ∙ cut_read kind octets before from cut) again in
+    (append_cancel_right before front from (sym cut.octets_are ∙ same ∙ again.octets_are ∙ ap (λ (t : List ℕ). front ++ t) (sym behind)), behind)
+
+pub one_covered : (packet : PlainFrame) (first second other_first other_second : List ℕ) → Covered packet first second → Covered packet other_first other_second → (first ≡ other_first) × (second ≡ other_second)
+one_covered (AnInterest whole i) first second other_first other_second c d =
+    let parameters = one_cut 36 c.value d.value c.early c.from_parameters d.early d.from_parameters (outer_one whole 5 c.value d.value c.outer d.outer) c.parameters d.parameters in
+    let info = one_cut 44 c.from_parameters d.from_parameters c.to_info c.from_info d.to_info d.from_info parameters.1 c.info d.info in
+    let signature = one_cut 46 c.from_info d.from_info c.to_signature c.from_signature d.to_signature d.from_signature info.1 c.signature d.signature in
+    let components = (same_last c.components d.components (2, c.digest) (2, d.digest) (sym c.named ∙ d.named)).0 in
+    (c.first_is ∙ ap (flat_map element) components ∙ sym d.first_is, c.second_is ∙ (λ k. info.0 k ++ signature.0 k) ∙ sym d.second_is)
+one_covered (AData whole d) first second other_first other_second c e =
+    ((one_cut 23 c.0.value e.0.value first c.0.from_signature other_first e.0.from_signature (outer_one whole 6 c.0.value e.0.value c.0.outer e.0.outer) c.0.cut e.0.cut).0, c.1 ∙ sym e.1)
+one_covered (ANack reason whole i) first second other_first other_second c d = absurd c
+one_covered Idle first second other_first other_second c d = absurd c

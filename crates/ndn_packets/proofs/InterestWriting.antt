@@ -12,7 +12,7 @@ use Rattle.ndn_names.specs.Name.{IsNameValue}
 use Rattle.ndn_tlv.specs.Element.{Field, element}
 use Rattle.ndn_packets.specs.Fields.{optional, flag}
 use Rattle.ndn_packets.specs.Reading.{is_nil}
-use Rattle.ndn_packets.specs.Writing.{octets, number, with_digest, name_with, IsLength, AreOctets}
+use Rattle.ndn_packets.specs.Writing.{octets, number, name_with, IsLength, AreOctets}
 use Rattle.ndn_packets.proofs.Lengths.{length-element, sum_is_long, element_put}
 
 regrouped : (a b c d e f : List ℕ) → ((((a ++ b) ++ c) ++ d) ++ e) ++ f ≡ a ++ ((((b ++ c) ++ d) ++ e) ++ f)
@@ -23,6 +23,10 @@ regrouped a b c d e f = simp append_assoc
 octets_behind : (name : List Field) (digest : List ℕ) → octets (name ++ (2, digest) ∷ []) ≡ octets name ++ element (2, digest)
 octets_behind name digest =
     flat_map-append element name ((2, digest) ∷ []) ∙ ap (λ (x : List ℕ). octets name ++ x) (append-nil (element (2, digest)))
+
+-- the name and the digest of the fields behind it
+abbrev pub with_digest : List Field → List Field → List Field
+with_digest name fields = name_with (sha256 (octets fields)) name fields
 
 pub with_digest_octets : (name later : List Field) → not (is_nil later) ≡ true → octets (with_digest name later) ≡ octets name ++ element (2, sha256 (octets later))
 with_digest_octets name [] some = absurd cc

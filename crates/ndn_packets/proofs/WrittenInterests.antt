@@ -22,10 +22,11 @@ use Rattle.ndn_packets.specs.Fields.{optional, flag, is_even_high, interest_sche
 use Rattle.ndn_packets.specs.Grammar.{IsPacket, IsOctet, from_parameters, IsDigested, IsSigned, IsInterest}
 use Rattle.ndn_packets.specs.Covered.{CoversInterest, Covered}
 use Rattle.ndn_packets.specs.Reading.{is_nil}
-use Rattle.ndn_packets.specs.Writing.{octets, number, info_fields, info_asked, parameters_of, covered_fields, interest_value, later_fields, with_digest, interest_name, interest_text, interest_asked, is_bad_name, interest_refusal, IsU64, IsSoundSign, SoundInterest}
+use Rattle.ndn_packets.specs.Writing.{octets, number, info_fields, info_asked, parameters_of, covered_fields, interest_value, later_fields, interest_name, interest_text, interest_asked, is_bad_name, interest_refusal, IsU64, IsSoundSign, SoundInterest}
 use Rattle.ndn_packets.proofs.Steps.{not_nil}
 use Rattle.ndn_packets.proofs.FieldLists.{MayBeBytes, AreBytes}
 use Rattle.ndn_packets.proofs.Lengths.{fields_are_long}
+use Rattle.ndn_packets.proofs.InterestWriting.{with_digest}
 use Rattle.ndn_packets.proofs.Written.{IsType, InOrder, leads, maybe, flagged, last, all_append, all_split, bytes_of_optional, bytes_behind, bytes_of_number, bytes_of_info, bytes_of_nothing, IsBytes-one, IsBytes-octets, IsBytes-sha256, IsBytes-value_of, length-value, is_number, info_written, packet_written, name_written, cut_written, not_refused}
 
 -- ---- the name with its digest

@@ -1,6 +1,7 @@
 -- The octets that a signature covers (NDN Packet Format 0.3, "Data Packet" and "Signed Interest").
 use Rattle.std.specs.Prelude.{◌≡◌, ◌≢◌, ℕ, zero, suc, List, [], ◌∷◌, ◌++◌, length, flat_map, Option, None, Some, ◌==◌, if◌then◌else◌}
 use Rattle.std.specs.List.{AllByRecursion}
+use Rattle.sha2.specs.Sha256.{sha256}
 use Rattle.ndn_tlv.specs.Element.{Field, IsField, element, IsElement}
 use Rattle.ndn_tlv.specs.Reading.{on_result, element_at}
 use Rattle.ndn_packets.specs.Packet.{PlainFrame, AnInterest, AData, ANack, Idle}
@@ -62,3 +63,13 @@ Covered Idle first second = ⊥
 -- the last component is a digest of parameters
 abbrev pub EndsInDigest : List Field → Type 0
 EndsInDigest name = (front : List Field) × (digest : List ℕ) × (name ≡ front ++ (2, digest) ∷ [])
+
+-- The octets end where the element of a signature's value begins, in an Interest of this name: the first ones are all components
+-- before the digest of parameters, and the second ones begin where the octets of that digest do.
+pub record EndsAtSignature (name : List Field) (value text first second : List ℕ) : Type 0 where
+  pub components : List Field
+  pub early : List ℕ
+  pub after : List ℕ
+  pub named : name ≡ components ++ (2, sha256 (second ++ (element (46, value) ++ after))) ∷ []
+  pub first_is : first ≡ flat_map element components
+  pub outer : IsElement text 5 (early ++ (second ++ (element (46, value) ++ after)))

@@ -39,13 +39,4 @@ abbrev pub LendsHopLimit : MutBor (List ℕ) → Option (MutBor ℕ) → Fml
 LendsHopLimit octets limit = LendsIf (Array u8 0) u8 octets limit (with_octet octets.now) octets.now
 
 abbrev pub with_limit : PlainInterest → ℕ → PlainInterest
-with_limit i limit = record {
-  name = i.name;
-  can_be_prefix = i.can_be_prefix;
-  must_be_fresh = i.must_be_fresh;
-  nonce = i.nonce;
-  lifetime = i.lifetime;
-  hop_limit = Some limit;
-  parameters = i.parameters;
-  signature = i.signature;
-}
+with_limit i limit = record i { hop_limit = Some limit }

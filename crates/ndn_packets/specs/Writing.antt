@@ -75,13 +75,14 @@ abbrev pub early_fields : InterestWriter → List Field
 early_fields w =
     flag 33 w.can_be_prefix ++ (flag 18 w.must_be_fresh ++ ((10, w.nonce) ∷ (number 12 w.lifetime ++ optional 34 (option_map (λ limit. limit ∷ []) w.hop_limit))))
 
--- the name, and behind it the digest of the parameters, where there are some
-abbrev pub with_digest : List Field → List Field → List Field
-with_digest name [] = name
-with_digest name (f ∷ fields) = name ++ (2, sha256 (octets (f ∷ fields))) ∷ []
+-- the name, and behind it a digest, where there are fields from the ApplicationParameters on
+abbrev pub name_with : List ℕ → List Field → List Field → List Field
+name_with digest name [] = name
+name_with digest name (f ∷ fields) = name ++ (2, digest) ∷ []
 
+-- the digest is that of their octets
 abbrev pub interest_name : InterestWriter → List Field
-interest_name w = with_digest (components w.name) (later_fields w w.sign)
+interest_name w = name_with (sha256 (octets (later_fields w w.sign))) (components w.name) (later_fields w w.sign)
 
 abbrev pub interest_text : InterestWriter → List ℕ
 interest_text w = element (5, octets ((7, octets (interest_name w)) ∷ (early_fields w ++ later_fields w w.sign)))
@@ -203,11 +204,6 @@ pub record SoundInterest (w : InterestWriter) : Type 0 where
 
 -- ---- a name before its digest is known
 
--- the name, and behind it these octets in place of the digest of the parameters
-abbrev pub name_with : List ℕ → List Field → List Field → List Field
-name_with digest name [] = name
-name_with digest name (f ∷ fields) = name ++ (2, digest) ∷ []
-
--- the name with zeros in that place
+-- zeros stand in the place of the digest
 abbrev pub zeroed_name : InterestWriter → List Field
 zeroed_name w = name_with (replicate 32 0) (components w.name) (later_fields w w.sign)

@@ -3,9 +3,9 @@
 ghost use Rattle.std.specs.Prelude.{◌≡◌, ◌≤◌, ◌-◌, ◌↔◌, ◌++◌, ◌∷◌, [], List, ℕ, Some, length, take, flat_map, option_map, IsSome, IfSome, IsSomeAnd, MatchOption};
 ghost use Rattle.ndn_tlv.specs.Element.{Field, element, IsElement};
 ghost use Rattle.ndn_names.specs.View.{components};
-ghost use Rattle.ndn_packets.specs.Packet.{PlainSignature, PlainInterest, PlainData, AnInterest, AData};
+ghost use Rattle.ndn_packets.specs.Packet.{PlainSignature, PlainInterest, PlainData, PlainFrame, AnInterest, AData};
 ghost use Rattle.ndn_packets.specs.Grammar.{IsInterest, IsData};
-ghost use Rattle.ndn_packets.specs.Covered.{IsCut, from_first, Covered, EndsInDigest};
+ghost use Rattle.ndn_packets.specs.Covered.{IsCut, from_first, Covered, EndsInDigest, EndsAtSignature};
 
 use crate::data::{Data, SIGNATURE_VALUE};
 use crate::frame::{DATA, INTEREST, only_element};
@@ -123,6 +123,8 @@ fn octets_before<'a>(octets: &'a [u8], end: &[u8]) -> &'a [u8]
 
 /// Law: a Data has covered octets, and an Interest has some exactly where it is signed and the digest
 /// of its parameters is the last component. They end where the element of the signature's value begins.
+/// Those of an Interest are all of its name before the digest, and then begin where the octets of the
+/// digest do.
 pub fn signed_packets_have_covered_octets()
     ensures data { (text : List ℕ) (d : PlainData) → IsData text d → (covered : List ℕ) × Covered (AData text d) covered [] }
     ensures interest { (text : List ℕ) (i : PlainInterest) → IsInterest text i
@@ -130,6 +132,11 @@ pub fn signed_packets_have_covered_octets()
     ensures data_ends { (text covered : List ℕ) (d : PlainData) → IsData text d → Covered (AData text d) covered []
         → (after : List ℕ) × IsElement text 6 (covered ++ (element (23, d.signature.value) ++ after)) }
     ensures interest_ends { (text first second : List ℕ) (i : PlainInterest) (s : PlainSignature) → IsInterest text i → i.signature ≡ Some s
-        → Covered (AnInterest text i) first second
-        → (early after : List ℕ) × IsElement text 5 (early ++ (second ++ (element (46, s.value) ++ after))) }
+        → Covered (AnInterest text i) first second → EndsAtSignature i.name s.value text first second }
+{}
+
+/// Law: what the signature of a packet covers has one reading.
+pub fn covered_octets_have_one_reading()
+    ensures { (packet : PlainFrame) (first second other_first other_second : List ℕ) → Covered packet first second → Covered packet other_first other_second
+        → (first ≡ other_first) × (second ≡ other_second) }
 {}

@@ -18,7 +18,7 @@ mod schema;
 mod signature;
 mod writing;
 
-pub use covered::{Parts, signed_packets_have_covered_octets};
+pub use covered::{Parts, covered_octets_have_one_reading, signed_packets_have_covered_octets};
 pub use data::Data;
 pub use data_writer::{DataWriter, put_reply};
 pub use fault::{PacketFault, WriteFault};

@@ -63,6 +63,24 @@ fn covered_octets_of_interests(rt: HostRuntime) -> Result<(), Fail> {
     Ok(())
 }
 
+/// A signed Interest of the name /A and a digest, which was computed apart from this library, with two
+/// ApplicationParameters, of which the second is ignored.
+const TWO_PARAMETERS: [u8; 59] = [
+    5, 57, 7, 37, 8, 1, 65, 2, 32, 47, 77, 154, 100, 105, 168, 218, 219, 174, 165, 140, 50, 54, 26,
+    212, 8, 247, 219, 45, 178, 71, 122, 88, 252, 80, 199, 217, 222, 77, 98, 205, 33, 10, 4, 1, 2,
+    3, 4, 36, 0, 36, 1, 255, 44, 3, 27, 1, 0, 46, 0,
+];
+
+#[test]
+fn covered_octets_from_the_first_parameters(rt: HostRuntime) -> Result<(), Fail> {
+    let expected = [8, 1, 65, 36, 0, 36, 1, 255, 44, 3, 27, 1, 0];
+    assert_eq!(rt;
+        covered(&rt, &TWO_PARAMETERS)?.as_deref(),
+        Some(expected.as_slice())
+    );
+    Ok(())
+}
+
 /// Sets the HopLimit of an Interest to 6.
 fn set_hop_limit(octets: &mut [u8]) -> bool {
     match hop_limit_mut(octets) {
