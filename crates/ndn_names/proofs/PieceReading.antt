@@ -1,19 +1,22 @@
 -- What reading a component's text says of the text.
-use Rattle.std.proofs.Common.{◌≡◌, ℕ, ◌^◌, ◌<◌, eqb, List, [], ◌∷◌, ◌++◌, length, Option, Some, None, Ok, refl, sym, ap, subst, ◌∙◌, arith, inl, inr, eq-eqb, decimal}
+use Rattle.std.proofs.Common.{◌≡◌, ℕ, ◌^◌, ◌<◌, eqb, List, [], ◌∷◌, ◌++◌, length, Option, Some, None, Result, Ok, Err, MatchResult, refl, sym, ap, subst, ◌∙◌, arith, inl, inr, eq-eqb, decimal, Bool, true, false, cond, ◌||◌}
+use Rattle.std.specs.List.{list_any}
 use Rattle.std.specs.Str.Parse.{IsNumeral, digits_value}
 use Rattle.std.proofs.lemmas.Bool.{cases_lt, cases_eq, eqb-true, ne_eqb, le-leb, lt-leb}
 use Rattle.std.proofs.lemmas.List.{length-append}
 use Rattle.ndn_tlv.specs.Element.{Field}
 use Rattle.ndn_tlv.specs.Number.{shortest_nni}
 use Rattle.ndn_tlv.specs.Reading.{◌>>=◌}
+use Rattle.ndn_names.specs.declared.fault.NameFault.{NameFault}
+use Rattle.ndn_names.specs.declared.fault.NameFault.TheVariants.{BadUri, Memory}
 use Rattle.ndn_names.specs.Name.{IsComponent}
 use Rattle.ndn_names.specs.Reading.{component_of}
 use Rattle.ndn_names.specs.Word.{word_of, kind_of}
 use Rattle.ndn_names.specs.Uri.{padded}
 use Rattle.ndn_names.specs.ReadsAs.{IsHex, StandsFor, IsValueText, IsGeneric, IsTyped, IsDigest, IsNumbered, ReadsComponent}
-use Rattle.ndn_names.specs.UriReading.{octets_in, unpadded, hex_in, plain_in, number_in, type_in, digest_in, numbered_in, typed_in, cut_at, component_by_cut, component_in}
+use Rattle.ndn_names.specs.UriReading.{octets_in, unpadded, hex_in, plain_in, number_in, type_in, digest_in, numbered_in, typed_in, cut_at, component_by_cut, component_in, piece_in, IsFaultOf}
 use Rattle.ndn_names.proofs.Names.{component_found, component_again, bind_ok, done_is}
-use Rattle.ndn_names.proofs.TextReading.{test_passed, hex_found, hex_again, hex_length, hex_no_slash, Lacks, Lacks-append, Lacks-parts, octets_found, octets_again, octets_some, padded_some, octets_no_slash, unpadded_found, unpadded_again}
+use Rattle.ndn_names.proofs.TextReading.{test_passed, test_failed, hex_found, hex_again, hex_length, hex_no_slash, Lacks, Lacks-append, Lacks-parts, octets_found, octets_again, octets_some, padded_some, octets_no_slash, unpadded_found, unpadded_again}
 use Rattle.ndn_names.proofs.WordReading.{number_found, number_again, digits-Lacks, decimal-Lacks, type_found, type_again, word_found, word_again, word_kind, decimal_no_word, word_lacks}
 
 -- ---- texts cut at an octet
@@ -156,3 +159,38 @@ piece_shape piece c (inr (inl h)) =
     around_sign piece (decimal c.0) h.0 h.1 (decimal-Lacks 47 (inl (omega arith)) c.0 (omega arith)) (octets_no_slash h.0 (padded c.1) h.4)
 piece_shape piece c (inr (inr (inl h))) = around_sign piece h.0 h.1 h.2 (word_lacks c.0 h.0 h.3).1 (hex_no_slash h.1 c.1 h.6)
 piece_shape piece c (inr (inr (inr h))) = around_sign piece h.0 h.1 h.2 (word_lacks c.0 h.0 h.3).1 (digits-Lacks 47 (inl (omega arith)) h.1 h.5.1)
+
+-- ---- a component's text alone
+
+lacks_none : (octet : ℕ) (text : List ℕ) → list_any (λ o. eqb o octet) text ≡ false → Lacks octet text
+lacks_none octet [] e = tt
+lacks_none octet (o ∷ text) e =
+    elim (cases_eq o octet) [
+      | inl is ↦ absurd cc (rw (eq-eqb o octet is) at e)
+      | inr other ↦ (other, lacks_none octet text (rw (ne_eqb o octet other) at e))
+    ]
+
+none_lacks : (octet : ℕ) (text : List ℕ) → Lacks octet text → list_any (λ o. eqb o octet) text ≡ false
+none_lacks octet [] h = refl
+none_lacks octet (o ∷ text) h = rw (ne_eqb o octet h.0) (none_lacks octet text h.1)
+
+pub alone_found : (text : List ℕ) (c : Field) → piece_in text ≡ Ok c → ReadsComponent text c × IsComponent c
+alone_found text c e =
+    let p = test_failed (list_any (λ o. eqb o 47) text) (component_in text) c e in
+    piece_found text c (lacks_none 47 text p.0) p.1
+
+pub alone_again : (text : List ℕ) (c : Field) → ReadsComponent text c → IsComponent c → piece_in text ≡ Ok c
+alone_again text c h is = rw (none_lacks 47 text (piece_shape text c h).1) (piece_again text c h is)
+
+pub with_slash : (text : List ℕ) → list_any (λ o. eqb o 47) text ≡ true → piece_in text ≡ Err BadUri
+with_slash text e = rw e refl
+
+pub without_slash : (text : List ℕ) → list_any (λ o. eqb o 47) text ≡ false → piece_in text ≡ component_in text
+without_slash text e = rw e refl
+
+-- what reads as a component is what is read, but for memory
+pub alone_only : (text : List ℕ) (r : Result Field NameFault) → MatchResult r (λ d. piece_in text ≡ Ok d) (IsFaultOf (piece_in text))
+    → (c : Field) → ReadsComponent text c → IsComponent c → MatchResult r (λ d. d ≡ c) (λ fault. fault ≡ Memory)
+alone_only text (Ok d) e c h is = done_is d c (sym e ∙ alone_again text c h is)
+alone_only text (Err fault) (inl e) c h is = absurd cc (sym (alone_again text c h is) ∙ e)
+alone_only text (Err fault) (inr e) c h is = e

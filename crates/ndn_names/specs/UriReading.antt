@@ -1,5 +1,6 @@
 -- Reading a name's text from left to right, with the first fault that is met (NDN Packet Format 0.3, "NDN URI Scheme").
 use Rattle.std.specs.Prelude.{◌≡◌, ◌⊎◌, ℕ, ◌+◌, ◌-◌, ◌*◌, ◌^◌, List, [], ◌∷◌, length, take, drop, Option, Some, None, Result, Ok, Err, codes, decimal, bytes_eq, nat_lt, nat_le, ◌==◌, ◌&&◌, ◌||◌, not, if◌then◌else◌}
+use Rattle.std.specs.List.{list_any}
 use Rattle.std.specs.Char.{digit_value}
 use Rattle.std.specs.Str.{all_ascii_digits}
 use Rattle.std.specs.Str.Parse.{digits_value}
@@ -99,6 +100,10 @@ component_by_cut piece (Some parts) = typed_in parts.0 parts.1 (kind_of parts.0)
 -- a component
 unfoldable pub component_in : List ℕ → Result Field NameFault
 component_in piece = component_by_cut piece (cut_at 61 piece)
+
+-- a component alone, in a text that has no slash
+abbrev pub piece_in : List ℕ → Result Field NameFault
+piece_in text = if list_any (λ o. o == 47) text then Err BadUri else component_in text
 
 -- the components of these pieces, where n components stand before them
 abbrev pub components_in : ℕ → List (List ℕ) → Result (List Field) NameFault

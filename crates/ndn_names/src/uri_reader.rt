@@ -4,7 +4,8 @@ ghost use Rattle.std.specs.Prelude.{◌≡◌, ◌↔◌, ◌≢◌, ◌<◌, �
 ghost use Rattle.ndn_tlv.specs.Element.{Field};
 ghost use Rattle.ndn_names.specs.Word.{kind_of};
 ghost use Rattle.ndn_names.specs.Uri.{is_periods};
-ghost use Rattle.ndn_names.specs.ReadsAs.{ReadsAs};
+ghost use Rattle.ndn_names.specs.Name.{IsComponent};
+ghost use Rattle.ndn_names.specs.ReadsAs.{ReadsAs, ReadsComponent};
 ghost use Rattle.ndn_names.specs.UriReading as read;
 
 use crate::component::{GENERIC, PARAMETERS_SHA256_DIGEST, SHA256_LEN, component_kind};
@@ -156,6 +157,29 @@ fn read_component(value: &mut Vec<u8>, piece: &str) -> Result<u16, NameFault>
     }
 }
 
+/// Reads the URI text of one component, as `A` or `seg=5`: its type and its octets.
+///
+/// Refuses it as `NameBuf::from_uri` refuses the component: `BadDigestLength` for `1=` or `2=` with
+/// other than 32 octets, and `BadUri` for all else, a text with a slash among it. `Memory` may come
+/// at any text.
+pub fn component_from_uri(alloc: Global, text: &str) -> Result<(u16, Vec<u8>), NameFault>
+    // What is read is the component that the text reads as.
+    ensures found { IfOk result (λ c. ReadsComponent text.now (c.0, c.1.items) × IsComponent (c.0, c.1.items)) }
+    // What reads as a component is read, unless memory is refused.
+    ensures only { (c : Field) → ReadsComponent text.now c → IsComponent c
+        → MatchResult result (λ component. (component.0, component.1.items) ≡ c) (λ fault. fault ≡ NameFault.Memory) }
+    // Which fault it is.
+    ensures exact { MatchResult result (λ c. read.piece_in text.now ≡ Ok (c.0, c.1.items))
+        (λ fault. read.IsFaultOf (read.piece_in text.now) fault) }
+{
+    if text.as_bytes().contains(&b'/') {
+        return Err(NameFault::BadUri);
+    }
+    let mut value = Vec::new(alloc);
+    let kind = read_component(&mut value, text)?;
+    Ok((kind, value))
+}
+
 /// The text after the scheme, if it stands there.
 fn without_scheme(text: &str) -> &str
     ensures { result.now ≡ read.without_scheme text.now }
@@ -221,8 +245,10 @@ impl NameBuf {
     }
 }
 
-/// Law: a text reads as one name at most, which `name_in` gives.
+/// Law: a text reads as one name at most, which `name_in` gives, and as one component at most, which
+/// `piece_in` gives.
 pub fn texts_have_one_reading()
+    ensures component { (text : List ℕ) (c : Field) → (read.piece_in text ≡ Ok c) ↔ (ReadsComponent text c × IsComponent c) }
     ensures exact { (text : List ℕ) (cs : List Field) → (read.name_in text ≡ Ok cs) ↔ ReadsAs text cs }
     ensures one { (text : List ℕ) (a b : List Field) → ReadsAs text a → ReadsAs text b → a ≡ b }
 {}

@@ -1,4 +1,4 @@
-use crate::{Name, NameBuf, NameFault};
+use crate::{Name, NameBuf, NameFault, component_from_uri};
 use std::alloc::Global;
 use std::hash::{DefaultHasher, Hash, Hasher};
 use std::test::*;
@@ -305,4 +305,38 @@ fn refused_memory(rt: HostRuntime) {
             assert_eq!(rt; name.view().len(), 5);
         }
     }
+}
+
+/// The text of one component: what it reads as, or its fault.
+#[test]
+fn components_of_uris(rt: HostRuntime) -> Result<(), Fail> {
+    let read: [(&str, u16, &[u8]); 6] = [
+        ("A", 8, b"A"),
+        ("8=A", 8, b"A"),
+        ("seg=5", 50, &[5]),
+        ("54=%00%05", 54, &[0, 5]),
+        ("...", 8, b""),
+        ("a%2Fb", 8, b"a/b"),
+    ];
+    for (text, kind, value) in read {
+        let component = component_from_uri(rt.alloc(), text)?;
+        assert_eq!(rt; component.0, kind, "{text}");
+        assert_eq!(rt; component.1.as_slice(), value, "{text}");
+    }
+    let refused = [
+        ("", NameFault::BadUri),
+        (".", NameFault::BadUri),
+        ("A/B", NameFault::BadUri),
+        ("A/", NameFault::BadUri),
+        ("seg=x", NameFault::BadUri),
+        ("1=A", NameFault::BadDigestLength),
+        ("sha256digest=00", NameFault::BadUri),
+    ];
+    for (text, fault) in refused {
+        match component_from_uri(rt.alloc(), text) {
+            Ok(_) => return Err(Fail::new("a component is read")),
+            Err(found) => assert_eq!(rt; found, fault, "{text}"),
+        }
+    }
+    Ok(())
 }
