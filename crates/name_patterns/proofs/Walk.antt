@@ -1,0 +1,113 @@
+-- The walk over the table, which gives the counts of the greatest split one after the other.
+use Rattle.std.proofs.Common.{◌≡◌, ℕ, zero, suc, ◌+◌, ◌<◌, ◌≤◌, List, [], ◌∷◌, ◌++◌, length, take, drop, sum, get_or, Option, None, Some, refl, ◌∙◌, arith, inl, inr, length-append}
+use Rattle.std.specs.Prelude.{slice_get, slice_set, IsSomeAnd}
+use Rattle.std.proofs.lemmas.List.{drop-drop, length-drop, take-append-le, take_all}
+use Rattle.std.proofs.lemmas.List.Sums.{sum_by_push}
+use Rattle.std.proofs.Math.Seq.{drop-length}
+use Rattle.std.proofs.lemmas.Option.{get_or_from_slice_get}
+use Rattle.std.proofs.lemmas.Bool.{cases_eq}
+use Rattle.ndn_tlv.specs.Element.{Field}
+use Rattle.name_patterns.specs.Pattern.{PlainAtom}
+use Rattle.name_patterns.specs.Greedy.{first_count, greedy, IsRow, IsTable, AreStarts}
+use Rattle.name_patterns.proofs.Rows.{set_same, set_other}
+use Rattle.name_patterns.proofs.Splits.{after_counts, first_fits, greedy_none, greedy_some, greedy_end, greedy_no_end}
+
+-- what is there, and has the property
+pub some_of : {X : Type 0} (P : X → Type 0) (o : Option X) → IsSomeAnd o P → (x : X) × (o ≡ Some x) × P x
+some_of P None h = absurd h
+some_of P (Some x) h = (x, refl, h)
+
+-- what stands in the table
+pub table_at : (atoms : List PlainAtom) (cs : List Field) (rows : List (List (Option ℕ))) (i place : ℕ) → IsTable atoms cs rows → i ≤ length atoms → place ≤ length cs
+    → get_or (get_or rows i []) place None ≡ first_count (drop i atoms) (drop place cs)
+table_at atoms cs rows i place table low fits =
+    let row = some_of (IsRow (drop i atoms) cs) (slice_get rows i) (table i low) in
+    let row_is : get_or rows i [] ≡ row.0 = get_or_from_slice_get rows i row.0 [] row.1 in
+    rw row_is (get_or_from_slice_get row.0 place (first_count (drop i atoms) (drop place cs)) None (row.2 place fits))
+
+cons_at : {X : Type 0} (xs : List X) (i : ℕ) → i < length xs → (x : X) × (drop i xs ≡ x ∷ drop (i + 1) xs)
+cons_at [] i h = absurd (omega arith)
+cons_at (x ∷ xs) zero h = (x, refl)
+cons_at (x ∷ xs) (suc i) h =
+    let rest = cons_at xs i (omega arith) in
+    (rest.0, rw next rest.1)
+  where
+    next : suc i + 1 ≡ suc (i + 1)
+    next = omega arith
+
+-- i atoms have their counts, which end at this place
+pub record IsWalked (atoms : List PlainAtom) (cs : List Field) (i place : ℕ) (starts done : List ℕ) : Type 0 where
+  pub len : length done ≡ i
+  pub end : sum done ≡ place
+  pub fits : place ≤ length cs
+  pub rest : greedy atoms cs ≡ after_counts done (greedy (drop i atoms) (drop place cs))
+  pub starts_are : (k : ℕ) → k ≤ i → slice_get starts k ≡ Some (sum (take k done))
+
+pub walk_none : (atoms : List PlainAtom) (cs : List Field) (i place : ℕ) (starts done : List ℕ) → IsWalked atoms cs i place starts done → i < length atoms
+    → first_count (drop i atoms) (drop place cs) ≡ None → greedy atoms cs ≡ None
+walk_none atoms cs i place starts done w low e =
+    let a = cons_at atoms i low in
+    let none : greedy (a.0 ∷ drop (i + 1) atoms) (drop place cs) ≡ None = greedy_none a.0 (drop (i + 1) atoms) (drop place cs) (rw a.1 at e) in
+    w.rest ∙ rw (a.1, none) refl
+
+sum_push : (xs : List ℕ) (n : ℕ) → sum (xs ++ n ∷ []) ≡ sum xs + n
+sum_push xs n = sum_by_push (λ x. x) xs n
+
+pub walk_step : (atoms : List PlainAtom) (cs : List Field) (i place : ℕ) (starts done : List ℕ) (k : ℕ) → IsWalked atoms cs i place starts done → i < length atoms
+    → i + 1 < length starts → first_count (drop i atoms) (drop place cs) ≡ Some k
+    → IsWalked atoms cs (i + 1) (place + k) (slice_set starts (i + 1) (place + k)) (done ++ k ∷ [])
+walk_step atoms cs i place starts done k w low room e =
+    let a = cons_at atoms i low in
+    let first : first_count (a.0 ∷ drop (i + 1) atoms) (drop place cs) ≡ Some k = rw a.1 at e in
+    let long : length (done ++ k ∷ []) ≡ i + 1 = omega (arith, length-append done (k ∷ []), w.len) in
+    let sum_is : sum (done ++ k ∷ []) ≡ place + k = rw (sum_push done k, w.end) refl in
+    let left : k ≤ length (drop place cs) = first_fits a.0 (drop (i + 1) atoms) (drop place cs) k first in
+    let moved : drop k (drop place cs) ≡ drop (place + k) cs = drop-drop k place cs in
+    record {
+      len = long;
+      end = sum_is;
+      fits = omega (arith, length-drop place cs, left, w.fits);
+      rest = w.rest ∙ rw a.1 (greedy_some done a.0 (drop (i + 1) atoms) (drop place cs) k first ∙ rw moved refl);
+      starts_are = λ n from. elim (cases_eq (i + 1) n) [
+        | inl is ↦
+            let all : take n (done ++ k ∷ []) ≡ done ++ k ∷ [] = take_all n (done ++ k ∷ []) (omega arith) in
+            let here : slice_get (slice_set starts (i + 1) (place + k)) (i + 1) ≡ Some (place + k) = set_same starts (i + 1) (place + k) room in
+            rw (all, sum_is, ← is) here
+        | inr other ↦
+            let front : take n (done ++ k ∷ []) ≡ take n done = take-append-le n done (k ∷ []) (omega arith) in
+            rw front (set_other starts (i + 1) n (place + k) other ∙ w.starts_are n (omega arith))
+      ];
+    }
+
+behind_all : {X : Type 0} (xs : List X) (i : ℕ) → i ≡ length xs → drop i xs ≡ []
+behind_all xs i e = rw e (drop-length xs)
+
+pub walk_end : (atoms : List PlainAtom) (cs : List Field) (i place : ℕ) (starts done : List ℕ) (k : ℕ) → IsWalked atoms cs i place starts done → i ≡ length atoms
+    → first_count (drop i atoms) (drop place cs) ≡ Some k → IsSomeAnd (greedy atoms cs) (λ counts. AreStarts atoms counts starts)
+walk_end atoms cs i place starts done k w i_is e =
+    let nil = behind_all atoms i i_is in
+    let counts_are : greedy atoms cs ≡ Some done = w.rest ∙ rw nil (greedy_end done (drop place cs) k (rw nil at e)) in
+    rw counts_are (λ n low. w.starts_are n (omega arith))
+
+pub walk_no_end : (atoms : List PlainAtom) (cs : List Field) (i place : ℕ) (starts done : List ℕ) → IsWalked atoms cs i place starts done → i ≡ length atoms
+    → first_count (drop i atoms) (drop place cs) ≡ None → greedy atoms cs ≡ None
+walk_no_end atoms cs i place starts done w i_is e =
+    let nil = behind_all atoms i i_is in
+    w.rest ∙ rw nil (greedy_no_end done (drop place cs) (rw nil at e))
+
+pub walk_start : (atoms : List PlainAtom) (cs : List Field) (starts : List ℕ) → slice_get starts 0 ≡ Some 0 → IsWalked atoms cs 0 0 starts []
+walk_start atoms cs starts e = record {
+  len = refl;
+  end = refl;
+  fits = omega arith;
+  rest = same_counts (greedy atoms cs);
+  starts_are = λ k low. first_start k low;
+}
+  where
+    same_counts : (counts : Option (List ℕ)) → counts ≡ after_counts [] counts
+    same_counts None = refl
+    same_counts (Some xs) = refl
+
+    first_start : (k : ℕ) → k ≤ 0 → slice_get starts k ≡ Some (sum (take k []))
+    first_start zero low = e
+    first_start (suc k) low = absurd (omega arith)

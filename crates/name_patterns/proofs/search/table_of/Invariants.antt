@@ -1,0 +1,14 @@
+use Rattle.std.proofs.Common.{◌≡◌, ℕ, ◌+◌, ◌*◌, ◌≤◌, length, map, drop}
+use Rattle.std.specs.Prelude.{slice_get, IsSomeAnd}
+use Rattle.ndn_names.specs.View.{components}
+use Rattle.name_patterns.specs.Greedy.{IsRow}
+use Rattle.name_patterns.specs.Shown.{atom_of}
+use Rattle.name_patterns.proofs.search.table_of.Given as goal
+
+abbrev pub invariant-loop-i : goal.invariant-loop-i
+invariant-loop-i l =
+    IsRow (drop l.i (map atom_of l.atoms)) (components l.fn.name) l.after
+    × ((k : ℕ) → l.i ≤ k → k ≤ length l.atoms → IsSomeAnd (slice_get l.table k) (IsRow (drop k (map atom_of l.atoms)) (components l.fn.name)))
+    × (length l.table ≡ 35)
+    × (l.steps + 64 * l.i ≤ l.fn.steps + 64 * length l.atoms)
+    × (l.steps + l.i * length (components l.fn.name) ≡ l.fn.steps + length l.atoms * length (components l.fn.name))

@@ -1,0 +1,9 @@
+pub mod Pattern
+pub mod Match
+pub mod Grammar
+pub mod Faults
+pub mod PatternReading
+pub mod Template
+pub mod TemplateReading
+pub mod Greedy
+pub mod Shown

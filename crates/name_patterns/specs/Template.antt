@@ -1,0 +1,63 @@
+-- Templates: which texts spell them, and the names that they expand to.
+use Rattle.std.specs.Prelude.{◌≡◌, ℕ, ◌+◌, ◌-◌, ◌≤◌, List, [], ◌∷◌, ◌++◌, length, take, drop, slice_get, IsSomeAnd, ⊤}
+use Rattle.std.specs.List.{flat_map, AllByRecursion}
+use Rattle.std.specs.Option.{option_map_or}
+use Rattle.ndn_tlv.specs.Element.{Field}
+use Rattle.ndn_names.specs.Name.{IsComponent}
+use Rattle.name_patterns.specs.Pattern.{LiesIn}
+use Rattle.name_patterns.specs.Grammar.{IsQuoted}
+
+-- a part of a template: a group by its number, or a component
+pub data PlainPart : Type 0 where
+  OfGroup : ℕ → PlainPart
+  Single : Field → PlainPart
+
+-- a backslash and a digit, for a group that is there, or the text of a component between < and >
+abbrev pub IsPart : ℕ → List ℕ → PlainPart → Type 0
+IsPart groups text (OfGroup n) = (text ≡ 92 ∷ (48 + n) ∷ []) × (n ≤ 9) × (n ≤ groups)
+IsPart groups text (Single c) = IsQuoted text c
+
+-- the text spells the template of these parts, for a pattern of so many groups
+abbrev pub IsTemplate : ℕ → List ℕ → List PlainPart → Type 0
+IsTemplate groups text [] = text ≡ []
+IsTemplate groups text (part ∷ parts) =
+    (front rest : List ℕ) × (text ≡ front ++ rest) × IsPart groups front part × IsTemplate groups rest parts
+
+-- what stands in a list from one place up to another
+abbrev pub between : List Field → ℕ × ℕ → List Field
+between cs places = take (places.1 - places.0) (drop places.0 cs)
+
+-- what a part stands for
+abbrev pub part_of : List (ℕ × ℕ) → List Field → PlainPart → List Field
+part_of captures cs (OfGroup n) = option_map_or (between cs) (slice_get captures n) []
+part_of captures cs (Single c) = c ∷ []
+
+-- what the parts stand for, one after the other, where the groups hold these places of the name
+abbrev pub expansion_of : List PlainPart → List (ℕ × ℕ) → List Field → List Field
+expansion_of parts captures cs = flat_map (part_of captures cs) parts
+
+-- how many components a part stands for, by the places of its group
+abbrev pub part_len : List (ℕ × ℕ) → PlainPart → ℕ
+part_len captures (OfGroup n) = option_map_or (λ places. places.1 - places.0) (slice_get captures n) 0
+part_len captures (Single c) = 1
+
+-- a part's group is among the captures, and lies within the name
+abbrev pub IsThere : List (ℕ × ℕ) → List Field → PlainPart → Type 0
+IsThere captures cs (OfGroup n) = IsSomeAnd (slice_get captures n) (LiesIn (length cs))
+IsThere captures cs (Single c) = ⊤
+
+abbrev pub AreThere : List (ℕ × ℕ) → List Field → List PlainPart → Type 0
+AreThere captures cs parts = AllByRecursion (IsThere captures cs) parts
+
+-- the parts need no more than so many groups
+abbrev pub NeedsGroup : ℕ → PlainPart → Type 0
+NeedsGroup groups (OfGroup n) = n ≤ groups
+NeedsGroup groups (Single c) = ⊤
+
+abbrev pub NeedAtMost : ℕ → List PlainPart → Type 0
+NeedAtMost groups parts = AllByRecursion (NeedsGroup groups) parts
+
+-- the parts that are components can stand in a name
+abbrev pub CanStand : PlainPart → Type 0
+CanStand (OfGroup n) = ⊤
+CanStand (Single c) = IsComponent c

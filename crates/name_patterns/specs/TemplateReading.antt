@@ -1,0 +1,48 @@
+-- Reading a template's text from left to right, with the first faulty part.
+use Rattle.std.specs.Prelude.{ℕ, zero, suc, ◌-◌, List, [], ◌∷◌, length, Option, Some, None, Result, Ok, Err, nat_lt, nat_le, ◌==◌, ◌&&◌, if◌then◌else◌}
+use Rattle.ndn_tlv.specs.Element.{Field}
+use Rattle.ndn_tlv.specs.Reading.{on_result}
+use Rattle.name_patterns.specs.declared.fault.PatternFault.{PatternFault}
+use Rattle.name_patterns.specs.declared.fault.PatternFault.TheVariants.{Syntax, Inner, BadGroup}
+use Rattle.name_patterns.specs.Template.{PlainPart, OfGroup, Single}
+use Rattle.name_patterns.specs.PatternReading.{◌>>=◌, Found, has_special, text_in, quoted_in}
+use Rattle.name_patterns.specs.Faults.{read_at}
+
+-- a decimal digit at the front
+abbrev pub digit_in : List ℕ → Option (ℕ × List ℕ)
+digit_in [] = None
+digit_in (o ∷ text) = if nat_le 48 o && nat_le o 57 then Some (o - 48, text) else None
+
+-- a group by its digit, behind a backslash at this place
+abbrev pub group_in : ℕ → ℕ → List ℕ → Result (PlainPart × List ℕ) PatternFault
+group_in groups at text =
+    on_result (λ digit. if nat_lt groups digit.0 then Err (BadGroup at) else Ok (OfGroup digit.0, digit.1)) Err (read_at at (digit_in text))
+
+-- the component of a text between < and >
+abbrev pub single_in : List ℕ → Option (Found Field)
+single_in text = do
+  quoted ← quoted_in text
+  c ← text_in quoted.0
+  Some (record { part = c; is_inner = has_special quoted.0; rest = quoted.1 })
+
+-- such a text at this place, as a part
+abbrev pub single_part_in : ℕ → List ℕ → Result (PlainPart × List ℕ) PatternFault
+single_part_in at text =
+    on_result (λ found. if found.is_inner then Err (Inner at) else Ok (Single found.part, found.rest)) Err (read_at at (single_in text))
+
+-- a part at this place
+abbrev pub part_in : ℕ → ℕ → List ℕ → Result (PlainPart × List ℕ) PatternFault
+part_in groups at [] = Err (Syntax at)
+part_in groups at (o ∷ text) = if o == 92 then group_in groups at text else single_part_in at (o ∷ text)
+
+-- the parts of a text of this length, of which a rest is left; at most n more parts are read
+unfoldable pub parts_within : ℕ → ℕ → ℕ → List ℕ → Result (List PlainPart) PatternFault
+parts_within zero groups len text = Ok []
+parts_within (suc n) groups len text =
+    if length text == 0 then Ok [] else
+    on_result (λ next. on_result (λ parts. Ok (next.0 ∷ parts)) Err (parts_within n groups len next.1)) Err
+    (part_in groups (len - length text) text)
+
+-- the parts of a text
+unfoldable pub template_in : ℕ → List ℕ → Result (List PlainPart) PatternFault
+template_in groups text = parts_within (length text) groups (length text) text

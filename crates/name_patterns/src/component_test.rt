@@ -1,0 +1,84 @@
+//! Tests of single components.
+
+ghost use Rattle.std.specs.Prelude.{◌≡◌, map};
+ghost use Rattle.ndn_names.specs.View.{field_of as component};
+ghost use Rattle.name_patterns.specs.Greedy.{is_among};
+ghost use Rattle.name_patterns.specs.Shown.{field_of};
+
+use crate::text::Text;
+use ndn_names::Component;
+
+/// What is asked of a component.
+#[derive(Debug, Drop)]
+enum Choice {
+    Anything,
+    OneOf(Vec<Text>),
+    NoneOf(Vec<Text>),
+}
+
+/// A test of a component.
+#[derive(Debug, Drop)]
+pub struct Test {
+    choice: Choice,
+}
+
+impl Test {
+    ghost use Rattle.std.specs.Prelude.{◌≡◌, ◌+◌, ◌^◌, ◌<◌, map};
+    ghost use Rattle.ndn_names.specs.View.{field_of as component};
+    ghost use Rattle.name_patterns.specs.Pattern.{PlainTest, Anything, OneOf, NoneOf};
+    ghost use Rattle.name_patterns.specs.Greedy.{passes};
+    ghost use Rattle.name_patterns.specs.Shown.{field_of, test_of};
+
+    /// Every component passes.
+    pub fn anything() -> Test
+        ensures { test_of result ≡ Anything }
+    {
+        Test {
+            choice: Choice::Anything,
+        }
+    }
+
+    /// The components of these texts pass.
+    pub fn one_of(texts: Vec<Text>) -> Test
+        ensures { test_of result ≡ OneOf (map field_of texts.items) }
+    {
+        Test {
+            choice: Choice::OneOf(texts),
+        }
+    }
+
+    /// All but the components of these texts pass.
+    pub fn none_of(texts: Vec<Text>) -> Test
+        ensures { test_of result ≡ NoneOf (map field_of texts.items) }
+    {
+        Test {
+            choice: Choice::NoneOf(texts),
+        }
+    }
+
+    /// Whether a component passes. Nothing else tests one, and each test is one more step.
+    pub fn passes(&self, candidate: Component<'_>, steps: &mut u64) -> bool
+        requires { steps.old + 1 < 2 ^ 64 }
+        ensures exact { result ≡ passes (test_of self.now) (component candidate.entry) }
+        ensures step { steps.new ≡ steps.old + 1 }
+    {
+        *steps += 1;
+        match &self.choice {
+            Choice::Anything => true,
+            Choice::OneOf(texts) => is_among(candidate, texts),
+            Choice::NoneOf(texts) => !is_among(candidate, texts),
+        }
+    }
+}
+
+/// Whether a component is one of these texts.
+fn is_among(candidate: Component<'_>, texts: &[Text]) -> bool
+    ensures { result ≡ is_among (component candidate.entry) (map field_of texts.now) }
+{
+    for text in texts {
+        if text.is(candidate) {
+            return true;
+        }
+    }
+    false
+}

@@ -1,0 +1,159 @@
+//! Patterns as far as they are read.
+
+use crate::atom::{Atom, any_components, read_atom};
+use crate::fault::PatternFault;
+use crate::pattern::Pattern;
+use crate::repeat::{begins_repeat, first_repeat};
+use std::alloc::Global;
+
+/// The greatest number of atoms that are written in a pattern.
+const MAX_WRITTEN: usize = 32;
+
+/// The greatest number of groups of a pattern.
+const MAX_GROUPS: usize = 9;
+
+/// A group that is not closed yet: the place of its parenthesis, and the number of atoms before it.
+#[derive(Clone, Copy, Debug)]
+pub struct OpenGroup {
+    pub place: usize,
+    pub first: usize,
+}
+
+/// What is read of a pattern: its atoms, how many of them are written, its groups, each by the
+/// number of atoms before it and before its end, and the group that is open.
+#[derive(Debug, Drop)]
+pub struct Draft {
+    pub atoms: Vec<Atom>,
+    pub written: usize,
+    pub groups: Vec<(usize, usize)>,
+    pub open_group: Option<OpenGroup>,
+}
+
+impl Draft {
+    ghost use Rattle.std.specs.Prelude.{◌≡◌, ◌+◌, ◌<◌, ◌≤◌, ◌^◌, ◌∷◌, ◌++◌, [], Ok, OnOk, IfOk, IfErr, length, MatchResult};
+    ghost use Rattle.name_patterns.specs.Faults.{IsFaultOf};
+    ghost use Rattle.name_patterns.specs.PatternReading.{PlainDraft, IsDraft, begun, with_atom, with_open, with_closed, with_item, with_implied, whole_of};
+    ghost use Rattle.name_patterns.specs.Shown.{draft_of};
+
+    /// The draft without atoms.
+    pub fn new(alloc: Global) -> Draft
+        ensures { draft_of result ≡ begun }
+    {
+        Draft {
+            atoms: Vec::new(alloc),
+            written: 0,
+            groups: Vec::new(alloc),
+            open_group: None,
+        }
+    }
+
+    /// Adds the atom that is implied where an anchor is missing.
+    pub fn imply(&mut self) -> Result<(), PatternFault>
+        ensures ok { OnOk result (draft_of self.new ≡ with_implied (draft_of self.old)) }
+        ensures err { IfErr result (λ fault. fault ≡ PatternFault.Memory) }
+    {
+        self.atoms.push(any_components())?;
+        Ok(())
+    }
+
+    /// Adds the atom at the front of the text, which stands at a place; gives the text behind it.
+    fn add_atom<'a>(
+        &mut self,
+        alloc: Global,
+        at: usize,
+        text: &'a str,
+    ) -> Result<&'a str, PatternFault>
+        ensures read { let next = with_atom (draft_of self.old) at text.now in
+            MatchResult result (λ rest. next ≡ Ok (draft_of self.new, rest.now)) (IsFaultOf next) }
+        ensures shorter { IfOk result (λ rest. length rest.now < length text.now) }
+    {
+        let found = read_atom(alloc, at, text)?;
+        if self.written >= MAX_WRITTEN {
+            return Err(PatternFault::Syntax(at));
+        }
+        if found.is_inner {
+            return Err(PatternFault::Inner(at));
+        }
+        self.atoms.push(found.part)?;
+        self.written += 1;
+        Ok(found.rest)
+    }
+
+    /// Opens a group, whose parenthesis stands at a place and before this text.
+    fn open_group(&mut self, at: usize, text: &str) -> Result<(), PatternFault>
+        ensures { let next = with_open (draft_of self.old) at text.now self.old.open_group in
+            MatchResult result (λ _. next ≡ Ok (draft_of self.new, text.now)) (IsFaultOf next) }
+    {
+        if self.open_group.is_some() {
+            return Err(PatternFault::Nested(at));
+        }
+        if self.groups.len() >= MAX_GROUPS {
+            return Err(PatternFault::BadGroup(at));
+        }
+        self.open_group = Some(OpenGroup {
+            place: at,
+            first: self.atoms.len(),
+        });
+        Ok(())
+    }
+
+    /// Closes the open group by a parenthesis at a place, which stands before this text.
+    fn close_group(&mut self, at: usize, text: &str) -> Result<(), PatternFault>
+        requires { at + 1 < 2 ^ 64 }
+        ensures { let next = with_closed (draft_of self.old) at text.now self.old.open_group in
+            MatchResult result (λ _. next ≡ Ok (draft_of self.new, text.now)) (IsFaultOf next) }
+    {
+        let Some(group) = self.open_group else {
+            return Err(PatternFault::Syntax(at));
+        };
+        if begins_repeat(text) {
+            return Err(match first_repeat(text) {
+                Some(_) => PatternFault::Nested(at + 1),
+                None => PatternFault::Syntax(at + 1),
+            });
+        }
+        self.groups.push((group.first, self.atoms.len()))?;
+        self.open_group = None;
+        Ok(())
+    }
+
+    /// Adds the item at the front of the text, which stands at a place; gives the text behind it.
+    pub fn add_item<'a>(
+        &mut self,
+        alloc: Global,
+        at: usize,
+        text: &'a str,
+    ) -> Result<&'a str, PatternFault>
+        requires { at + 1 < 2 ^ 64 }
+        ensures read { let next = with_item (draft_of self.old) at text.now in
+            MatchResult result (λ rest. next ≡ Ok (draft_of self.new, rest.now)) (IsFaultOf next) }
+        ensures shorter { IfOk result (λ rest. length rest.now < length text.now) }
+    {
+        if let Some(rest) = text.strip_prefix('(') {
+            self.open_group(at, rest)?;
+            return Ok(rest);
+        }
+        if let Some(rest) = text.strip_prefix(')') {
+            self.close_group(at, rest)?;
+            return Ok(rest);
+        }
+        self.add_atom(alloc, at, text)
+    }
+
+    /// The pattern, at the end of the text.
+    pub fn finish(self) -> Result<Pattern, PatternFault>
+        requires { IsDraft 2 (draft_of self) }
+        ensures { result ≡ whole_of (draft_of self) self.open_group }
+    {
+        let Draft {
+            atoms,
+            written: _,
+            groups,
+            open_group,
+        } = self;
+        match open_group {
+            Some(group) => Err(PatternFault::Syntax(group.place)),
+            None => Ok(Pattern { atoms, groups }),
+        }
+    }
+}
