@@ -1,21 +1,30 @@
--- What a command line says, by the words that its reader found for each option.
-use Rattle.std.specs.Prelude.{◌≡◌, ℕ, List, Option, None, Some, Bool, true, false, codes, string_bytes}
+-- What the options of a subcommand spell, by what was found for each of them.
+use Rattle.std.specs.Prelude.{◌≡◌, ℕ, List, Option, None, Some, Bool, true, false, codes, String, Vec, string_bytes}
 use Rattle.clap.specs.declared.parser.matches.ArgMatches.{ArgMatches}
-use Rattle.clap.specs.Matches.{found_of, first_value, one_text}
+use Rattle.clap.specs.Matches.{found_of}
+use Rattle.clap.specs.Walk.{Row, rows_of, first_of, one_of}
 use Rattle.ndn_names.specs.ReadsAs.{ReadsAs}
 use Rattle.ndn_tool.specs.declared.job.KeyChoice.{KeyChoice}
 use Rattle.ndn_tool.specs.declared.job.InterestJob.{InterestJob}
 use Rattle.ndn_tool.specs.declared.job.DataJob.{DataJob}
 use Rattle.ndn_tool.specs.declared.job.TagJob.{TagJob}
-use Rattle.ndn_tool.specs.Word.{IsNumber, IsOctets}
+use Rattle.ndn_tool.specs.Word.{IsNumber, IsHops, AreOctets, IsNonce}
+
+-- what was found, option by option
+abbrev pub rows_in : ArgMatches → List Row
+rows_in options = rows_of (found_of options)
 
 -- the word of an option, if it is there
-abbrev pub word_at : ArgMatches → List ℕ → Option (List ℕ)
-word_at options id = first_value (found_of options) id
+abbrev pub word_at : List Row → List ℕ → Option (List ℕ)
+word_at rows id = first_of id rows
 
 -- what is said of a flag
-abbrev pub flag_at : ArgMatches → List ℕ → Option (List ℕ)
-flag_at options id = one_text (found_of options) id
+abbrev pub flag_at : List Row → List ℕ → Option (List ℕ)
+flag_at rows id = one_of id rows
+
+-- a path is the word itself
+abbrev pub IsPath : {Z : Type 0} → List ℕ → String Z → Type 0
+IsPath word path = string_bytes path ≡ word
 
 -- a word is there, and spells this
 abbrev pub Has : {A : Type 0} → Option (List ℕ) → (List ℕ → A → Type 0) → A → Type 0
@@ -29,29 +38,33 @@ MayHave word Spells (Some x) = Has word Spells x
 abbrev pub IsFlag : Option (List ℕ) → Bool → Type 0
 IsFlag said b = (said ≡ Some (codes "true") → b ≡ true) × (said ≡ Some (codes "false") → b ≡ false) × (said ≡ None → b ≡ false)
 
-pub record IsKeyChoice (options : ArgMatches) (choice : KeyChoice) : Type 0 where
-  pub keys : MayHave (word_at options (codes "keys")) (λ word path. string_bytes path ≡ word) choice.keys
-  pub key : MayHave (word_at options (codes "key")) ReadsAs choice.key
+pub record IsKeyChoice (rows : List Row) (choice : KeyChoice) : Type 0 where
+  pub keys : MayHave (word_at rows (codes "keys")) IsPath choice.keys
+  pub key : MayHave (word_at rows (codes "key")) ReadsAs choice.key
 
-pub record IsInterestJob (options : ArgMatches) (job : InterestJob) : Type 0 where
-  pub name : Has (word_at options (codes "URI")) ReadsAs job.name
-  pub can_be_prefix : IsFlag (flag_at options (codes "can-be-prefix")) job.can_be_prefix
-  pub must_be_fresh : IsFlag (flag_at options (codes "must-be-fresh")) job.must_be_fresh
-  pub nonce : Has (word_at options (codes "nonce")) IsOctets job.nonce
-  pub lifetime : MayHave (word_at options (codes "lifetime")) IsNumber job.lifetime
-  pub hop_limit : MayHave (word_at options (codes "hop-limit")) IsNumber job.hop_limit
-  pub parameters : MayHave (word_at options (codes "parameters")) (λ word octets. IsOctets word octets.items) job.parameters
-  pub time : MayHave (word_at options (codes "time")) IsNumber job.time
-  pub seq : MayHave (word_at options (codes "seq")) IsNumber job.seq
-  pub key : IsKeyChoice options job.key
+pub record IsInterestJob (rows : List Row) (job : InterestJob) : Type 0 where
+  pub name : Has (word_at rows (codes "URI")) ReadsAs job.name
+  pub can_be_prefix : IsFlag (flag_at rows (codes "can-be-prefix")) job.can_be_prefix
+  pub must_be_fresh : IsFlag (flag_at rows (codes "must-be-fresh")) job.must_be_fresh
+  pub nonce : Has (word_at rows (codes "nonce")) IsNonce job.nonce
+  pub lifetime : MayHave (word_at rows (codes "lifetime")) IsNumber job.lifetime
+  pub hop_limit : MayHave (word_at rows (codes "hop-limit")) IsHops job.hop_limit
+  pub parameters : MayHave (word_at rows (codes "parameters")) AreOctets job.parameters
+  pub time : MayHave (word_at rows (codes "time")) IsNumber job.time
+  pub seq : MayHave (word_at rows (codes "seq")) IsNumber job.seq
+  pub key : IsKeyChoice rows job.key
 
-pub record IsDataJob (options : ArgMatches) (job : DataJob) : Type 0 where
-  pub name : Has (word_at options (codes "URI")) ReadsAs job.name
-  pub content : MayHave (word_at options (codes "content")) (λ word octets. IsOctets word octets.items) job.content
-  pub freshness : MayHave (word_at options (codes "freshness")) IsNumber job.freshness
-  pub key : IsKeyChoice options job.key
+pub record IsDataJob (rows : List Row) (job : DataJob) : Type 0 where
+  pub name : Has (word_at rows (codes "URI")) ReadsAs job.name
+  pub content : MayHave (word_at rows (codes "content")) AreOctets job.content
+  pub freshness : MayHave (word_at rows (codes "freshness")) IsNumber job.freshness
+  pub key : IsKeyChoice rows job.key
 
-pub record IsTagJob (options : ArgMatches) (job : TagJob) : Type 0 where
-  pub octets : Has (word_at options (codes "HEX")) IsOctets job.octets.items
-  pub keys : Has (word_at options (codes "keys")) (λ word path. string_bytes path ≡ word) job.keys
-  pub key : Has (word_at options (codes "key")) ReadsAs job.key
+pub record IsTagJob (rows : List Row) (job : TagJob) : Type 0 where
+  pub octets : Has (word_at rows (codes "HEX")) AreOctets job.octets
+  pub keys : Has (word_at rows (codes "keys")) IsPath job.keys
+  pub key : Has (word_at rows (codes "key")) ReadsAs job.key
+
+-- the octets to show
+abbrev pub IsShowJob : {Z : Type 0} → List Row → Vec ℕ Z → Type 0
+IsShowJob rows octets = Has (word_at rows (codes "HEX")) AreOctets octets

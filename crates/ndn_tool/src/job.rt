@@ -2,7 +2,6 @@
 
 use crate::fault::ToolFault;
 use crate::options;
-use crate::word::{name_of, nonce_of, octets_of};
 use clap::{ArgMatches, Error};
 use ndn_names::NameBuf;
 use std::alloc::Global;
@@ -93,18 +92,18 @@ impl Job {
 }
 
 impl InterestJob {
-    ghost use Rattle.std.specs.Prelude.{IfOk};
-    ghost use Rattle.ndn_tool.specs.Options.{IsInterestJob};
+    ghost use Rattle.ndn_tool.specs.Word.{ReadsInMemory};
+    ghost use Rattle.ndn_tool.specs.Options.{rows_in, IsInterestJob};
 
     /// The Interest that the options of `interest` ask for.
     pub fn read(alloc: Global, options: &ArgMatches<'_>) -> Result<InterestJob, ToolFault>
-        ensures { IfOk result (IsInterestJob options.now) }
+        ensures { ReadsInMemory (IsInterestJob (rows_in options.now)) result }
     {
         Ok(InterestJob {
-            name: name_of(alloc, "URI", options::needed(options, "URI")?)?,
+            name: options::needed_name(alloc, options, "URI")?,
             can_be_prefix: options::flag(options, "can-be-prefix"),
             must_be_fresh: options::flag(options, "must-be-fresh"),
-            nonce: nonce_of("nonce", options::needed(options, "nonce")?)?,
+            nonce: options::needed_nonce(options, "nonce")?,
             lifetime: options::number(options, "lifetime")?,
             hop_limit: options::hops(options, "hop-limit")?,
             parameters: options::octets(alloc, options, "parameters")?,
@@ -116,15 +115,15 @@ impl InterestJob {
 }
 
 impl DataJob {
-    ghost use Rattle.std.specs.Prelude.{IfOk};
-    ghost use Rattle.ndn_tool.specs.Options.{IsDataJob};
+    ghost use Rattle.ndn_tool.specs.Word.{ReadsInMemory};
+    ghost use Rattle.ndn_tool.specs.Options.{rows_in, IsDataJob};
 
     /// The Data that the options of `data` ask for.
     pub fn read(alloc: Global, options: &ArgMatches<'_>) -> Result<DataJob, ToolFault>
-        ensures { IfOk result (IsDataJob options.now) }
+        ensures { ReadsInMemory (IsDataJob (rows_in options.now)) result }
     {
         Ok(DataJob {
-            name: name_of(alloc, "URI", options::needed(options, "URI")?)?,
+            name: options::needed_name(alloc, options, "URI")?,
             content: options::octets(alloc, options, "content")?,
             freshness: options::number(options, "freshness")?,
             key: KeyChoice::read(alloc, options)?,
@@ -133,27 +132,28 @@ impl DataJob {
 }
 
 impl TagJob {
-    ghost use Rattle.std.specs.Prelude.{IfOk};
-    ghost use Rattle.ndn_tool.specs.Options.{IsTagJob};
+    ghost use Rattle.ndn_tool.specs.Word.{ReadsInMemory};
+    ghost use Rattle.ndn_tool.specs.Options.{rows_in, IsTagJob};
 
     /// The octets and the key that the options of `tag` name.
     pub fn read(alloc: Global, options: &ArgMatches<'_>) -> Result<TagJob, ToolFault>
-        ensures { IfOk result (IsTagJob options.now) }
+        ensures { ReadsInMemory (IsTagJob (rows_in options.now)) result }
     {
         Ok(TagJob {
-            octets: octets_of(alloc, "HEX", options::needed(options, "HEX")?)?,
-            keys: String::from_str(alloc, options::needed(options, "keys")?)?,
-            key: name_of(alloc, "key", options::needed(options, "key")?)?,
+            octets: options::needed_octets(alloc, options, "HEX")?,
+            keys: options::needed_path(alloc, options, "keys")?,
+            key: options::needed_name(alloc, options, "key")?,
         })
     }
 }
 
 impl KeyChoice {
-    ghost use Rattle.std.specs.Prelude.{◌≡◌, option_map, IfOk, string_bytes};
-    ghost use Rattle.ndn_tool.specs.Options.{IsKeyChoice};
+    ghost use Rattle.std.specs.Prelude.{◌≡◌, option_map, string_bytes};
+    ghost use Rattle.ndn_tool.specs.Word.{ReadsInMemory};
+    ghost use Rattle.ndn_tool.specs.Options.{rows_in, IsKeyChoice};
 
     fn read(alloc: Global, options: &ArgMatches<'_>) -> Result<KeyChoice, ToolFault>
-        ensures { IfOk result (IsKeyChoice options.now) }
+        ensures { ReadsInMemory (IsKeyChoice (rows_in options.now)) result }
     {
         Ok(KeyChoice {
             keys: options::path(alloc, options, "keys")?,

@@ -120,6 +120,85 @@ fn interests(rt: HostRuntime) -> Result<(), Fail> {
     )
 }
 
+/// A HopLimit is one octet, of type 34.
+#[test]
+fn hop_limits(rt: HostRuntime) -> Result<(), Fail> {
+    let cases: [(&str, &str, &str); 5] = [
+        ("0", "050e07030801410a0401020304220100\n", "hop-limit 0\n"),
+        ("10", "050e07030801410a040102030422010a\n", "hop-limit 10\n"),
+        ("99", "050e07030801410a0401020304220163\n", "hop-limit 99\n"),
+        (
+            "100",
+            "050e07030801410a0401020304220164\n",
+            "hop-limit 100\n",
+        ),
+        (
+            "00255",
+            "050e07030801410a04010203042201ff\n",
+            "hop-limit 255\n",
+        ),
+    ];
+    for (hops, packet, line) in cases {
+        let words = [
+            "ndn_tool",
+            "interest",
+            "/A",
+            "--nonce",
+            "01020304",
+            "--hop-limit",
+            hops,
+        ];
+        prints(&rt, &words, "", packet)?;
+        let shown = reply(rt.alloc(), &["ndn_tool", "show", packet.trim_end()], "")?;
+        assert!(rt; shown.as_str().ends_with(line), "{shown}");
+    }
+    Ok(())
+}
+
+#[test]
+fn refused_hop_limits(rt: HostRuntime) -> Result<(), Fail> {
+    for hops in ["256", "x", "+10", "", "18446744073709551616"] {
+        let words = [
+            "ndn_tool",
+            "interest",
+            "/A",
+            "--nonce",
+            "01020304",
+            "--hop-limit",
+            hops,
+        ];
+        let (ended, text) = refusal(rt.alloc(), &words, "")?;
+        assert_eq!(rt; ended, 2, "at {hops}");
+        assert_eq!(rt;
+            text.as_str(),
+            "error: a wrong value for hop-limit: give a decimal number from 0 to 255\n"
+        );
+    }
+    Ok(())
+}
+
+/// The digits of a Nonce are of either case, and 8.
+#[test]
+fn nonces(rt: HostRuntime) -> Result<(), Fail> {
+    let right = ["ndn_tool", "interest", "/A", "--nonce", "aBcDeF09"];
+    prints(&rt, &right, "", "050b07030801410a04abcdef09\n")?;
+    shows(
+        &rt,
+        "050b07030801410a04abcdef09",
+        "interest /A\nnonce abcdef09\nlifetime 4000\n",
+    )?;
+    for nonce in ["0102030", "0102030405", "0102030g", ""] {
+        let words = ["ndn_tool", "interest", "/A", "--nonce", nonce];
+        let (ended, text) = refusal(rt.alloc(), &words, "")?;
+        assert_eq!(rt; ended, 2, "at {nonce}");
+        assert_eq!(rt;
+            text.as_str(),
+            "error: a wrong value for nonce: give 8 hexadecimal digits, as 01020304\n"
+        );
+    }
+    Ok(())
+}
+
 /// Interests signed with a key; the packets were made by a program of its own.
 #[test]
 fn signed_interests(rt: HostRuntime) -> Result<(), Fail> {
