@@ -1,3 +1,6 @@
 pub mod Refusals
 pub mod Nonces
 pub mod Spelling
+pub mod Commands
+pub mod Lines
+pub mod Jobs

@@ -1,12 +1,15 @@
 //! The command line, and its help.
-ghost use Rattle.std.specs.Prelude.{◌≡◌};
-ghost use Rattle.clap.specs.Words.{kind_of};
-ghost use Rattle.ndn_tool.specs.Command.{reading_of};
+ghost use Rattle.std.specs.Prelude.{◌≡◌, codes, map, option_map, IfOk, MatchResult};
+ghost use Rattle.clap.specs.Words.{kind_of, subcommand_rows_of, with_rule};
+ghost use Rattle.clap.specs.Simple.{App};
+ghost use Rattle.ndn_tool.specs.Word.{IsUsage, ReadsInMemory};
+ghost use Rattle.ndn_tool.specs.Options.{rows_in};
+ghost use Rattle.ndn_tool.specs.CommandLine.{HasApp, HasRule, a_word, an_option, a_needed_option, a_flag, interest_app, data_app, tag_app, show_app, tool};
+ghost use Rattle.ndn_tool.specs.Command.{reading_of, IsJob, IsNamedJob, Asks, IsRefusedLine};
 
 use crate::fault::{ToolFault, Usage};
 use crate::job::{DataJob, InterestJob, Job, TagJob};
-use crate::options::needed;
-use crate::word::octets_of;
+use crate::options::needed_octets;
 use clap::error::ErrorKind;
 use clap::{Arg, ArgAction, ArgMatches, Command, Error};
 use std::alloc::{AllocError, Global};
@@ -66,7 +69,9 @@ Example: a Data named /A.
 /// Reads the words of a command line, of which the first is the program's name.
 ///
 /// Refuses it by `Usage` where it is wrong, and else by `Memory`.
-pub fn parse_words<S: AsStr>(alloc: Global, words: &[S]) -> Result<Job, ToolFault> {
+pub fn parse_words<S: AsStr>(alloc: Global, words: &[S]) -> Result<Job, ToolFault>
+    ensures { MatchResult result (Asks (map S.text words.now)) (IsRefusedLine (map S.text words.now)) }
+{
     let mut command = command(alloc)?;
     match command.try_get_matches_from_mut(words) {
         Ok(matches) => job_of(alloc, &matches),
@@ -85,20 +90,47 @@ fn answer_to(error: Error) -> Result<Job, ToolFault>
 }
 
 /// The job of the subcommand that was found.
-fn job_of(alloc: Global, matches: &ArgMatches<'_>) -> Result<Job, ToolFault> {
-    match matches.subcommand() {
-        Some(("interest", options)) => Ok(Job::Interest(InterestJob::read(alloc, options)?)),
-        Some(("data", options)) => Ok(Job::Data(DataJob::read(alloc, options)?)),
-        Some(("tag", options)) => Ok(Job::Tag(TagJob::read(alloc, options)?)),
-        Some((_, options)) => Ok(Job::Show(octets_of(alloc, "HEX", needed(options, "HEX")?)?)),
-        None => Err(ToolFault::Usage(Usage::Word {
-            place: "the first word",
-            wanted: "a subcommand",
-        })),
+fn job_of(alloc: Global, matches: &ArgMatches<'_>) -> Result<Job, ToolFault>
+    ensures { ReadsInMemory (IsJob (subcommand_rows_of matches.now)) result }
+{
+    match used(matches) {
+        Some((name, options)) => named_job(alloc, name, options),
+        None => Err(no_subcommand()),
     }
 }
 
-fn command<'a>(alloc: Global) -> Result<Command<'a>, AllocError> {
+/// The name of the subcommand that was found, and its options.
+fn used<'a, 'm>(matches: &'m ArgMatches<'a>) -> Option<(&'a str, &'m ArgMatches<'a>)>
+    ensures { option_map (λ p. (p.0.now, rows_in p.1.now)) result ≡ subcommand_rows_of matches.now }
+{
+    matches.subcommand()
+}
+
+/// The job that the options of the subcommand of this name ask for.
+fn named_job(alloc: Global, name: &str, options: &ArgMatches<'_>) -> Result<Job, ToolFault>
+    ensures { ReadsInMemory (IsNamedJob name.now (rows_in options.now)) result }
+{
+    match name {
+        "interest" => Ok(Job::Interest(InterestJob::read(alloc, options)?)),
+        "data" => Ok(Job::Data(DataJob::read(alloc, options)?)),
+        "tag" => Ok(Job::Tag(TagJob::read(alloc, options)?)),
+        "show" => Ok(Job::Show(needed_octets(alloc, options, "HEX")?)),
+        _ => Err(no_subcommand()),
+    }
+}
+
+fn no_subcommand() -> ToolFault
+    ensures { IsUsage result }
+{
+    ToolFault::Usage(Usage::Word {
+        place: "the first word",
+        wanted: "a subcommand",
+    })
+}
+
+fn command<'a>(alloc: Global) -> Result<Command<'a>, AllocError>
+    ensures { IfOk result (HasApp tool) }
+{
     Command::new(alloc, "ndn_tool")
         .about(ABOUT)
         .after_help(AFTER)
@@ -111,12 +143,14 @@ fn command<'a>(alloc: Global) -> Result<Command<'a>, AllocError> {
         .subcommand(show_command(alloc)?)
 }
 
-fn interest_command<'a>(alloc: Global) -> Result<Command<'a>, AllocError> {
+fn interest_command<'a>(alloc: Global) -> Result<Command<'a>, AllocError>
+    ensures { IfOk result (HasApp interest_app) }
+{
     let command = Command::new(alloc, "interest")
         .about("Writes an Interest, and prints it")
         .after_help(AFTER_INTEREST)
         .arg(word(alloc, "URI", "The name"))?
-        .arg(option(alloc, "nonce", "HEX", "The Nonce, 4 octets").required(true))?
+        .arg(needed_option(alloc, "nonce", "HEX", "The Nonce, 4 octets"))?
         .arg(flag(alloc, "can-be-prefix", "Data of longer names answer too"))?
         .arg(flag(
             alloc,
@@ -146,7 +180,9 @@ fn interest_command<'a>(alloc: Global) -> Result<Command<'a>, AllocError> {
     with_key(alloc, command)
 }
 
-fn data_command<'a>(alloc: Global) -> Result<Command<'a>, AllocError> {
+fn data_command<'a>(alloc: Global) -> Result<Command<'a>, AllocError>
+    ensures { IfOk result (HasApp data_app) }
+{
     let command = Command::new(alloc, "data")
         .about("Writes a Data, and prints it")
         .after_help(AFTER_DATA)
@@ -161,16 +197,20 @@ fn data_command<'a>(alloc: Global) -> Result<Command<'a>, AllocError> {
     with_key(alloc, command)
 }
 
-fn tag_command<'a>(alloc: Global) -> Result<Command<'a>, AllocError> {
+fn tag_command<'a>(alloc: Global) -> Result<Command<'a>, AllocError>
+    ensures { IfOk result (HasApp tag_app) }
+{
     Command::new(alloc, "tag")
         .about("Computes the HMAC with SHA-256 of octets, and prints it")
         .after_help(AFTER_TAG)
         .arg(word(alloc, "HEX", "The octets"))?
-        .arg(option(alloc, "keys", "FILE", "The key file").required(true))?
-        .arg(option(alloc, "key", "URI", "The name of the key").required(true))
+        .arg(needed_option(alloc, "keys", "FILE", "The key file"))?
+        .arg(needed_option(alloc, "key", "URI", "The name of the key"))
 }
 
-fn show_command<'a>(alloc: Global) -> Result<Command<'a>, AllocError> {
+fn show_command<'a>(alloc: Global) -> Result<Command<'a>, AllocError>
+    ensures { IfOk result (HasApp show_app) }
+{
     Command::new(alloc, "show")
         .about("Shows what a packet holds")
         .after_help(AFTER_SHOW)
@@ -178,23 +218,38 @@ fn show_command<'a>(alloc: Global) -> Result<Command<'a>, AllocError> {
 }
 
 /// With the options of a key.
-fn with_key<'a>(alloc: Global, command: Command<'a>) -> Result<Command<'a>, AllocError> {
+fn with_key<'a>(alloc: Global, command: Command<'a>) -> Result<Command<'a>, AllocError>
+    ensures { (app : App) → HasApp app command.entry → IfOk result (HasApp (with_rule (with_rule app (an_option (codes "keys"))) (an_option (codes "key")))) }
+{
     command
         .arg(option(alloc, "keys", "FILE", "The key file"))?
         .arg(option(alloc, "key", "URI", "The name of the key to sign with"))
 }
 
 /// A word that has to be there.
-fn word<'a>(alloc: Global, id: &'a str, help: &'a str) -> Arg<'a> {
+fn word<'a>(alloc: Global, id: &'a str, help: &'a str) -> Arg<'a>
+    ensures { HasRule (a_word id.entry.now) result }
+{
     Arg::new(alloc, id).required(true).help(help)
 }
 
+/// An option with a value, which has to be there.
+fn needed_option<'a>(alloc: Global, id: &'a str, value: &'a str, help: &'a str) -> Arg<'a>
+    ensures { HasRule (a_needed_option id.entry.now) result }
+{
+    option(alloc, id, value, help).required(true)
+}
+
 /// An option with a value.
-fn option<'a>(alloc: Global, id: &'a str, value: &'a str, help: &'a str) -> Arg<'a> {
+fn option<'a>(alloc: Global, id: &'a str, value: &'a str, help: &'a str) -> Arg<'a>
+    ensures { HasRule (an_option id.entry.now) result }
+{
     Arg::new(alloc, id).long(id).value_name(value).help(help)
 }
 
-fn flag<'a>(alloc: Global, id: &'a str, help: &'a str) -> Arg<'a> {
+fn flag<'a>(alloc: Global, id: &'a str, help: &'a str) -> Arg<'a>
+    ensures { HasRule (a_flag id.entry.now) result }
+{
     Arg::new(alloc, id)
         .long(id)
         .action(ArgAction::SetTrue)

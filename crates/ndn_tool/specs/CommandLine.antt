@@ -1,0 +1,87 @@
+-- The command line that the program has, as `clap` reads commands.
+use Rattle.std.specs.Prelude.{◌≡◌, ℕ, List, [], ◌∷◌, Some, true, false, codes}
+use Rattle.clap.specs.declared.builder.action.ArgAction.TheVariants.{SetTrue}
+use Rattle.clap.specs.declared.builder.arg.Arg.{Arg}
+use Rattle.clap.specs.declared.builder.command.Command.{Command}
+use Rattle.clap.specs.declared.builder.command.Command.TheViews.{out-Command}
+use Rattle.clap.specs.Walk.{Rule, rule_of}
+use Rattle.clap.specs.Simple.{App, app_of, new_rule, new_shape}
+
+-- ---- arguments
+
+-- a word that has to be there
+abbrev pub a_word : List ℕ → Rule
+a_word id = record (new_rule id) { required = true }
+
+-- an option with a value
+abbrev pub an_option : List ℕ → Rule
+an_option id = record (new_rule id) { long = Some id; value_names = 1 }
+
+abbrev pub a_needed_option : List ℕ → Rule
+a_needed_option id = record (new_rule id) { long = Some id; value_names = 1; required = true }
+
+-- an option without a value
+abbrev pub a_flag : List ℕ → Rule
+a_flag id = record (new_rule id) { long = Some id; action = Some SetTrue }
+
+-- ---- commands
+
+-- a subcommand with its arguments in turn
+abbrev pub a_subcommand : List ℕ → List Rule → App
+a_subcommand name rules = record { top = record (new_shape name) { rules = rules }; subs = [] }
+
+unfoldable pub interest_app : App
+interest_app = a_subcommand (codes "interest") (
+    a_word (codes "URI")
+    ∷ a_needed_option (codes "nonce")
+    ∷ a_flag (codes "can-be-prefix")
+    ∷ a_flag (codes "must-be-fresh")
+    ∷ an_option (codes "lifetime")
+    ∷ an_option (codes "hop-limit")
+    ∷ an_option (codes "parameters")
+    ∷ an_option (codes "time")
+    ∷ an_option (codes "seq")
+    ∷ an_option (codes "keys")
+    ∷ an_option (codes "key")
+    ∷ [])
+
+unfoldable pub data_app : App
+data_app = a_subcommand (codes "data") (
+    a_word (codes "URI")
+    ∷ an_option (codes "content")
+    ∷ an_option (codes "freshness")
+    ∷ an_option (codes "keys")
+    ∷ an_option (codes "key")
+    ∷ [])
+
+unfoldable pub tag_app : App
+tag_app = a_subcommand (codes "tag") (
+    a_word (codes "HEX")
+    ∷ a_needed_option (codes "keys")
+    ∷ a_needed_option (codes "key")
+    ∷ [])
+
+unfoldable pub show_app : App
+show_app = a_subcommand (codes "show") (a_word (codes "HEX") ∷ [])
+
+-- one of these is wanted, and there is none that is named `help`
+unfoldable pub tool : App
+tool = record {
+  top = record (new_shape (codes "ndn_tool")) {
+    is_leaf = false;
+    disable_help_subcommand = true;
+    subcommand_required = true;
+    arg_required_else_help = true;
+  };
+  subs = interest_app.top ∷ data_app.top ∷ tag_app.top ∷ show_app.top ∷ [];
+}
+
+-- ---- what is built
+
+-- a command that is read as this one, and no argument of which is for its subcommands too
+abbrev pub HasApp : App → Command → Type 0
+HasApp app command = (app_of command ≡ app) × ((out-Command command).has_globals ≡ false)
+
+-- an argument that is read by this rule
+abbrev pub HasRule : Rule → Arg → Type 0
+HasRule rule arg = (rule_of arg ≡ rule) × (arg.global ≡ false)
