@@ -165,12 +165,23 @@ impl From<AllocError> for ToolFault {
 }
 
 impl From<ToolFault> for Fault {
+    ghost use Rattle.std.specs.Prelude.{◌≡◌};
+    ghost use Rattle.ndn_tool.specs.declared.fault.Fault.TheVariants.{Tool};
+
+    ghost from_gives = { λ why fault. fault ≡ Tool why };
+
     fn from(fault: ToolFault) -> Fault {
         Fault::Tool(fault)
     }
 }
 
 impl From<AllocError> for Fault {
+    ghost use Rattle.std.specs.Prelude.{◌≡◌};
+    ghost use Rattle.ndn_tool.specs.declared.fault.Fault.TheVariants.{Tool};
+    ghost use Rattle.ndn_tool.specs.declared.fault.ToolFault.TheVariants.{Memory};
+
+    ghost from_gives = { λ _ fault. fault ≡ Tool Memory };
+
     fn from(_error: AllocError) -> Fault {
         Fault::Tool(ToolFault::Memory)
     }
