@@ -2,6 +2,7 @@ pub mod Word
 pub mod Options
 pub mod Job
 pub mod Fault
+pub mod KeyFile
 pub mod CommandLine
 pub mod Command
 pub mod Show

@@ -2,6 +2,9 @@
 //! hold.
 #![tactic(auto)]
 
+ghost use Rattle.std.specs.Prelude.{MatchResult};
+ghost use Rattle.ndn_tool.specs.KeyFile.{AreKeys, IsFileFault};
+
 mod answer;
 mod command;
 mod fault;
@@ -67,10 +70,15 @@ fn book_of<R: AllocGlobal + Files>(rt: &R, job: &Job) -> Result<KeyBook, Fault> 
 }
 
 /// The keys of a key file. One that is not UTF-8 is a bad line, which has no number.
-fn read_book(alloc: Global, octets: &[u8]) -> Result<KeyBook, Fault> {
-    match str::from_utf8(octets) {
-        Ok(text) => KeyBook::read(alloc, text).map_err(Fault::Keys),
-        Err(_) => Err(Fault::Keys(KeyFault::BadLine(0))),
+fn read_book(alloc: Global, octets: &[u8]) -> Result<KeyBook, Fault>
+    ensures { MatchResult result (AreKeys octets.now) (IsFileFault octets.now) }
+{
+    let Ok(text) = str::from_utf8(octets) else {
+        return Err(Fault::Keys(KeyFault::BadLine(0)));
+    };
+    match KeyBook::read(alloc, text) {
+        Ok(book) => Ok(book),
+        Err(fault) => Err(Fault::Keys(fault)),
     }
 }
 
