@@ -1,0 +1,12 @@
+use Rattle.std.proofs.Common.{◌≡◌, length}
+use Rattle.std.specs.List.{flat_map}
+use Rattle.info_rules.specs.Faults.{after}
+use Rattle.info_rules.specs.HyperBlock.{hyper_key_faults}
+use Rattle.info_rules.specs.Shown.{keys_of}
+use Rattle.info_rules.proofs.hyper_block.judge_keys.Given as goal
+
+abbrev pub decreases-loop-key : goal.decreases-loop-key
+decreases-loop-key l = length l.left.entries.now
+
+abbrev pub invariant-loop-key : goal.invariant-loop-key
+invariant-loop-key l = after l.report (flat_map (hyper_key_faults l.key_groups l.packet_groups) (keys_of l.left)) ≡ after l.fn.report (flat_map (hyper_key_faults l.key_groups l.packet_groups) (keys_of l.keys))

@@ -1,0 +1,11 @@
+use Rattle.std.proofs.Common.{◌≡◌, length}
+use Rattle.info_rules.specs.Faults.{after}
+use Rattle.info_rules.specs.RuleFile.{id_faults}
+use Rattle.info_rules.specs.Shown.{keys_of}
+use Rattle.info_rules.proofs.rule_file.judge_ids.Given as goal
+
+abbrev pub decreases-loop-key : goal.decreases-loop-key
+decreases-loop-key l = length l.left.entries.now
+
+abbrev pub invariant-loop-key : goal.invariant-loop-key
+invariant-loop-key l = after l.report (id_faults (keys_of l.left)) ≡ after l.fn.report (id_faults (keys_of l.keys))

@@ -1,0 +1,111 @@
+-- What rules decide of a packet.
+use Rattle.std.specs.Prelude.{◌≡◌, ◌⊎◌, ◌≤◌, ℕ, List, [], Option, None, Some, All, Any, ⊤}
+use Rattle.hmac_keys.specs.KeyFile.{NamedKey}
+use Rattle.ndn_packets.specs.Packet.{PlainSignature, PlainFrame, AnInterest, AData, ANack, Idle}
+use Rattle.ndn_packets.specs.Covered.{Covered}
+use Rattle.info_rules.specs.declared.rule.LocatorTest.{LocatorTest}
+use Rattle.info_rules.specs.declared.rule.LocatorTest.TheVariants as tests
+use Rattle.info_rules.specs.declared.rule.Checker.{Checker}
+use Rattle.info_rules.specs.declared.rule.Checker.TheVariants as checkers
+use Rattle.info_rules.specs.declared.decision.Reason.{Reason}
+use Rattle.info_rules.specs.declared.decision.Reason.TheVariants as reasons
+use Rattle.info_rules.specs.declared.decision.Decision.{Decision}
+use Rattle.info_rules.specs.declared.decision.Decision.TheVariants as decisions
+use Rattle.info_rules.specs.Rule.{PlainRule}
+use Rattle.info_rules.specs.First.{NoneApplies, IsFirst}
+use Rattle.info_rules.specs.Seen.{SeenPacket, seen_interest, seen_data, SaysWhen, PlainSigned, IsSigned}
+use Rattle.info_rules.specs.Checks.{Checks}
+
+-- the number of a reason: of several the greatest is told
+abbrev pub number_of : Reason → ℕ
+number_of reasons.NotSigned = 1
+number_of reasons.Shape = 2
+number_of reasons.SigType = 3
+number_of reasons.KeyLocator = 4
+number_of reasons.KeyUnknown = 5
+number_of reasons.Tag = 6
+number_of reasons.Replay = 7
+
+-- of an earlier reason, where there is one, and another the greater one is this
+abbrev pub IsGreater : Option Reason → Reason → Reason → Type 0
+IsGreater None reason greatest = greatest ≡ reason
+IsGreater (Some earlier) reason greatest =
+    ((greatest ≡ earlier) × (number_of reason ≤ number_of earlier)) ⊎ ((greatest ≡ reason) × (number_of earlier ≤ number_of reason))
+
+-- a checker passes the packet
+abbrev pub IsPassed : List NamedKey → List Checker → PlainSigned → Type 0
+IsPassed keys all signed = Any (λ checker. Checks keys checker signed None) all
+
+-- a checker's reason against the packet, which is no greater than this one
+abbrev pub IsAtMost : List NamedKey → PlainSigned → Reason → Checker → Type 0
+IsAtMost keys signed reason checker = (given : Reason) × Checks keys checker signed (Some given) × (number_of given ≤ number_of reason)
+
+-- The greatest reason that a checker has against the packet, which none passes. Where there is no checker, no key is the right one.
+abbrev pub IsGreatest : List NamedKey → List Checker → PlainSigned → Reason → Type 0
+IsGreatest keys all signed reason =
+    ((all ≡ []) × (reason ≡ reasons.KeyLocator))
+    ⊎ (All (IsAtMost keys signed reason) all × Any (λ checker. Checks keys checker signed (Some reason)) all)
+
+-- checkers that allow the packet
+abbrev pub Allow : List NamedKey → List Checker → SeenPacket → Type 0
+Allow keys all packet = (signed : PlainSigned) × IsSigned packet signed × IsPassed keys all signed
+
+-- checkers that deny it, by the greatest of their reasons
+abbrev pub DenyBy : List NamedKey → List Checker → SeenPacket → Reason → Type 0
+DenyBy keys all packet reason = (signed : PlainSigned) × IsSigned packet signed × IsGreatest keys all signed reason
+
+-- it is not said when it was signed, or nothing is covered: in an Interest, since the digest of parameters is not the last component
+abbrev pub IsMisshaped : SeenPacket → PlainSignature → Type 0
+IsMisshaped packet signature = (¬ SaysWhen packet.kind signature) ⊎ ((first second : List ℕ) → Covered packet.frame first second → ⊥)
+
+-- no checker has to look at the packet
+abbrev pub IsUnfit : SeenPacket → Reason → Type 0
+IsUnfit packet reasons.NotSigned = packet.signature ≡ None
+IsUnfit packet reasons.Shape = (signature : PlainSignature) × (packet.signature ≡ Some signature) × IsMisshaped packet signature
+IsUnfit packet reasons.SigType = ⊥
+IsUnfit packet reasons.KeyLocator = ⊥
+IsUnfit packet reasons.KeyUnknown = ⊥
+IsUnfit packet reasons.Tag = ⊥
+IsUnfit packet reasons.Replay = ⊥
+
+-- a packet is denied for this reason by a rule with these checkers
+abbrev pub Deny : List NamedKey → List Checker → SeenPacket → Reason → Type 0
+Deny keys all packet reason = IsUnfit packet reason ⊎ DenyBy keys all packet reason
+
+abbrev pub DecideSeen : List PlainRule → List NamedKey → SeenPacket → Decision → Type 0
+DecideSeen rules keys packet (decisions.Allowed n) =
+    (rule : PlainRule) × IsFirst rules packet.kind packet.name n.0 rule × Allow keys rule.checkers packet
+DecideSeen rules keys packet (decisions.Denied n reason) =
+    (rule : PlainRule) × IsFirst rules packet.kind packet.name n.0 rule × Deny keys rule.checkers packet reason
+DecideSeen rules keys packet decisions.NoRule = NoneApplies rules packet.kind packet.name
+
+-- The first rule that applies to an Interest or a Data decides alone.
+abbrev pub Decides : List PlainRule → List NamedKey → PlainFrame → Decision → Type 0
+Decides rules keys (AnInterest whole i) decision = DecideSeen rules keys (seen_interest whole i) decision
+Decides rules keys (AData whole d) decision = DecideSeen rules keys (seen_data whole d) decision
+Decides rules keys (ANack reason whole i) decision = ⊥
+Decides rules keys Idle decision = ⊥
+
+-- ---- where memory is asked for
+
+abbrev pub IsHyper : LocatorTest → Type 0
+IsHyper (tests.Name test) = ⊥
+IsHyper (tests.Hyper hyper) = ⊤
+IsHyper tests.Hierarchical = ⊥
+
+-- the checker expands templates
+abbrev pub Expands : Checker → Type 0
+Expands checkers.Sha256 = ⊥
+Expands (checkers.HmacSha256 test) = IsHyper test
+Expands checkers.Unsupported = ⊥
+
+-- a checker of the first rule that applies expands templates
+abbrev pub AsksForMemory : List PlainRule → SeenPacket → Type 0
+AsksForMemory rules packet =
+    (n : ℕ) × (rule : PlainRule) × IsFirst rules packet.kind packet.name n rule × Any Expands rule.checkers
+
+abbrev pub MayRefuse : List PlainRule → PlainFrame → Type 0
+MayRefuse rules (AnInterest whole i) = AsksForMemory rules (seen_interest whole i)
+MayRefuse rules (AData whole d) = AsksForMemory rules (seen_data whole d)
+MayRefuse rules (ANack reason whole i) = ⊥
+MayRefuse rules Idle = ⊥

@@ -1,0 +1,53 @@
+-- Which keys may sign which packets, by their names.
+use Rattle.std.specs.Prelude.{◌≡◌, ℕ, ◌≤◌, List, [], ◌∷◌, ◌++◌, length, codes, Some}
+use Rattle.ndn_tlv.specs.Element.{Field}
+use Rattle.ndn_names.specs.Name.{IsPrefix}
+use Rattle.name_patterns.specs.Pattern.{PlainPattern, Anything, OneOf, once, anything}
+use Rattle.name_patterns.specs.Match.{Match}
+use Rattle.name_patterns.specs.Template.{PlainPart, expansion_of}
+use Rattle.info_rules.specs.declared.rule.LocatorTest.{LocatorTest}
+use Rattle.info_rules.specs.declared.rule.LocatorTest.TheVariants as tests
+use Rattle.info_rules.specs.Related.{Related}
+use Rattle.info_rules.specs.Hyper.{PlainHyper}
+use Rattle.info_rules.specs.First.{Passes}
+
+-- The pattern matches the name, and its groups expand the template to the other name, which has no more components than a name may.
+pub record Makes (pattern : PlainPattern) (template : List PlainPart) (name made : List Field) : Type 0 where
+  pub places : List (ℕ × ℕ)
+  pub matched : Match pattern name places
+  pub expanded : made ≡ expansion_of template places name
+  pub short : length made ≤ 64
+
+-- what is made of the key's name stands so to what is made of the packet's
+abbrev pub IsHyperRelated : PlainHyper → List Field → List Field → Type 0
+IsHyperRelated hyper key packet =
+    (a b : List Field) × Makes hyper.key_pattern hyper.key_template key a × Makes hyper.packet_pattern hyper.packet_template packet b
+    × Related hyper.relation a b
+
+-- the GenericNameComponent KEY
+abbrev pub key_component : Field
+key_component = (8, codes "KEY")
+
+-- the name is this prefix, a component KEY, and one to three components more
+abbrev pub IsKeyOf : List Field → List Field → Type 0
+IsKeyOf prefix name = (rest : List Field) × (name ≡ prefix ++ key_component ∷ rest) × (1 ≤ length rest) × (length rest ≤ 3)
+
+-- the same as a pattern: ^(<>*)<KEY><>{1,3}$
+abbrev pub hierarchical_pattern : PlainPattern
+hierarchical_pattern = record {
+  atoms = anything ∷ record { test = OneOf (key_component ∷ []); bounds = once } ∷ record { test = Anything; bounds = record { least = 1; most = Some 3 } } ∷ [];
+  groups = (0, 1) ∷ [];
+}
+
+-- the longest prefix of this kind that the key's name has is one of the packet's name too
+pub record IsHierarchical (key packet : List Field) : Type 0 where
+  pub prefix : List Field
+  pub is_key : IsKeyOf prefix key
+  pub longest : (other : List Field) → IsKeyOf other key → length other ≤ length prefix
+  pub above : IsPrefix prefix packet
+
+-- the key of this name is one that is asked for, where the packet has that name
+abbrev pub PassesLocator : LocatorTest → List Field → List Field → Type 0
+PassesLocator (tests.Name test) key packet = Passes test key
+PassesLocator (tests.Hyper hyper) key packet = IsHyperRelated hyper key packet
+PassesLocator tests.Hierarchical key packet = IsHierarchical key packet

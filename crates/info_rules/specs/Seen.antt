@@ -1,0 +1,49 @@
+-- What rules see of a packet.
+use Rattle.std.specs.Prelude.{◌≡◌, ◌-◌, ◌==◌, ℕ, List, ◌++◌, length, take, Option, None, Some, IsSome, slice_get, Bool, false, ⊤, if◌then◌else◌}
+use Rattle.ndn_tlv.specs.Element.{Field}
+use Rattle.ndn_packets.specs.Packet.{PlainSignature, PlainInterest, PlainData, PlainFrame, AnInterest, AData}
+use Rattle.ndn_packets.specs.Covered.{Covered}
+use Rattle.info_rules.specs.declared.rule.Kind.{Kind}
+use Rattle.info_rules.specs.declared.rule.Kind.TheVariants as kinds
+
+-- a packet by its kind, the name that rules see, and its signature
+pub record SeenPacket : Type 0 where
+  pub kind : Kind
+  pub name : List Field
+  pub signature : Option PlainSignature
+  pub frame : PlainFrame
+
+abbrev pub is_digest : Option Field → Bool
+is_digest None = false
+is_digest (Some c) = c.0 == 2
+
+-- the name without its last component, where that is a digest of parameters
+abbrev pub without_digest : List Field → List Field
+without_digest name = if is_digest (slice_get name (length name - 1)) then take (length name - 1) name else name
+
+abbrev pub seen_interest : List ℕ → PlainInterest → SeenPacket
+seen_interest whole i = record { kind = kinds.Interest; name = without_digest i.name; signature = i.signature; frame = AnInterest whole i }
+
+abbrev pub seen_data : List ℕ → PlainData → SeenPacket
+seen_data whole d = record { kind = kinds.Data; name = d.name; signature = Some d.signature; frame = AData whole d }
+
+-- the signature of an Interest says when it was made; that of a Data need not
+abbrev pub SaysWhen : Kind → PlainSignature → Type 0
+SaysWhen kinds.Interest signature = IsSome signature.info.time
+SaysWhen kinds.Data signature = ⊤
+
+-- what checkers see: the name, the signature, and the octets that it covers, as they were received
+pub record PlainSigned : Type 0 where
+  pub name : List Field
+  pub signature : PlainSignature
+  pub covered : List ℕ
+
+-- the packet is signed in the right shape, and shows this to checkers
+pub record IsSigned (packet : SeenPacket) (signed : PlainSigned) : Type 0 where
+  pub first : List ℕ
+  pub second : List ℕ
+  pub named : signed.name ≡ packet.name
+  pub signature : packet.signature ≡ Some signed.signature
+  pub timed : SaysWhen packet.kind signed.signature
+  pub covers : Covered packet.frame first second
+  pub octets : signed.covered ≡ first ++ second

@@ -1,0 +1,68 @@
+-- The grammar of rule files: which entries the tokens of a text are.
+use Rattle.std.specs.Prelude.{◌≡◌, ◌≢◌, ℕ, ◌+◌, ◌<◌, ◌≤◌, ⊤, List, [], ◌∷◌, ◌++◌, length, Option, None, Some, Bool, true, false}
+use Rattle.std.specs.Option.{option_map}
+use Rattle.info_rules.specs.Tree.{PlainEntry}
+use Rattle.info_rules.specs.Words.{Token, Word, Open, Close, unescaped, tokens_in}
+
+-- a key and at most one value on its line, as they stand in the text
+pub record Head : Type 0 where
+  pub line : ℕ
+  pub key : List ℕ
+  pub value : Option (List ℕ)
+
+-- entries that stand one behind the other in a block, or outside of all blocks
+pub data Nodes : Type 0 where
+  NoNode : Nodes
+  Leaf : Head → Nodes → Nodes
+  -- an entry with a block: the line of the brace that opens it, its entries, and the line of the brace that closes it
+  Branch : Head → ℕ → Nodes → ℕ → Nodes → Nodes
+
+abbrev pub head_tokens : Head → List (ℕ × Token)
+head_tokens head = (head.line, Word head.key) ∷ value_tokens head.value
+  where
+    value_tokens : Option (List ℕ) → List (ℕ × Token)
+    value_tokens None = []
+    value_tokens (Some value) = (head.line, Word value) ∷ []
+
+unfoldable pub tokens_of : Nodes → List (ℕ × Token)
+tokens_of NoNode = []
+tokens_of (Leaf head others) = head_tokens head ++ tokens_of others
+tokens_of (Branch head opened block closed others) = head_tokens head ++ (opened, Open) ∷ (tokens_of block ++ (closed, Close) ∷ tokens_of others)
+
+-- the first entry begins on another line
+abbrev pub BeginsOff : ℕ → Nodes → Type 0
+BeginsOff line NoNode = ⊤
+BeginsOff line (Leaf head others) = head.line ≢ line
+BeginsOff line (Branch head opened block closed others) = head.line ≢ line
+
+-- each entry ends with its line: the next one of its block stands on another
+unfoldable pub IsApart : Nodes → Type 0
+IsApart NoNode = ⊤
+IsApart (Leaf head others) = BeginsOff head.line others × IsApart others
+IsApart (Branch head opened block closed others) = IsApart block × BeginsOff closed others × IsApart others
+
+-- at most eight blocks are open at once
+unfoldable pub IsShallow : ℕ → Nodes → Type 0
+IsShallow depth NoNode = ⊤
+IsShallow depth (Leaf head others) = IsShallow depth others
+IsShallow depth (Branch head opened block closed others) = (depth < 8) × IsShallow (depth + 1) block × IsShallow depth others
+
+abbrev pub entry_of_head : ℕ → Head → Bool → PlainEntry
+entry_of_head depth head has_block = record { depth = depth; line = head.line; key = unescaped head.key; value = option_map unescaped head.value; has_block = has_block }
+
+-- all the entries, each in front of those of its block
+unfoldable pub outline : ℕ → Nodes → List PlainEntry
+outline depth NoNode = []
+outline depth (Leaf head others) = entry_of_head depth head false ∷ outline depth others
+outline depth (Branch head opened block closed others) = entry_of_head depth head true ∷ (outline (depth + 1) block ++ outline depth others)
+
+pub record IsTree (tokens : List (ℕ × Token)) (entries : List PlainEntry) : Type 0 where
+  pub nodes : Nodes
+  pub spelled : tokens ≡ tokens_of nodes
+  pub apart : IsApart nodes
+  pub shallow : IsShallow 0 nodes
+  pub listed : entries ≡ outline 0 nodes
+
+-- the entries that a text spells, which has at most 65,536 octets
+abbrev pub TreeOf : List ℕ → List PlainEntry → Type 0
+TreeOf text entries = (length text ≤ 65536) × IsTree (tokens_in text) entries

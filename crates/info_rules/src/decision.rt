@@ -1,0 +1,164 @@
+//! What rules decide of packets.
+
+ghost use Rattle.std.specs.Prelude.{◌≡◌, ◌⊎◌, List, Any, MatchOption, MatchResult};
+ghost use Rattle.hmac_keys.specs.KeyFile.{NamedKey, AreApart};
+ghost use Rattle.ndn_packets.specs.Packet.{PlainFrame};
+ghost use Rattle.info_rules.specs.Rule.{PlainRule};
+ghost use Rattle.info_rules.specs.Decides.{IsGreater, IsPassed, IsGreatest, Allow, Deny, Expands, Decides};
+ghost use Rattle.info_rules.specs.Shown.{seen_of, signed_of};
+
+use crate::checks::check;
+use crate::matching::applies;
+use crate::packet::{Packet, Signed};
+use crate::rule::{Checker, Kind};
+use crate::rules::{RuleNo, Rules};
+use hmac_keys::KeyBook;
+use ndn_names::Name;
+use ndn_tlv::Memory;
+use std::alloc::Global;
+
+/// Why a packet is denied. Of several reasons that checkers give the last in this order is told.
+#[derive(Clone, Copy, Debug, PartialEq, Eq)]
+pub enum Reason {
+    /// An Interest is not signed.
+    NotSigned,
+    /// An Interest's digest of parameters is not the last component of its name, or its signature
+    /// has no SignatureTime.
+    Shape,
+    /// The signature is of another type.
+    SigType,
+    /// The KeyLocator is not the name of a key that is asked for, or the rule has no checker.
+    KeyLocator,
+    /// The key is not in the book.
+    KeyUnknown,
+    /// The signature's value is not that of the covered octets.
+    Tag,
+    /// A signed Interest is not newer than others of its signer, which rules do not see: they never
+    /// give this reason.
+    Replay,
+}
+
+/// What the first rule that applies decides of a packet.
+#[derive(Clone, Copy, Debug, PartialEq, Eq)]
+pub enum Decision {
+    Allowed(RuleNo),
+    Denied(RuleNo, Reason),
+    /// No rule applies.
+    NoRule,
+}
+
+impl Reason {
+    ghost use Rattle.std.specs.Prelude.{◌≡◌};
+    ghost use Rattle.info_rules.specs.Decides.{number_of};
+
+    /// Its number, from 1 on in the order above.
+    fn number(self) -> u8
+        ensures { result ≡ number_of self }
+    {
+        match self {
+            Reason::NotSigned => 1,
+            Reason::Shape => 2,
+            Reason::SigType => 3,
+            Reason::KeyLocator => 4,
+            Reason::KeyUnknown => 5,
+            Reason::Tag => 6,
+            Reason::Replay => 7,
+        }
+    }
+}
+
+/// The greater of two reasons, where there is an earlier one.
+fn greater(earlier: Option<Reason>, reason: Reason) -> Reason
+    ensures { IsGreater earlier reason result }
+{
+    match earlier {
+        Some(earlier) if reason.number() < earlier.number() => earlier,
+        _ => reason,
+    }
+}
+
+impl Rules {
+    ghost use Rattle.std.specs.Prelude.{MatchOption, MatchResult};
+    ghost use Rattle.ndn_names.specs.View.{components};
+    ghost use Rattle.info_rules.specs.First.{NoneApplies, First};
+    ghost use Rattle.info_rules.specs.Decides.{Decides, MayRefuse};
+    ghost use Rattle.info_rules.specs.Shown.{frame_of};
+
+    /// The first rule for the packets of this kind and name. It takes no memory.
+    pub fn first_match(&self, kind: Kind, name: Name<'_>) -> Option<RuleNo>
+        ensures { MatchOption result (NoneApplies self.now kind (components name.entry)) (λ rule. First self.now kind (components name.entry) rule.0) }
+    {
+        for (number, rule) in self.rules.iter().enumerate() {
+            if applies(rule, kind, name) {
+                return Some(RuleNo(number));
+            }
+        }
+        None
+    }
+
+    /// What the first rule that applies decides of a packet, by its received octets. An Interest
+    /// goes by its name without a digest of parameters at its end.
+    ///
+    /// Memory is asked for only where a checker of that rule expands templates.
+    pub fn decide(
+        &self,
+        alloc: Global,
+        keys: &KeyBook,
+        packet: Packet<'_>,
+    ) -> Result<Decision, Memory>
+        ensures { MatchResult result (Decides self.now keys.now (frame_of packet.entry)) (λ _. MayRefuse self.now (frame_of packet.entry)) }
+    {
+        let Some(rule) = self.first_match(packet.kind(), packet.name()) else {
+            return Ok(Decision::NoRule);
+        };
+        let reason = reason_against(alloc, keys, &self.rules[rule.0].checkers, packet)?;
+        Ok(match reason {
+            None => Decision::Allowed(rule),
+            Some(reason) => Decision::Denied(rule, reason),
+        })
+    }
+}
+
+/// Why checkers deny a packet, or `None` where they allow it.
+fn reason_against(
+    alloc: Global,
+    keys: &KeyBook,
+    checkers: &[Checker],
+    packet: Packet<'_>,
+) -> Result<Option<Reason>, Memory>
+    ensures { MatchResult result
+        (λ reason. MatchOption reason (Allow keys.now checkers.now (seen_of packet.entry)) (Deny keys.now checkers.now (seen_of packet.entry)))
+        (λ _. Any Expands checkers.now) }
+{
+    match packet.signed() {
+        Ok(signed) => greatest_reason(alloc, keys, checkers, signed),
+        Err(reason) => Ok(Some(reason)),
+    }
+}
+
+/// The greatest reason that a checker has against a packet, or `None` where one passes it.
+fn greatest_reason(
+    alloc: Global,
+    keys: &KeyBook,
+    checkers: &[Checker],
+    signed: Signed<'_>,
+) -> Result<Option<Reason>, Memory>
+    ensures { MatchResult result
+        (λ reason. MatchOption reason (IsPassed keys.now checkers.now (signed_of signed.entry)) (IsGreatest keys.now checkers.now (signed_of signed.entry)))
+        (λ _. Any Expands checkers.now) }
+{
+    let mut greatest = None;
+    for checker in checkers {
+        let Some(reason) = check(alloc, keys, checker, signed)? else {
+            return Ok(None);
+        };
+        greatest = Some(greater(greatest, reason));
+    }
+    Ok(Some(greatest.unwrap_or(Reason::KeyLocator)))
+}
+
+/// Law: two decisions of one packet are the same, where the keys of a book have different names.
+pub fn decisions_are_unique()
+    ensures { (rules : List PlainRule) (keys : List NamedKey) (packet : PlainFrame) (a b : Decision) → AreApart keys
+        → Decides rules keys packet a → Decides rules keys packet b → a ≡ b }
+{}

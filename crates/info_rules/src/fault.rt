@@ -1,0 +1,80 @@
+//! What is wrong in a rule file.
+
+ghost use Rattle.std.specs.Prelude.{◌≡◌};
+ghost use Rattle.info_rules.specs.declared.fault.RulesFaultKind.TheVariants as kinds;
+
+use std::alloc::{AllocError, AllocFailed};
+use thiserror::Error;
+
+/// What is wrong. Of several faults of one line the first in this order is told.
+#[derive(Clone, Copy, Debug, PartialEq, Eq, Error)]
+pub enum RulesFaultKind {
+    /// A word or a brace that may not stand where it stands, a quote that no other closes on its
+    /// line, or a block that is never closed.
+    #[error("Syntax: this does not fit here")]
+    Syntax,
+    /// A block inside eight others.
+    #[error("TooDeep: blocks nest more than 8 deep")]
+    TooDeep,
+    /// A text of more than 65,536 octets, more than 256 rules, or a rule of more than 16 filters or
+    /// of more than 16 checkers.
+    #[error("TooLarge: more than 65536 octets, 256 rules, or 16 filters or checkers in a rule")]
+    TooLarge,
+    /// A key that means nothing in its block.
+    #[error("UnknownKey: this key means nothing here")]
+    UnknownKey,
+    /// A block lacks a key that it needs.
+    #[error("Missing: this block lacks a key that it needs")]
+    Missing,
+    /// A key lacks the value or the block that it needs, has one that it does not take or a value
+    /// that it cannot have, or begins a second form where one is allowed.
+    #[error("BadValue: this key has a wrong value or block, or lacks one, or does not go with the others")]
+    BadValue,
+    /// A key stands twice in a block where one is allowed, or two rules have one id.
+    #[error("TwiceNamed: this key or id is there already")]
+    TwiceNamed,
+    /// A pattern or a template that cannot be read.
+    #[error("Pattern: this is no pattern, or no template for its pattern")]
+    Pattern,
+    /// A trust anchor that would accept any packet.
+    #[error("AnyAnchor: a trust anchor of type any allows without a rule")]
+    AnyAnchor,
+    /// A growth of memory was refused.
+    #[error("Memory: out of memory")]
+    Memory,
+}
+
+/// Why a text is no rule file: a line, counted from 1, and what is wrong there. `TooLarge` and
+/// `Memory` are told of line 0.
+#[derive(Clone, Copy, Debug, PartialEq, Eq, Error)]
+#[error("line {line}: {kind}")]
+pub struct RulesFault {
+    pub line: u32,
+    pub kind: RulesFaultKind,
+}
+
+/// A refusal of memory, which has no place in the text. Where a block is read, it is told too of what
+/// is not there; but files are read once nothing is wrong with them, and then nothing is missing.
+pub const MEMORY: RulesFault = RulesFault {
+    line: 0,
+    kind: RulesFaultKind::Memory,
+};
+
+impl<T: Drop> From<AllocFailed<T>> for RulesFault {
+    ghost from_gives = { λ _ e. e ≡ record { line = 0; kind = kinds.Memory } };
+
+    fn from(_error: AllocFailed<T>) -> RulesFault {
+        RulesFault {
+            line: 0,
+            kind: RulesFaultKind::Memory,
+        }
+    }
+}
+
+impl From<AllocError> for RulesFault {
+    ghost from_gives = { λ _ e. e ≡ record { line = 0; kind = kinds.Memory } };
+
+    fn from(_error: AllocError) -> RulesFault {
+        MEMORY
+    }
+}

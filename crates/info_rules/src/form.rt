@@ -1,0 +1,111 @@
+//! The forms of what is asked of a name.
+
+use crate::keys::{Key, Keys};
+
+/// A form in which a block says what it asks of a name.
+#[derive(Clone, Copy)]
+pub enum Form {
+    /// By `name` and `relation`.
+    Related,
+    /// By `regex`.
+    Matching,
+    /// By `hyper-relation`.
+    Hyper,
+}
+
+/// Whose name a block asks about.
+#[derive(Clone, Copy)]
+pub enum Tested {
+    /// A packet's, in a filter.
+    PacketName,
+    /// A key's, in a key locator.
+    KeyName,
+}
+
+impl Tested {
+    ghost use Rattle.std.specs.Prelude.{◌≡◌};
+    ghost use Rattle.info_rules.specs.NameTest.{tests_key, form_of};
+    ghost use Rattle.info_rules.specs.Shown.{key_of};
+
+    fn is_key_name(self) -> bool
+        ensures { result ≡ tests_key self }
+    {
+        match self {
+            Tested::PacketName => false,
+            Tested::KeyName => true,
+        }
+    }
+
+    /// The form that a key is of, if it is of one.
+    #[tactic(auto, unfolding(crate::specs::NameTest::form_of))]
+    fn form_of(self, key: Key<'_>) -> Option<Form>
+        ensures { result ≡ form_of self (key_of key.entry) }
+    {
+        if key.is("name") || key.is("relation") {
+            return Some(Form::Related);
+        }
+        if key.is("regex") {
+            return Some(Form::Matching);
+        }
+        if self.is_key_name() && key.is("hyper-relation") {
+            return Some(Form::Hyper);
+        }
+        None
+    }
+}
+
+impl Form {
+    ghost use Rattle.std.specs.Prelude.{◌≡◌};
+    ghost use Rattle.info_rules.specs.NameTest.{is_form, is_other};
+
+    /// Whether it is this form.
+    fn is(self, other: Form) -> bool
+        ensures { result ≡ is_form other self }
+    {
+        match other {
+            Form::Related => matches!(self, Form::Related),
+            Form::Matching => matches!(self, Form::Matching),
+            Form::Hyper => matches!(self, Form::Hyper),
+        }
+    }
+
+    /// Whether it is no such form.
+    fn is_not(self, other: Option<Form>) -> bool
+        ensures { result ≡ is_other other self }
+    {
+        match other {
+            Some(other) => !self.is(other),
+            None => true,
+        }
+    }
+}
+
+ghost use Rattle.std.specs.Prelude.{◌≡◌};
+ghost use Rattle.info_rules.specs.NameTest.{other_form_of, first_other};
+ghost use Rattle.info_rules.specs.Shown.{key_of, keys_of};
+
+/// The form and the line of a key that is of a form, but not of this one.
+fn other_form_of(tested: Tested, other: Option<Form>, key: Key<'_>) -> Option<(Form, u32)>
+    ensures { result ≡ other_form_of tested other (key_of key.entry) }
+{
+    let form = tested.form_of(key)?;
+    if form.is_not(other) {
+        return Some((form, key.line()));
+    }
+    None
+}
+
+/// The form and the line of the first such key.
+pub fn first_other(tested: Tested, other: Option<Form>, keys: Keys<'_>) -> Option<(Form, u32)>
+    ensures { result ≡ first_other tested other (keys_of keys.entry) }
+{
+    let mut left = keys;
+    while let Some((key, others)) = left.split_first() {
+        let found = other_form_of(tested, other, key);
+        if found.is_some() {
+            return found;
+        }
+        left = others;
+    }
+    None
+}

@@ -1,0 +1,51 @@
+//! Rule files of Named Data Networking, and what they decide of packets.
+#![tactic(auto)]
+
+mod anchor_block;
+mod checker_block;
+mod checks;
+mod decision;
+mod entry;
+mod fault;
+mod filter_block;
+mod form;
+mod hyper_block;
+mod keys;
+mod locator;
+mod locator_block;
+mod matching;
+mod name_test;
+mod packet;
+mod readers;
+mod report;
+mod rule;
+mod rule_block;
+mod rule_file;
+mod rules;
+mod tree;
+mod tree_draft;
+mod tree_reader;
+mod unescape;
+mod value_kind;
+mod value_words;
+mod words;
+
+pub use decision::{Decision, Reason, decisions_are_unique};
+pub use fault::{RulesFault, RulesFaultKind};
+pub use locator::hierarchical_keys_match_a_pattern;
+pub use packet::{Packet, read_packets_have_a_shape};
+pub use report::the_least_is_told;
+pub use rule::Kind;
+pub use rule_file::no_rule_is_dropped;
+pub use rules::{RuleNo, Rules};
+pub use tree::InfoTree;
+pub use tree_reader::trees_have_one_reading;
+
+#[cfg(test)]
+mod decision_tests;
+#[cfg(test)]
+mod example_tests;
+#[cfg(test)]
+mod reading_tests;
+#[cfg(test)]
+mod tree_tests;

@@ -1,0 +1,133 @@
+//! Which keys may sign which packets, by their names.
+
+ghost use Rattle.std.specs.Prelude.{◌≡◌, ◌≤◌, ◌↔◌, ℕ, List, Some, length, option_map, IsTrue, MatchOption, MatchResult, IfOk};
+ghost use Rattle.ndn_tlv.specs.Element.{Field};
+ghost use Rattle.ndn_names.specs.View.{components, field_of};
+ghost use Rattle.ndn_names.specs.Name.{IsPrefix};
+ghost use Rattle.name_patterns.specs.Match.{Match};
+ghost use Rattle.name_patterns.specs.Template.{OfGroup, part_of, NeedAtMost};
+ghost use Rattle.info_rules.specs.Locator.{Makes, IsHyperRelated, key_component, IsKeyOf, hierarchical_pattern, IsHierarchical, PassesLocator};
+ghost use Rattle.info_rules.specs.Decides.{IsHyper};
+
+use crate::matching::{is_related, passes};
+use crate::rule::{HyperRelation, LocatorTest};
+use name_patterns::{Pattern, Template};
+use ndn_names::{Component, Name, NameBuf, NameFault};
+use ndn_tlv::Memory;
+use std::alloc::Global;
+
+/// The type of a GenericNameComponent.
+const GENERIC: u16 = 8;
+
+/// The value of the component behind the prefix of a key's name.
+const KEY: &[u8; 3] = b"KEY";
+
+/// The greatest number of components behind that one; there is one at least.
+const MAX_BEHIND: usize = 3;
+
+/// Whether the key of a name is one that is asked for, where the packet has that name. Memory is
+/// asked for by a hyper-relation alone.
+pub fn passes_locator(
+    alloc: Global,
+    test: &LocatorTest,
+    key: Name<'_>,
+    packet: Name<'_>,
+) -> Result<bool, Memory>
+    ensures { MatchResult result
+        (λ passed. IsTrue passed ↔ PassesLocator test.now (components key.entry) (components packet.entry))
+        (λ _. IsHyper test.now) }
+{
+    match test {
+        LocatorTest::Name(test) => Ok(passes(test, key)),
+        LocatorTest::Hyper(hyper) => is_hyper_related(alloc, hyper, key, packet),
+        LocatorTest::Hierarchical => Ok(is_hierarchical(key, packet)),
+    }
+}
+
+/// Whether what is made of the key's name stands so to what is made of the packet's.
+fn is_hyper_related(
+    alloc: Global,
+    hyper: &HyperRelation,
+    key: Name<'_>,
+    packet: Name<'_>,
+) -> Result<bool, Memory>
+    ensures { IfOk result (λ related. IsTrue related ↔ IsHyperRelated hyper.now (components key.entry) (components packet.entry)) }
+{
+    let Some(of_key) = made_of(alloc, &hyper.key_pattern, &hyper.key_template, key)? else {
+        return Ok(false);
+    };
+    let Some(of_packet) = made_of(alloc, &hyper.packet_pattern, &hyper.packet_template, packet)?
+    else {
+        return Ok(false);
+    };
+    Ok(is_related(hyper.relation, of_key.view(), of_packet.view()))
+}
+
+/// The name that is made of another, if the pattern matches that and the template does not make too
+/// long a name.
+fn made_of(
+    alloc: Global,
+    pattern: &Pattern,
+    template: &Template,
+    name: Name<'_>,
+) -> Result<Option<NameBuf>, Memory>
+    requires { NeedAtMost (length pattern.now.groups) template.now }
+    ensures { IfOk result (λ made. MatchOption made
+        ((made : List Field) → ¬ Makes pattern.now template.now (components name.entry) made)
+        (λ made. Makes pattern.now template.now (components name.entry) made)) }
+{
+    let Some(captures) = pattern.matches(name) else {
+        return Ok(None);
+    };
+    match template.expand(alloc, &captures, name) {
+        Ok(made) => Ok(Some(made)),
+        Err(NameFault::TooManyComponents) => Ok(None),
+        // It refuses nothing else.
+        Err(_) => Err(Memory),
+    }
+}
+
+/// Whether the name of a key has the prefix of a key's name, which is one of the packet's name too.
+fn is_hierarchical(key: Name<'_>, packet: Name<'_>) -> bool
+    ensures { IsTrue result ↔ IsHierarchical (components key.entry) (components packet.entry) }
+{
+    match prefix_of_key(key) {
+        Some(prefix) => prefix.is_prefix_of(packet),
+        None => false,
+    }
+}
+
+/// The longest prefix of a key's name before a component `KEY` and one to three more.
+fn prefix_of_key(key: Name<'_>) -> Option<Name<'_>>
+    ensures { MatchOption result
+        ((prefix : List Field) → ¬ IsKeyOf prefix (components key.entry))
+        (λ found. IsKeyOf (components found) (components key.entry)
+        × ((prefix : List Field) → IsKeyOf prefix (components key.entry) → length prefix ≤ length (components found))) }
+{
+    for behind in 1..=MAX_BEHIND {
+        let Some(place) = key.len().checked_sub(behind + 1) else {
+            return None;
+        };
+        if is_key_component(key.component(place)) {
+            return Some(key.prefix(place));
+        }
+    }
+    None
+}
+
+/// Whether there is a component, and it is the one behind the prefix of a key's name.
+fn is_key_component(component: Option<Component<'_>>) -> bool
+    ensures { IsTrue result ↔ (option_map field_of component.entry ≡ Some key_component) }
+{
+    match component {
+        Some(component) => component.kind == GENERIC && component.value == KEY.as_slice(),
+        None => false,
+    }
+}
+
+/// Law: a hierarchical key's name matches the pattern `^(<>*)<KEY><>{1,3}$`, and what group 1 holds is
+/// a prefix of the packet's name.
+pub fn hierarchical_keys_match_a_pattern()
+    ensures { (key packet : List Field) → IsHierarchical key packet
+        ↔ ((places : List (ℕ × ℕ)) × Match hierarchical_pattern key places × IsPrefix (part_of places key (OfGroup 1)) packet) }
+{}

@@ -1,0 +1,50 @@
+//! Which names a rule is for.
+
+ghost use Rattle.std.specs.Prelude.{◌↔◌, IsTrue, Any};
+ghost use Rattle.ndn_names.specs.View.{components};
+ghost use Rattle.info_rules.specs.Related.{Related};
+ghost use Rattle.info_rules.specs.First.{Passes, Applies};
+ghost use Rattle.info_rules.specs.Shown.{rule_of};
+
+use crate::rule::{Kind, NameTest, Relation, Rule};
+use ndn_names::Name;
+
+/// Whether a name stands so to the other.
+pub fn is_related(relation: Relation, name: Name<'_>, other: Name<'_>) -> bool
+    ensures { IsTrue result ↔ Related relation (components name.entry) (components other.entry) }
+{
+    match relation {
+        Relation::Equal => name.compare(other).is_eq(),
+        Relation::IsPrefixOf => name.is_prefix_of(other),
+        Relation::IsStrictPrefixOf => name.is_prefix_of(other) && name.len() < other.len(),
+    }
+}
+
+/// Whether a name is what is asked for. It takes no memory.
+pub fn passes(test: &NameTest, name: Name<'_>) -> bool
+    ensures { IsTrue result ↔ Passes test.now (components name.entry) }
+{
+    match test {
+        NameTest::Related(relation, given) => is_related(*relation, given.view(), name),
+        NameTest::Matching(pattern) => pattern.matches(name).is_some(),
+    }
+}
+
+/// Whether a name is what one of the tests asks for.
+fn passes_any(tests: &[NameTest], name: Name<'_>) -> bool
+    ensures { IsTrue result ↔ Any (λ test. Passes test (components name.entry)) tests.now }
+{
+    for test in tests {
+        if passes(test, name) {
+            return true;
+        }
+    }
+    false
+}
+
+/// Whether a rule is for the packets of this kind and name.
+pub fn applies(rule: &Rule, kind: Kind, name: Name<'_>) -> bool
+    ensures { IsTrue result ↔ Applies (rule_of rule.now) kind (components name.entry) }
+{
+    rule.kind == kind && (rule.filters.is_empty() || passes_any(&rule.filters, name))
+}

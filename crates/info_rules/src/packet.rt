@@ -1,0 +1,123 @@
+//! Packets as rules see them.
+
+ghost use Rattle.std.specs.Prelude.{◌≡◌, ◌⊎◌, ◌↔◌, ℕ, List, Some, IsSome, MatchResult};
+ghost use Rattle.ndn_names.specs.View.{components};
+ghost use Rattle.ndn_packets.specs.Packet.{PlainSignature, PlainInterest, PlainData, plain_interest, plain_data};
+ghost use Rattle.ndn_packets.specs.Grammar.{IsInterest, IsData};
+ghost use Rattle.ndn_packets.specs.Covered.{EndsInDigest};
+ghost use Rattle.info_rules.specs.Seen.{without_digest, seen_interest, seen_data, IsSigned};
+ghost use Rattle.info_rules.specs.Shown.{signed_of};
+ghost use Rattle.info_rules.specs.Decides.{IsMisshaped, IsUnfit};
+
+use crate::decision::Reason;
+use crate::rule::Kind;
+use ndn_names::Name;
+use ndn_packets::{Data, Interest, Parts, Signature};
+
+/// The type of a component that is a digest of parameters (NDN Packet Format 0.3, "Name").
+const PARAMETERS_SHA256_DIGEST: u16 = 2;
+
+/// A packet to decide.
+#[derive(Clone, Copy, Debug)]
+pub enum Packet<'a> {
+    Interest(&'a Interest<'a>),
+    Data(&'a Data<'a>),
+}
+
+/// A signed packet as checkers see it: its name, its signature, and the octets that this covers.
+#[derive(Clone, Copy, Debug)]
+pub struct Signed<'a> {
+    pub name: Name<'a>,
+    pub signature: Signature<'a>,
+    pub parts: Parts<'a>,
+}
+
+impl<'a> Packet<'a> {
+    ghost use Rattle.info_rules.specs.Shown.{seen_of};
+
+    pub(crate) fn kind(self) -> Kind
+        ensures { result ≡ (seen_of self.entry).kind }
+    {
+        match self {
+            Packet::Interest(_) => Kind::Interest,
+            Packet::Data(_) => Kind::Data,
+        }
+    }
+
+    /// The name that rules see: that of an Interest without a digest of parameters at its end.
+    pub(crate) fn name(self) -> Name<'a>
+        ensures { components result ≡ (seen_of self.entry).name }
+    {
+        match self {
+            Packet::Interest(interest) => without_digest(interest.name),
+            Packet::Data(packet) => packet.name,
+        }
+    }
+
+    /// What checkers see, or why none has to look.
+    pub(crate) fn signed(self) -> Result<Signed<'a>, Reason>
+        ensures { MatchResult result (λ signed. IsSigned (seen_of self.entry) (signed_of signed)) (IsUnfit (seen_of self.entry)) }
+    {
+        match self {
+            Packet::Interest(interest) => signed_interest(interest),
+            Packet::Data(packet) => signed_data(packet),
+        }
+    }
+}
+
+/// The name without its last component, where that is a digest of parameters.
+fn without_digest(name: Name<'_>) -> Name<'_>
+    ensures { components result ≡ without_digest (components name.entry) }
+{
+    let Some(count) = name.len().checked_sub(1) else {
+        return name;
+    };
+    match name.component(count) {
+        Some(last) if last.kind == PARAMETERS_SHA256_DIGEST => name.prefix(count),
+        _ => name,
+    }
+}
+
+fn signed_interest<'a>(interest: &'a Interest<'a>) -> Result<Signed<'a>, Reason>
+    ensures { let seen = seen_interest interest.entry.now.whole.now (plain_interest interest.entry.now) in
+        MatchResult result (λ signed. IsSigned seen (signed_of signed)) (IsUnfit seen) }
+{
+    let Some(signature) = interest.signature else {
+        return Err(Reason::NotSigned);
+    };
+    if signature.time.is_none() {
+        return Err(Reason::Shape);
+    }
+    let Some(parts) = interest.signed_parts() else {
+        return Err(Reason::Shape);
+    };
+    Ok(Signed {
+        name: without_digest(interest.name),
+        signature,
+        parts,
+    })
+}
+
+fn signed_data<'a>(packet: &'a Data<'a>) -> Result<Signed<'a>, Reason>
+    ensures { let seen = seen_data packet.entry.now.whole.now (plain_data packet.entry.now) in
+        MatchResult result (λ signed. IsSigned seen (signed_of signed)) (IsUnfit seen) }
+{
+    match packet.signed_parts() {
+        Some(parts) => Ok(Signed {
+            name: packet.name,
+            signature: packet.signature,
+            parts,
+        }),
+        // No Data that was read is without covered octets.
+        None => Err(Reason::Shape),
+    }
+}
+
+/// Law: a Data that was read has a shape that checkers can look at, and so has a signed Interest but
+/// where it does not say when it was signed, or the digest of its parameters is not the last
+/// component of its name.
+pub fn read_packets_have_a_shape()
+    ensures data { (text : List ℕ) (d : PlainData) (reason : Reason) → IsData text d → ¬ IsUnfit (seen_data text d) reason }
+    ensures interest { (text : List ℕ) (i : PlainInterest) (s : PlainSignature) → IsInterest text i → i.signature ≡ Some s
+        → IsMisshaped (seen_interest text i) s ↔ ((¬ IsSome s.info.time) ⊎ (¬ EndsInDigest i.name)) }
+{}

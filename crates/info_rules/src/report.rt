@@ -1,0 +1,100 @@
+//! Which fault of a rule file is told.
+
+ghost use Rattle.std.specs.Prelude.{◌≡◌, None, Some, List, [], MatchOption};
+ghost use Rattle.info_rules.specs.Faults.{noted, after, IsAmong, NoneIsSooner};
+
+use crate::fault::{RulesFault, RulesFaultKind};
+use std::marker::Model;
+
+/// The fault to tell, of those that were met so far.
+#[derive(Drop)]
+pub struct Report {
+    first: Option<RulesFault>,
+}
+
+impl Model for Report {
+    ghost use Rattle.std.specs.Prelude.{Option};
+    ghost use Rattle.info_rules.specs.declared.fault.RulesFault.{RulesFault};
+
+    ghost Value = { Option RulesFault };
+
+    ghost view = { λ report. report.first };
+}
+
+impl RulesFaultKind {
+    ghost use Rattle.std.specs.Prelude.{◌≡◌};
+    ghost use Rattle.info_rules.specs.Faults.{kind_number};
+
+    /// Its place among the kinds of one line.
+    fn number(self) -> u8
+        ensures { result ≡ kind_number self }
+    {
+        match self {
+            RulesFaultKind::Syntax => 1,
+            RulesFaultKind::TooDeep => 2,
+            RulesFaultKind::TooLarge => 3,
+            RulesFaultKind::UnknownKey => 4,
+            RulesFaultKind::Missing => 5,
+            RulesFaultKind::BadValue => 6,
+            RulesFaultKind::TwiceNamed => 7,
+            RulesFaultKind::Pattern => 8,
+            RulesFaultKind::AnyAnchor => 9,
+            RulesFaultKind::Memory => 10,
+        }
+    }
+}
+
+impl RulesFault {
+    ghost use Rattle.std.specs.Prelude.{◌≡◌};
+    ghost use Rattle.info_rules.specs.Faults.{sooner};
+
+    /// Whether it is told before the other fault.
+    fn is_sooner(self, other: RulesFault) -> bool
+        ensures { result ≡ sooner self other }
+    {
+        self.line < other.line
+            || self.line == other.line && self.kind.number() < other.kind.number()
+    }
+}
+
+/// The fault to tell, when one more is met.
+fn told_of(first: Option<RulesFault>, fault: RulesFault) -> RulesFault
+    ensures { noted first fault ≡ Some result }
+{
+    match first {
+        Some(told) => { if fault.is_sooner(told) { fault } else { told } }
+        None => fault,
+    }
+}
+
+impl Report {
+    ghost use Rattle.std.specs.Prelude.{◌≡◌, None, [], ◌∷◌};
+    ghost use Rattle.info_rules.specs.Faults.{after};
+
+    /// Before any fault is met.
+    pub fn new() -> Report
+        ensures { result ≡ None }
+    {
+        Report { first: None }
+    }
+
+    #[tactic(auto, unfolding(crate::specs::Faults::after))]
+    /// Notes a fault of this kind on this line.
+    pub fn note(&mut self, line: u32, kind: RulesFaultKind)
+        ensures { self.new ≡ after self.old (record { line = line; kind = kind } ∷ []) }
+    {
+        self.first = Some(told_of(self.first, RulesFault { line, kind }));
+    }
+
+    /// The fault to tell, if any was met.
+    pub fn first(&self) -> Option<RulesFault>
+        ensures { result ≡ self.now }
+    {
+        self.first
+    }
+}
+
+/// Law: of faults that are met in turn the least is told, and none only where none was met.
+pub fn the_least_is_told()
+    ensures { (faults : List RulesFault) → MatchOption (after None faults) (faults ≡ []) (λ told. IsAmong told faults × NoneIsSooner told faults) }
+{}

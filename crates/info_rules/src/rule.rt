@@ -1,0 +1,109 @@
+//! Rules: which packets they are for, and what they ask of them.
+
+use name_patterns::{Pattern, Template};
+use ndn_names::NameBuf;
+use std::marker::Model;
+
+/// The kind of packet that a rule is for.
+#[derive(Clone, Copy, Debug, PartialEq, Eq)]
+pub enum Kind {
+    Data,
+    Interest,
+}
+
+/// How a name that a rule gives stands to another name.
+#[derive(Clone, Copy, Debug)]
+pub enum Relation {
+    Equal,
+    /// It is a prefix of the other name, or equal to it.
+    IsPrefixOf,
+    /// It is a prefix of the other name, which is longer.
+    IsStrictPrefixOf,
+}
+
+/// What is asked of a name.
+#[derive(Debug, Drop)]
+pub enum NameTest {
+    /// That this name stands so to it.
+    Related(Relation, NameBuf),
+    /// That the pattern matches it.
+    Matching(Pattern),
+}
+
+/// What a key's name and a packet's name have in common: each is matched by a pattern and made into
+/// another name, and the one made of the key's name stands so to the one made of the packet's.
+#[derive(Debug, Drop)]
+pub struct HyperRelation {
+    pub key_pattern: Pattern,
+    pub key_template: Template,
+    pub relation: Relation,
+    pub packet_pattern: Pattern,
+    pub packet_template: Template,
+}
+
+impl Model for HyperRelation {
+    ghost use Rattle.info_rules.specs.Hyper.{PlainHyper, HasGroups};
+
+    ghost Value = { PlainHyper };
+
+    ghost view = { λ hyper. record { key_pattern = hyper.key_pattern; key_template = hyper.key_template; relation = hyper.relation; packet_pattern = hyper.packet_pattern; packet_template = hyper.packet_template } };
+
+    ghost invariant = { λ hyper. HasGroups (record { key_pattern = hyper.key_pattern; key_template = hyper.key_template; relation = hyper.relation; packet_pattern = hyper.packet_pattern; packet_template = hyper.packet_template }) };
+}
+
+impl HyperRelation {
+    ghost use Rattle.std.specs.Prelude.{◌≡◌, length};
+    ghost use Rattle.name_patterns.specs.Template.{NeedAtMost};
+
+    /// The relation of these patterns, each with a template that needs none but its groups.
+    pub fn new(
+        key_pattern: Pattern,
+        key_template: Template,
+        relation: Relation,
+        packet_pattern: Pattern,
+        packet_template: Template,
+    ) -> HyperRelation
+        requires key { NeedAtMost (length key_pattern.groups) key_template }
+        requires packet { NeedAtMost (length packet_pattern.groups) packet_template }
+        ensures { result ≡ record { key_pattern = key_pattern; key_template = key_template; relation = relation; packet_pattern = packet_pattern; packet_template = packet_template } }
+    {
+        HyperRelation {
+            key_pattern,
+            key_template,
+            relation,
+            packet_pattern,
+            packet_template,
+        }
+    }
+}
+
+/// What is asked of the name of the key that signed a packet.
+#[derive(Debug, Drop)]
+pub enum LocatorTest {
+    Name(NameTest),
+    Hyper(HyperRelation),
+    /// That it is a name, a component `KEY` and one to three more, where that first name is a prefix
+    /// of the packet's.
+    Hierarchical,
+}
+
+/// What is asked of a signature.
+#[derive(Debug, Drop)]
+pub enum Checker {
+    /// DigestSha256, whatever the KeyLocator is.
+    Sha256,
+    /// HmacWithSha256 under a known key.
+    HmacSha256(LocatorTest),
+    /// A signature by RSA or ECDSA, which is never accepted.
+    Unsupported,
+}
+
+/// A rule: it is for the packets of a kind whose name passes a filter, if it has any, and allows
+/// those whose signature passes a checker.
+#[derive(Debug, Drop)]
+pub struct Rule {
+    pub id: String,
+    pub kind: Kind,
+    pub filters: Vec<NameTest>,
+    pub checkers: Vec<Checker>,
+}

@@ -1,0 +1,43 @@
+//! Rule files as lists of rules.
+
+use crate::rule::Rule;
+use std::marker::Model;
+
+/// The number of a rule among those of its file, counted from 0.
+#[derive(Clone, Copy, Debug, PartialEq, Eq)]
+pub struct RuleNo(pub usize);
+
+/// The rules of a rule file, in the order of the text.
+#[derive(Debug, Drop)]
+pub struct Rules {
+    pub(crate) rules: Vec<Rule>,
+}
+
+impl Model for Rules {
+    ghost use Rattle.std.specs.Prelude.{List, map};
+    ghost use Rattle.info_rules.specs.Rule.{PlainRule};
+    ghost use Rattle.info_rules.specs.Shown.{rule_of};
+
+    ghost Value = { List PlainRule };
+
+    ghost view = { λ rules. map rule_of rules.rules.items };
+}
+
+impl Rules {
+    ghost use Rattle.std.specs.Prelude.{◌≡◌, ◌<◌, Some, length, option_map, slice_get};
+
+    /// The number of rules, at most 256 where they were read.
+    pub fn len(&self) -> usize
+        ensures { result ≡ length self.now }
+    {
+        self.rules.len()
+    }
+
+    /// The id of a rule.
+    pub fn id(&self, rule: RuleNo) -> &str
+        requires { rule.0 < length self.now }
+        ensures { option_map (λ plain. plain.id) (slice_get self.now rule.0) ≡ Some result.now }
+    {
+        self.rules[rule.0].id.as_str()
+    }
+}

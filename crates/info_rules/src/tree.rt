@@ -1,0 +1,20 @@
+//! The entries of a text, in their blocks.
+
+use crate::entry::Entry;
+use std::marker::Model;
+
+/// The entries of a rule file, in the order of the text.
+#[derive(Debug, Drop)]
+pub struct InfoTree {
+    pub(crate) entries: Vec<Entry>,
+}
+
+impl Model for InfoTree {
+    ghost use Rattle.std.specs.Prelude.{List, map};
+    ghost use Rattle.info_rules.specs.Tree.{PlainEntry};
+    ghost use Rattle.info_rules.specs.Shown.{entry_of};
+
+    ghost Value = { List PlainEntry };
+
+    ghost view = { λ tree. map entry_of tree.entries.items };
+}

@@ -1,0 +1,215 @@
+//! Entries as far as they are read.
+
+ghost use Rattle.std.specs.Prelude.{◌≡◌};
+ghost use Rattle.info_rules.specs.TreeReading as read;
+
+use crate::entry::Entry;
+use crate::fault::{RulesFault, RulesFaultKind};
+use crate::unescape::unescaped;
+use crate::words::Token;
+use std::alloc::Global;
+
+/// The greatest number of blocks that are open at once.
+const MAX_DEPTH: usize = 8;
+
+fn syntax(line: u32) -> RulesFault
+    ensures { result ≡ read.syntax line }
+{
+    RulesFault {
+        line,
+        kind: RulesFaultKind::Syntax,
+    }
+}
+
+fn too_deep(line: u32) -> RulesFault
+    ensures { result ≡ read.too_deep line }
+{
+    RulesFault {
+        line,
+        kind: RulesFaultKind::TooDeep,
+    }
+}
+
+/// The fault of a block that was too deep on an earlier line.
+fn deep_before(deep: Option<u32>, line: u32) -> Option<RulesFault>
+    ensures { result ≡ read.deep_before deep line }
+{
+    match deep {
+        Some(deep) if deep != line => Some(too_deep(deep)),
+        _ => None,
+    }
+}
+
+/// What is read of the entries of a text.
+#[derive(Debug, Drop)]
+pub struct Draft {
+    /// Entries to which nothing can be added.
+    pub ended: Vec<Entry>,
+    /// The entry whose key or value came last.
+    pub pending: Option<Entry>,
+    /// How many blocks are open.
+    pub depth: usize,
+    /// The line of the last brace that closed a block, where none was opened since.
+    pub closed: Option<u32>,
+    /// The line of a brace that opened a block in eight others.
+    pub deep: Option<u32>,
+}
+
+impl Draft {
+    ghost use Rattle.std.specs.Prelude.{◌≡◌, ◌+◌, ◌<◌, ◌≤◌, ◌^◌, Ok, MatchResult, map, string_bytes};
+    ghost use Rattle.std.specs.Option.{option_map};
+    ghost use Rattle.info_rules.specs.TreeReading as read;
+    ghost use Rattle.info_rules.specs.TreeReading.{IsTreeFaultOf};
+    ghost use Rattle.info_rules.specs.Shown.{entry_of, token_of, draft_of};
+
+    /// The draft without entries.
+    pub fn new(alloc: Global) -> Draft
+        ensures { draft_of result ≡ read.begun }
+    {
+        Draft {
+            ended: Vec::new(alloc),
+            pending: None,
+            depth: 0,
+            closed: None,
+            deep: None,
+        }
+    }
+
+    /// Puts the pending entry, if there is one, behind the others.
+    fn end_entry(&mut self) -> Result<(), RulesFault>
+        ensures { MatchResult result (λ _. draft_of self.new ≡ read.with_ended (draft_of self.old)) (λ fault. fault ≡ read.out_of_memory) }
+    {
+        if let Some(entry) = self.pending.take() {
+            self.ended.push(entry)?;
+        }
+        Ok(())
+    }
+
+    /// Adds a word that is a key.
+    fn add_key(&mut self, alloc: Global, line: u32, word: &str) -> Result<(), RulesFault>
+        ensures { MatchResult result (λ _. draft_of self.new ≡ read.with_key (draft_of self.old) line word.now) (λ fault. fault ≡ read.out_of_memory) }
+    {
+        self.end_entry()?;
+        let key = unescaped(alloc, word)?;
+        self.pending = Some(Entry {
+            depth: self.depth,
+            line,
+            key,
+            value: None,
+            has_block: false,
+        });
+        Ok(())
+    }
+
+    /// Adds a word that stands on the line of the pending entry, which is this one.
+    fn add_value(
+        &mut self,
+        alloc: Global,
+        line: u32,
+        word: &str,
+        entry: Entry,
+    ) -> Result<(), RulesFault>
+        ensures { let next = read.with_value (draft_of self.old) line word.now (entry_of entry) (option_map string_bytes entry.value) in
+            MatchResult result (λ _. next ≡ Ok (draft_of self.new)) (IsTreeFaultOf next) }
+    {
+        if entry.value.is_some() {
+            return Err(syntax(line));
+        }
+        let value = unescaped(alloc, word)?;
+        self.pending = Some(Entry {
+            value: Some(value),
+            ..entry
+        });
+        Ok(())
+    }
+
+    /// Adds a word.
+    fn add_word(&mut self, alloc: Global, line: u32, word: &str) -> Result<(), RulesFault>
+        ensures { let next = read.with_word (draft_of self.old) line word.now (option_map entry_of self.old.pending) in
+            MatchResult result (λ _. next ≡ Ok (draft_of self.new)) (IsTreeFaultOf next) }
+    {
+        match self.pending.take() {
+            Some(entry) if entry.line == line => return self.add_value(alloc, line, word, entry),
+            Some(entry) => self.ended.push(entry)?,
+            None if self.closed == Some(line) => return Err(syntax(line)),
+            None => {}
+        }
+        self.add_key(alloc, line, word)
+    }
+
+    /// Opens a block behind the pending entry.
+    fn open_block(&mut self, line: u32) -> Result<(), RulesFault>
+        requires { self.old.depth + 1 < 2 ^ 64 }
+        ensures { let next = read.with_open (draft_of self.old) line (option_map entry_of self.old.pending) in
+            MatchResult result (λ _. next ≡ Ok (draft_of self.new)) (IsTreeFaultOf next) }
+    {
+        let Some(entry) = self.pending.take() else {
+            return Err(syntax(line));
+        };
+        self.ended.push(Entry {
+            has_block: true,
+            ..entry
+        })?;
+        if self.depth >= MAX_DEPTH {
+            self.deep = Some(line);
+        }
+        self.depth += 1;
+        self.closed = None;
+        Ok(())
+    }
+
+    /// Closes a block.
+    fn close_block(&mut self, line: u32) -> Result<(), RulesFault>
+        ensures { let next = read.with_close (draft_of self.old) line in
+            MatchResult result (λ _. next ≡ Ok (draft_of self.new)) (IsTreeFaultOf next) }
+    {
+        if self.depth == 0 {
+            return Err(syntax(line));
+        }
+        self.end_entry()?;
+        self.depth -= 1;
+        self.closed = Some(line);
+        Ok(())
+    }
+
+    /// Adds the next token, which stands on a line.
+    pub fn add_token(
+        &mut self,
+        alloc: Global,
+        line: u32,
+        token: Token<'_>,
+    ) -> Result<(), RulesFault>
+        requires { self.old.depth + 1 < 2 ^ 64 }
+        ensures { let next = read.with_token (draft_of self.old) line (token_of token.entry) in
+            MatchResult result (λ _. next ≡ Ok (draft_of self.new)) (IsTreeFaultOf next) }
+    {
+        if let Some(fault) = deep_before(self.deep, line) {
+            return Err(fault);
+        }
+        match token {
+            Token::Word(word) => self.add_word(alloc, line, word),
+            Token::Open => self.open_block(line),
+            Token::Close => self.close_block(line),
+            Token::Broken => Err(syntax(line)),
+        }
+    }
+
+    /// The entries, where the text ends on a line.
+    pub fn finish(self, line: u32) -> Result<Vec<Entry>, RulesFault>
+        ensures { let whole = read.whole_of line (draft_of self) in
+            MatchResult result (λ entries. whole ≡ Ok (map entry_of entries.items)) (IsTreeFaultOf whole) }
+    {
+        if let Some(fault) = deep_before(self.deep, line) {
+            return Err(fault);
+        }
+        if self.depth > 0 {
+            return Err(syntax(line));
+        }
+        if let Some(deep) = self.deep {
+            return Err(too_deep(deep));
+        }
+        let mut draft = self;
+        draft.end_entry()?;
+        Ok(draft.ended)
+    }
+}

@@ -1,0 +1,82 @@
+//! Reading the entries of a text.
+
+ghost use Rattle.std.specs.Prelude.{◌≡◌, ◌≤◌, ◌↔◌, ℕ, List, Ok, IfOk, MatchResult, length, map};
+ghost use Rattle.info_rules.specs.Tree.{PlainEntry};
+ghost use Rattle.info_rules.specs.TreeGrammar.{TreeOf};
+ghost use Rattle.info_rules.specs.TreeReading.{IsTreeFaultOf, out_of_memory, entries_in, tree_in};
+ghost use Rattle.info_rules.specs.Shown.{entry_of};
+
+use crate::entry::Entry;
+use crate::fault::{RulesFault, RulesFaultKind};
+use crate::tree::InfoTree;
+use crate::tree_draft::Draft;
+use crate::words::{end_line, first_token};
+use std::alloc::Global;
+
+/// The greatest length of a text, in octets.
+const MAX_LEN: usize = 65536;
+
+/// The entries of a text that is not too large.
+fn read_entries(alloc: Global, text: &str) -> Result<Vec<Entry>, RulesFault>
+    requires { length text.now ≤ 65536 }
+    ensures { MatchResult result (λ entries. entries_in text.now ≡ Ok (map entry_of entries.items)) (IsTreeFaultOf (entries_in text.now)) }
+{
+    let mut draft = Draft::new(alloc);
+    let mut line = 1;
+    let mut rest = text;
+    while let Some(found) = first_token(line, rest) {
+        draft.add_token(alloc, found.line, found.token)?;
+        line = found.line;
+        rest = found.rest;
+    }
+    draft.finish(end_line(text))
+}
+
+/// The entries of a text.
+#[tactic(auto, unfolding(crate::specs::TreeReading::tree_in))]
+fn read_tree(alloc: Global, text: &str) -> Result<InfoTree, RulesFault>
+    ensures { MatchResult result (λ tree. tree_in text.now ≡ Ok tree) (IsTreeFaultOf (tree_in text.now)) }
+{
+    if text.len() > MAX_LEN {
+        return Err(RulesFault {
+            line: 0,
+            kind: RulesFaultKind::TooLarge,
+        });
+    }
+    let entries = read_entries(alloc, text)?;
+    Ok(InfoTree { entries })
+}
+
+impl InfoTree {
+    /// Reads the entries of a rule file's text of at most 65,536 octets, as the validator
+    /// configuration of ndn-cxx writes them (boost's INFO format without its directives).
+    ///
+    /// A word ends before a space, a tab, a CR, an LF or a semicolon; `{` and `}` alone are braces,
+    /// and a semicolon begins a comment up to the end of its line. A word that begins with `"` goes
+    /// on to the next `"` of its line that has no backslash directly before it. In words, quoted or
+    /// not, `\\` stands for a backslash and `\"` for a quote. An entry is a key, at most one value
+    /// on its line, and at most one block of entries between braces, of which the first may stand
+    /// on a later line. It ends with its line, or before a `}`.
+    ///
+    /// Refuses it by the first word that does not fit (`Syntax`), by a block that is not closed
+    /// (`Syntax` at the line where the text ends), by the first block inside eight others
+    /// (`TooDeep`; `Syntax` where a word of the same line does not fit), and before all these by
+    /// its length (`TooLarge`). `Memory` may come at any text.
+    pub fn read(alloc: Global, text: &str) -> Result<InfoTree, RulesFault>
+        // What is read, the text spells.
+        ensures found { IfOk result (TreeOf text.now) }
+        // What the text spells is read, but for memory.
+        ensures only { (entries : List PlainEntry) → TreeOf text.now entries
+            → MatchResult result (λ tree. tree ≡ entries) (λ fault. fault ≡ out_of_memory) }
+        // Which fault it is.
+        ensures exact { MatchResult result (λ tree. tree_in text.now ≡ Ok tree) (IsTreeFaultOf (tree_in text.now)) }
+    {
+        read_tree(alloc, text)
+    }
+}
+
+/// Law: a text spells one list of entries at most, which `tree_in` gives.
+pub fn trees_have_one_reading()
+    ensures exact { (text : List ℕ) (entries : List PlainEntry) → (tree_in text ≡ Ok entries) ↔ TreeOf text entries }
+    ensures one { (text : List ℕ) (a b : List PlainEntry) → TreeOf text a → TreeOf text b → a ≡ b }
+{}

@@ -1,0 +1,194 @@
+//! Words, braces and quoted texts.
+
+ghost use Rattle.std.specs.Prelude.{◌≡◌, ◌≢◌, ◌+◌, ◌<◌, ◌≤◌, ◌^◌, ◌∷◌, [], false, IfSome, MatchOption, length, slice_index};
+ghost use Rattle.std.specs.List.{position_or_len};
+ghost use Rattle.info_rules.specs.Words as words;
+ghost use Rattle.info_rules.specs.Words.{tokens_from, quoted_len, from_line_end};
+ghost use Rattle.info_rules.specs.Shown.{token_of};
+
+/// A word, a brace that stands alone, or a quoted text.
+#[derive(Clone, Copy, Debug)]
+pub enum Token<'a> {
+    /// A word, or what stands between two quotes. Backslashes are in it as they stand in the text.
+    Word(&'a str),
+    Open,
+    Close,
+    /// A quoted text that is not closed on its line.
+    Broken,
+}
+
+/// A token, its line, and the text behind it, which begins on that line.
+#[derive(Clone, Copy, Debug)]
+pub struct Found<'a> {
+    pub token: Token<'a>,
+    pub line: u32,
+    pub rest: &'a str,
+}
+
+/// Whether an octet is in no word that is not quoted.
+#[tactic(auto, unfolding(crate::specs::Words::parts_words))]
+fn parts_words(octet: u8) -> bool
+    ensures { result ≡ words.parts_words octet }
+{
+    matches!(octet, b' ' | b'\t' | b'\r' | b'\n' | b';')
+}
+
+/// What a word that is not quoted is.
+#[tactic(auto, unfolding(crate::specs::Words::word_token))]
+fn word_token(word: &str) -> Token<'_>
+    ensures { token_of result ≡ words.word_token word.now }
+{
+    match word.as_bytes() {
+        b"{" => Token::Open,
+        b"}" => Token::Close,
+        _ => Token::Word(word),
+    }
+}
+
+/// The length of the word at the front.
+fn word_len(text: &[u8]) -> usize
+    ensures { result ≡ position_or_len words.parts_words text.now }
+{
+    for (place, octet) in text.iter().enumerate() {
+        if parts_words(*octet) {
+            return place;
+        }
+    }
+    text.len()
+}
+
+/// Whether an octet closes a quoted text: a quote with no backslash directly before it.
+#[tactic(auto, unfolding(crate::specs::Words::is_closing))]
+fn is_closing(is_escaped: bool, octet: u8) -> bool
+    ensures { result ≡ words.is_closing is_escaped octet }
+{
+    octet == b'"' && !is_escaped
+}
+
+/// The length of the quoted text behind its first quote, if it is closed on its line.
+fn quoted_len(text: &[u8]) -> Option<usize>
+    ensures { result ≡ quoted_len false text.now }
+{
+    let mut is_escaped = false;
+    for (place, octet) in text.iter().enumerate() {
+        if *octet == b'\n' {
+            return None;
+        }
+        if is_closing(is_escaped, *octet) {
+            return Some(place);
+        }
+        is_escaped = *octet == b'\\';
+    }
+    None
+}
+
+/// The text from the end of its first line on.
+fn from_line_end(text: &str) -> &str
+    ensures read { result.now ≡ from_line_end text.now }
+    ensures shorter { length result.now ≤ length text.now }
+{
+    match text.find('\n') {
+        Some(place) => text.split_at(place).1,
+        None => "",
+    }
+}
+
+/// The text behind its first octet.
+fn past_first(text: &str) -> &str
+    requires some { 0 < length text.now }
+    requires ascii { slice_index text.now 0 < 128 }
+    ensures { text.now ≡ slice_index text.now 0 ∷ result.now }
+{
+    text.split_at(1).1
+}
+
+/// The word at the front of the text.
+#[tactic(auto, using(crate::proofs::Scanning::word_boundary, crate::proofs::Scanning::word_at_front, crate::proofs::Scanning::word_some))]
+fn first_word(line: u32, text: &str) -> Found<'_>
+    requires some { 0 < length text.now }
+    requires plain { words.parts_words (slice_index text.now 0) ≡ false }
+    requires bare { slice_index text.now 0 ≢ 34 }
+    ensures read { tokens_from words.Between line text.now ≡ (result.line, token_of result.token) ∷ tokens_from words.Between line result.rest.now }
+    ensures same { result.line ≡ line }
+    ensures shorter { length result.rest.now < length text.now }
+{
+    let (word, rest) = text.split_at(word_len(text.as_bytes()));
+    Found {
+        token: word_token(word),
+        line,
+        rest,
+    }
+}
+
+/// The quoted text behind its first quote.
+fn first_quoted(line: u32, text: &str) -> Found<'_>
+    ensures read { tokens_from (words.InQuotes false []) line text.now ≡ (result.line, token_of result.token) ∷ tokens_from words.Between line result.rest.now }
+    ensures same { result.line ≡ line }
+    ensures shorter { length result.rest.now ≤ length text.now }
+{
+    match quoted_len(text.as_bytes()) {
+        Some(len) => {
+            let (inner, behind) = text.split_at(len);
+            Found {
+                token: Token::Word(inner),
+                line,
+                rest: past_first(behind),
+            }
+        }
+        None => Found {
+            token: Token::Broken,
+            line,
+            rest: from_line_end(text),
+        },
+    }
+}
+
+/// The line of what stands behind an octet of a line.
+fn line_after(line: u32, octet: u8) -> u32
+    requires { line + 1 < 2 ^ 32 }
+    ensures { result ≡ words.line_after line octet }
+{
+    if octet == b'\n' { line + 1 } else { line }
+}
+
+/// The first token of a text that begins on a line; none where only gaps and comments are left.
+pub fn first_token(first_line: u32, text: &str) -> Option<Found<'_>>
+    requires { first_line + length text.now < 2 ^ 32 }
+    ensures read { MatchOption result (tokens_from words.Between first_line text.now ≡ [])
+        (λ found. tokens_from words.Between first_line text.now ≡ (found.line, token_of found.token) ∷ tokens_from words.Between found.line found.rest.now) }
+    ensures shorter { IfSome result (λ found. length found.rest.now < length text.now) }
+    ensures fits { IfSome result (λ found. found.line + length found.rest.now ≤ first_line + length text.now) }
+{
+    let mut line = first_line;
+    let mut rest = text;
+    while !rest.is_empty() {
+        let octet = rest.as_bytes()[0];
+        if octet == b'"' {
+            return Some(first_quoted(line, past_first(rest)));
+        }
+        if !parts_words(octet) {
+            return Some(first_word(line, rest));
+        }
+        if octet == b';' {
+            rest = from_line_end(past_first(rest));
+        } else {
+            line = line_after(line, octet);
+            rest = past_first(rest);
+        }
+    }
+    None
+}
+
+/// The line where a text ends, counted from 1.
+pub fn end_line(text: &str) -> u32
+    requires { length text.now < 2 ^ 31 }
+    ensures { result ≡ words.end_line text.now }
+{
+    let mut line = 1;
+    for octet in text.as_bytes() {
+        if *octet == b'\n' {
+            line += 1;
+        }
+    }
+    line
+}
