@@ -1,6 +1,6 @@
 -- A file without faults gives each of its rules.
 use Rattle.std.proofs.Common.{◌≡◌, ℕ, Bool, true, false, cond, List, [], ◌∷◌, ◌++◌, length, refl, sym, ap, subst, ◌∙◌, inl, inr}
-use Rattle.std.specs.Prelude.{◌⊎◌, ⊤, Option, Some, None, is_some, Result, codes, ◌&&◌, ◌||◌}
+use Rattle.std.specs.Prelude.{◌⊎◌, ⊤, Option, Some, None, is_some, Result, codes, ◌&&◌, ◌||◌, not}
 use Rattle.std.specs.Option.{IsSome, option_map}
 use Rattle.std.specs.List.{flat_map, filter_map}
 use Rattle.std.proofs.lemmas.Bool.{and_parts}
@@ -26,10 +26,10 @@ use Rattle.info_rules.specs.Tree.{Block, blocks_of}
 use Rattle.info_rules.specs.Keys.{on_option, first_of, is_word, named, value_of, first_value, fault_at, twice_faults, missing_faults, once_faults, many_faults}
 use Rattle.info_rules.specs.ValueWords.{kind_in, relation_in, checker_type_in, signature_type_in}
 use Rattle.info_rules.specs.Values.{◌>>=◌, ok_of, text_fault, value_faults, groups_in}
-use Rattle.info_rules.specs.NameTest.{tests_key, form_of, other_form_of, first_other, half_faults, second_faults, form_faults, test_key_faults, test_faults, matching_in, related_in, test_in}
+use Rattle.info_rules.specs.NameTest.{tests_key, is_other, form_of, other_form_of, first_other, half_faults, second_faults, form_faults, test_key_faults, test_faults, matching_in, related_in, test_in}
 use Rattle.info_rules.specs.FilterBlock.{filter_block_faults, filter_faults, filter_in}
 use Rattle.info_rules.specs.HyperBlock.{hyper_key_faults, hyper_block_faults, hyper_faults, half_in, hyper_of_keys, hyper_in}
-use Rattle.info_rules.specs.LocatorBlock.{locator_key_faults, locator_block_faults, locator_faults, locator_of_keys, locator_in}
+use Rattle.info_rules.specs.LocatorBlock.{is_hyper_alone, locator_key_faults, locator_block_faults, locator_faults, locator_of_keys, locator_in}
 use Rattle.info_rules.specs.CheckerBlock.{checker_type_of, signature_type_of, is_hierarchical, needs_locator, checker_key_faults, locator_count_faults, checker_block_faults, checker_faults, locator_by_type, checker_by_type, checker_of_keys, checker_in}
 use Rattle.info_rules.specs.RuleBlock.{all_of, rule_key_faults, rule_block_faults, rule_faults, rule_of_keys, rule_in}
 use Rattle.info_rules.specs.RuleFile.{id_faults, top_key_faults, file_faults, all_rules}
@@ -266,7 +266,7 @@ packet_half_judged n m = record {
 once_there : (line : ℕ) (word : List ℕ) (keys : List Block) → once_faults line word keys ≡ [] → IsThere word keys
 once_there line word keys e = not_missing line word keys (none_of_both (twice_faults word keys) (missing_faults line word keys) e).1
 
-hyper_found : (key : Block) → hyper_faults key ≡ [] → IsSome (hyper_in key)
+hyper_found : (key : Block) → hyper_faults true key ≡ [] → IsSome (hyper_in key)
 unfolding hyper_faults hyper_block_faults hyper_in
 hyper_found key e =
     let keys = blocks_of 4 key.1 in
@@ -274,7 +274,7 @@ hyper_found key e =
     let n = groups_in (first_value (codes "k-regex") keys) in
     let m = groups_in (first_value (codes "p-regex") keys) in
     let f = hyper_key_faults n m in
-    let e5 = none_of_both _ (once_faults line (codes "p-expand") keys) (block_right 4 hyper_block_faults key e) in
+    let e5 = none_of_both _ (once_faults line (codes "p-expand") keys) (block_right 4 (hyper_block_faults true) key e) in
     let e4 = none_of_both _ (once_faults line (codes "p-regex") keys) e5.0 in
     let e3 = none_of_both _ (once_faults line (codes "h-relation") keys) e4.0 in
     let e2 = none_of_both _ (once_faults line (codes "k-expand") keys) e3.0 in
@@ -290,35 +290,86 @@ hyper_found key e =
 
 -- ---- key locators
 
-locator_judges : JudgesTests locator_key_faults
+locator_judges : (needed : Bool) → JudgesTests (locator_key_faults needed)
 unfolding locator_key_faults
-locator_judges = record {
+locator_judges needed = record {
   uri = λ key is. if_false _ _ _ (other_word (codes "name") (codes "hyper-relation") key is refl) ∙ test_judges.uri key is;
   relation = λ key is. if_false _ _ _ (other_word (codes "relation") (codes "hyper-relation") key is refl) ∙ test_judges.relation key is;
   regex = λ key is. if_false _ _ _ (other_word (codes "regex") (codes "hyper-relation") key is refl) ∙ test_judges.regex key is;
 }
 
-hyper_judged : (key : Block) → is_word (codes "hyper-relation") key ≡ true → locator_key_faults key ≡ hyper_faults key
+hyper_judged : (needed : Bool) (key : Block) → is_word (codes "hyper-relation") key ≡ true → locator_key_faults needed key ≡ hyper_faults needed key
 unfolding locator_key_faults
-hyper_judged key is = if_true _ _ _ is
+hyper_judged needed key is = if_true _ _ _ is
 
-locator_by_keys : (line : ℕ) (keys : List Block) → flat_map locator_key_faults keys ≡ [] → test_faults KeyName line keys ≡ [] → IsSome (locator_of_keys keys)
+hyper_form : (key : Block) → is_word (codes "hyper-relation") key ≡ true → form_of KeyName key ≡ Some forms.Hyper
+unfolding form_of
+hyper_form key is =
+    if_false _ _ _ (ap (λ (b : Bool). b || is_word (codes "relation") key) (other_word (codes "hyper-relation") (codes "name") key is refl) ∙ other_word (codes "hyper-relation") (codes "relation") key is refl)
+    ∙ if_false _ _ _ (other_word (codes "hyper-relation") (codes "regex") key is refl) ∙ if_true _ _ _ is
+
+-- a hyper-relation that is of no other form than this one
+hyper_beside : (key : Block) (form : Form) → is_word (codes "hyper-relation") key ≡ true → other_form_of KeyName (Some form) key ≡ None → form ≡ forms.Hyper
+hyper_beside key form is e =
+    by_form form (sym (ap (on_option (λ (f : Form). cond {A = Option (Form × ℕ)} (is_other (Some form) f) (Some (f, key.0.line)) None) None) (hyper_form key is)) ∙ e)
+  where
+    by_form : (f : Form) → cond {A = Option (Form × ℕ)} (is_other (Some f) forms.Hyper) (Some (forms.Hyper, key.0.line)) None ≡ None → f ≡ forms.Hyper
+    by_form forms.Related e = absurd cc
+    by_form forms.Matching e = absurd cc
+    by_form forms.Hyper e = refl
+
+there_behind : (word : List ℕ) (key : Block) (keys : List Block) → is_word word key ≡ false → IsThere word (key ∷ keys) → IsThere word keys
+there_behind word key keys e there = sym (ap (λ (l : List Block). is_some (first_of l)) (if_false (is_word word key) (key ∷ named word keys) (named word keys) e)) ∙ there
+
+-- where a hyper-relation is there, and no key of another form than this one, it is this one
+only_hyper : (keys : List Block) (form : Form) → IsThere (codes "hyper-relation") keys → first_other KeyName (Some form) keys ≡ None → form ≡ forms.Hyper
+only_hyper [] form there e = absurd cc
+only_hyper (key ∷ keys) form there e =
+    by_key (λ (h : IsThere (codes "hyper-relation") keys) (f : first_other KeyName (Some form) keys ≡ None). only_hyper keys form h f)
+    (other_form_of KeyName (Some form) key) refl (is_word (codes "hyper-relation") key) refl
+  where
+    by_key : (IsThere (codes "hyper-relation") keys → first_other KeyName (Some form) keys ≡ None → form ≡ forms.Hyper)
+        → (o : Option (Form × ℕ)) → other_form_of KeyName (Some form) key ≡ o → (t : Bool) → is_word (codes "hyper-relation") key ≡ t → form ≡ forms.Hyper
+    by_key further None is true word = hyper_beside key form word is
+    by_key further None is false word =
+        further (there_behind (codes "hyper-relation") key keys word there) (sym (ap first_of (passed_none (other_form_of KeyName (Some form)) key keys is)) ∙ e)
+    by_key further (Some y) is t word =
+        let no : Some y ≡ None = sym (ap first_of (passed_some (other_form_of KeyName (Some form)) key keys y is)) ∙ e in absurd cc
+
+-- a hyper-relation whose forms are right stands alone
+hyper_alone : (line : ℕ) (keys : List Block) → IsThere (codes "hyper-relation") keys → form_faults KeyName line keys ≡ [] → is_hyper_alone keys ≡ true
+unfolding form_faults is_hyper_alone
+hyper_alone line keys there e = by_first (first_other KeyName None keys) e
+  where
+    no_other : (form : Form) (o : Option (Form × ℕ)) → on_option (λ second. record { line = second.1; kind = kinds.BadValue } ∷ []) (half_faults line keys form) o ≡ [] → o ≡ None
+    no_other form None e = refl
+    no_other form (Some y) e = absurd cc
+
+    by_first : (o : Option (Form × ℕ)) → on_option (λ first. second_faults KeyName line keys first.0) (record { line = line; kind = kinds.Missing } ∷ []) o ≡ []
+        → not (is_some (first_other KeyName (Some forms.Hyper) keys)) ≡ true
+    by_first None e = absurd cc
+    by_first (Some x) e =
+        let none = no_other x.0 (first_other KeyName (Some x.0) keys) e in
+        ap (λ (o : Option (Form × ℕ)). not (is_some o)) (subst (λ (form : Form). first_other KeyName (Some form) keys ≡ None) (only_hyper keys x.0 there none) none)
+
+locator_by_keys : (line : ℕ) (keys : List Block) → flat_map (locator_key_faults (is_hyper_alone keys)) keys ≡ [] → test_faults KeyName line keys ≡ [] → IsSome (locator_of_keys keys)
 locator_by_keys line keys none e = by_hyper (first_of (named (codes "hyper-relation") keys)) refl
   where
     by_hyper : (o : Option Block) → first_of (named (codes "hyper-relation") keys) ≡ o → IsSome (on_option (λ key. option_map Hyper (hyper_in key)) (option_map Name (test_in keys)) o)
     by_hyper None is =
         mapped Name (test_in keys)
-        (test_found locator_key_faults KeyName line keys none locator_judges (λ h. let no : false ≡ true = sym (ap is_some is) ∙ h.1 in absurd cc) (forms_right KeyName line keys e))
+        (test_found (locator_key_faults (is_hyper_alone keys)) KeyName line keys none (locator_judges (is_hyper_alone keys)) (λ h. let no : false ≡ true = sym (ap is_some is) ∙ h.1 in absurd cc) (forms_right KeyName line keys e))
     by_hyper (Some key) is =
-        let right = first_right locator_key_faults (codes "hyper-relation") keys key none is in
-        mapped Hyper (hyper_in key) (hyper_found key (sym (hyper_judged key right.is) ∙ right.none))
+        let right = first_right (locator_key_faults (is_hyper_alone keys)) (codes "hyper-relation") keys key none is in
+        let alone = hyper_alone line keys (ap is_some is) (forms_right KeyName line keys e) in
+        mapped Hyper (hyper_in key) (hyper_found key (ap (λ (b : Bool). hyper_faults b key) (sym alone) ∙ (sym (hyper_judged (is_hyper_alone keys) key right.is) ∙ right.none)))
 
 locator_found : (key : Block) → locator_faults key ≡ [] → IsSome (locator_in key)
 unfolding locator_faults locator_block_faults locator_in
 locator_found key e =
     let keys = blocks_of 3 key.1 in
     let e2 = none_of_both _ (test_faults KeyName key.0.line keys) (block_right 3 locator_block_faults key e) in
-    let e1 = none_of_both (flat_map locator_key_faults keys) (twice_faults (codes "hyper-relation") keys) e2.0 in
+    let e1 = none_of_both (flat_map (locator_key_faults (is_hyper_alone keys)) keys) (twice_faults (codes "hyper-relation") keys) e2.0 in
     locator_by_keys key.0.line keys e1.0 e2.1
 
 -- ---- checkers

@@ -1,5 +1,5 @@
 -- Blocks of hyper-relations.
-use Rattle.std.specs.Prelude.{ℕ, List, [], ◌∷◌, ◌++◌, length, Option, None, Some, codes, if◌then◌else◌}
+use Rattle.std.specs.Prelude.{Bool, ℕ, List, [], ◌∷◌, ◌++◌, length, Option, None, Some, codes, if◌then◌else◌}
 use Rattle.std.specs.List.{flat_map}
 use Rattle.name_patterns.specs.Pattern.{PlainPattern}
 use Rattle.name_patterns.specs.Template.{PlainPart}
@@ -10,7 +10,7 @@ use Rattle.info_rules.specs.declared.fault.RulesFaultKind.TheVariants.{UnknownKe
 use Rattle.info_rules.specs.declared.value_kind.ValueKind.TheVariants.{Relation, Pattern, Template}
 use Rattle.info_rules.specs.Hyper.{PlainHyper}
 use Rattle.info_rules.specs.Tree.{Block, blocks_of}
-use Rattle.info_rules.specs.Keys.{is_word, first_value, fault_at, once_faults, block_faults}
+use Rattle.info_rules.specs.Keys.{is_word, first_value, fault_at, number_faults, block_faults}
 use Rattle.info_rules.specs.ValueWords.{relation_in}
 use Rattle.info_rules.specs.Values.{◌>>=◌, ok_of, value_faults, groups_in}
 
@@ -24,15 +24,16 @@ hyper_key_faults key_groups packet_groups key =
     if is_word (codes "p-expand") key then value_faults (Template packet_groups) key else
     fault_at UnknownKey key ∷ []))))
 
-unfoldable pub hyper_block_faults : ℕ → List Block → List RulesFault
-hyper_block_faults line keys =
+-- what is wrong in a block, whose keys are needed unless another form stands beside it
+unfoldable pub hyper_block_faults : Bool → ℕ → List Block → List RulesFault
+hyper_block_faults needed line keys =
     flat_map (hyper_key_faults (groups_in (first_value (codes "k-regex") keys)) (groups_in (first_value (codes "p-regex") keys))) keys
-    ++ once_faults line (codes "k-regex") keys ++ once_faults line (codes "k-expand") keys ++ once_faults line (codes "h-relation") keys
-    ++ once_faults line (codes "p-regex") keys ++ once_faults line (codes "p-expand") keys
+    ++ number_faults needed line (codes "k-regex") keys ++ number_faults needed line (codes "k-expand") keys ++ number_faults needed line (codes "h-relation") keys
+    ++ number_faults needed line (codes "p-regex") keys ++ number_faults needed line (codes "p-expand") keys
 
 -- what is wrong with a `hyper-relation`
-unfoldable pub hyper_faults : Block → List RulesFault
-hyper_faults key = block_faults 4 hyper_block_faults key
+unfoldable pub hyper_faults : Bool → Block → List RulesFault
+hyper_faults needed key = block_faults 4 (hyper_block_faults needed) key
 
 -- a pattern, and a template for its groups, by their words
 unfoldable pub half_in : List ℕ → List ℕ → List Block → Option (PlainPattern × List PlainPart)

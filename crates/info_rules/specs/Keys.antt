@@ -51,6 +51,10 @@ missing_faults line word keys = if is_some (first_of (named word keys)) then [] 
 abbrev pub once_faults : ℕ → List ℕ → List Block → List RulesFault
 once_faults line word keys = twice_faults word keys ++ missing_faults line word keys
 
+-- more than one key is this word or, where one is needed, none
+abbrev pub number_faults : Bool → ℕ → List ℕ → List Block → List RulesFault
+number_faults needed line word keys = twice_faults word keys ++ (if needed then missing_faults line word keys else [])
+
 -- more keys than so many are this word
 abbrev pub many_faults : ℕ → List ℕ → List Block → List RulesFault
 many_faults most word keys = if nat_lt most (length (named word keys)) then record { line = 0; kind = TooLarge } ∷ [] else []

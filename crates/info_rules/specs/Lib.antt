@@ -14,7 +14,7 @@ pub mod HyperBlock
 pub mod LocatorBlock
 pub mod CheckerBlock
 pub mod RuleBlock
-pub mod Anchor
+pub mod AnchorBlock
 pub mod RuleFile
 pub mod Related
 pub mod Hyper

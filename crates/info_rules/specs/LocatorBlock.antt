@@ -1,5 +1,5 @@
 -- Blocks of key locators.
-use Rattle.std.specs.Prelude.{ℕ, List, ◌++◌, Option, None, codes, if◌then◌else◌}
+use Rattle.std.specs.Prelude.{ℕ, List, ◌++◌, Option, None, Some, is_some, Bool, not, codes, if◌then◌else◌}
 use Rattle.std.specs.List.{flat_map}
 use Rattle.std.specs.Option.{option_map}
 use Rattle.info_rules.specs.declared.fault.RulesFault.{RulesFault}
@@ -8,15 +8,20 @@ use Rattle.info_rules.specs.declared.rule.LocatorTest.TheVariants.{Name, Hyper}
 use Rattle.info_rules.specs.declared.form.Tested.TheVariants.{KeyName}
 use Rattle.info_rules.specs.Tree.{Block, blocks_of}
 use Rattle.info_rules.specs.Keys.{on_option, first_of, is_word, named, twice_faults, block_faults}
-use Rattle.info_rules.specs.NameTest.{test_key_faults, test_faults, test_in}
+use Rattle.info_rules.specs.declared.form.Form.TheVariants as forms
+use Rattle.info_rules.specs.NameTest.{first_other, test_key_faults, test_faults, test_in}
 use Rattle.info_rules.specs.HyperBlock.{hyper_faults, hyper_in}
 
--- a key of a key locator
-unfoldable pub locator_key_faults : Block → List RulesFault
-locator_key_faults key = if is_word (codes "hyper-relation") key then hyper_faults key else test_key_faults key
+-- beside a hyper-relation stands no key of another form
+unfoldable pub is_hyper_alone : List Block → Bool
+is_hyper_alone keys = not (is_some (first_other KeyName (Some forms.Hyper) keys))
+
+-- a key of a key locator, by whether a hyper-relation's own keys are needed
+unfoldable pub locator_key_faults : Bool → Block → List RulesFault
+locator_key_faults needed key = if is_word (codes "hyper-relation") key then hyper_faults needed key else test_key_faults key
 
 unfoldable pub locator_block_faults : ℕ → List Block → List RulesFault
-locator_block_faults line keys = flat_map locator_key_faults keys ++ twice_faults (codes "hyper-relation") keys ++ test_faults KeyName line keys
+locator_block_faults line keys = flat_map (locator_key_faults (is_hyper_alone keys)) keys ++ twice_faults (codes "hyper-relation") keys ++ test_faults KeyName line keys
 
 -- what is wrong with a `key-locator`
 unfoldable pub locator_faults : Block → List RulesFault

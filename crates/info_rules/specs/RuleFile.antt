@@ -8,7 +8,7 @@ use Rattle.info_rules.specs.Rule.{PlainRule}
 use Rattle.info_rules.specs.Faults.{after, memory_fault}
 use Rattle.info_rules.specs.Keys.{on_option, first_of, is_word, named, value_of, fault_at, many_faults}
 use Rattle.info_rules.specs.Values.{◌>>=◌}
-use Rattle.info_rules.specs.Anchor.{anchor_faults}
+use Rattle.info_rules.specs.AnchorBlock.{anchor_faults}
 use Rattle.info_rules.specs.RuleBlock.{rule_faults, all_of, rule_in}
 
 -- ---- ids that rules share

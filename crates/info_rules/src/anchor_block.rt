@@ -4,7 +4,7 @@ ghost use Rattle.std.specs.Prelude.{◌≡◌, Some, MatchResult};
 ghost use Rattle.std.specs.List.{flat_map};
 ghost use Rattle.info_rules.specs.Shown.{key_of, keys_of};
 ghost use Rattle.info_rules.specs.Faults.{after, memory_fault};
-ghost use Rattle.info_rules.specs.Anchor.{anchor_key_faults, anchor_block_faults, anchor_faults};
+ghost use Rattle.info_rules.specs.AnchorBlock.{anchor_key_faults, anchor_block_faults, anchor_faults};
 
 use crate::fault::RulesFault;
 use crate::keys::{Key, Keys};
@@ -16,7 +16,7 @@ use std::alloc::Global;
 const DEPTH: usize = 1;
 
 /// Notes what is wrong with a key of a trust anchor. Only memory is refused.
-#[tactic(auto, using(crate::proofs::Reports::after_none), unfolding(crate::specs::Anchor::anchor_key_faults))]
+#[tactic(auto, using(crate::proofs::Reports::after_none), unfolding(crate::specs::AnchorBlock::anchor_key_faults))]
 fn judge_key(alloc: Global, key: Key<'_>, report: &mut Report) -> Result<(), RulesFault>
     ensures { MatchResult result (λ _. report.new ≡ after report.old (anchor_key_faults (key_of key.entry))) (λ fault. fault ≡ memory_fault) }
 {
@@ -40,7 +40,7 @@ fn judge_keys(alloc: Global, keys: Keys<'_>, report: &mut Report) -> Result<(), 
 }
 
 /// Notes what is wrong in the block of a trust anchor on this line. Only memory is refused.
-#[tactic(auto, using(crate::proofs::Reports::after_append, crate::proofs::Reports::after_none), unfolding(crate::specs::Anchor::anchor_block_faults))]
+#[tactic(auto, using(crate::proofs::Reports::after_append, crate::proofs::Reports::after_none), unfolding(crate::specs::AnchorBlock::anchor_block_faults))]
 fn judge_block(
     alloc: Global,
     line: u32,
@@ -55,7 +55,7 @@ fn judge_block(
 }
 
 /// Notes what is wrong with a trust anchor. Only memory is refused.
-#[tactic(auto, using(crate::proofs::Reports::after_append, crate::proofs::Reports::after_none), unfolding(crate::specs::Anchor::anchor_faults))]
+#[tactic(auto, using(crate::proofs::Reports::after_append, crate::proofs::Reports::after_none), unfolding(crate::specs::AnchorBlock::anchor_faults))]
 pub fn judge_anchor(alloc: Global, key: Key<'_>, report: &mut Report) -> Result<(), RulesFault>
     ensures { MatchResult result (λ _. report.new ≡ after report.old (anchor_faults (key_of key.entry))) (λ fault. fault ≡ memory_fault) }
 {

@@ -396,3 +396,41 @@ fn rule_file_faults(rt: HostRuntime) -> Result<(), Fail> {
     );
     Ok(())
 }
+
+#[test]
+fn a_second_form_lacks_nothing(rt: HostRuntime) -> Result<(), Fail> {
+    let behind = fault_of(
+        rt.alloc(),
+        "rule {\nid a\nfor data\nchecker {\ntype customized\nkey-locator {\ntype name\nregex <a>\nhyper-relation { }\n}\n}\n}\n",
+    )?;
+    assert_eq!(rt;
+        behind,
+        RulesFault {
+            line: 9,
+            kind: RulesFaultKind::BadValue
+        }
+    );
+    let before = fault_of(
+        rt.alloc(),
+        "rule {\nid a\nfor data\nchecker {\ntype customized\nkey-locator {\ntype name\nhyper-relation { }\nregex <a>\n}\n}\n}\n",
+    )?;
+    assert_eq!(rt;
+        before,
+        RulesFault {
+            line: 9,
+            kind: RulesFaultKind::BadValue
+        }
+    );
+    let alone = fault_of(
+        rt.alloc(),
+        "rule {\nid a\nfor data\nchecker {\ntype customized\nkey-locator {\ntype name\nhyper-relation { }\n}\n}\n}\n",
+    )?;
+    assert_eq!(rt;
+        alone,
+        RulesFault {
+            line: 8,
+            kind: RulesFaultKind::Missing
+        }
+    );
+    Ok(())
+}

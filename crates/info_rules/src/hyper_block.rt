@@ -70,35 +70,42 @@ fn judge_keys(
     Ok(())
 }
 
-/// Notes what is wrong in the block of a hyper-relation on this line. Only memory is refused.
+/// Notes what is wrong in the block of a hyper-relation on this line, whose keys may be needed. Only
+/// memory is refused.
 #[tactic(auto, using(crate::proofs::Reports::after_append, crate::proofs::Reports::after_none), unfolding(crate::specs::HyperBlock::hyper_block_faults))]
 fn judge_block(
     alloc: Global,
+    needed: bool,
     line: u32,
     keys: Keys<'_>,
     report: &mut Report,
 ) -> Result<(), RulesFault>
-    ensures { MatchResult result (λ _. report.new ≡ after report.old (hyper_block_faults line (keys_of keys.entry))) (λ fault. fault ≡ memory_fault) }
+    ensures { MatchResult result (λ _. report.new ≡ after report.old (hyper_block_faults needed line (keys_of keys.entry))) (λ fault. fault ≡ memory_fault) }
 {
     let key_groups = groups_of(alloc, keys.first_value("k-regex"))?;
     let packet_groups = groups_of(alloc, keys.first_value("p-regex"))?;
     judge_keys(alloc, key_groups, packet_groups, keys, report)?;
-    keys.judge_once(line, "k-regex", report);
-    keys.judge_once(line, "k-expand", report);
-    keys.judge_once(line, "h-relation", report);
-    keys.judge_once(line, "p-regex", report);
-    keys.judge_once(line, "p-expand", report);
+    keys.judge_number(needed, line, "k-regex", report);
+    keys.judge_number(needed, line, "k-expand", report);
+    keys.judge_number(needed, line, "h-relation", report);
+    keys.judge_number(needed, line, "p-regex", report);
+    keys.judge_number(needed, line, "p-expand", report);
     Ok(())
 }
 
-/// Notes what is wrong with a hyper-relation. Only memory is refused.
+/// Notes what is wrong with a hyper-relation, whose own keys may be needed. Only memory is refused.
 #[tactic(auto, using(crate::proofs::Reports::after_append, crate::proofs::Reports::after_none), unfolding(crate::specs::HyperBlock::hyper_faults))]
-pub fn judge_hyper(alloc: Global, key: Key<'_>, report: &mut Report) -> Result<(), RulesFault>
-    ensures { MatchResult result (λ _. report.new ≡ after report.old (hyper_faults (key_of key.entry))) (λ fault. fault ≡ memory_fault) }
+pub fn judge_hyper(
+    alloc: Global,
+    needed: bool,
+    key: Key<'_>,
+    report: &mut Report,
+) -> Result<(), RulesFault>
+    ensures { MatchResult result (λ _. report.new ≡ after report.old (hyper_faults needed (key_of key.entry))) (λ fault. fault ≡ memory_fault) }
 {
     key.judge_shape(report);
     if key.has_block() {
-        return judge_block(alloc, key.line(), key.keys(DEPTH), report);
+        return judge_block(alloc, needed, key.line(), key.keys(DEPTH), report);
     }
     Ok(())
 }

@@ -83,7 +83,7 @@ impl<'a> Keys<'a> {
     ghost use Rattle.std.specs.Option.{option_map};
     ghost use Rattle.info_rules.specs.Tree.{parted};
     ghost use Rattle.info_rules.specs.Faults.{after};
-    ghost use Rattle.info_rules.specs.Keys.{first_of, named, first_value, twice_faults, missing_faults, once_faults, many_faults};
+    ghost use Rattle.info_rules.specs.Keys.{first_of, named, first_value, twice_faults, missing_faults, once_faults, number_faults, many_faults};
     ghost use Rattle.info_rules.specs.Shown.{entry_of, key_of, keys_of};
 
     /// The entries in front of the first key, and the keys.
@@ -189,6 +189,17 @@ impl<'a> Keys<'a> {
     {
         self.judge_twice(word, report);
         self.judge_missing(line, word, report);
+    }
+
+    /// Notes more than one key that is this word or, where one is needed, that there is none.
+    #[tactic(auto, using(crate::proofs::Reports::after_append, crate::proofs::Reports::after_none))]
+    pub fn judge_number(self, needed: bool, line: u32, word: &str, report: &mut Report)
+        ensures { report.new ≡ after report.old (number_faults needed line word.now (keys_of self.entry)) }
+    {
+        self.judge_twice(word, report);
+        if needed {
+            self.judge_missing(line, word, report);
+        }
     }
 
     /// Notes more keys than so many that are this word.

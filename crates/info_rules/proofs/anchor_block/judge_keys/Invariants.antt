@@ -1,7 +1,7 @@
 use Rattle.std.proofs.Common.{◌≡◌, length}
 use Rattle.std.specs.List.{flat_map}
 use Rattle.info_rules.specs.Faults.{after}
-use Rattle.info_rules.specs.Anchor.{anchor_key_faults}
+use Rattle.info_rules.specs.AnchorBlock.{anchor_key_faults}
 use Rattle.info_rules.specs.Shown.{keys_of}
 use Rattle.info_rules.proofs.anchor_block.judge_keys.Given as goal
 

@@ -9,4 +9,4 @@ abbrev pub decreases-loop-key : goal.decreases-loop-key
 decreases-loop-key l = length l.left.entries.now
 
 abbrev pub invariant-loop-key : goal.invariant-loop-key
-invariant-loop-key l = after l.report (flat_map locator_key_faults (keys_of l.left)) ≡ after l.fn.report (flat_map locator_key_faults (keys_of l.keys))
+invariant-loop-key l = after l.report (flat_map (locator_key_faults l.needed) (keys_of l.left)) ≡ after l.fn.report (flat_map (locator_key_faults l.needed) (keys_of l.keys))
