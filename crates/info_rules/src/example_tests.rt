@@ -434,3 +434,33 @@ fn a_second_form_lacks_nothing(rt: HostRuntime) -> Result<(), Fail> {
     );
     Ok(())
 }
+
+/// Signatures by RSA, ECDSA and Ed25519 can be read, and no checker passes them.
+#[test]
+fn other_signatures(rt: HostRuntime) -> Result<(), Fail> {
+    let refused = Decision::Denied(RuleNo(0), Reason::SigType);
+    for kind in [1, 3, 5] {
+        let octets = [6, 12, 7, 3, 8, 1, 65, 22, 3, 27, 1, kind, 23, 0];
+        assert_eq!(rt; decided(rt.alloc(), SHARED_PART, &octets)?, refused);
+        assert_eq!(rt; decided(rt.alloc(), OPERATORS, &octets)?, Decision::NoRule);
+    }
+    Ok(())
+}
+
+/// Each growth of memory may be refused.
+#[test]
+fn rules_with_refused_memory(rt: HostRuntime) {
+    match rules_of(rt.alloc(), SHARED_PART) {
+        Ok(rules) => assert_eq!(rt; rules.len(), 1),
+        Err(fault) => assert_eq!(rt; fault.kind, RulesFaultKind::Memory),
+    }
+}
+
+/// Each growth of memory may be refused, in what stands before the decision too.
+#[test]
+fn decision_with_refused_memory(rt: HostRuntime) -> Result<(), Fail> {
+    let key = Some("/keys/roof/KEY/7");
+    let decision = of_data(rt.alloc(), SHARED_PART, "/lab/roof/wind", key)?;
+    assert_eq!(rt; decision, Decision::Allowed(RuleNo(0)));
+    Ok(())
+}
