@@ -2,8 +2,10 @@ mod covered;
 mod link;
 mod writers;
 
+ghost use Rattle.std.specs.Prelude.{◌≤◌};
+
 use super::*;
-use ndn_tlv::TlvFault;
+use ndn_tlv::{TlvFault, put_element};
 use sha2::{Digest, Sha256};
 use std::test::*;
 
@@ -23,14 +25,30 @@ fn fault_of(octets: &[u8]) -> Option<PacketFault> {
     read_frame(octets).err()
 }
 
-/// An outer element of the Name /A and fewer than 248 octets of fields.
-fn packet(rt: &HostRuntime, kind: u8, fields: &[u8]) -> Result<Vec<u8>, Fail> {
+/// The octets of these parts, one behind the other.
+fn joined(rt: &HostRuntime, parts: &[&[u8]]) -> Result<Vec<u8>, Fail> {
     let mut octets = Vec::new(rt.alloc());
-    octets.push(kind)?;
-    octets.push(u8::try_from(NAME.len() + fields.len())?)?;
-    octets.extend_from_slice(&NAME)?;
-    octets.extend_from_slice(fields)?;
+    for part in parts {
+        octets.extend_from_slice(part)?;
+    }
     Ok(octets)
+}
+
+/// An element of this type, whose value is these parts.
+fn element(rt: &HostRuntime, kind: u32, parts: &[&[u8]]) -> Result<Vec<u8>, Fail>
+    requires { 1 ≤ kind }
+{
+    let value = joined(rt, parts)?;
+    let mut octets = Vec::new(rt.alloc());
+    put_element(&mut octets, kind, &value)?;
+    Ok(octets)
+}
+
+/// An outer element of the Name /A and these fields.
+fn packet(rt: &HostRuntime, kind: u32, fields: &[u8]) -> Result<Vec<u8>, Fail>
+    requires { 1 ≤ kind }
+{
+    element(rt, kind, &[&NAME, fields])
 }
 
 #[test]
@@ -173,15 +191,17 @@ fn faults_of_interests(rt: HostRuntime) -> Result<(), Fail> {
         let octets = packet(&rt, 5, fields)?;
         assert_eq!(rt; fault_of(&octets), Some(fault), "{fields:?}");
     }
-    // A digest of parameters in the name, and no parameters.
-    let mut octets = Vec::new(rt.alloc());
-    octets.extend_from_slice(&[5, 42, 7, 34, 2, 32])?;
-    octets.extend_from_slice(&[9; 32])?;
-    octets.extend_from_slice(&[10, 4, 1, 2, 3, 4])?;
-    assert_eq!(rt; fault_of(&octets), Some(PacketFault::DigestWithout));
-    octets[36] = 9;
-    octets[4] = 1;
-    assert_eq!(rt; fault_of(&octets), None);
+    Ok(())
+}
+
+/// A digest of parameters in the name, and no parameters; and a digest of a Data in its place.
+#[test]
+fn digests_without_parameters(rt: HostRuntime) -> Result<(), Fail> {
+    for (kind, fault) in [(2, Some(PacketFault::DigestWithout)), (1, None)] {
+        let front = [5, 42, 7, 34, kind, 32];
+        let octets = joined(&rt, &[&front, &[9; 32], &[10, 4, 1, 2, 3, 4]])?;
+        assert_eq!(rt; fault_of(&octets), fault);
+    }
     Ok(())
 }
 
@@ -265,22 +285,22 @@ fn changed_octets(rt: HostRuntime) -> Result<(), Fail> {
     Ok(())
 }
 
-/// A name of so many empty components, and the fields behind it.
-fn with_name(rt: &HostRuntime, kind: u8, len: usize, fields: &[u8]) -> Result<Vec<u8>, Fail> {
-    let mut name = Vec::new(rt.alloc());
-    for _ in 0..len {
-        name.extend_from_slice(&[8, 0])?;
-    }
-    let mut value = Vec::new(rt.alloc());
-    value.push(7)?;
-    value.push(u8::try_from(name.len())?)?;
-    value.extend_from_slice(&name)?;
-    value.extend_from_slice(fields)?;
+/// A text so many times.
+fn repeated(rt: &HostRuntime, text: &[u8], times: usize) -> Result<Vec<u8>, Fail> {
     let mut octets = Vec::new(rt.alloc());
-    octets.push(kind)?;
-    octets.push(u8::try_from(value.len())?)?;
-    octets.extend_from_slice(&value)?;
+    for _ in 0..times {
+        octets.extend_from_slice(text)?;
+    }
     Ok(octets)
+}
+
+/// A name of so many empty components, and the fields behind it.
+fn with_name(rt: &HostRuntime, kind: u32, len: usize, fields: &[u8]) -> Result<Vec<u8>, Fail>
+    requires { 1 ≤ kind }
+{
+    let components = repeated(rt, &[8, 0], len)?;
+    let name = element(rt, 7, &[&components])?;
+    element(rt, kind, &[&name, fields])
 }
 
 #[test]
@@ -306,24 +326,10 @@ fn lengths_of_names(rt: HostRuntime) -> Result<(), Fail> {
 /// right digests between two components.
 fn with_parameters(rt: &HostRuntime, fields: &[u8], digests: usize) -> Result<Vec<u8>, Fail> {
     let digest = Sha256::digest(fields);
-    let mut name = Vec::new(rt.alloc());
-    name.extend_from_slice(&[8, 1, 65])?;
-    for _ in 0..digests {
-        name.extend_from_slice(&[2, 32])?;
-        name.extend_from_slice(digest.as_slice())?;
-    }
-    name.extend_from_slice(&[8, 1, 66])?;
-    let mut value = Vec::new(rt.alloc());
-    value.push(7)?;
-    value.push(u8::try_from(name.len())?)?;
-    value.extend_from_slice(&name)?;
-    value.extend_from_slice(&[10, 4, 1, 2, 3, 4])?;
-    value.extend_from_slice(fields)?;
-    let mut octets = Vec::new(rt.alloc());
-    octets.push(5)?;
-    octets.push(u8::try_from(value.len())?)?;
-    octets.extend_from_slice(&value)?;
-    Ok(octets)
+    let component = joined(rt, &[&[2, 32], digest.as_slice()])?;
+    let digests = repeated(rt, &component, digests)?;
+    let name = element(rt, 7, &[&[8, 1, 65], &digests, &[8, 1, 66]])?;
+    element(rt, 5, &[&name, &[10, 4, 1, 2, 3, 4], fields])
 }
 
 #[test]
@@ -580,12 +586,9 @@ fn key_locators(rt: HostRuntime) -> Result<(), Fail> {
 
 /// Whether the KeyLocator of this value is a Name or something else, or none where it is a digest.
 fn locator(rt: &HostRuntime, value: &[u8]) -> Result<Option<bool>, Fail> {
-    let len = u8::try_from(value.len())?;
-    let info = len.checked_add(5).ok_or("a long value")?;
-    let mut fields = Vec::new(rt.alloc());
-    fields.extend_from_slice(&[22, info, 27, 1, 3, 28, len])?;
-    fields.extend_from_slice(value)?;
-    fields.extend_from_slice(&[23, 0])?;
+    let locator = element(rt, 28, &[value])?;
+    let info = element(rt, 22, &[&[27, 1, 3], &locator])?;
+    let fields = joined(rt, &[&info, &[23, 0]])?;
     let octets = packet(rt, 6, &fields)?;
     match read_frame(&octets)? {
         Frame::Data(data) => match data.signature.locator {
@@ -600,13 +603,8 @@ fn locator(rt: &HostRuntime, value: &[u8]) -> Result<Option<bool>, Fail> {
 
 /// Some octets, so many zeros, and some octets behind them.
 fn filled(rt: &HostRuntime, front: &[u8], zeros: usize, end: &[u8]) -> Result<Vec<u8>, Fail> {
-    let mut octets = Vec::new(rt.alloc());
-    octets.extend_from_slice(front)?;
-    for _ in 0..zeros {
-        octets.push(0)?;
-    }
-    octets.extend_from_slice(end)?;
-    Ok(octets)
+    let zeros = repeated(rt, &[0], zeros)?;
+    joined(rt, &[front, &zeros, end])
 }
 
 /// An Interest of 8,800 octets with an unknown element, and one of 8,801.
@@ -614,7 +612,7 @@ fn filled(rt: &HostRuntime, front: &[u8], zeros: usize, end: &[u8]) -> Result<Ve
 fn packet_size_limit(rt: HostRuntime) -> Result<(), Fail> {
     for (len, fault) in [(0x4d, None), (0x4e, Some(PacketFault::TooLong))] {
         let front = [5, 0xfd, 0x22, len + 15];
-        let mut octets = filled(&rt, &front, 0, &INTEREST[2..])?;
+        let mut octets = joined(&rt, &[&front, &INTEREST[2..]])?;
         octets.extend_from_slice(&[0xf0, 0xfd, 0x22, len])?;
         let octets = filled(&rt, &octets, 0x2200 + usize::from(len), &[])?;
         assert_eq!(rt; octets.len(), 8800 + usize::from(len) - 0x4d);
@@ -660,12 +658,12 @@ fn greatest_lengths(rt: HostRuntime) -> Result<(), Fail> {
         assert_eq!(rt; fault_of(&octets), Some(PacketFault::TooLong), "{len}");
     }
     // What is above 9,000 octets is not read.
-    let zeros = filled(&rt, &[], 9000, &[])?;
+    let zeros = repeated(&rt, &[0], 9000)?;
     assert_eq!(rt;
         fault_of(&zeros),
         Some(PacketFault::Tlv(TlvFault::TypeZero))
     );
-    let zeros = filled(&rt, &[], 9001, &[])?;
+    let zeros = repeated(&rt, &[0], 9001)?;
     assert_eq!(rt; fault_of(&zeros), Some(PacketFault::TooLong));
     // An outer element that is no packet has no length of its own.
     let other = filled(&rt, &[101, 0xfd, 0x23, 0x24], 8996, &[])?;
@@ -682,12 +680,9 @@ const DIGEST: [u8; 32] = [
 
 /// The TLV-VALUE of the full name of DATA, with another last octet where that is wanted.
 fn full_name(rt: &HostRuntime, kind: u8, change: u8) -> Result<Vec<u8>, Fail> {
-    let mut octets = Vec::new(rt.alloc());
-    octets.extend_from_slice(&NAME[2..])?;
-    octets.extend_from_slice(&[kind, 32])?;
-    octets.extend_from_slice(&DIGEST)?;
-    octets[36] ^= change;
-    Ok(octets)
+    let mut digest = DIGEST;
+    digest[31] ^= change;
+    joined(rt, &[&NAME[2..], &[kind, 32], &digest])
 }
 
 #[test]

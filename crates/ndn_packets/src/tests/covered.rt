@@ -1,20 +1,11 @@
 use super::*;
-use ndn_tlv::put_element;
 
 /// An Interest of the name /A and a digest of parameters, with these fields before the
 /// ApplicationParameters and these from them on.
 fn with_digest(rt: &HostRuntime, before: &[u8], parameters: &[u8]) -> Result<Vec<u8>, Fail> {
     let digest = Sha256::digest(parameters);
-    let mut name = Vec::new(rt.alloc());
-    name.extend_from_slice(&[8, 1, 65, 2, 32])?;
-    name.extend_from_slice(digest.as_slice())?;
-    let mut value = Vec::new(rt.alloc());
-    put_element(&mut value, 7, &name)?;
-    value.extend_from_slice(before)?;
-    value.extend_from_slice(parameters)?;
-    let mut octets = Vec::new(rt.alloc());
-    put_element(&mut octets, 5, &value)?;
-    Ok(octets)
+    let name = element(rt, 7, &[&[8, 1, 65, 2, 32], digest.as_slice()])?;
+    element(rt, 5, &[&name, before, parameters])
 }
 
 /// The octets that a packet's signature covers, one part behind the other.
@@ -27,7 +18,7 @@ fn covered(rt: &HostRuntime, octets: &[u8]) -> Result<Option<Vec<u8>>, Fail> {
     let Some(parts) = parts else {
         return Ok(None);
     };
-    Ok(Some(filled(rt, parts.first, 0, parts.second)?))
+    Ok(Some(joined(rt, &[parts.first, parts.second])?))
 }
 
 #[test]
@@ -36,7 +27,7 @@ fn covered_octets_of_data(rt: HostRuntime) -> Result<(), Fail> {
     // Ignored elements before the SignatureValue, which are covered, and behind it.
     let fields = [22, 3, 27, 1, 0, 240, 1, 7, 23, 1, 9, 240, 0];
     let octets = packet(&rt, 6, &fields)?;
-    let expected = filled(&rt, &NAME, 0, &fields[..8])?;
+    let expected = joined(&rt, &[&NAME, &fields[..8]])?;
     assert_eq!(rt; covered(&rt, &octets)?, Some(expected));
     Ok(())
 }
@@ -44,7 +35,7 @@ fn covered_octets_of_data(rt: HostRuntime) -> Result<(), Fail> {
 #[test]
 fn covered_octets_of_interests(rt: HostRuntime) -> Result<(), Fail> {
     // Without the digest and the Nonce.
-    let expected = filled(&rt, &COMMAND[4..50], 0, &COMMAND[90..120])?;
+    let expected = joined(&rt, &[&COMMAND[4..50], &COMMAND[90..120]])?;
     assert_eq!(rt; covered(&rt, &COMMAND)?, Some(expected));
     // Ignored elements among the fields of a signature, and behind it.
     let nonce = [10, 4, 1, 2, 3, 4];
@@ -52,7 +43,7 @@ fn covered_octets_of_interests(rt: HostRuntime) -> Result<(), Fail> {
         36, 0, 240, 0, 46, 0, 44, 3, 27, 1, 0, 34, 0, 46, 1, 7, 46, 1, 8,
     ];
     let octets = with_digest(&rt, &nonce, &signed)?;
-    let expected = filled(&rt, &[8, 1, 65], 0, &signed[..13])?;
+    let expected = joined(&rt, &[&[8, 1, 65], &signed[..13]])?;
     assert_eq!(rt; covered(&rt, &octets)?, Some(expected));
     // No signature, one without its value, and one under a name that goes on behind the digest.
     assert_eq!(rt; covered(&rt, &INTEREST)?, None);
@@ -124,14 +115,14 @@ fn no_hop_limits(rt: HostRuntime) -> Result<(), Fail> {
     ];
     assert_eq!(rt; hop_limit_of(&linked)?, Some(7));
     let octets = [
-        filled(&rt, &INTEREST, 0, &[])?,
-        filled(&rt, &DATA, 0, &[])?,
-        filled(&rt, &linked, 0, &[])?,
+        joined(&rt, &[&INTEREST])?,
+        joined(&rt, &[&DATA])?,
+        joined(&rt, &[&linked])?,
         // Behind ApplicationParameters it is ignored.
         with_parameters(&rt, &[36, 0, 34, 1, 7], 1)?,
     ];
     for octets in &octets {
-        let mut same = filled(&rt, octets, 0, &[])?;
+        let mut same = joined(&rt, &[octets])?;
         assert!(rt; !set_hop_limit(&mut same), "{octets:?}");
         assert_eq!(rt; same, *octets);
     }

@@ -1,35 +1,21 @@
 use super::*;
-use ndn_tlv::put_element;
-
-/// The type of a Fragment.
-const FRAGMENT: u32 = 80;
 
 /// A Nack of reason 150, and one without a reason.
 const NACK: [u8; 9] = [0xfd, 3, 0x20, 5, 0xfd, 3, 0x21, 1, 150];
 
 const BARE_NACK: [u8; 4] = [0xfd, 3, 0x20, 0];
 
-/// A link packet of these octets.
-fn link(rt: &HostRuntime, value: &[u8]) -> Result<Vec<u8>, Fail> {
-    let mut octets = Vec::new(rt.alloc());
-    put_element(&mut octets, 100, value)?;
-    Ok(octets)
-}
-
 /// A link packet of header fields, a Fragment and what stands behind it.
 fn around(rt: &HostRuntime, headers: &[u8], packet: &[u8], after: &[u8]) -> Result<Vec<u8>, Fail> {
-    let mut value = Vec::new(rt.alloc());
-    value.extend_from_slice(headers)?;
-    put_element(&mut value, FRAGMENT, packet)?;
-    value.extend_from_slice(after)?;
-    link(rt, &value)
+    let fragment = element(rt, 80, &[packet])?;
+    element(rt, 100, &[headers, &fragment, after])
 }
 
 /// The worked texts, around the Interest of the name /A.
 #[test]
 fn link_packets(rt: HostRuntime) -> Result<(), Fail> {
     let front = [100, 0x14, 0xfd, 3, 0x40, 1, 0, 0x50, 13];
-    let octets = filled(&rt, &front, 0, &INTEREST)?;
+    let octets = joined(&rt, &[&front, &INTEREST])?;
     let Frame::Interest(interest) = read_frame(&octets)? else {
         assert!(rt; false, "it is no Interest");
         return Ok(());
@@ -37,10 +23,10 @@ fn link_packets(rt: HostRuntime) -> Result<(), Fail> {
     assert_eq!(rt; interest.whole, INTEREST.as_slice());
     assert_eq!(rt; interest.name.as_octets(), [8, 1, 65].as_slice());
     let front = [100, 0x14, 0xfd, 3, 0x41, 1, 0, 0x50, 13];
-    let octets = filled(&rt, &front, 0, &INTEREST)?;
+    let octets = joined(&rt, &[&front, &INTEREST])?;
     assert_eq!(rt; fault_of(&octets), Some(PacketFault::LpField));
     let front = [100, 0x12, 0x53, 1, 2, 0x50, 13];
-    let octets = filled(&rt, &front, 0, &INTEREST)?;
+    let octets = joined(&rt, &[&front, &INTEREST])?;
     assert_eq!(rt; fault_of(&octets), Some(PacketFault::Fragmented));
     assert!(rt; matches!(read_frame(&[100, 0])?, Frame::Idle));
     let octets = around(&rt, &[], &DATA, &[])?;
@@ -110,7 +96,7 @@ fn header_fields(rt: HostRuntime) -> Result<(), Fail> {
         let octets = around(&rt, headers, &INTEREST, &[])?;
         assert_eq!(rt; fault_of(&octets), fault, "{headers:?}");
         // Without a Fragment it is idle, or has the same fault.
-        let idle = link(&rt, headers)?;
+        let idle = element(&rt, 100, &[headers])?;
         assert_eq!(rt; fault_of(&idle), fault, "{headers:?}");
     }
     for (len, fault) in [(32, None), (33, field)] {
@@ -194,7 +180,7 @@ fn nacks(rt: HostRuntime) -> Result<(), Fail> {
     let refused = [
         // Around a Data, or around nothing.
         (around(&rt, &NACK, &DATA, &[])?, PacketFault::BadField),
-        (link(&rt, &NACK)?, PacketFault::BadField),
+        (element(&rt, 100, &[&NACK])?, PacketFault::BadField),
         // Behind the Fragment, whatever that holds.
         (around(&rt, &[], &INTEREST, &NACK)?, PacketFault::LpField),
         (around(&rt, &[], &DATA, &NACK)?, PacketFault::LpField),

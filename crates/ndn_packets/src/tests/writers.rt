@@ -106,7 +106,7 @@ fn refused_interests(rt: HostRuntime) -> Result<(), Fail> {
     // 8,800 octets, and one more.
     let name = Name::read(&NAME[2..])?;
     for (len, result) in [(8747, Ok(())), (8748, Err(WriteFault::TooLong))] {
-        let zeros = filled(&rt, &[], len, &[])?;
+        let zeros = repeated(&rt, &[0], len)?;
         let large = InterestWriter {
             parameters: Some(&zeros),
             ..plain_interest(name)
@@ -175,7 +175,7 @@ fn a_written_data(rt: HostRuntime) -> Result<(), Fail> {
 fn lengths_of_data(rt: HostRuntime) -> Result<(), Fail> {
     let name = Name::read(&NAME[2..])?;
     for (len, result) in [(8748, Ok(())), (8749, Err(WriteFault::TooLong))] {
-        let content = filled(&rt, &[], len, &[])?;
+        let content = repeated(&rt, &[0], len)?;
         let large = DataWriter {
             content: Some(&content),
             ..plain_data(name)
