@@ -196,6 +196,42 @@ const SHARED_PART: &str = "rule
 }
 ";
 
+/// Two rules that take digests, and name key locators besides.
+const DIGESTS: &str = "rule
+{
+  id customized
+  for data
+  filter
+  {
+    type name
+    name /A
+    relation equal
+  }
+  checker
+  {
+    type customized
+    sig-type sha256
+    key-locator
+    {
+      type name
+      name /nobody
+      relation equal
+    }
+  }
+}
+
+rule
+{
+  id hierarchical
+  for data
+  checker
+  {
+    type hierarchical
+    sig-type sha256
+  }
+}
+";
+
 /// The octets of each key of these tests.
 const KEY: &[u8; 3] = b"key";
 
@@ -309,6 +345,16 @@ fn producers_sign_below_their_names(rt: HostRuntime) -> Result<(), Fail> {
     assert_eq!(rt; digest, Decision::Denied(RuleNo(0), Reason::SigType));
     let any = of_data(rt.alloc(), PRODUCERS, "/A", None)?;
     assert_eq!(rt; any, Decision::Allowed(RuleNo(1)));
+    Ok(())
+}
+
+/// A checker of digests does not look at the key locator.
+#[test]
+fn digests_need_no_key(rt: HostRuntime) -> Result<(), Fail> {
+    let customized = of_data(rt.alloc(), DIGESTS, "/A", None)?;
+    assert_eq!(rt; customized, Decision::Allowed(RuleNo(0)));
+    let hierarchical = of_data(rt.alloc(), DIGESTS, "/B", None)?;
+    assert_eq!(rt; hierarchical, Decision::Allowed(RuleNo(1)));
     Ok(())
 }
 

@@ -179,9 +179,10 @@ fn anchors_give_no_rule(rt: HostRuntime) -> Result<(), Fail> {
     Ok(())
 }
 
-/// An outline of a rule with these lines behind its id and its kind, from line 4 on.
-fn rule_with(alloc: Global, lines: &str) -> Result<String, Fail> {
-    Ok(format!(in alloc; "rule {{\n id a\n for data\n{lines}")?)
+/// What reading a rule tells with these lines behind its id and its kind, which begin at line 4.
+fn told_with(alloc: Global, lines: &str) -> Result<Result<usize, RulesFault>, Fail> {
+    let text = format!(in alloc; "rule {{\n id a\n for data\n{lines}")?;
+    told(alloc, text.as_str())
 }
 
 #[test]
@@ -255,9 +256,8 @@ fn filters(rt: HostRuntime) -> Result<(), Fail> {
             Err((6, RulesFaultKind::BadValue)),
         ),
     ] {
-        let text = rule_with(rt.alloc(), lines)?;
         let wanted = told_of.map_err(|(line, kind)| RulesFault { line, kind });
-        assert_eq!(rt; told(rt.alloc(), text.as_str())?, wanted, "at {lines}");
+        assert_eq!(rt; told_with(rt.alloc(), lines)?, wanted, "at {lines}");
     }
     Ok(())
 }
@@ -289,6 +289,14 @@ fn checkers(rt: HostRuntime) -> Result<(), Fail> {
         ),
         (
             " checker {\n  type customized\n  sig-type rsa-sha256",
+            Err((4, RulesFaultKind::Missing)),
+        ),
+        (
+            " checker {\n  type customized\n  sig-type ecdsa-sha256",
+            Err((4, RulesFaultKind::Missing)),
+        ),
+        (
+            " checker {\n  type customized\n  sig-type hmac-sha256",
             Err((4, RulesFaultKind::Missing)),
         ),
         (
@@ -336,78 +344,143 @@ fn checkers(rt: HostRuntime) -> Result<(), Fail> {
             Err((7, RulesFaultKind::UnknownKey)),
         ),
     ] {
-        let text = rule_with(rt.alloc(), lines)?;
         let wanted = told_of.map_err(|(line, kind)| RulesFault { line, kind });
-        assert_eq!(rt; told(rt.alloc(), text.as_str())?, wanted, "at {lines}");
+        assert_eq!(rt; told_with(rt.alloc(), lines)?, wanted, "at {lines}");
     }
     let twice = format!(in rt.alloc(); " checker {{\n  type customized\n{locator}\n{locator}")?;
-    let text = rule_with(rt.alloc(), twice.as_str())?;
-    assert_eq!(rt;
-        fault(rt.alloc(), text.as_str())?,
-        RulesFault {
-            line: 9,
-            kind: RulesFaultKind::TwiceNamed
-        }
-    );
+    let wanted = Err(RulesFault {
+        line: 9,
+        kind: RulesFaultKind::TwiceNamed,
+    });
+    assert_eq!(rt; told_with(rt.alloc(), twice.as_str())?, wanted);
     Ok(())
+}
+
+/// What reading a rule with a key locator of these lines tells, which begin at line 7.
+fn told_of_locator(alloc: Global, lines: &str) -> Result<Result<usize, RulesFault>, Fail> {
+    let checker = format!(in alloc; " checker {{\n  type customized\n  key-locator {{\n{lines}")?;
+    told_with(alloc, checker.as_str())
+}
+
+#[test]
+fn key_locators(rt: HostRuntime) -> Result<(), Fail> {
+    for (lines, told_of) in [
+        ("   type name\n   name /A\n   relation equal", Ok(1)),
+        ("   relation is-prefix-of\n   name /A\n   type name", Ok(1)),
+        ("   regex <A>\n   type name", Ok(1)),
+        ("   regex <A>", Err((6, RulesFaultKind::Missing))),
+        ("   type name", Err((6, RulesFaultKind::Missing))),
+        (
+            "   type name\n   name /A",
+            Err((6, RulesFaultKind::Missing)),
+        ),
+        (
+            "   type name\n   relation equal",
+            Err((6, RulesFaultKind::Missing)),
+        ),
+        (
+            "   type any\n   regex <A>",
+            Err((7, RulesFaultKind::BadValue)),
+        ),
+        (
+            "   type name\n   name A\n   relation equal",
+            Err((8, RulesFaultKind::BadValue)),
+        ),
+        (
+            "   type name\n   name /A\n   relation is",
+            Err((9, RulesFaultKind::BadValue)),
+        ),
+        (
+            "   type name\n   regex <A",
+            Err((8, RulesFaultKind::Pattern)),
+        ),
+        (
+            "   type name\n   regex <A>\n   name /A",
+            Err((9, RulesFaultKind::BadValue)),
+        ),
+        (
+            "   type name\n   relation equal\n   regex <A>",
+            Err((9, RulesFaultKind::BadValue)),
+        ),
+        (
+            "   type name\n   regex <A>\n   regex <A>",
+            Err((9, RulesFaultKind::TwiceNamed)),
+        ),
+        (
+            "   type name\n   regex <A>\n   type name",
+            Err((9, RulesFaultKind::TwiceNamed)),
+        ),
+        (
+            "   type name\n   regex <A>\n   sig-type sha256",
+            Err((9, RulesFaultKind::UnknownKey)),
+        ),
+    ] {
+        let wanted = told_of.map_err(|(line, kind)| RulesFault { line, kind });
+        assert_eq!(rt; told_of_locator(rt.alloc(), lines)?, wanted, "at {lines}");
+    }
+    Ok(())
+}
+
+/// What reading a rule with a hyper-relation of these lines tells, which begin at line 8.
+fn told_of_hyper(alloc: Global, lines: &str) -> Result<Result<usize, RulesFault>, Fail> {
+    let locator = format!(in alloc; "   hyper-relation {{\n{lines}   type name")?;
+    told_of_locator(alloc, locator.as_str())
 }
 
 #[test]
 fn hyper_relations(rt: HostRuntime) -> Result<(), Fail> {
     for (lines, told_of) in [
         (
-            "    k-regex ^(<>*)$\n    k-expand \\1\n    h-relation equal\n    p-regex ^(<>*)$\n    p-expand \\0<x>",
+            "    k-regex ^(<>*)$\n    k-expand \\1\n    h-relation equal\n    p-regex ^(<>*)$\n    p-expand \\0<x>\n",
             Ok(1),
         ),
         (
-            "    k-regex ^(<>*)$\n    k-expand \\2\n    h-relation equal\n    p-regex ^(<>*)$\n    p-expand \\0",
+            "    k-regex ^(<>*)$\n    k-expand \\2\n    h-relation equal\n    p-regex ^(<>*)$\n    p-expand \\0\n",
             Err((9, RulesFaultKind::Pattern)),
         ),
         (
-            "    k-regex ^(<>*)$\n    k-expand \\1\n    h-relation equal\n    p-regex ^<>*$\n    p-expand \\1",
+            "    k-regex ^(<>*)$\n    k-expand \\1\n    h-relation equal\n    p-regex ^<>*$\n    p-expand \\1\n",
             Err((12, RulesFaultKind::Pattern)),
         ),
         (
-            "    k-expand \\9\n    k-regex ^(<>*$\n    h-relation equal\n    p-regex ^<>*$\n    p-expand \\0",
+            "    k-expand \\9\n    k-regex ^(<>*$\n    h-relation equal\n    p-regex ^<>*$\n    p-expand \\0\n",
             Err((9, RulesFaultKind::Pattern)),
         ),
         (
-            "    k-expand \\9\n    k-regex\n    h-relation equal\n    p-regex ^<>*$\n    p-expand \\0",
+            "    k-expand \\9\n    k-regex\n    h-relation equal\n    p-regex ^<>*$\n    p-expand \\0\n",
             Err((9, RulesFaultKind::BadValue)),
         ),
         (
-            "    k-expand \\\n    k-regex ^(<>*$\n    h-relation equal\n    p-regex ^<>*$\n    p-expand \\0",
+            "    k-expand \\\n    k-regex ^(<>*$\n    h-relation equal\n    p-regex ^<>*$\n    p-expand \\0\n",
             Err((8, RulesFaultKind::Pattern)),
         ),
         (
-            "    k-expand \\1\n    k-regex <>\n    k-regex (<>)\n    h-relation equal\n    p-regex ^<>*$\n    p-expand \\0",
+            "    k-expand \\1\n    k-regex <>\n    k-regex (<>)\n    h-relation equal\n    p-regex ^<>*$\n    p-expand \\0\n",
             Err((8, RulesFaultKind::Pattern)),
         ),
         (
-            "    k-regex ^(<>*)$\n    k-expand \\1\n    p-regex ^(<>*)$\n    p-expand \\0",
+            "    k-regex ^(<>*)$\n    k-expand \\1\n    p-regex ^(<>*)$\n    p-expand \\0\n",
             Err((7, RulesFaultKind::Missing)),
         ),
         (
-            "    k-regex ^(<>*)$\n    k-expand \\1\n    h-relation same\n    p-regex ^(<>*)$\n    p-expand \\0",
+            "    k-regex ^(<>*)$\n    k-expand \\1\n    h-relation same\n    p-regex ^(<>*)$\n    p-expand \\0\n",
             Err((10, RulesFaultKind::BadValue)),
         ),
         (
-            "    k-regex ^(<>*)$\n    k-expand \\1\n    h-relation equal\n    p-regex ^(<>*)$\n    p-expand \\0\n    regex <A>",
+            "    k-regex ^(<>*)$\n    k-expand \\1\n    h-relation equal\n    p-regex ^(<>*)$\n    p-expand \\0\n    regex <A>\n",
             Err((13, RulesFaultKind::UnknownKey)),
         ),
         ("", Err((7, RulesFaultKind::Missing))),
     ] {
-        let text = format!(in rt.alloc();
-            "rule {{\n id a\n for data\n checker {{\n  type customized\n  key-locator {{\n   hyper-relation {{\n{lines}\n   type name"
-        )?;
-        let text = if lines.is_empty() {
-            "rule {\n id a\n for data\n checker {\n  type customized\n  key-locator {\n   hyper-relation {\n   type name"
-        } else {
-            text.as_str()
-        };
         let wanted = told_of.map_err(|(line, kind)| RulesFault { line, kind });
-        assert_eq!(rt; told(rt.alloc(), text)?, wanted, "at {lines}");
+        assert_eq!(rt; told_of_hyper(rt.alloc(), lines)?, wanted, "at {lines}");
     }
+    Ok(())
+}
+
+/// Two forms at once, of which one is a hyper-relation.
+#[test]
+fn a_hyper_relation_beside_another_form(rt: HostRuntime) -> Result<(), Fail> {
     let both =
         "rule {\n id a\n for data\n checker {\n  type customized\n  key-locator {\n   type name\n   hyper-relation x\n   regex <A>";
     assert_eq!(rt;
@@ -472,29 +545,29 @@ fn limits(rt: HostRuntime) -> Result<(), Fail> {
     Ok(())
 }
 
+/// A hundred octets.
+const LONGEST_ID: &str =
+    "xxxxxxxxxxxxxxxxxxxxxxxxxxxxxxxxxxxxxxxxxxxxxxxxxxxxxxxxxxxxxxxxxxxxxxxxxxxxxxxxxxxxxxxxxxxxxxxxxxxx";
+
+/// What reading a rule of this id tells.
+fn told_of_id(alloc: Global, id: &str) -> Result<Result<usize, RulesFault>, Fail> {
+    let text = format!(in alloc; "rule {{\n id {id}\n for data")?;
+    told(alloc, text.as_str())
+}
+
 #[test]
 fn ids(rt: HostRuntime) -> Result<(), Fail> {
-    let longest = String::from_str(
-        rt.alloc(),
-        "xxxxxxxxxxxxxxxxxxxxxxxxxxxxxxxxxxxxxxxxxxxxxxxxxxxxxxxxxxxxxxxxxxxxxxxxxxxxxxxxxxxxxxxxxxxxxxxxxxxx",
-    )?;
-    let text = format!(in rt.alloc(); "rule {{\n id {}\n for data", longest.as_str())?;
-    assert_eq!(rt; told(rt.alloc(), text.as_str())?, Ok(1));
-    let text = format!(in rt.alloc(); "rule {{\n id {}x\n for data", longest.as_str())?;
-    assert_eq!(rt;
-        fault(rt.alloc(), text.as_str())?,
-        RulesFault {
-            line: 2,
-            kind: RulesFaultKind::BadValue
-        }
-    );
-    let told = fault(rt.alloc(), "rule {\n id a\tb\n for data")?;
-    assert_eq!(rt;
-        told,
-        RulesFault {
-            line: 2,
-            kind: RulesFaultKind::BadValue
-        }
-    );
+    for id in ["x", LONGEST_ID, " ", "a b", "!", "\u{7f}", "\u{e4}\u{20ac}"] {
+        assert_eq!(rt; told_of_id(rt.alloc(), id)?, Ok(1), "at {id}");
+    }
+    let refused = Err(RulesFault {
+        line: 2,
+        kind: RulesFaultKind::BadValue,
+    });
+    for id in ["", "a\tb", "\u{1f}"] {
+        assert_eq!(rt; told_of_id(rt.alloc(), id)?, refused, "at {id}");
+    }
+    let longer = format!(in rt.alloc(); "{LONGEST_ID}x")?;
+    assert_eq!(rt; told_of_id(rt.alloc(), longer.as_str())?, refused);
     Ok(())
 }
