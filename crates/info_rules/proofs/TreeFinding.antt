@@ -8,7 +8,8 @@ use Rattle.info_rules.specs.declared.fault.RulesFault.{RulesFault}
 use Rattle.info_rules.specs.declared.fault.RulesFaultKind.TheVariants.{TooLarge}
 use Rattle.info_rules.specs.Tree.{PlainEntry}
 use Rattle.info_rules.specs.Words.{Token, Word, Open, Close, Broken, unescaped, tokens_in, end_line}
-use Rattle.info_rules.specs.TreeReading.{syntax, PlainDraft, begun, entries_of, deep_before, with_fitting, with_token, with_tokens, if_shallow, whole_of, entries_in, tree_in, IsTreeFaultOf, out_of_memory}
+use Rattle.info_rules.specs.TreeReading.{syntax, PlainDraft, begun, entries_of, deep_before, with_fitting, with_token, with_tokens, if_shallow, whole_of, entries_in, tree_in, IsTreeFaultOf}
+use Rattle.info_rules.specs.Faults.{memory_fault}
 use Rattle.info_rules.specs.TreeGrammar.{Head, Nodes, NoNode, Leaf, Branch, head_tokens, tokens_of, BeginsOff, IsApart, IsShallow, entry_of_head, outline, IsTree, TreeOf}
 use Rattle.info_rules.proofs.TreeSpelling.{entries_again}
 use Rattle.info_rules.proofs.TreeSteps.{ok_is, ok_unless, word_found, open_found, close_found, tokens_one, tokens_done, tokens_faulty, MayBegin}
@@ -426,7 +427,7 @@ read_found text (Ok tree) h = tree_found text tree h
 read_found text (Err fault) h = tt
 
 pub read_only : (text : List ℕ) (result : Result (List PlainEntry) RulesFault) → MatchResult result (λ tree. tree_in text ≡ Ok tree) (IsTreeFaultOf (tree_in text)) → (entries : List PlainEntry) → TreeOf text entries
-    → MatchResult result (λ tree. tree ≡ entries) (λ fault. fault ≡ out_of_memory)
+    → MatchResult result (λ tree. tree ≡ entries) (λ fault. fault ≡ memory_fault)
 read_only text (Ok tree) h entries is = one_tree text tree entries (tree_found text tree h) is
 read_only text (Err fault) (inl e) entries is = let again = sym (tree_again text entries is) ∙ e in absurd cc
 read_only text (Err fault) (inr memory) entries is = memory

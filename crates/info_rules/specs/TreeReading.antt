@@ -2,7 +2,8 @@
 use Rattle.std.specs.Prelude.{◌≡◌, ℕ, ◌+◌, ◌-◌, ◌⊎◌, List, [], ◌∷◌, ◌++◌, length, Option, None, Some, Result, Ok, Err, Bool, true, false, nat_lt, nat_le, ◌==◌, if◌then◌else◌}
 use Rattle.ndn_tlv.specs.Reading.{on_result}
 use Rattle.info_rules.specs.declared.fault.RulesFault.{RulesFault}
-use Rattle.info_rules.specs.declared.fault.RulesFaultKind.TheVariants.{Syntax, TooDeep, TooLarge, Memory}
+use Rattle.info_rules.specs.declared.fault.RulesFaultKind.TheVariants.{Syntax, TooDeep, TooLarge}
+use Rattle.info_rules.specs.Faults.{memory_fault}
 use Rattle.info_rules.specs.Tree.{PlainEntry}
 use Rattle.info_rules.specs.Words.{Token, Word, Open, Close, Broken, tokens_in, end_line, unescaped}
 
@@ -11,9 +12,6 @@ syntax line = record { line = line; kind = Syntax }
 
 abbrev pub too_deep : ℕ → RulesFault
 too_deep line = record { line = line; kind = TooDeep }
-
-abbrev pub out_of_memory : RulesFault
-out_of_memory = record { line = 0; kind = Memory }
 
 -- what is read of the entries
 pub record PlainDraft : Type 0 where
@@ -116,4 +114,4 @@ tree_in text = if nat_lt 65536 (length text) then Err (record { line = 0; kind =
 
 -- the fault of a reading, or that of refused memory, which has no cause in the text
 abbrev pub IsTreeFaultOf : {A : Type 0} → Result A RulesFault → RulesFault → Type 0
-IsTreeFaultOf read fault = (read ≡ Err fault) ⊎ (fault ≡ out_of_memory)
+IsTreeFaultOf read fault = (read ≡ Err fault) ⊎ (fault ≡ memory_fault)

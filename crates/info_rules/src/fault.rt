@@ -64,10 +64,7 @@ impl<T: Drop> From<AllocFailed<T>> for RulesFault {
     ghost from_gives = { λ _ e. e ≡ record { line = 0; kind = kinds.Memory } };
 
     fn from(_error: AllocFailed<T>) -> RulesFault {
-        RulesFault {
-            line: 0,
-            kind: RulesFaultKind::Memory,
-        }
+        MEMORY
     }
 }
 

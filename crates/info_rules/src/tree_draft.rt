@@ -60,6 +60,7 @@ impl Draft {
     ghost use Rattle.std.specs.Option.{option_map};
     ghost use Rattle.info_rules.specs.TreeReading as read;
     ghost use Rattle.info_rules.specs.TreeReading.{IsTreeFaultOf};
+    ghost use Rattle.info_rules.specs.Faults.{memory_fault};
     ghost use Rattle.info_rules.specs.Shown.{entry_of, token_of, draft_of};
 
     /// The draft without entries.
@@ -77,7 +78,7 @@ impl Draft {
 
     /// Puts the pending entry, if there is one, behind the others.
     fn end_entry(&mut self) -> Result<(), RulesFault>
-        ensures { MatchResult result (λ _. draft_of self.new ≡ read.with_ended (draft_of self.old)) (λ fault. fault ≡ read.out_of_memory) }
+        ensures { MatchResult result (λ _. draft_of self.new ≡ read.with_ended (draft_of self.old)) (λ fault. fault ≡ memory_fault) }
     {
         if let Some(entry) = self.pending.take() {
             self.ended.push(entry)?;
@@ -87,7 +88,7 @@ impl Draft {
 
     /// Adds a word that is a key.
     fn add_key(&mut self, alloc: Global, line: u32, word: &str) -> Result<(), RulesFault>
-        ensures { MatchResult result (λ _. draft_of self.new ≡ read.with_key (draft_of self.old) line word.now) (λ fault. fault ≡ read.out_of_memory) }
+        ensures { MatchResult result (λ _. draft_of self.new ≡ read.with_key (draft_of self.old) line word.now) (λ fault. fault ≡ memory_fault) }
     {
         self.end_entry()?;
         let key = unescaped(alloc, word)?;

@@ -3,7 +3,8 @@
 ghost use Rattle.std.specs.Prelude.{◌≡◌, ◌≤◌, ◌↔◌, ℕ, List, Ok, IfOk, MatchResult, length, map};
 ghost use Rattle.info_rules.specs.Tree.{PlainEntry};
 ghost use Rattle.info_rules.specs.TreeGrammar.{TreeOf};
-ghost use Rattle.info_rules.specs.TreeReading.{IsTreeFaultOf, out_of_memory, entries_in, tree_in};
+ghost use Rattle.info_rules.specs.TreeReading.{IsTreeFaultOf, entries_in, tree_in};
+ghost use Rattle.info_rules.specs.Faults.{memory_fault};
 ghost use Rattle.info_rules.specs.Shown.{entry_of};
 
 use crate::entry::Entry;
@@ -67,7 +68,7 @@ impl InfoTree {
         ensures found { IfOk result (TreeOf text.now) }
         // What the text spells is read, but for memory.
         ensures only { (entries : List PlainEntry) → TreeOf text.now entries
-            → MatchResult result (λ tree. tree ≡ entries) (λ fault. fault ≡ out_of_memory) }
+            → MatchResult result (λ tree. tree ≡ entries) (λ fault. fault ≡ memory_fault) }
         // Which fault it is.
         ensures exact { MatchResult result (λ tree. tree_in text.now ≡ Ok tree) (IsTreeFaultOf (tree_in text.now)) }
     {

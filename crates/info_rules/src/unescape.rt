@@ -1,11 +1,11 @@
 //! Words without the backslashes that escape.
 
-ghost use Rattle.std.specs.Prelude.{◌≡◌, ◌<◌, ◌≤◌, ◌∷◌, ◌++◌, IfOk, MatchResult, length, string_bytes};
+ghost use Rattle.std.specs.Prelude.{◌≡◌, ◌<◌, ◌≤◌, ◌∷◌, ◌++◌, MatchResult, length, string_bytes};
 ghost use Rattle.info_rules.specs.Words as words;
-ghost use Rattle.info_rules.specs.TreeReading.{out_of_memory};
+ghost use Rattle.info_rules.specs.Faults.{memory_fault};
 
-use crate::fault::{RulesFault, RulesFaultKind};
-use std::alloc::{AllocError, Global};
+use crate::fault::RulesFault;
+use std::alloc::Global;
 
 /// What a backslash and the text behind it begin with, and the text behind that.
 #[tactic(auto, using(crate::proofs::Escapes::escape_front, crate::proofs::Escapes::kept_backslash))]
@@ -20,9 +20,10 @@ fn first_sign(behind: &str) -> (&str, &str)
     }
 }
 
-/// A word with a backslash in place of each pair of them, and without that before a quote.
-fn without_escapes(alloc: Global, word: &str) -> Result<String, AllocError>
-    ensures { IfOk result (λ text. string_bytes text ≡ words.unescaped word.now) }
+/// A word with a backslash in place of each pair of them, and without that before a quote; refused
+/// for memory alone.
+pub fn unescaped(alloc: Global, word: &str) -> Result<String, RulesFault>
+    ensures { MatchResult result (λ text. string_bytes text ≡ words.unescaped word.now) (λ fault. fault ≡ memory_fault) }
 {
     let mut text = String::new(alloc);
     let mut rest = word;
@@ -34,18 +35,4 @@ fn without_escapes(alloc: Global, word: &str) -> Result<String, AllocError>
     }
     text.push_str(rest)?;
     Ok(text)
-}
-
-/// A word with a backslash in place of each pair of them, and without that before a quote; refused
-/// for memory alone.
-pub fn unescaped(alloc: Global, word: &str) -> Result<String, RulesFault>
-    ensures { MatchResult result (λ text. string_bytes text ≡ words.unescaped word.now) (λ fault. fault ≡ out_of_memory) }
-{
-    match without_escapes(alloc, word) {
-        Ok(text) => Ok(text),
-        Err(_) => Err(RulesFault {
-            line: 0,
-            kind: RulesFaultKind::Memory,
-        }),
-    }
 }

@@ -3,7 +3,7 @@ use Rattle.std.proofs.lemmas.Str.Pattern.{split_parts}
 use Rattle.std.specs.Prelude.{string_bytes}
 use Rattle.info_rules.specs.Words.{unescaped}
 use Rattle.info_rules.proofs.Escapes.{lacks_from_places, further, last_part}
-use Rattle.info_rules.proofs.unescape.without_escapes.Goals as goal
+use Rattle.info_rules.proofs.unescape.unescaped.Goals as goal
 
 pub loop-before-preserved : goal.loop-before-preserved
 loop-before-preserved c =
