@@ -1,6 +1,6 @@
 -- Hierarchical keys, by a pattern.
 use Rattle.std.proofs.Common.{◌≡◌, ℕ, zero, suc, ◌+◌, ◌-◌, ◌<◌, ◌≤◌, List, [], ◌∷◌, ◌++◌, length, take, drop, subst, sym, refl, ap, ◌∙◌, ◌⊎◌, inl, inr, arith}
-use Rattle.std.specs.Prelude.{Option, Some, None, slice_get, sum, ◌↔◌}
+use Rattle.std.specs.Prelude.{Some, sum}
 use Rattle.std.specs.List.{AllByRecursion}
 use Rattle.std.proofs.lemmas.Bool.{cases_lt}
 use Rattle.std.proofs.lemmas.List.{length-append, length-drop, length-take-le, take-append-drop}
@@ -8,7 +8,7 @@ use Rattle.std.proofs.Math.Seq.{drop-length}
 use Rattle.ndn_tlv.specs.Element.{Field}
 use Rattle.ndn_names.specs.Name.{IsPrefix}
 use Rattle.ndn_names.specs.Order.{DiffersBelow}
-use Rattle.name_patterns.specs.Pattern.{PlainAtom, Anything, OneOf, once, anything}
+use Rattle.name_patterns.specs.Pattern.{PlainAtom, Anything, OneOf, once}
 use Rattle.name_patterns.specs.Match.{Passes, IsSplit, IsGreatestSplit, Match, places_of}
 use Rattle.name_patterns.specs.Template.{OfGroup, part_of}
 use Rattle.info_rules.specs.Locator.{key_component, IsKeyOf, IsHierarchical, hierarchical_pattern}

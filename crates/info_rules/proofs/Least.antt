@@ -1,10 +1,9 @@
 -- The least of several faults.
-use Rattle.std.proofs.Common.{◌≡◌, ℕ, Bool, true, false, cond, eqb, ltb, List, [], ◌∷◌, refl, sym, ap, subst, ◌∙◌, arith, inl, inr}
-use Rattle.std.specs.Prelude.{◌⊎◌, Option, Some, None, MatchOption, ◌&&◌, ◌||◌}
-use Rattle.std.specs.List.{AllByRecursion}
+use Rattle.std.proofs.Common.{◌≡◌, ℕ, Bool, true, false, cond, eqb, ltb, List, [], ◌∷◌, refl, ◌∙◌, arith, inl, inr}
+use Rattle.std.specs.Prelude.{◌⊎◌, Some, None, MatchOption, ◌&&◌, ◌||◌}
 use Rattle.std.proofs.lemmas.Bool.Decides.{nat_tests}
 use Rattle.info_rules.specs.declared.fault.RulesFault.{RulesFault}
-use Rattle.info_rules.specs.Faults.{kind_number, sooner, noted, after, IsAmong, NoneIsSooner}
+use Rattle.info_rules.specs.Faults.{kind_number, sooner, after, IsAmong, NoneIsSooner}
 
 -- one pair of numbers is less than another, by the first and then by the second
 abbrev less : ℕ → ℕ → ℕ → ℕ → Bool

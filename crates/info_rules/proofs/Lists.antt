@@ -1,6 +1,6 @@
 -- Elements of lists, by their places.
-use Rattle.std.proofs.Common.{◌≡◌, ℕ, zero, suc, ◌+◌, ◌<◌, List, [], ◌∷◌, length, get_or, take, subst, sym, ap, ◌∙◌, arith}
-use Rattle.std.specs.Prelude.{All, Any}
+use Rattle.std.proofs.Common.{◌≡◌, ℕ, ◌<◌, List, length, get_or, subst, sym, arith}
+use Rattle.std.specs.Prelude.{Any}
 
 -- none of the elements before place n is such
 abbrev pub NoneBefore : {X : Type 0} → (X → Type 0) → List X → ℕ → Type 0

@@ -1,6 +1,6 @@
 -- A name has one match, and one name is made of it.
-use Rattle.std.proofs.Common.{◌≡◌, ℕ, ◌<◌, ◌≤◌, true, false, List, [], ◌∷◌, ◌++◌, ◌⊎◌, inl, inr, length, subst, sym, ap, ◌∙◌, arith}
-use Rattle.std.specs.Prelude.{Bool, IsTrue, ◌↔◌, Option, Some, None}
+use Rattle.std.proofs.Common.{◌≡◌, ℕ, ◌<◌, false, List, [], ◌∷◌, ◌++◌, ◌⊎◌, inl, inr, length, subst, sym, ap, ◌∙◌, arith}
+use Rattle.std.specs.Prelude.{Bool, IsTrue, ◌↔◌}
 use Rattle.ndn_tlv.specs.Element.{Field}
 use Rattle.ndn_names.specs.Order.{DiffersBelow}
 use Rattle.name_patterns.specs.Pattern.{PlainAtom, PlainPattern}

@@ -8,9 +8,9 @@ use Rattle.info_rules.specs.declared.fault.RulesFault.{RulesFault}
 use Rattle.info_rules.specs.declared.fault.RulesFaultKind.{RulesFaultKind}
 use Rattle.info_rules.specs.declared.fault.RulesFaultKind.TheVariants.{Missing, BadValue}
 use Rattle.info_rules.specs.declared.value_kind.ValueKind.{ValueKind}
-use Rattle.info_rules.specs.Tree.{PlainEntry, Block, blocks_of}
+use Rattle.info_rules.specs.Tree.{Block, blocks_of}
 use Rattle.info_rules.specs.Keys.{on_option, first_of, is_word, named, value_of, first_value, fault_at, missing_faults, shape_faults, block_faults}
-use Rattle.info_rules.specs.Values.{◌>>=◌, unless, text_fault, value_fault, value_faults}
+use Rattle.info_rules.specs.Values.{◌>>=◌, unless, text_fault, value_faults}
 use Rattle.info_rules.specs.RuleBlock.{all_of}
 
 pub none_of_both : (xs ys : List RulesFault) → xs ++ ys ≡ [] → (xs ≡ []) × (ys ≡ [])

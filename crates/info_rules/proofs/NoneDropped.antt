@@ -1,6 +1,6 @@
 -- A file without faults gives each of its rules.
-use Rattle.std.proofs.Common.{◌≡◌, ℕ, Bool, true, false, cond, List, [], ◌∷◌, ◌++◌, length, refl, sym, ap, subst, ◌∙◌, inl, inr}
-use Rattle.std.specs.Prelude.{◌⊎◌, ⊤, Option, Some, None, is_some, Result, codes, ◌&&◌, ◌||◌, not}
+use Rattle.std.proofs.Common.{◌≡◌, ℕ, Bool, true, false, cond, List, [], ◌∷◌, ◌++◌, length, refl, sym, ap, subst, ◌∙◌}
+use Rattle.std.specs.Prelude.{⊤, Option, Some, None, is_some, codes, ◌&&◌, ◌||◌, not}
 use Rattle.std.specs.Option.{IsSome, option_map}
 use Rattle.std.specs.List.{flat_map, filter_map}
 use Rattle.std.proofs.lemmas.Bool.{and_parts}
@@ -15,7 +15,6 @@ use Rattle.info_rules.specs.declared.form.Form.{Form}
 use Rattle.info_rules.specs.declared.form.Form.TheVariants as forms
 use Rattle.info_rules.specs.declared.form.Tested.{Tested}
 use Rattle.info_rules.specs.declared.form.Tested.TheVariants.{PacketName, KeyName}
-use Rattle.info_rules.specs.declared.rule.NameTest.{NameTest}
 use Rattle.info_rules.specs.declared.rule.LocatorTest.TheVariants.{Name, Hyper}
 use Rattle.info_rules.specs.declared.rule.Checker.TheVariants as checkers
 use Rattle.info_rules.specs.declared.value_words.CheckerType.{CheckerType}
@@ -23,17 +22,17 @@ use Rattle.info_rules.specs.declared.value_words.CheckerType.TheVariants.{Custom
 use Rattle.info_rules.specs.declared.value_words.SignatureType.{SignatureType}
 use Rattle.info_rules.specs.declared.value_words.SignatureType.TheVariants.{HmacSha256, Sha256, Asymmetric}
 use Rattle.info_rules.specs.Tree.{Block, blocks_of}
-use Rattle.info_rules.specs.Keys.{on_option, first_of, is_word, named, value_of, first_value, fault_at, twice_faults, missing_faults, once_faults, many_faults}
+use Rattle.info_rules.specs.Keys.{on_option, first_of, is_word, named, value_of, first_value, twice_faults, missing_faults, once_faults, many_faults}
 use Rattle.info_rules.specs.ValueWords.{kind_in, relation_in, checker_type_in, signature_type_in}
-use Rattle.info_rules.specs.Values.{◌>>=◌, ok_of, text_fault, value_faults, groups_in}
+use Rattle.info_rules.specs.Values.{◌>>=◌, ok_of, text_fault, groups_in}
 use Rattle.info_rules.specs.NameTest.{tests_key, is_other, form_of, other_form_of, first_other, half_faults, second_faults, form_faults, test_key_faults, test_faults, matching_in, related_in, test_in}
 use Rattle.info_rules.specs.FilterBlock.{filter_block_faults, filter_faults, filter_in}
-use Rattle.info_rules.specs.HyperBlock.{hyper_key_faults, hyper_block_faults, hyper_faults, half_in, hyper_of_keys, hyper_in}
+use Rattle.info_rules.specs.HyperBlock.{hyper_key_faults, hyper_block_faults, hyper_faults, half_in, hyper_in}
 use Rattle.info_rules.specs.LocatorBlock.{is_hyper_alone, locator_key_faults, locator_block_faults, locator_faults, locator_of_keys, locator_in}
 use Rattle.info_rules.specs.CheckerBlock.{checker_type_of, signature_type_of, is_hierarchical, needs_locator, checker_key_faults, locator_count_faults, checker_block_faults, checker_faults, locator_by_type, checker_by_type, checker_of_keys, checker_in}
-use Rattle.info_rules.specs.RuleBlock.{all_of, rule_key_faults, rule_block_faults, rule_faults, rule_of_keys, rule_in}
+use Rattle.info_rules.specs.RuleBlock.{all_of, rule_key_faults, rule_block_faults, rule_faults, rule_in}
 use Rattle.info_rules.specs.RuleFile.{id_faults, top_key_faults, file_faults, all_rules}
-use Rattle.info_rules.proofs.NoFaults.{none_of_both, if_true, if_false, some_then, some_of, right_unless, other_word, IsThere, IsRight, first_right, there_here, there_more, not_missing, all_found, HasText, Needs, first_text, block_right}
+use Rattle.info_rules.proofs.NoFaults.{none_of_both, if_true, if_false, some_then, right_unless, other_word, IsThere, first_right, there_here, there_more, not_missing, all_found, Needs, first_text, block_right}
 
 -- ---- texts that are right
 

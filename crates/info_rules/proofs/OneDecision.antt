@@ -1,5 +1,5 @@
 -- Rules decide one thing of a packet.
-use Rattle.std.proofs.Common.{◌≡◌, ℕ, ◌<◌, ◌≤◌, List, [], ◌∷◌, ◌++◌, length, get_or, take, subst, sym, refl, ap, ◌∙◌, ◌⊎◌, inl, inr, arith}
+use Rattle.std.proofs.Common.{◌≡◌, ℕ, ◌<◌, ◌≤◌, List, [], ◌++◌, length, get_or, take, subst, sym, refl, ap, ◌∙◌, ◌⊎◌, inl, inr, arith}
 use Rattle.std.specs.Prelude.{Option, Some, None, slice_get, All, Any, ◌==◌, if◌then◌else◌}
 use Rattle.std.proofs.lemmas.Bool.{cases_lt}
 use Rattle.std.proofs.lemmas.List.{get_or-take, length-take}
@@ -20,7 +20,7 @@ use Rattle.info_rules.specs.Rule.{PlainRule}
 use Rattle.info_rules.specs.First.{Applies, NoneApplies, IsFirst}
 use Rattle.info_rules.specs.Seen.{SeenPacket, PlainSigned, IsSigned, SaysWhen, seen_interest, seen_data}
 use Rattle.info_rules.specs.Checks.{Checks}
-use Rattle.info_rules.specs.Decides.{number_of, IsPassed, IsAtMost, IsGreatest, Allow, DenyBy, IsUnfit, Deny, DecideSeen, Decides}
+use Rattle.info_rules.specs.Decides.{number_of, IsPassed, IsAtMost, IsGreatest, Allow, IsUnfit, Deny, DecideSeen, Decides}
 use Rattle.info_rules.proofs.Firsts.{within}
 use Rattle.info_rules.proofs.OneCheck.{one_check}
 

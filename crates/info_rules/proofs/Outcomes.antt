@@ -1,5 +1,5 @@
 -- Results, and decisions of packets as they are shown.
-use Rattle.std.proofs.Common.{◌≡◌, ℕ, List, get_or, map, subst, sym, ap, ◌∙◌, inr}
+use Rattle.std.proofs.Common.{◌≡◌, List, get_or, map, subst}
 use Rattle.std.specs.Prelude.{Result, Ok, Err, IfOk, MatchResult}
 use Rattle.hmac_keys.specs.KeyFile.{NamedKey}
 use Rattle.ndn_tlv.specs.Element.{Field}

@@ -1,12 +1,9 @@
 -- Noting faults one after the other.
-use Rattle.std.proofs.Common.{◌≡◌, ℕ, Bool, true, false, cond, List, [], ◌∷◌, ◌++◌, map, refl, sym, ap, ◌∙◌}
+use Rattle.std.proofs.Common.{◌≡◌, List, [], ◌∷◌, ◌++◌, refl, sym, ap, ◌∙◌}
 use Rattle.std.specs.Prelude.{Option}
-use Rattle.std.specs.List.{filter, flat_map}
+use Rattle.std.specs.List.{flat_map}
 use Rattle.info_rules.specs.declared.fault.RulesFault.{RulesFault}
-use Rattle.info_rules.specs.declared.fault.RulesFaultKind.TheVariants.{TwiceNamed}
-use Rattle.info_rules.specs.Tree.{Block}
 use Rattle.info_rules.specs.Faults.{noted, after}
-use Rattle.info_rules.specs.Keys.{others_of, is_word, named, fault_at}
 
 pub after_none : (told : Option RulesFault) → after told [] ≡ told
 unfolding after

@@ -1,9 +1,9 @@
 -- Packets that were read, and their shape.
 use Rattle.std.proofs.Common.{◌≡◌, ℕ, List, [], ◌⊎◌, inl, inr, subst, sym, true}
-use Rattle.std.specs.Prelude.{◌↔◌, Option, None, Some, IsSome}
-use Rattle.ndn_packets.specs.Packet.{PlainSignature, PlainInterest, PlainData, AnInterest}
+use Rattle.std.specs.Prelude.{◌↔◌, Option, Some, IsSome}
+use Rattle.ndn_packets.specs.Packet.{PlainSignature, PlainInterest, PlainData}
 use Rattle.ndn_packets.specs.Grammar.{IsInterest, IsData}
-use Rattle.ndn_packets.specs.Covered.{Covered, EndsInDigest}
+use Rattle.ndn_packets.specs.Covered.{EndsInDigest}
 use Rattle.ndn_packets.proofs.Covers.{interest_covered, data_covered}
 use Rattle.info_rules.specs.declared.decision.Reason.{Reason}
 use Rattle.info_rules.specs.declared.decision.Reason.TheVariants as reasons

@@ -4,7 +4,7 @@ use Rattle.std.specs.List.{filter}
 use Rattle.info_rules.specs.declared.fault.RulesFault.{RulesFault}
 use Rattle.info_rules.specs.declared.fault.RulesFaultKind.{RulesFaultKind}
 use Rattle.info_rules.specs.declared.fault.RulesFaultKind.TheVariants.{TooLarge, Missing, BadValue, TwiceNamed}
-use Rattle.info_rules.specs.Tree.{PlainEntry, Block, blocks_of}
+use Rattle.info_rules.specs.Tree.{Block, blocks_of}
 
 abbrev pub on_option : {A C : Type 0} → (A → C) → C → Option A → C
 on_option f c None = c

@@ -1,5 +1,5 @@
 -- Blocks of key locators.
-use Rattle.std.specs.Prelude.{ℕ, List, ◌++◌, Option, None, Some, is_some, Bool, not, codes, if◌then◌else◌}
+use Rattle.std.specs.Prelude.{ℕ, List, ◌++◌, Option, Some, is_some, Bool, not, codes, if◌then◌else◌}
 use Rattle.std.specs.List.{flat_map}
 use Rattle.std.specs.Option.{option_map}
 use Rattle.info_rules.specs.declared.fault.RulesFault.{RulesFault}

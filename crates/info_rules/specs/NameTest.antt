@@ -2,7 +2,6 @@
 use Rattle.std.specs.Prelude.{ℕ, List, [], ◌∷◌, ◌++◌, Option, None, Some, Bool, true, false, not, codes, ◌||◌, ◌&&◌, if◌then◌else◌}
 use Rattle.std.specs.List.{filter_map}
 use Rattle.std.specs.Option.{option_map}
-use Rattle.ndn_tlv.specs.Element.{Field}
 use Rattle.ndn_names.specs.UriReading.{name_in}
 use Rattle.name_patterns.specs.PatternReading.{pattern_in}
 use Rattle.info_rules.specs.declared.fault.RulesFault.{RulesFault}
@@ -15,7 +14,7 @@ use Rattle.info_rules.specs.declared.form.Form.TheVariants as forms
 use Rattle.info_rules.specs.declared.form.Tested.{Tested}
 use Rattle.info_rules.specs.declared.form.Tested.TheVariants.{PacketName, KeyName}
 use Rattle.info_rules.specs.Tree.{Block}
-use Rattle.info_rules.specs.Keys.{on_option, first_of, is_word, named, first_value, fault_at, twice_faults, missing_faults, once_faults}
+use Rattle.info_rules.specs.Keys.{on_option, first_of, is_word, first_value, fault_at, twice_faults, missing_faults, once_faults}
 use Rattle.info_rules.specs.ValueWords.{relation_in}
 use Rattle.info_rules.specs.Values.{◌>>=◌, ok_of, value_faults}
 

@@ -1,5 +1,5 @@
 -- Rule files: their faults, and their rules.
-use Rattle.std.specs.Prelude.{ℕ, List, [], ◌∷◌, ◌++◌, Option, None, Some, Result, Ok, Err, bytes_eq, codes, if◌then◌else◌}
+use Rattle.std.specs.Prelude.{ℕ, List, [], ◌∷◌, ◌++◌, Option, None, Result, Ok, Err, bytes_eq, codes, if◌then◌else◌}
 use Rattle.std.specs.List.{flat_map}
 use Rattle.info_rules.specs.declared.fault.RulesFault.{RulesFault}
 use Rattle.info_rules.specs.declared.fault.RulesFaultKind.TheVariants.{UnknownKey, TwiceNamed}

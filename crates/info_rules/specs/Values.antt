@@ -1,6 +1,5 @@
 -- What the values of keys have to be.
 use Rattle.std.specs.Prelude.{ℕ, List, [], ◌∷◌, length, Option, None, Some, is_some, Result, Ok, Err, Bool, true, false, bytes_eq, codes, if◌then◌else◌}
-use Rattle.std.specs.Option.{option_map}
 use Rattle.ndn_names.specs.UriReading.{name_in}
 use Rattle.name_patterns.specs.PatternReading.{pattern_in}
 use Rattle.name_patterns.specs.TemplateReading.{template_in}

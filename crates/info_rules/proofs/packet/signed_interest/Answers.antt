@@ -1,4 +1,4 @@
-use Rattle.std.proofs.Common.{◌≡◌, ℕ, true, false, Option, None, Some, ap, inl, inr}
+use Rattle.std.proofs.Common.{◌≡◌, ℕ, true, false, Option, ap, inl, inr}
 use Rattle.std.specs.Prelude.{Bool, IsSome, is_some, not}
 use Rattle.std.specs.Option.{option_map}
 use Rattle.ndn_packets.specs.Packet.{plain_signature}

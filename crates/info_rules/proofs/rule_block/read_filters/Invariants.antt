@@ -1,10 +1,9 @@
-use Rattle.std.proofs.Common.{◌≡◌, ◌++◌, map, length}
+use Rattle.std.proofs.Common.{◌≡◌, length}
 use Rattle.std.specs.Prelude.{codes}
-use Rattle.std.specs.Option.{option_map}
 use Rattle.info_rules.specs.Keys.{named}
 use Rattle.info_rules.specs.FilterBlock.{filter_in}
 use Rattle.info_rules.specs.RuleBlock.{all_of}
-use Rattle.info_rules.specs.Shown.{keys_of, rule_of}
+use Rattle.info_rules.specs.Shown.{keys_of}
 use Rattle.info_rules.proofs.AllOf.{behind}
 use Rattle.info_rules.proofs.rule_block.read_filters.Given as goal
 

@@ -1,6 +1,5 @@
-use Rattle.std.proofs.Common.{◌≡◌, ◌++◌, map, length}
+use Rattle.std.proofs.Common.{◌≡◌, map, length}
 use Rattle.std.specs.Prelude.{codes}
-use Rattle.std.specs.Option.{option_map}
 use Rattle.info_rules.specs.Keys.{named}
 use Rattle.info_rules.specs.RuleBlock.{rule_in}
 use Rattle.info_rules.specs.RuleBlock.{all_of}

@@ -1,7 +1,7 @@
-use Rattle.std.proofs.Common.{◌≡◌, ◌+◌, ◌≤◌, cond, map, length}
+use Rattle.std.proofs.Common.{◌≡◌, cond, map, length}
 use Rattle.info_rules.specs.declared.fault.RulesFaultKind.TheVariants.{TwiceNamed}
 use Rattle.info_rules.specs.Faults.{after}
-use Rattle.info_rules.specs.Keys.{first_of, others_of, named, fault_at, twice_faults}
+use Rattle.info_rules.specs.Keys.{others_of, named, fault_at, twice_faults}
 use Rattle.info_rules.specs.Shown.{keys_of}
 use Rattle.info_rules.proofs.keys.Keys.judge_twice.Given as goal
 

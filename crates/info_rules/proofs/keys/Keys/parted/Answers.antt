@@ -1,6 +1,5 @@
 use Rattle.std.proofs.Common.{◌≡◌, [], eq-eqb, drop, map}
 use Rattle.std.proofs.lemmas.Bool.{ne_eqb}
-use Rattle.info_rules.specs.declared.entry.Entry.{Entry}
 use Rattle.info_rules.specs.Shown.{entry_of}
 use Rattle.info_rules.specs.Tree.{parted}
 use Rattle.info_rules.proofs.Parted.{lack_more, begins_at, past_front, past_all, no_front}

@@ -1,4 +1,4 @@
-use Rattle.std.proofs.Common.{ap, sym, ◌∙◌, map, subst, arith, List}
+use Rattle.std.proofs.Common.{ap, ◌∙◌, map, subst, List}
 use Rattle.ndn_names.specs.View.{components}
 use Rattle.info_rules.specs.Rule.{PlainRule}
 use Rattle.info_rules.specs.First.{NoneApplies, First}
