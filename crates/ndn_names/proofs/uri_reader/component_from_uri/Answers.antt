@@ -1,4 +1,4 @@
-use Rattle.std.proofs.Common.{◌≡◌, true, false, eqb, Ok, Err, sym, ap, ◌∙◌, inl, inr}
+use Rattle.std.proofs.Common.{◌≡◌, true, false, eqb, Ok, Err, sym, ap, ◌∙◌, inl}
 use Rattle.std.specs.List.{list_any}
 use Rattle.std.proofs.lemmas.Result.{err_from_is_err_and}
 use Rattle.ndn_names.specs.declared.fault.NameFault.TheVariants.{BadUri}
