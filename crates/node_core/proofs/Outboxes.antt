@@ -1,13 +1,14 @@
 -- Sends in an outbox, and as text.
-use Rattle.std.proofs.Common.{◌≡◌, ℕ, zero, suc, ◌-◌, ◌<◌, ◌≤◌, List, [], ◌∷◌, ◌++◌, length, map, take, drop, refl, sym, ap, ◌∙◌, arith, append_assoc, length-append, false, Result, Ok, Err}
-use Rattle.std.specs.Prelude.{Some, None, slice_get, slice_range, OnOk}
+use Rattle.std.proofs.Common.{◌≡◌, ℕ, zero, suc, ◌+◌, ◌-◌, ◌<◌, ◌≤◌, List, [], ◌∷◌, ◌++◌, length, map, take, drop, refl, sym, ap, ◌∙◌, arith, append_assoc, length-append, false, Result, Ok, Err}
+use Rattle.std.specs.Prelude.{Some, None, slice_get, slice_range, OnOk, sum_by}
+use Rattle.std.proofs.lemmas.List.Sums.{sum_by-append, sum_by-cons}
 use Rattle.std.specs.Result.{is_err}
 use Rattle.std.specs.List.{flat_map}
 use Rattle.std.proofs.Math.Seq.{drop-append_seam}
 use Rattle.std.proofs.lemmas.List.{take-append-le, drop-append-le, map-append, append-nil, length-drop}
 use Rattle.node_core.specs.declared.outbox.Sent.{Sent}
 use Rattle.node_core.specs.Event.{Send}
-use Rattle.node_core.specs.Outbox.{AreWithin, send_of, sends_of, placed}
+use Rattle.node_core.specs.Outbox.{AreWithin, AreOctetsOf, size_of, send_of, sends_of, placed}
 use Rattle.node_core.proofs.Lists.{take_whole}
 
 -- the text of one more element
@@ -79,11 +80,27 @@ AreWithin-added octets more sends faces h =
     AreWithin-append (octets ++ more) sends _ (AreWithin-more octets more sends h)
     (AreWithin-placed (octets ++ more) (length octets) (length (octets ++ more)) faces (omega (arith, length-append octets more)) (omega arith))
 
+-- for some face, the sends of octets are as long as the octets
+sum_by-placed : (start end : ℕ) (faces : List ℕ) → 0 < length faces → end - start ≤ sum_by size_of (map (placed start end) faces)
+sum_by-placed start end [] some = absurd (omega arith)
+sum_by-placed start end (f ∷ faces) some =
+    let sum = sum_by-cons size_of (placed start end f) (map (placed start end) faces) in omega (arith, sum)
+
+no_more-added : (octets more : List ℕ) (sends : List Sent) (faces : List ℕ) → length octets ≤ sum_by size_of sends → 0 < length faces
+    → length (octets ++ more) ≤ sum_by size_of (sends ++ map (placed (length octets) (length (octets ++ more))) faces)
+no_more-added octets more sends faces h some =
+    let added = sum_by-placed (length octets) (length (octets ++ more)) faces some in
+    let sum = sum_by-append size_of sends (map (placed (length octets) (length (octets ++ more))) faces) in
+    omega (arith, h, added, sum, length-append octets more)
+
 -- the same, for what code computed
-pub within_after : (octets more all : List ℕ) (sends after : List Sent) (faces : List ℕ) (start end : ℕ)
+pub octets_after : (octets more all : List ℕ) (sends after : List Sent) (faces : List ℕ) (start end : ℕ)
     → start ≡ length octets → end ≡ length all → all ≡ octets ++ more → after ≡ sends ++ map (placed start end) faces
-    → AreWithin octets sends → AreWithin all after
-within_after octets more all sends after faces start end s e a n h = rw (n, s, e, a) (AreWithin-added octets more sends faces h)
+    → AreOctetsOf octets sends → 0 < length faces → AreOctetsOf all after
+octets_after octets more all sends after faces start end s e a n h some = rw (n, s, e, a) (record {
+  within = AreWithin-added octets more sends faces h.within;
+  no_more = no_more-added octets more sends faces h.no_more some;
+})
 
 pub sends_after : (octets more all : List ℕ) (sends after : List Sent) (faces : List ℕ) (start end : ℕ)
     → start ≡ length octets → end ≡ length all → all ≡ octets ++ more → after ≡ sends ++ map (placed start end) faces

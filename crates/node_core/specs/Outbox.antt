@@ -1,5 +1,5 @@
 -- What an outbox holds.
-use Rattle.std.specs.Prelude.{ℕ, ◌≤◌, List, map, length, slice_range}
+use Rattle.std.specs.Prelude.{ℕ, ◌≤◌, ◌-◌, List, map, length, slice_range, sum_by}
 use Rattle.std.specs.List.{AllByRecursion}
 use Rattle.node_core.specs.Event.{Send}
 use Rattle.node_core.specs.declared.outbox.Sent.{Sent}
@@ -10,6 +10,14 @@ IsWithin octets sent = (sent.start ≤ sent.end) × (sent.end ≤ length octets)
 
 abbrev pub AreWithin : List ℕ → List Sent → Type 0
 AreWithin octets sends = AllByRecursion (IsWithin octets) sends
+
+abbrev pub size_of : Sent → ℕ
+size_of sent = sent.end - sent.start
+
+-- the places lie within the octets, which are no more than those of all sends together
+pub record AreOctetsOf (octets : List ℕ) (sends : List Sent) : Type 0 where
+  pub within : AreWithin octets sends
+  pub no_more : length octets ≤ sum_by size_of sends
 
 -- a face, and the octets between the places
 abbrev pub send_of : List ℕ → Sent → Send

@@ -29,11 +29,11 @@ impl Model for Outbox {
 
     ghost Value = { List Send };
 
-    ghost use Rattle.node_core.specs.Outbox.{sends_of, AreWithin};
+    ghost use Rattle.node_core.specs.Outbox.{sends_of, AreOctetsOf};
 
     ghost view = { λ o. sends_of o.octets.items o.sends.items };
 
-    ghost invariant = { λ o. AreWithin o.octets.items o.sends.items };
+    ghost invariant = { λ o. AreOctetsOf o.octets.items o.sends.items };
 }
 
 impl Outbox {
@@ -69,7 +69,7 @@ impl Outbox {
         Some((sent.face, &self.octets[sent.start..sent.end]))
     }
 
-    /// Forgets the sends. The room that they took is kept.
+    /// Removes the sends and their octets. The room that they took stays reserved.
     pub fn clear(&mut self)
         ensures { self.new ≡ [] }
     {
@@ -77,12 +77,15 @@ impl Outbox {
         self.octets.clear();
     }
 
-    /// Adds one send of these octets for each face, in order. The octets are kept once. `Memory`
-    /// changes nothing.
+    /// Adds one send of these octets for each face, in order. The octets are stored once, and not
+    /// at all without a face. `Memory` changes nothing.
     pub(crate) fn send_to(&mut self, faces: &[u64], octets: &[u8]) -> Result<(), Memory>
         ensures ok { OnOk result (self.new ≡ self.old ++ map (λ f. (f, octets.now)) faces.now) }
         ensures memory { OnErr result (self.new ≡ self.old) }
     {
+        if faces.is_empty() {
+            return Ok(());
+        }
         let count = self.sends.len();
         let start = self.octets.len();
         self.octets.extend_from_slice(octets)?;
@@ -98,8 +101,10 @@ impl Outbox {
 
 // On Memory some of the sends are there already.
 fn add_sends(sends: &mut Vec<Sent>, faces: &[u64], start: usize, end: usize) -> Result<(), Memory>
-    ensures ok { OnOk result (sends.new.items ≡ sends.old.items ++ map (placed start end) faces.now) }
-    ensures memory { OnErr result ((some : List Sent) × (sends.new.items ≡ sends.old.items ++ some)) }
+    ensures ok { OnOk result
+        (sends.new.items ≡ sends.old.items ++ map (placed start end) faces.now) }
+    ensures memory { OnErr result
+        ((some : List Sent) × (sends.new.items ≡ sends.old.items ++ some)) }
 {
     for face in faces {
         let face = *face;
