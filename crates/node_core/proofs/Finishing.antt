@@ -34,7 +34,7 @@ known_end (Some xs) (Some ys) P front h e k =
     subst P (sym (h ∙ ap (λ (t : List ℕ). front ++ t) e ∙ append-nil front)) k
 
 -- a run of a script is a run, in which the node stands
-runs_stand : (past : Run) (old new : State) (events : List PlainEvent) (outcomes : List Outcome) → Runs old events outcomes new → IsRun past → Stands past old → IsRun (run_from past events outcomes) × Stands (run_from past events outcomes) new
+runs_stand : (past : Run) (old new : State) (events : List PlainEvent) (outcomes : List Outcome) → AreOutcomes old events outcomes new → IsRun past → Stands past old → IsRun (run_from past events outcomes) × Stands (run_from past events outcomes) new
 runs_stand past old new [] [] runs run stands = (run, subst (Stands past) (sym runs) stands)
 runs_stand past old new [] (outcome ∷ outcomes) runs run stands = absurd runs
 runs_stand past old new (event ∷ events) [] runs run stands = absurd runs
@@ -44,8 +44,8 @@ runs_stand past old new (event ∷ events) (Answered answer ∷ outcomes) runs r
 runs_stand past old new (event ∷ events) (NoMemory ∷ outcomes) runs run stands =
     runs_stand past runs.0 new events outcomes runs.2 run (subst (Stands past) (sym runs.1.0) stands)
 
-Ran-from_plays : (lines : List (List ℕ)) (to : Place) (text : List ℕ) → (plays : Plays lines start to text) → Ran plays.events text
-Ran-from_plays lines to text plays =
+IsTextOfRun-from_plays : (lines : List (List ℕ)) (to : Place) (text : List ℕ) → (plays : Plays lines start to text) → IsTextOfRun plays.events text
+IsTextOfRun-from_plays lines to text plays =
     let stands = runs_stand Start initial to.node plays.events plays.outcomes plays.runs tt initial_stands in
     record { outcomes = plays.outcomes; last = to.node; runs = plays.runs; written = plays.text_is; is_run = stands.0; stands = stands.1 }
 
@@ -132,17 +132,17 @@ Stops-from_feed (fault.BadLine n) unread left held holds stream read h =
     let number : n ≡ length h.0 + 1 = let e = plays.numbered in let k = h.5 in omega arith in (
       plays.events,
       h.2,
-      Ran-from_plays h.0 h.1 h.2 plays,
+      IsTextOfRun-from_plays h.0 h.1 h.2 plays,
       h.4,
       known_text unread left (λ script. IsBadAt script n plays.events) stream read
           (λ more. let t = h.6 more in (h.0, t.0, t.1, (plays.are_lines, t.2), t.3, number, plays.say, t.4)),
     )
 Stops-from_feed fault.Read unread left held holds stream read h = absurd h
 Stops-from_feed fault.Write unread left held holds stream read h =
-    (h.4.events, h.2, Ran-from_plays h.0 h.1 h.2 h.4, h.5, BeginsWith-known unread left stream h.0 h.3 h.1 h.2 h.4 read h.6)
+    (h.4.events, h.2, IsTextOfRun-from_plays h.0 h.1 h.2 h.4, h.5, BeginsWith-known unread left stream h.0 h.3 h.1 h.2 h.4 read h.6)
 Stops-from_feed (fault.Node e) unread left held holds stream read h = absurd h
 Stops-from_feed fault.Memory unread left held holds stream read h =
-    (h.4.events, h.2, Ran-from_plays h.0 h.1 h.2 h.4, h.5, BeginsWith-known unread left stream h.0 h.3 h.1 h.2 h.4 read h.6)
+    (h.4.events, h.2, IsTextOfRun-from_plays h.0 h.1 h.2 h.4, h.5, BeginsWith-known unread left stream h.0 h.3 h.1 h.2 h.4 read h.6)
 
 -- a refused chunk
 pub Stops-chunk : (f : RunFault) (unread left held holds new : Option (List ℕ)) (front chunk : List ℕ) (mid : Place) (line : List ℕ) → Fed front start mid line [] held holds
@@ -157,7 +157,7 @@ Stops-read unread left held holds front mid line fed read lacks = (
   fed.plays.events,
   fed.text,
   front,
-  Ran-from_plays fed.lines mid fed.text fed.plays,
+  IsTextOfRun-from_plays fed.lines mid fed.text fed.plays,
   fed.written,
   read,
   (fed.lines, line, fed.plays.are_lines, lacks, fed.stream_is ∙ ap (λ (t : List ℕ). joined fed.lines ++ t) (append-nil line), fed.plays.say),
@@ -183,7 +183,7 @@ Stops-last (fault.BadLine n) unread left held holds new front mid line fed read 
     let number : n ≡ length fed.lines + 1 = let e = plays.numbered in let k = h.0 in omega arith in (
       plays.events,
       fed.text,
-      Ran-from_plays fed.lines mid fed.text plays,
+      IsTextOfRun-from_plays fed.lines mid fed.text plays,
       Appends-kept held holds new fed.text fed.written h.2,
       known_end unread left (λ script. IsBadAt script n plays.events) front read end
           (fed.lines, line, [], (plays.are_lines, ap ended fed.stream_is ∙ shape_end (joined fed.lines) line), lacks, number, plays.say, h.1),
@@ -193,7 +193,7 @@ Stops-last fault.Write unread left held holds new front mid line fed read end la
     let plays = Plays-then fed.lines (line ∷ []) start mid h.0 fed.text h.1 fed.plays h.2 in (
       plays.events,
       fed.text ++ h.1,
-      Ran-from_plays (fed.lines ++ (line ∷ [])) h.0 (fed.text ++ h.1) plays,
+      IsTextOfRun-from_plays (fed.lines ++ (line ∷ [])) h.0 (fed.text ++ h.1) plays,
       AppendsFront-after held holds new fed.text h.1 fed.written h.3,
       known_end unread left (λ script. BeginsWithEvents script plays.events) front read end
           (fed.lines ++ (line ∷ []), [], (plays.are_lines, ended_whole front line fed.lines fed.stream_is), plays.say),
@@ -203,7 +203,7 @@ Stops-last fault.Memory unread left held holds new front mid line fed read end l
     let plays = fed.plays in (
       plays.events,
       fed.text,
-      Ran-from_plays fed.lines mid fed.text plays,
+      IsTextOfRun-from_plays fed.lines mid fed.text plays,
       AppendsFront-all held new fed.text (Appends-kept held holds new fed.text fed.written h),
       known_end unread left (λ script. BeginsWithEvents script plays.events) front read end
           (fed.lines, ended line ++ [], (plays.are_lines, ap ended fed.stream_is ∙ shape_end (joined fed.lines) line), plays.say),
@@ -216,7 +216,7 @@ Ends-last unread left held holds new front mid to line text fed read end last wr
     let plays = Plays-then fed.lines (line ∷ []) start mid to fed.text text fed.plays last in (
       plays.events,
       fed.text ++ text,
-      Ran-from_plays (fed.lines ++ (line ∷ [])) to (fed.text ++ text) plays,
+      IsTextOfRun-from_plays (fed.lines ++ (line ∷ [])) to (fed.text ++ text) plays,
       Appends-then held holds new fed.text text fed.written written,
       known_end unread left (λ script. IsScript script plays.events) front read end
           (fed.lines ++ (line ∷ []), (plays.are_lines, ended_whole front line fed.lines fed.stream_is), plays.say),

@@ -13,7 +13,7 @@ use Rattle.node_core.specs.Step.{Step, NeedsNoMemory}
 use Rattle.std.specs.Prelude.{IsOk}
 use Rattle.node_core.specs.Line.{Lacks, IsSkipped, IsEventLine, IsBadLine}
 use Rattle.node_core.specs.Writing.{Outcome, Answered, NoMemory, said_text, lines_text, outcome_text, outcomes_text}
-use Rattle.node_core.specs.Script.{ended, joined, AreLines, Say, IsOutcome, Runs}
+use Rattle.node_core.specs.Script.{ended, joined, AreLines, Say, IsOutcome, AreOutcomes}
 use Rattle.node_core.specs.Play.{Place, IsPending, PlaysEvent, EventStops, AddStops, Plays, TurnsBad, FeedStops, LineStops}
 use Rattle.node_core.specs.declared.script.RunFault.{RunFault}
 use Rattle.node_core.specs.declared.script.RunFault.TheVariants as fault
@@ -105,11 +105,11 @@ Say-append (l ∷ a) b [] (f ∷ fs) ha hb = inl (ha.0, Say-append a b [] (f ∷
 Say-append (l ∷ a) b (e ∷ es) fs (inl h) hb = inl (h.0, Say-append a b (e ∷ es) fs h.1 hb)
 Say-append (l ∷ a) b (e ∷ es) fs (inr h) hb = inr (h.0, Say-append a b es fs h.1 hb)
 
-Runs-append : (a b c : State) (es fs : List PlainEvent) (rs ss : List Outcome) → Runs a es rs b → Runs b fs ss c → Runs a (es ++ fs) (rs ++ ss) c
-Runs-append a b c [] fs [] ss h k = rw h at k
-Runs-append a b c [] fs (r ∷ rs) ss h k = absurd h
-Runs-append a b c (e ∷ es) fs [] ss h k = absurd h
-Runs-append a b c (e ∷ es) fs (r ∷ rs) ss h k = (h.0, h.1, Runs-append h.0 b c es fs rs ss h.2 k)
+AreOutcomes-append : (a b c : State) (es fs : List PlainEvent) (rs ss : List Outcome) → AreOutcomes a es rs b → AreOutcomes b fs ss c → AreOutcomes a (es ++ fs) (rs ++ ss) c
+AreOutcomes-append a b c [] fs [] ss h k = rw h at k
+AreOutcomes-append a b c [] fs (r ∷ rs) ss h k = absurd h
+AreOutcomes-append a b c (e ∷ es) fs [] ss h k = absurd h
+AreOutcomes-append a b c (e ∷ es) fs (r ∷ rs) ss h k = (h.0, h.1, AreOutcomes-append h.0 b c es fs rs ss h.2 k)
 
 outcomes_text-append : (n : ℕ) (rs ss : List Outcome) → outcomes_text n (rs ++ ss) ≡ outcomes_text n rs ++ outcomes_text (n + length rs) ss
 outcomes_text-append n [] ss = let e : n + 0 ≡ n = omega arith in rw e refl
@@ -137,7 +137,7 @@ Plays-then a b from mid to x y h k =
       outcomes = h.outcomes ++ k.outcomes;
       are_lines = AreLines-append a b h.are_lines k.are_lines;
       say = Say-append a b h.events k.events h.say k.say;
-      runs = Runs-append from.node mid.node to.node h.events k.events h.outcomes k.outcomes h.runs k.runs;
+      runs = AreOutcomes-append from.node mid.node to.node h.events k.events h.outcomes k.outcomes h.runs k.runs;
       text_is =
           ap (λ (t : List ℕ). t ++ y) h.text_is
           ∙ ap (λ (t : List ℕ). outcomes_text (from.events + 1) h.outcomes ++ t) (k.text_is ∙ ap (λ (n : ℕ). outcomes_text n k.outcomes) at)

@@ -13,13 +13,13 @@ use Rattle.node_core.specs.declared.event.Verdict.TheVariants.{Passed, Dropped}
 use Rattle.node_core.specs.declared.event.DropReason.{DropReason}
 use Rattle.node_core.specs.declared.event.DropReason.TheVariants.{NoFace, Malformed, Idle, NoPending, BadFace, FaceOpen, FacesFull}
 use Rattle.node_core.specs.Event.{PlainEvent, Packet, FaceUp, FaceDown, Tick, Answer, Send}
-use Rattle.node_core.specs.State.{Waiting, State, initial, IsIn, IsRising, is_open, find_scope, numbers, same_name, is_alive, survivors, asks_for, is_of, without_face, without_name, without, is_asking, others, askers}
+use Rattle.node_core.specs.State.{Waiting, State, initial, IsIn, IsRising, is_open, find_scope, numbers, same_name, is_unexpired, unexpired, asks_for, is_of, without_face, without_name, without, is_asking, others, askers}
 use Rattle.node_core.specs.Step.{moment, after_expiry, deadline, drop_answer, pass_answer, with_face, without_entry, after_opening, after_interest, after_data, after_packet, effect_of, Step}
 use Rattle.node_core.specs.Past.{Run, Start, Then, now_of, scope_of, scope_after, count_of, asked_until, asked_until_after, asked_until_after_packet, Asks, IsOpen, MayReplyPacket, MayReceive, MayReply, IsRun, Stands}
 use Rattle.node_core.proofs.Names.{same_name_is, same_name_same}
 use Rattle.node_core.proofs.Members.{IsIn-filter_from, IsIn-filter_to, IsIn-append_left, IsIn-append_right, IsIn-append_from, IsRising-filter, any_from, any_to, find_scope-with_face, length-with_face, IsRising-with_face, find_scope-without_entry, IsRising-without_entry, length-without_entry, is_open_some, is_open_none, found_from_in, in_from_found}
 
--- the state once what is due at a moment is gone
+-- the state after the expiry of a moment
 record At (past : Run) (now : ℕ) (s : State) : Type 0 where
   now_is : s.now ≡ now
   rising : IsRising (numbers s.faces)
@@ -32,7 +32,7 @@ record At (past : Run) (now : ℕ) (s : State) : Type 0 where
 At-after_expiry : (past : Run) (old : State) (t : ℕ) → Stands past old → At past (max (now_of past) t) (after_expiry old t)
 At-after_expiry past old t st =
     let now_is : max old.now t ≡ max (now_of past) t = ap (λ n. max n t) st.now in
-    let later : (p : Waiting) → IsIn p (survivors (max old.now t) old.pending) → max old.now t < p.deadline = λ p h. ltb-true _ _ (IsIn-filter_from (is_alive (max old.now t)) p old.pending h).1 in
+    let later : (p : Waiting) → IsIn p (unexpired (max old.now t) old.pending) → max old.now t < p.deadline = λ p h. ltb-true _ _ (IsIn-filter_from (is_unexpired (max old.now t)) p old.pending h).1 in
     record {
       now_is = now_is;
       rising = st.rising;
@@ -40,10 +40,10 @@ At-after_expiry past old t st =
       count = st.count;
       pending_to = λ p h.
           let lt = later p h in
-          (st.pending p.face p.name p.deadline (omega (arith, lt))).0 (IsIn-filter_from (is_alive (max old.now t)) p old.pending h).0;
+          (st.pending p.face p.name p.deadline (omega (arith, lt))).0 (IsIn-filter_from (is_unexpired (max old.now t)) p old.pending h).0;
       pending_from = λ p lt h.
           let lt' : max old.now t < p.deadline = subst (λ n. n < p.deadline) (sym now_is) lt in
-          IsIn-filter_to (is_alive (max old.now t)) p old.pending ((st.pending p.face p.name p.deadline (omega (arith, lt'))).1 h) (lt-ltb _ _ lt');
+          IsIn-filter_to (is_unexpired (max old.now t)) p old.pending ((st.pending p.face p.name p.deadline (omega (arith, lt'))).1 h) (lt-ltb _ _ lt');
       live = λ p h. subst (λ n. n < p.deadline) now_is (later p h);
     }
 
@@ -106,8 +106,8 @@ asking_face_is_open (Then before event answer) run f name u e =
 
 -- ---- the events
 
-abbrev Kept : Run → PlainEvent → Answer × State → Type 0
-Kept past event p = MayReply past event p.0 × Stands (Then past event p.0) p.1
+abbrev IsPreserved : Run → PlainEvent → Answer × State → Type 0
+IsPreserved past event p = MayReply past event p.0 × Stands (Then past event p.0) p.1
 
 same_pending : (past : Run) (now : ℕ) (s : State) → At past now s → (face : ℕ) (name : List Field) (until : ℕ) → s.now < until → (IsIn (record { face = face; name = name; deadline = until }) s.pending → asked_until past face name ≡ Some until) × (asked_until past face name ≡ Some until → IsIn (record { face = face; name = name; deadline = until }) s.pending)
 same_pending past now s at face name until lt = (
@@ -122,8 +122,8 @@ refused_stands past (FaceUp f scope t) s r at = record { now = at.now_is; rising
 refused_stands past (FaceDown f t) s r at = record { now = at.now_is; rising = at.rising; faces = at.faces; count = at.count; pending = same_pending past _ s at }
 refused_stands past (Tick t) s r at = record { now = at.now_is; rising = at.rising; faces = at.faces; count = at.count; pending = same_pending past _ s at }
 
-tick_kept : (past : Run) (t : ℕ) (s : State) → At past (max (now_of past) t) s → Kept past (Tick t) (pass_answer [], s)
-tick_kept past t s at = (refl, record { now = at.now_is; rising = at.rising; faces = at.faces; count = at.count; pending = same_pending past _ s at })
+tick_preserved : (past : Run) (t : ℕ) (s : State) → At past (max (now_of past) t) s → IsPreserved past (Tick t) (pass_answer [], s)
+tick_preserved past t s at = (refl, record { now = at.now_is; rising = at.rising; faces = at.faces; count = at.count; pending = same_pending past _ s at })
 
 up_stands : (past : Run) (f : ℕ) (scope : Scope) (t : ℕ) (s : State) → At past (max (now_of past) t) s → find_scope f s.faces ≡ None → Stands (Then past (FaceUp f scope t) (pass_answer [])) (record { now = s.now; faces = with_face f scope s.faces; pending = s.pending })
 up_stands past f scope t s at none = record {
@@ -134,29 +134,29 @@ up_stands past f scope t s at none = record {
   pending = same_pending past _ s at;
 }
 
-up_kept_new : (past : Run) (f : ℕ) (scope : Scope) (t : ℕ) (s : State) → At past (max (now_of past) t) s → (f ≡ 0 → ⊥) → find_scope f s.faces ≡ None
-    → Kept past (FaceUp f scope t) (cond (leb 64 (length s.faces)) (drop_answer FacesFull, s) (pass_answer [], record { now = s.now; faces = with_face f scope s.faces; pending = s.pending }))
-up_kept_new past f scope t s at ne none =
+up_preserved_new : (past : Run) (f : ℕ) (scope : Scope) (t : ℕ) (s : State) → At past (max (now_of past) t) s → (f ≡ 0 → ⊥) → find_scope f s.faces ≡ None
+    → IsPreserved past (FaceUp f scope t) (cond (leb 64 (length s.faces)) (drop_answer FacesFull, s) (pass_answer [], record { now = s.now; faces = with_face f scope s.faces; pending = s.pending }))
+up_preserved_new past f scope t s at ne none =
     let closed_past : scope_of past f ≡ None = sym (at.faces f) ∙ none in
-    elim (leb 64 (length s.faces)) as (λ b. leb 64 (length s.faces) ≡ b → Kept past (FaceUp f scope t) (cond b (drop_answer FacesFull, s) (pass_answer [], record { now = s.now; faces = with_face f scope s.faces; pending = s.pending }))) [
+    elim (leb 64 (length s.faces)) as (λ b. leb 64 (length s.faces) ≡ b → IsPreserved past (FaceUp f scope t) (cond b (drop_answer FacesFull, s) (pass_answer [], record { now = s.now; faces = with_face f scope s.faces; pending = s.pending }))) [
       | true ↦ λ e. let full : 64 ≤ length s.faces = leb-true _ _ e in let c = at.count in
           ((λ z. absurd (ne z), λ _. rw closed_past (λ _. refl, λ few. absurd (omega arith))), refused_stands past (FaceUp f scope t) s FacesFull at)
       | false ↦ λ e. let few : length s.faces < 64 = leb-false _ _ e in let c = at.count in
           ((λ z. absurd (ne z), λ _. rw closed_past (λ full. absurd (omega arith), λ _. refl)), up_stands past f scope t s at none)
     ] refl
 
-up_kept_at : (past : Run) (f : ℕ) (scope : Scope) (t : ℕ) (s : State) → At past (max (now_of past) t) s → (f ≡ 0 → ⊥) → (o : Option Scope) → find_scope f s.faces ≡ o
-    → Kept past (FaceUp f scope t) (cond (is_open f s.faces) (drop_answer FaceOpen, s) (cond (leb 64 (length s.faces)) (drop_answer FacesFull, s) (pass_answer [], record { now = s.now; faces = with_face f scope s.faces; pending = s.pending })))
-up_kept_at past f scope t s at ne None none = rw (is_open_none f s.faces none) (up_kept_new past f scope t s at ne none)
-up_kept_at past f scope t s at ne (Some sc) found =
+up_preserved_at : (past : Run) (f : ℕ) (scope : Scope) (t : ℕ) (s : State) → At past (max (now_of past) t) s → (f ≡ 0 → ⊥) → (o : Option Scope) → find_scope f s.faces ≡ o
+    → IsPreserved past (FaceUp f scope t) (cond (is_open f s.faces) (drop_answer FaceOpen, s) (cond (leb 64 (length s.faces)) (drop_answer FacesFull, s) (pass_answer [], record { now = s.now; faces = with_face f scope s.faces; pending = s.pending })))
+up_preserved_at past f scope t s at ne None none = rw (is_open_none f s.faces none) (up_preserved_new past f scope t s at ne none)
+up_preserved_at past f scope t s at ne (Some sc) found =
     let open_past : scope_of past f ≡ Some sc = sym (at.faces f) ∙ found in
     rw (is_open_some f s.faces sc found) ((λ z. absurd (ne z), λ _. rw open_past refl), refused_stands past (FaceUp f scope t) s FaceOpen at)
 
-up_kept : (past : Run) (f : ℕ) (scope : Scope) (t : ℕ) (s : State) → At past (max (now_of past) t) s → Kept past (FaceUp f scope t) (after_opening s f scope)
-up_kept past f scope t s at =
-    elim (eqb f 0) as (λ b. eqb f 0 ≡ b → Kept past (FaceUp f scope t) (cond b (drop_answer BadFace, s) (cond (is_open f s.faces) (drop_answer FaceOpen, s) (cond (leb 64 (length s.faces)) (drop_answer FacesFull, s) (pass_answer [], record { now = s.now; faces = with_face f scope s.faces; pending = s.pending }))))) [
+up_preserved : (past : Run) (f : ℕ) (scope : Scope) (t : ℕ) (s : State) → At past (max (now_of past) t) s → IsPreserved past (FaceUp f scope t) (after_opening s f scope)
+up_preserved past f scope t s at =
+    elim (eqb f 0) as (λ b. eqb f 0 ≡ b → IsPreserved past (FaceUp f scope t) (cond b (drop_answer BadFace, s) (cond (is_open f s.faces) (drop_answer FaceOpen, s) (cond (leb 64 (length s.faces)) (drop_answer FacesFull, s) (pass_answer [], record { now = s.now; faces = with_face f scope s.faces; pending = s.pending }))))) [
       | true ↦ λ e. ((λ _. refl, λ ne. absurd (ne (eqb-true f 0 e))), refused_stands past (FaceUp f scope t) s BadFace at)
-      | false ↦ λ e. up_kept_at past f scope t s at (eqb-false f 0 e) (find_scope f s.faces) refl
+      | false ↦ λ e. up_preserved_at past f scope t s at (eqb-false f 0 e) (find_scope f s.faces) refl
     ] refl
 
 not_same : (a b : ℕ) → not (eqb a b) ≡ true → eqb a b ≡ false
@@ -182,12 +182,12 @@ down_stands past f t s sc at found = record {
       );
 }
 
-down_kept_at : (past : Run) (f : ℕ) (t : ℕ) (s : State) → At past (max (now_of past) t) s → (o : Option Scope) → find_scope f s.faces ≡ o
-    → Kept past (FaceDown f t) (cond (is_open f s.faces) (pass_answer [], record { now = s.now; faces = without_entry f s.faces; pending = without_face f s.pending }) (drop_answer NoFace, s))
-down_kept_at past f t s at None none =
+down_preserved_at : (past : Run) (f : ℕ) (t : ℕ) (s : State) → At past (max (now_of past) t) s → (o : Option Scope) → find_scope f s.faces ≡ o
+    → IsPreserved past (FaceDown f t) (cond (is_open f s.faces) (pass_answer [], record { now = s.now; faces = without_entry f s.faces; pending = without_face f s.pending }) (drop_answer NoFace, s))
+down_preserved_at past f t s at None none =
     let closed_past : scope_of past f ≡ None = sym (at.faces f) ∙ none in
     rw (is_open_none f s.faces none) (rw closed_past refl, refused_stands past (FaceDown f t) s NoFace at)
-down_kept_at past f t s at (Some sc) found =
+down_preserved_at past f t s at (Some sc) found =
     let open_past : scope_of past f ≡ Some sc = sym (at.faces f) ∙ found in
     rw (is_open_some f s.faces sc found) (rw open_past refl, down_stands past f t s sc at found)
 
@@ -288,36 +288,36 @@ asker_asks past run now s at f name g = (
       (any_to (is_of g name) p s.pending among (is_of_same g name p refl refl)),
 )
 
-packet_kept : (past : Run) → IsRun past → (f t : ℕ) (octets : List ℕ) (s : State) → At past (max (now_of past) t) s → (read : Result PlainFrame PacketFault) → frame_at octets ≡ read
+packet_preserved : (past : Run) → IsRun past → (f t : ℕ) (octets : List ℕ) (s : State) → At past (max (now_of past) t) s → (read : Result PlainFrame PacketFault) → frame_at octets ≡ read
     → MayReplyPacket past (max (now_of past) t) f read (after_packet s f read).0 × Stands (Then past (Packet f t octets) (after_packet s f read).0) (after_packet s f read).1
-packet_kept past run f t octets s at (Err fault) is = (refl, refused_stands past (Packet f t octets) s (Malformed fault) at)
-packet_kept past run f t octets s at (Ok (AnInterest whole i)) is =
+packet_preserved past run f t octets s at (Err fault) is = (refl, refused_stands past (Packet f t octets) s (Malformed fault) at)
+packet_preserved past run f t octets s at (Ok (AnInterest whole i)) is =
     ((refl, (others f s.faces, IsRising-filter (λ x. not (eqb x f)) (numbers s.faces) at.rising, other_open past _ s at f, refl)), interest_stands past f t octets whole i s at is)
-packet_kept past run f t octets s at (Ok (AData whole d)) is =
+packet_preserved past run f t octets s at (Ok (AData whole d)) is =
     ((refl, (askers f d.name s.faces s.pending, IsRising-filter (is_asking d.name s.pending) (others f s.faces) (IsRising-filter (λ x. not (eqb x f)) (numbers s.faces) at.rising), asker_asks past run _ s at f d.name, refl)), data_stands past f t octets whole d s at is)
-packet_kept past run f t octets s at (Ok (ANack reason whole i)) is = (refl, refused_stands past (Packet f t octets) s NoPending at)
-packet_kept past run f t octets s at (Ok AnIdle) is = (refl, refused_stands past (Packet f t octets) s Idle at)
+packet_preserved past run f t octets s at (Ok (ANack reason whole i)) is = (refl, refused_stands past (Packet f t octets) s NoPending at)
+packet_preserved past run f t octets s at (Ok AnIdle) is = (refl, refused_stands past (Packet f t octets) s Idle at)
 
-received_kept_at : (past : Run) → IsRun past → (f t : ℕ) (octets : List ℕ) (s : State) → At past (max (now_of past) t) s → (o : Option Scope) → find_scope f s.faces ≡ o
-    → Kept past (Packet f t octets) (cond (is_open f s.faces) (after_packet s f (frame_at octets)) (drop_answer NoFace, s))
-received_kept_at past run f t octets s at None none =
+received_preserved_at : (past : Run) → IsRun past → (f t : ℕ) (octets : List ℕ) (s : State) → At past (max (now_of past) t) s → (o : Option Scope) → find_scope f s.faces ≡ o
+    → IsPreserved past (Packet f t octets) (cond (is_open f s.faces) (after_packet s f (frame_at octets)) (drop_answer NoFace, s))
+received_preserved_at past run f t octets s at None none =
     let closed_past : scope_of past f ≡ None = sym (at.faces f) ∙ none in
     rw (is_open_none f s.faces none) (rw closed_past refl, refused_stands past (Packet f t octets) s NoFace at)
-received_kept_at past run f t octets s at (Some sc) found =
+received_preserved_at past run f t octets s at (Some sc) found =
     let open_past : scope_of past f ≡ Some sc = sym (at.faces f) ∙ found in
-    let k = packet_kept past run f t octets s at (frame_at octets) refl in
+    let k = packet_preserved past run f t octets s at (frame_at octets) refl in
     rw (is_open_some f s.faces sc found) (rw open_past k.0, k.1)
 
-effect_kept : (past : Run) → IsRun past → (event : PlainEvent) (s : State) → At past (max (now_of past) (moment event)) s → Kept past event (effect_of s event)
-effect_kept past run (Packet f t octets) s at = received_kept_at past run f t octets s at (find_scope f s.faces) refl
-effect_kept past run (FaceUp f scope t) s at = up_kept past f scope t s at
-effect_kept past run (FaceDown f t) s at = down_kept_at past f t s at (find_scope f s.faces) refl
-effect_kept past run (Tick t) s at = tick_kept past t s at
+effect_preserved : (past : Run) → IsRun past → (event : PlainEvent) (s : State) → At past (max (now_of past) (moment event)) s → IsPreserved past event (effect_of s event)
+effect_preserved past run (Packet f t octets) s at = received_preserved_at past run f t octets s at (find_scope f s.faces) refl
+effect_preserved past run (FaceUp f scope t) s at = up_preserved past f scope t s at
+effect_preserved past run (FaceDown f t) s at = down_preserved_at past f t s at (find_scope f s.faces) refl
+effect_preserved past run (Tick t) s at = tick_preserved past t s at
 
 pub step_keeps : (past : Run) (old : State) (event : PlainEvent) (answer : Answer) (new : State) → IsRun past → Stands past old → Step old event answer new
     → IsRun (Then past event answer) × Stands (Then past event answer) new
 step_keeps past old event answer new run stands step =
-    let k = subst (λ (p : Answer × State). Kept past event p) step (effect_kept past run event (after_expiry old (moment event)) (At-after_expiry past old (moment event) stands)) in
+    let k = subst (λ (p : Answer × State). IsPreserved past event p) step (effect_preserved past run event (after_expiry old (moment event)) (At-after_expiry past old (moment event) stands)) in
     ((run, k.0), k.1)
 
 pub initial_stands : Stands Start initial

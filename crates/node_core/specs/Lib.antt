@@ -2,7 +2,7 @@ pub mod Event
 pub mod State
 pub mod Step
 pub mod Past
-pub mod Kept
+pub mod Entries
 pub mod Parts
 pub mod Outbox
 pub mod Line

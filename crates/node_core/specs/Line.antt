@@ -35,7 +35,8 @@ AreNumbers face now = (face < 2 ^ 64) × (now < 2 ^ 64)
 -- the words of an event
 abbrev pub LineSpells : PlainEvent → List ℕ → Type 0
 LineSpells (FaceUp face scope now) line =
-    AreNumbers face now × (line ≡ words (codes "up" ∷ decimal face ∷ scope_word scope ∷ decimal now ∷ []))
+    AreNumbers face now
+    × (line ≡ words (codes "up" ∷ decimal face ∷ scope_word scope ∷ decimal now ∷ []))
 LineSpells (FaceDown face now) line =
     AreNumbers face now × (line ≡ words (codes "down" ∷ decimal face ∷ decimal now ∷ []))
 LineSpells (Tick now) line = (now < 2 ^ 64) × (line ≡ words (codes "tick" ∷ decimal now ∷ []))

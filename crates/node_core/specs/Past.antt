@@ -33,7 +33,8 @@ scope_after was face (FaceDown f now) (Dropped reason) = was
 
 abbrev pub scope_of : Run → ℕ → Option Scope
 scope_of Start face = None
-scope_of (Then before event answer) face = scope_after (scope_of before face) face event answer.verdict
+scope_of (Then before event answer) face =
+    scope_after (scope_of before face) face event answer.verdict
 
 -- how many faces are open
 abbrev pub count_after : ℕ → PlainEvent → Verdict → ℕ
@@ -48,17 +49,21 @@ abbrev pub count_of : Run → ℕ
 count_of Start = 0
 count_of (Then before event answer) = count_after (count_of before) event answer.verdict
 
--- The deadline of the last Interest of this face for this name that passed, if no Data of the name came since and the face was
--- not closed since. now is the moment of the event.
-abbrev pub asked_until_after_packet : Option ℕ → ℕ → List Field → ℕ → ℕ → Result PlainFrame PacketFault → Option ℕ
+-- The deadline of the last Interest of this face for this name that passed, if no Data of the name
+-- passed since and the face was not closed since. now is the moment of the event.
+abbrev pub asked_until_after_packet : Option ℕ → ℕ → List Field → ℕ → ℕ
+    → Result PlainFrame PacketFault → Option ℕ
 asked_until_after_packet was face name now from (Err fault) = was
-asked_until_after_packet was face name now from (Ok (AnInterest whole i)) = if (from == face) && same_name i.name name then Some (deadline now i.lifetime) else was
-asked_until_after_packet was face name now from (Ok (AData whole d)) = if same_name d.name name then None else was
+asked_until_after_packet was face name now from (Ok (AnInterest whole i)) =
+    if (from == face) && same_name i.name name then Some (deadline now i.lifetime) else was
+asked_until_after_packet was face name now from (Ok (AData whole d)) =
+    if same_name d.name name then None else was
 asked_until_after_packet was face name now from (Ok (ANack reason whole i)) = was
 asked_until_after_packet was face name now from (Ok AnIdle) = was
 
 abbrev pub asked_until_after : Option ℕ → ℕ → List Field → ℕ → PlainEvent → Verdict → Option ℕ
-asked_until_after was face name now (Packet from t octets) Passed = asked_until_after_packet was face name now from (frame_at octets)
+asked_until_after was face name now (Packet from t octets) Passed =
+    asked_until_after_packet was face name now from (frame_at octets)
 asked_until_after was face name now (FaceDown f t) Passed = if f == face then None else was
 asked_until_after was face name now (FaceUp f scope t) verdict = was
 asked_until_after was face name now (Tick t) verdict = was
@@ -68,7 +73,8 @@ asked_until_after was face name now (FaceDown f t) (Dropped reason) = was
 abbrev pub asked_until : Run → ℕ → List Field → Option ℕ
 asked_until Start face name = None
 asked_until (Then before event answer) face name =
-    asked_until_after (asked_until before face name) face name (max (now_of before) (moment event)) event answer.verdict
+    asked_until_after (asked_until before face name) face name
+    (max (now_of before) (moment event)) event answer.verdict
 
 -- At the moment now the face asks for the name.
 abbrev pub Asks : Run → ℕ → ℕ → List Field → Type 0
@@ -80,7 +86,8 @@ IsOpen past face = (scope : Scope) × (scope_of past face ≡ Some scope)
 -- the octets go once to each face with this property, in rising order, and nowhere else
 abbrev pub GoTo : (ℕ → Type 0) → List ℕ → List Send → Type 0
 GoTo P octets sends =
-    (faces : List ℕ) × IsRising faces × ((face : ℕ) → IsIn face faces ↔ P face) × (sends ≡ to_each faces octets)
+    (faces : List ℕ) × IsRising faces × ((face : ℕ) → IsIn face faces ↔ P face)
+    × (sends ≡ to_each faces octets)
 
 -- what may be answered to octets on an open face that are read so, after this past, at this moment
 abbrev pub MayReplyPacket : Run → ℕ → ℕ → Result PlainFrame PacketFault → Answer → Type 0
@@ -105,12 +112,15 @@ MayClose (Some scope) answer = answer ≡ pass_answer []
 
 abbrev pub MayReceive : Run → ℕ → ℕ → List ℕ → Option Scope → Answer → Type 0
 MayReceive past now face octets None answer = answer ≡ drop_answer NoFace
-MayReceive past now face octets (Some scope) answer = MayReplyPacket past now face (frame_at octets) answer
+MayReceive past now face octets (Some scope) answer =
+    MayReplyPacket past now face (frame_at octets) answer
 
 -- what may be answered to an event after this past
 abbrev pub MayReply : Run → PlainEvent → Answer → Type 0
-MayReply past (Packet face t octets) answer = MayReceive past (max (now_of past) t) face octets (scope_of past face) answer
-MayReply past (FaceUp face scope t) answer = MayOpen face (count_of past) (scope_of past face) answer
+MayReply past (Packet face t octets) answer =
+    MayReceive past (max (now_of past) t) face octets (scope_of past face) answer
+MayReply past (FaceUp face scope t) answer =
+    MayOpen face (count_of past) (scope_of past face) answer
 MayReply past (FaceDown face t) answer = MayClose (scope_of past face) answer
 MayReply past (Tick t) answer = answer ≡ pass_answer []
 
@@ -119,12 +129,13 @@ abbrev pub IsRun : Run → Type 0
 IsRun Start = Unit {0}
 IsRun (Then before event answer) = IsRun before × MayReply before event answer
 
--- Each Data that is sent is the received octets of the Data that comes in this event, alone or in a link packet, and the face
--- that it goes to, another than its own, asks for its name.
+-- Each Data that is sent is the received octets of the Data that comes in this event, alone or in a
+-- link packet, and the face that it goes to, another than its own, asks for its name.
 abbrev pub EachDataIsAsked : Run → PlainEvent → Answer → Type 0
 EachDataIsAsked past event answer =
     (face : ℕ) (text : List ℕ) (d : PlainData) → IsIn (face, text) answer.sends → IsData text d
-    → (from t : ℕ) × (octets : List ℕ) × (event ≡ Packet from t octets) × (frame_at octets ≡ Ok (AData text d)) × (face ≢ from)
+    → (from t : ℕ) × (octets : List ℕ) × (event ≡ Packet from t octets)
+    × (frame_at octets ≡ Ok (AData text d)) × (face ≢ from)
     × Asks past (max (now_of past) t) face d.name
 
 -- the first-path promise, of each event of a run
@@ -139,4 +150,5 @@ pub record Stands (past : Run) (state : State) : Type 0 where
   pub faces : (face : ℕ) → find_scope face state.faces ≡ scope_of past face
   pub count : length state.faces ≡ count_of past
   pub pending : (face : ℕ) (name : List Field) (until : ℕ) → state.now < until →
-      IsIn (record { face = face; name = name; deadline = until }) state.pending ↔ (asked_until past face name ≡ Some until)
+      IsIn (record { face = face; name = name; deadline = until }) state.pending
+      ↔ (asked_until past face name ≡ Some until)

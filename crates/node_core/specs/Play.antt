@@ -5,7 +5,7 @@ use Rattle.node_core.specs.Event.{PlainEvent}
 use Rattle.node_core.specs.State.{State}
 use Rattle.node_core.specs.Line.{Lacks, IsBadLine}
 use Rattle.node_core.specs.Writing.{Outcome, outcome_text, outcomes_text}
-use Rattle.node_core.specs.Script.{AreLines, IsOutcome, Runs, Say, ended, joined}
+use Rattle.node_core.specs.Script.{AreLines, IsOutcome, AreOutcomes, Say, ended, joined}
 use Rattle.node_core.specs.Ending.{AppendsFront}
 use Rattle.node_core.specs.declared.player.Player.{Player}
 use Rattle.node_core.specs.declared.script.RunFault.{RunFault}
@@ -46,7 +46,7 @@ pub record Plays (lines : List (List ℕ)) (from to : Place) (text : List ℕ) :
   pub outcomes : List Outcome
   pub are_lines : AreLines lines
   pub say : Say lines events
-  pub runs : Runs from.node events outcomes to.node
+  pub runs : AreOutcomes from.node events outcomes to.node
   pub text_is : text ≡ outcomes_text (from.events + 1) outcomes
   pub numbered : to.lines ≡ from.lines + length lines
   pub counted : to.events ≡ from.events + length outcomes
@@ -62,7 +62,8 @@ EventStops (fault.Node _) event from held holds = ⊥
 
 -- why a line was refused, and what was written of its reply
 abbrev pub LineStops : RunFault → List ℕ → Place → Option (List ℕ) → Option (List ℕ) → Type 0
-LineStops (fault.BadLine n) line from held holds = (n ≡ from.lines + 1) × IsBadLine line × Keeps held holds
+LineStops (fault.BadLine n) line from held holds =
+    (n ≡ from.lines + 1) × IsBadLine line × Keeps held holds
 LineStops fault.Write line from held holds =
     (to : Place) × (text : List ℕ) × Plays (line ∷ []) from to text × AppendsFront held holds text
 LineStops fault.Memory line from held holds = Keeps held holds
@@ -80,7 +81,8 @@ AddStops (fault.Node _) line from = ⊥
 -- after these lines comes a bad one, whatever follows the octets
 abbrev pub TurnsBad : List ℕ → List (List ℕ) → Type 0
 TurnsBad stream lines = (more : List ℕ) → (line rest : List ℕ)
-    × (ended (stream ++ more) ≡ joined lines ++ (ended line ++ rest)) × Lacks 10 line × IsBadLine line
+    × (ended (stream ++ more) ≡ joined lines ++ (ended line ++ rest)) × Lacks 10 line
+    × IsBadLine line
 
 -- why octets that go on from a place were refused, and what was written
 abbrev pub FeedStops : RunFault → List ℕ → Place → Option (List ℕ) → Option (List ℕ) → Type 0

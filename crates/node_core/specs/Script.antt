@@ -60,25 +60,27 @@ IsOutcome old event (Answered answer) new = Step old event answer new
 IsOutcome old event NoMemory new = (new ≡ old) × (NeedsNoMemory old event → ⊥)
 
 -- the events are replied to in order
-abbrev pub Runs : State → List PlainEvent → List Outcome → State → Type 0
-Runs old [] [] new = new ≡ old
-Runs old [] (done_as ∷ outcomes) new = ⊥
-Runs old (event ∷ events) [] new = ⊥
-Runs old (event ∷ events) (done_as ∷ outcomes) new =
-    (next : State) × IsOutcome old event done_as next × Runs next events outcomes new
+abbrev pub AreOutcomes : State → List PlainEvent → List Outcome → State → Type 0
+AreOutcomes old [] [] new = new ≡ old
+AreOutcomes old [] (done_as ∷ outcomes) new = ⊥
+AreOutcomes old (event ∷ events) [] new = ⊥
+AreOutcomes old (event ∷ events) (done_as ∷ outcomes) new =
+    (next : State) × IsOutcome old event done_as next × AreOutcomes next events outcomes new
 
--- a run with these events and the answers to them. An event that had no memory counts as not having come.
+-- a run with these events and the answers to them. An event that had no memory counts as not having
+-- come.
 abbrev pub run_from : Run → List PlainEvent → List Outcome → Run
 run_from past [] outcomes = past
 run_from past (event ∷ events) [] = past
-run_from past (event ∷ events) (Answered answer ∷ outcomes) = run_from (Then past event answer) events outcomes
+run_from past (event ∷ events) (Answered answer ∷ outcomes) =
+    run_from (Then past event answer) events outcomes
 run_from past (event ∷ events) (NoMemory ∷ outcomes) = run_from past events outcomes
 
--- the text of a run of the events from the start
-pub record Ran (events : List PlainEvent) (text : List ℕ) : Type 0 where
+-- the text that a run of the events from the start writes
+pub record IsTextOfRun (events : List PlainEvent) (text : List ℕ) : Type 0 where
   pub outcomes : List Outcome
   pub last : State
-  pub runs : Runs initial events outcomes last
+  pub runs : AreOutcomes initial events outcomes last
   pub written : text ≡ script_text outcomes
   pub is_run : IsRun (run_from Start events outcomes)
   pub stands : Stands (run_from Start events outcomes) last

@@ -48,12 +48,12 @@ find_scope face (entry ∷ faces) = if entry.0 == face then Some entry.1 else fi
 abbrev pub is_open : ℕ → List FaceEntry → Bool
 is_open face faces = list_any (λ entry. entry.0 == face) faces
 
--- is not due yet
-abbrev pub is_alive : ℕ → Waiting → Bool
-is_alive now p = nat_lt now p.deadline
+-- has not expired yet
+abbrev pub is_unexpired : ℕ → Waiting → Bool
+is_unexpired now p = nat_lt now p.deadline
 
-abbrev pub survivors : ℕ → List Waiting → List Waiting
-survivors now pending = filter (is_alive now) pending
+abbrev pub unexpired : ℕ → List Waiting → List Waiting
+unexpired now pending = filter (is_unexpired now) pending
 
 abbrev pub asks_for : List Field → Waiting → Bool
 asks_for name p = same_name p.name name

@@ -9,7 +9,7 @@ use Rattle.node_core.specs.declared.event.Verdict.TheVariants.{Passed, Dropped}
 use Rattle.node_core.specs.declared.event.DropReason.{DropReason}
 use Rattle.node_core.specs.declared.event.DropReason.TheVariants.{NoFace, Malformed, Idle, NoPending, BadFace, FaceOpen, FacesFull}
 use Rattle.node_core.specs.Event.{PlainEvent, Packet, FaceUp, FaceDown, Tick, Send, Answer}
-use Rattle.node_core.specs.State.{FaceEntry, State, is_open, survivors, without, without_face, without_name, others, askers}
+use Rattle.node_core.specs.State.{FaceEntry, State, is_open, unexpired, without, without_face, without_name, others, askers}
 
 abbrev pub moment : PlainEvent → ℕ
 moment (Packet face now octets) = now
@@ -17,9 +17,10 @@ moment (FaceUp face scope now) = now
 moment (FaceDown face now) = now
 moment (Tick now) = now
 
--- Time is the greatest moment so far, and what is due then is gone.
+-- Time is the greatest moment so far, and the Interests whose deadline it has reached expire.
 abbrev pub after_expiry : State → ℕ → State
-after_expiry s now = record { now = max s.now now; faces = s.faces; pending = survivors (max s.now now) s.pending }
+after_expiry s now =
+    record { now = max s.now now; faces = s.faces; pending = unexpired (max s.now now) s.pending }
 
 -- a moment and a period after it, which stops at the last moment
 abbrev pub deadline : ℕ → ℕ → ℕ
@@ -39,7 +40,8 @@ to_each faces octets = map (λ face. (face, octets)) faces
 abbrev pub with_face : ℕ → Scope → List FaceEntry → List FaceEntry
 with_face face scope [] = (face, scope) ∷ []
 with_face face scope (entry ∷ faces) =
-    if nat_lt face entry.0 then (face, scope) ∷ entry ∷ faces else entry ∷ with_face face scope faces
+    if nat_lt face entry.0 then (face, scope) ∷ entry ∷ faces
+    else entry ∷ with_face face scope faces
 
 abbrev pub without_entry : ℕ → List FaceEntry → List FaceEntry
 without_entry face faces = filter (λ entry. not (entry.0 == face)) faces
@@ -49,31 +51,52 @@ abbrev pub after_opening : State → ℕ → Scope → Answer × State
 after_opening s face scope =
     if face == 0 then (drop_answer BadFace, s) else (
     if is_open face s.faces then (drop_answer FaceOpen, s) else (
-    if nat_le 64 (length s.faces) then (drop_answer FacesFull, s) else
-    (pass_answer [], record { now = s.now; faces = with_face face scope s.faces; pending = s.pending })))
+    if nat_le 64 (length s.faces) then (drop_answer FacesFull, s) else (
+      pass_answer [],
+      record {
+        now = s.now;
+        faces = with_face face scope s.faces;
+        pending = s.pending;
+      },
+    )))
 
 -- A face closes, and its pending Interests are gone.
 abbrev pub after_closing : State → ℕ → Answer × State
 after_closing s face =
     if is_open face s.faces
-    then (pass_answer [], record { now = s.now; faces = without_entry face s.faces; pending = without_face face s.pending })
+    then (
+      pass_answer [],
+      record {
+        now = s.now;
+        faces = without_entry face s.faces;
+        pending = without_face face s.pending;
+      },
+    )
     else (drop_answer NoFace, s)
 
--- An Interest goes to every other face, in its received octets, and is pending on its own, in place of an older one of its name.
+-- An Interest goes to every other face, in its received octets, and is pending on its own, in place
+-- of an older one of its name.
 abbrev pub after_interest : State → ℕ → List ℕ → PlainInterest → Answer × State
 after_interest s face whole i = (
   pass_answer (to_each (others face s.faces) whole),
   record {
     now = s.now;
     faces = s.faces;
-    pending = without face i.name s.pending ++ (record { face = face; name = i.name; deadline = deadline s.now i.lifetime }) ∷ [];
+    pending = without face i.name s.pending
+        ++ (record { face = face; name = i.name; deadline = deadline s.now i.lifetime }) ∷ [];
   },
 )
 
 -- Data goes to each other face that asks for its name, and all Interests of its name end.
 abbrev pub after_data : State → ℕ → List ℕ → PlainData → Answer × State
-after_data s face whole d =
-    (pass_answer (to_each (askers face d.name s.faces s.pending) whole), record { now = s.now; faces = s.faces; pending = without_name d.name s.pending })
+after_data s face whole d = (
+  pass_answer (to_each (askers face d.name s.faces s.pending) whole),
+  record {
+    now = s.now;
+    faces = s.faces;
+    pending = without_name d.name s.pending;
+  },
+)
 
 -- No Interest has a record of where it was sent yet, so a Nack answers none.
 abbrev pub after_packet : State → ℕ → Result PlainFrame PacketFault → Answer × State
@@ -83,9 +106,10 @@ after_packet s face (Ok (AData whole d)) = after_data s face whole d
 after_packet s face (Ok (ANack reason whole i)) = (drop_answer NoPending, s)
 after_packet s face (Ok AnIdle) = (drop_answer Idle, s)
 
--- what the event does once what is due is gone
+-- what the event does after the expiry
 abbrev pub effect_of : State → PlainEvent → Answer × State
-effect_of s (Packet face now octets) = if is_open face s.faces then after_packet s face (frame_at octets) else (drop_answer NoFace, s)
+effect_of s (Packet face now octets) =
+    if is_open face s.faces then after_packet s face (frame_at octets) else (drop_answer NoFace, s)
 effect_of s (FaceUp face scope now) = after_opening s face scope
 effect_of s (FaceDown face now) = after_closing s face
 effect_of s (Tick now) = (pass_answer [], s)
@@ -116,4 +140,5 @@ Step old event answer new = effect_of (after_expiry old (moment event)) event �
 -- With an outbox that was before and is after, a packet is answered so.
 abbrev pub IsPacketStep : State → State → List Send → List Send → ℕ → ℕ → List ℕ → Verdict → Type 0
 IsPacketStep old new before after face now octets verdict =
-    (sends : List Send) × (after ≡ before ++ sends) × Step old (Packet face now octets) (record { verdict = verdict; sends = sends }) new
+    (sends : List Send) × (after ≡ before ++ sends)
+    × Step old (Packet face now octets) (record { verdict = verdict; sends = sends }) new

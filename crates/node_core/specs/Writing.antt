@@ -53,7 +53,8 @@ outcome_text number NoMemory = lines_text number (codes "memory") []
 -- the text of replies, from this number on
 abbrev pub outcomes_text : ℕ → List Outcome → List ℕ
 outcomes_text number [] = []
-outcomes_text number (done_as ∷ outcomes) = outcome_text number done_as ++ outcomes_text (number + 1) outcomes
+outcomes_text number (done_as ∷ outcomes) =
+    outcome_text number done_as ++ outcomes_text (number + 1) outcomes
 
 -- the text of a script's replies
 abbrev pub script_text : List Outcome → List ℕ

@@ -18,7 +18,8 @@ pub fn put_answer(
     outcome: &Result<Verdict, Memory>,
     outbox: &Outbox,
 ) -> Result<(), Memory>
-    ensures { OnOk result (text.new.items ≡ text.old.items ++ lines_text number (said_text outcome.now) outbox.now) }
+    ensures { OnOk result
+        (text.new.items ≡ text.old.items ++ lines_text number (said_text outcome.now) outbox.now) }
 {
     put_number(text, number)?;
     text.push(b' ')?;
@@ -72,7 +73,8 @@ fn put_outcome(text: &mut Vec<u8>, outcome: &Result<Verdict, Memory>) -> Result<
 }
 
 fn put_reason(text: &mut Vec<u8>, reason: DropReason) -> Result<(), Memory>
-    ensures { OnOk result (text.new.items ≡ text.old.items ++ (codes "dropped " ++ reason_name reason)) }
+    ensures { OnOk result
+        (text.new.items ≡ text.old.items ++ (codes "dropped " ++ reason_name reason)) }
 {
     text.extend_from_slice(b"dropped ")?;
     match reason {

@@ -1,9 +1,9 @@
 ghost use Rattle.std.specs.Prelude.{◌≡◌, ◌<◌, ◌≤◌, ◌∷◌, [], length, vec_len, OnOk, OnErr, IsOk};
 ghost use Rattle.std.specs.Vec.{vec_capacity};
 ghost use Rattle.ndn_names.specs.View.{components};
-ghost use Rattle.node_core.specs.State.{is_open, others, askers, survivors};
+ghost use Rattle.node_core.specs.State.{is_open, others, askers, unexpired};
 ghost use Rattle.node_core.specs.Step.{with_face, without_entry};
-ghost use Rattle.node_core.specs.Kept.{entries, pendings};
+ghost use Rattle.node_core.specs.Entries.{entries, pendings};
 
 use crate::event::Scope;
 use crate::pending::{Pending, is_asked};
@@ -30,7 +30,8 @@ pub fn is_face_open(faces: &[Face], number: u64) -> bool
 /// Puts a face at its place in rising order of the numbers.
 pub fn add_face(faces: &mut Vec<Face>, face: Face)
     requires { vec_len faces.old < vec_capacity faces.old }
-    ensures faces { entries faces.new.items ≡ with_face face.number face.scope (entries faces.old.items) }
+    ensures faces { entries faces.new.items
+        ≡ with_face face.number face.scope (entries faces.old.items) }
     ensures capacity { vec_capacity faces.old ≤ vec_capacity faces.new }
 {
     let mut place = 0;
@@ -71,7 +72,8 @@ pub fn list_askers(
     now: u64,
 ) -> Result<(), Memory>
     ensures { OnOk result (targets.new.items
-        ≡ askers number (components name.entry) (entries faces.now) (survivors now (pendings pending.now))) }
+        ≡ askers number (components name.entry) (entries faces.now)
+        (unexpired now (pendings pending.now))) }
 {
     targets.clear();
     for face in faces {

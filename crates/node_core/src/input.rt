@@ -7,9 +7,17 @@ use std::io::{ErrorKind, Read};
 /// How many octets a read gave, which is 0 where it was interrupted, or nothing at the end.
 pub fn read_some<R: Read>(reader: &mut R, chunk: &mut [u8; 4096]) -> Result<Option<usize>, RunFault>
     ensures bound { IfOk result (λ read. IfSome read (λ count. count ≤ 4096)) }
-    ensures given { IfOk result (λ read. IfSome read (λ count. Consumes (R.remaining reader.old) (R.remaining reader.new) (take count chunk.new))) }
-    ensures end { IfOk result (λ read. IfNone read (Keeps (R.remaining reader.old) (R.remaining reader.new) × IsAtEnd (R.remaining reader.new))) }
-    ensures failed { IfErr result (λ fault. (fault ≡ RunFault.Read) × Keeps (R.remaining reader.old) (R.remaining reader.new)) }
+    ensures given { IfOk result
+        (λ read. IfSome read
+        (λ count. Consumes (R.remaining reader.old) (R.remaining reader.new)
+        (take count chunk.new))) }
+    ensures end { IfOk result
+        (λ read. IfNone read
+        (Keeps (R.remaining reader.old) (R.remaining reader.new)
+        × IsAtEnd (R.remaining reader.new))) }
+    ensures failed { IfErr result
+        (λ fault. (fault ≡ RunFault.Read)
+        × Keeps (R.remaining reader.old) (R.remaining reader.new)) }
 {
     match reader.read(chunk) {
         Ok(0) => Ok(None),

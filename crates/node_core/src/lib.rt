@@ -18,7 +18,7 @@ mod word;
 pub use event::{DropReason, Event, Scope, Verdict};
 pub use node::{Node, NodeFault, NodeParts};
 pub use outbox::Outbox;
-pub use past::{data_answers_pending_interests, steps_go_on_runs};
+pub use past::{data_answers_pending_interests, step_preserves_runs};
 pub use script::{RunFault, run_script};
 
 #[cfg(test)]

@@ -3,7 +3,7 @@ ghost use Rattle.node_core.specs.Event.{PlainEvent, plain};
 ghost use Rattle.node_core.specs.Line.{LineSpells, LineIs, plain_line};
 
 use crate::event::{Event, Scope};
-use crate::word::{cut, number_of, octets_of, scope_of, three_words};
+use crate::word::{cut, octets_of, parse_decimal, scope_of, three_words};
 use ndn_tlv::Memory;
 use std::alloc::Global;
 
@@ -83,8 +83,10 @@ pub fn line_of(alloc: Global, line: &[u8]) -> Result<Line, Memory>
 }
 
 fn event_of(alloc: Global, line: &[u8]) -> Result<Option<LineEvent>, Memory>
-    ensures found { IfOk result (λ read. IfSome read (λ event. LineSpells (plain_line event) line.now)) }
-    ensures none { IfOk result (λ read. IfNone read ((event : PlainEvent) → LineSpells event line.now → ⊥)) }
+    ensures found { IfOk result
+        (λ read. IfSome read (λ event. LineSpells (plain_line event) line.now)) }
+    ensures none { IfOk result
+        (λ read. IfNone read ((event : PlainEvent) → LineSpells event line.now → ⊥)) }
 {
     let Some((kind, text)) = cut(line, b' ') else {
         return Ok(None);
@@ -105,45 +107,55 @@ fn event_of(alloc: Global, line: &[u8]) -> Result<Option<LineEvent>, Memory>
 }
 
 fn face_up(text: &[u8]) -> Option<LineEvent>
-    ensures found { IfSome result (λ event. LineSpells (plain_line event) (codes "up" ++ (32 ∷ text.now))) }
-    ensures none { IfNone result ((event : PlainEvent) → LineSpells event (codes "up" ++ (32 ∷ text.now)) → ⊥) }
+    ensures found { IfSome result
+        (λ event. LineSpells (plain_line event) (codes "up" ++ (32 ∷ text.now))) }
+    ensures none { IfNone result
+        ((event : PlainEvent) → LineSpells event (codes "up" ++ (32 ∷ text.now)) → ⊥) }
 {
     let (face, scope, now) = three_words(text)?;
-    let face = number_of(face)?;
+    let face = parse_decimal(face)?;
     let scope = scope_of(scope)?;
-    let now = number_of(now)?;
+    let now = parse_decimal(now)?;
     Some(LineEvent::FaceUp { face, scope, now })
 }
 
 fn face_down(text: &[u8]) -> Option<LineEvent>
-    ensures found { IfSome result (λ event. LineSpells (plain_line event) (codes "down" ++ (32 ∷ text.now))) }
-    ensures none { IfNone result ((event : PlainEvent) → LineSpells event (codes "down" ++ (32 ∷ text.now)) → ⊥) }
+    ensures found { IfSome result
+        (λ event. LineSpells (plain_line event) (codes "down" ++ (32 ∷ text.now))) }
+    ensures none { IfNone result
+        ((event : PlainEvent) → LineSpells event (codes "down" ++ (32 ∷ text.now)) → ⊥) }
 {
     let (face, now) = cut(text, b' ')?;
-    let face = number_of(face)?;
-    let now = number_of(now)?;
+    let face = parse_decimal(face)?;
+    let now = parse_decimal(now)?;
     Some(LineEvent::FaceDown { face, now })
 }
 
 fn tick(text: &[u8]) -> Option<LineEvent>
-    ensures found { IfSome result (λ event. LineSpells (plain_line event) (codes "tick" ++ (32 ∷ text.now))) }
-    ensures none { IfNone result ((event : PlainEvent) → LineSpells event (codes "tick" ++ (32 ∷ text.now)) → ⊥) }
+    ensures found { IfSome result
+        (λ event. LineSpells (plain_line event) (codes "tick" ++ (32 ∷ text.now))) }
+    ensures none { IfNone result
+        ((event : PlainEvent) → LineSpells event (codes "tick" ++ (32 ∷ text.now)) → ⊥) }
 {
-    let now = number_of(text)?;
+    let now = parse_decimal(text)?;
     Some(LineEvent::Tick { now })
 }
 
 fn packet(alloc: Global, text: &[u8]) -> Result<Option<LineEvent>, Memory>
-    ensures found { IfOk result (λ read. IfSome read (λ event. LineSpells (plain_line event) (codes "in" ++ (32 ∷ text.now)))) }
-    ensures none { IfOk result (λ read. IfNone read ((event : PlainEvent) → LineSpells event (codes "in" ++ (32 ∷ text.now)) → ⊥)) }
+    ensures found { IfOk result
+        (λ read. IfSome read
+        (λ event. LineSpells (plain_line event) (codes "in" ++ (32 ∷ text.now)))) }
+    ensures none { IfOk result
+        (λ read. IfNone read
+        ((event : PlainEvent) → LineSpells event (codes "in" ++ (32 ∷ text.now)) → ⊥)) }
 {
     let Some((face, now, word)) = three_words(text) else {
         return Ok(None);
     };
-    let Some(face) = number_of(face) else {
+    let Some(face) = parse_decimal(face) else {
         return Ok(None);
     };
-    let Some(now) = number_of(now) else {
+    let Some(now) = parse_decimal(now) else {
         return Ok(None);
     };
     match octets_of(alloc, word)? {

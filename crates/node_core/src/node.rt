@@ -10,7 +10,7 @@ use crate::event::{DropReason, Event, Scope, Verdict};
 use crate::face::{Face, MAX_FACES, add_face, is_face_open, list_askers, list_others, remove_face};
 use crate::outbox::Outbox;
 use crate::pending::{
-    Pending, deadline_after, remove_due, remove_of_face, remove_of_name, remove_one,
+    Pending, deadline_after, remove_expired, remove_of_face, remove_of_name, remove_one,
 };
 use ndn_names::NameBuf;
 use ndn_packets::{Data, Frame, Interest, read_frame};
@@ -34,7 +34,7 @@ pub struct NodeParts {
     pub cache: u32,
 }
 
-/// Why a node cannot be made. Of several faults the first in this order is told.
+/// Why a node cannot be made. Of several faults, the first in this order is reported.
 #[derive(Clone, Copy, Debug, PartialEq, Eq, Error)]
 pub enum NodeFault {
     #[error("the repository's prefix is empty, or begins with /localhost")]
@@ -64,9 +64,13 @@ impl Model for Node {
 
     ghost Value = { State };
 
-    ghost use Rattle.node_core.specs.Kept.{entries, pendings};
+    ghost use Rattle.node_core.specs.Entries.{entries, pendings};
 
-    ghost view = { λ n. record { now = n.now; faces = entries n.faces.items; pending = pendings n.pending.items } };
+    ghost view = { λ n. record {
+      now = n.now;
+      faces = entries n.faces.items;
+      pending = pendings n.pending.items;
+    } };
 
     ghost invariant = { λ n. (64 ≤ vec_capacity n.faces) × IsRising (numbers (entries n.faces.items)) };
 }
@@ -123,13 +127,15 @@ impl Node {
     ///
     /// An Interest on an open face becomes pending there, in place of an older one of its name, and
     /// goes to every other face. Data goes to each other face on which an Interest of its name is
-    /// pending, and ends them. Both go on in their received octets, without a link packet around them. A
-    /// Nack and a link packet without a packet are dropped. `Memory` changes nothing; face changes, moments and dropped packets
-    /// take no memory.
+    /// pending, and ends them. Both go on in their received octets, without a link packet around
+    /// them. A Nack and a link packet without a packet are dropped. `Memory` changes nothing; face
+    /// changes, moments and dropped packets take no memory.
     pub fn step(&mut self, event: Event<'_>, outbox: &mut Outbox) -> Result<Verdict, Memory>
         // One step, octets to octets.
-        ensures answered { IfOk result (λ verdict. (sends : List Send) × (outbox.new ≡ outbox.old ++ sends)
-            × Step self.old (plain event.entry) (record { verdict = verdict; sends = sends }) self.new) }
+        ensures answered { IfOk result
+            (λ verdict. (sends : List Send) × (outbox.new ≡ outbox.old ++ sends)
+            × Step self.old (plain event.entry)
+            (record { verdict = verdict; sends = sends }) self.new) }
         // Every run in which the node stands goes on with this event and its answer.
         ensures run { IfOk result (λ verdict. let sends = drop (length outbox.old) outbox.new in
             (past : Run) → IsRun past → Stands past self.old
@@ -151,13 +157,13 @@ impl Node {
         }
     }
 
-    /// Takes in a moment: time is the greatest so far, and what is due then is gone.
+    /// Advances time, which is the greatest moment so far, and removes the Interests that expire.
     fn advance(&mut self, now: u64)
         ensures value { self.new ≡ after_expiry self.old now }
         ensures rising { IsRising (numbers self.new.faces) }
     {
         self.now = self.now.max(now);
-        remove_due(&mut self.pending, self.now);
+        remove_expired(&mut self.pending, self.now);
     }
 
     fn open(&mut self, number: u64, scope: Scope, now: u64) -> Verdict
@@ -200,7 +206,8 @@ impl Node {
         octets: &[u8],
         outbox: &mut Outbox,
     ) -> Result<Verdict, Memory>
-        ensures answered { IfOk result (IsPacketStep self.old self.new outbox.old outbox.new face now octets.now) }
+        ensures answered { IfOk result
+            (IsPacketStep self.old self.new outbox.old outbox.new face now octets.now) }
         ensures memory { OnErr result ((self.new ≡ self.old) × (outbox.new ≡ outbox.old)) }
         ensures without_memory { ReceivesNothing self.old face octets.now → IsOk result }
         ensures rising { IsRising (numbers self.new.faces) }
@@ -233,7 +240,9 @@ impl Node {
         interest: &Interest<'_>,
         outbox: &mut Outbox,
     ) -> Result<(), Memory>
-        ensures ok { OnOk result (let done = after_interest (after_expiry self.old now) face interest.now.whole.now (plain_interest interest.now) in
+        ensures ok { OnOk result
+            (let done = after_interest (after_expiry self.old now) face interest.now.whole.now
+            (plain_interest interest.now) in
             (outbox.new ≡ outbox.old ++ done.0.sends) × (self.new ≡ done.1)) }
         ensures memory { OnErr result ((self.new ≡ self.old) × (outbox.new ≡ outbox.old)) }
         ensures rising { IsRising (numbers self.new.faces) }
@@ -245,7 +254,7 @@ impl Node {
         outbox.send_to(&self.targets, interest.whole)?;
         // `advance`, in place: a call of it would lose sight of the room that was reserved.
         self.now = now;
-        remove_due(&mut self.pending, now);
+        remove_expired(&mut self.pending, now);
         remove_one(&mut self.pending, face, interest.name);
         let deadline = deadline_after(now, interest.lifetime);
         self.pending
@@ -265,7 +274,9 @@ impl Node {
         arrived: &Data<'_>,
         outbox: &mut Outbox,
     ) -> Result<(), Memory>
-        ensures ok { OnOk result (let done = after_data (after_expiry self.old now) face arrived.now.whole.now (plain_data arrived.now) in
+        ensures ok { OnOk result
+            (let done = after_data (after_expiry self.old now) face arrived.now.whole.now
+            (plain_data arrived.now) in
             (outbox.new ≡ outbox.old ++ done.0.sends) × (self.new ≡ done.1)) }
         ensures memory { OnErr result ((self.new ≡ self.old) × (outbox.new ≡ outbox.old)) }
         ensures rising { IsRising (numbers self.new.faces) }

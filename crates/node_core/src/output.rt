@@ -11,8 +11,10 @@ pub struct PutFault;
 /// Writes all the octets, or a front of them and then answers the fault. An interrupted call is
 /// tried again.
 pub fn put_all<W: Write>(writer: &mut W, octets: &[u8]) -> Result<(), PutFault>
-    ensures done { OnOk result (Appends (W.contents writer.old) (W.contents writer.new) octets.now) }
-    ensures cut { OnErr result (AppendsFront (W.contents writer.old) (W.contents writer.new) octets.now) }
+    ensures done { OnOk result
+        (Appends (W.contents writer.old) (W.contents writer.new) octets.now) }
+    ensures cut { OnErr result
+        (AppendsFront (W.contents writer.old) (W.contents writer.new) octets.now) }
 {
     let mut rest = octets;
     for _ in 0..u32::MAX {
@@ -28,7 +30,8 @@ pub fn put_all<W: Write>(writer: &mut W, octets: &[u8]) -> Result<(), PutFault>
 // How many of the octets one call took, which is none where it was interrupted.
 fn put_some<W: Write>(writer: &mut W, octets: &[u8]) -> Result<usize, PutFault>
     ensures bound { IfOk result (λ count. count ≤ length octets.now) }
-    ensures taken { IfOk result (λ count. Appends (W.contents writer.old) (W.contents writer.new) (take count octets.now)) }
+    ensures taken { IfOk result
+        (λ count. Appends (W.contents writer.old) (W.contents writer.new) (take count octets.now)) }
     ensures failed { OnErr result (Keeps (W.contents writer.old) (W.contents writer.new)) }
 {
     match writer.write(octets) {

@@ -11,7 +11,7 @@ pub fn data_answers_pending_interests()
 
 /// Law: a new node stands in the run without events, and a step leads from every run in which the
 /// node stands to that run with the event and its answer, in which it stands again.
-pub fn steps_go_on_runs()
+pub fn step_preserves_runs()
     ensures start { IsRun Start × Stands Start initial }
     ensures step { (past : Run) (old : State) (event : PlainEvent) (answer : Answer) (new : State)
         → IsRun past → Stands past old → Step old event answer new

@@ -2,8 +2,8 @@ ghost use Rattle.std.specs.Prelude.{◌≡◌, ◌≤◌, vec_len, ◌&&◌, nat
 ghost use Rattle.std.specs.Vec.{vec_capacity};
 ghost use Rattle.ndn_names.specs.View.{components};
 ghost use Rattle.node_core.specs.Step.{deadline};
-ghost use Rattle.node_core.specs.State.{is_of, asks_for, is_alive, is_asking, survivors, without_face, without_name, without};
-ghost use Rattle.node_core.specs.Kept.{pending_of, pendings};
+ghost use Rattle.node_core.specs.State.{is_of, asks_for, is_unexpired, is_asking, unexpired, without_face, without_name, without};
+ghost use Rattle.node_core.specs.Entries.{pending_of, pendings};
 
 use ndn_names::{Name, NameBuf};
 
@@ -13,7 +13,7 @@ use ndn_names::{Name, NameBuf};
 pub struct Pending {
     pub face: u64,
     pub name: NameBuf,
-    /// From this moment on it is gone.
+    /// It expires at this moment.
     pub deadline: u64,
 }
 
@@ -35,23 +35,24 @@ impl Pending {
 
 /// Whether an Interest of this face waits for Data of this name at this moment.
 pub fn is_asked(pending: &[Pending], face: u64, name: Name<'_>, now: u64) -> bool
-    ensures { result ≡ is_asking (components name.entry) (survivors now (pendings pending.now)) face }
+    ensures { result
+        ≡ is_asking (components name.entry) (unexpired now (pendings pending.now)) face }
 {
     pending
         .iter()
         .any(|p| now < p.deadline && p.is_of(face, name))
 }
 
-/// Takes out what is due.
-pub fn remove_due(pending: &mut Vec<Pending>, now: u64)
-    ensures pending { pendings pending.new.items ≡ survivors now (pendings pending.old.items) }
+/// Removes the Interests that have expired.
+pub fn remove_expired(pending: &mut Vec<Pending>, now: u64)
+    ensures pending { pendings pending.new.items ≡ unexpired now (pendings pending.old.items) }
     ensures fewer { vec_len pending.new ≤ vec_len pending.old }
     ensures capacity { vec_capacity pending.new ≡ vec_capacity pending.old }
 {
     pending.retain(|p| now < p.deadline);
 }
 
-/// Takes out the Interests of a face.
+/// Removes the Interests of a face.
 pub fn remove_of_face(pending: &mut Vec<Pending>, face: u64)
     ensures pending { pendings pending.new.items ≡ without_face face (pendings pending.old.items) }
     ensures capacity { vec_capacity pending.new ≡ vec_capacity pending.old }
@@ -59,17 +60,19 @@ pub fn remove_of_face(pending: &mut Vec<Pending>, face: u64)
     pending.retain(|p| p.face != face);
 }
 
-/// Takes out the Interests for a name.
+/// Removes the Interests for a name.
 pub fn remove_of_name(pending: &mut Vec<Pending>, name: Name<'_>)
-    ensures pending { pendings pending.new.items ≡ without_name (components name.entry) (pendings pending.old.items) }
+    ensures pending { pendings pending.new.items
+        ≡ without_name (components name.entry) (pendings pending.old.items) }
     ensures capacity { vec_capacity pending.new ≡ vec_capacity pending.old }
 {
     pending.retain(|p| !p.asks_for(name));
 }
 
-/// Takes out the Interest of a face for a name.
+/// Removes the Interest of a face for a name.
 pub fn remove_one(pending: &mut Vec<Pending>, face: u64, name: Name<'_>)
-    ensures pending { pendings pending.new.items ≡ without face (components name.entry) (pendings pending.old.items) }
+    ensures pending { pendings pending.new.items
+        ≡ without face (components name.entry) (pendings pending.old.items) }
     ensures fewer { vec_len pending.new ≤ vec_len pending.old }
     ensures capacity { vec_capacity pending.new ≡ vec_capacity pending.old }
 {

@@ -39,8 +39,12 @@ impl Player {
     ) -> Result<(), RunFault>
         requires start { place_of self.old ≡ record { node = initial; lines = 0; events = 0 } }
         requires empty { self.old.line.items ≡ [] }
-        ensures done { OnOk result (Ends (R.remaining reader.old) (R.remaining reader.new) (W.contents writer.old) (W.contents writer.new)) }
-        ensures stopped { IfErr result (λ fault. Stops fault (R.remaining reader.old) (R.remaining reader.new) (W.contents writer.old) (W.contents writer.new)) }
+        ensures done { OnOk result
+            (Ends (R.remaining reader.old) (R.remaining reader.new) (W.contents writer.old)
+            (W.contents writer.new)) }
+        ensures stopped { IfErr result
+            (λ fault. Stops fault (R.remaining reader.old) (R.remaining reader.new)
+            (W.contents writer.old) (W.contents writer.new)) }
         ensures parts { IfErr result ComesWithGoodParts }
     {
         let mut chunk = [0u8; 4096];
@@ -58,12 +62,15 @@ impl Player {
         requires room { HasRoom (place_of self.old) (length chunk.now + 1) }
         requires pending { IsPending self.old.line.items }
         ensures pending { OnOk result (IsPending self.new.line.items) }
-        ensures near { OnOk result (IsNear (place_of self.old) (length chunk.now) (place_of self.new)) }
+        ensures near { OnOk result
+            (IsNear (place_of self.old) (length chunk.now) (place_of self.new)) }
         ensures played { OnOk result ((lines : List (List ℕ)) × (text : List ℕ)
             × Plays lines (place_of self.old) (place_of self.new) text
             × Appends (W.contents writer.old) (W.contents writer.new) text
             × (self.old.line.items ++ chunk.now ≡ joined lines ++ self.new.line.items)) }
-        ensures stopped { IfErr result (λ fault. FeedStops fault (self.old.line.items ++ chunk.now) (place_of self.old) (W.contents writer.old) (W.contents writer.new)) }
+        ensures stopped { IfErr result
+            (λ fault. FeedStops fault (self.old.line.items ++ chunk.now) (place_of self.old)
+            (W.contents writer.old) (W.contents writer.new)) }
     {
         let mut rest = chunk;
         while let Some((front, after)) = cut(rest, b'\n') {
@@ -81,7 +88,8 @@ impl Player {
         ensures place { place_of self.new ≡ place_of self.old }
         ensures ok { OnOk result (self.new.line.items ≡ self.old.line.items ++ octets.now) }
         ensures short { OnOk result (length self.new.line.items ≤ 20000) }
-        ensures stopped { IfErr result (λ fault. AddStops fault (self.old.line.items ++ octets.now) (place_of self.old)) }
+        ensures stopped { IfErr result
+            (λ fault. AddStops fault (self.old.line.items ++ octets.now) (place_of self.old)) }
     {
         if octets.len() > LONGEST_LINE - self.line.len() {
             return Err(RunFault::BadLine(self.lines + 1));
@@ -100,7 +108,9 @@ impl Player {
         ensures played { OnOk result ((text : List ℕ)
             × Plays (self.old.line.items ∷ []) (place_of self.old) (place_of self.new) text
             × Appends (W.contents writer.old) (W.contents writer.new) text) }
-        ensures stopped { IfErr result (λ fault. LineStops fault self.old.line.items (place_of self.old) (W.contents writer.old) (W.contents writer.new)) }
+        ensures stopped { IfErr result
+            (λ fault. LineStops fault self.old.line.items (place_of self.old)
+            (W.contents writer.old) (W.contents writer.new)) }
     {
         let Ok(said) = line_of(self.alloc, self.line.as_slice()) else {
             return Err(RunFault::Memory);
@@ -122,7 +132,9 @@ impl Player {
         ensures handled { OnOk result ((text : List ℕ)
             × PlaysEvent (plain_line event.now) (place_of self.old) (place_of self.new) text
             × Appends (W.contents writer.old) (W.contents writer.new) text) }
-        ensures stopped { IfErr result (λ fault. EventStops fault (plain_line event.now) (place_of self.old) (W.contents writer.old) (W.contents writer.new)) }
+        ensures stopped { IfErr result
+            (λ fault. EventStops fault (plain_line event.now) (place_of self.old)
+            (W.contents writer.old) (W.contents writer.new)) }
     {
         self.outbox.clear();
         self.text.clear();

@@ -41,11 +41,15 @@ pub fn run_script<R: Read, W: Write>(
     writer: &mut W,
     parts: NodeParts,
 ) -> Result<(), RunFault>
-    ensures done { OnOk result (Ends (R.remaining reader.old) (R.remaining reader.new) (W.contents writer.old) (W.contents writer.new)) }
+    ensures done { OnOk result
+        (Ends (R.remaining reader.old) (R.remaining reader.new) (W.contents writer.old)
+        (W.contents writer.new)) }
     ensures parts { MatchOption (parts_fault parts.repo parts.cache)
         (IfErr result ComesWithGoodParts)
         (λ fault. result ≡ Err (RunFault.Node fault)) }
-    ensures stopped { IfErr result (λ fault. Stops fault (R.remaining reader.old) (R.remaining reader.new) (W.contents writer.old) (W.contents writer.new)) }
+    ensures stopped { IfErr result
+        (λ fault. Stops fault (R.remaining reader.old) (R.remaining reader.new)
+        (W.contents writer.old) (W.contents writer.new)) }
 {
     let mut player = Player {
         alloc,

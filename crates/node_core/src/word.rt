@@ -11,7 +11,8 @@ use std::str;
 
 /// What stands before the first octet of this value, and what stands after it.
 pub fn cut(text: &[u8], at: u8) -> Option<(&[u8], &[u8])>
-    ensures found { IfSome result (λ parts. (text.now ≡ parts.0.now ++ (at ∷ parts.1.now)) × Lacks at parts.0.now) }
+    ensures found { IfSome result
+        (λ parts. (text.now ≡ parts.0.now ++ (at ∷ parts.1.now)) × Lacks at parts.0.now) }
     ensures none { IfNone result (Lacks at text.now) }
 {
     for (i, octet) in text.iter().enumerate() {
@@ -35,7 +36,7 @@ pub fn three_words(text: &[u8]) -> Option<(&[u8], &[u8], &[u8])>
 }
 
 /// The number below 2 ^ 64 that the word is the decimal text of, without leading zeros.
-pub fn number_of(word: &[u8]) -> Option<u64>
+pub fn parse_decimal(word: &[u8]) -> Option<u64>
     ensures found { IfSome result (λ n. word.now ≡ decimal n) }
     ensures none { IfNone result ((n : ℕ) → n < 2 ^ 64 → word.now ≡ decimal n → ⊥) }
 {
@@ -65,7 +66,8 @@ pub fn scope_of(word: &[u8]) -> Option<Scope>
 /// The octets that the word spells in hexadecimal of either case, or none where it is `-`.
 pub fn octets_of(alloc: Global, word: &[u8]) -> Result<Option<Vec<u8>>, Memory>
     ensures found { IfOk result (λ read. IfSome read (λ octets. HexSpells octets.items word.now)) }
-    ensures none { IfOk result (λ read. IfNone read ((octets : List ℕ) → HexSpells octets word.now → ⊥)) }
+    ensures none { IfOk result
+        (λ read. IfNone read ((octets : List ℕ) → HexSpells octets word.now → ⊥)) }
 {
     if word == b"-".as_slice() {
         return Ok(Some(Vec::new(alloc)));

@@ -1,6 +1,6 @@
 use Rattle.std.proofs.Common.{◌≡◌, ◌≤◌, ◌-◌, ◌++◌, take, drop, length}
 use Rattle.node_core.specs.Step.{with_face}
-use Rattle.node_core.specs.Kept.{entries}
+use Rattle.node_core.specs.Entries.{entries}
 use Rattle.node_core.proofs.face.add_face.Given as goal
 
 abbrev pub invariant-loop-place : goal.invariant-loop-place

@@ -1,7 +1,7 @@
 use Rattle.std.proofs.Common.{rules, tests, eqb, sym, ◌∙◌}
 use Rattle.std.proofs.lemmas.Iterator.{YieldsList-from_slice}
 use Rattle.std.proofs.lemmas.Iterator.Search.{any_from_yields_List}
-use Rattle.node_core.specs.Kept.{entry_of}
+use Rattle.node_core.specs.Entries.{entry_of}
 use Rattle.node_core.proofs.Shown.{list_any-map}
 use Rattle.node_core.proofs.face.is_face_open.Goals as goal
 

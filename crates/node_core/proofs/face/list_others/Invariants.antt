@@ -1,6 +1,6 @@
 use Rattle.std.proofs.Common.{◌≡◌, take}
 use Rattle.node_core.specs.State.{others}
-use Rattle.node_core.specs.Kept.{entries}
+use Rattle.node_core.specs.Entries.{entries}
 use Rattle.node_core.proofs.face.list_others.Given as goal
 
 abbrev pub invariant-loop-face : goal.invariant-loop-face

@@ -1,6 +1,6 @@
 use Rattle.std.proofs.Common.{rules, not, eqb}
 use Rattle.std.proofs.lemmas.Fn.{filter_same}
-use Rattle.node_core.specs.Kept.{entry_of}
+use Rattle.node_core.specs.Entries.{entry_of}
 use Rattle.node_core.proofs.Shown.{shown_filter}
 use Rattle.node_core.proofs.face.remove_face.Goals as goal
 

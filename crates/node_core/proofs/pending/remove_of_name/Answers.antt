@@ -2,7 +2,7 @@ use Rattle.std.proofs.Common.{rules, not}
 use Rattle.std.proofs.lemmas.Fn.{filter_same}
 use Rattle.ndn_names.specs.View.{components}
 use Rattle.node_core.specs.State.{asks_for}
-use Rattle.node_core.specs.Kept.{pending_of}
+use Rattle.node_core.specs.Entries.{pending_of}
 use Rattle.node_core.proofs.Shown.{shown_filter}
 use Rattle.node_core.proofs.pending.remove_of_name.Goals as goal
 

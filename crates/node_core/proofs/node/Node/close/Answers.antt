@@ -1,5 +1,5 @@
 use Rattle.std.proofs.Common.{arith}
-use Rattle.node_core.specs.Kept.{entries}
+use Rattle.node_core.specs.Entries.{entries}
 use Rattle.node_core.proofs.Members.{rising_without}
 use Rattle.node_core.proofs.node.Node.close.Goals as goal
 

@@ -1,6 +1,6 @@
 use Rattle.std.proofs.Common.{ap, sym, ◌∙◌, arith}
 use Rattle.node_core.specs.State.{is_open}
-use Rattle.node_core.specs.Kept.{entries}
+use Rattle.node_core.specs.Entries.{entries}
 use Rattle.node_core.proofs.Members.{rising_with}
 use Rattle.node_core.proofs.node.Node.open.Goals as goal
 

@@ -2,8 +2,8 @@ use Rattle.std.proofs.Common.{◌≡◌, ◌<◌, arith, length, get_or, sym, �
 use Rattle.std.proofs.lemmas.Bool.{eqb-true}
 use Rattle.node_core.proofs.Lists.{get_or-empty}
 use Rattle.node_core.proofs.Numbers.{no_leading_zero, first_of_decimal, decimal-IsUtf8, number_found, number_none}
-use Rattle.node_core.proofs.word.number_of.Goals as goal
-use Rattle.node_core.proofs.word.number_of.Goals.{else-word-gt1-via-then-word-gt1+else-word-eq48, else-word-gt1-via-else-word-gt1, else-not-is_empty-via-then-not-is_empty+else-word-eq43, else-not-is_empty-via-else-not-is_empty}
+use Rattle.node_core.proofs.word.parse_decimal.Goals as goal
+use Rattle.node_core.proofs.word.parse_decimal.Goals.{else-word-gt1-via-then-word-gt1+else-word-eq48, else-word-gt1-via-else-word-gt1, else-not-is_empty-via-then-not-is_empty+else-word-eq43, else-not-is_empty-via-else-not-is_empty}
 
 pub returns-then-word-eq48-clause-none : goal.returns-then-word-eq48-clause-none
 returns-then-word-eq48-clause-none c =

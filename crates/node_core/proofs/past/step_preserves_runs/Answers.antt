@@ -1,5 +1,5 @@
 use Rattle.node_core.proofs.Runs.{initial_stands, step_keeps}
-use Rattle.node_core.proofs.past.steps_go_on_runs.Goals as goal
+use Rattle.node_core.proofs.past.step_preserves_runs.Goals as goal
 
 pub returns-clause-start : goal.returns-clause-start
 returns-clause-start c = (tt, initial_stands)
