@@ -7,7 +7,8 @@ use Rattle.node_core.specs.State.{State, initial}
 use Rattle.node_core.specs.Line.{Lacks}
 use Rattle.node_core.specs.Past.{Run, Start, Then, IsRun, Stands}
 use Rattle.node_core.proofs.Runs.{step_keeps, initial_stands}
-use Rattle.node_core.specs.Script.{Runs, run_from, ended, joined, IsScript, BeginsWithEvents, IsBadAt, Ran}
+use Rattle.node_core.proofs.Promise.{promise_kept}
+use Rattle.node_core.specs.Script.{AreOutcomes, run_from, ended, joined, IsScript, BeginsWithEvents, IsBadAt, IsTextOfRun}
 use Rattle.node_core.specs.Ending.{Ends, Stops}
 use Rattle.node_core.specs.Writing.{Outcome, Answered, NoMemory}
 use Rattle.node_core.specs.Play.{Place, Plays, TurnsBad, FeedStops, LineStops}
@@ -47,7 +48,7 @@ runs_stand past old new (event ∷ events) (NoMemory ∷ outcomes) runs run stan
 IsTextOfRun-from_plays : (lines : List (List ℕ)) (to : Place) (text : List ℕ) → (plays : Plays lines start to text) → IsTextOfRun plays.events text
 IsTextOfRun-from_plays lines to text plays =
     let stands = runs_stand Start initial to.node plays.events plays.outcomes plays.runs tt initial_stands in
-    record { outcomes = plays.outcomes; last = to.node; runs = plays.runs; written = plays.text_is; is_run = stands.0; stands = stands.1 }
+    record { outcomes = plays.outcomes; last = to.node; runs = plays.runs; written = plays.text_is; is_run = stands.0; stands = stands.1; promise = promise_kept (run_from Start plays.events plays.outcomes) stands.0 }
 
 -- ---- what comes after octets that were fed
 

@@ -78,6 +78,9 @@ event_promise past (FaceUp f scope t) answer may = nothing_sent past (FaceUp f s
 event_promise past (FaceDown f t) answer may = nothing_sent past (FaceDown f t) answer (close_sends (scope_of past f) answer may)
 event_promise past (Tick t) answer may = nothing_sent past (Tick t) answer (ap (λ (a : Answer). a.sends) may)
 
+pub answer_promise : (past : Run) (event : PlainEvent) (answer : Answer) → IsRun (Then past event answer) → EachDataIsAsked past event answer
+answer_promise past event answer run = event_promise past event answer run.1
+
 pub promise_kept : (past : Run) → IsRun past → KeepsPromise past
 promise_kept Start run = tt
 promise_kept (Then before event answer) run = (promise_kept before run.0, event_promise before event answer run.1)

@@ -4,7 +4,7 @@ use Rattle.std.specs.List.{AllByRecursion, flat_map}
 use Rattle.node_core.specs.Event.{PlainEvent}
 use Rattle.node_core.specs.State.{State, initial}
 use Rattle.node_core.specs.Step.{Step, NeedsNoMemory}
-use Rattle.node_core.specs.Past.{Run, Start, Then, IsRun, Stands}
+use Rattle.node_core.specs.Past.{Run, Start, Then, IsRun, Stands, KeepsPromise}
 use Rattle.node_core.specs.Line.{Lacks, IsSkipped, IsEventLine, IsBadLine}
 use Rattle.node_core.specs.Writing.{Outcome, Answered, NoMemory, script_text}
 
@@ -84,3 +84,5 @@ pub record IsTextOfRun (events : List PlainEvent) (text : List ℕ) : Type 0 whe
   pub written : text ≡ script_text outcomes
   pub is_run : IsRun (run_from Start events outcomes)
   pub stands : Stands (run_from Start events outcomes) last
+  -- the first-path promise, of each event
+  pub promise : KeepsPromise (run_from Start events outcomes)

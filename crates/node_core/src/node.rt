@@ -4,7 +4,7 @@ ghost use Rattle.node_core.specs.Event.{plain, Send};
 ghost use Rattle.node_core.specs.State.{State, initial, IsRising, numbers};
 ghost use Rattle.node_core.specs.Step.{after_expiry, after_opening, after_closing, after_interest, after_data, NeedsNoMemory, Step, ReceivesNothing, IsPacketStep};
 ghost use Rattle.node_core.specs.Parts.{parts_fault, is_bad_prefix as is_bad_prefix_of};
-ghost use Rattle.node_core.specs.Past.{Run, Start, Then, IsRun, Stands};
+ghost use Rattle.node_core.specs.Past.{Run, Start, Then, IsRun, Stands, EachDataIsAsked};
 
 use crate::event::{DropReason, Event, Scope, Verdict};
 use crate::face::{Face, MAX_FACES, add_face, is_face_open, list_askers, list_others, remove_face};
@@ -140,7 +140,13 @@ impl Node {
         ensures run { IfOk result (λ verdict. let sends = drop (length outbox.old) outbox.new in
             (past : Run) → IsRun past → Stands past self.old
             → IsRun (Then past (plain event.entry) (record { verdict = verdict; sends = sends }))
-            × Stands (Then past (plain event.entry) (record { verdict = verdict; sends = sends })) self.new) }
+            × Stands (Then past (plain event.entry)
+            (record { verdict = verdict; sends = sends })) self.new) }
+        // In each such run, each Data sent answers an Interest that is pending on its face.
+        ensures promise { IfOk result (λ verdict. let sends = drop (length outbox.old) outbox.new in
+            (past : Run) → IsRun past → Stands past self.old
+            → EachDataIsAsked past (plain event.entry)
+            (record { verdict = verdict; sends = sends })) }
         ensures memory { OnErr result ((self.new ≡ self.old) × (outbox.new ≡ outbox.old)) }
         ensures without_memory { NeedsNoMemory self.old (plain event.entry) → IsOk result }
         // The faces of every node are in rising order, and so are the sends.
