@@ -10,3 +10,4 @@ pub mod Names
 pub mod Runs
 pub mod Shown
 pub mod Promise
+pub mod OneReading

@@ -23,7 +23,7 @@ guarded true e r octets h = cc h
 guarded false e r octets h = h
 
 -- what an even text decodes to
-decoded_length : (word octets : List ℕ) → decode_of word ≡ Ok octets → length word ≡ 2 * length octets
+pub decoded_length : (word octets : List ℕ) → decode_of word ≡ Ok octets → length word ≡ 2 * length octets
 decoded_length word octets h =
     (decode_pairs-ok 0 word octets (guarded (length word % 2 == 1) _ (decode_pairs 0 word) octets h)).1
 
@@ -35,33 +35,36 @@ pub scope_word-Lacks : (scope : Scope) → Lacks 32 (scope_word scope)
 scope_word-Lacks Local = Lacks-from_test 32 (codes "local") refl
 scope_word-Lacks Far = Lacks-from_test 32 (codes "far") refl
 
-number-Lacks : (n : ℕ) → n < 2 ^ 64 → Lacks 32 (decimal n)
+pub number-Lacks : (n : ℕ) → n < 2 ^ 64 → Lacks 32 (decimal n)
 number-Lacks n lt = decimal-Lacks 32 (omega arith) n lt
 
 -- the words after `up`
-pub record UpWords (a b c : List ℕ) : Type 0 where
+pub record UpWords (event : PlainEvent) (a b c : List ℕ) : Type 0 where
   pub face : ℕ
   pub scope : Scope
   pub now : ℕ
+  pub event_is : event ≡ FaceUp face scope now
   pub wide : AreNumbers face now
   pub face_is : a ≡ decimal face
   pub scope_is : b ≡ scope_word scope
   pub now_is : c ≡ decimal now
 
 -- the words after `in`
-pub record InWords (a b c : List ℕ) : Type 0 where
+pub record InWords (event : PlainEvent) (a b c : List ℕ) : Type 0 where
   pub face : ℕ
   pub now : ℕ
   pub octets : List ℕ
+  pub event_is : event ≡ Packet face now octets
   pub wide : AreNumbers face now
   pub face_is : a ≡ decimal face
   pub now_is : b ≡ decimal now
   pub spelled : HexSpells octets c
 
 -- the words after `down`
-pub record DownWords (a b : List ℕ) : Type 0 where
+pub record DownWords (event : PlainEvent) (a b : List ℕ) : Type 0 where
   pub face : ℕ
   pub now : ℕ
+  pub event_is : event ≡ FaceDown face now
   pub wide : AreNumbers face now
   pub face_is : a ≡ decimal face
   pub now_is : b ≡ decimal now
@@ -74,71 +77,71 @@ second text = get_or text 1 0
 
 -- a line of `up`, cut at spaces
 pub up_text : (event : PlainEvent) (text : List ℕ) → LineSpells event (codes "up" ++ (32 ∷ text))
-    → (a b c : List ℕ) × UpWords a b c × (text ≡ a ++ (32 ∷ (b ++ (32 ∷ c))))
+    → (a b c : List ℕ) × UpWords event a b c × (text ≡ a ++ (32 ∷ (b ++ (32 ∷ c))))
 up_text (FaceUp face scope now) text h =
-    (decimal face, scope_word scope, decimal now, record { face = face; scope = scope; now = now; wide = h.0; face_is = refl; scope_is = refl; now_is = refl }, cc h.1)
+    (decimal face, scope_word scope, decimal now, record { face = face; scope = scope; now = now; event_is = refl; wide = h.0; face_is = refl; scope_is = refl; now_is = refl }, cc h.1)
 up_text (FaceDown face now) text h = absurd (omega (arith, ap first h.1))
 up_text (Tick now) text h = absurd (omega (arith, ap first h.1))
 up_text (Packet face now octets) text h = absurd (omega (arith, ap first h.1.2))
 
 pub down_text : (event : PlainEvent) (text : List ℕ) → LineSpells event (codes "down" ++ (32 ∷ text))
-    → (a b : List ℕ) × DownWords a b × (text ≡ a ++ (32 ∷ b))
+    → (a b : List ℕ) × DownWords event a b × (text ≡ a ++ (32 ∷ b))
 down_text (FaceUp face scope now) text h = absurd (omega (arith, ap first h.1))
 down_text (FaceDown face now) text h =
-    (decimal face, decimal now, record { face = face; now = now; wide = h.0; face_is = refl; now_is = refl }, cc h.1)
+    (decimal face, decimal now, record { face = face; now = now; event_is = refl; wide = h.0; face_is = refl; now_is = refl }, cc h.1)
 down_text (Tick now) text h = absurd (omega (arith, ap first h.1))
 down_text (Packet face now octets) text h = absurd (omega (arith, ap first h.1.2))
 
 pub tick_text : (event : PlainEvent) (text : List ℕ) → LineSpells event (codes "tick" ++ (32 ∷ text))
-    → (now : ℕ) × (now < 2 ^ 64) × (text ≡ decimal now)
+    → (now : ℕ) × (now < 2 ^ 64) × (text ≡ decimal now) × (event ≡ Tick now)
 tick_text (FaceUp face scope now) text h = absurd (omega (arith, ap first h.1))
 tick_text (FaceDown face now) text h = absurd (omega (arith, ap first h.1))
-tick_text (Tick now) text h = (now, h.0, cc h.1)
+tick_text (Tick now) text h = (now, h.0, cc h.1, refl)
 tick_text (Packet face now octets) text h = absurd (omega (arith, ap first h.1.2))
 
 pub in_text : (event : PlainEvent) (text : List ℕ) → LineSpells event (codes "in" ++ (32 ∷ text))
-    → (a b c : List ℕ) × InWords a b c × (text ≡ a ++ (32 ∷ (b ++ (32 ∷ c))))
+    → (a b c : List ℕ) × InWords event a b c × (text ≡ a ++ (32 ∷ (b ++ (32 ∷ c))))
 in_text (FaceUp face scope now) text h = absurd (omega (arith, ap first h.1))
 in_text (FaceDown face now) text h = absurd (omega (arith, ap first h.1))
 in_text (Tick now) text h = absurd (omega (arith, ap first h.1))
 in_text (Packet face now octets) text h =
-    (decimal face, decimal now, h.1.0, record { face = face; now = now; octets = octets; wide = h.0; face_is = refl; now_is = refl; spelled = h.1.1 }, cc h.1.2)
+    (decimal face, decimal now, h.1.0, record { face = face; now = now; octets = octets; event_is = refl; wide = h.0; face_is = refl; now_is = refl; spelled = h.1.1 }, cc h.1.2)
 
-pub up_lacks : (a b c : List ℕ) → UpWords a b c → Lacks 32 a × Lacks 32 b
-up_lacks a b c u = (rw u.face_is (number-Lacks u.face u.wide.0), rw u.scope_is (scope_word-Lacks u.scope))
+pub up_lacks : (event : PlainEvent) (a b c : List ℕ) → UpWords event a b c → Lacks 32 a × Lacks 32 b
+up_lacks event a b c u = (rw u.face_is (number-Lacks u.face u.wide.0), rw u.scope_is (scope_word-Lacks u.scope))
 
-pub in_lacks : (a b c : List ℕ) → InWords a b c → Lacks 32 a × Lacks 32 b
-in_lacks a b c u = (rw u.face_is (number-Lacks u.face u.wide.0), rw u.now_is (number-Lacks u.now u.wide.1))
+pub in_lacks : (event : PlainEvent) (a b c : List ℕ) → InWords event a b c → Lacks 32 a × Lacks 32 b
+in_lacks event a b c u = (rw u.face_is (number-Lacks u.face u.wide.0), rw u.now_is (number-Lacks u.now u.wide.1))
 
 -- the same words, where the text was cut already
 pub up_words : (event : PlainEvent) (text a b c : List ℕ) → Lacks 32 a → Lacks 32 b → text ≡ a ++ (32 ∷ (b ++ (32 ∷ c)))
-    → LineSpells event (codes "up" ++ (32 ∷ text)) → UpWords a b c
+    → LineSpells event (codes "up" ++ (32 ∷ text)) → UpWords event a b c
 up_words event text a b c la lb is h =
     let w = up_text event text h in
     let u = w.3 in
     let face_lacks : Lacks 32 w.0 = rw u.face_is (number-Lacks u.face u.wide.0) in
     let scope_lacks : Lacks 32 w.1 = rw u.scope_is (scope_word-Lacks u.scope) in
     let same = cut_twice_once 32 a b c w.0 w.1 w.2 la lb face_lacks scope_lacks (sym is ∙ w.4) in
-    record { face = u.face; scope = u.scope; now = u.now; wide = u.wide; face_is = same.first ∙ u.face_is; scope_is = same.second ∙ u.scope_is; now_is = same.third ∙ u.now_is }
+    record { face = u.face; scope = u.scope; now = u.now; event_is = u.event_is; wide = u.wide; face_is = same.first ∙ u.face_is; scope_is = same.second ∙ u.scope_is; now_is = same.third ∙ u.now_is }
 
 pub down_words : (event : PlainEvent) (text a b : List ℕ) → Lacks 32 a → text ≡ a ++ (32 ∷ b)
-    → LineSpells event (codes "down" ++ (32 ∷ text)) → DownWords a b
+    → LineSpells event (codes "down" ++ (32 ∷ text)) → DownWords event a b
 down_words event text a b la is h =
     let w = down_text event text h in
     let u = w.2 in
     let face_lacks : Lacks 32 w.0 = rw u.face_is (number-Lacks u.face u.wide.0) in
     let same = cut_once 32 a b w.0 w.1 la face_lacks (sym is ∙ w.3) in
-    record { face = u.face; now = u.now; wide = u.wide; face_is = same.front ∙ u.face_is; now_is = same.back ∙ u.now_is }
+    record { face = u.face; now = u.now; event_is = u.event_is; wide = u.wide; face_is = same.front ∙ u.face_is; now_is = same.back ∙ u.now_is }
 
 pub in_words : (event : PlainEvent) (text a b c : List ℕ) → Lacks 32 a → Lacks 32 b → text ≡ a ++ (32 ∷ (b ++ (32 ∷ c)))
-    → LineSpells event (codes "in" ++ (32 ∷ text)) → InWords a b c
+    → LineSpells event (codes "in" ++ (32 ∷ text)) → InWords event a b c
 in_words event text a b c la lb is h =
     let w = in_text event text h in
     let u = w.3 in
     let face_lacks : Lacks 32 w.0 = rw u.face_is (number-Lacks u.face u.wide.0) in
     let now_lacks : Lacks 32 w.1 = rw u.now_is (number-Lacks u.now u.wide.1) in
     let same = cut_twice_once 32 a b c w.0 w.1 w.2 la lb face_lacks now_lacks (sym is ∙ w.4) in
-    record { face = u.face; now = u.now; octets = u.octets; wide = u.wide; face_is = same.first ∙ u.face_is; now_is = same.second ∙ u.now_is; spelled = rw same.third u.spelled }
+    record { face = u.face; now = u.now; octets = u.octets; event_is = u.event_is; wide = u.wide; face_is = same.first ∙ u.face_is; now_is = same.second ∙ u.now_is; spelled = rw same.third u.spelled }
 
 -- the kind of an event
 abbrev pub kind_word : PlainEvent → List ℕ

@@ -1,5 +1,7 @@
-ghost use Rattle.std.specs.Prelude.{◌≡◌, Err, OnOk, IfErr, MatchOption};
+ghost use Rattle.std.specs.Prelude.{◌≡◌, ℕ, List, Err, OnOk, IfErr, MatchOption};
 ghost use Rattle.node_core.specs.Parts.{parts_fault};
+ghost use Rattle.node_core.specs.Event.{PlainEvent};
+ghost use Rattle.node_core.specs.Script.{IsScript, IsBadAt};
 ghost use Rattle.node_core.specs.Ending.{Ends, Stops, ComesWithGoodParts};
 
 use crate::node::{Node, NodeFault, NodeParts};
@@ -62,3 +64,14 @@ pub fn run_script<R: Read, W: Write>(
     };
     player.play(reader, writer)
 }
+
+/// Law: a text is a script of one list of events, or has one first bad line, after one list of
+/// events, or neither, and never both.
+pub fn scripts_have_one_reading()
+    ensures whole { (text : List ℕ) (a b : List PlainEvent) → IsScript text a → IsScript text b
+        → a ≡ b }
+    ensures bad { (text : List ℕ) (m n : ℕ) (a b : List PlainEvent)
+        → IsBadAt text m a → IsBadAt text n b → (m ≡ n) × (a ≡ b) }
+    ensures either { (text : List ℕ) (n : ℕ) (a b : List PlainEvent) → IsScript text a
+        → IsBadAt text n b → ⊥ }
+{}

@@ -5,7 +5,7 @@ pub returns-in_err-face-clause-none : goal.returns-in_err-face-clause-none
 returns-in_err-face-clause-none c =
     rw c.from_residual.ensures (λ event h.
     let w = up_text event c.args.text.now h in
-    let l = up_lacks w.0 w.1 w.2 w.3 in
+    let l = up_lacks event w.0 w.1 w.2 w.3 in
     c.in_err-face.ensures.none w.0 w.1 w.2 l.0 l.1 w.4)
 
 pub returns-in_err-face-2-clause-none : goal.returns-in_err-face-2-clause-none

@@ -4,7 +4,7 @@ use Rattle.node_core.proofs.line.packet.Goals as goal
 pub returns-in_default-clause-none : goal.returns-in_default-clause-none
 returns-in_default-clause-none c = λ event h.
     let w = in_text event c.args.text.now h in
-    let l = in_lacks w.0 w.1 w.2 w.3 in
+    let l = in_lacks event w.0 w.1 w.2 w.3 in
     c.in_default.ensures.none w.0 w.1 w.2 l.0 l.1 w.4
 
 pub returns-in_default-parse_decimal-clause-none : goal.returns-in_default-parse_decimal-clause-none
