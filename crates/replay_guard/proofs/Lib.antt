@@ -1,0 +1,3 @@
+pub mod Signers
+pub mod Rows
+pub mod Past

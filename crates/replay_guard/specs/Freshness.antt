@@ -1,0 +1,35 @@
+-- Which signed commands are fresh (NDN Packet Format 0.3, "Signed Interest": SignatureTime and
+-- SignatureSeqNum).
+use Rattle.std.specs.Prelude.{◌≡◌, ℕ, ◌+◌, ◌<◌, ◌≤◌, List, Option, None, Some}
+use Rattle.std.specs.List.{AllByRecursion}
+use Rattle.ndn_tlv.specs.Element.{Field}
+
+-- Whoever signs: none for DigestSha256, whose commands are all of one signer, or the name of a key.
+abbrev pub Signer : Type 0
+Signer = Option (List Field)
+
+-- a command that counted: its signer, its time in milliseconds since 1970, and its number, if any
+pub record Recorded : Type 0 where
+  pub signer : Signer
+  pub time : ℕ
+  pub number : Option ℕ
+
+-- two moments that differ by at most 120,000 milliseconds
+abbrev pub AreNear : ℕ → ℕ → Type 0
+AreNear a b = (a ≤ b + 120000) × (b ≤ a + 120000)
+
+-- where both have a number, the first is smaller
+abbrev pub NumberRises : Option ℕ → Option ℕ → Type 0
+NumberRises None number = Unit {0}
+NumberRises (Some m) None = Unit {0}
+NumberRises (Some m) (Some n) = m < n
+
+-- A command of this signer, time and number is newer than what was recorded.
+abbrev pub IsNewer : Signer → ℕ → Option ℕ → Recorded → Type 0
+IsNewer signer time number earlier =
+    earlier.signer ≡ signer → (earlier.time < time) × NumberRises earlier.number number
+
+-- At the moment now it is fresh: near to now, and newer than all that was recorded of its signer.
+abbrev pub Fresh : List Recorded → Signer → ℕ → Option ℕ → ℕ → Type 0
+Fresh past signer time number now =
+    AreNear time now × AllByRecursion (IsNewer signer time number) past

@@ -1,0 +1,3 @@
+pub mod Freshness
+pub mod Guard
+pub mod Rows

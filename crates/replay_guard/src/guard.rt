@@ -1,0 +1,161 @@
+ghost use Rattle.std.specs.Prelude.{◌≡◌, ◌↔◌, ◌<◌, None, Some, length, slice_index_or, slice_set, IsTrue, IsSome, IsOk, IfOk, OnOk, OnErr, MatchOption};
+ghost use Rattle.std.specs.FinMap as map;
+ghost use Rattle.replay_guard.specs.Freshness.{AreNear};
+ghost use Rattle.replay_guard.specs.Guard.{signer_of, signer_cmp, raised, with_recorded, IsFresh};
+ghost use Rattle.replay_guard.specs.Rows.{Row as PlainRow, IsFirst};
+
+use crate::row::{Row, is_key, key_of};
+use crate::signer::Signer;
+use ndn_names::NameBuf;
+use ndn_tlv::Memory;
+use std::alloc::Global;
+use std::marker::Model;
+
+/// How far a command's time may be from the present moment, in milliseconds.
+const WINDOW: u64 = 120_000;
+
+/// The greatest time and the greatest number of the commands that were recorded, by signer.
+#[derive(Drop)]
+pub struct Guard {
+    alloc: Global,
+    rows: Vec<Row>,
+    // The key of the row that is prepared, for which `rows` has room.
+    spare: Option<Option<NameBuf>>,
+}
+
+impl Model for Guard {
+    ghost use Rattle.std.specs.Prelude.{vec_len};
+    ghost use Rattle.std.specs.Vec.{vec_capacity};
+    ghost use Rattle.std.specs.FinMap as map;
+    ghost use Rattle.replay_guard.specs.Guard.{GuardState, state_code};
+    ghost use Rattle.replay_guard.specs.Rows.{HasRoom};
+
+    ghost Value = { GuardState };
+
+    ghost coded = { state_code };
+
+    ghost view = { λ g. record { latest = map.from_entries g.rows.items; prepared = g.spare } };
+
+    ghost invariant = { λ g. HasRoom (vec_len g.rows) (vec_capacity g.rows) g.spare };
+}
+
+impl Guard {
+    /// A guard with nothing recorded.
+    pub fn new(alloc: Global) -> Guard
+        ensures latest { result.latest ≡ map.empty }
+        ensures prepared { result.prepared ≡ None }
+    {
+        Guard {
+            alloc,
+            rows: Vec::new(alloc),
+            spare: None,
+        }
+    }
+
+    /// Whether a signed command is fresh: its time, in milliseconds since 1970, is at most 120,000
+    /// from `now` and greater than each recorded time of its signer, and its number, if it has one,
+    /// is greater than each recorded number.
+    pub fn check(&self, signer: Signer<'_>, time: u64, seq: Option<u64>, now: u64) -> bool
+        ensures { IsTrue result ↔ IsFresh self.now.latest (signer_of signer.entry) time seq now }
+    {
+        if !are_near(time, now) {
+            return false;
+        }
+        match place_of(&self.rows, signer) {
+            Some(at) => self.rows[at].is_before(time, seq),
+            None => true,
+        }
+    }
+
+    /// Records a command. `Memory` comes only for a signer of which nothing is recorded, and
+    /// changes nothing but that no call is prepared any more.
+    pub fn record(&mut self, signer: Signer<'_>, time: u64, seq: Option<u64>) -> Result<(), Memory>
+        ensures ok { OnOk result (self.new.latest ≡ with_recorded self.old.latest
+            (record { signer = signer_of signer.entry; time = time; number = seq })) }
+        ensures err { OnErr result (self.new.latest ≡ self.old.latest) }
+        ensures used { self.new.prepared ≡ None }
+        ensures known { IsSome (map.get self.old.latest (signer_of signer.entry)) → IsOk result }
+        ensures prepared { self.old.prepared ≡ Some (signer_of signer.entry) → IsOk result }
+    {
+        match place_of(&self.rows, signer) {
+            Some(at) => {
+                self.spare = None;
+                raise_at(&mut self.rows, at, time, seq);
+                Ok(())
+            }
+            None => self.add(signer, time, seq),
+        }
+    }
+
+    /// Adds the first row of a signer.
+    fn add(&mut self, signer: Signer<'_>, time: u64, seq: Option<u64>) -> Result<(), Memory>
+        requires { map.get self.old.latest (signer_of signer) ≡ None }
+        ensures ok { OnOk result (self.new.latest ≡ map.insert self.old.latest
+            (signer_of signer.entry) (record { time = time; number = seq })) }
+        ensures err { OnErr result (self.new.latest ≡ self.old.latest) }
+        ensures used { self.new.prepared ≡ None }
+        ensures prepared { self.old.prepared ≡ Some (signer_of signer.entry) → IsOk result }
+    {
+        let spare = self.spare.take();
+        let key = key_in(self.alloc, spare, signer)?;
+        self.rows.push(Row::new(key, time, seq))?;
+        Ok(())
+    }
+
+    /// Prepares one `record` of this signer, which is then not refused memory.
+    pub fn prepare(&mut self, signer: Signer<'_>) -> Result<(), Memory>
+        ensures latest { self.new.latest ≡ self.old.latest }
+        ensures ok { OnOk result (self.new.prepared ≡ Some (signer_of signer.entry)) }
+        ensures err { OnErr result (self.new.prepared ≡ None) }
+    {
+        self.spare = None;
+        self.rows.reserve(1)?;
+        let key = key_of(self.alloc, signer)?;
+        self.spare = Some(key);
+        Ok(())
+    }
+}
+
+/// Whether two moments differ by at most the window.
+fn are_near(a: u64, b: u64) -> bool
+    ensures { IsTrue result ↔ AreNear a b }
+{
+    a.abs_diff(b) <= WINDOW
+}
+
+/// The signer's key: the spare one, or a copy.
+fn key_in(
+    alloc: Global,
+    spare: Option<Option<NameBuf>>,
+    signer: Signer<'_>,
+) -> Result<Option<NameBuf>, Memory>
+    ensures ok { IfOk result (λ key. key ≡ signer_of signer.entry) }
+    ensures spared { spare ≡ Some (signer_of signer.entry) → IsOk result }
+{
+    match spare {
+        Some(key) if is_key(&key, signer) => Ok(key),
+        _ => key_of(alloc, signer),
+    }
+}
+
+/// The place of a signer's row.
+fn place_of(rows: &[Row], signer: Signer<'_>) -> Option<usize>
+    ensures { MatchOption result (map.find signer_cmp (signer_of signer.entry) rows.now ≡ None)
+        (IsFirst (signer_of signer.entry) rows.now) }
+{
+    for (at, row) in rows.iter().enumerate() {
+        if row.is_of(signer) {
+            return Some(at);
+        }
+    }
+    None
+}
+
+/// Takes a command into the row at this place.
+fn raise_at(rows: &mut Vec<Row>, at: usize, time: u64, number: Option<u64>)
+    requires { at < length rows.old.items }
+    ensures { (row : PlainRow) → row ≡ slice_index_or rows.old.items at row
+        → rows.new.items ≡ slice_set rows.old.items at (row.0, raised (Some row.1) time number) }
+{
+    rows[at].raise(time, number);
+}

@@ -1,0 +1,9 @@
+ghost use Rattle.std.specs.Prelude.{◌↔◌, ℕ, List, Option};
+ghost use Rattle.replay_guard.specs.Freshness.{Signer, Recorded, Fresh};
+ghost use Rattle.replay_guard.specs.Guard.{table_of, IsFresh};
+
+/// Law: what is kept by signer tells freshness as all that was recorded does.
+pub fn freshness_is_read_off_the_past()
+    ensures { (past : List Recorded) (signer : Signer) (time : ℕ) (number : Option ℕ) (now : ℕ)
+        → IsFresh (table_of past) signer time number now ↔ Fresh past signer time number now }
+{}

@@ -1,0 +1,11 @@
+//! Which signed commands are new: a guard against replays.
+#![tactic(auto)]
+
+mod guard;
+mod law;
+mod row;
+mod signer;
+
+pub use guard::Guard;
+pub use law::freshness_is_read_off_the_past;
+pub use signer::Signer;
