@@ -9,6 +9,3 @@ mod key_line;
 pub use fault::KeyFault;
 pub use hmac::{hmac_sha256, tags_equal};
 pub use key_book::KeyBook;
-
-#[cfg(test)]
-mod tests;

@@ -23,6 +23,3 @@ pub use order::{
 };
 pub use uri::names_read_back;
 pub use uri_reader::{component_from_uri, texts_have_one_reading};
-
-#[cfg(test)]
-mod tests;

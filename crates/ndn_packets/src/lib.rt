@@ -28,6 +28,3 @@ pub use interest::Interest;
 pub use interest_writer::InterestWriter;
 pub use link::put_nack;
 pub use signature::{Locator, Sign, Signature};
-
-#[cfg(test)]
-mod tests;

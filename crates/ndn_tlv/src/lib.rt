@@ -16,6 +16,3 @@ pub use memory::Memory;
 pub use number::{
     each_number_has_one_spelling, no_spelling_begins_another, number_len, number_of, put_number,
 };
-
-#[cfg(test)]
-mod tests;

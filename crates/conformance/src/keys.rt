@@ -1,0 +1,237 @@
+//! HMAC (RFC 2104) and books of named keys.
+
+use crate::rows::{check_rows, octets};
+use hmac_keys::*;
+use ndn_names::NameBuf;
+use std::alloc::Global;
+use std::test::*;
+
+/// The HMAC of a text under a key, the same wherever the text is parted.
+fn tag(alloc: Global, input: &str) -> Option<String> {
+    let (key, text) = input.split_once(" | ")?;
+    let key = octets(alloc, key)?;
+    let text = octets(alloc, text)?;
+    let tag = hmac_sha256(&key, &text, &[]);
+    for place in 0..text.len() {
+        if hmac_sha256(&key, &text[..place], &text[place..]) != tag {
+            return None;
+        }
+    }
+    hex::encode(alloc, tag.as_slice()).ok()
+}
+
+/// Test cases 1, 2, 3, 4, 6 and 7 of RFC 4231.
+#[test]
+fn hmac_vectors(rt: HostRuntime) {
+    let rows = "
+# Hi There
+0bx20 | 4869205468657265 -> b0344c61d8db38535ca8afceaf0bf12b881dc200c9833da726e9376c2e32cff7
+# Jefe: what do ya want for nothing?
+4a656665 | 7768617420646f2079612077616e7420666f72206e6f7468696e673f -> 5bdcc146bf60754e6a042426089575c75a003f089d2739839dec58b964ec3843
+aax20 | ddx50 -> 773ea91e36800e46854db8ebd09181a72959098b3ef8c122d9635514ced565fe
+0102030405060708090a0b0c0d0e0f10111213141516171819 | cdx50 -> 82558a389a443c0ea4cc819899f2083a85f0faa3e578f8077a2e3ff46729665b
+# Test Using Larger Than Block-Size Key - Hash Key First
+aax131 | 54657374205573696e67204c6172676572205468616e20426c6f636b2d53697a65204b6579202d2048617368204b6579204669727374 -> 60e431591ee0b67f0d8a26aacbf5b77f8e0bc6213728c5140546040f0ee37f54
+# This is a test using a larger than block-size key and a larger than block-size data. The key needs to be hashed before being used by the HMAC algorithm.
+aax131 | 5468697320697320612074657374207573696e672061206c6172676572207468616e20626c6f636b2d73697a65206b657920616e642061206c6172676572207468616e20626c6f636b2d73697a6520646174612e20546865206b6579206e6565647320746f20626520686173686564206265666f7265206265696e6720757365642062792074686520484d414320616c676f726974686d2e -> 9b09ffa71b942fcb27635fbcd5b0e944bfdc63644f0713938a7f51535c3a35e2
+";
+    check_rows(&rt, rt.alloc(), rows, tag);
+}
+
+/// Keys of the octets 0, 1, 2 and so on, around the length of a block.
+#[test]
+fn keys_around_a_block(rt: HostRuntime) {
+    let rows = "
+ | 74657874 -> 0611b704abab473f956257a09cc2fc2c867211d077bdffc5a91bd8a5047826ff
+000102030405060708090a0b0c0d0e0f101112131415161718191a1b1c1d1e1f202122232425262728292a2b2c2d2e2f303132333435363738393a3b3c3d3e | 74657874 -> 031e7f31fa690d4d7e39698aa240b66d3c8705b13c107f23e26c46845e06e921
+000102030405060708090a0b0c0d0e0f101112131415161718191a1b1c1d1e1f202122232425262728292a2b2c2d2e2f303132333435363738393a3b3c3d3e3f | 74657874 -> 641d21a27db22a6a1e8bc28f948eee3c9e7c855f3e74f1fdf67f026e0e4fe70e
+000102030405060708090a0b0c0d0e0f101112131415161718191a1b1c1d1e1f202122232425262728292a2b2c2d2e2f303132333435363738393a3b3c3d3e3f40 | 74657874 -> 03b31bdc10d1463cc050380fe3b8ddbc053dfb2f31c33564cefadfed4badba01
+";
+    check_rows(&rt, rt.alloc(), rows, tag);
+}
+
+/// Whether a value is a tag of 32 octets.
+fn is_tag(alloc: Global, input: &str) -> Option<String> {
+    let (value, tag) = input.split_once(" | ")?;
+    let value = octets(alloc, value)?;
+    let tag = octets(alloc, tag)?;
+    let tag = <[u8; 32]>::try_from(tag.as_slice()).ok()?;
+    tags_equal(&value, &tag).to_string(alloc).ok()
+}
+
+#[test]
+fn equal_tags(rt: HostRuntime) {
+    let rows = "
+5ax32 | 5ax32 -> true
+5b 5ax31 | 5ax32 -> false
+5ax32 | 5b 5ax31 -> false
+5ax15 5b 5ax16 | 5ax32 -> false
+5ax32 | 5ax15 5b 5ax16 -> false
+5ax16 5b 5ax15 | 5ax32 -> false
+5ax32 | 5ax16 5b 5ax15 -> false
+5ax31 5b | 5ax32 -> false
+5ax32 | 5ax31 5b -> false
+5ax32 00 | 5ax32 -> false
+5ax31 | 5ax32 -> false
+ | 5ax32 -> false
+";
+    check_rows(&rt, rt.alloc(), rows, is_tag);
+}
+
+/// The number of keys in a key file and the key of a name, or the fault of the file.
+fn found(alloc: Global, file: &str, uri: &str) -> Option<String> {
+    let book = match KeyBook::read(alloc, file) {
+        Ok(book) => book,
+        Err(fault) => return format!(in alloc; "{fault:?}").ok(),
+    };
+    let name = NameBuf::from_uri(alloc, uri).ok()?;
+    let key = hex::encode(alloc, book.find(name.view()).unwrap_or(&[])).ok()?;
+    let len = book.len();
+    if key.is_empty() {
+        return len.to_string(alloc).ok();
+    }
+    format!(in alloc; "{len}: {key}").ok()
+}
+
+/// What is found of a name in a file. Before it may stand how many keys /0, /1 and so on begin the file.
+fn key_file(alloc: Global, input: &str) -> Option<String> {
+    let (count, rest) = input.split_once('|').unwrap_or(("0", input));
+    let (end, uri) = rest.split_once(" ? ").unwrap_or((rest, "/"));
+    let mut file = String::new(alloc);
+    for i in 0..count.parse::<u16>().ok()? {
+        write!(file, "/{i} 00\n").ok()?;
+    }
+    for character in end.chars() {
+        file.push(match character {
+            '↵' => '\n',
+            '␍' => '\r',
+            other => other,
+        })
+        .ok()?;
+    }
+    found(alloc, &file, uri)
+}
+
+#[test]
+fn key_files(rt: HostRuntime) {
+    assert!(rt; KeyBook::new(rt.alloc()).len() == 0);
+    let rows = "
+/ops/KEY/1 6b6579 ? /ops/KEY/1 -> 1: 6b6579
+/ops/KEY/1 6b6579↵ ? /ops/KEY/1 -> 1: 6b6579
+/A 6B6a4C ? /A -> 1: 6b6a4c
+ndn:/A/ 00 ? /A -> 1: 00
+/a b c 01 ? /a%20b%20c -> 1: 01
+↵↵;↵; /A↵/A ff↵;/B 00 ? /A -> 1: ff
+/; 10 ? /%3B -> 1: 10
+# A CR is part of its line, and in a line that is skipped it is of no account.
+;␍↵/A␍ 00 ? /A%0D -> 1: 00
+# No key.
+ -> 0
+↵ -> 0
+; -> 0
+↵;↵↵ -> 0
+";
+    check_rows(&rt, rt.alloc(), rows, key_file);
+}
+
+#[test]
+fn faulty_lines(rt: HostRuntime) {
+    let rows = "
+/A 00␍↵/B 01 -> BadLine(1)
+/A 00↵␍↵ -> BadLine(2)
+/A -> BadLine(1)
+↵; one↵↵00 -> BadLine(4)
+/A 0 -> BadLine(1)
+/A 00000 -> BadLine(1)
+/A 0g -> BadLine(1)
+/A  -> BadLine(1)
+/A  00  -> BadLine(1)
+/A 00 ; one -> BadLine(1)
+ 00 -> BadLine(1)
+ ; -> BadLine(1)
+/ 00 -> BadLine(1)
+ndn:/ 00 -> BadLine(1)
+A 00 -> BadLine(1)
+/%4 00 -> BadLine(1)
+/1=00 00 -> BadLine(1)
+/A 00↵/%41 01 -> TwiceNamed(2)
+/A 00↵↵;↵/8=A/ 00↵ -> TwiceNamed(4)
+# Of two faulty lines the first is reported.
+/A 00↵/A 01↵/B -> TwiceNamed(2)
+/A 00↵/B↵/A 01 -> BadLine(2)
+/A 00↵/A 0↵/A 00 -> BadLine(2)
+";
+    check_rows(&rt, rt.alloc(), rows, key_file);
+}
+
+/// What is found of a key of these octets, up to the key.
+fn file_of_key(alloc: Global, input: &str) -> Option<String> {
+    let digits = hex::encode(alloc, octets(alloc, input)?).ok()?;
+    let file = format!(in alloc; "/A {digits}\n").ok()?;
+    let found = found(alloc, &file, "/A")?;
+    String::from_str(
+        alloc,
+        found
+            .strip_suffix(digits.as_str())
+            .unwrap_or(&found)
+            .trim_end(),
+    )
+    .ok()
+}
+
+/// Keys of 1, 256 and 257 octets.
+#[test]
+fn lengths_of_keys(rt: HostRuntime) {
+    let rows = "
+ -> BadLine(1)
+5a -> 1:
+5ax256 -> 1:
+5ax257 -> BadLine(1)
+";
+    check_rows(&rt, rt.alloc(), rows, file_of_key);
+}
+
+#[test]
+fn full_books(rt: HostRuntime) {
+    let rows = "
+256| -> 256
+256|↵; -> 256
+256|/256 00 -> TooMany
+256|/256 0 -> BadLine(257)
+256|/%32%35%35 01 -> TwiceNamed(257)
+256|/0 00↵/256 00 -> TwiceNamed(257)
+256| ? /255 -> 256: 00
+255|/256 01 ? /256 -> 256: 01
+";
+    check_rows(&rt, rt.alloc(), rows, key_file);
+}
+
+#[test]
+fn keys_by_names(rt: HostRuntime) {
+    let rows = "
+/A/B 01↵/A/B/C 02↵/B 0304↵ -> 3
+/A/B 01↵/A/B/C 02↵/B 0304↵ ? /A/B -> 3: 01
+/A/B 01↵/A/B/C 02↵/B 0304↵ ? /%41/8=B/ -> 3: 01
+/A/B 01↵/A/B/C 02↵/B 0304↵ ? /A/B/C -> 3: 02
+/A/B 01↵/A/B/C 02↵/B 0304↵ ? /B -> 3: 0304
+/A/B 01↵/A/B/C 02↵/B 0304↵ ? /A -> 3
+/A/B 01↵/A/B/C 02↵/B 0304↵ ? /A/B/C/D -> 3
+/A/B 01↵/A/B/C 02↵/B 0304↵ ? /C -> 3
+/A/B 01↵/A/B/C 02↵/B 0304↵ ? / -> 3
+";
+    check_rows(&rt, rt.alloc(), rows, key_file);
+}
+
+/// Whether a file has this number of keys, or this fault, unless memory is refused.
+fn reads_or_memory(alloc: Global, file: &str, expected: Result<usize, KeyFault>) -> bool {
+    let read = KeyBook::read(alloc, file).map(|book| book.len());
+    read == expected || read == Err(KeyFault::Memory)
+}
+
+#[test]
+fn refused_memory(rt: HostRuntime) {
+    let file = "/A/KEY/1 6b6579\n; another\n\n/A/KEY/a%20name%20of%20a%20key 00\n/B ff";
+    assert!(rt; reads_or_memory(rt.alloc(), file, Ok(3)));
+    assert!(rt; reads_or_memory(rt.alloc(), "/A 00\n/A/B 0", Err(KeyFault::BadLine(2))));
+    assert!(rt; reads_or_memory(rt.alloc(), "/A 00\n/%41 00", Err(KeyFault::TwiceNamed(2))));
+}

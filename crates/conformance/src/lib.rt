@@ -1,0 +1,13 @@
+//! Tests of the libraries' public calls: rows of text that a checking function reads.
+#![tactic(auto)]
+
+#[cfg(test)]
+mod keys;
+#[cfg(test)]
+mod names;
+#[cfg(test)]
+mod packets;
+#[cfg(test)]
+mod rows;
+#[cfg(test)]
+mod tlv;

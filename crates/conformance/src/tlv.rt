@@ -1,0 +1,172 @@
+//! Numbers and elements (NDN Packet Format 0.3, "Type-Length-Value (TLV) Encoding").
+
+use crate::rows::{check_rows, octets};
+use ndn_tlv::*;
+use std::alloc::Global;
+use std::test::*;
+
+/// The spelling of a number, which reads as that number.
+fn spelling(alloc: Global, number: &str) -> Option<String> {
+    let number = number.parse().ok()?;
+    let mut out = Vec::new(alloc);
+    put_number(&mut out, number).ok()?;
+    let (read, rest) = number_of(&out).ok()?;
+    if read != number || !rest.is_empty() || number_len(number) != out.len() {
+        return None;
+    }
+    hex::encode(alloc, out).ok()
+}
+
+#[test]
+fn number_spellings(rt: HostRuntime) {
+    let rows = "
+252 -> fc
+253 -> fd00fd
+65535 -> fdffff
+65536 -> fe00010000
+";
+    check_rows(&rt, rt.alloc(), rows, spelling);
+}
+
+/// The element at the front of some octets and what follows it, or the fault.
+fn first(alloc: Global, input: &str) -> Option<String> {
+    let octets = octets(alloc, input)?;
+    match first_element(&octets) {
+        Ok((element, rest)) => {
+            let (kind, value_len) = (element.kind, element.value.len());
+            let (len, rest_len) = (element.whole.len(), rest.len());
+            format!(in alloc; "type {kind}, {value_len} of {len} octets, and {rest_len}").ok()
+        }
+        Err(fault) => format!(in alloc; "{fault:?}").ok(),
+    }
+}
+
+/// The element of a type and a value.
+fn written(alloc: Global, input: &str) -> Option<String> {
+    let (kind, value) = input.split_once(' ')?;
+    let kind = kind.parse().ok()?;
+    let mut out = Vec::new(alloc);
+    if kind > 0 {
+        put_element(&mut out, kind, &octets(alloc, value)?).ok()?;
+    }
+    hex::encode(alloc, out).ok()
+}
+
+/// An Interest: its Name /A and its Nonce.
+#[test]
+fn smallest_interest(rt: HostRuntime) {
+    let rows = "
+050b07030141410a0401020304 -> type 5, 11 of 13 octets, and 0
+";
+    check_rows(&rt, rt.alloc(), rows, first);
+    let rows = "
+5 07030141410a0401020304 -> 050b07030141410a0401020304
+";
+    check_rows(&rt, rt.alloc(), rows, written);
+}
+
+#[test]
+fn refused_spellings(rt: HostRuntime) {
+    let rows = "
+# The length 11 in three octets, and the type 5.
+05fd000b07030141410a0401020304 -> NotShortest
+fd000500 -> NotShortest
+0000 -> TypeZero
+ff0000000100000000 -> TypeTooLarge
+# Octets are missing.
+ -> Truncated
+05 -> Truncated
+050b -> Truncated
+050b07 -> Truncated
+050b0703 -> Truncated
+050b070301 -> Truncated
+050b07030141 -> Truncated
+050b0703014141 -> Truncated
+050b07030141410a -> Truncated
+050b07030141410a04 -> Truncated
+050b07030141410a0401 -> Truncated
+050b07030141410a040102 -> Truncated
+050b07030141410a04010203 -> Truncated
+";
+    check_rows(&rt, rt.alloc(), rows, first);
+}
+
+/// A whole value as a NonNegativeInteger.
+fn integer(alloc: Global, input: &str) -> Option<String> {
+    match nni_of(&octets(alloc, input)?) {
+        Ok(number) => number.to_string(alloc).ok(),
+        Err(fault) => format!(in alloc; "{fault:?}").ok(),
+    }
+}
+
+/// The shortest NonNegativeInteger of a number.
+fn shortest_integer(alloc: Global, number: &str) -> Option<String> {
+    let number = number.parse().ok()?;
+    let mut out = Vec::new(alloc);
+    put_nni(&mut out, number).ok()?;
+    if nni_len(number) != out.len() {
+        return None;
+    }
+    hex::encode(alloc, out).ok()
+}
+
+#[test]
+fn integers(rt: HostRuntime) {
+    let rows = "
+ -> BadInteger
+01 -> 1
+0102 -> 258
+010203 -> BadInteger
+01020304 -> 16909060
+0102030405060708 -> 72623859790382856
+010203040506070809 -> BadInteger
+";
+    check_rows(&rt, rt.alloc(), rows, integer);
+    let rows = "
+255 -> ff
+256 -> 0100
+65536 -> 00010000
+4294967296 -> 0000000100000000
+";
+    check_rows(&rt, rt.alloc(), rows, shortest_integer);
+}
+
+/// The types of the elements and the lengths of their values, up to the end or the fault.
+fn elements(alloc: Global, input: &str) -> Option<String> {
+    let octets = octets(alloc, input)?;
+    let mut text = String::new(alloc);
+    for element in Elements::new(&octets) {
+        match element {
+            Ok(element) => write!(text, "({} {})", element.kind, element.value.len()).ok()?,
+            Err(fault) => write!(text, "({fault:?})").ok()?,
+        }
+    }
+    Some(text)
+}
+
+#[test]
+fn elements_end_with_the_octets_or_a_fault(rt: HostRuntime) {
+    let rows = "
+0801410a00 -> (8 1)(10 0)
+0801410a0201 -> (8 1)(Truncated)
+";
+    check_rows(&rt, rt.alloc(), rows, elements);
+}
+
+/// Whether each of these appends all of its octets, or none where memory is refused.
+fn append_all_or_nothing(alloc: Global) -> bool {
+    let mut number = Vec::new(alloc);
+    let number_put = put_number(&mut number, 65_536).is_ok();
+    let mut integer = Vec::new(alloc);
+    let integer_put = put_nni(&mut integer, 65_536).is_ok();
+    let mut element = Vec::new(alloc);
+    let element_put = put_element(&mut element, 8, &[1; 13]).is_ok();
+    number_put != number.is_empty()
+        && integer_put != integer.is_empty()
+        && element_put != element.is_empty()
+}
+
+#[test]
+fn refused_memory_appends_nothing(rt: HostRuntime) {
+    assert!(rt; append_all_or_nothing(rt.alloc()));
+}
