@@ -14,9 +14,9 @@ use Rattle.hmac_keys.specs.KeyReading.{has_name, key_in, with_key, on_option, af
 use Rattle.hmac_keys.proofs.Keys.{key_found, key_again}
 use Rattle.hmac_keys.proofs.Books.{one_name, named_twice, one_too_many, key_added, apart_more}
 
--- ---- a line and the text behind it
+-- ---- a line and the text after it
 
--- the text's lines are this line and those behind it, or this line alone
+-- the text's lines are this line and those after it, or this line alone
 abbrev pub BeginsWith : List ℕ → List ℕ → List ℕ → Type 0
 BeginsWith text line after = (lines_of text ≡ line ∷ lines_of after) ⊎ ((lines_of text ≡ line ∷ []) × (after ≡ []))
 

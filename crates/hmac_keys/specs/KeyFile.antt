@@ -23,7 +23,8 @@ abbrev pub is_skipped : List ℕ → Bool
 is_skipped [] = true
 is_skipped (o ∷ line) = o == 59
 
--- the line of a key: the URI of a name that is not empty, a space, and from 1 to 256 octets in hexadecimal digits of either case
+-- the line of a key: the URI of a name that is not empty, a space, and from 1 to 256 octets in
+-- hexadecimal digits of either case
 pub record IsKeyLine (line : List ℕ) (key : NamedKey) : Type 0 where
   pub uri : List ℕ
   pub digits : List ℕ
@@ -39,7 +40,9 @@ abbrev pub AreKeysOf : List (List ℕ) → List NamedKey → Type 0
 AreKeysOf [] keys = keys ≡ []
 AreKeysOf (line ∷ lines) keys =
     ((is_skipped line ≡ true) × AreKeysOf lines keys)
-    ⊎ ((is_skipped line ≡ false) × ((key : NamedKey) × (others : List NamedKey) × (keys ≡ key ∷ others) × IsKeyLine line key × AreKeysOf lines others))
+    ⊎ ((is_skipped line ≡ false)
+    × ((key : NamedKey) × (others : List NamedKey) × (keys ≡ key ∷ others) × IsKeyLine line key
+    × AreKeysOf lines others))
 
 -- no two keys have one name
 abbrev pub AreApart : List NamedKey → Type 0

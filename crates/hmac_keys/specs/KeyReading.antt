@@ -14,10 +14,12 @@ abbrev pub on_option : {A C : Type 0} → (A → C) → C → Option A → C
 on_option f c None = c
 on_option f c (Some x) = f x
 
--- what stands before the last space and behind it
+-- what stands before the last space and after it
 unfoldable pub at_last_space : List ℕ → Option (List ℕ × List ℕ)
 at_last_space [] = None
-at_last_space (o ∷ line) = on_option (λ x. Some (o ∷ x.0, x.1)) (if o == 32 then Some ([], line) else None) (at_last_space line)
+at_last_space (o ∷ line) =
+    on_option (λ x. Some (o ∷ x.0, x.1)) (if o == 32 then Some ([], line) else None)
+    (at_last_space line)
 
 abbrev pub not_empty : List Field → Option (List Field)
 not_empty [] = None
@@ -29,11 +31,19 @@ name_of uri = on_result not_empty (λ _. None) (name_in uri)
 
 -- the octets of hexadecimal digits, if they are from 1 to 256
 abbrev pub octets_of : List ℕ → Option (List ℕ)
-octets_of digits = on_result (λ octets. if nat_le 1 (length octets) && nat_le (length octets) 256 then Some octets else None) (λ _. None) (decode_of digits)
+octets_of digits =
+    on_result
+    (λ octets. if nat_le 1 (length octets) && nat_le (length octets) 256 then Some octets else None)
+    (λ _. None) (decode_of digits)
 
 -- the key of a line, if it is the line of one
 abbrev pub key_in : List ℕ → Option NamedKey
-key_in line = on_option (λ parts. on_option (λ name. on_option (λ octets. Some (name, octets)) None (octets_of parts.1)) None (name_of parts.0)) None (at_last_space line)
+key_in line =
+    on_option
+    (λ parts. on_option
+    (λ name. on_option (λ octets. Some (name, octets)) None (octets_of parts.1)) None
+    (name_of parts.0))
+    None (at_last_space line)
 
 abbrev pub has_name : List Field → List NamedKey → Bool
 has_name name [] = false
@@ -48,12 +58,14 @@ with_key n keys key =
 
 -- the keys after line n
 abbrev pub after_line : ℕ → List NamedKey → List ℕ → Result (List NamedKey) KeyFault
-after_line n keys line = if is_skipped line then Ok keys else on_option (with_key n keys) (Err (BadLine n)) (key_in line)
+after_line n keys line =
+    if is_skipped line then Ok keys else on_option (with_key n keys) (Err (BadLine n)) (key_in line)
 
--- the keys of lines from number n on, behind these
+-- the keys of lines from number n on, after these
 unfoldable pub keys_from : ℕ → List NamedKey → List (List ℕ) → Result (List NamedKey) KeyFault
 keys_from n keys [] = Ok keys
-keys_from n keys (line ∷ lines) = on_result (λ more. keys_from (n + 1) more lines) (λ fault. Err fault) (after_line n keys line)
+keys_from n keys (line ∷ lines) =
+    on_result (λ more. keys_from (n + 1) more lines) (λ fault. Err fault) (after_line n keys line)
 
 abbrev pub keys_in : List ℕ → Result (List NamedKey) KeyFault
 keys_in text = keys_from 1 [] (lines_of text)

@@ -15,4 +15,5 @@ xor_each pad block = map (λ octet. bit_xor octet pad) block
 
 -- H (K xor opad, H (K xor ipad, text)), where opad is 5c and ipad 36 in hexadecimal
 abbrev pub Mac : List ℕ → List ℕ → List ℕ
-Mac key text = sha256 (xor_each 0x5C (block_of key) ++ sha256 (xor_each 0x36 (block_of key) ++ text))
+Mac key text =
+    sha256 (xor_each 0x5C (block_of key) ++ sha256 (xor_each 0x36 (block_of key) ++ text))

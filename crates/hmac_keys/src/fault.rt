@@ -5,8 +5,8 @@ use std::alloc::AllocFailed;
 use thiserror::Error;
 
 /// Why a key file is none: its first faulty line, by its number. All the lines are counted, from 1,
-/// those too that are skipped. Of several faults of one line the first in this order is told, but
-/// `Memory` may come in place of any.
+/// those too that are skipped. Of several faults of one line the first in this order is reported,
+/// but `Memory` may come in place of any.
 #[derive(Clone, Copy, Debug, PartialEq, Eq, Error)]
 pub enum KeyFault {
     /// A line is not the URI of a name that is not empty, a space, and from 1 to 256 octets in
@@ -19,7 +19,7 @@ pub enum KeyFault {
     /// A line has the 257th key.
     #[error("more than 256 keys")]
     TooMany,
-    /// A growth of memory was refused.
+    /// Memory could not be allocated.
     #[error("out of memory")]
     Memory,
 }

@@ -23,7 +23,8 @@ impl Key {
 
     /// The key of a line of this number, which is not skipped.
     fn read(alloc: Global, number: u64, line: &str) -> Result<Key, KeyFault>
-        ensures { MatchResult result (λ key. key_in line.now ≡ Some (key.name, key.octets.items)) (IsLineFault number (key_in line.now)) }
+        ensures { MatchResult result (λ key. key_in line.now ≡ Some (key.name, key.octets.items))
+            (IsLineFault number (key_in line.now)) }
     {
         match line.rsplit_once(' ') {
             None => Err(KeyFault::BadLine(number)),
@@ -52,7 +53,8 @@ impl Model for KeyBook {
 
     ghost view = { λ book. named_keys book.keys.items };
 
-    ghost invariant = { λ book. AreApart (named_keys book.keys.items) × (length (named_keys book.keys.items) ≤ 256) };
+    ghost invariant = { λ book. AreApart (named_keys book.keys.items)
+        × (length (named_keys book.keys.items) ≤ 256) };
 }
 
 impl KeyBook {
@@ -72,16 +74,17 @@ impl KeyBook {
 
     /// Reads a key file, of at most 256 keys. Its lines are parted by LF. The last space of a line
     /// parts the URI of a name that is not empty, as `NameBuf::from_uri` reads it, from the key: 1
-    /// to 256 octets in hexadecimal digits of either case. A CR belongs to its line. Empty lines, and
-    /// those that begin with `;`, are skipped, but are counted.
+    /// to 256 octets in hexadecimal digits of either case. A CR belongs to its line. Empty lines,
+    /// and those that begin with `;`, are skipped, but are counted.
     ///
-    /// Refuses it by its first faulty line, and then reads no key: see `KeyFault`. Two names are one
-    /// if their components are, however the URIs spell them. `Memory` may come at any text.
+    /// Refuses it by its first faulty line, and then reads no key: see `KeyFault`. Two names are
+    /// one if their components are, however the URIs spell them. `Memory` may come at any text.
     pub fn read(alloc: Global, text: &str) -> Result<KeyBook, KeyFault>
         // What is read, the text spells.
         ensures found { IfOk result (KeysOf text.now) }
         // What the text spells is read, but for memory.
-        ensures only { (keys : List NamedKey) → KeysOf text.now keys → (result ≡ Ok keys) ⊎ IsErrOf result KeyFault.Memory }
+        ensures only { (keys : List NamedKey) → KeysOf text.now keys
+            → (result ≡ Ok keys) ⊎ IsErrOf result KeyFault.Memory }
         // Which fault it is.
         ensures fault { IfErr result (IsFaultOf (keys_in text.now)) }
     {

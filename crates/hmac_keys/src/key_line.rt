@@ -13,7 +13,7 @@ use std::alloc::Global;
 /// The greatest length of a key, in octets.
 const MAX_KEY_LEN: usize = 256;
 
-/// The first line, and the text behind its LF; all of the text and nothing, where it has no LF.
+/// The first line, and the text after its LF; all of the text and nothing, where it has no LF.
 pub(crate) fn first_line(text: &str) -> (&str, &str)
     requires { text.now ≢ [] }
     ensures lines { (lines_of text.now ≡ result.0.now ∷ lines_of result.1.now)
@@ -35,7 +35,8 @@ pub(crate) fn is_skipped(line: &str) -> bool
 
 /// The name of a URI in a line of this number, if it is not empty.
 pub(crate) fn name_of(alloc: Global, number: u64, uri: &str) -> Result<NameBuf, KeyFault>
-    ensures { MatchResult result (λ name. name_of uri.now ≡ Some name) (IsLineFault number (name_of uri.now)) }
+    ensures { MatchResult result (λ name. name_of uri.now ≡ Some name)
+        (IsLineFault number (name_of uri.now)) }
 {
     match NameBuf::from_uri(alloc, uri) {
         Err(NameFault::Memory) => Err(KeyFault::Memory),
@@ -51,7 +52,8 @@ pub(crate) fn name_of(alloc: Global, number: u64, uri: &str) -> Result<NameBuf, 
 
 /// The octets of the hexadecimal digits in a line of this number, if they are from 1 to 256.
 pub(crate) fn octets_of(alloc: Global, number: u64, digits: &str) -> Result<Vec<u8>, KeyFault>
-    ensures { MatchResult result (λ octets. octets_of digits.now ≡ Some octets.items) (IsLineFault number (octets_of digits.now)) }
+    ensures { MatchResult result (λ octets. octets_of digits.now ≡ Some octets.items)
+        (IsLineFault number (octets_of digits.now)) }
 {
     match hex::decode(alloc, digits.as_bytes()) {
         Err(FromHexError::OutOfMemory) => Err(KeyFault::Memory),

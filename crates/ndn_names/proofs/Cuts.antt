@@ -3,7 +3,7 @@ use Rattle.std.proofs.Common.{◌≡◌, ◌≢◌, ℕ, suc, ◌<◌, List, [],
 use Rattle.std.specs.Prelude.{Some, None}
 use Rattle.std.proofs.Common.{Bor}
 use Rattle.std.proofs.lemmas.Str.Pattern.{IsSplitOnceResult, split_parts}
-use Rattle.ndn_names.specs.Word.{kind_of}
+use Rattle.ndn_names.specs.TypeName.{kind_of}
 use Rattle.ndn_names.specs.UriReading.{plain_in, typed_in, cut_at, component_by_cut, component_in, pieces_of}
 use Rattle.ndn_names.proofs.TextReading.{Lacks}
 use Rattle.ndn_names.proofs.PieceReading.{cut_again, cut_lacking}

@@ -7,7 +7,7 @@ use Rattle.std.proofs.lemmas.Bool.{lt-ltb, le-ltb, ltb-true, ne_eqb, false_from_
 use Rattle.std.proofs.lemmas.Slice.Eq.{bytes_eq-Decides}
 use Rattle.std.proofs.lemmas.Fmt.{decimal_digit, first_decimal, decimal-digits_value}
 use Rattle.std.proofs.lemmas.Str.Parse.{parse_plain}
-use Rattle.ndn_names.proofs.WordReading.{own, number_found}
+use Rattle.ndn_names.proofs.TypeNameReading.{own, number_found}
 use Rattle.ndn_names.specs.declared.fault.NameFault.{NameFault}
 use Rattle.ndn_names.specs.declared.fault.NameFault.TheVariants.{BadUri}
 use Rattle.ndn_names.specs.UriReading.{number_in, type_in}
@@ -46,21 +46,21 @@ first_of_zero : get_or (decimal 0) 0 0 ≡ 48
 first_of_zero = rw (decimal_digit 0 (omega arith)) refl
 
 -- the number of a type: no leading zeros
-pub type_read : (word : List ℕ) (kind : ℕ) → get_or word 0 0 ≢ 48 → number_in word ≡ Ok kind → kind < 65536 → type_in word ≡ Ok kind
-type_read word kind lead e small =
-    let p = number_found word kind e in
-    let text : decimal (digits_value 10 word) ≡ word = decimal-digits_value own word (own.from word p.0.1) p.0.0 (λ z. absurd (lead z)) p.1 in
-    let same : word ≡ decimal kind = sym text ∙ ap decimal (sym p.2) in
+pub type_read : (type_name : List ℕ) (kind : ℕ) → get_or type_name 0 0 ≢ 48 → number_in type_name ≡ Ok kind → kind < 65536 → type_in type_name ≡ Ok kind
+type_read type_name kind lead e small =
+    let p = number_found type_name kind e in
+    let text : decimal (digits_value 10 type_name) ≡ type_name = decimal-digits_value own type_name (own.from type_name p.0.1) p.0.0 (λ z. absurd (lead z)) p.1 in
+    let same : type_name ≡ decimal kind = sym text ∙ ap decimal (sym p.2) in
     let some : kind ≢ 0 = λ z. lead (ap (λ (t : List ℕ). get_or t 0 0) (same ∙ ap decimal z) ∙ first_of_zero) in
-    rw (e, ne_eqb kind 0 some, le-ltb 65535 kind (omega arith), (bytes_eq-Decides word (decimal kind)).1 same) refl
+    rw (e, ne_eqb kind 0 some, le-ltb 65535 kind (omega arith), (bytes_eq-Decides type_name (decimal kind)).1 same) refl
 
-pub type_with_zero : (word : List ℕ) → get_or word 0 0 ≡ 48 → type_in word ≡ Err BadUri
-type_with_zero word lead =
-    let v = digits_value 10 word in
-    guarded _ v (λ kind. cond (eqb kind 0 || (ltb 65535 kind || not (bytes_eq word (decimal kind)))) (Err BadUri) (Ok kind))
+pub type_with_zero : (type_name : List ℕ) → get_or type_name 0 0 ≡ 48 → type_in type_name ≡ Err BadUri
+type_with_zero type_name lead =
+    let v = digits_value 10 type_name in
+    guarded _ v (λ kind. cond (eqb kind 0 || (ltb 65535 kind || not (bytes_eq type_name (decimal kind)))) (Err BadUri) (Ok kind))
     (λ t. refused v lead (ltb-true v (2 ^ 64) (all_true _ _ _ t)))
   where
-    differs : (n : ℕ) → get_or word 0 0 ≡ 48 → suc n < 2 ^ 64 → word ≢ decimal (suc n)
+    differs : (n : ℕ) → get_or type_name 0 0 ≡ 48 → suc n < 2 ^ 64 → type_name ≢ decimal (suc n)
     differs n lead lt e = let h = first_decimal (suc n) (omega arith) lt in omega (arith, h, sym (ap (λ (t : List ℕ). get_or t 0 0) e), lead)
 
     last : (a b : Bool) (n : ℕ) → cond (a || (b || true)) (Err BadUri) (Ok n) ≡ Err BadUri
@@ -68,6 +68,6 @@ type_with_zero word lead =
     last false true n = refl
     last true b n = refl
 
-    refused : (n : ℕ) → get_or word 0 0 ≡ 48 → n < 2 ^ 64 → cond (eqb n 0 || (ltb 65535 n || not (bytes_eq word (decimal n)))) (Err BadUri) (Ok n) ≡ Err BadUri
+    refused : (n : ℕ) → get_or type_name 0 0 ≡ 48 → n < 2 ^ 64 → cond (eqb n 0 || (ltb 65535 n || not (bytes_eq type_name (decimal n)))) (Err BadUri) (Ok n) ≡ Err BadUri
     refused zero lead lt = refl
-    refused (suc n) lead lt = rw (false_from_ne_true (bytes_eq word (decimal (suc n))) (λ e. differs n lead lt ((bytes_eq-Decides _ _).0 e))) (last (eqb (suc n) 0) (ltb 65535 (suc n)) (suc n))
+    refused (suc n) lead lt = rw (false_from_ne_true (bytes_eq type_name (decimal (suc n))) (λ e. differs n lead lt ((bytes_eq-Decides _ _).0 e))) (last (eqb (suc n) 0) (ltb 65535 (suc n)) (suc n))

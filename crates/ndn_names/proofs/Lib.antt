@@ -4,9 +4,9 @@ pub mod Names
 pub mod Prefixes
 pub mod Octets
 pub mod Decimals
-pub mod Words
+pub mod ShortestNumbers
 pub mod TextReading
-pub mod WordReading
+pub mod TypeNameReading
 pub mod PieceReading
 pub mod PathReading
 pub mod Cuts

@@ -11,13 +11,13 @@ use Rattle.ndn_names.specs.declared.fault.NameFault.{NameFault}
 use Rattle.ndn_names.specs.declared.fault.NameFault.TheVariants.{BadUri, Memory}
 use Rattle.ndn_names.specs.Name.{IsComponent}
 use Rattle.ndn_names.specs.Reading.{component_of}
-use Rattle.ndn_names.specs.Word.{word_of, kind_of}
+use Rattle.ndn_names.specs.TypeName.{type_name_of, kind_of}
 use Rattle.ndn_names.specs.Uri.{padded}
 use Rattle.ndn_names.specs.ReadsAs.{IsHex, StandsFor, IsValueText, IsGeneric, IsTyped, IsDigest, IsNumbered, ReadsComponent}
 use Rattle.ndn_names.specs.UriReading.{octets_in, unpadded, hex_in, plain_in, number_in, type_in, digest_in, numbered_in, typed_in, cut_at, component_by_cut, component_in, piece_in, IsFaultOf}
 use Rattle.ndn_names.proofs.Names.{component_found, component_again, bind_ok, done_is}
 use Rattle.ndn_names.proofs.TextReading.{test_passed, test_failed, hex_found, hex_again, hex_length, hex_no_slash, Lacks, Lacks-append, Lacks-parts, octets_found, octets_again, octets_some, padded_some, octets_no_slash, unpadded_found, unpadded_again}
-use Rattle.ndn_names.proofs.WordReading.{number_found, number_again, digits-Lacks, decimal-Lacks, type_found, type_again, word_found, word_again, word_kind, decimal_no_word, word_lacks}
+use Rattle.ndn_names.proofs.TypeNameReading.{number_found, number_again, digits-Lacks, decimal-Lacks, type_found, type_again, type_name_found, type_name_again, type_name_kind, decimal_no_type_name, type_name_lacks}
 
 -- ---- texts cut at an octet
 
@@ -82,29 +82,29 @@ numbered_again text c h small is = rw (number_again text h small) (ap (λ (v : L
 
 -- ---- components
 
--- after the word or the number of a type
-typed_found : (piece word text : List ℕ) (c : Field) → Lacks 47 text → piece ≡ word ++ 61 ∷ text → typed_in word text (kind_of word) ≡ Ok c → ReadsComponent piece c × IsComponent c
-typed_found piece word text c slash is e =
-    elim (kind_of word) as (λ r. kind_of word ≡ r → typed_in word text r ≡ Ok c → ReadsComponent piece c × IsComponent c) [
+-- after the type name or the number of a type
+typed_found : (piece type_name text : List ℕ) (c : Field) → Lacks 47 text → piece ≡ type_name ++ 61 ∷ text → typed_in type_name text (kind_of type_name) ≡ Ok c → ReadsComponent piece c × IsComponent c
+typed_found piece type_name text c slash is e =
+    elim (kind_of type_name) as (λ r. kind_of type_name ≡ r → typed_in type_name text r ≡ Ok c → ReadsComponent piece c × IsComponent c) [
       | None ↦ λ none e.
-          let s = bind_ok (type_in word) (λ kind. plain_in kind text) c e in
-          let t = type_found word s.0 s.1 in
+          let s = bind_ok (type_in type_name) (λ kind. plain_in kind text) c e in
+          let t = type_found type_name s.0 s.1 in
           let p = plain_found s.0 text c slash s.2 in
           let spelled : piece ≡ decimal c.0 ++ 61 ∷ text = is ∙ ap (λ (w : List ℕ). w ++ 61 ∷ text) (t.2 ∙ ap decimal (sym p.0)) in
           (inr (inl (text, spelled, p.2.0, p.2.1, p.1)), p.2)
       | Some kind ↦ λ some e.
-          let known = word_found word kind some in
-          let range = word_kind kind word known in
+          let known = type_name_found type_name kind some in
+          let range = type_name_kind kind type_name known in
           elim (cases_lt 2 kind) [
             | inl large ↦
                 let p = numbered_found kind text c (rw (lt-leb kind 2 large) at e) in
-                let own_word = subst (λ (k : ℕ). word_of k ≡ Some word) (sym p.0) known in
-                (inr (inr (inr (word, text, is, own_word, omega arith, p.1, p.2, p.3))), (omega arith, omega arith, λ small. absurd (omega arith)))
+                let own_type_name = subst (λ (k : ℕ). type_name_of k ≡ Some type_name) (sym p.0) known in
+                (inr (inr (inr (type_name, text, is, own_type_name, omega arith, p.1, p.2, p.3))), (omega arith, omega arith, λ small. absurd (omega arith)))
             | inr small ↦
                 let p = digest_found kind text c (rw (le-leb kind 2 small) at e) in
-                let own_word = subst (λ (k : ℕ). word_of k ≡ Some word) (sym p.0) known in
+                let own_type_name = subst (λ (k : ℕ). type_name_of k ≡ Some type_name) (sym p.0) known in
                 let half = hex_length text c.1 p.2 in
-                (inr (inr (inl (word, text, is, own_word, omega arith, p.1, p.2))), (omega arith, omega arith, λ small. omega arith))
+                (inr (inr (inl (type_name, text, is, own_type_name, omega arith, p.1, p.2))), (omega arith, omega arith, λ small. omega arith))
           ]
     ] refl e
 
@@ -118,10 +118,10 @@ piece_found piece c slash e =
           typed_found piece parts.0 parts.1 c lacking.1.1 cut.0 e
     ] (cut_found 61 piece) e
 
--- a piece that is cut after this word
-piece_cut : (piece word text : List ℕ) → piece ≡ word ++ 61 ∷ text → Lacks 61 word → component_in piece ≡ typed_in word text (kind_of word)
+-- a piece that is cut after this type name
+piece_cut : (piece type_name text : List ℕ) → piece ≡ type_name ++ 61 ∷ text → Lacks 61 type_name → component_in piece ≡ typed_in type_name text (kind_of type_name)
 unfolding component_in
-piece_cut piece word text is lacking = ap (component_by_cut piece) (ap (cut_at 61) is ∙ cut_again 61 word text lacking)
+piece_cut piece type_name text is lacking = ap (component_by_cut piece) (ap (cut_at 61) is ∙ cut_again 61 type_name text lacking)
 
 generic_again : (piece : List ℕ) (c : Field) → IsGeneric piece c → IsComponent c → component_in piece ≡ Ok c
 unfolding component_in
@@ -131,15 +131,15 @@ generic_again piece c h is =
 typed_again : (piece : List ℕ) (c : Field) → IsTyped piece c → IsComponent c → component_in piece ≡ Ok c
 typed_again piece c h is =
     piece_cut piece (decimal c.0) h.0 h.1 (decimal-Lacks 61 (inr (omega arith)) c.0 (omega arith))
-    ∙ rw (decimal_no_word c.0 (omega arith), type_again c.0 h.2 h.3) (plain_again h.0 c h.4 is)
+    ∙ rw (decimal_no_type_name c.0 (omega arith), type_again c.0 h.2 h.3) (plain_again h.0 c h.4 is)
 
 digest_piece_again : (piece : List ℕ) (c : Field) → IsDigest piece c → component_in piece ≡ Ok c
 digest_piece_again piece c h =
-    piece_cut piece h.0 h.1 h.2 (word_lacks c.0 h.0 h.3).0 ∙ rw (word_again c.0 h.0 h.3, le-leb c.0 2 h.4) (digest_again h.1 c h.5 h.6)
+    piece_cut piece h.0 h.1 h.2 (type_name_lacks c.0 h.0 h.3).0 ∙ rw (type_name_again c.0 h.0 h.3, le-leb c.0 2 h.4) (digest_again h.1 c h.5 h.6)
 
 numbered_piece_again : (piece : List ℕ) (c : Field) → IsNumbered piece c → component_in piece ≡ Ok c
 numbered_piece_again piece c h =
-    piece_cut piece h.0 h.1 h.2 (word_lacks c.0 h.0 h.3).0 ∙ rw (word_again c.0 h.0 h.3, lt-leb c.0 2 h.4) (numbered_again h.1 c h.5 h.6 h.7)
+    piece_cut piece h.0 h.1 h.2 (type_name_lacks c.0 h.0 h.3).0 ∙ rw (type_name_again c.0 h.0 h.3, lt-leb c.0 2 h.4) (numbered_again h.1 c h.5 h.6 h.7)
 
 pub piece_again : (piece : List ℕ) (c : Field) → ReadsComponent piece c → IsComponent c → component_in piece ≡ Ok c
 piece_again piece c (inl h) is = generic_again piece c h is
@@ -157,8 +157,8 @@ pub piece_shape : (piece : List ℕ) (c : Field) → ReadsComponent piece c → 
 piece_shape piece c (inl h) = (octets_some piece (padded c.1) h.2 (padded_some c.1), octets_no_slash piece (padded c.1) h.2)
 piece_shape piece c (inr (inl h)) =
     around_sign piece (decimal c.0) h.0 h.1 (decimal-Lacks 47 (inl (omega arith)) c.0 (omega arith)) (octets_no_slash h.0 (padded c.1) h.4)
-piece_shape piece c (inr (inr (inl h))) = around_sign piece h.0 h.1 h.2 (word_lacks c.0 h.0 h.3).1 (hex_no_slash h.1 c.1 h.6)
-piece_shape piece c (inr (inr (inr h))) = around_sign piece h.0 h.1 h.2 (word_lacks c.0 h.0 h.3).1 (digits-Lacks 47 (inl (omega arith)) h.1 h.5.1)
+piece_shape piece c (inr (inr (inl h))) = around_sign piece h.0 h.1 h.2 (type_name_lacks c.0 h.0 h.3).1 (hex_no_slash h.1 c.1 h.6)
+piece_shape piece c (inr (inr (inr h))) = around_sign piece h.0 h.1 h.2 (type_name_lacks c.0 h.0 h.3).1 (digits-Lacks 47 (inl (omega arith)) h.1 h.5.1)
 
 -- ---- a component's text alone
 

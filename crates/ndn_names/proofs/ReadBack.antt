@@ -15,8 +15,8 @@ use Rattle.ndn_tlv.specs.Reading.{on_result, nni_at}
 use Rattle.ndn_tlv.proofs.Numbers.{IsBytes, IsBytes-rest, IsBytes-back, IsBytes-take}
 use Rattle.ndn_tlv.proofs.Integers.{nni_found}
 use Rattle.ndn_names.specs.Name.{IsComponent, IsName, IsNameValue, octets_of}
-use Rattle.ndn_names.specs.Word.{word_of, shortest_number}
-use Rattle.ndn_names.specs.Uri.{is_unreserved, hexadecimal, escaped, is_periods, padded, value_text, plain_text, number_text, text_by_word, component_text, AreOctets, uri_of}
+use Rattle.ndn_names.specs.TypeName.{type_name_of, shortest_number}
+use Rattle.ndn_names.specs.Uri.{is_unreserved, hexadecimal, escaped, is_periods, padded, value_text, plain_text, number_text, text_by_type_name, component_text, AreOctets, uri_of}
 use Rattle.ndn_names.specs.ReadsAs.{IsHexPair, IsHex, IsOctetText, StandsFor, IsValueText, ReadsComponent, ReadsEach, ReadsAs}
 
 abbrev AreBelow256 : List ℕ → Type 0
@@ -138,31 +138,31 @@ plain_reads c is h =
     (λ e. inl (escaped_lack (padded c.1) (padded_below c.1 h), eqb-true c.0 8 e, value_reads c.1 h))
     (λ e. inr (inl (value_text c.1, refl, is.0, is.1, value_reads c.1 h)))
 
-digest_reads : (c : Field) (word : List ℕ) → IsComponent c → AreBelow256 c.1 → word_of c.0 ≡ Some word → c.0 ≤ 2 → ReadsComponent (word ++ (codes "=" ++ flat_map (hexadecimal false) c.1)) c
-digest_reads c word is h named small =
+digest_reads : (c : Field) (type_name : List ℕ) → IsComponent c → AreBelow256 c.1 → type_name_of c.0 ≡ Some type_name → c.0 ≤ 2 → ReadsComponent (type_name ++ (codes "=" ++ flat_map (hexadecimal false) c.1)) c
+digest_reads c type_name is h named small =
     let long : length c.1 ≡ 32 = is.2 small in
-    inr (inr (inl (word, flat_map (hexadecimal false) c.1, refl, named, small, omega (arith, length-hexadecimal false c.1), hexadecimal_reads false c.1 h)))
+    inr (inr (inl (type_name, flat_map (hexadecimal false) c.1, refl, named, small, omega (arith, length-hexadecimal false c.1), hexadecimal_reads false c.1 h)))
 
-number_reads : (c : Field) (word : List ℕ) → IsComponent c → AreBelow256 c.1 → word_of c.0 ≡ Some word → 2 < c.0
-    → (o : Option ℕ) → shortest_number c.1 ≡ o → ReadsComponent (number_text word c o) c
-number_reads c word is h named large None e = plain_reads c is h
-number_reads c word is h named large (Some n) e =
+number_reads : (c : Field) (type_name : List ℕ) → IsComponent c → AreBelow256 c.1 → type_name_of c.0 ≡ Some type_name → 2 < c.0
+    → (o : Option ℕ) → shortest_number c.1 ≡ o → ReadsComponent (number_text type_name c o) c
+number_reads c type_name is h named large None e = plain_reads c is h
+number_reads c type_name is h named large (Some n) e =
     let found = shortest_number_found c.1 n h e in
     let numeral = decimal_is_IsNumeral n found.0 in
-    inr (inr (inr (word, decimal n, refl, named, large, numeral.0, rw numeral.1 found.0, rw numeral.1 found.1)))
+    inr (inr (inr (type_name, decimal n, refl, named, large, numeral.0, rw numeral.1 found.0, rw numeral.1 found.1)))
 
-text_reads : (c : Field) → IsComponent c → AreBelow256 c.1 → (o : Option (List ℕ)) → word_of c.0 ≡ o → ReadsComponent (text_by_word c o) c
+text_reads : (c : Field) → IsComponent c → AreBelow256 c.1 → (o : Option (List ℕ)) → type_name_of c.0 ≡ o → ReadsComponent (text_by_type_name c o) c
 text_reads c is h None named = plain_reads c is h
-text_reads c is h (Some word) named =
-    cond_both (leb c.0 2) (word ++ (codes "=" ++ flat_map (hexadecimal false) c.1)) (number_text word c (shortest_number c.1)) (λ piece. ReadsComponent piece c)
-    (λ e. digest_reads c word is h named (leb-true c.0 2 e))
-    (λ e. number_reads c word is h named (leb-false c.0 2 e) (shortest_number c.1) refl)
+text_reads c is h (Some type_name) named =
+    cond_both (leb c.0 2) (type_name ++ (codes "=" ++ flat_map (hexadecimal false) c.1)) (number_text type_name c (shortest_number c.1)) (λ piece. ReadsComponent piece c)
+    (λ e. digest_reads c type_name is h named (leb-true c.0 2 e))
+    (λ e. number_reads c type_name is h named (leb-false c.0 2 e) (shortest_number c.1) refl)
 
 -- ---- names
 
 components_read : (cs : List Field) → AllByRecursion IsComponent cs → AreOctets cs → ReadsEach (map component_text cs) cs
 components_read [] are h = tt
-components_read (c ∷ cs) are h = (text_reads c are.0 h.0 (word_of c.0) refl, components_read cs are.1 h.1)
+components_read (c ∷ cs) are h = (text_reads c are.0 h.0 (type_name_of c.0) refl, components_read cs are.1 h.1)
 
 pub name_reads : (cs : List Field) → IsName cs → AreOctets cs → ReadsAs (uri_of cs) cs
 name_reads cs is h =

@@ -13,7 +13,10 @@ use Rattle.ndn_names.specs.Name.{octets_of}
 use Rattle.ndn_names.specs.Order.{component_cmp, name_cmp}
 
 pub component_cmp-total : IsTotalOrder component_cmp
-component_cmp-total = then_total (on_total (λ (c : Field). c.0) nat_cmp_total) (then_total (on_total (λ (c : Field). length c.1) nat_cmp_total) (on_total (λ (c : Field). c.1) nat_list_cmp_total))
+component_cmp-total =
+    then_total (on_total (λ (c : Field). c.0) nat_cmp_total)
+    (then_total (on_total (λ (c : Field). length c.1) nat_cmp_total)
+    (on_total (λ (c : Field). c.1) nat_list_cmp_total))
 
 pub name_cmp-total : IsTotalOrder name_cmp
 name_cmp-total = lists_total component_cmp-total
@@ -39,5 +42,7 @@ name_cmp-antisymmetric = slice_cmp-IsAntisymmetric component_cmp-antisymmetric
 abbrev pub name_writes : List Field → HashWrites
 name_writes cs = slice u8 (octets_of cs)
 
-pub name_writes-alike : (a b : List Field) → eq_by_cmp name_cmp a b ≡ true → name_writes a ≡ name_writes b
-name_writes-alike a b e = ap name_writes (name_cmp-antisymmetric a b ((Equal-is (name_cmp a b)).0 e))
+pub name_writes-alike : (a b : List Field) → eq_by_cmp name_cmp a b ≡ true
+    → name_writes a ≡ name_writes b
+name_writes-alike a b e =
+    ap name_writes (name_cmp-antisymmetric a b ((Equal-is (name_cmp a b)).0 e))

@@ -6,7 +6,8 @@ use Rattle.std.specs.Result.{result_ok}
 use Rattle.ndn_tlv.specs.Element.{Field, IsField, element, IsElements}
 use Rattle.ndn_tlv.specs.Reading.{elements_of}
 
--- a component is its type and its octets: types up to 65535, and 32 octets in the two digests, types 1 and 2
+-- a component is its type and its octets: types up to 65535, and 32 octets in the two digests,
+-- types 1 and 2
 abbrev pub IsComponent : Field → Type 0
 IsComponent c = (1 ≤ c.0) × (c.0 < 65536) × (c.0 ≤ 2 → length c.1 ≡ 32)
 
@@ -35,10 +36,16 @@ IsField-prop : (f : Field) → IsProp (IsField f)
 IsField-prop f p q = λ i. (le_prop p.0 q.0 i, le_prop p.1 q.1 i, le_prop p.2 q.2 i)
 
 IsComponent-prop : (c : Field) → IsProp (IsComponent c)
-IsComponent-prop c p q = λ i. (le_prop p.0 q.0 i, le_prop p.1 q.1 i, →_prop (Coded-set coded_ℕ (length c.1) 32) p.2 q.2 i)
+IsComponent-prop c p q =
+    λ i. (
+      le_prop p.0 q.0 i,
+      le_prop p.1 q.1 i,
+      →_prop (Coded-set coded_ℕ (length c.1) 32) p.2 q.2 i,
+    )
 
 pub IsNameValue-prop : (value : List ℕ) (cs : List Field) → IsProp (IsNameValue value cs)
 IsNameValue-prop value cs =
     ×_prop
-    (×_prop (AllByRecursion-prop IsField IsField-prop cs) (Coded-set (coded_list coded_ℕ) value (octets_of cs)))
+    (×_prop (AllByRecursion-prop IsField IsField-prop cs)
+    (Coded-set (coded_list coded_ℕ) value (octets_of cs)))
     (×_prop le_prop (AllByRecursion-prop IsComponent IsComponent-prop cs))

@@ -7,7 +7,9 @@ use Rattle.ndn_tlv.specs.Element.{Field}
 
 -- at the first place where the lists differ, what a has there is less
 abbrev pub DiffersBelow : {X : Type 0} → (X → X → Type 0) → List X → List X → Type 0
-DiffersBelow {X} Below a b = (common after_x after_y : List X) × (x y : X) × (a ≡ common ++ x ∷ after_x) × (b ≡ common ++ y ∷ after_y) × Below x y
+DiffersBelow {X} Below a b =
+    (common after_x after_y : List X) × (x y : X) × (a ≡ common ++ x ∷ after_x)
+    × (b ≡ common ++ y ∷ after_y) × Below x y
 
 abbrev pub IsProperPrefix : {X : Type 0} → List X → List X → Type 0
 IsProperPrefix {X} a b = (y : X) × (after : List X) × (b ≡ a ++ y ∷ after)
@@ -29,7 +31,9 @@ Less a b = IsProperPrefix a b ⊎ DiffersBelow ComponentLess a b
 
 -- the same orders, as functions
 abbrev pub component_cmp : Field → Field → Ordering
-component_cmp = then_cmp (on (λ c. c.0) nat_cmp) (then_cmp (on (λ c. length c.1) nat_cmp) (on (λ c. c.1) (slice_cmp nat_cmp)))
+component_cmp =
+    then_cmp (on (λ c. c.0) nat_cmp)
+    (then_cmp (on (λ c. length c.1) nat_cmp) (on (λ c. c.1) (slice_cmp nat_cmp)))
 
 abbrev pub name_cmp : List Field → List Field → Ordering
 name_cmp a b = slice_cmp component_cmp a b

@@ -1,4 +1,5 @@
--- Reading a name from left to right, with the first fault that is met (NDN Packet Format 0.3, "Name").
+-- Reading a name from left to right, with the first fault that is met (NDN Packet Format 0.3,
+-- "Name").
 use Rattle.std.specs.Prelude.{ℕ, ◌+◌, List, [], ◌∷◌, length, Result, Ok, Err, nat_lt, nat_le, ◌==◌, ◌&&◌, ◌||◌, not, if◌then◌else◌}
 use Rattle.ndn_tlv.specs.declared.fault.TlvFault.{TlvFault}
 use Rattle.ndn_tlv.specs.Element.{Field}

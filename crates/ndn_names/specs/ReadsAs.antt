@@ -6,19 +6,24 @@ use Rattle.std.specs.Str.Parse.{IsNumeral, digits_value}
 use Rattle.ndn_tlv.specs.Element.{Field}
 use Rattle.ndn_tlv.specs.Number.{shortest_nni}
 use Rattle.ndn_names.specs.Name.{IsName}
-use Rattle.ndn_names.specs.Word.{word_of}
+use Rattle.ndn_names.specs.TypeName.{type_name_of}
 use Rattle.ndn_names.specs.Uri.{padded, path_of}
 
 -- two hexadecimal digits of either case, and their octet
 abbrev pub IsHexPair : ℕ → ℕ → ℕ → Type 0
-IsHexPair high low octet = (digit_value high < 16) × (digit_value low < 16) × (octet ≡ 16 * digit_value high + digit_value low)
+IsHexPair high low octet =
+    (digit_value high < 16) × (digit_value low < 16)
+    × (octet ≡ 16 * digit_value high + digit_value low)
 
 -- two digits for each octet
 abbrev pub IsHex : List ℕ → List ℕ → Type 0
 IsHex text [] = text ≡ []
-IsHex text (o ∷ octets) = (high low : ℕ) × (rest : List ℕ) × (text ≡ high ∷ low ∷ rest) × IsHexPair high low o × IsHex rest octets
+IsHex text (o ∷ octets) =
+    (high low : ℕ) × (rest : List ℕ) × (text ≡ high ∷ low ∷ rest) × IsHexPair high low o
+    × IsHex rest octets
 
--- an octet in text: itself, unless it is a percent sign or a slash, or a percent sign and two digits
+-- an octet in text: itself, unless it is a percent sign or a slash, or a percent sign and two
+-- digits
 abbrev pub IsOctetText : List ℕ → ℕ → Type 0
 IsOctetText text octet =
     ((text ≡ octet ∷ []) × (octet ≢ 37) × (octet ≢ 47))
@@ -26,7 +31,8 @@ IsOctetText text octet =
 
 abbrev pub StandsFor : List ℕ → List ℕ → Type 0
 StandsFor text [] = text ≡ []
-StandsFor text (o ∷ octets) = (front rest : List ℕ) × (text ≡ front ++ rest) × IsOctetText front o × StandsFor rest octets
+StandsFor text (o ∷ octets) =
+    (front rest : List ℕ) × (text ≡ front ++ rest) × IsOctetText front o × StandsFor rest octets
 
 -- a value in text: with three more periods where it has nothing else
 abbrev pub IsValueText : List ℕ → List ℕ → Type 0
@@ -38,22 +44,28 @@ IsGeneric piece c = AllByRecursion (λ o. o ≢ 61) piece × (c.0 ≡ 8) × IsVa
 
 -- the number of a type, without leading zeros, an equals sign, and the value
 abbrev pub IsTyped : List ℕ → Field → Type 0
-IsTyped piece c = (text : List ℕ) × (piece ≡ decimal c.0 ++ 61 ∷ text) × (1 ≤ c.0) × (c.0 < 65536) × IsValueText text c.1
+IsTyped piece c =
+    (text : List ℕ) × (piece ≡ decimal c.0 ++ 61 ∷ text) × (1 ≤ c.0) × (c.0 < 65536)
+    × IsValueText text c.1
 
--- the word for a digest, an equals sign, and 64 hexadecimal digits
+-- the name of the type of a digest, an equals sign, and 64 hexadecimal digits
 abbrev pub IsDigest : List ℕ → Field → Type 0
 IsDigest piece c =
-    (word text : List ℕ) × (piece ≡ word ++ 61 ∷ text) × (word_of c.0 ≡ Some word) × (c.0 ≤ 2)
+    (type_name text : List ℕ) × (piece ≡ type_name ++ 61 ∷ text)
+    × (type_name_of c.0 ≡ Some type_name) × (c.0 ≤ 2)
     × (length text ≡ 64) × IsHex text c.1
 
--- the word for a number, an equals sign, and a number below 2 ^ 64 in decimal digits
+-- the name of the type of a number, an equals sign, and a number below 2 ^ 64 in decimal digits
 abbrev pub IsNumbered : List ℕ → Field → Type 0
 IsNumbered piece c =
-    (word text : List ℕ) × (piece ≡ word ++ 61 ∷ text) × (word_of c.0 ≡ Some word) × (2 < c.0)
-    × IsNumeral 10 text × (digits_value 10 text < 2 ^ 64) × (c.1 ≡ shortest_nni (digits_value 10 text))
+    (type_name text : List ℕ) × (piece ≡ type_name ++ 61 ∷ text)
+    × (type_name_of c.0 ≡ Some type_name) × (2 < c.0)
+    × IsNumeral 10 text × (digits_value 10 text < 2 ^ 64)
+    × (c.1 ≡ shortest_nni (digits_value 10 text))
 
 abbrev pub ReadsComponent : List ℕ → Field → Type 0
-ReadsComponent piece c = IsGeneric piece c ⊎ (IsTyped piece c ⊎ (IsDigest piece c ⊎ IsNumbered piece c))
+ReadsComponent piece c =
+    IsGeneric piece c ⊎ (IsTyped piece c ⊎ (IsDigest piece c ⊎ IsNumbered piece c))
 
 abbrev pub ReadsEach : List (List ℕ) → List Field → Type 0
 ReadsEach [] [] = ⊤
@@ -61,8 +73,9 @@ ReadsEach [] (c ∷ cs) = ⊥
 ReadsEach (piece ∷ pieces) [] = ⊥
 ReadsEach (piece ∷ pieces) (c ∷ cs) = ReadsComponent piece c × ReadsEach pieces cs
 
--- the text reads as the name of these components: the scheme may stand before it, and a slash after it.
--- No piece that reads as a component is empty or has a slash, so there is one way to take the text apart.
+-- the text reads as the name of these components: the scheme may stand before it, and a slash after
+-- it. No piece that reads as a component is empty or has a slash, so there is one way to take the
+-- text apart.
 abbrev pub ReadsAs : List ℕ → List Field → Type 0
 ReadsAs text cs =
     (start end : List ℕ) × (pieces : List (List ℕ)) × (text ≡ start ++ (path_of pieces ++ end))

@@ -4,7 +4,7 @@ use Rattle.std.specs.List.{list_all, AllByRecursion}
 use Rattle.std.specs.Char.{is_ascii_alphanumeric}
 use Rattle.std.specs.Fmt.{digit_glyph}
 use Rattle.ndn_tlv.specs.Element.{Field}
-use Rattle.ndn_names.specs.Word.{word_of, shortest_number}
+use Rattle.ndn_names.specs.TypeName.{type_name_of, shortest_number}
 
 -- the octets that stand for themselves: letters and digits, hyphen, period, underscore, tilde
 abbrev pub is_unreserved : ℕ → Bool
@@ -28,24 +28,25 @@ padded value = if is_periods value then value ++ codes "..." else value
 abbrev pub value_text : List ℕ → List ℕ
 value_text value = flat_map escaped (padded value)
 
--- a component as text, where its type has no word: type 8 goes without saying
+-- a component as text, where its type has no name: type 8 is left out
 abbrev pub plain_text : Field → List ℕ
 plain_text c = if c.0 == 8 then value_text c.1 else decimal c.0 ++ (codes "=" ++ value_text c.1)
 
--- where its type has a word for numbers: the number is given where the value is its shortest NonNegativeInteger
+-- where its type has a name and its values are numbers: the number is given where the value is its
+-- shortest NonNegativeInteger
 abbrev pub number_text : List ℕ → Field → Option ℕ → List ℕ
-number_text word c (Some n) = word ++ (codes "=" ++ decimal n)
-number_text word c None = plain_text c
+number_text type_name c (Some n) = type_name ++ (codes "=" ++ decimal n)
+number_text type_name c None = plain_text c
 
--- the word is given where its type has one; types 1 and 2 are digests
-abbrev pub text_by_word : Field → Option (List ℕ) → List ℕ
-text_by_word c None = plain_text c
-text_by_word c (Some word) =
-    if nat_le c.0 2 then word ++ (codes "=" ++ flat_map (hexadecimal false) c.1)
-    else number_text word c (shortest_number c.1)
+-- the name of the type is given where it has one; types 1 and 2 are digests
+abbrev pub text_by_type_name : Field → Option (List ℕ) → List ℕ
+text_by_type_name c None = plain_text c
+text_by_type_name c (Some type_name) =
+    if nat_le c.0 2 then type_name ++ (codes "=" ++ flat_map (hexadecimal false) c.1)
+    else number_text type_name c (shortest_number c.1)
 
 abbrev pub component_text : Field → List ℕ
-component_text c = text_by_word c (word_of c.0)
+component_text c = text_by_type_name c (type_name_of c.0)
 
 -- each piece after a slash, and a slash alone where there is no piece
 abbrev pub path_of : List (List ℕ) → List ℕ

@@ -1,4 +1,5 @@
--- Reading a name's text from left to right, with the first fault that is met (NDN Packet Format 0.3, "NDN URI Scheme").
+-- Reading a name's text from left to right, with the first fault that is met (NDN Packet Format
+-- 0.3, "NDN URI Scheme").
 use Rattle.std.specs.Prelude.{◌≡◌, ◌⊎◌, ℕ, ◌+◌, ◌-◌, ◌*◌, ◌^◌, List, [], ◌∷◌, length, take, drop, Option, Some, None, Result, Ok, Err, codes, decimal, bytes_eq, nat_lt, nat_le, ◌==◌, ◌&&◌, ◌||◌, not, if◌then◌else◌}
 use Rattle.std.specs.List.{list_any}
 use Rattle.std.specs.Char.{digit_value}
@@ -10,13 +11,14 @@ use Rattle.ndn_tlv.specs.Reading.{◌>>=◌}
 use Rattle.ndn_names.specs.declared.fault.NameFault.{NameFault}
 use Rattle.ndn_names.specs.declared.fault.NameFault.TheVariants.{TooManyComponents, BadUri, Memory}
 use Rattle.ndn_names.specs.Reading.{component_of}
-use Rattle.ndn_names.specs.Word.{kind_of}
+use Rattle.ndn_names.specs.TypeName.{kind_of}
 use Rattle.ndn_names.specs.Uri.{is_periods}
 
 -- an octet in two hexadecimal digits
 abbrev pub pair_in : ℕ → ℕ → Result ℕ NameFault
 pair_in high low =
-    if nat_lt (digit_value high) 16 && nat_lt (digit_value low) 16 then Ok (16 * digit_value high + digit_value low) else Err BadUri
+    if nat_lt (digit_value high) 16 && nat_lt (digit_value low) 16
+    then Ok (16 * digit_value high + digit_value low) else Err BadUri
 
 -- an octet before others
 abbrev pub before : ℕ → Result (List ℕ) NameFault → Result (List ℕ) NameFault
@@ -59,13 +61,15 @@ plain_in kind text = do
 -- a decimal number below 2 ^ 64, without a sign
 abbrev pub number_in : List ℕ → Result ℕ NameFault
 number_in text =
-    if all_ascii_digits text && (nat_lt 0 (length text) && nat_lt (digits_value 10 text) (2 ^ 64)) then Ok (digits_value 10 text) else Err BadUri
+    if all_ascii_digits text && (nat_lt 0 (length text) && nat_lt (digits_value 10 text) (2 ^ 64))
+    then Ok (digits_value 10 text) else Err BadUri
 
 -- the number of a type, without leading zeros
 abbrev pub type_in : List ℕ → Result ℕ NameFault
-type_in word = do
-  kind ← number_in word
-  if (kind == 0) || (nat_lt 65535 kind || not (bytes_eq word (decimal kind))) then Err BadUri else Ok kind
+type_in type_name = do
+  kind ← number_in type_name
+  if (kind == 0) || (nat_lt 65535 kind || not (bytes_eq type_name (decimal kind))) then Err BadUri
+      else Ok kind
 
 abbrev pub digest_in : ℕ → List ℕ → Result Field NameFault
 digest_in kind text = if length text == 64 then (do
@@ -77,11 +81,13 @@ numbered_in kind text = do
   n ← number_in text
   Ok (kind, shortest_nni n)
 
--- a component by what stands before and after its first equals sign, and the type of the word before it
+-- a component by what stands before and after its first equals sign, and the type that is named
+-- before it
 abbrev pub typed_in : List ℕ → List ℕ → Option ℕ → Result Field NameFault
-typed_in word text (Some kind) = if nat_le kind 2 then digest_in kind text else numbered_in kind text
-typed_in word text None = do
-  kind ← type_in word
+typed_in type_name text (Some kind) =
+    if nat_le kind 2 then digest_in kind text else numbered_in kind text
+typed_in type_name text None = do
+  kind ← type_in type_name
   plain_in kind text
 
 -- the octets before the first c, and those after it

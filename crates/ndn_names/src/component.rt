@@ -48,7 +48,8 @@ pub(crate) fn first_component<'a>(octets: &'a [u8]) -> Result<(Component<'a>, &'
     ensures walk { MatchResult result
         (λ x. (elements_of octets.now ≡ Ok (x.0.kind, x.0.value.now) ∷ elements_of x.1.now)
         × (component_of (x.0.kind, x.0.value.now) ≡ Ok (x.0.kind, x.0.value.now)))
-        (λ e. octets.now ≢ [] → (at : Result Field TlvFault) × (others : List (Result Field TlvFault))
+        (λ e. octets.now ≢ []
+        → (at : Result Field TlvFault) × (others : List (Result Field TlvFault))
         × (elements_of octets.now ≡ at ∷ others) × (component_at at ≡ Err e)) }
 {
     let Ok((element, rest)) = first_element(octets) else {

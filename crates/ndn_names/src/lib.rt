@@ -8,9 +8,9 @@ mod key;
 mod name;
 mod name_buf;
 mod order;
+mod type_name;
 mod uri;
 mod uri_reader;
-mod word;
 
 pub use component::Component;
 pub use components::Components;

@@ -52,7 +52,8 @@ impl<'a> Name<'a> {
         // What is read is spelled so.
         ensures found { IfOk result (λ name. IsNameValue value.now (components name)) }
         // What is spelled so is read.
-        ensures only { (cs : List Field) → IsNameValue value.now cs → IsOkAnd result (λ name. components name ≡ cs) }
+        ensures only { (cs : List Field) → IsNameValue value.now cs
+            → IsOkAnd result (λ name. components name ≡ cs) }
         // Which fault it is.
         ensures exact { on_result (λ name. Ok (components name)) Err result ≡ name_at value.now }
         ensures takes_no_memory { ¬ IsErrOf result NameFault.Memory }
@@ -137,8 +138,10 @@ impl<'a> Name<'a> {
 
 /// Law: octets are the TLV-VALUE of at most one name, which `name_at` and `components_of` read.
 pub fn names_have_one_reading()
-    ensures one { (value : List ℕ) (a b : List Field) → IsNameValue value a → IsNameValue value b → a ≡ b }
+    ensures one { (value : List ℕ) (a b : List Field) → IsNameValue value a → IsNameValue value b
+        → a ≡ b }
     ensures exact { (value : List ℕ) (cs : List Field) → ((i : ℕ) → slice_index value i < 256)
         → ((name_at value ≡ Ok cs) ↔ IsNameValue value cs) }
-    ensures shown { (value : List ℕ) (cs : List Field) → IsNameValue value cs → components_of value ≡ cs }
+    ensures shown { (value : List ℕ) (cs : List Field) → IsNameValue value cs
+        → components_of value ≡ cs }
 {}

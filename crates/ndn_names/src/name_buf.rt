@@ -54,7 +54,8 @@ impl NameBuf {
         // Which fault it is: where there is no cause, memory was refused.
         ensures exact { let next = component_after (length self.old) (Ok (kind, value.now)) in
             MatchResult result (λ _. next ≡ Ok (kind, value.now))
-            (λ fault. (next ≡ Err fault) ⊎ ((fault ≡ NameFault.Memory) × (next ≡ Ok (kind, value.now)))) }
+            (λ fault. (next ≡ Err fault)
+            ⊎ ((fault ≡ NameFault.Memory) × (next ≡ Ok (kind, value.now)))) }
     {
         if self.view().len() == MAX_COMPONENTS {
             return Err(NameFault::TooManyComponents);

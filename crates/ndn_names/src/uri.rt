@@ -10,7 +10,7 @@ ghost use Rattle.ndn_names.specs.View.{field_of, components};
 use crate::component::{Component, GENERIC, PARAMETERS_SHA256_DIGEST};
 use crate::name::Name;
 use crate::name_buf::NameBuf;
-use crate::word::{shortest_number, word_of};
+use crate::type_name::{shortest_number, type_name_of};
 use ndn_tlv::Memory;
 use std::alloc::Global;
 use std::fmt;
@@ -73,12 +73,12 @@ impl fmt::Display for Component<'_> {
 
     fn fmt<W: fmt::Write>(&self, f: &mut fmt::Formatter<W>) -> fmt::Result {
         let kind = self.kind;
-        if let Some(word) = word_of(kind) {
+        if let Some(type_name) = type_name_of(kind) {
             if kind <= PARAMETERS_SHA256_DIGEST {
-                return write!(f, "{word}={}", Hexadecimal(self.value));
+                return write!(f, "{type_name}={}", Hexadecimal(self.value));
             }
             if let Some(n) = shortest_number(self.value) {
-                return write!(f, "{word}={n}");
+                return write!(f, "{type_name}={n}");
             }
         }
         if kind != GENERIC {

@@ -2,7 +2,7 @@
 
 ghost use Rattle.std.specs.Prelude.{◌≡◌, ◌↔◌, ◌≢◌, ◌<◌, ◌≤◌, ◌∷◌, ◌++◌, ℕ, List, [], length, Ok, Err, IfOk, MatchResult};
 ghost use Rattle.ndn_tlv.specs.Element.{Field};
-ghost use Rattle.ndn_names.specs.Word.{kind_of};
+ghost use Rattle.ndn_names.specs.TypeName.{kind_of};
 ghost use Rattle.ndn_names.specs.Uri.{is_periods};
 ghost use Rattle.ndn_names.specs.Name.{IsComponent};
 ghost use Rattle.ndn_names.specs.ReadsAs.{ReadsAs, ReadsComponent};
@@ -12,7 +12,7 @@ use crate::component::{GENERIC, PARAMETERS_SHA256_DIGEST, SHA256_LEN, component_
 use crate::fault::NameFault;
 use crate::name::MAX_COMPONENTS;
 use crate::name_buf::NameBuf;
-use crate::word::kind_of;
+use crate::type_name::kind_of;
 use ndn_tlv::put_nni;
 use std::alloc::Global;
 
@@ -28,7 +28,8 @@ fn octet_of(high: u8, low: u8) -> Result<u8, NameFault>
 
 /// The octet that stands at the front, and the text after it.
 fn first_octet<'a>(first: u8, after: &'a [u8]) -> Result<(u8, &'a [u8]), NameFault>
-    ensures read { MatchResult result (λ x. read.octets_in (first ∷ after.now) ≡ read.before x.0 (read.octets_in x.1.now))
+    ensures read { MatchResult result
+        (λ x. read.octets_in (first ∷ after.now) ≡ read.before x.0 (read.octets_in x.1.now))
         (λ fault. read.octets_in (first ∷ after.now) ≡ Err fault) }
     ensures shorter { IfOk result (λ x. length x.1.now ≤ length after.now) }
 {
@@ -43,7 +44,9 @@ fn first_octet<'a>(first: u8, after: &'a [u8]) -> Result<(u8, &'a [u8]), NameFau
 
 /// Appends the octets of text with percent signs.
 fn put_octets(value: &mut Vec<u8>, text: &[u8]) -> Result<(), NameFault>
-    ensures { MatchResult result (λ _. (octets : List ℕ) × (read.octets_in text.now ≡ Ok octets) × (value.new.items ≡ value.old.items ++ octets))
+    ensures { MatchResult result
+        (λ _. (octets : List ℕ) × (read.octets_in text.now ≡ Ok octets)
+        × (value.new.items ≡ value.old.items ++ octets))
         (λ fault. read.IsFaultOf (read.octets_in text.now) fault) }
 {
     let mut rest = text;
@@ -64,7 +67,8 @@ fn is_periods(octets: &[u8]) -> bool
 
 /// Takes three periods off octets that are periods only.
 fn unpad(value: &mut Vec<u8>) -> Result<(), NameFault>
-    ensures { MatchResult result (λ _. read.unpadded value.old.items ≡ Ok value.new.items) (λ fault. read.unpadded value.old.items ≡ Err fault) }
+    ensures { MatchResult result (λ _. read.unpadded value.old.items ≡ Ok value.new.items)
+        (λ fault. read.unpadded value.old.items ≡ Err fault) }
 {
     if !is_periods(value) {
         return Ok(());
@@ -77,7 +81,7 @@ fn unpad(value: &mut Vec<u8>) -> Result<(), NameFault>
 }
 
 /// The number of decimal digits.
-fn number_of(text: &str) -> Result<u64, NameFault>
+fn decimal_number(text: &str) -> Result<u64, NameFault>
     ensures { result ≡ read.number_in text.now }
 {
     if text.starts_with('+') {
@@ -90,13 +94,13 @@ fn number_of(text: &str) -> Result<u64, NameFault>
 }
 
 /// The number of a type, without leading zeros.
-fn type_of(word: &str) -> Result<u16, NameFault>
-    ensures { result ≡ read.type_in word.now }
+fn type_of(type_name: &str) -> Result<u16, NameFault>
+    ensures { result ≡ read.type_in type_name.now }
 {
-    if word.starts_with('0') {
+    if type_name.starts_with('0') {
         return Err(NameFault::BadUri);
     }
-    match u16::try_from(number_of(word)?) {
+    match u16::try_from(decimal_number(type_name)?) {
         Ok(kind) => Ok(kind),
         Err(_) => Err(NameFault::BadUri),
     }
@@ -105,7 +109,8 @@ fn type_of(word: &str) -> Result<u16, NameFault>
 /// Puts the value of a component of a type into `value`.
 fn read_plain(value: &mut Vec<u8>, kind: u16, text: &str) -> Result<u16, NameFault>
     requires { value.old.items ≡ [] }
-    ensures { MatchResult result (λ read_kind. read.plain_in kind text.now ≡ Ok (read_kind, value.new.items))
+    ensures { MatchResult result
+        (λ read_kind. read.plain_in kind text.now ≡ Ok (read_kind, value.new.items))
         (λ fault. read.IsFaultOf (read.plain_in kind text.now) fault) }
 {
     put_octets(value, text.as_bytes())?;
@@ -116,7 +121,8 @@ fn read_plain(value: &mut Vec<u8>, kind: u16, text: &str) -> Result<u16, NameFau
 /// Puts the octets of a digest into `value`.
 fn read_digest(value: &mut Vec<u8>, kind: u16, text: &[u8]) -> Result<u16, NameFault>
     requires { value.old.items ≡ [] }
-    ensures { MatchResult result (λ read_kind. read.digest_in kind text.now ≡ Ok (read_kind, value.new.items))
+    ensures { MatchResult result
+        (λ read_kind. read.digest_in kind text.now ≡ Ok (read_kind, value.new.items))
         (λ fault. read.IsFaultOf (read.digest_in kind text.now) fault) }
 {
     if text.len() != 2 * SHA256_LEN {
@@ -130,16 +136,17 @@ fn read_digest(value: &mut Vec<u8>, kind: u16, text: &[u8]) -> Result<u16, NameF
 
 /// The type of a component, and its value in `value`, by the texts before and after its first
 /// equals sign.
-fn read_typed(value: &mut Vec<u8>, word: &str, text: &str) -> Result<u16, NameFault>
+fn read_typed(value: &mut Vec<u8>, type_name: &str, text: &str) -> Result<u16, NameFault>
     requires { value.old.items ≡ [] }
-    ensures { let typed = read.typed_in word.now text.now (kind_of word.now) in
-        MatchResult result (λ kind. typed ≡ Ok (kind, value.new.items)) (λ fault. read.IsFaultOf typed fault) }
+    ensures { let typed = read.typed_in type_name.now text.now (kind_of type_name.now) in
+        MatchResult result (λ kind. typed ≡ Ok (kind, value.new.items))
+        (λ fault. read.IsFaultOf typed fault) }
 {
-    match kind_of(word) {
-        None => read_plain(value, type_of(word)?, text),
+    match kind_of(type_name) {
+        None => read_plain(value, type_of(type_name)?, text),
         Some(kind) if kind <= PARAMETERS_SHA256_DIGEST => read_digest(value, kind, text.as_bytes()),
         Some(kind) => {
-            put_nni(value, number_of(text)?)?;
+            put_nni(value, decimal_number(text)?)?;
             Ok(kind)
         }
     }
@@ -152,7 +159,7 @@ fn read_component(value: &mut Vec<u8>, piece: &str) -> Result<u16, NameFault>
 {
     value.clear();
     match piece.split_once('=') {
-        Some((word, text)) => read_typed(value, word, text),
+        Some((type_name, text)) => read_typed(value, type_name, text),
         None => read_plain(value, GENERIC, piece),
     }
 }
@@ -164,10 +171,12 @@ fn read_component(value: &mut Vec<u8>, piece: &str) -> Result<u16, NameFault>
 /// at any text.
 pub fn component_from_uri(alloc: Global, text: &str) -> Result<(u16, Vec<u8>), NameFault>
     // What is read is the component that the text reads as.
-    ensures found { IfOk result (λ c. ReadsComponent text.now (c.0, c.1.items) × IsComponent (c.0, c.1.items)) }
+    ensures found { IfOk result
+        (λ c. ReadsComponent text.now (c.0, c.1.items) × IsComponent (c.0, c.1.items)) }
     // What reads as a component is read, unless memory is refused.
     ensures only { (c : Field) → ReadsComponent text.now c → IsComponent c
-        → MatchResult result (λ component. (component.0, component.1.items) ≡ c) (λ fault. fault ≡ NameFault.Memory) }
+        → MatchResult result (λ component. (component.0, component.1.items) ≡ c)
+        (λ fault. fault ≡ NameFault.Memory) }
     // Which fault it is.
     ensures exact { MatchResult result (λ c. read.piece_in text.now ≡ Ok (c.0, c.1.items))
         (λ fault. read.IsFaultOf (read.piece_in text.now) fault) }
@@ -222,17 +231,18 @@ fn read_pieces(alloc: Global, text: &str) -> Result<NameBuf, NameFault>
 }
 
 impl NameBuf {
-    /// Reads URI text, as `/A/seg=5`, from left to right. The scheme `ndn:` may stand before it, and
-    /// a slash after it.
+    /// Reads URI text, as `/A/seg=5`, from left to right. The scheme `ndn:` may stand before it,
+    /// and a slash after it.
     ///
     /// Refuses it by the first fault in text order: `TooManyComponents` at the 65th component,
-    /// whatever it holds, `BadDigestLength` for `1=` or `2=` with other than 32 octets, and `BadUri`
-    /// for all else. `Memory` may come at any text.
+    /// whatever it holds, `BadDigestLength` for `1=` or `2=` with other than 32 octets, and
+    /// `BadUri` for all else. `Memory` may come at any text.
     pub fn from_uri(alloc: Global, text: &str) -> Result<NameBuf, NameFault>
         // What is read is the name that the text reads as.
         ensures found { IfOk result (λ name. ReadsAs text.now name) }
         // What reads as a name is read, unless memory is refused.
-        ensures only { (cs : List Field) → ReadsAs text.now cs → MatchResult result (λ name. name ≡ cs) (λ fault. fault ≡ NameFault.Memory) }
+        ensures only { (cs : List Field) → ReadsAs text.now cs
+            → MatchResult result (λ name. name ≡ cs) (λ fault. fault ≡ NameFault.Memory) }
         // Which fault it is.
         ensures exact { MatchResult result (λ name. read.name_in text.now ≡ Ok name)
             (λ fault. read.IsFaultOf (read.name_in text.now) fault) }
@@ -245,10 +255,12 @@ impl NameBuf {
     }
 }
 
-/// Law: a text reads as one name at most, which `name_in` gives, and as one component at most, which
-/// `piece_in` gives.
+/// Law: a text reads as one name at most, which `name_in` gives, and as one component at most,
+/// which `piece_in` gives.
 pub fn texts_have_one_reading()
-    ensures component { (text : List ℕ) (c : Field) → (read.piece_in text ≡ Ok c) ↔ (ReadsComponent text c × IsComponent c) }
-    ensures exact { (text : List ℕ) (cs : List Field) → (read.name_in text ≡ Ok cs) ↔ ReadsAs text cs }
+    ensures component { (text : List ℕ) (c : Field) → (read.piece_in text ≡ Ok c)
+        ↔ (ReadsComponent text c × IsComponent c) }
+    ensures exact { (text : List ℕ) (cs : List Field) → (read.name_in text ≡ Ok cs)
+        ↔ ReadsAs text cs }
     ensures one { (text : List ℕ) (a b : List Field) → ReadsAs text a → ReadsAs text b → a ≡ b }
 {}

@@ -15,7 +15,7 @@ use Rattle.ndn_packets.specs.Covered.{IsCut, from_first, CoversData, CoversInter
 use Rattle.ndn_packets.proofs.Steps.{ok_is, some_is, none_is_not_some}
 use Rattle.ndn_packets.proofs.Packets.{only_again}
 use Rattle.ndn_packets.proofs.Cuts.{cut_read, cut_is, never_cut, never_in, all_front, cut_among}
-use Rattle.ndn_packets.proofs.Places.{Others, Met, meet_parameters, meet_info, meet_signature, meet_value, Has, has_behind, has_back, others_lack, earlier_others, front_fields, back_fields, fields_are, earlier_front, other_optional, hop_apart, all_both}
+use Rattle.ndn_packets.proofs.Places.{Others, Met, meet_parameters, meet_info, meet_signature, meet_value, Has, has_following, has_back, others_lack, earlier_others, front_fields, back_fields, fields_are, earlier_front, other_optional, hop_apart, all_both}
 
 -- ---- what a reader has to find
 
@@ -66,7 +66,7 @@ data_covered text d h =
       )
       | inr m ↦
           let signed : Has 23 (optional 20 h.meta_value ++ (optional 21 d.content ++ ((22, h.info_value) ∷ (23, d.signature.value) ∷ []))) =
-          has_behind 23 (optional 20 h.meta_value) _ (has_behind 23 (optional 21 d.content) ((22, h.info_value) ∷ (23, d.signature.value) ∷ []) (inr (inl refl))) in
+          has_following 23 (optional 20 h.meta_value) _ (has_following 23 (optional 21 d.content) ((22, h.info_value) ∷ (23, d.signature.value) ∷ []) (inr (inl refl))) in
           absurd (others_lack 23 _ (earlier_others [] [] 23 _ m.1) signed)
     ]
 
@@ -92,14 +92,14 @@ abbrev Decided : List ℕ → List Field → Type 0
 Decided value fields = (Cuts value × HasBoth fields) ⊎ ((Cuts value → ⊥) × (HasBoth fields → ⊥))
 
 has_met : (ignores : ℕ → Bool) (kind : ℕ) (later : List ℕ) (elements fields : List Field) (m : Met ignores kind later elements fields) → Has kind fields
-has_met ignores kind later elements fields m = subst (Has kind) (sym m.fields_are) (has_behind kind m.early ((kind, m.value) ∷ m.late) (inl refl))
+has_met ignores kind later elements fields m = subst (Has kind) (sym m.fields_are) (has_following kind m.early ((kind, m.value) ∷ m.late) (inl refl))
 
--- a further field stands behind the one that was met
+-- a further field stands after the one that was met
 later_met : (ignores : ℕ → Bool) (kind k : ℕ) (later : List ℕ) (elements fields : List Field) (m : Met ignores kind later elements fields) → Has k m.late → Has k fields
-later_met ignores kind k later elements fields m h = subst (Has k) (sym m.fields_are) (has_behind k m.early ((kind, m.value) ∷ m.late) (inr h))
+later_met ignores kind k later elements fields m h = subst (Has k) (sym m.fields_are) (has_following k m.early ((kind, m.value) ∷ m.late) (inr h))
 
-behind_met : (ignores : ℕ → Bool) (kind k : ℕ) (later : List ℕ) (elements fields : List Field) (m : Met ignores kind later elements fields) → Others k m.early → kind ≢ k → Has k fields → Has k m.late
-behind_met ignores kind k later elements fields m others other h =
+following_met : (ignores : ℕ → Bool) (kind k : ℕ) (later : List ℕ) (elements fields : List Field) (m : Met ignores kind later elements fields) → Others k m.early → kind ≢ k → Has k fields → Has k m.late
+following_met ignores kind k later elements fields m others other h =
     elim (has_back k m.early ((kind, m.value) ∷ m.late) others (subst (Has k) m.fields_are h)) [
       | inl same ↦ absurd (other same)
       | inr there ↦ there
@@ -114,20 +114,20 @@ decided value name elements fields inner recognised =
         λ both. others_lack 44 fields (earlier_others (36 ∷ []) (46 ∷ []) 44 fields p.1) both.0,
       )
       | inl p ↦
-          let behind = (36, p.value) ∷ p.back in
-          let from = flat_map element behind in
-          let are : all ≡ ((7, name) ∷ p.front) ++ behind = ap (λ (es : List Field). (7, name) ∷ es) p.elements_are in
+          let following = (36, p.value) ∷ p.back in
+          let from = flat_map element following in
+          let are : all ≡ ((7, name) ∷ p.front) ++ following = ap (λ (es : List Field). (7, name) ∷ es) p.elements_are in
           let before = flat_map element ((7, name) ∷ p.front) in
           let cut : IsCut 36 value before from = subst (λ (t : List ℕ). IsCut 36 t before from) (sym inner.1) (cut_among 36 p.value all ((7, name) ∷ p.front) p.back inner.0 are (eqb-false 7 36 refl, p.none)) in
-          let sizes = (all_front IsField ((7, name) ∷ p.front) behind (subst (AllByRecursion IsField) are inner.0)).1 in
-          let d = decided_info value from before p.value p.back p.late cut refl sizes p.behind in
+          let sizes = (all_front IsField ((7, name) ∷ p.front) following (subst (AllByRecursion IsField) are inner.0)).1 in
+          let d = decided_info value from before p.value p.back p.late cut refl sizes p.following in
           elim d [
             | inl y ↦ inl (y.0, (later_met is_even_high 36 44 (44 ∷ 46 ∷ []) elements fields p y.1.0, later_met is_even_high 36 46 (44 ∷ 46 ∷ []) elements fields p y.1.1))
             | inr n ↦ inr (
               n.0,
               λ both. n.1 (
-                behind_met is_even_high 36 44 (44 ∷ 46 ∷ []) elements fields p (earlier_others (36 ∷ []) (46 ∷ []) 44 p.early p.earlier) (eqb-false 36 44 refl) both.0,
-                behind_met is_even_high 36 46 (44 ∷ 46 ∷ []) elements fields p (earlier_others (36 ∷ 44 ∷ []) [] 46 p.early p.earlier) (eqb-false 36 46 refl) both.1,
+                following_met is_even_high 36 44 (44 ∷ 46 ∷ []) elements fields p (earlier_others (36 ∷ []) (46 ∷ []) 44 p.early p.earlier) (eqb-false 36 44 refl) both.0,
+                following_met is_even_high 36 46 (44 ∷ 46 ∷ []) elements fields p (earlier_others (36 ∷ 44 ∷ []) [] 46 p.early p.earlier) (eqb-false 36 46 refl) both.1,
               ),
             )
           ]
@@ -168,15 +168,15 @@ decided value name elements fields inner recognised =
             λ both. others_lack 44 fields (earlier_others [] (46 ∷ []) 44 fields i.1) both.0,
           )
           | inl i ↦
-              let behind = (44, i.value) ∷ i.back in
-              let from_info = flat_map element behind in
+              let following = (44, i.value) ∷ i.back in
+              let from_info = flat_map element following in
               let to_info = flat_map element ((36, parameters) ∷ i.front) in
-              let are : all ≡ ((36, parameters) ∷ i.front) ++ behind = ap (λ (es : List Field). (36, parameters) ∷ es) i.elements_are in
+              let are : all ≡ ((36, parameters) ∷ i.front) ++ following = ap (λ (es : List Field). (36, parameters) ∷ es) i.elements_are in
               let cut_info : IsCut 44 from to_info from_info = subst (λ (t : List ℕ). IsCut 44 t to_info from_info) (sym is) (cut_among 44 i.value all ((36, parameters) ∷ i.front) i.back sizes are (eqb-false 36 44 refl, i.none)) in
-              let rest = (all_front IsField ((36, parameters) ∷ i.front) behind (subst (AllByRecursion IsField) are sizes)).1 in
-              elim (decided_signature value from from_info before to_info i.value i.back i.late cut cut_info refl rest i.behind) [
+              let rest = (all_front IsField ((36, parameters) ∷ i.front) following (subst (AllByRecursion IsField) are sizes)).1 in
+              elim (decided_signature value from from_info before to_info i.value i.back i.late cut cut_info refl rest i.following) [
                 | inl y ↦ inl (y.0, (has_met is_even_high 44 (46 ∷ []) elements fields i, later_met is_even_high 44 46 (46 ∷ []) elements fields i y.1))
-                | inr n ↦ inr (n.0, λ both. n.1 (behind_met is_even_high 44 46 (46 ∷ []) elements fields i (earlier_others (44 ∷ []) [] 46 i.early i.earlier) (eqb-false 44 46 refl) both.1))
+                | inr n ↦ inr (n.0, λ both. n.1 (following_met is_even_high 44 46 (46 ∷ []) elements fields i (earlier_others (44 ∷ []) [] 46 i.early i.earlier) (eqb-false 44 46 refl) both.1))
               ]
         ]
 
@@ -192,9 +192,9 @@ signed_has parameters (Some v) (Some w) signature h both = rw h.2 refl
 has_signed : (parameters info value : Option (List ℕ)) (signature : Option PlainSignature) → IsSigned info value signature → IsSome signature → HasBoth (back_fields parameters info value)
 has_signed parameters None value signature h some = let none : IsSome {T = PlainSignature} None = subst IsSome h some in absurd cc
 has_signed parameters (Some v) None signature h some = let none : IsSome {T = PlainSignature} None = subst IsSome h.2 some in absurd cc
-has_signed parameters (Some v) (Some w) signature h some = (has_behind 44 (optional 36 parameters) _ (inl refl), has_behind 46 (optional 36 parameters) _ (inr (inl refl)))
+has_signed parameters (Some v) (Some w) signature h some = (has_following 44 (optional 36 parameters) _ (inl refl), has_following 46 (optional 36 parameters) _ (inr (inl refl)))
 
--- both stand behind the HopLimit
+-- both stand after the HopLimit
 module _ (prefix fresh : Bool) (hint : Option (List ℕ)) (nonce : List ℕ) (lifetime hop : Option (List ℕ)) (back : List Field) where
   abbrev all_fields : List Field
   all_fields = flag 33 prefix ++ (flag 18 fresh ++ (optional 30 hint ++ ((10, nonce) ∷ (optional 12 lifetime ++ (optional 34 hop ++ back)))))
@@ -203,7 +203,7 @@ module _ (prefix fresh : Bool) (hint : Option (List ℕ)) (nonce : List ℕ) (li
   are = fields_are prefix fresh hint nonce lifetime (optional 34 hop ++ back)
 
   has_all : (kind : ℕ) → Has kind back → Has kind all_fields
-  has_all kind h = subst (Has kind) (sym are) (has_behind kind (front_fields prefix fresh hint nonce lifetime) (optional 34 hop ++ back) (has_behind kind (optional 34 hop) back h))
+  has_all kind h = subst (Has kind) (sym are) (has_following kind (front_fields prefix fresh hint nonce lifetime) (optional 34 hop ++ back) (has_following kind (optional 34 hop) back h))
 
   in_back : (kind : ℕ) → Others kind (front_fields prefix fresh hint nonce lifetime) → 34 ≢ kind → Has kind all_fields → Has kind back
   in_back kind others other h =
@@ -302,9 +302,9 @@ begins ignores kind later octets before from first elements fields m other is si
     (cut_among kind m.value (first ∷ elements) (first ∷ m.front) m.back sizes (ap (λ (es : List Field). first ∷ es) m.elements_are) (other, m.none)) in
     sym (cut_is kind octets (flat_map element ((kind, m.value) ∷ m.back)) before from (cut_read kind octets _ _ own) cut)
 
--- a field that begins behind another one
-begins_behind : (kind k : ℕ) (from : List ℕ) (v : List ℕ) (early late fields : List Field) → fields ≡ early ++ (k, v) ∷ late → Others kind early → k ≢ kind → Begins kind from late → Begins kind from fields
-begins_behind kind k from v early late fields is others other b = record {
+-- a field that begins after another one
+begins_following : (kind k : ℕ) (from : List ℕ) (v : List ℕ) (early late fields : List Field) → fields ≡ early ++ (k, v) ∷ late → Others kind early → k ≢ kind → Begins kind from late → Begins kind from fields
+begins_following kind k from v early late fields is others other b = record {
   value = b.value;
   after = b.after;
   early = early ++ (k, v) ∷ b.early;
@@ -314,10 +314,10 @@ begins_behind kind k from v early late fields is others other b = record {
   others = all_both (λ f. f.0 ≢ kind) early ((k, v) ∷ b.early) others (other, b.others);
 }
 
--- the elements behind the one that was met have sizes too
-sizes_behind : (ignores : ℕ → Bool) (kind : ℕ) (later : List ℕ) (first : Field) (elements fields : List Field) (m : Met ignores kind later elements fields) → AllByRecursion IsField (first ∷ elements)
+-- the elements after the one that was met have sizes too
+sizes_following : (ignores : ℕ → Bool) (kind : ℕ) (later : List ℕ) (first : Field) (elements fields : List Field) (m : Met ignores kind later elements fields) → AllByRecursion IsField (first ∷ elements)
     → AllByRecursion IsField ((kind, m.value) ∷ m.back)
-sizes_behind ignores kind later first elements fields m sizes = (all_front IsField m.front ((kind, m.value) ∷ m.back) (subst (AllByRecursion IsField) m.elements_are sizes.1)).1
+sizes_following ignores kind later first elements fields m sizes = (all_front IsField m.front ((kind, m.value) ∷ m.back) (subst (AllByRecursion IsField) m.elements_are sizes.1)).1
 
 begins_value : (from_info to_signature from_signature info : List ℕ) (elements fields : List Field) → from_info ≡ flat_map element ((44, info) ∷ elements) → AllByRecursion IsField ((44, info) ∷ elements)
     → Fields is_even_high (46 ∷ []) elements fields → IsCut 46 from_info to_signature from_signature → Begins 46 from_signature fields
@@ -342,8 +342,8 @@ begins_info from_parameters to_info from_info to_signature from_signature parame
     elim (meet_info is_even_high elements fields recognised) [
       | inl m ↦
           let at = begins is_even_high 44 (46 ∷ []) from_parameters to_info from_info (36, parameters) elements fields m (eqb-false 36 44 refl) is sizes cut in
-          let b = begins_value from_info to_signature from_signature m.value m.back m.late at (sizes_behind is_even_high 44 (46 ∷ []) (36, parameters) elements fields m sizes) m.behind cut_signature in
-          begins_behind 46 44 from_signature m.value m.early m.late fields m.fields_are (earlier_others (44 ∷ []) [] 46 m.early m.earlier) (eqb-false 44 46 refl) b
+          let b = begins_value from_info to_signature from_signature m.value m.back m.late at (sizes_following is_even_high 44 (46 ∷ []) (36, parameters) elements fields m sizes) m.following cut_signature in
+          begins_following 46 44 from_signature m.value m.early m.late fields m.fields_are (earlier_others (44 ∷ []) [] 46 m.early m.earlier) (eqb-false 44 46 refl) b
       | inr n ↦ absurd (never_cut 44 from_parameters to_info from_info (ap (from_first 44) is ∙ never_in 44 ((36, parameters) ∷ elements) sizes (eqb-false 36 44 refl, n.0)) cut)
     ]
 
@@ -353,8 +353,8 @@ begins_parameters value early from_parameters to_info from_info to_signature fro
     elim (meet_parameters is_even_high elements fields recognised) [
       | inl m ↦
           let at = begins is_even_high 36 (44 ∷ 46 ∷ []) value early from_parameters (7, name) elements fields m (eqb-false 7 36 refl) inner.1 inner.0 cut in
-          let b = begins_info from_parameters to_info from_info to_signature from_signature m.value m.back m.late at (sizes_behind is_even_high 36 (44 ∷ 46 ∷ []) (7, name) elements fields m inner.0) m.behind cut_info cut_signature in
-          begins_behind 46 36 from_signature m.value m.early m.late fields m.fields_are (earlier_others (36 ∷ 44 ∷ []) [] 46 m.early m.earlier) (eqb-false 36 46 refl) b
+          let b = begins_info from_parameters to_info from_info to_signature from_signature m.value m.back m.late at (sizes_following is_even_high 36 (44 ∷ 46 ∷ []) (7, name) elements fields m inner.0) m.following cut_info cut_signature in
+          begins_following 46 36 from_signature m.value m.early m.late fields m.fields_are (earlier_others (36 ∷ 44 ∷ []) [] 46 m.early m.earlier) (eqb-false 36 46 refl) b
       | inr n ↦ absurd (never_cut 36 value early from_parameters (ap (from_first 36) inner.1 ∙ never_in 36 ((7, name) ∷ elements) inner.0 (eqb-false 7 36 refl, n.0)) cut)
     ]
 
@@ -383,7 +383,7 @@ signed_value None value signature s h is = absurd (none_is_not_some s (sym h ∙
 signed_value (Some v) None signature s h is = absurd (none_is_not_some s (sym h.2 ∙ is))
 signed_value (Some v) (Some w) signature s h is = ap (λ (t : PlainSignature). Some t.value) (some_is _ s (sym h.2 ∙ is))
 
--- what is behind the second part begins with the element of the signature's value
+-- what is after the second part begins with the element of the signature's value
 value_at : (text : List ℕ) (i : PlainInterest) (s : PlainSignature) (first second : List ℕ) → IsInterest text i → i.signature ≡ Some s → (c : CoversInterest i.name text first second)
     → (after : List ℕ) × (c.from_signature ≡ element (46, s.value) ++ after)
 value_at text i s first second h signed c =
@@ -471,8 +471,8 @@ interest_ends text i s first second h signed c =
 -- octets are cut in one place
 one_cut : (kind : ℕ) (octets other before from front back : List ℕ) → octets ≡ other → IsCut kind octets before from → IsCut kind other front back → (before ≡ front) × (from ≡ back)
 one_cut kind octets other before from front back same cut again =
-    let behind : from ≡ back = cut_is kind other from front back (ap (from_first kind) (sym same) ∙ cut_read kind octets before from cut) again in
-    (append_cancel_right before front from (sym cut.octets_are ∙ same ∙ again.octets_are ∙ ap (λ (t : List ℕ). front ++ t) (sym behind)), behind)
+    let following : from ≡ back = cut_is kind other from front back (ap (from_first kind) (sym same) ∙ cut_read kind octets before from cut) again in
+    (append_cancel_right before front from (sym cut.octets_are ∙ same ∙ again.octets_are ∙ ap (λ (t : List ℕ). front ++ t) (sym following)), following)
 
 pub one_covered : (packet : PlainFrame) (first second other_first other_second : List ℕ) → Covered packet first second → Covered packet other_first other_second → (first ≡ other_first) × (second ≡ other_second)
 one_covered (AnInterest whole i) first second other_first other_second c d =

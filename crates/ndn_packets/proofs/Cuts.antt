@@ -62,10 +62,10 @@ cut_there kind [] value after fields field first_one =
     let here = element (kind, value) ++ after in
     next_is kind here (kind, value) after (sym (element_again (kind, value) after field)) refl
 cut_there kind (e ∷ others) value after fields field first_one =
-    let behind = flat_map element others ++ (element (kind, value) ++ after) in
+    let following = flat_map element others ++ (element (kind, value) ++ after) in
     let here = flat_map element (e ∷ others) ++ (element (kind, value) ++ after) in
-    let is : here ≡ element e ++ behind = append_assoc (element e) (flat_map element others) (element (kind, value) ++ after) in
-    next_other kind here e behind (sym (ap element_at is ∙ element_again e behind fields.0)) first_one.0 ∙ cut_there kind others value after fields.1 field first_one.1
+    let is : here ≡ element e ++ following = append_assoc (element e) (flat_map element others) (element (kind, value) ++ after) in
+    next_other kind here e following (sym (ap element_at is ∙ element_again e following fields.0)) first_one.0 ∙ cut_there kind others value after fields.1 field first_one.1
 
 pub cut_read : (kind : ℕ) (octets before from : List ℕ) → IsCut kind octets before from → from_first kind octets ≡ Some from
 cut_read kind octets before from h =

@@ -65,7 +65,7 @@ value_taken None content freshness info s t is e = e ∙ is
 value_taken (Some v) content freshness info s t is e =
     sym (ok_is _ t (subst (λ (u : DataSoFar). take_data_field u (23, v) ≡ Ok t) is e))
 
--- ---- the fields behind the Name
+-- ---- the fields after the Name
 
 record DataFields (fields : List Field) (t : DataSoFar) : Type 0 where
   meta : Option (List ℕ)

@@ -5,7 +5,7 @@ use Rattle.std.specs.Str.{bytes_eq}
 use Rattle.std.proofs.lemmas.Bool.{eqb-true}
 use Rattle.ndn_packets.specs.declared.interest.Digests.{Digests}
 use Rattle.ndn_packets.specs.declared.interest.Digests.TheVariants as digests
-use Rattle.ndn_packets.specs.Found.{AreDigests}
+use Rattle.ndn_packets.specs.SoFar.{AreDigests}
 use Rattle.std.proofs.lemmas.Slice.Eq.{bytes_eq-Decides}
 use Rattle.sha2.specs.Sha256.{sha256}
 use Rattle.ndn_tlv.specs.Element.{Field, element}

@@ -8,7 +8,7 @@ use Rattle.ndn_tlv.specs.Reading.{◌>>=◌}
 use Rattle.ndn_tlv.proofs.Numbers.{IsBytes}
 use Rattle.ndn_packets.specs.declared.fault.PacketFault.{PacketFault}
 use Rattle.ndn_packets.specs.declared.fault.PacketFault.TheVariants.{CriticalUnknown}
-use Rattle.ndn_packets.specs.Fields.{Counts, Fields, is_follower, optional}
+use Rattle.ndn_packets.specs.Fields.{Counts, Fields, needs_previous_field, optional}
 use Rattle.ndn_packets.specs.Reading.{schema_after, on_option, fields_from, read_fields}
 use Rattle.ndn_packets.proofs.Steps.{bind_ok, good, err_is_not_ok, both_tests, read}
 
@@ -17,59 +17,59 @@ use Rattle.ndn_packets.proofs.Steps.{bind_ok, good, err_is_not_ok, both_tests, r
 abbrev pub Lacks : ℕ → List ℕ → Type 0
 Lacks kind schema = AllByRecursion (λ k. k ≢ kind) schema
 
-abbrev IsBehindNone : ℕ → List ℕ → Type 0
-IsBehindNone kind schema = (later : List ℕ) → Counts kind later schema → ⊥
+abbrev IsAfterNone : ℕ → List ℕ → Type 0
+IsAfterNone kind schema = (later : List ℕ) → Counts kind later schema → ⊥
 
 abbrev IsAfter : ℕ → List ℕ → Option (List ℕ) → Type 0
-IsAfter kind schema None = IsBehindNone kind schema
+IsAfter kind schema None = IsAfterNone kind schema
 IsAfter kind schema (Some later) = Counts kind later schema
 
-in_nothing : (kind : ℕ) → IsBehindNone kind []
+in_nothing : (kind : ℕ) → IsAfterNone kind []
 in_nothing kind later h = at_front h.0 h.1
   where
     at_front : (front : List ℕ) → [] ≡ front ++ kind ∷ later → ⊥
     at_front [] e = cc
     at_front (k ∷ front) e = cc
 
--- a type that is not the first of a schema stands behind the first, and is no follower
-past_first : (kind first : ℕ) (later schema : List ℕ) → first ≢ kind → Counts kind later (first ∷ schema) → Counts kind later schema × (is_follower kind ≡ false)
+-- a type that is not the first of a schema stands after the first, and needs no previous field
+past_first : (kind first : ℕ) (later schema : List ℕ) → first ≢ kind → Counts kind later (first ∷ schema) → Counts kind later schema × (needs_previous_field kind ≡ false)
 past_first kind first later schema other h = at_front h.0 h.1 h.2 h.3
   where
-    no_follower : (b : Bool) → (b ≡ true → ⊥) → b ≡ false
-    no_follower true h = absurd (h refl)
-    no_follower false h = refl
+    no_need : (b : Bool) → (b ≡ true → ⊥) → b ≡ false
+    no_need true h = absurd (h refl)
+    no_need false h = refl
 
-    at_front : (front : List ℕ) → first ∷ schema ≡ front ++ kind ∷ later → Lacks kind front → (is_follower kind ≡ true → front ≡ []) → Counts kind later schema × (is_follower kind ≡ false)
+    at_front : (front : List ℕ) → first ∷ schema ≡ front ++ kind ∷ later → Lacks kind front → (needs_previous_field kind ≡ true → front ≡ []) → Counts kind later schema × (needs_previous_field kind ≡ false)
     at_front [] is lacks near = absurd (other cc)
     at_front (k ∷ front) is lacks near =
-        let far : is_follower kind ≡ true → ⊥ = λ follows. (let none = near follows in cc) in
-        ((front, (cc), lacks.1, λ follows. absurd (far follows)), no_follower (is_follower kind) far)
+        let far : needs_previous_field kind ≡ true → ⊥ = λ follows. (let none = near follows in cc) in
+        ((front, (cc), lacks.1, λ follows. absurd (far follows)), no_need (needs_previous_field kind) far)
 
 after_found : (kind : ℕ) (schema : List ℕ) → IsAfter kind schema (schema_after kind schema)
 after_found kind [] = in_nothing kind
 after_found kind (first ∷ schema) =
-    elim (eqb first kind) as (λ b. eqb first kind ≡ b → IsAfter kind (first ∷ schema) (cond b (Some schema) (cond (is_follower kind) None (schema_after kind schema)))) [
+    elim (eqb first kind) as (λ b. eqb first kind ≡ b → IsAfter kind (first ∷ schema) (cond b (Some schema) (cond (needs_previous_field kind) None (schema_after kind schema)))) [
       | true ↦ λ is. ([], ap (λ (k : ℕ). k ∷ schema) (eqb-true first kind is), tt, λ follows. refl)
       | false ↦ λ differs.
           let other : first ≢ kind = eqb-false first kind differs in
-          elim (is_follower kind) as (λ b. is_follower kind ≡ b → IsAfter kind (first ∷ schema) (cond b None (schema_after kind schema))) [
-            | true ↦ λ follows later h. both_tests (is_follower kind) (past_first kind first later schema other h).1 follows
-            | false ↦ λ plain. behind first other plain (schema_after kind schema) (after_found kind schema)
+          elim (needs_previous_field kind) as (λ b. needs_previous_field kind ≡ b → IsAfter kind (first ∷ schema) (cond b None (schema_after kind schema))) [
+            | true ↦ λ follows later h. both_tests (needs_previous_field kind) (past_first kind first later schema other h).1 follows
+            | false ↦ λ plain. following first other plain (schema_after kind schema) (after_found kind schema)
           ] refl
     ] refl
   where
-    behind : (first : ℕ) → first ≢ kind → is_follower kind ≡ false → (r : Option (List ℕ)) → IsAfter kind schema r → IsAfter kind (first ∷ schema) r
-    behind first other plain None h = λ later before. h later (past_first kind first later schema other before).0
-    behind first other plain (Some later) h = (first ∷ h.0, ap (λ (ks : List ℕ). first ∷ ks) h.1, (other, h.2), λ follows. absurd (both_tests (is_follower kind) plain follows))
+    following : (first : ℕ) → first ≢ kind → needs_previous_field kind ≡ false → (r : Option (List ℕ)) → IsAfter kind schema r → IsAfter kind (first ∷ schema) r
+    following first other plain None h = λ later before. h later (past_first kind first later schema other before).0
+    following first other plain (Some later) h = (first ∷ h.0, ap (λ (ks : List ℕ). first ∷ ks) h.1, (other, h.2), λ follows. absurd (both_tests (needs_previous_field kind) plain follows))
 
 after_again : (kind : ℕ) (schema later : List ℕ) → Counts kind later schema → schema_after kind schema ≡ Some later
 after_again kind [] later h = absurd (in_nothing kind later h)
 after_again kind (first ∷ schema) later h =
-    elim (eqb first kind) as (λ b. eqb first kind ≡ b → cond b (Some schema) (cond (is_follower kind) None (schema_after kind schema)) ≡ Some later) [
+    elim (eqb first kind) as (λ b. eqb first kind ≡ b → cond b (Some schema) (cond (needs_previous_field kind) None (schema_after kind schema)) ≡ Some later) [
       | true ↦ λ is. ap (λ (ks : List ℕ). Some ks) (at_first (eqb-true first kind is) h.0 h.1 h.2)
       | false ↦ λ differs.
           let past = past_first kind first later schema (eqb-false first kind differs) h in
-          not_refused (is_follower kind) (schema_after kind schema) past.1 (after_again kind schema later past.0)
+          not_refused (needs_previous_field kind) (schema_after kind schema) past.1 (after_again kind schema later past.0)
     ] refl
   where
     at_first : first ≡ kind → (front : List ℕ) → first ∷ schema ≡ front ++ kind ∷ later → Lacks kind front → schema ≡ later
@@ -80,7 +80,7 @@ after_again kind (first ∷ schema) later h =
     not_refused true r e found = absurd cc
     not_refused false r e found = found
 
-after_none : (kind : ℕ) (schema : List ℕ) → IsBehindNone kind schema → schema_after kind schema ≡ None
+after_none : (kind : ℕ) (schema : List ℕ) → IsAfterNone kind schema → schema_after kind schema ≡ None
 after_none kind schema none = found (schema_after kind schema) (after_found kind schema)
   where
     found : (r : Option (List ℕ)) → IsAfter kind schema r → r ≡ None

@@ -69,7 +69,7 @@ bytes_with limit after small fits (suc zero) = omega arith
 bytes_with limit after small fits (suc (suc zero)) = small
 bytes_with limit after small fits (suc (suc (suc i))) = fits i
 
--- the octet behind the type and the length, and another one there
+-- the octet after the type and the length, and another one there
 octet_is : (front after : List ℕ) (limit : ℕ) → slice_index (front ++ 34 ∷ 1 ∷ limit ∷ after) (length front + 2) ≡ limit
 octet_is front after limit =
     let len : length (front ++ 34 ∷ 1 ∷ []) ≡ length front + 2 = length-append front (34 ∷ 1 ∷ []) in
@@ -87,9 +87,9 @@ limit_is None limit n is there = absurd (none_is_not_some n (sym is ∙ there))
 limit_is (Some v) limit n is there = ap (λ (t : List ℕ). Some t) (is.1 ∙ ap (λ k. k ∷ []) (some_is is.0 n (sym is.2 ∙ there)))
 
 -- other elements do not matter to the octets from the parameters on
-parameters_behind : (front back : List Field) (value : List ℕ) → Others 36 front → from_parameters (front ++ (34, value) ∷ back) ≡ from_parameters back
-parameters_behind [] back value others = refl
-parameters_behind (e ∷ front) back value others = rw (ne_eqb e.0 36 others.0) (parameters_behind front back value others.1)
+parameters_following : (front back : List Field) (value : List ℕ) → Others 36 front → from_parameters (front ++ (34, value) ∷ back) ≡ from_parameters back
+parameters_following [] back value others = refl
+parameters_following (e ∷ front) back value others = rw (ne_eqb e.0 36 others.0) (parameters_following front back value others.1)
 
 digested_same : (name elements others : List Field) (parameters : Option (List ℕ)) → from_parameters elements ≡ from_parameters others → IsDigested name elements parameters → IsDigested name others parameters
 digested_same name elements others None same h = h
@@ -130,8 +130,8 @@ module _ (text : List ℕ) (i : PlainInterest) (limit : ℕ) (h : IsInterest tex
   bytes_there other small =
       let begin = text_front h.name_value front back limit in
       let fits = subst IsBytes octets_are h.fields.octets in
-      let behind = IsBytes-back begin (from_limit h.name_value front back limit) fits in
-      IsBytes-append begin (from_limit h.name_value front back other) (IsBytes-front begin (from_limit h.name_value front back limit) fits) (bytes_with other (flat_map element back) small (λ k. behind (suc (suc (suc k)))))
+      let following = IsBytes-back begin (from_limit h.name_value front back limit) fits in
+      IsBytes-append begin (from_limit h.name_value front back other) (IsBytes-front begin (from_limit h.name_value front back limit) fits) (bytes_with other (flat_map element back) small (λ k. following (suc (suc (suc k)))))
 
   with_other : Others 36 front → (other : ℕ) → other < 256 → Fields is_even_high interest_schema (elements_with h.name_value front back other) (fields_with text i h (other ∷ []))
       → IsInterest (text_front h.name_value front back limit ++ from_limit h.name_value front back other) (with_limit i other)
@@ -163,7 +163,7 @@ module _ (text : List ℕ) (i : PlainInterest) (limit : ℕ) (h : IsInterest tex
         lifetime = h.lifetime;
         hop_limit = (other, refl, refl);
         digested = digested_same i.name h.fields.elements (elements_with h.name_value front back other) i.parameters
-            (ap from_parameters are ∙ parameters_behind front back (limit ∷ []) others ∙ sym (parameters_behind front back (other ∷ []) others)) h.digested;
+            (ap from_parameters are ∙ parameters_following front back (limit ∷ []) others ∙ sym (parameters_following front back (other ∷ []) others)) h.digested;
         signature = h.signature;
       }
 

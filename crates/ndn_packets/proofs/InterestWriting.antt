@@ -20,17 +20,17 @@ regrouped a b c d e f = simp append_assoc
 
 -- ---- the name
 
-octets_behind : (name : List Field) (digest : List ℕ) → octets (name ++ (2, digest) ∷ []) ≡ octets name ++ element (2, digest)
-octets_behind name digest =
+octets_following : (name : List Field) (digest : List ℕ) → octets (name ++ (2, digest) ∷ []) ≡ octets name ++ element (2, digest)
+octets_following name digest =
     flat_map-append element name ((2, digest) ∷ []) ∙ ap (λ (x : List ℕ). octets name ++ x) (append-nil (element (2, digest)))
 
--- the name and the digest of the fields behind it
+-- the name and the digest of the fields after it
 abbrev pub with_digest : List Field → List Field → List Field
 with_digest name fields = name_with (sha256 (octets fields)) name fields
 
 pub with_digest_octets : (name later : List Field) → not (is_nil later) ≡ true → octets (with_digest name later) ≡ octets name ++ element (2, sha256 (octets later))
 with_digest_octets name [] some = absurd cc
-with_digest_octets name (f ∷ later) some = octets_behind name (sha256 (octets (f ∷ later)))
+with_digest_octets name (f ∷ later) some = octets_following name (sha256 (octets (f ∷ later)))
 
 -- the name with zeros in place of the digest
 abbrev zeros : List ℕ
@@ -38,11 +38,11 @@ zeros = replicate 32 0
 
 zeroed_octets : (name later : List Field) → not (is_nil later) ≡ true → octets (name_with zeros name later) ≡ octets name ++ element (2, zeros)
 zeroed_octets name [] some = absurd cc
-zeroed_octets name (f ∷ later) some = octets_behind name zeros
+zeroed_octets name (f ∷ later) some = octets_following name zeros
 
 zeroed_after : (name later : List Field) → length (octets name) ≤ length (octets (name_with zeros name later))
 zeroed_after name [] = omega arith
-zeroed_after name (f ∷ later) = omega (arith, ap length (octets_behind name zeros), length-append (octets name) (element (2, zeros)))
+zeroed_after name (f ∷ later) = omega (arith, ap length (octets_following name zeros), length-append (octets name) (element (2, zeros)))
 
 equally_long : (kind : ℕ) (value other : List ℕ) → length value ≡ length other → length (element (kind, value)) ≡ length (element (kind, other))
 equally_long kind value other same = omega (arith, same, length-element kind value, length-element kind other, ap (λ n. length (spelling n)) same)
@@ -53,8 +53,8 @@ zeroed_length name (f ∷ later) =
     let digest = sha256 (octets (f ∷ later)) in
     omega (
       arith,
-      ap length (octets_behind name zeros),
-      ap length (octets_behind name digest),
+      ap length (octets_following name zeros),
+      ap length (octets_following name digest),
       length-append (octets name) (element (2, zeros)),
       length-append (octets name) (element (2, digest)),
       equally_long 2 digest zeros (length-sha256 (octets (f ∷ later))),
@@ -179,7 +179,7 @@ name_split : (n : ℕ) (name : List Field) (digest : List ℕ) → n ≡ length 
 name_split n name digest is at =
     let value = octets (name ++ (2, digest) ∷ []) in
     ap (λ (k : ℕ). spelling 7 ++ (spelling k ++ value)) (sym is)
-    ∙ (ap (λ (x : List ℕ). spelling 7 ++ (spelling n ++ x)) (octets_behind name digest ∙ ap (λ (k : ℕ). octets name ++ (spelling 2 ++ (spelling k ++ digest))) at)
+    ∙ (ap (λ (x : List ℕ). spelling 7 ++ (spelling n ++ x)) (octets_following name digest ∙ ap (λ (k : ℕ). octets name ++ (spelling 2 ++ (spelling k ++ digest))) at)
     ∙ regrouped_front (spelling 7) (spelling n) (octets name) (spelling 2) (spelling 32) digest)
 
 replaced : (front by early later : List ℕ) (e s : ℕ) → length by ≡ 32 → e ≡ length front + 32 → s ≡ e + length early
@@ -187,10 +187,10 @@ replaced : (front by early later : List ℕ) (e s : ℕ) → length by ≡ 32 �
 replaced front by early later e s long end start =
     let items = (front ++ by) ++ (early ++ later) in
     let begin : take (e - 32) items ≡ front = ap (take (e - 32)) (append_assoc front by (early ++ later)) ∙ take_at front (by ++ (early ++ later)) (e - 32) (omega arith) in
-    let behind : drop e items ≡ early ++ later = drop_at (front ++ by) (early ++ later) e (omega (arith, length-append front by)) in
+    let following : drop e items ≡ early ++ later = drop_at (front ++ by) (early ++ later) e (omega (arith, length-append front by)) in
     let last : drop s items ≡ later =
     ap (drop s) (sym (append_assoc (front ++ by) early later)) ∙ drop_at ((front ++ by) ++ early) later s (omega (arith, length-append front by, length-append (front ++ by) early)) in
-    rw (begin, behind, last) refl
+    rw (begin, following, last) refl
 
 pub digest_put : (old : List ℕ) (name early later : List Field) (items : List ℕ) (e s : ℕ) → not (is_nil later) ≡ true
     → items ≡ ((old ++ element (7, octets (name_with zeros name later))) ++ octets early) ++ octets later
@@ -213,7 +213,7 @@ digest_put old name early (f ∷ later) items e s some is end start =
     ∙ (append_assoc (element (7, octets (with_digest name (f ∷ later)))) (octets early) fields ∙ ap (λ (x : List ℕ). x ++ (octets early ++ fields)) after) in
     ap (λ (x : List ℕ). take (e - 32) x ++ (sha256 (drop s x) ++ drop e x)) whole
     ∙ (replaced front zeros (octets early) fields e s refl (omega (arith, end, ap length before, length-append front zeros)) start
-    ∙ (regrouped_behind old (name_front n name) digest (octets early ++ fields) ∙ ap (λ (x : List ℕ). old ++ x) (sym written)))
+    ∙ (regrouped_following old (name_front n name) digest (octets early ++ fields) ∙ ap (λ (x : List ℕ). old ++ x) (sym written)))
   where
-    regrouped_behind : (a b c d : List ℕ) → (a ++ b) ++ (c ++ d) ≡ a ++ ((b ++ c) ++ d)
-    regrouped_behind a b c d = simp append_assoc
+    regrouped_following : (a b c d : List ℕ) → (a ++ b) ++ (c ++ d) ≡ a ++ ((b ++ c) ++ d)
+    regrouped_following a b c d = simp append_assoc

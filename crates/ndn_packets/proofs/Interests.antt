@@ -147,7 +147,7 @@ signature_found None value said h = ap (λ (s : Option PlainSignatureInfo). sign
 signature_found (Some v) None said h = (h.0, h.1, ap (λ (s : Option PlainSignatureInfo). signature_of s None) h.2)
 signature_found (Some v) (Some w) said h = (h.0, h.1, ap (λ (s : Option PlainSignatureInfo). signature_of s (Some w)) h.2)
 
--- ---- the fields behind the Name
+-- ---- the fields after the Name
 
 record InterestFields (fields : List Field) (t : InterestSoFar) : Type 0 where
   prefix : Bool

@@ -45,13 +45,13 @@ in_memory_is_exact n octets is small = omega arith
 pub fields_are_long : (front back : List Field) → length (octets front) + length (octets back) ≡ length (octets (front ++ back))
 fields_are_long front back = rw flat_map-append (omega (arith, length-append (octets front) (octets back)))
 
--- what stands behind the header of an element is its value
+-- what stands after the header of an element is its value
 pub element_put : (old : List ℕ) (kind len : ℕ) (value : List ℕ) → len ≡ length value → (old ++ (spelling kind ++ spelling len)) ++ value ≡ old ++ element (kind, value)
 element_put old kind len value is = rw is (simp append_assoc)
 
--- what is left of octets to which some are appended, and others behind these
+-- what is left of octets to which some are appended, and others after these
 pub begins_more : (old front new tail : List ℕ) (n m : ℕ) → n ≡ length old → m ≡ length front → front ≡ old ++ tail → take m new ≡ front → take n new ≡ old
-begins_more old front new tail n m at behind is begins =
+begins_more old front new tail n m at following is begins =
     let short : n ≤ m = omega (arith, ap length is, length-append old tail) in
     sym (take-take n m new short) ∙ (ap (λ (x : List ℕ). take n x) (begins ∙ is) ∙ take_at old tail n (sym at))
 

@@ -50,7 +50,7 @@ one_less false n h = (refl, omega arith)
 
 -- ---- one header field that is read
 
-record Found (s : LinkSoFar) (e : Field) (t : LinkSoFar) : Type 0 where
+record Taken (s : LinkSoFar) (e : Field) (t : LinkSoFar) : Type 0 where
   is_header : IsHeader e
   leaves : (headers : List Field) (nack : Option ℕ) → Room t headers nack → Room s (e ∷ headers) nack
 
@@ -60,34 +60,34 @@ at_most_found limit v u t fits e =
     let g = guard_ok (ltb limit n.0) Fragmented (good u) t n.2 in
     (n.0, number_found v n.0 fits n.1, ltb-false limit n.0 g.0, ok_is u t g.1)
 
-sequence_found : (s t : LinkSoFar) (v : List ℕ) → s.sequence ≡ false → with_header s (81, v) ≡ Ok t → Found s (81, v) t
-sequence_found s t v free e = subst (Found s (81, v)) (ok_is _ t e) (record {
+sequence_found : (s t : LinkSoFar) (v : List ℕ) → s.sequence ≡ false → with_header s (81, v) ≡ Ok t → Taken s (81, v) t
+sequence_found s t v free e = subst (Taken s (81, v)) (ok_is _ t e) (record {
   is_header = inl refl;
   leaves = λ headers nack r. record { sequence = one_more s.sequence _ free r.sequence; frag_index = r.frag_index; frag_count = r.frag_count; pit_token = r.pit_token; nacks = r.nacks };
 })
 
-frag_index_found : (s t : LinkSoFar) (v : List ℕ) → IsBytes v → s.frag_index ≡ false → with_header s (82, v) ≡ Ok t → Found s (82, v) t
+frag_index_found : (s t : LinkSoFar) (v : List ℕ) → IsBytes v → s.frag_index ≡ false → with_header s (82, v) ≡ Ok t → Taken s (82, v) t
 frag_index_found s t v fits free e =
     let n = at_most_found 0 v _ t fits e in
     let zero : n.0 ≡ 0 = omega (arith, n.2) in
-    subst (Found s (82, v)) n.3 (record {
+    subst (Taken s (82, v)) n.3 (record {
       is_header = inr (inl (refl, subst (IsNni v) zero n.1));
       leaves = λ headers nack r. record { sequence = r.sequence; frag_index = one_more s.frag_index _ free r.frag_index; frag_count = r.frag_count; pit_token = r.pit_token; nacks = r.nacks };
     })
 
-frag_count_found : (s t : LinkSoFar) (v : List ℕ) → IsBytes v → s.frag_count ≡ false → with_header s (83, v) ≡ Ok t → Found s (83, v) t
+frag_count_found : (s t : LinkSoFar) (v : List ℕ) → IsBytes v → s.frag_count ≡ false → with_header s (83, v) ≡ Ok t → Taken s (83, v) t
 frag_count_found s t v fits free e =
     let n = at_most_found 1 v _ t fits e in
-    subst (Found s (83, v)) n.3 (record {
+    subst (Taken s (83, v)) n.3 (record {
       is_header = inr (inr (inl (refl, (n.0, n.1, n.2))));
       leaves = λ headers nack r. record { sequence = r.sequence; frag_index = r.frag_index; frag_count = one_more s.frag_count _ free r.frag_count; pit_token = r.pit_token; nacks = r.nacks };
     })
 
-pit_token_found : (s t : LinkSoFar) (v : List ℕ) → s.pit_token || not (is_token v) ≡ false → with_header s (98, v) ≡ Ok t → Found s (98, v) t
+pit_token_found : (s t : LinkSoFar) (v : List ℕ) → s.pit_token || not (is_token v) ≡ false → with_header s (98, v) ≡ Ok t → Taken s (98, v) t
 pit_token_found s t v free e =
     let parts = or_parts s.pit_token (not (is_token v)) free in
     let sizes = and_parts _ _ (not-false (is_token v) parts.1) in
-    subst (Found s (98, v)) (ok_is _ t e) (record {
+    subst (Taken s (98, v)) (ok_is _ t e) (record {
       is_header = inr (inr (inr (inl (refl, leb-true 1 (length v) sizes.0, leb-true (length v) 32 sizes.1))));
       leaves = λ headers nack r. record { sequence = r.sequence; frag_index = r.frag_index; frag_count = r.frag_count; pit_token = one_more s.pit_token _ parts.0 r.pit_token; nacks = r.nacks };
     })
@@ -97,11 +97,11 @@ first_nack (Some m) nack v reason nacks free is h = absurd cc
 first_nack None None v reason nacks free is h = absurd (none_is_not_some reason h.1)
 first_nack None (Some n) v reason nacks free is h = (v, ap (λ (fs : List Field). (800, v) ∷ fs) h.0, subst (IsNack v) (sym (some_is n reason h.1)) is)
 
-nack_header_found : (s t : LinkSoFar) (v : List ℕ) → IsBytes v → is_some s.nack ≡ false → with_header s (800, v) ≡ Ok t → Found s (800, v) t
+nack_header_found : (s t : LinkSoFar) (v : List ℕ) → IsBytes v → is_some s.nack ≡ false → with_header s (800, v) ≡ Ok t → Taken s (800, v) t
 nack_header_found s t v fits free e =
     let n = bind_ok (nack_at v) (λ reason. good (record { sequence = s.sequence; frag_index = s.frag_index; frag_count = s.frag_count; pit_token = s.pit_token; nack = Some reason })) t e in
     let is = nack_found v n.0 fits n.1 in
-    subst (Found s (800, v)) (ok_is _ t n.2) (record {
+    subst (Taken s (800, v)) (ok_is _ t n.2) (record {
       is_header = inr (inr (inr (inr (inl (refl, (n.0, is))))));
       leaves = λ headers nack r. record { sequence = r.sequence; frag_index = r.frag_index; frag_count = r.frag_count; pit_token = r.pit_token; nacks = first_nack s.nack nack v n.0 (headers_of 800 headers) free is r.nacks };
     })
@@ -110,7 +110,7 @@ nack_header_found s t v fits free e =
 above : (kind : ℕ) → is_ignored_header kind ≡ true → 800 < kind
 above kind is = ltb-true 800 kind (and_parts _ _ is).0
 
-ignored_found : (s : LinkSoFar) (e : Field) → is_ignored_header e.0 ≡ true → Found s e s
+ignored_found : (s : LinkSoFar) (e : Field) → is_ignored_header e.0 ≡ true → Taken s e s
 ignored_found s e is =
     let high = above e.0 is in
     record {
@@ -124,23 +124,23 @@ ignored_found s e is =
       };
     }
 
-abbrev FoundAt : LinkSoFar → LinkSoFar → List ℕ → ℕ → Type 0
-FoundAt s t v kind = is_refused_header s (kind, v) ≡ false → with_header s (kind, v) ≡ Ok t → Found s (kind, v) t
+abbrev TakenAt : LinkSoFar → LinkSoFar → List ℕ → ℕ → Type 0
+TakenAt s t v kind = is_refused_header s (kind, v) ≡ false → with_header s (kind, v) ≡ Ok t → Taken s (kind, v) t
 
-header_found : (s t : LinkSoFar) (e : Field) → IsBytes e.1 → FoundAt s t e.1 e.0
+header_found : (s t : LinkSoFar) (e : Field) → IsBytes e.1 → TakenAt s t e.1 e.0
 header_found s t e fits =
     elim (cases_eq e.0 81) [
-      | inl is ↦ subst (FoundAt s t e.1) (sym is) (sequence_found s t e.1)
+      | inl is ↦ subst (TakenAt s t e.1) (sym is) (sequence_found s t e.1)
       | inr no81 ↦ elim (cases_eq e.0 82) [
-        | inl is ↦ subst (FoundAt s t e.1) (sym is) (frag_index_found s t e.1 fits)
+        | inl is ↦ subst (TakenAt s t e.1) (sym is) (frag_index_found s t e.1 fits)
         | inr no82 ↦ elim (cases_eq e.0 83) [
-          | inl is ↦ subst (FoundAt s t e.1) (sym is) (frag_count_found s t e.1 fits)
+          | inl is ↦ subst (TakenAt s t e.1) (sym is) (frag_count_found s t e.1 fits)
           | inr no83 ↦ elim (cases_eq e.0 98) [
-            | inl is ↦ subst (FoundAt s t e.1) (sym is) (pit_token_found s t e.1)
+            | inl is ↦ subst (TakenAt s t e.1) (sym is) (pit_token_found s t e.1)
             | inr no98 ↦ elim (cases_eq e.0 800) [
-              | inl is ↦ subst (FoundAt s t e.1) (sym is) (nack_header_found s t e.1 fits)
+              | inl is ↦ subst (TakenAt s t e.1) (sym is) (nack_header_found s t e.1 fits)
               | inr no800 ↦ rw (ne_eqb e.0 81 no81, ne_eqb e.0 82 no82, ne_eqb e.0 83 no83, ne_eqb e.0 98 no98, ne_eqb e.0 800 no800)
-                  (λ stands taken. subst (Found s e) (ok_is s t taken) (ignored_found s e (not-false _ stands)))
+                  (λ stands taken. subst (Taken s e) (ok_is s t taken) (ignored_found s e (not-false _ stands)))
             ]
           ]
         ]

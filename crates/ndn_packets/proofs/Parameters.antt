@@ -13,7 +13,7 @@ use Rattle.ndn_tlv.specs.Reading.{elements_of}
 use Rattle.ndn_tlv.proofs.Numbers.{IsBytes}
 use Rattle.ndn_tlv.proofs.Fields.{elements_read}
 use Rattle.ndn_packets.specs.declared.field_reader.FieldReader.{FieldReader}
-use Rattle.ndn_packets.specs.Fields.{is_follower, interest_schema, is_even_high}
+use Rattle.ndn_packets.specs.Fields.{needs_previous_field, interest_schema, is_even_high}
 use Rattle.ndn_packets.specs.FieldReader.{StandsHere}
 use Rattle.ndn_packets.specs.Grammar.{from_parameters}
 use Rattle.ndn_packets.specs.Reading.{schema_after, parameters_on, octets_of_read, fields_from, read_fields, InterestSoFar, no_fields_yet, with_parameters, take_interest_field}
@@ -30,26 +30,26 @@ MayCome schema = schema_after 36 schema ≡ Some (44 ∷ 46 ∷ [])
 abbrev IsPast : List ℕ → Type 0
 IsPast schema = schema_after 36 schema ≡ None
 
--- behind ApplicationParameters only followers count
-only_followers : (kind : ℕ) → is_follower kind ≡ false → schema_after kind (44 ∷ 46 ∷ []) ≡ None
-only_followers kind loose = grind (arith, nat_tests)
+-- after ApplicationParameters only types that need the previous field count
+only_the_next : (kind : ℕ) → needs_previous_field kind ≡ false → schema_after kind (44 ∷ 46 ∷ []) ≡ None
+only_the_next kind loose = grind (arith, nat_tests)
 
--- behind another field they can still come, and once past they never come again
+-- after another field they can still come, and once past they never come again
 still : (kind : ℕ) (schema after : List ℕ) → kind ≢ 36 → schema_after kind schema ≡ Some after → MayCome schema → MayCome after
 still kind [] after other e h = absurd (none_is_not_some after e)
 still kind (first ∷ schema) after other e h =
-    elim (eqb first kind) as (λ b. eqb first kind ≡ b → cond b (Some schema) (cond (is_follower kind) None (schema_after kind schema)) ≡ Some after → MayCome after) [
+    elim (eqb first kind) as (λ b. eqb first kind ≡ b → cond b (Some schema) (cond (needs_previous_field kind) None (schema_after kind schema)) ≡ Some after → MayCome after) [
       | true ↦ λ is e.
           let same : first ≡ kind = eqb-true first kind is in
           let not_yet : eqb first 36 ≡ false = ne_eqb first 36 (λ first_is. other (sym same ∙ first_is)) in
           let later : MayCome schema = rw not_yet at h in
           subst MayCome (some_is schema after e) later
       | false ↦ λ _ e.
-          elim (is_follower kind) as (λ b. is_follower kind ≡ b → cond b None (schema_after kind schema) ≡ Some after → MayCome after) [
+          elim (needs_previous_field kind) as (λ b. needs_previous_field kind ≡ b → cond b None (schema_after kind schema) ≡ Some after → MayCome after) [
             | true ↦ λ _ e. absurd (none_is_not_some after e)
             | false ↦ λ loose e.
                 elim (eqb first 36) as (λ b. cond b (Some schema) (schema_after 36 schema) ≡ Some (44 ∷ 46 ∷ []) → MayCome after) [
-                  | true ↦ λ h. absurd (none_is_not_some after (sym (only_followers kind loose) ∙ ap (schema_after kind) (sym (some_is schema (44 ∷ 46 ∷ []) h)) ∙ e))
+                  | true ↦ λ h. absurd (none_is_not_some after (sym (only_the_next kind loose) ∙ ap (schema_after kind) (sym (some_is schema (44 ∷ 46 ∷ []) h)) ∙ e))
                   | false ↦ λ h. still kind schema after other e h
                 ] h
           ] refl e
@@ -62,10 +62,10 @@ past kind (first ∷ schema) after e h =
       | true ↦ λ h. absurd (none_is_not_some schema (sym h))
       | false ↦ λ h. h
     ] h in
-    elim (eqb first kind) as (λ b. cond b (Some schema) (cond (is_follower kind) None (schema_after kind schema)) ≡ Some after → IsPast after) [
+    elim (eqb first kind) as (λ b. cond b (Some schema) (cond (needs_previous_field kind) None (schema_after kind schema)) ≡ Some after → IsPast after) [
       | true ↦ λ e. subst IsPast (some_is schema after e) later
       | false ↦ λ e.
-          elim (is_follower kind) as (λ b. cond b None (schema_after kind schema) ≡ Some after → IsPast after) [
+          elim (needs_previous_field kind) as (λ b. cond b None (schema_after kind schema) ≡ Some after → IsPast after) [
             | true ↦ λ e. absurd (none_is_not_some after e)
             | false ↦ λ e. past kind schema after e later
           ] e
@@ -78,7 +78,7 @@ abbrev pub Stand : List ℕ → FieldReader → Option (List ℕ) → List ℕ �
 Stand text fields None from = MayCome fields.schema.now × (parameters_on (elements_of text) ≡ parameters_on (elements_of fields.rest.now))
 Stand text fields (Some parameters) from = IsPast fields.schema.now × (elements_of from ≡ parameters_on (elements_of text)) × IsBytes from
 
--- at the start, behind another field, and behind ApplicationParameters
+-- at the start, after another field, and after ApplicationParameters
 pub stand_first : (text : List ℕ) (fields : FieldReader) (from : List ℕ) → fields.schema.now ≡ interest_schema → fields.rest.now ≡ text → Stand text fields None from
 stand_first text fields from schema rest = (ap (schema_after 36) schema, ap (λ (t : List ℕ). parameters_on (elements_of t)) (sym rest))
 

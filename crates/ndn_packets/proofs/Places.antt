@@ -3,7 +3,7 @@ use Rattle.std.proofs.Common.{◌≡◌, ◌≢◌, ℕ, ◌⊎◌, Bool, true, 
 use Rattle.std.specs.List.{AllByRecursion}
 use Rattle.std.proofs.lemmas.Bool.{eqb-false}
 use Rattle.ndn_tlv.specs.Element.{Field}
-use Rattle.ndn_packets.specs.Fields.{Counts, Fields, is_follower, optional, flag, interest_schema, data_schema}
+use Rattle.ndn_packets.specs.Fields.{Counts, Fields, needs_previous_field, optional, flag, interest_schema, data_schema}
 use Rattle.ndn_packets.proofs.FieldLists.{Lacks}
 
 -- ---- a type in a schema
@@ -15,10 +15,10 @@ Others kind fields = AllByRecursion (λ f. f.0 ≢ kind) fields
 abbrev pub Earlier : List ℕ → List Field → Type 0
 Earlier schema fields = AllByRecursion (λ f. Lacks f.0 schema) fields
 
--- a schema around a type: what stands before it does not stand from it on, and nothing does where the type is a follower
+-- a schema around a type: what stands before it does not stand from it on, and nothing does where the type is a type that needs the previous field
 pub record IsAround (before : List ℕ) (kind : ℕ) (later : List ℕ) : Type 0 where
   pub apart : AllByRecursion (λ k. Lacks k (kind ∷ later)) before
-  pub near : is_follower kind ≡ true → before ≡ []
+  pub near : needs_previous_field kind ≡ true → before ≡ []
 
 not_same : {A : Type 0} {x y : A} → x ≢ y → y ≢ x
 not_same other e = other (sym e)
@@ -27,9 +27,9 @@ lacks_kind : (kind : ℕ) (later before : List ℕ) → AllByRecursion (λ k. La
 lacks_kind kind later [] h = tt
 lacks_kind kind later (k ∷ before) h = (not_same h.0.0, lacks_kind kind later before h.1)
 
-behind_all : {A : Type 0} (P : A → Type 0) (front back : List A) → AllByRecursion P (front ++ back) → AllByRecursion P back
-behind_all P [] back h = h
-behind_all P (x ∷ front) back h = behind_all P front back h.1
+following_all : {A : Type 0} (P : A → Type 0) (front back : List A) → AllByRecursion P (front ++ back) → AllByRecursion P back
+following_all P [] back h = h
+following_all P (x ∷ front) back h = following_all P front back h.1
 
 not_nothing : (front later : List ℕ) (kind : ℕ) → front ++ kind ∷ later ≡ [] → ⊥
 not_nothing [] later kind e = cc
@@ -38,15 +38,15 @@ not_nothing (k ∷ front) later kind e = cc
 around_counts : (before later : List ℕ) (kind : ℕ) → IsAround before kind later → Counts kind later (before ++ kind ∷ later)
 around_counts before later kind h = (before, refl, lacks_kind kind later before h.apart, h.near)
 
--- where another type of the schema stands: before the type, as the type, or behind it
+-- where another type of the schema stands: before the type, as the type, or after it
 abbrev StandsBefore : List ℕ → ℕ → List ℕ → List ℕ → ℕ → List ℕ → Type 0
 StandsBefore before kind later front k after = (between : List ℕ) × (before ≡ front ++ k ∷ between) × (after ≡ between ++ kind ∷ later)
 
-abbrev StandsBehind : List ℕ → List ℕ → ℕ → List ℕ → Type 0
-StandsBehind later front k after = (between : List ℕ) × (later ≡ between ++ k ∷ after)
+abbrev StandsAfter : List ℕ → List ℕ → ℕ → List ℕ → Type 0
+StandsAfter later front k after = (between : List ℕ) × (later ≡ between ++ k ∷ after)
 
 stands : (before later front after : List ℕ) (kind k : ℕ) → before ++ kind ∷ later ≡ front ++ k ∷ after
-    → StandsBefore before kind later front k after ⊎ (((kind ≡ k) × (later ≡ after)) ⊎ (StandsBehind later front k after × ((front ≡ [] → ⊥) × (Lacks k front → kind ≢ k))))
+    → StandsBefore before kind later front k after ⊎ (((kind ≡ k) × (later ≡ after)) ⊎ (StandsAfter later front k after × ((front ≡ [] → ⊥) × (Lacks k front → kind ≢ k))))
 stands [] later [] after kind k e = inr (inl (cc, cc))
 stands [] later (f ∷ front) after kind k e =
     let first : kind ≡ f = cc in
@@ -70,13 +70,13 @@ stands (b ∷ before) later (f ∷ front) after kind k e =
 -- what a type that stands before another one says of both
 before_is : (before later front between : List ℕ) (kind k : ℕ) → IsAround before kind later → before ≡ front ++ k ∷ between → Lacks k (kind ∷ later) × IsAround between kind later
 before_is before later front between kind k around is =
-    let apart = behind_all (λ j. Lacks j (kind ∷ later)) front (k ∷ between) (subst (AllByRecursion (λ j. Lacks j (kind ∷ later))) is around.apart) in
+    let apart = following_all (λ j. Lacks j (kind ∷ later)) front (k ∷ between) (subst (AllByRecursion (λ j. Lacks j (kind ∷ later))) is around.apart) in
     (apart.0, record { apart = apart.1; near = λ follows. absurd (not_nothing front between k (sym is ∙ around.near follows)) })
 
--- ---- the first element of a type that only followers stand behind
+-- ---- the first element of a type that only types that need the previous field stand after
 
-abbrev pub Followers : List ℕ → Type 0
-Followers kinds = AllByRecursion (λ k. is_follower k ≡ true) kinds
+abbrev pub AllNeedPrevious : List ℕ → Type 0
+AllNeedPrevious kinds = AllByRecursion (λ k. needs_previous_field k ≡ true) kinds
 
 -- the first element of a type is the field of this type
 pub record Met (ignores : ℕ → Bool) (kind : ℕ) (later : List ℕ) (elements fields : List Field) : Type 0 where
@@ -89,9 +89,9 @@ pub record Met (ignores : ℕ → Bool) (kind : ℕ) (later : List ℕ) (element
   pub none : Others kind front
   pub fields_are : fields ≡ early ++ (kind, value) ∷ late
   pub earlier : Earlier (kind ∷ later) early
-  pub behind : Fields ignores later back late
+  pub following : Fields ignores later back late
 
--- or there is none, and then no field of this type or of one behind it
+-- or there is none, and then no field of this type or of one after it
 abbrev pub Missed : ℕ → List ℕ → List Field → List Field → Type 0
 Missed kind later elements fields = Others kind elements × Earlier (kind ∷ later) fields
 
@@ -107,7 +107,7 @@ met_field ignores kind later e elements fields others other apart is (inl m) = i
   none = (other, m.none);
   fields_are = is ∙ ap (λ (fs : List Field). e ∷ fs) m.fields_are;
   earlier = (apart, m.earlier);
-  behind = m.behind;
+  following = m.following;
 })
 met_field ignores kind later e elements fields others other apart is (inr m) = inr ((other, m.0), subst (Earlier (kind ∷ later)) (sym is) (apart, m.1))
 
@@ -123,7 +123,7 @@ met_other ignores kind later e elements fields other (inl m) = inl (record {
   none = (other, m.none);
   fields_are = m.fields_are;
   earlier = m.earlier;
-  behind = m.behind;
+  following = m.following;
 })
 met_other ignores kind later e elements fields other (inr m) = inr ((other, m.0), m.1)
 
@@ -139,26 +139,26 @@ met_here ignores kind later after e elements fields others same is fields_are re
   none = tt;
   fields_are = fields_are ∙ (λ i. (sym same i, e.1) ∷ others);
   earlier = tt;
-  behind = subst (λ (ks : List ℕ). Fields ignores ks elements others) (sym is) rest;
+  following = subst (λ (ks : List ℕ). Fields ignores ks elements others) (sym is) rest;
 }
 
-pub meet : (ignores : ℕ → Bool) (before later : List ℕ) (kind : ℕ) (elements fields : List Field) → IsAround before kind later → Followers later → Fields ignores (before ++ kind ∷ later) elements fields
+pub meet : (ignores : ℕ → Bool) (before later : List ℕ) (kind : ℕ) (elements fields : List Field) → IsAround before kind later → AllNeedPrevious later → Fields ignores (before ++ kind ∷ later) elements fields
     → Met ignores kind later elements fields ⊎ Missed kind later elements fields
-meet ignores before later kind [] fields around followers h = inr (tt, subst (Earlier (kind ∷ later)) (sym h) tt)
-meet ignores before later kind (e ∷ elements) fields around followers (inl h) =
+meet ignores before later kind [] fields around all_need_previous h = inr (tt, subst (Earlier (kind ∷ later)) (sym h) tt)
+meet ignores before later kind (e ∷ elements) fields around all_need_previous (inl h) =
     elim (stands before later h.2.0 h.0 kind e.0 h.2.1) [
       | inl s ↦
           let b = before_is before later h.2.0 s.0 kind e.0 around s.1 in
           met_field ignores kind later e elements fields h.1 (not_same b.0.0) b.0 h.3
-          (meet ignores s.0 later kind elements h.1 b.1 followers (subst (λ (ks : List ℕ). Fields ignores ks elements h.1) s.2 h.4))
+          (meet ignores s.0 later kind elements h.1 b.1 all_need_previous (subst (λ (ks : List ℕ). Fields ignores ks elements h.1) s.2 h.4))
       | inr (inl s) ↦ inl (met_here ignores kind later h.0 e elements fields h.1 s.0 s.1 h.3 h.4)
       | inr (inr s) ↦
-          let follows = (behind_all (λ k. is_follower k ≡ true) s.0.0 (e.0 ∷ h.0) (subst Followers s.0.1 followers)).0 in
+          let follows = (following_all (λ k. needs_previous_field k ≡ true) s.0.0 (e.0 ∷ h.0) (subst AllNeedPrevious s.0.1 all_need_previous)).0 in
           absurd (s.1.0 (h.2.3 follows))
     ]
-meet ignores before later kind (e ∷ elements) fields around followers (inr h) =
+meet ignores before later kind (e ∷ elements) fields around all_need_previous (inr h) =
     let other : e.0 ≢ kind = λ is. h.0 later (subst (λ k. Counts k later (before ++ kind ∷ later)) (sym is) (around_counts before later kind around)) in
-    met_other ignores kind later e elements fields other (meet ignores before later kind elements fields around followers h.2)
+    met_other ignores kind later e elements fields other (meet ignores before later kind elements fields around all_need_previous h.2)
 
 -- ---- the element that a field is
 
@@ -220,7 +220,7 @@ field_at ignores before later kind value (e ∷ elements) fields (f ∷ early) l
             );
           }
       | inr (inl s) ↦ absurd (apart.0 s.0)
-      | inr (inr s) ↦ absurd ((behind_all (λ k. k ≢ e.0) s.0.0 (e.0 ∷ h.0) (subst (Lacks e.0) s.0.1 apart.1)).0 refl)
+      | inr (inr s) ↦ absurd ((following_all (λ k. k ≢ e.0) s.0.0 (e.0 ∷ h.0) (subst (Lacks e.0) s.0.1 apart.1)).0 refl)
     ]
 field_at ignores before later kind value (e ∷ elements) fields early late around earlier is (inr h) =
     let other : e.0 ≢ kind = λ same. h.0 later (subst (λ k. Counts k later (before ++ kind ∷ later)) (sym same) (around_counts before later kind around)) in
@@ -272,11 +272,11 @@ abbrev pub Has : ℕ → List Field → Type 0
 Has kind [] = ⊥
 Has kind (f ∷ fields) = (f.0 ≡ kind) ⊎ Has kind fields
 
-pub has_behind : (kind : ℕ) (front back : List Field) → Has kind back → Has kind (front ++ back)
-has_behind kind [] back h = h
-has_behind kind (f ∷ front) back h = inr (has_behind kind front back h)
+pub has_following : (kind : ℕ) (front back : List Field) → Has kind back → Has kind (front ++ back)
+has_following kind [] back h = h
+has_following kind (f ∷ front) back h = inr (has_following kind front back h)
 
--- behind fields of other types
+-- after fields of other types
 pub has_back : (kind : ℕ) (front back : List Field) → Others kind front → Has kind (front ++ back) → Has kind back
 has_back kind [] back others h = h
 has_back kind (f ∷ front) back others (inl h) = absurd (others.0 h)
@@ -289,7 +289,7 @@ others_lack kind (f ∷ fields) others (inr h) = others_lack kind fields others.
 
 pub earlier_others : (before later : List ℕ) (kind : ℕ) (fields : List Field) → Earlier (before ++ kind ∷ later) fields → Others kind fields
 earlier_others before later kind [] h = tt
-earlier_others before later kind (f ∷ fields) h = (not_same (behind_all (λ k. k ≢ f.0) before (kind ∷ later) h.0).0, earlier_others before later kind fields h.1)
+earlier_others before later kind (f ∷ fields) h = (not_same (following_all (λ k. k ≢ f.0) before (kind ∷ later) h.0).0, earlier_others before later kind fields h.1)
 
 -- ---- the fields of an Interest
 
@@ -327,20 +327,20 @@ earlier_front schema prefix fresh hint nonce lifetime h =
     (all_both P (flag 18 fresh) _ (earlier_flag schema 18 fresh h.1.0)
     (all_both P (optional 30 hint) _ (earlier_optional schema 30 hint h.1.1.0) (h.1.1.1.0, earlier_optional schema 12 lifetime h.1.1.1.1.0)))
 
--- the HopLimit and what stands before it and behind it
+-- the HopLimit and what stands before it and after it
 pub hop_apart : AllByRecursion (λ k. Lacks k (34 ∷ 36 ∷ 44 ∷ 46 ∷ [])) (33 ∷ 18 ∷ 30 ∷ 10 ∷ 12 ∷ [])
 unfolding lacks all_lack
 hop_apart = all_lack-true (33 ∷ 18 ∷ 30 ∷ 10 ∷ 12 ∷ []) (34 ∷ 36 ∷ 44 ∷ 46 ∷ []) refl
 
-no_follower : (b : Bool) (before : List ℕ) → b ≡ false → b ≡ true → before ≡ []
-no_follower b before e g = absurd cc
+no_need : (b : Bool) (before : List ℕ) → b ≡ false → b ≡ true → before ≡ []
+no_need b before e g = absurd cc
 
 around_hop : IsAround (33 ∷ 18 ∷ 30 ∷ 10 ∷ 12 ∷ []) 34 (36 ∷ 44 ∷ 46 ∷ [])
-around_hop = record { apart = hop_apart; near = no_follower (is_follower 34) _ refl }
+around_hop = record { apart = hop_apart; near = no_need (needs_previous_field 34) _ refl }
 
 around_parameters : IsAround (33 ∷ 18 ∷ 30 ∷ 10 ∷ 12 ∷ 34 ∷ []) 36 (44 ∷ 46 ∷ [])
 unfolding lacks all_lack
-around_parameters = record { apart = all_lack-true (33 ∷ 18 ∷ 30 ∷ 10 ∷ 12 ∷ 34 ∷ []) (36 ∷ 44 ∷ 46 ∷ []) refl; near = no_follower (is_follower 36) _ refl }
+around_parameters = record { apart = all_lack-true (33 ∷ 18 ∷ 30 ∷ 10 ∷ 12 ∷ 34 ∷ []) (36 ∷ 44 ∷ 46 ∷ []) refl; near = no_need (needs_previous_field 36) _ refl }
 
 first_around : (kind : ℕ) (later : List ℕ) → IsAround [] kind later
 first_around kind later = record { apart = tt; near = λ _. refl }
@@ -360,7 +360,7 @@ pub hop_at : (ignores : ℕ → Bool) (value : List ℕ) (elements early late : 
 hop_at ignores value elements early late earlier h =
     let s = field_at ignores (33 ∷ 18 ∷ 30 ∷ 10 ∷ 12 ∷ []) (36 ∷ 44 ∷ 46 ∷ []) 34 value elements (early ++ (34, value) ∷ late) early late around_hop earlier refl h in
     elim (meet_parameters ignores s.front early s.before) [
-      | inl m ↦ absurd ((behind_all (λ (f : Field). Lacks f.0 (34 ∷ 36 ∷ 44 ∷ 46 ∷ [])) m.early ((36, m.value) ∷ m.late) (subst (Earlier (34 ∷ 36 ∷ 44 ∷ 46 ∷ [])) m.fields_are earlier)).0.1.0 refl)
+      | inl m ↦ absurd ((following_all (λ (f : Field). Lacks f.0 (34 ∷ 36 ∷ 44 ∷ 46 ∷ [])) m.early ((36, m.value) ∷ m.late) (subst (Earlier (34 ∷ 36 ∷ 44 ∷ 46 ∷ [])) m.fields_are earlier)).0.1.0 refl)
       | inr m ↦ (s, m.0)
     ]
 
@@ -368,7 +368,7 @@ hop_at ignores value elements early late earlier h =
 
 around_value : IsAround (20 ∷ 21 ∷ 22 ∷ []) 23 []
 unfolding lacks all_lack
-around_value = record { apart = all_lack-true (20 ∷ 21 ∷ 22 ∷ []) (23 ∷ []) refl; near = no_follower (is_follower 23) _ refl }
+around_value = record { apart = all_lack-true (20 ∷ 21 ∷ 22 ∷ []) (23 ∷ []) refl; near = no_need (needs_previous_field 23) _ refl }
 
 pub meet_value : (ignores : ℕ → Bool) (elements fields : List Field) → Fields ignores data_schema elements fields → Met ignores 23 [] elements fields ⊎ Missed 23 [] elements fields
 meet_value ignores elements fields h = meet ignores (20 ∷ 21 ∷ 22 ∷ []) [] 23 elements fields around_value tt h

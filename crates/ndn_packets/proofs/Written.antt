@@ -20,7 +20,7 @@ use Rattle.ndn_packets.specs.declared.signature.Sign.{Sign}
 use Rattle.ndn_packets.specs.declared.signature.Sign.TheVariants as sign
 use Rattle.ndn_packets.specs.declared.data_writer.DataWriter.{DataWriter}
 use Rattle.ndn_names.specs.Name.{IsComponent, IsName, IsNameValue}
-use Rattle.ndn_packets.specs.Fields.{Counts, Fields, is_follower, optional, flag, is_even_high, is_ignored_in_meta_info, is_ignored_in_signature_info, data_schema, meta_schema, info_schema}
+use Rattle.ndn_packets.specs.Fields.{Counts, Fields, needs_previous_field, optional, flag, is_even_high, is_ignored_in_meta_info, is_ignored_in_signature_info, data_schema, meta_schema, info_schema}
 use Rattle.ndn_packets.specs.Grammar.{IsPacket, IsNumber, IsLocator, IsMetaInfo, IsSignatureInfo, IsFreshness, IsData}
 use Rattle.ndn_packets.specs.Writing.{octets, number, kind_of, locator_of, locator_value, info_fields, info_asked, value_of, meta_of, meta_fields, data_fields, data_value, signed_data, plain_data_of, meta_asked, content_asked, data_text, data_asked, data_refusal, reply_text, reply_asked, IsSoundSign, SoundData}
 use Rattle.ndn_packets.specs.Packet.{AData}
@@ -109,9 +109,9 @@ pub bytes_of_optional : (kind : ℕ) (value : Option (List ℕ)) → MayBeBytes 
 bytes_of_optional kind None h = tt
 bytes_of_optional kind (Some v) h = (h, tt)
 
-pub bytes_behind : (value : Option (Bor (List ℕ))) → IfSome value (λ v. IsBytes v.now) → MayBeBytes (option_map (λ v. v.now) value)
-bytes_behind None h = tt
-bytes_behind (Some v) h = h
+pub bytes_of_value : (value : Option (Bor (List ℕ))) → IfSome value (λ v. IsBytes v.now) → MayBeBytes (option_map (λ v. v.now) value)
+bytes_of_value None h = tt
+bytes_of_value (Some v) h = h
 
 -- ---- lengths
 
@@ -143,38 +143,38 @@ in_order ignores schema [] h = refl
 in_order ignores schema (f ∷ fields) h = inl (h.0, fields, h.1, refl, in_order ignores h.0 fields h.2)
 
 -- what holds of the types of a schema holds of those of its fields
-all_behind : (P : ℕ → Type 0) (front : List ℕ) (kind : ℕ) (later : List ℕ) → AllByRecursion P (front ++ kind ∷ later) → P kind × AllByRecursion P later
-all_behind P [] kind later h = h
-all_behind P (k ∷ front) kind later h = all_behind P front kind later h.1
+all_following : (P : ℕ → Type 0) (front : List ℕ) (kind : ℕ) (later : List ℕ) → AllByRecursion P (front ++ kind ∷ later) → P kind × AllByRecursion P later
+all_following P [] kind later h = h
+all_following P (k ∷ front) kind later h = all_following P front kind later h.1
 
 pub types_of : (P : ℕ → Type 0) (schema : List ℕ) (fields : List Field) → InOrder schema fields → AllByRecursion P schema → AllByRecursion (λ f. P f.0) fields
 types_of P schema [] h all = tt
 types_of P schema (f ∷ fields) h all =
-    let here = all_behind P h.1.0 f.0 h.0 (subst (AllByRecursion P) h.1.1 all) in
+    let here = all_following P h.1.0 f.0 h.0 (subst (AllByRecursion P) h.1.1 all) in
     (here.0, types_of P h.0 fields h.2 here.1)
 
 pub leads : (schema : List ℕ) (kind : ℕ) (value : List ℕ) (fields : List Field) → InOrder schema fields → InOrder (kind ∷ schema) ((kind, value) ∷ fields)
 leads schema kind value fields h = (schema, ([], refl, tt, λ _. refl), h)
 
--- a schema does not begin with a follower
+-- a schema does not begin with a type that needs the previous field
 abbrev IsLoose : List ℕ → Type 0
 IsLoose [] = Unit {0}
-IsLoose (k ∷ schema) = is_follower k ≡ false
+IsLoose (k ∷ schema) = needs_previous_field k ≡ false
 
 -- a type may be put before a schema
 abbrev pub Precedes : ℕ → List ℕ → Type 0
 Precedes kind schema = AllByRecursion (λ k. k ≢ kind) schema × IsLoose schema
 
-counts_behind : (first kind : ℕ) (later schema : List ℕ) → Precedes first schema → Counts kind later schema → Counts kind later (first ∷ schema)
-counts_behind first kind later schema p h =
-    let other = (all_behind (λ k. k ≢ first) h.0 kind later (subst (AllByRecursion (λ k. k ≢ first)) h.1 p.0)).0 in
-    (first ∷ h.0, ap (λ (ks : List ℕ). first ∷ ks) h.1, ((λ same. other (sym same)), h.2), λ follows. absurd (both_tests (is_follower kind) (subst IsLoose (h.1 ∙ ap (λ (front : List ℕ). front ++ kind ∷ later) (h.3 follows)) p.1) follows))
+counts_following : (first kind : ℕ) (later schema : List ℕ) → Precedes first schema → Counts kind later schema → Counts kind later (first ∷ schema)
+counts_following first kind later schema p h =
+    let other = (all_following (λ k. k ≢ first) h.0 kind later (subst (AllByRecursion (λ k. k ≢ first)) h.1 p.0)).0 in
+    (first ∷ h.0, ap (λ (ks : List ℕ). first ∷ ks) h.1, ((λ same. other (sym same)), h.2), λ follows. absurd (both_tests (needs_previous_field kind) (subst IsLoose (h.1 ∙ ap (λ (front : List ℕ). front ++ kind ∷ later) (h.3 follows)) p.1) follows))
 
 -- a field that may be absent, and a flag, before others
 pub maybe : (schema : List ℕ) (kind : ℕ) (value : Option (List ℕ)) (fields : List Field) → Precedes kind schema → InOrder schema fields → InOrder (kind ∷ schema) (optional kind value ++ fields)
 maybe schema kind (Some v) fields p h = leads schema kind v fields h
 maybe schema kind None [] p h = tt
-maybe schema kind None (f ∷ fields) p h = (h.0, counts_behind kind f.0 h.0 schema p h.1, h.2)
+maybe schema kind None (f ∷ fields) p h = (h.0, counts_following kind f.0 h.0 schema p h.1, h.2)
 
 pub flagged : (schema : List ℕ) (kind : ℕ) (b : Bool) (fields : List Field) → Precedes kind schema → InOrder schema fields → InOrder (kind ∷ schema) (flag kind b ++ fields)
 flagged schema kind true fields p h = leads schema kind [] fields h
@@ -319,22 +319,22 @@ bytes_of_meta freshness final_block = of_fields (meta_fields freshness final_blo
     of_fields (f ∷ fields) h = IsBytes-octets (f ∷ fields) h
 
 -- what is cut off in front of the field of a type, where no field before it has that type
-pub cut_written : (kind : ℕ) (value : List ℕ) (before behind : List Field) → AllByRecursion IsField (before ++ (kind, value) ∷ behind) → AllByRecursion (λ f. f.0 ≢ kind) before
-    → IsCut kind (octets (before ++ (kind, value) ∷ behind)) (octets before) (octets ((kind, value) ∷ behind))
-cut_written kind value before behind fit first =
-    let fits = all_split IsField before ((kind, value) ∷ behind) fit in
+pub cut_written : (kind : ℕ) (value : List ℕ) (before following : List Field) → AllByRecursion IsField (before ++ (kind, value) ∷ following) → AllByRecursion (λ f. f.0 ≢ kind) before
+    → IsCut kind (octets (before ++ (kind, value) ∷ following)) (octets before) (octets ((kind, value) ∷ following))
+cut_written kind value before following fit first =
+    let fits = all_split IsField before ((kind, value) ∷ following) fit in
     record {
       others = before;
       value = value;
-      after = octets behind;
+      after = octets following;
       sizes = (fits.0, fits.1.0);
       first_one = first;
       before_is = refl;
       from_is = refl;
-      octets_are = flat_map-append element before ((kind, value) ∷ behind);
+      octets_are = flat_map-append element before ((kind, value) ∷ following);
     }
 
--- the elements of a Data behind its Name, and its fields
+-- the elements of a Data after its Name, and its fields
 abbrev data_elements : Sign → List Field → Option (List ℕ) → Option (List ℕ) → List Field
 data_elements signed name meta content = (optional 20 meta ++ (optional 21 content ++ (22, octets (info_fields signed None None)) ∷ [])) ++ (23, data_value signed name meta content) ∷ []
 
@@ -374,8 +374,8 @@ data_written signed name freshness meta content sign_fits is name_fits meta_fits
     let packet = data_packet signed name meta content sign_fits name_fits meta_fits content_fits short in
     let info : List Field = (22, octets (info_fields signed None None)) ∷ [] in
     let covered = (all_split IsField (optional 20 meta ++ (optional 21 content ++ info)) _ packet.inner.0.1).0 in
-    let behind_meta = (all_split IsField (optional 20 meta) (optional 21 content ++ info) covered).1 in
-    let info_fits = (all_split IsField (optional 21 content) info behind_meta).1.0.2 in
+    let following_meta = (all_split IsField (optional 20 meta) (optional 21 content ++ info) covered).1 in
+    let info_fits = (all_split IsField (optional 21 content) info following_meta).1.0.2 in
     record {
       name_value = octets name;
       meta_value = meta;
@@ -414,12 +414,12 @@ data_short w e = ltb-false 8800 (length (data_text w)) (not_refused (ltb 8800 (l
 pub data_reads_back : (w : DataWriter) → SoundData w → data_refusal w ≡ None → IsData (data_text w) (data_asked w)
 data_reads_back w is e =
     data_written w.sign (components w.name) (unwrap_or w.freshness 0) (meta_asked w) (content_asked w) is.sign w.name.spelled.1 is.name (bytes_of_meta w.freshness w.last)
-    (freshness_written w.freshness w.last is.freshness) (bytes_behind w.content is.content) (data_short w e)
+    (freshness_written w.freshness w.last is.freshness) (bytes_of_value w.content is.content) (data_short w e)
 
 pub data_signed : (w : DataWriter) → SoundData w → data_refusal w ≡ None
     → Covered (AData (data_text w) (data_asked w)) (octets (data_fields w.sign (components w.name) (meta_asked w) (content_asked w))) []
 data_signed w is e =
-    data_covered w.sign (components w.name) (unwrap_or w.freshness 0) (meta_asked w) (content_asked w) is.sign is.name (bytes_of_meta w.freshness w.last) (bytes_behind w.content is.content) (data_short w e)
+    data_covered w.sign (components w.name) (unwrap_or w.freshness 0) (meta_asked w) (content_asked w) is.sign is.name (bytes_of_meta w.freshness w.last) (bytes_of_value w.content is.content) (data_short w e)
 
 pub reply_reads_back : (name : Name) (content : List ℕ) → IsBytes (octets (components name)) → IsBytes content → length (reply_text (components name) content) ≤ 8800
     → IsData (reply_text (components name) content) (reply_asked (components name) content)

@@ -27,7 +27,7 @@ use Rattle.ndn_packets.proofs.Steps.{not_nil}
 use Rattle.ndn_packets.proofs.FieldLists.{MayBeBytes, AreBytes}
 use Rattle.ndn_packets.proofs.Lengths.{fields_are_long}
 use Rattle.ndn_packets.proofs.InterestWriting.{with_digest}
-use Rattle.ndn_packets.proofs.Written.{IsType, InOrder, leads, maybe, flagged, last, all_append, all_split, bytes_of_optional, bytes_behind, bytes_of_number, bytes_of_info, bytes_of_nothing, IsBytes-one, IsBytes-octets, IsBytes-sha256, IsBytes-value_of, length-value, is_number, info_written, packet_written, name_written, cut_written, not_refused}
+use Rattle.ndn_packets.proofs.Written.{IsType, InOrder, leads, maybe, flagged, last, all_append, all_split, bytes_of_optional, bytes_of_value, bytes_of_number, bytes_of_info, bytes_of_nothing, IsBytes-one, IsBytes-octets, IsBytes-sha256, IsBytes-value_of, length-value, is_number, info_written, packet_written, name_written, cut_written, not_refused}
 
 -- ---- the name with its digest
 
@@ -149,9 +149,9 @@ packet_of i lifetime later ends fits short =
     packet_written 5 interest_schema (octets i.name) (early i lifetime ++ later) _ (omega arith, omega arith) interest_types (subst (InOrder interest_schema) (sym same) (order_before i lifetime later ends.order))
     (same ∙ ap (before i lifetime) ends.grouped) (fits.name, all_append (λ f. IsBytes f.1) (early i lifetime) later (bytes_before i lifetime fits.nonce fits.hop_below) ends.bytes) short
 
-digested_behind : (name front later : List Field) (parameters : Option (List ℕ)) → AllByRecursion (λ f. f.0 ≢ 36) front → IsDigested name later parameters → IsDigested name (front ++ later) parameters
-digested_behind name front later None other h = h
-digested_behind name front later (Some p) other h = h ∙ ap (λ (fs : List Field). (2, sha256 (octets fs)) ∷ []) (sym (no_parameters front later other))
+digested_following : (name front later : List Field) (parameters : Option (List ℕ)) → AllByRecursion (λ f. f.0 ≢ 36) front → IsDigested name later parameters → IsDigested name (front ++ later) parameters
+digested_following name front later None other h = h
+digested_following name front later (Some p) other h = h ∙ ap (λ (fs : List Field). (2, sha256 (octets fs)) ∷ []) (sym (no_parameters front later other))
 
 interest_written : (i : PlainInterest) (lifetime : Option ℕ) (later : List Field) → Ends i later → Fits i lifetime → length (text_of i lifetime later) ≤ 8800 → IsInterest (text_of i lifetime later) i
 unfolding packet_of packet_written
@@ -170,7 +170,7 @@ interest_written i lifetime later ends fits short =
       nonce = fits.four;
       lifetime = (lifetime, is_number lifetime fits.lifetime_below, fits.lifetime_is);
       hop_limit = is_octet i.hop_limit;
-      digested = digested_behind i.name (early i lifetime) later i.parameters (before_parameters i lifetime) ends.digested;
+      digested = digested_following i.name (early i lifetime) later i.parameters (before_parameters i lifetime) ends.digested;
       signature = ends.signed;
     }
 
@@ -239,15 +239,15 @@ fits_of w sign is good = record {
 }
 
 -- a SignatureInfo is no longer than the Interest that it stands in
-info_inside : (front : List Field) (p info : List ℕ) (behind : List Field) → length info ≤ length (element (5, octets (front ++ (36, p) ∷ (44, info) ∷ behind)))
-info_inside front p info behind =
-    let later : List Field = (36, p) ∷ (44, info) ∷ behind in
+info_inside : (front : List Field) (p info : List ℕ) (following : List Field) → length info ≤ length (element (5, octets (front ++ (36, p) ∷ (44, info) ∷ following)))
+info_inside front p info following =
+    let later : List Field = (36, p) ∷ (44, info) ∷ following in
     omega (
       arith,
       length-value (5, octets (front ++ later)),
       fields_are_long front later,
-      length-append (element (36, p)) (octets ((44, info) ∷ behind)),
-      length-append (element (44, info)) (octets behind),
+      length-append (element (36, p)) (octets ((44, info) ∷ following)),
+      length-append (element (44, info)) (octets following),
       length-value (44, info),
     )
 
@@ -257,7 +257,7 @@ ends_of w None is key times good = record {
   value = None;
   grouped = sym (append-nil (optional 36 (asked_parameters w)));
   order = last (44 ∷ 46 ∷ []) 36 (asked_parameters w);
-  bytes = bytes_of_optional 36 (asked_parameters w) (bytes_behind w.parameters is.parameters);
+  bytes = bytes_of_optional 36 (asked_parameters w) (bytes_of_value w.parameters is.parameters);
   digested = digested (asked_parameters w);
   signed = refl;
 }
@@ -272,7 +272,7 @@ ends_of w (Some signed) is key times good = record {
   order =
       leads (44 ∷ 46 ∷ []) 36 (unwrap_or (asked_parameters w) []) ((44, octets (info_fields signed w.time w.seq)) ∷ (46, interest_value w signed) ∷ [])
       (leads (46 ∷ []) 44 (octets (info_fields signed w.time w.seq)) ((46, interest_value w signed) ∷ []) (last [] 46 (Some (interest_value w signed))));
-  bytes = (of_parameters (asked_parameters w) (bytes_behind w.parameters is.parameters), (IsBytes-octets (info_fields signed w.time w.seq) (bytes_of_info signed w.time w.seq key), (IsBytes-value_of signed _, tt)));
+  bytes = (of_parameters (asked_parameters w) (bytes_of_value w.parameters is.parameters), (IsBytes-octets (info_fields signed w.time w.seq) (bytes_of_info signed w.time w.seq key), (IsBytes-value_of signed _, tt)));
   digested = one_digest (components w.name) (sha256 (octets (later_fields w (Some signed)))) good.none;
   signed = (info_asked signed w.time w.seq, info_written signed w.time w.seq times.0 times.1 (info_short signed good), refl);
 }

@@ -6,7 +6,8 @@ use Rattle.ndn_tlv.specs.Element.{Field, IsField, element, IsElement}
 use Rattle.ndn_tlv.specs.Reading.{on_result, element_at}
 use Rattle.ndn_packets.specs.Packet.{PlainFrame, AnInterest, AData, ANack, Idle}
 
--- Octets are cut in front of the first element of this type: before it stand whole elements of other types, behind it anything.
+-- Octets are cut in front of the first element of this type: before it stand whole elements of
+-- other types, after it anything.
 pub record IsCut (kind : ℕ) (octets before from : List ℕ) : Type 0 where
   pub others : List Field
   pub value : List ℕ
@@ -20,7 +21,9 @@ pub record IsCut (kind : ℕ) (octets before from : List ℕ) : Type 0 where
 -- The octets from there on, as a reader finds them that looks at no more than n elements.
 unfoldable pub from_within : ℕ → ℕ → List ℕ → Option (List ℕ)
 from_within zero kind octets = None
-from_within (suc n) kind octets = on_result (λ x. if x.0.0 == kind then Some octets else from_within n kind x.1) (λ _. None) (element_at octets)
+from_within (suc n) kind octets =
+    on_result (λ x. if x.0.0 == kind then Some octets else from_within n kind x.1) (λ _. None)
+    (element_at octets)
 
 unfoldable pub from_first : ℕ → List ℕ → Option (List ℕ)
 from_first kind octets = from_within (length octets) kind octets
@@ -32,9 +35,10 @@ pub record CoversData (text covered : List ℕ) : Type 0 where
   pub outer : IsElement text 6 value
   pub cut : IsCut 23 value covered from_signature
 
--- Of an Interest of this name: first the components before the digest of parameters, which is the last one, and second its octets
--- from the ApplicationParameters up to, and without, the InterestSignatureValue. That is the first one behind the first
--- InterestSignatureInfo behind the first ApplicationParameters: the one that counts.
+-- Of an Interest of this name: first the components before the digest of parameters, which is the
+-- last one, and second its octets from the ApplicationParameters up to, and without, the
+-- InterestSignatureValue. That is the first one after the first InterestSignatureInfo after the
+-- first ApplicationParameters: the one that counts.
 pub record CoversInterest (name : List Field) (text first second : List ℕ) : Type 0 where
   pub components : List Field
   pub digest : List ℕ
@@ -53,7 +57,8 @@ pub record CoversInterest (name : List Field) (text first second : List ℕ) : T
   pub first_is : first ≡ flat_map element components
   pub second_is : second ≡ to_info ++ to_signature
 
--- The octets that the signature of a packet covers, in two parts; those of a Data are all in the first.
+-- The octets that the signature of a packet covers, in two parts; those of a Data are all in the
+-- first.
 abbrev pub Covered : PlainFrame → List ℕ → List ℕ → Type 0
 Covered (AnInterest whole i) first second = CoversInterest i.name whole first second
 Covered (AData whole d) first second = CoversData whole first × (second ≡ [])
@@ -64,8 +69,9 @@ Covered Idle first second = ⊥
 abbrev pub EndsInDigest : List Field → Type 0
 EndsInDigest name = (front : List Field) × (digest : List ℕ) × (name ≡ front ++ (2, digest) ∷ [])
 
--- The octets end where the element of a signature's value begins, in an Interest of this name: the first ones are all components
--- before the digest of parameters, and the second ones begin where the octets of that digest do.
+-- The octets end where the element of a signature's value begins, in an Interest of this name: the
+-- first ones are all components before the digest of parameters, and the second ones begin where
+-- the octets of that digest do.
 pub record EndsAtSignature (name : List Field) (value text first second : List ℕ) : Type 0 where
   pub components : List Field
   pub early : List ℕ

@@ -18,9 +18,10 @@ ignored_by rules.SignatureInfo = is_ignored_in_signature_info
 abbrev pub fields_left : FieldReader → List (Result Field PacketFault)
 fields_left f = fields_from (ignored_by f.rules) f.schema.now (elements_of f.rest.now)
 
--- where the field e stands that a reader just gave: its octets and those after it; nothing before it is ApplicationParameters,
--- where these could still come
+-- where the field e stands that a reader just gave: its octets and those after it; nothing before
+-- it is ApplicationParameters, where these could still come
 pub record StandsHere (before after : FieldReader) (e : Element) : Type 0 where
   pub here : elements_of after.here.now ≡ Ok (e.kind, e.value.now) ∷ elements_of after.rest.now
   pub schema : schema_after e.kind before.schema.now ≡ Some after.schema.now
-  pub parameters : IsSome (schema_after 36 before.schema.now) → parameters_on (elements_of before.rest.now) ≡ parameters_on (elements_of after.here.now)
+  pub parameters : IsSome (schema_after 36 before.schema.now)
+      → parameters_on (elements_of before.rest.now) ≡ parameters_on (elements_of after.here.now)

@@ -1,5 +1,6 @@
--- Which elements of a list are the fields of a schema (NDN Packet Format 0.3, "Considerations for Evolvability of TLV-Based Encoding").
--- What is ignored inside a MetaInfo and a SignatureInfo is this profile's choice.
+-- Which elements of a list are the fields of a schema (NDN Packet Format 0.3, "Considerations for
+-- Evolvability of TLV-Based Encoding"). What is ignored inside a MetaInfo and a SignatureInfo is
+-- this profile's choice.
 use Rattle.std.specs.Prelude.{◌≡◌, ◌≢◌, ℕ, ◌⊎◌, ◌%◌, List, [], ◌∷◌, ◌++◌, Option, None, Some, Bool, true, false, nat_le, ◌==◌, ◌&&◌, ◌||◌}
 use Rattle.std.specs.List.{AllByRecursion}
 use Rattle.ndn_tlv.specs.Element.{Field}
@@ -16,7 +17,7 @@ is_ignored_in_meta_info kind = is_even_high kind || (nat_le 128 kind && nat_le k
 abbrev pub is_ignored_in_signature_info : ℕ → Bool
 is_ignored_in_signature_info kind = is_even_high kind || kind == 253
 
--- the fields of an Interest and of a Data behind their Name, of a MetaInfo and of a SignatureInfo
+-- the fields of an Interest and of a Data after their Name, of a MetaInfo and of a SignatureInfo
 abbrev pub interest_schema : List ℕ
 interest_schema = 33 ∷ 18 ∷ 30 ∷ 10 ∷ 12 ∷ 34 ∷ 36 ∷ 44 ∷ 46 ∷ []
 
@@ -29,22 +30,27 @@ meta_schema = 24 ∷ 25 ∷ 26 ∷ []
 abbrev pub info_schema : List ℕ
 info_schema = 27 ∷ 28 ∷ 38 ∷ 40 ∷ 42 ∷ []
 
--- the types that count only where the last field is the one before them in the schema, with ignored elements between them or
--- without: InterestSignatureInfo and InterestSignatureValue
-abbrev pub is_follower : ℕ → Bool
-is_follower kind = kind == 44 || kind == 46
+-- the types that count only where the last field is the one before them in the schema, with ignored
+-- elements between them or without: InterestSignatureInfo and InterestSignatureValue
+abbrev pub needs_previous_field : ℕ → Bool
+needs_previous_field kind = kind == 44 || kind == 46
 
--- the type stands in the schema where it counts, and these types stand behind it
+-- the type stands in the schema where it counts, and these types stand after it
 abbrev pub Counts : ℕ → List ℕ → List ℕ → Type 0
-Counts kind later schema = (front : List ℕ) × (schema ≡ front ++ kind ∷ later) × AllByRecursion (λ k. k ≢ kind) front × (is_follower kind ≡ true → front ≡ [])
+Counts kind later schema =
+    (front : List ℕ) × (schema ≡ front ++ kind ∷ later) × AllByRecursion (λ k. k ≢ kind) front
+    × (needs_previous_field kind ≡ true → front ≡ [])
 
--- The fields of a schema among elements: an element is one where its type stands in the schema behind those of all fields
--- before it, and a follower right behind the last of them. Every other element has to be one that is ignored.
+-- The fields of a schema among elements: an element is one where its type stands in the schema
+-- after those of all fields before it, and a type that needs the previous field right after the
+-- last of them. Every other element has to be one that is ignored.
 abbrev pub Fields : (ℕ → Bool) → List ℕ → List Field → List Field → Type 0
 Fields ignores schema [] fields = fields ≡ []
 Fields ignores schema (e ∷ elements) fields =
-    ((later : List ℕ) × (others : List Field) × Counts e.0 later schema × (fields ≡ e ∷ others) × Fields ignores later elements others)
-    ⊎ (((later : List ℕ) → Counts e.0 later schema → ⊥) × (ignores e.0 ≡ true) × Fields ignores schema elements fields)
+    ((later : List ℕ) × (others : List Field) × Counts e.0 later schema × (fields ≡ e ∷ others)
+    × Fields ignores later elements others)
+    ⊎ (((later : List ℕ) → Counts e.0 later schema → ⊥) × (ignores e.0 ≡ true)
+    × Fields ignores schema elements fields)
 
 -- a field that may be absent
 abbrev pub optional : ℕ → Option (List ℕ) → List Field

@@ -1,5 +1,5 @@
--- Reading octets of a link from left to right, with the first fault that is met (NDNLPv2, "Packet Format", "Fragmentation",
--- "Network Nack", "PIT Token").
+-- Reading octets of a link from left to right, with the first fault that is met (NDNLPv2, "Packet
+-- Format", "Fragmentation", "Network Nack", "PIT Token").
 use Rattle.std.specs.Prelude.{◌≡◌, ℕ, List, [], ◌∷◌, length, Option, None, Some, Result, Ok, Err, Bool, true, false, is_some, nat_lt, nat_le, ◌==◌, ◌&&◌, ◌||◌, not, if◌then◌else◌}
 use Rattle.ndn_tlv.specs.declared.fault.TlvFault.{TlvFault}
 use Rattle.ndn_tlv.specs.Element.{Field}
@@ -15,7 +15,9 @@ use Rattle.ndn_packets.specs.Reading.{fields_from, read_fields, is_nil, nni_valu
 
 -- the one element that a text is
 abbrev pub only_element : List ℕ → Result Field PacketFault
-only_element text = on_result (λ x. if is_nil x.1 then Ok x.0 else Err BadField) (λ f. Err (Tlv f)) (element_at text)
+only_element text =
+    on_result (λ x. if is_nil x.1 then Ok x.0 else Err BadField) (λ f. Err (Tlv f))
+    (element_at text)
 
 -- the Interest and the Data of these octets, which are one element with this value
 abbrev pub interest_of : List ℕ → List ℕ → Result PlainInterest PacketFault
@@ -34,7 +36,8 @@ packet_of text outer =
 -- the Interest inside a Nack
 abbrev pub nacked_of : ℕ → List ℕ → Field → Result PlainFrame PacketFault
 nacked_of reason text outer =
-    if outer.0 == 5 then (interest_of text outer.1 >>= λ i. Ok (ANack reason text i)) else Err BadField
+    if outer.0 == 5 then (interest_of text outer.1 >>= λ i. Ok (ANack reason text i))
+    else Err BadField
 
 -- ---- link packets
 
@@ -43,7 +46,8 @@ abbrev pub take_nack_field : ℕ → Field → Result ℕ PacketFault
 take_nack_field reason f = nni_value_at f.1
 
 unfoldable pub nack_at : List ℕ → Result ℕ PacketFault
-nack_at value = read_fields take_nack_field 0 (fields_from is_even_high nack_schema (elements_of value))
+nack_at value =
+    read_fields take_nack_field 0 (fields_from is_even_high nack_schema (elements_of value))
 
 -- of header fields: which ones have been met, and the Nack's reason
 pub record LinkSoFar : Type 0 where
@@ -54,12 +58,19 @@ pub record LinkSoFar : Type 0 where
   pub nack : Option ℕ
 
 abbrev pub no_headers_yet : LinkSoFar
-no_headers_yet = record { sequence = false; frag_index = false; frag_count = false; pit_token = false; nack = None }
+no_headers_yet = record {
+  sequence = false;
+  frag_index = false;
+  frag_count = false;
+  pit_token = false;
+  nack = None;
+}
 
 abbrev pub is_token : List ℕ → Bool
 is_token value = nat_le 1 (length value) && nat_le (length value) 32
 
--- whether a header field may not stand here: a known one stands once, and a token has from 1 to 32 octets
+-- whether a header field may not stand here: a known one stands once, and a token has from 1 to 32
+-- octets
 abbrev pub is_refused_header : LinkSoFar → Field → Bool
 is_refused_header s h =
     if h.0 == 81 then s.sequence else (
@@ -76,11 +87,41 @@ at_most limit value s = nni_value_at value >>= λ n. if nat_lt limit n then Err 
 -- with a header field that may stand here
 abbrev pub with_header : LinkSoFar → Field → Result LinkSoFar PacketFault
 with_header s h =
-    if h.0 == 81 then Ok (record { sequence = true; frag_index = s.frag_index; frag_count = s.frag_count; pit_token = s.pit_token; nack = s.nack }) else (
-    if h.0 == 82 then at_most 0 h.1 (record { sequence = s.sequence; frag_index = true; frag_count = s.frag_count; pit_token = s.pit_token; nack = s.nack }) else (
-    if h.0 == 83 then at_most 1 h.1 (record { sequence = s.sequence; frag_index = s.frag_index; frag_count = true; pit_token = s.pit_token; nack = s.nack }) else (
-    if h.0 == 98 then Ok (record { sequence = s.sequence; frag_index = s.frag_index; frag_count = s.frag_count; pit_token = true; nack = s.nack }) else (
-    if h.0 == 800 then (nack_at h.1 >>= λ reason. Ok (record { sequence = s.sequence; frag_index = s.frag_index; frag_count = s.frag_count; pit_token = s.pit_token; nack = Some reason })) else
+    if h.0 == 81 then Ok (record {
+      sequence = true;
+      frag_index = s.frag_index;
+      frag_count = s.frag_count;
+      pit_token = s.pit_token;
+      nack = s.nack;
+    }) else (
+    if h.0 == 82 then at_most 0 h.1 (record {
+      sequence = s.sequence;
+      frag_index = true;
+      frag_count = s.frag_count;
+      pit_token = s.pit_token;
+      nack = s.nack;
+    }) else (
+    if h.0 == 83 then at_most 1 h.1 (record {
+      sequence = s.sequence;
+      frag_index = s.frag_index;
+      frag_count = true;
+      pit_token = s.pit_token;
+      nack = s.nack;
+    }) else (
+    if h.0 == 98 then Ok (record {
+      sequence = s.sequence;
+      frag_index = s.frag_index;
+      frag_count = s.frag_count;
+      pit_token = true;
+      nack = s.nack;
+    }) else (
+    if h.0 == 800 then (nack_at h.1 >>= λ reason. Ok (record {
+      sequence = s.sequence;
+      frag_index = s.frag_index;
+      frag_count = s.frag_count;
+      pit_token = s.pit_token;
+      nack = Some reason;
+    })) else
     Ok s))))
 
 abbrev pub take_header : LinkSoFar → Field → Result LinkSoFar PacketFault
@@ -120,7 +161,8 @@ abbrev pub outer_of : List ℕ → Field → Result PlainFrame PacketFault
 outer_of text outer = if outer.0 == 100 then link_at outer.1 else packet_of text outer
 
 unfoldable pub frame_at : List ℕ → Result PlainFrame PacketFault
-frame_at text = if nat_lt 9000 (length text) then Err TooLong else (only_element text >>= outer_of text)
+frame_at text =
+    if nat_lt 9000 (length text) then Err TooLong else (only_element text >>= outer_of text)
 
 -- the first fault of a text that is no frame
 abbrev pub FaultOf : List ℕ → PacketFault → Type 0

@@ -1,4 +1,5 @@
--- The packets of this profile as whole texts (NDN Packet Format 0.3, "Interest Packet" and "Data Packet").
+-- The packets of this profile as whole texts (NDN Packet Format 0.3, "Interest Packet" and "Data
+-- Packet").
 use Rattle.std.specs.Prelude.{◌≡◌, ◌≢◌, ℕ, ◌<◌, ◌≤◌, List, [], ◌∷◌, ◌++◌, length, Option, None, Some, Bool, unwrap_or, slice_index, flat_map, ◌==◌, if◌then◌else◌}
 use Rattle.ndn_tlv.specs.Number.{IsNni}
 use Rattle.sha2.specs.Sha256.{sha256}
@@ -8,9 +9,10 @@ use Rattle.ndn_packets.specs.Packet.{digests_in}
 use Rattle.ndn_packets.specs.Fields.{Fields, optional, flag, is_even_high, is_ignored_in_meta_info, is_ignored_in_signature_info, interest_schema, data_schema, meta_schema, info_schema}
 use Rattle.ndn_packets.specs.Packet.{PlainLocator, Missing, KeyName, Digest, Other, PlainSignatureInfo, PlainSignature, PlainInterest, PlainData}
 
--- the text is at most 8,800 octets, one element of this type, which begins with a Name; of the elements after it these are the
--- fields of the schema, and all others are ignored
-pub record IsPacket (text : List ℕ) (kind : ℕ) (ignores : ℕ → Bool) (schema : List ℕ) (name_value : List ℕ) (fields : List Field) : Type 0 where
+-- the text is at most 8,800 octets, one element of this type, which begins with a Name; of the
+-- elements after it these are the fields of the schema, and all others are ignored
+pub record IsPacket (text : List ℕ) (kind : ℕ) (ignores : ℕ → Bool) (schema : List ℕ)
+    (name_value : List ℕ) (fields : List Field) : Type 0 where
   pub value : List ℕ
   pub elements : List Field
   pub outer : IsElement text kind value
@@ -31,7 +33,8 @@ IsOctet (Some value) n = (k : ℕ) × (value ≡ k ∷ []) × (n ≡ Some k)
 
 -- the value of a KeyLocator is exactly one Name
 abbrev pub NamesKey : List ℕ → List Field → Type 0
-NamesKey value name = (name_value : List ℕ) × IsElement value 7 name_value × IsNameValue name_value name
+NamesKey value name =
+    (name_value : List ℕ) × IsElement value 7 name_value × IsNameValue name_value name
 
 -- or exactly one KeyDigest
 abbrev pub DigestsKey : List ℕ → Type 0
@@ -43,16 +46,19 @@ IsLocator None locator = locator ≡ Missing
 IsLocator (Some value) Missing = ⊥
 IsLocator (Some value) (KeyName name) = NamesKey value name
 IsLocator (Some value) Digest = DigestsKey value
-IsLocator (Some value) Other = ((name : List Field) → NamesKey value name → ⊥) × (DigestsKey value → ⊥)
+IsLocator (Some value) Other =
+    ((name : List Field) → NamesKey value name → ⊥) × (DigestsKey value → ⊥)
 
--- MetaInfo = [ContentType] [FreshnessPeriod] [FinalBlockId], of which the FreshnessPeriod is kept, 0 where there is none
+-- MetaInfo = [ContentType] [FreshnessPeriod] [FinalBlockId], of which the FreshnessPeriod is kept,
+-- 0 where there is none
 pub record IsMetaInfo (text : List ℕ) (freshness : ℕ) : Type 0 where
   pub content_type : Option (List ℕ)
   pub period : Option (List ℕ)
   pub final_block : Option (List ℕ)
   pub elements : List Field
   pub inner : IsElements text elements
-  pub recognised : Fields is_ignored_in_meta_info meta_schema elements (optional 24 content_type ++ (optional 25 period ++ optional 26 final_block))
+  pub recognised : Fields is_ignored_in_meta_info meta_schema elements
+      (optional 24 content_type ++ (optional 25 period ++ optional 26 final_block))
   pub content_type_number : (n : Option ℕ) × IsNumber content_type n
   pub period_number : (n : Option ℕ) × IsNumber period n × (freshness ≡ unwrap_or n 0)
 
@@ -66,33 +72,43 @@ pub record IsSignatureInfo (text : List ℕ) (s : PlainSignatureInfo) : Type 0 w
   pub elements : List Field
   pub inner : IsElements text elements
   pub recognised : Fields is_ignored_in_signature_info info_schema elements
-      ((27, kind_value) ∷ (optional 28 locator_value ++ (optional 38 nonce ++ (optional 40 time_value ++ optional 42 seq_value))))
+      ((27, kind_value)
+      ∷ (optional 28 locator_value
+      ++ (optional 38 nonce ++ (optional 40 time_value ++ optional 42 seq_value))))
   pub kind : IsNni kind_value s.kind
   pub locator : IsLocator locator_value s.locator
   pub time : IsNumber time_value s.time
   pub seq : IsNumber seq_value s.seq
 
--- the elements from the first of ApplicationParameters on, which is the one that counts, to the packet's end
+-- the elements from the first of ApplicationParameters on, which is the one that counts, to the
+-- packet's end
 abbrev pub from_parameters : List Field → List Field
 from_parameters [] = []
 from_parameters (e ∷ elements) = if e.0 == 36 then e ∷ elements else from_parameters elements
 
--- The name of an Interest without parameters has no digest of them. That of one with parameters has exactly one, at any place:
--- SHA-256 of the octets from them to the packet's end. The elements are all those behind the Name.
+-- The name of an Interest without parameters has no digest of them. That of one with parameters has
+-- exactly one, at any place: SHA-256 of the octets from them to the packet's end. The elements are
+-- all those after the Name.
 abbrev pub IsDigested : List Field → List Field → Option (List ℕ) → Type 0
 IsDigested name elements None = digests_in name ≡ []
-IsDigested name elements (Some parameters) = digests_in name ≡ (2, sha256 (flat_map element (from_parameters elements))) ∷ []
+IsDigested name elements (Some parameters) =
+    digests_in name ≡ (2, sha256 (flat_map element (from_parameters elements))) ∷ []
 
--- An Interest is signed where it has both an InterestSignatureInfo and an InterestSignatureValue. The first alone has to be right
--- too.
+-- An Interest is signed where it has both an InterestSignatureInfo and an InterestSignatureValue.
+-- The first alone has to be right too.
 abbrev pub IsSigned : Option (List ℕ) → Option (List ℕ) → Option PlainSignature → Type 0
 IsSigned None value signature = signature ≡ None
-IsSigned (Some info_value) None signature = (info : PlainSignatureInfo) × IsSignatureInfo info_value info × (signature ≡ None)
+IsSigned (Some info_value) None signature =
+    (info : PlainSignatureInfo) × IsSignatureInfo info_value info × (signature ≡ None)
 IsSigned (Some info_value) (Some value) signature =
-    (info : PlainSignatureInfo) × IsSignatureInfo info_value info × (signature ≡ Some (record { info = info; value = value }))
+    (info : PlainSignatureInfo) × IsSignatureInfo info_value info × (signature ≡ Some (record {
+      info = info;
+      value = value;
+    }))
 
 -- Interest = Name [CanBePrefix] [MustBeFresh] [ForwardingHint] Nonce [InterestLifetime] [HopLimit]
--- [ApplicationParameters [InterestSignatureInfo [InterestSignatureValue]]]. The lifetime is 4,000 milliseconds where there is none.
+-- [ApplicationParameters [InterestSignatureInfo [InterestSignatureValue]]]. The lifetime is 4,000
+-- milliseconds where there is none.
 pub record IsInterest (text : List ℕ) (i : PlainInterest) : Type 0 where
   pub name_value : List ℕ
   pub hint : Option (List ℕ)
@@ -101,7 +117,10 @@ pub record IsInterest (text : List ℕ) (i : PlainInterest) : Type 0 where
   pub info_value : Option (List ℕ)
   pub signature_value : Option (List ℕ)
   pub fields : IsPacket text 5 is_even_high interest_schema name_value
-      (flag 33 i.can_be_prefix ++ (flag 18 i.must_be_fresh ++ (optional 30 hint ++ ((10, i.nonce) ∷ (optional 12 lifetime_value ++ (optional 34 hop_value
+      (flag 33 i.can_be_prefix
+      ++ (flag 18 i.must_be_fresh
+      ++ (optional 30 hint
+      ++ ((10, i.nonce) ∷ (optional 12 lifetime_value ++ (optional 34 hop_value
       ++ (optional 36 i.parameters ++ (optional 44 info_value ++ optional 46 signature_value))))))))
   pub name : IsNameValue name_value i.name
   pub named : i.name ≢ []
@@ -122,7 +141,8 @@ pub record IsData (text : List ℕ) (d : PlainData) : Type 0 where
   pub meta_value : Option (List ℕ)
   pub info_value : List ℕ
   pub fields : IsPacket text 6 is_even_high data_schema name_value
-      (optional 20 meta_value ++ (optional 21 d.content ++ ((22, info_value) ∷ (23, d.signature.value) ∷ [])))
+      (optional 20 meta_value
+      ++ (optional 21 d.content ++ ((22, info_value) ∷ (23, d.signature.value) ∷ [])))
   pub name : IsNameValue name_value d.name
   pub freshness : IsFreshness meta_value d.freshness
   pub info : IsSignatureInfo info_value d.signature.info

@@ -12,8 +12,8 @@ use Rattle.ndn_packets.specs.FrameReading.{frame_at}
 abbrev pub HasHopLimit : List ℕ → ℕ → Type 0
 HasHopLimit text limit = (i : PlainInterest) × IsInterest text i × (i.hop_limit ≡ Some limit)
 
--- The place of the HopLimit's octet, which is the third of its element, behind the type and the length, in an Interest that has
--- one; else the end of the octets.
+-- The place of the HopLimit's octet, which is the third of its element, after the type and the
+-- length, in an Interest that has one; else the end of the octets.
 abbrev pub place_from : List ℕ → Option (List ℕ) → ℕ
 place_from text None = length text
 place_from text (Some from) = (length text - length from) + 2
@@ -21,7 +21,9 @@ place_from text (Some from) = (length text - length from) + 2
 abbrev pub place_in : List ℕ → Result PlainFrame PacketFault → ℕ
 place_in text (Ok (AnInterest whole i)) =
     if (length whole == length text) && is_some i.hop_limit
-    then place_from text (on_result (λ outer. from_first 34 outer.0.1) (λ _. None) (element_at text)) else length text
+    then place_from text
+    (on_result (λ outer. from_first 34 outer.0.1) (λ _. None) (element_at text))
+    else length text
 place_in text (Ok (AData whole d)) = length text
 place_in text (Ok (ANack reason whole i)) = length text
 place_in text (Ok Idle) = length text

@@ -9,5 +9,5 @@ pub mod Covered
 pub mod HopLimit
 pub mod Writing
 pub mod FieldReader
-pub mod Found
+pub mod SoFar
 pub mod FaultName

@@ -1,4 +1,5 @@
--- Link packets and frames as whole texts (NDNLPv2, "Packet Format", "Fragmentation", "Network Nack", "PIT Token").
+-- Link packets and frames as whole texts (NDNLPv2, "Packet Format", "Fragmentation", "Network
+-- Nack", "PIT Token").
 use Rattle.std.specs.Prelude.{◌≡◌, ℕ, ◌<◌, ◌≤◌, ◌⊎◌, ◌%◌, List, [], ◌∷◌, ◌++◌, length, filter, Option, None, Some, Bool, true, nat_lt, nat_le, unwrap_or, slice_index, ◌==◌, ◌&&◌}
 use Rattle.std.specs.List.{AllByRecursion}
 use Rattle.ndn_tlv.specs.Number.{IsNni}
@@ -26,7 +27,8 @@ pub record IsNack (text : List ℕ) (reason : ℕ) : Type 0 where
   pub recognised : Fields is_even_high nack_schema elements (optional 801 reason_value)
   pub number : (n : Option ℕ) × IsNumber reason_value n × (reason ≡ unwrap_or n 0)
 
--- What a header field may be. The packet is one fragment of one, and a token has from 1 to 32 octets.
+-- What a header field may be. The packet is one fragment of one, and a token has from 1 to 32
+-- octets.
 abbrev pub IsHeader : Field → Type 0
 IsHeader h =
     (h.0 ≡ 81)
@@ -43,10 +45,12 @@ headers_of kind headers = filter (λ h. h.0 == kind) headers
 -- the reason of the Nack among header fields, if one is there
 abbrev pub IsNackOf : List Field → Option ℕ → Type 0
 IsNackOf headers None = headers_of 800 headers ≡ []
-IsNackOf headers (Some reason) = (value : List ℕ) × (headers_of 800 headers ≡ (800, value) ∷ []) × IsNack value reason
+IsNackOf headers (Some reason) =
+    (value : List ℕ) × (headers_of 800 headers ≡ (800, value) ∷ []) × IsNack value reason
 
 -- LpPacket: header fields in any order, each known one once at most, and then at most one Fragment
-pub record IsLinkPacket (text : List ℕ) (nack : Option ℕ) (fragment : Option (List ℕ)) : Type 0 where
+pub record IsLinkPacket (text : List ℕ) (nack : Option ℕ)
+    (fragment : Option (List ℕ)) : Type 0 where
   pub value : List ℕ
   pub headers : List Field
   pub outer : IsElement text 100 value
@@ -57,10 +61,13 @@ pub record IsLinkPacket (text : List ℕ) (nack : Option ℕ) (fragment : Option
   pub short : length text ≤ 9000
   pub octets : (i : ℕ) → slice_index text i < 256
 
--- A frame is a packet, or a link packet around one; around an Interest, with a Nack or without; or one with neither Fragment nor
--- Nack.
+-- A frame is a packet, or a link packet around one; around an Interest, with a Nack or without; or
+-- one with neither Fragment nor Nack.
 abbrev pub IsFrame : List ℕ → PlainFrame → Type 0
-IsFrame text (AnInterest whole i) = IsInterest whole i × ((text ≡ whole) ⊎ IsLinkPacket text None (Some whole))
-IsFrame text (AData whole d) = IsData whole d × ((text ≡ whole) ⊎ IsLinkPacket text None (Some whole))
-IsFrame text (ANack reason whole i) = IsInterest whole i × IsLinkPacket text (Some reason) (Some whole)
+IsFrame text (AnInterest whole i) =
+    IsInterest whole i × ((text ≡ whole) ⊎ IsLinkPacket text None (Some whole))
+IsFrame text (AData whole d) =
+    IsData whole d × ((text ≡ whole) ⊎ IsLinkPacket text None (Some whole))
+IsFrame text (ANack reason whole i) =
+    IsInterest whole i × IsLinkPacket text (Some reason) (Some whole)
 IsFrame text Idle = IsLinkPacket text None None

@@ -43,8 +43,8 @@ pub record PlainData : Type 0 where
   pub content : Option (List ℕ)
   pub signature : PlainSignature
 
--- What octets of a link hold: a packet with its received octets, which are its own element without what the link put around
--- it, or nothing.
+-- What octets of a link hold: a packet with its received octets, which are its own element without
+-- what the link put around it, or nothing.
 pub data PlainFrame : Type 0 where
   AnInterest : (whole : List ℕ) (interest : PlainInterest) → PlainFrame
   AData : (whole : List ℕ) (packet : PlainData) → PlainFrame
@@ -62,7 +62,10 @@ plain_locator locators.Digest = Digest
 plain_locator locators.Other = Other
 
 abbrev pub plain_signature : Signature → PlainSignature
-plain_signature s = record { info = record { kind = s.kind; locator = plain_locator s.locator; time = s.time; seq = s.seq }; value = s.value.now }
+plain_signature s = record {
+  info = record { kind = s.kind; locator = plain_locator s.locator; time = s.time; seq = s.seq };
+  value = s.value.now;
+}
 
 abbrev pub plain_interest : Interest → PlainInterest
 plain_interest i = record {
@@ -77,7 +80,12 @@ plain_interest i = record {
 }
 
 abbrev pub plain_data : Data → PlainData
-plain_data d = record { name = components d.name; freshness = d.freshness; content = option_map (λ c. c.now) d.content; signature = plain_signature d.signature }
+plain_data d = record {
+  name = components d.name;
+  freshness = d.freshness;
+  content = option_map (λ c. c.now) d.content;
+  signature = plain_signature d.signature;
+}
 
 abbrev pub plain_frame : Frame → PlainFrame
 plain_frame (frames.Interest i) = AnInterest i.whole.now (plain_interest i)

@@ -1,4 +1,5 @@
--- Reading packets from left to right, with the first fault that is met (NDN Packet Format 0.3, "Interest Packet" and "Data Packet").
+-- Reading packets from left to right, with the first fault that is met (NDN Packet Format 0.3,
+-- "Interest Packet" and "Data Packet").
 use Rattle.std.specs.Prelude.{ℕ, List, [], ◌∷◌, length, Option, None, Some, Result, Ok, Err, Bool, true, false, ◌==◌, not, if◌then◌else◌}
 use Rattle.std.specs.List.{filter_map, flat_map}
 use Rattle.std.specs.Result.{result_ok}
@@ -10,35 +11,41 @@ use Rattle.ndn_tlv.specs.Reading.{◌>>=◌, on_result, element_at, elements_of,
 use Rattle.ndn_names.specs.Reading.{name_at}
 use Rattle.ndn_packets.specs.declared.fault.PacketFault.{PacketFault}
 use Rattle.ndn_packets.specs.declared.fault.PacketFault.TheVariants.{Tlv, NoName, CriticalUnknown, BadField, NoNonce, DigestMissing, DigestWrong, DigestWithout}
-use Rattle.ndn_packets.specs.Fields.{is_even_high, is_ignored_in_meta_info, is_ignored_in_signature_info, is_follower, interest_schema, data_schema, meta_schema, info_schema}
+use Rattle.ndn_packets.specs.Fields.{is_even_high, is_ignored_in_meta_info, is_ignored_in_signature_info, needs_previous_field, interest_schema, data_schema, meta_schema, info_schema}
 use Rattle.ndn_packets.specs.Packet.{digests_in, PlainLocator, Missing, KeyName, Digest, Other, PlainSignatureInfo, PlainSignature, PlainInterest, PlainData}
 
--- what of a schema stands behind a type that counts in it
+-- what of a schema stands after a type that counts in it
 abbrev pub schema_after : ℕ → List ℕ → Option (List ℕ)
 schema_after kind [] = None
-schema_after kind (first ∷ schema) = if first == kind then Some schema else (if is_follower kind then None else schema_after kind schema)
+schema_after kind (first ∷ schema) =
+    if first == kind then Some schema
+    else (if needs_previous_field kind then None else schema_after kind schema)
 
 abbrev pub on_option : {A C : Type 0} → (A → C) → C → Option A → C
 on_option f c None = c
 on_option f c (Some x) = f x
 
--- The fields of a schema among elements, in the schema's order, up to the end or to the first element that cannot be read or is
--- refused, which is then the last.
-abbrev pub fields_from : (ℕ → Bool) → List ℕ → List (Result Field TlvFault) → List (Result Field PacketFault)
+-- The fields of a schema among elements, in the schema's order, up to the end or to the first
+-- element that cannot be read or is refused, which is then the last.
+abbrev pub fields_from : (ℕ → Bool) → List ℕ → List (Result Field TlvFault)
+    → List (Result Field PacketFault)
 fields_from ignores schema [] = []
 fields_from ignores schema (Err f ∷ elements) = Err (Tlv f) ∷ []
 fields_from ignores schema (Ok e ∷ elements) =
     on_option (λ later. Ok e ∷ fields_from ignores later elements)
-    (if ignores e.0 then fields_from ignores schema elements else Err CriticalUnknown ∷ []) (schema_after e.0 schema)
+    (if ignores e.0 then fields_from ignores schema elements else Err CriticalUnknown ∷ [])
+    (schema_after e.0 schema)
 
 -- what has been read, after each of the fields in turn
-abbrev pub read_fields : {S : Type 0} → (S → Field → Result S PacketFault) → S → List (Result Field PacketFault) → Result S PacketFault
+abbrev pub read_fields : {S : Type 0} → (S → Field → Result S PacketFault) → S
+    → List (Result Field PacketFault) → Result S PacketFault
 read_fields take s [] = Ok s
 read_fields take s (Err f ∷ fields) = Err f
 read_fields take s (Ok f ∷ fields) = take s f >>= λ t. read_fields take t fields
 
 -- the value of the first element, which has to be a Name, and what follows it
-abbrev pub name_first : List (Result Field TlvFault) → Result (List ℕ × List (Result Field TlvFault)) PacketFault
+abbrev pub name_first : List (Result Field TlvFault)
+    → Result (List ℕ × List (Result Field TlvFault)) PacketFault
 name_first [] = Err NoName
 name_first (Err f ∷ elements) = Err (Tlv f)
 name_first (Ok e ∷ elements) = if e.0 == 7 then Ok (e.1, elements) else Err NoName
@@ -48,7 +55,8 @@ abbrev pub name_value_at : List ℕ → Result (List Field) PacketFault
 name_value_at value = on_result (λ name. Ok name) (λ _. Err BadField) (name_at value)
 
 -- the name that the first element has to be, and what follows it
-abbrev pub leading_name_at : List (Result Field TlvFault) → Result (List Field × List (Result Field TlvFault)) PacketFault
+abbrev pub leading_name_at : List (Result Field TlvFault)
+    → Result (List Field × List (Result Field TlvFault)) PacketFault
 leading_name_at elements = do
   first ← name_first elements
   name ← name_value_at first.0
@@ -66,14 +74,17 @@ abbrev pub found_or : {A : Type 0} → PacketFault → Option A → Result A Pac
 found_or fault None = Err fault
 found_or fault (Some x) = Ok x
 
--- of a MetaInfo: its FreshnessPeriod. Its ContentType has to be a number too, and no type but these and 26 comes here.
+-- of a MetaInfo: its FreshnessPeriod. Its ContentType has to be a number too, and no type but these
+-- and 26 comes here.
 abbrev pub take_meta_field : ℕ → Field → Result ℕ PacketFault
 take_meta_field freshness f =
     if f.0 == 24 then (nni_value_at f.1 >>= λ _. Ok freshness) else (
     if f.0 == 25 then nni_value_at f.1 else Ok freshness)
 
 unfoldable pub meta_at : List ℕ → Result ℕ PacketFault
-meta_at value = read_fields take_meta_field 0 (fields_from is_ignored_in_meta_info meta_schema (elements_of value))
+meta_at value =
+    read_fields take_meta_field 0
+    (fields_from is_ignored_in_meta_info meta_schema (elements_of value))
 
 -- what a KeyLocator says: its first element, and the octets after it, of which there must be none
 abbrev pub locator_of : Field → List ℕ → PlainLocator
@@ -97,20 +108,41 @@ no_info_yet = record { kind = None; locator = Missing; time = None; seq = None }
 
 abbrev pub take_info_field : InfoSoFar → Field → Result InfoSoFar PacketFault
 take_info_field s f =
-    if f.0 == 27 then (nni_value_at f.1 >>= λ n. Ok (record { kind = Some n; locator = s.locator; time = s.time; seq = s.seq })) else (
-    if f.0 == 28 then Ok (record { kind = s.kind; locator = locator_at f.1; time = s.time; seq = s.seq }) else (
-    if f.0 == 40 then (nni_value_at f.1 >>= λ n. Ok (record { kind = s.kind; locator = s.locator; time = Some n; seq = s.seq })) else (
-    if f.0 == 42 then (nni_value_at f.1 >>= λ n. Ok (record { kind = s.kind; locator = s.locator; time = s.time; seq = Some n })) else
+    if f.0 == 27 then (nni_value_at f.1 >>= λ n. Ok (record {
+      kind = Some n;
+      locator = s.locator;
+      time = s.time;
+      seq = s.seq;
+    })) else (
+    if f.0 == 28 then Ok (record {
+      kind = s.kind;
+      locator = locator_at f.1;
+      time = s.time;
+      seq = s.seq;
+    }) else (
+    if f.0 == 40 then (nni_value_at f.1 >>= λ n. Ok (record {
+      kind = s.kind;
+      locator = s.locator;
+      time = Some n;
+      seq = s.seq;
+    })) else (
+    if f.0 == 42 then (nni_value_at f.1 >>= λ n. Ok (record {
+      kind = s.kind;
+      locator = s.locator;
+      time = s.time;
+      seq = Some n;
+    })) else
     Ok s)))
 
 unfoldable pub info_at : List ℕ → Result PlainSignatureInfo PacketFault
 info_at value = do
-  s ← read_fields take_info_field no_info_yet (fields_from is_ignored_in_signature_info info_schema (elements_of value))
+  s ← read_fields take_info_field no_info_yet
+      (fields_from is_ignored_in_signature_info info_schema (elements_of value))
   kind ← found_or BadField s.kind
   Ok (record { kind = kind; locator = s.locator; time = s.time; seq = s.seq })
 
--- of an Interest: its CanBePrefix, MustBeFresh, Nonce, InterestLifetime, HopLimit, ApplicationParameters, InterestSignatureInfo and
--- InterestSignatureValue
+-- of an Interest: its CanBePrefix, MustBeFresh, Nonce, InterestLifetime, HopLimit,
+-- ApplicationParameters, InterestSignatureInfo and InterestSignatureValue
 pub record InterestSoFar : Type 0 where
   pub can_be_prefix : Bool
   pub must_be_fresh : Bool
@@ -122,7 +154,16 @@ pub record InterestSoFar : Type 0 where
   pub value : Option (List ℕ)
 
 abbrev pub no_fields_yet : InterestSoFar
-no_fields_yet = record { can_be_prefix = false; must_be_fresh = false; nonce = None; lifetime = 4000; hop_limit = None; parameters = None; info = None; value = None }
+no_fields_yet = record {
+  can_be_prefix = false;
+  must_be_fresh = false;
+  nonce = None;
+  lifetime = 4000;
+  hop_limit = None;
+  parameters = None;
+  info = None;
+  value = None;
+}
 
 -- a value of one octet
 abbrev pub octet_at : List ℕ → Result ℕ PacketFault
@@ -131,28 +172,100 @@ octet_at (k ∷ []) = Ok k
 octet_at (k ∷ l ∷ value) = Err BadField
 
 abbrev pub with_can_be_prefix : InterestSoFar → InterestSoFar
-with_can_be_prefix s = record { can_be_prefix = true; must_be_fresh = s.must_be_fresh; nonce = s.nonce; lifetime = s.lifetime; hop_limit = s.hop_limit; parameters = s.parameters; info = s.info; value = s.value }
+with_can_be_prefix s = record {
+  can_be_prefix = true;
+  must_be_fresh = s.must_be_fresh;
+  nonce = s.nonce;
+  lifetime = s.lifetime;
+  hop_limit = s.hop_limit;
+  parameters = s.parameters;
+  info = s.info;
+  value = s.value;
+}
 
 abbrev pub with_must_be_fresh : InterestSoFar → InterestSoFar
-with_must_be_fresh s = record { can_be_prefix = s.can_be_prefix; must_be_fresh = true; nonce = s.nonce; lifetime = s.lifetime; hop_limit = s.hop_limit; parameters = s.parameters; info = s.info; value = s.value }
+with_must_be_fresh s = record {
+  can_be_prefix = s.can_be_prefix;
+  must_be_fresh = true;
+  nonce = s.nonce;
+  lifetime = s.lifetime;
+  hop_limit = s.hop_limit;
+  parameters = s.parameters;
+  info = s.info;
+  value = s.value;
+}
 
 abbrev pub with_nonce : InterestSoFar → List ℕ → InterestSoFar
-with_nonce s nonce = record { can_be_prefix = s.can_be_prefix; must_be_fresh = s.must_be_fresh; nonce = Some nonce; lifetime = s.lifetime; hop_limit = s.hop_limit; parameters = s.parameters; info = s.info; value = s.value }
+with_nonce s nonce = record {
+  can_be_prefix = s.can_be_prefix;
+  must_be_fresh = s.must_be_fresh;
+  nonce = Some nonce;
+  lifetime = s.lifetime;
+  hop_limit = s.hop_limit;
+  parameters = s.parameters;
+  info = s.info;
+  value = s.value;
+}
 
 abbrev pub with_lifetime : InterestSoFar → ℕ → InterestSoFar
-with_lifetime s lifetime = record { can_be_prefix = s.can_be_prefix; must_be_fresh = s.must_be_fresh; nonce = s.nonce; lifetime = lifetime; hop_limit = s.hop_limit; parameters = s.parameters; info = s.info; value = s.value }
+with_lifetime s lifetime = record {
+  can_be_prefix = s.can_be_prefix;
+  must_be_fresh = s.must_be_fresh;
+  nonce = s.nonce;
+  lifetime = lifetime;
+  hop_limit = s.hop_limit;
+  parameters = s.parameters;
+  info = s.info;
+  value = s.value;
+}
 
 abbrev pub with_hop_limit : InterestSoFar → ℕ → InterestSoFar
-with_hop_limit s limit = record { can_be_prefix = s.can_be_prefix; must_be_fresh = s.must_be_fresh; nonce = s.nonce; lifetime = s.lifetime; hop_limit = Some limit; parameters = s.parameters; info = s.info; value = s.value }
+with_hop_limit s limit = record {
+  can_be_prefix = s.can_be_prefix;
+  must_be_fresh = s.must_be_fresh;
+  nonce = s.nonce;
+  lifetime = s.lifetime;
+  hop_limit = Some limit;
+  parameters = s.parameters;
+  info = s.info;
+  value = s.value;
+}
 
 abbrev pub with_parameters : InterestSoFar → List ℕ → InterestSoFar
-with_parameters s parameters = record { can_be_prefix = s.can_be_prefix; must_be_fresh = s.must_be_fresh; nonce = s.nonce; lifetime = s.lifetime; hop_limit = s.hop_limit; parameters = Some parameters; info = s.info; value = s.value }
+with_parameters s parameters = record {
+  can_be_prefix = s.can_be_prefix;
+  must_be_fresh = s.must_be_fresh;
+  nonce = s.nonce;
+  lifetime = s.lifetime;
+  hop_limit = s.hop_limit;
+  parameters = Some parameters;
+  info = s.info;
+  value = s.value;
+}
 
 abbrev pub with_info : InterestSoFar → PlainSignatureInfo → InterestSoFar
-with_info s info = record { can_be_prefix = s.can_be_prefix; must_be_fresh = s.must_be_fresh; nonce = s.nonce; lifetime = s.lifetime; hop_limit = s.hop_limit; parameters = s.parameters; info = Some info; value = s.value }
+with_info s info = record {
+  can_be_prefix = s.can_be_prefix;
+  must_be_fresh = s.must_be_fresh;
+  nonce = s.nonce;
+  lifetime = s.lifetime;
+  hop_limit = s.hop_limit;
+  parameters = s.parameters;
+  info = Some info;
+  value = s.value;
+}
 
 abbrev pub with_value : InterestSoFar → List ℕ → InterestSoFar
-with_value s value = record { can_be_prefix = s.can_be_prefix; must_be_fresh = s.must_be_fresh; nonce = s.nonce; lifetime = s.lifetime; hop_limit = s.hop_limit; parameters = s.parameters; info = s.info; value = Some value }
+with_value s value = record {
+  can_be_prefix = s.can_be_prefix;
+  must_be_fresh = s.must_be_fresh;
+  nonce = s.nonce;
+  lifetime = s.lifetime;
+  hop_limit = s.hop_limit;
+  parameters = s.parameters;
+  info = s.info;
+  value = Some value;
+}
 
 abbrev pub take_interest_field : InterestSoFar → Field → Result InterestSoFar PacketFault
 take_interest_field s f =
@@ -181,7 +294,8 @@ abbrev pub digest_fault : Option (List ℕ) → List Field → List ℕ → Opti
 digest_fault None [] right = None
 digest_fault None (d ∷ digests) right = Some DigestWithout
 digest_fault (Some parameters) [] right = Some DigestMissing
-digest_fault (Some parameters) (d ∷ []) right = if bytes_eq d.1 right then None else Some DigestWrong
+digest_fault (Some parameters) (d ∷ []) right =
+    if bytes_eq d.1 right then None else Some DigestWrong
 digest_fault (Some parameters) (d ∷ e ∷ digests) right = Some DigestWrong
 
 abbrev pub signature_of : Option PlainSignatureInfo → Option (List ℕ) → Option PlainSignature
@@ -205,9 +319,12 @@ unfoldable pub interest_at : List ℕ → Result PlainInterest PacketFault
 interest_at value = do
   first ← leading_name_at (elements_of value)
   name ← if is_nil first.0 then Err NoName else Ok first.0
-  s ← read_fields take_interest_field no_fields_yet (fields_from is_even_high interest_schema first.1)
+  s ← read_fields take_interest_field no_fields_yet
+      (fields_from is_even_high interest_schema first.1)
   nonce ← found_or NoNonce s.nonce
-  on_option (λ fault. Err fault) (Ok (interest_made name s nonce)) (digest_fault s.parameters (digests_in name) (sha256 (octets_of_read (parameters_on first.1))))
+  on_option (λ fault. Err fault) (Ok (interest_made name s nonce))
+      (digest_fault s.parameters (digests_in name)
+      (sha256 (octets_of_read (parameters_on first.1))))
 
 -- of a Data: its FreshnessPeriod, its Content, its SignatureInfo and its SignatureValue
 pub record DataSoFar : Type 0 where
@@ -221,9 +338,24 @@ nothing_yet = record { freshness = 0; content = None; info = None; value = None 
 
 abbrev pub take_data_field : DataSoFar → Field → Result DataSoFar PacketFault
 take_data_field s f =
-    if f.0 == 20 then (meta_at f.1 >>= λ freshness. Ok (record { freshness = freshness; content = s.content; info = s.info; value = s.value })) else (
-    if f.0 == 21 then Ok (record { freshness = s.freshness; content = Some f.1; info = s.info; value = s.value }) else (
-    if f.0 == 22 then (info_at f.1 >>= λ info. Ok (record { freshness = s.freshness; content = s.content; info = Some info; value = s.value })) else
+    if f.0 == 20 then (meta_at f.1 >>= λ freshness. Ok (record {
+      freshness = freshness;
+      content = s.content;
+      info = s.info;
+      value = s.value;
+    })) else (
+    if f.0 == 21 then Ok (record {
+      freshness = s.freshness;
+      content = Some f.1;
+      info = s.info;
+      value = s.value;
+    }) else (
+    if f.0 == 22 then (info_at f.1 >>= λ info. Ok (record {
+      freshness = s.freshness;
+      content = s.content;
+      info = Some info;
+      value = s.value;
+    })) else
     Ok (record { freshness = s.freshness; content = s.content; info = s.info; value = Some f.1 })))
 
 unfoldable pub data_at : List ℕ → Result PlainData PacketFault
@@ -232,4 +364,9 @@ data_at value = do
   s ← read_fields take_data_field nothing_yet (fields_from is_even_high data_schema first.1)
   info ← found_or BadField s.info
   signature ← found_or BadField s.value
-  Ok (record { name = first.0; freshness = s.freshness; content = s.content; signature = record { info = info; value = signature } })
+  Ok (record {
+    name = first.0;
+    freshness = s.freshness;
+    content = s.content;
+    signature = record { info = info; value = signature };
+  })

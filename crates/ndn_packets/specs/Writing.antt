@@ -1,5 +1,5 @@
--- What writers write (NDN Packet Format 0.3, "Interest Packet", "Data Packet", "Signature", "Signed Interest"; NDNLPv2, "Network
--- Nack"): the fields that are asked for, each in its shortest form.
+-- What writers write (NDN Packet Format 0.3, "Interest Packet", "Data Packet", "Signature", "Signed
+-- Interest"; NDNLPv2, "Network Nack"): the fields that are asked for, each in its shortest form.
 use Rattle.std.specs.Prelude.{◌≡◌, ℕ, ◌<◌, List, [], ◌∷◌, ◌++◌, ◌-◌, ◌^◌, min, length, replicate, Option, None, Some, IfSome, OnSome, slice_index, Bool, nat_lt, flat_map, unwrap_or, ⊤, ◌||◌, not, if◌then◌else◌}
 use Rattle.std.specs.Option.{option_map}
 use Rattle.sha2.specs.Sha256.{sha256}
@@ -41,10 +41,17 @@ locator_value (sign.Hmac name key) = Some (element (7, octets (components name))
 
 -- the fields of a SignatureInfo
 abbrev pub info_fields : Sign → Option ℕ → Option ℕ → List Field
-info_fields signed time seq = (27, kind_of signed ∷ []) ∷ (optional 28 (locator_value signed) ++ (number 40 time ++ number 42 seq))
+info_fields signed time seq =
+    (27, kind_of signed ∷ [])
+    ∷ (optional 28 (locator_value signed) ++ (number 40 time ++ number 42 seq))
 
 abbrev pub info_asked : Sign → Option ℕ → Option ℕ → PlainSignatureInfo
-info_asked signed time seq = record { kind = kind_of signed; locator = locator_of signed; time = time; seq = seq }
+info_asked signed time seq = record {
+  kind = kind_of signed;
+  locator = locator_of signed;
+  time = time;
+  seq = seq;
+}
 
 -- the value of a signature that covers these octets
 abbrev pub value_of : Sign → List ℕ → List ℕ
@@ -58,12 +65,15 @@ abbrev pub parameters_of : Option Sign → Option (List ℕ) → Option (List �
 parameters_of None parameters = parameters
 parameters_of (Some signed) parameters = Some (unwrap_or parameters [])
 
--- what the signature of an Interest covers behind its name's components
+-- what the signature of an Interest covers after its name's components
 abbrev pub covered_fields : InterestWriter → Sign → List Field
-covered_fields w signed = (36, unwrap_or (option_map (λ p. p.now) w.parameters) []) ∷ (44, octets (info_fields signed w.time w.seq)) ∷ []
+covered_fields w signed =
+    (36, unwrap_or (option_map (λ p. p.now) w.parameters) [])
+    ∷ (44, octets (info_fields signed w.time w.seq)) ∷ []
 
 abbrev pub interest_value : InterestWriter → Sign → List ℕ
-interest_value w signed = value_of signed (octets (components w.name) ++ octets (covered_fields w signed))
+interest_value w signed =
+    value_of signed (octets (components w.name) ++ octets (covered_fields w signed))
 
 -- the fields from the ApplicationParameters on
 abbrev pub later_fields : InterestWriter → Option Sign → List Field
@@ -73,19 +83,24 @@ later_fields w (Some signed) = covered_fields w signed ++ (46, interest_value w 
 -- the fields before them
 abbrev pub early_fields : InterestWriter → List Field
 early_fields w =
-    flag 33 w.can_be_prefix ++ (flag 18 w.must_be_fresh ++ ((10, w.nonce) ∷ (number 12 w.lifetime ++ optional 34 (option_map (λ limit. limit ∷ []) w.hop_limit))))
+    flag 33 w.can_be_prefix
+    ++ (flag 18 w.must_be_fresh
+    ++ ((10, w.nonce)
+    ∷ (number 12 w.lifetime ++ optional 34 (option_map (λ limit. limit ∷ []) w.hop_limit))))
 
--- the name, and behind it a digest, where there are fields from the ApplicationParameters on
+-- the name, and after it a digest, where there are fields from the ApplicationParameters on
 abbrev pub name_with : List ℕ → List Field → List Field → List Field
 name_with digest name [] = name
 name_with digest name (f ∷ fields) = name ++ (2, digest) ∷ []
 
 -- the digest is that of their octets
 abbrev pub interest_name : InterestWriter → List Field
-interest_name w = name_with (sha256 (octets (later_fields w w.sign))) (components w.name) (later_fields w w.sign)
+interest_name w =
+    name_with (sha256 (octets (later_fields w w.sign))) (components w.name) (later_fields w w.sign)
 
 abbrev pub interest_text : InterestWriter → List ℕ
-interest_text w = element (5, octets ((7, octets (interest_name w)) ∷ (early_fields w ++ later_fields w w.sign)))
+interest_text w =
+    element (5, octets ((7, octets (interest_name w)) ∷ (early_fields w ++ later_fields w w.sign)))
 
 -- the Interest that is asked for
 abbrev pub interest_asked : InterestWriter → PlainInterest
@@ -97,7 +112,10 @@ interest_asked w = record {
   lifetime = unwrap_or w.lifetime 4000;
   hop_limit = w.hop_limit;
   parameters = parameters_of w.sign (option_map (λ p. p.now) w.parameters);
-  signature = option_map (λ signed. record { info = info_asked signed w.time w.seq; value = interest_value w signed }) w.sign;
+  signature = option_map (λ signed. record {
+    info = info_asked signed w.time w.seq;
+    value = interest_value w signed;
+  }) w.sign;
 }
 
 abbrev pub is_bad_name : List Field → Bool
@@ -107,7 +125,8 @@ is_bad_name name = is_nil name || not (is_nil (digests_in name))
 abbrev pub interest_refusal : InterestWriter → Option WriteFault
 interest_refusal w =
     if is_bad_name (components w.name) then Some BadName else (
-    if nat_lt 64 (length (interest_name w)) || nat_lt 8800 (length (interest_text w)) then Some TooLong else
+    if nat_lt 64 (length (interest_name w)) || nat_lt 8800 (length (interest_text w))
+    then Some TooLong else
     None)
 
 -- ---- Data
@@ -119,17 +138,27 @@ meta_of (f ∷ fields) = Some (octets (f ∷ fields))
 
 -- FreshnessPeriod, and as FinalBlockId one component of type 50, a segment number
 abbrev pub meta_fields : Option ℕ → Option ℕ → List Field
-meta_fields freshness last = number 25 freshness ++ optional 26 (option_map (λ n. element (50, shortest_nni n)) last)
+meta_fields freshness last =
+    number 25 freshness ++ optional 26 (option_map (λ n. element (50, shortest_nni n)) last)
 
 -- what the signature of a Data covers
 abbrev pub data_fields : Sign → List Field → Option (List ℕ) → Option (List ℕ) → List Field
-data_fields signed name meta content = (7, octets name) ∷ (optional 20 meta ++ (optional 21 content ++ (22, octets (info_fields signed None None)) ∷ []))
+data_fields signed name meta content =
+    (7, octets name)
+    ∷ (optional 20 meta
+    ++ (optional 21 content ++ (22, octets (info_fields signed None None)) ∷ []))
 
 abbrev pub data_value : Sign → List Field → Option (List ℕ) → Option (List ℕ) → List ℕ
-data_value signed name meta content = value_of signed (octets (data_fields signed name meta content))
+data_value signed name meta content =
+    value_of signed (octets (data_fields signed name meta content))
 
 abbrev pub signed_data : Sign → List Field → Option (List ℕ) → Option (List ℕ) → List ℕ
-signed_data signed name meta content = element (6, octets (data_fields signed name meta content ++ (23, data_value signed name meta content) ∷ []))
+signed_data signed name meta content =
+    element (
+      6,
+      octets
+          (data_fields signed name meta content ++ (23, data_value signed name meta content) ∷ []),
+    )
 
 abbrev pub meta_asked : DataWriter → Option (List ℕ)
 meta_asked w = meta_of (meta_fields w.freshness w.last)
@@ -143,10 +172,20 @@ data_text w = signed_data w.sign (components w.name) (meta_asked w) (content_ask
 -- a Data of this name, FreshnessPeriod, MetaInfo and Content
 abbrev pub plain_data_of : Sign → List Field → ℕ → Option (List ℕ) → Option (List ℕ) → PlainData
 plain_data_of signed name freshness meta content =
-    record { name = name; freshness = freshness; content = content; signature = record { info = info_asked signed None None; value = data_value signed name meta content } }
+    record {
+      name = name;
+      freshness = freshness;
+      content = content;
+      signature = record {
+        info = info_asked signed None None;
+        value = data_value signed name meta content;
+      };
+    }
 
 abbrev pub data_asked : DataWriter → PlainData
-data_asked w = plain_data_of w.sign (components w.name) (unwrap_or w.freshness 0) (meta_asked w) (content_asked w)
+data_asked w =
+    plain_data_of w.sign (components w.name) (unwrap_or w.freshness 0) (meta_asked w)
+    (content_asked w)
 
 -- why a Data is not written, but for memory
 abbrev pub data_refusal : DataWriter → Option WriteFault
@@ -163,7 +202,8 @@ reply_asked name content = plain_data_of sign.Digest name 0 None (Some content)
 
 -- a link packet with a Nack of this reason around octets
 abbrev pub nack_text : ℕ → List ℕ → List ℕ
-nack_text reason interest = element (100, octets ((800, octets ((801, shortest_nni reason) ∷ [])) ∷ (80, interest) ∷ []))
+nack_text reason interest =
+    element (100, octets ((800, octets ((801, shortest_nni reason) ∷ [])) ∷ (80, interest) ∷ []))
 
 -- ---- lengths
 

@@ -24,7 +24,9 @@ impl Data<'_> {
     /// implicit digest as last component, is the Interest's or, where the Interest has CanBePrefix,
     /// begins with it. The digest is computed only where the answer depends on it.
     pub fn answers(&self, asked: Name<'_>, can_be_prefix: bool) -> bool
-        ensures { IsTrue result ↔ Answers (components self.now.name) (sha256 self.now.whole.now) (components asked.entry) can_be_prefix }
+        ensures { IsTrue result
+            ↔ Answers (components self.now.name) (sha256 self.now.whole.now)
+            (components asked.entry) can_be_prefix }
     {
         if asked.is_prefix_of(self.name) {
             return can_be_prefix || self.name.is_prefix_of(asked);
@@ -34,7 +36,9 @@ impl Data<'_> {
 
     /// Whether this is the full name.
     fn is_full_name(&self, asked: Name<'_>) -> bool
-        ensures { IsTrue result ↔ (components asked.entry ≡ full_name (components self.now.name) (sha256 self.now.whole.now)) }
+        ensures { IsTrue result
+            ↔ (components asked.entry
+            ≡ full_name (components self.now.name) (sha256 self.now.whole.now)) }
     {
         let len = self.name.len();
         if asked.len() != len + 1 || !self.name.is_prefix_of(asked) {

@@ -30,8 +30,10 @@ impl<'a> Data<'a> {
     /// SignatureValue. The second part is empty. A Data that was read always has them.
     pub fn signed_parts(&self) -> Option<Parts<'a>>
         ensures { MatchOption result
-            ((first second : List ℕ) → Covered (AData self.now.whole.now (plain_data self.now)) first second → ⊥)
-            (λ parts. Covered (AData self.now.whole.now (plain_data self.now)) parts.first.now parts.second.now) }
+            ((first second : List ℕ)
+            → Covered (AData self.now.whole.now (plain_data self.now)) first second → ⊥)
+            (λ parts. Covered
+            (AData self.now.whole.now (plain_data self.now)) parts.first.now parts.second.now) }
     {
         let value = value_of(self.whole, DATA)?;
         let from_signature = from_first(value, SIGNATURE_VALUE)?;
@@ -49,12 +51,16 @@ impl<'a> Interest<'a> {
 
     /// The octets that the signature covers, as they were received: those of the name's components
     /// before the digest of parameters, and those from the ApplicationParameters up to the
-    /// InterestSignatureValue. `None` where the Interest is not signed, or the digest of parameters is
-    /// not the last component.
+    /// InterestSignatureValue. `None` where the Interest is not signed, or the digest of parameters
+    /// is not the last component.
     pub fn signed_parts(&self) -> Option<Parts<'a>>
         ensures { MatchOption result
-            ((first second : List ℕ) → Covered (AnInterest self.now.whole.now (plain_interest self.now)) first second → ⊥)
-            (λ parts. Covered (AnInterest self.now.whole.now (plain_interest self.now)) parts.first.now parts.second.now) }
+            ((first second : List ℕ)
+            → Covered (AnInterest self.now.whole.now (plain_interest self.now)) first second
+            → ⊥)
+            (λ parts. Covered
+            (AnInterest self.now.whole.now
+            (plain_interest self.now)) parts.first.now parts.second.now) }
     {
         let first = before_digest(self.name)?;
         let value = value_of(self.whole, INTEREST)?;
@@ -72,7 +78,9 @@ impl<'a> Interest<'a> {
 fn before_digest(name: Name<'_>) -> Option<&[u8]>
     ensures { MatchOption result
         (EndsInDigest (components name.entry) → ⊥)
-        (λ octets. (front : List Field) × (digest : List ℕ) × (components name.entry ≡ front ++ (2, digest) ∷ []) × (octets.now ≡ flat_map element front)) }
+        (λ octets. (front : List Field) × (digest : List ℕ)
+        × (components name.entry ≡ front ++ (2, digest) ∷ [])
+        × (octets.now ≡ flat_map element front)) }
 {
     let count = name.len().checked_sub(1)?;
     let last = name.component(count)?;
@@ -100,8 +108,10 @@ fn value_of(octets: &[u8], kind: u32) -> Option<&[u8]>
 /// The octets from the first element of this type on.
 pub(crate) fn from_first(octets: &[u8], kind: u32) -> Option<&[u8]>
     ensures exact { option_map (λ from. from.now) result ≡ from_first kind octets.now }
-    ensures found { IfSome result (λ from. (before : List ℕ) × IsCut kind octets.now before from.now) }
-    ensures only { (before from : List ℕ) → IsCut kind octets.now before from → IsSomeAnd result (λ given. given.now ≡ from) }
+    ensures found { IfSome result
+        (λ from. (before : List ℕ) × IsCut kind octets.now before from.now) }
+    ensures only { (before from : List ℕ) → IsCut kind octets.now before from
+        → IsSomeAnd result (λ given. given.now ≡ from) }
 {
     let mut rest = octets;
     while let Ok((element, after)) = first_element(rest) {
@@ -121,22 +131,29 @@ fn octets_before<'a>(octets: &'a [u8], end: &[u8]) -> &'a [u8]
     &octets[..octets.len() - end.len()]
 }
 
-/// Law: a Data has covered octets, and an Interest has some exactly where it is signed and the digest
-/// of its parameters is the last component. They end where the element of the signature's value begins.
-/// Those of an Interest are all of its name before the digest, and then begin where the octets of the
-/// digest do.
+/// Law: a Data has covered octets, and an Interest has some exactly where it is signed and the
+/// digest of its parameters is the last component. They end where the element of the signature's
+/// value begins. Those of an Interest are all of its name before the digest, and then begin where
+/// the octets of the digest do.
 pub fn signed_packets_have_covered_octets()
-    ensures data { (text : List ℕ) (d : PlainData) → IsData text d → (covered : List ℕ) × Covered (AData text d) covered [] }
+    ensures data { (text : List ℕ) (d : PlainData) → IsData text d
+        → (covered : List ℕ) × Covered (AData text d) covered [] }
     ensures interest { (text : List ℕ) (i : PlainInterest) → IsInterest text i
-        → (((first second : List ℕ) × Covered (AnInterest text i) first second) ↔ (IsSome i.signature × EndsInDigest i.name)) }
-    ensures data_ends { (text covered : List ℕ) (d : PlainData) → IsData text d → Covered (AData text d) covered []
-        → (after : List ℕ) × IsElement text 6 (covered ++ (element (23, d.signature.value) ++ after)) }
-    ensures interest_ends { (text first second : List ℕ) (i : PlainInterest) (s : PlainSignature) → IsInterest text i → i.signature ≡ Some s
-        → Covered (AnInterest text i) first second → EndsAtSignature i.name s.value text first second }
+        → (((first second : List ℕ) × Covered (AnInterest text i) first second)
+        ↔ (IsSome i.signature × EndsInDigest i.name)) }
+    ensures data_ends { (text covered : List ℕ) (d : PlainData) → IsData text d
+        → Covered (AData text d) covered []
+        → (after : List ℕ)
+        × IsElement text 6 (covered ++ (element (23, d.signature.value) ++ after)) }
+    ensures interest_ends { (text first second : List ℕ) (i : PlainInterest) (s : PlainSignature)
+        → IsInterest text i → i.signature ≡ Some s
+        → Covered (AnInterest text i) first second
+        → EndsAtSignature i.name s.value text first second }
 {}
 
 /// Law: what the signature of a packet covers has one reading.
 pub fn covered_octets_have_one_reading()
-    ensures { (packet : PlainFrame) (first second other_first other_second : List ℕ) → Covered packet first second → Covered packet other_first other_second
+    ensures { (packet : PlainFrame) (first second other_first other_second : List ℕ)
+        → Covered packet first second → Covered packet other_first other_second
         → (first ≡ other_first) × (second ≡ other_second) }
 {}

@@ -2,7 +2,7 @@ ghost use Rattle.std.specs.Prelude.{◌≡◌, [], ◌∷◌, Ok, Err};
 ghost use Rattle.ndn_tlv.specs.Reading.{elements_of, on_result};
 ghost use Rattle.ndn_packets.specs.Fields.{data_schema, is_even_high};
 ghost use Rattle.ndn_packets.specs.Reading.{read_fields, take_data_field, nothing_yet, fields_from};
-ghost use Rattle.ndn_packets.specs.Found.{so_far};
+ghost use Rattle.ndn_packets.specs.SoFar.{so_far};
 
 use crate::fault::PacketFault;
 use crate::field_reader::{FieldReader, leading_name};
@@ -26,7 +26,7 @@ pub struct Data<'a> {
     pub whole: &'a [u8],
 }
 
-/// The types of the fields of a Data behind its Name.
+/// The types of the fields of a Data after its Name.
 pub const META_INFO: u32 = 20;
 
 pub const CONTENT: u32 = 21;
@@ -39,7 +39,7 @@ const FIELDS: [u32; 4] = [META_INFO, CONTENT, SIGNATURE_INFO, SIGNATURE_VALUE];
 
 /// The fields of a Data that were read so far.
 #[derive(Clone, Copy)]
-struct Found<'a> {
+struct DataFields<'a> {
     freshness: u64,
     content: Option<&'a [u8]>,
     info: Option<SignatureInfo<'a>>,
@@ -73,13 +73,14 @@ impl<'a> Data<'a> {
     }
 }
 
-/// The fields behind the Name.
-fn fields_of(rest: &[u8]) -> Result<Found<'_>, PacketFault>
+/// The fields after the Name.
+fn fields_of(rest: &[u8]) -> Result<DataFields<'_>, PacketFault>
     ensures { on_result (λ f. Ok (so_far f)) Err result
-        ≡ read_fields take_data_field nothing_yet (fields_from is_even_high data_schema (elements_of rest.now)) }
+        ≡ read_fields take_data_field nothing_yet
+        (fields_from is_even_high data_schema (elements_of rest.now)) }
 {
     let mut fields = FieldReader::new(Rules::Packet, rest, &FIELDS);
-    let mut found = Found {
+    let mut found = DataFields {
         freshness: 0,
         content: None,
         info: None,

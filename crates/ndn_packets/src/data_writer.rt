@@ -51,11 +51,11 @@ impl DataWriter<'_> {
     ghost use Rattle.ndn_packets.specs.Fields.{optional};
     ghost use Rattle.ndn_packets.specs.Writing.{octets, data_fields, data_value, meta_fields, meta_asked, content_asked, data_text, data_asked, data_refusal, IsLength, IsU64, SoundData};
 
-    /// Appends the Data, its fields in the standard's order and in their shortest forms, and none that
-    /// is not asked for: without a FreshnessPeriod and a last segment there is no MetaInfo.
+    /// Appends the Data, its fields in the standard's order and in their shortest forms, and none
+    /// that is not asked for: without a FreshnessPeriod and a last segment there is no MetaInfo.
     ///
-    /// Refuses it by the first fault in the order of `WriteFault`, and then appends nothing; `BadName`
-    /// never comes.
+    /// Refuses it by the first fault in the order of `WriteFault`, and then appends nothing;
+    /// `BadName` never comes.
     pub fn write(&self, out: &mut Vec<u8>) -> Result<(), WriteFault>
         ensures ok { OnOk result (out.new.items ≡ out.old.items ++ data_text self.now) }
         ensures err { OnErr result (out.new.items ≡ out.old.items) }
@@ -64,12 +64,17 @@ impl DataWriter<'_> {
             (IfErr result (λ fault. fault ≡ WriteFault.Memory))
             (λ fault. result ≡ Err fault) }
         // Where there is room, memory is not refused.
-        ensures room { data_refusal self.now ≡ None → vec_len out.old + length (data_text self.now) ≤ vec_capacity out.old → IsOk result }
+        ensures room { data_refusal self.now ≡ None
+            → vec_len out.old + length (data_text self.now) ≤ vec_capacity out.old → IsOk result }
         ensures capacity { vec_capacity out.old ≤ vec_capacity out.new }
         // What is written is in the grammar, and is what was asked for.
-        ensures reads_back { data_refusal self.now ≡ None → IsData (data_text self.now) (data_asked self.now) }
+        ensures reads_back { data_refusal self.now ≡ None
+            → IsData (data_text self.now) (data_asked self.now) }
         // The signature is of the octets that it covers.
-        ensures signed { data_refusal self.now ≡ None → Covered (AData (data_text self.now) (data_asked self.now)) (octets (data_fields self.now.sign (components self.now.name) (meta_asked self.now) (content_asked self.now))) [] }
+        ensures signed { data_refusal self.now ≡ None
+            → Covered (AData (data_text self.now) (data_asked self.now))
+            (octets (data_fields self.now.sign (components self.now.name) (meta_asked self.now)
+            (content_asked self.now))) [] }
     {
         if self.packet_len() > MAX_PACKET {
             return Err(WriteFault::TooLong);
@@ -104,7 +109,9 @@ impl DataWriter<'_> {
 
     /// The length of what the signature covers. It stops at `usize::MAX`.
     fn covered_len(&self) -> usize
-        ensures len { IsLength result (octets (data_fields self.now.sign (components self.now.name) (meta_asked self.now) (content_asked self.now))) }
+        ensures len { IsLength result
+            (octets (data_fields self.now.sign (components self.now.name) (meta_asked self.now)
+            (content_asked self.now))) }
         // The proofs that what is written is a packet need this.
         ensures sound { SoundData self.now }
     {
@@ -116,7 +123,14 @@ impl DataWriter<'_> {
 
     /// The length of the packet's value. It stops at `usize::MAX`.
     fn value_len(&self) -> usize
-        ensures len { IsLength result (octets (data_fields self.now.sign (components self.now.name) (meta_asked self.now) (content_asked self.now) ++ (23, data_value self.now.sign (components self.now.name) (meta_asked self.now) (content_asked self.now)) ∷ [])) }
+        ensures len { IsLength result
+            (octets (data_fields self.now.sign (components self.now.name) (meta_asked self.now)
+            (content_asked self.now)
+            ++ (
+              23,
+              data_value self.now.sign (components self.now.name) (meta_asked self.now)
+                  (content_asked self.now),
+            ) ∷ [])) }
         // The proofs that what is written is a packet need this.
         ensures sound { SoundData self.now }
     {
@@ -136,9 +150,11 @@ impl DataWriter<'_> {
     #[tactic(auto, using(crate::proofs::DataWriting::meta_absent, crate::proofs::DataWriting::meta_put))]
     /// Appends the MetaInfo, where there is one, or some octets of it.
     fn put_meta(&self, out: &mut Vec<u8>) -> Result<(), Memory>
-        ensures ok { OnOk result (out.new.items ≡ out.old.items ++ octets (optional 20 (meta_asked self.now))) }
+        ensures ok { OnOk result
+            (out.new.items ≡ out.old.items ++ octets (optional 20 (meta_asked self.now))) }
         ensures begins { take (vec_len out.old) out.new.items ≡ out.old.items }
-        ensures room { vec_len out.old + length (octets (optional 20 (meta_asked self.now))) ≤ vec_capacity out.old → IsOk result }
+        ensures room { vec_len out.old + length (octets (optional 20 (meta_asked self.now)))
+            ≤ vec_capacity out.old → IsOk result }
         ensures capacity { vec_capacity out.old ≤ vec_capacity out.new }
     {
         let len = self.meta_len();
@@ -154,9 +170,15 @@ impl DataWriter<'_> {
     #[tactic(auto, using(crate::proofs::DataWriting::covered_put))]
     /// Appends what the signature covers, or some octets of it.
     fn put_covered(&self, out: &mut Vec<u8>) -> Result<(), Memory>
-        ensures ok { OnOk result (out.new.items ≡ out.old.items ++ octets (data_fields self.now.sign (components self.now.name) (meta_asked self.now) (content_asked self.now))) }
+        ensures ok { OnOk result
+            (out.new.items
+            ≡ out.old.items
+            ++ octets (data_fields self.now.sign (components self.now.name) (meta_asked self.now)
+            (content_asked self.now))) }
         ensures begins { take (vec_len out.old) out.new.items ≡ out.old.items }
-        ensures room { vec_len out.old + length (octets (data_fields self.now.sign (components self.now.name) (meta_asked self.now) (content_asked self.now))) ≤ vec_capacity out.old → IsOk result }
+        ensures room { vec_len out.old + length
+            (octets (data_fields self.now.sign (components self.now.name) (meta_asked self.now)
+            (content_asked self.now))) ≤ vec_capacity out.old → IsOk result }
         ensures capacity { vec_capacity out.old ≤ vec_capacity out.new }
     {
         put_element(out, NAME, self.name.as_octets())?;
@@ -166,12 +188,13 @@ impl DataWriter<'_> {
         Ok(())
     }
 
-    /// Appends the Data, or some octets of it. Its length is reserved first: where it is greater than
-    /// any memory has, that is refused.
+    /// Appends the Data, or some octets of it. Its length is reserved first: where it is greater
+    /// than any memory has, that is refused.
     fn put_parts(&self, out: &mut Vec<u8>) -> Result<(), Memory>
         ensures ok { OnOk result (out.new.items ≡ out.old.items ++ data_text self.now) }
         ensures begins { take (vec_len out.old) out.new.items ≡ out.old.items }
-        ensures room { vec_len out.old + length (data_text self.now) ≤ vec_capacity out.old → IsOk result }
+        ensures room { vec_len out.old + length (data_text self.now) ≤ vec_capacity out.old
+            → IsOk result }
         ensures capacity { vec_capacity out.old ≤ vec_capacity out.new }
         // The proofs that what is written is a packet need this.
         ensures sound { SoundData self.now }
@@ -189,7 +212,8 @@ impl DataWriter<'_> {
     fn put(&self, out: &mut Vec<u8>) -> Result<(), Memory>
         ensures ok { OnOk result (out.new.items ≡ out.old.items ++ data_text self.now) }
         ensures err { OnErr result (out.new.items ≡ out.old.items) }
-        ensures room { vec_len out.old + length (data_text self.now) ≤ vec_capacity out.old → IsOk result }
+        ensures room { vec_len out.old + length (data_text self.now) ≤ vec_capacity out.old
+            → IsOk result }
         ensures capacity { vec_capacity out.old ≤ vec_capacity out.new }
         // The proofs that what is written is a packet need this.
         ensures sound { SoundData self.now }
@@ -206,7 +230,8 @@ impl DataWriter<'_> {
 #[tactic(auto, using(crate::proofs::DataWriting::last_is_short, crate::proofs::DataWriting::last_is_long))]
 /// The length of a FinalBlockId, 0 where there is none.
 fn last_len(last: Option<u64>) -> usize
-    ensures exact { result ≡ length (octets (optional 26 (option_map (λ n. element (50, shortest_nni n)) last))) }
+    ensures exact { result
+        ≡ length (octets (optional 26 (option_map (λ n. element (50, shortest_nni n)) last))) }
     ensures small { result ≤ 44 }
     ensures sound { IsU64 last }
 {
@@ -218,9 +243,14 @@ fn last_len(last: Option<u64>) -> usize
 
 /// Appends a FinalBlockId, where there is one, or some octets of it.
 fn put_last(out: &mut Vec<u8>, last: Option<u64>) -> Result<(), Memory>
-    ensures ok { OnOk result (out.new.items ≡ out.old.items ++ octets (optional 26 (option_map (λ n. element (50, shortest_nni n)) last))) }
+    ensures ok { OnOk result
+        (out.new.items
+        ≡ out.old.items
+        ++ octets (optional 26 (option_map (λ n. element (50, shortest_nni n)) last))) }
     ensures begins { take (vec_len out.old) out.new.items ≡ out.old.items }
-    ensures room { vec_len out.old + length (octets (optional 26 (option_map (λ n. element (50, shortest_nni n)) last))) ≤ vec_capacity out.old → IsOk result }
+    ensures room { vec_len out.old + length
+        (octets (optional 26 (option_map (λ n. element (50, shortest_nni n)) last)))
+        ≤ vec_capacity out.old → IsOk result }
     ensures capacity { vec_capacity out.old ≤ vec_capacity out.new }
 {
     if let Some(last) = last {
@@ -230,20 +260,24 @@ fn put_last(out: &mut Vec<u8>, last: Option<u64>) -> Result<(), Memory>
     Ok(())
 }
 
-/// Appends a Data of a name and a Content, without MetaInfo, signed with DigestSha256, of any length.
-/// Where memory is refused, nothing is appended.
+/// Appends a Data of a name and a Content, without MetaInfo, signed with DigestSha256, of any
+/// length. Where memory is refused, nothing is appended.
 pub fn put_reply(out: &mut Vec<u8>, name: Name<'_>, content: &[u8]) -> Result<(), Memory>
-    ensures ok { OnOk result (out.new.items ≡ out.old.items ++ reply_text (components name.entry) content.now) }
+    ensures ok { OnOk result
+        (out.new.items ≡ out.old.items ++ reply_text (components name.entry) content.now) }
     ensures err { OnErr result (out.new.items ≡ out.old.items) }
     // Where there is room, memory is not refused.
-    ensures room { vec_len out.old + length (reply_text (components name.entry) content.now) ≤ vec_capacity out.old → IsOk result }
+    ensures room { vec_len out.old + length (reply_text (components name.entry) content.now)
+        ≤ vec_capacity out.old → IsOk result }
     ensures capacity { vec_capacity out.old ≤ vec_capacity out.new }
     // What is written is in the grammar, where it is no longer than a packet may be.
     ensures reads_back { length (reply_text (components name.entry) content.now) ≤ 8800
-        → IsData (reply_text (components name.entry) content.now) (reply_asked (components name.entry) content.now) }
+        → IsData (reply_text (components name.entry) content.now)
+        (reply_asked (components name.entry) content.now) }
     // The signature is of the octets that it covers.
     ensures signed { length (reply_text (components name.entry) content.now) ≤ 8800
-        → Covered (AData (reply_text (components name.entry) content.now) (reply_asked (components name.entry) content.now))
+        → Covered (AData (reply_text (components name.entry) content.now)
+        (reply_asked (components name.entry) content.now))
         (octets (data_fields sign.Digest (components name.entry) None (Some content.now))) [] }
 {
     reply(name, content).put(out)
@@ -251,7 +285,13 @@ pub fn put_reply(out: &mut Vec<u8>, name: Name<'_>, content: &[u8]) -> Result<()
 
 /// A Data of a name and a Content, without MetaInfo, signed with DigestSha256.
 fn reply<'a>(name: Name<'a>, content: &'a [u8]) -> DataWriter<'a>
-    ensures { result ≡ record { name = name.entry; freshness = None; last = None; content = Some content.entry; sign = sign.Digest } }
+    ensures { result ≡ record {
+      name = name.entry;
+      freshness = None;
+      last = None;
+      content = Some content.entry;
+      sign = sign.Digest;
+    } }
 {
     DataWriter {
         name,

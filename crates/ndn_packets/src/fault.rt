@@ -5,13 +5,13 @@ use thiserror::Error;
 /// "Interest Packet" and "Data Packet"; NDNLPv2, "Packet Format").
 ///
 /// The order is: `TooLong` above 9,000 octets, the outer element, octets after it, its type,
-/// `TooLong` above 8,800 octets, the Name, the elements behind it one after the other, then a field
-/// that is missing, and last the digest of an Interest's parameters. Of an element `Tlv` is told first
-/// (never `BadInteger`), then `CriticalUnknown`, then the fault of its value; a MetaInfo, a
-/// SignatureInfo and an InterestSignatureInfo tell the faults of their own elements in this order, and
-/// the last two then a missing SignatureType. Of a header field of a link packet `Tlv` is told first,
-/// then `LpField`, then the fault of its value; a Nack tells those of its own elements, and a Fragment
-/// those of the packet in it, from the outer element on.
+/// `TooLong` above 8,800 octets, the Name, the elements after it one after the other, then a field
+/// that is missing, and last the digest of an Interest's parameters. Of an element `Tlv` is
+/// reported first (never `BadInteger`), then `CriticalUnknown`, then the fault of its value; a
+/// MetaInfo, a SignatureInfo and an InterestSignatureInfo report the faults of their own elements
+/// in this order, and the last two then a missing SignatureType. Of a header field of a link packet
+/// `Tlv` is reported first, then `LpField`, then the fault of its value; a Nack reports those of
+/// its own elements, and a Fragment those of the packet in it, from the outer element on.
 #[derive(Clone, Copy, Debug, PartialEq, Eq, Error)]
 pub enum PacketFault {
     /// An element cannot be read, one that this profile does not have among them.
@@ -20,15 +20,15 @@ pub enum PacketFault {
     /// A packet does not begin with a Name, or an Interest's Name is empty.
     #[error("no name")]
     NoName,
-    /// An element is no field, or no longer, and its type is odd or below 32; but the types 128 to 252
-    /// in a MetaInfo, and 253 in a SignatureInfo, are ignored.
+    /// An element is no field, or no longer, and its type is odd or below 32; but the types 128 to
+    /// 252 in a MetaInfo, and 253 in a SignatureInfo, are ignored.
     #[error("an unknown element that may not be ignored")]
     CriticalUnknown,
     /// A field other than the Name and the Nonce is missing, or a field has a value that is not of
-    /// its form; or the outer type is none of 5, 6 and 100, or octets follow the outer element; or a
-    /// Fragment holds something else than one packet, or beside a Nack than one Interest, or a Nack
-    /// has no Fragment.
-    #[error("a field is missing, or not of its form")]
+    /// its form; or the outer type is none of 5, 6 and 100, or octets follow the outer element; or
+    /// a Fragment holds something else than one packet, or beside a Nack than one Interest, or a
+    /// Nack has no Fragment.
+    #[error("a field is missing or malformed")]
     BadField,
     /// An Interest has no Nonce.
     #[error("no nonce")]
@@ -43,12 +43,13 @@ pub enum PacketFault {
     /// An Interest without ApplicationParameters has a digest of them in its name.
     #[error("a parameters digest without parameters")]
     DigestWithout,
-    /// A link packet is one of several fragments: its FragIndex is above 0, or its FragCount above 1.
+    /// A link packet is one of several fragments: its FragIndex is above 0, or its FragCount above
+    /// 1.
     #[error("a fragment of a packet")]
     Fragmented,
-    /// A link packet has a header field twice that this profile knows, an element behind its Fragment, a
-    /// PitToken that is not of 1 to 32 octets, or a header field that this profile does not know and
-    /// whose type is not from 800 to 959 and divisible by 4.
+    /// A link packet has a header field twice that this profile knows, an element after its
+    /// Fragment, a PitToken that is not of 1 to 32 octets, or a header field that this profile does
+    /// not know and whose type is not from 800 to 959 and divisible by 4.
     #[error("a header field that a link packet may not have")]
     LpField,
     /// The octets are more than 9,000, or those of a packet more than 8,800.
@@ -60,8 +61,8 @@ impl PacketFault {
     ghost use Rattle.std.specs.Prelude.{◌≡◌};
     ghost use Rattle.ndn_packets.specs.FaultName.{packet_name};
 
-    /// The name of the fault, as scripts and the client print it: a `Tlv` has the name of its own fault
-    /// behind it.
+    /// The name of the fault, as scripts and the client print it: a `Tlv` has the name of its own
+    /// fault after it.
     pub fn name(self) -> &'static str
         ensures { result.now ≡ packet_name self }
     {
@@ -85,16 +86,17 @@ impl PacketFault {
     }
 }
 
-/// Why a packet is not written. Of several faults the first in this order is told.
+/// Why a packet is not written. Of several faults the first in this order is reported.
 #[derive(Clone, Copy, Debug, PartialEq, Eq, Error)]
 pub enum WriteFault {
-    /// The name of an Interest is empty, or has a digest of parameters, which only the writer knows.
-    #[error("a name that no Interest may be written with")]
+    /// The name of an Interest is empty, or has a digest of parameters, which only the writer
+    /// knows.
+    #[error("no Interest can be written with this name")]
     BadName,
     /// The name would have more than 64 components, or the packet more than 8,800 octets.
     #[error("too long")]
     TooLong,
-    /// A growth of memory was refused.
+    /// Memory could not be allocated.
     #[error("out of memory")]
     Memory,
 }

@@ -5,7 +5,7 @@ ghost use Rattle.ndn_packets.specs.Reading.{schema_after, fields_from, leading_n
 ghost use Rattle.ndn_packets.specs.FieldReader.{ignored_by, fields_left, StandsHere};
 
 use crate::fault::PacketFault;
-use crate::schema::{Rules, is_follower};
+use crate::schema::{Rules, needs_previous_field};
 use ndn_names::Name;
 use ndn_tlv::{Element, first_element, nni_of};
 
@@ -24,7 +24,8 @@ pub struct FieldReader<'a> {
 
 impl<'a> FieldReader<'a> {
     pub fn new(rules: Rules, value: &'a [u8], schema: &'a [u32]) -> FieldReader<'a>
-        ensures fields { fields_left result ≡ fields_from (ignored_by rules) schema.entry.now (elements_of value.entry.now) }
+        ensures fields { fields_left result
+            ≡ fields_from (ignored_by rules) schema.entry.now (elements_of value.entry.now) }
         ensures schema { result.schema.now ≡ schema.entry.now }
         ensures rest { result.rest.now ≡ value.entry.now }
     {
@@ -44,13 +45,14 @@ impl<'a> FieldReader<'a> {
             (λ e. fields_left self.old ≡ Ok (e.kind, e.value.now) ∷ fields_left self.new))
             (λ fault. fields_left self.old ≡ Err fault ∷ []) }
         ensures place { IfOk result (λ next. IfSome next (λ e. StandsHere self.old self.new e)) }
-        ensures progress { IfOk result (λ next. OnSome next (length self.new.rest.now < length self.old.rest.now)) }
+        ensures progress { IfOk result
+            (λ next. OnSome next (length self.new.rest.now < length self.old.rest.now)) }
     {
         while !self.rest.is_empty() {
             let (element, rest) = first_element(self.rest).map_err(PacketFault::Tlv)?;
             self.here = self.rest;
             self.rest = rest;
-            if let Some(schema) = behind(self.schema, element.kind) {
+            if let Some(schema) = rest_of_schema(self.schema, element.kind) {
                 self.schema = schema;
                 return Ok(Some(element));
             }
@@ -62,15 +64,15 @@ impl<'a> FieldReader<'a> {
     }
 }
 
-/// What of a schema stands behind a type that counts in it.
-fn behind(schema: &[u32], kind: u32) -> Option<&[u32]>
+/// What of a schema stands after a type that counts in it.
+fn rest_of_schema(schema: &[u32], kind: u32) -> Option<&[u32]>
     ensures { option_map (λ s. s.now) result ≡ schema_after kind schema.now }
 {
     for (i, first) in schema.iter().enumerate() {
         if *first == kind {
             return Some(&schema[i + 1..]);
         }
-        if is_follower(kind) {
+        if needs_previous_field(kind) {
             return None;
         }
     }

@@ -43,14 +43,14 @@ pub const DATA: u32 = 6;
 pub const LINK_PACKET: u32 = 100;
 
 /// Reads octets of a link (NDN Packet Format 0.3, "Interest Packet" and "Data Packet"; NDNLPv2,
-/// "Packet Format"): one Interest or one Data of this profile, or a link packet around one. Fields stand
-/// in the order of the standard, and other elements among them are ignored where their types allow it.
-/// The digest of an Interest's ApplicationParameters has to be right. The octets are at most 9,000, and
-/// those of a packet at most 8,800. A packet's received octets are its own element, without the link
-/// packet's.
+/// "Packet Format"): one Interest or one Data of this profile, or a link packet around one. Fields
+/// stand in the order of the standard, and other elements among them are ignored where their types
+/// allow it. The digest of an Interest's ApplicationParameters has to be right. The octets are at
+/// most 9,000, and those of a packet at most 8,800. A packet's received octets are its own element,
+/// without the link packet's.
 ///
-/// Refuses all else by the first fault from the left: see `PacketFault`. No signature is verified, and
-/// a PitToken is read and dropped.
+/// Refuses all else by the first fault from the left: see `PacketFault`. No signature is verified,
+/// and a PitToken is read and dropped.
 pub fn read_frame(octets: &[u8]) -> Result<Frame<'_>, PacketFault>
     // What is read is in the grammar.
     ensures found { IfOk result (λ frame. IsFrame octets.now (plain_frame frame)) }
@@ -91,7 +91,8 @@ pub(crate) fn only_element(octets: &[u8]) -> Result<Element<'_>, PacketFault>
 
 /// The Interest or the Data that the octets are, whose element this is.
 pub(crate) fn packet_of<'a>(octets: &'a [u8], outer: Element<'a>) -> Result<Frame<'a>, PacketFault>
-    ensures { on_result (λ f. Ok (plain_frame f)) Err result ≡ packet_of octets.entry.now (outer.entry.kind, outer.entry.value.now) }
+    ensures { on_result (λ f. Ok (plain_frame f)) Err result
+        ≡ packet_of octets.entry.now (outer.entry.kind, outer.entry.value.now) }
 {
     match outer.kind {
         INTEREST => Ok(Frame::Interest(interest_of(octets, outer.value)?)),
@@ -106,7 +107,8 @@ pub(crate) fn nacked_of<'a>(
     octets: &'a [u8],
     outer: Element<'a>,
 ) -> Result<Frame<'a>, PacketFault>
-    ensures { on_result (λ f. Ok (plain_frame f)) Err result ≡ nacked_of reason octets.entry.now (outer.entry.kind, outer.entry.value.now) }
+    ensures { on_result (λ f. Ok (plain_frame f)) Err result
+        ≡ nacked_of reason octets.entry.now (outer.entry.kind, outer.entry.value.now) }
 {
     if outer.kind != INTEREST {
         return Err(PacketFault::BadField);
@@ -117,7 +119,8 @@ pub(crate) fn nacked_of<'a>(
 
 /// The Interest that the octets are, whose value this is.
 fn interest_of<'a>(octets: &'a [u8], value: &'a [u8]) -> Result<Interest<'a>, PacketFault>
-    ensures exact { on_result (λ i. Ok (plain_interest i)) Err result ≡ interest_of octets.entry.now value.entry.now }
+    ensures exact { on_result (λ i. Ok (plain_interest i)) Err result
+        ≡ interest_of octets.entry.now value.entry.now }
     ensures whole { IfOk result (λ i. i.whole.now ≡ octets.entry.now) }
 {
     if octets.len() > MAX_PACKET {
@@ -128,7 +131,8 @@ fn interest_of<'a>(octets: &'a [u8], value: &'a [u8]) -> Result<Interest<'a>, Pa
 
 /// The Data that the octets are, whose value this is.
 fn data_of<'a>(octets: &'a [u8], value: &'a [u8]) -> Result<Data<'a>, PacketFault>
-    ensures exact { on_result (λ d. Ok (plain_data d)) Err result ≡ data_of octets.entry.now value.entry.now }
+    ensures exact { on_result (λ d. Ok (plain_data d)) Err result
+        ≡ data_of octets.entry.now value.entry.now }
     ensures whole { IfOk result (λ d. d.whole.now ≡ octets.entry.now) }
 {
     if octets.len() > MAX_PACKET {

@@ -19,7 +19,8 @@ pub fn hop_limit_mut(octets: &mut [u8]) -> Option<&mut u8>
     ensures found { IfSome result (λ limit. HasHopLimit octets.entry.now limit.now) }
     ensures only { (limit : ℕ) → HasHopLimit octets.entry.now limit → IsSome result }
     // Whatever is written there, the octets are still that Interest, with that HopLimit.
-    ensures still { (i : PlainInterest) (old limit : ℕ) → limit < 256 → IsInterest octets.entry.now i → i.hop_limit ≡ Some old
+    ensures still { (i : PlainInterest) (old limit : ℕ) → limit < 256
+        → IsInterest octets.entry.now i → i.hop_limit ≡ Some old
         → IsInterest (with_octet octets.entry.now limit) (with_limit i limit) }
 {
     let place = hop_place(octets);
@@ -48,7 +49,7 @@ fn hop_place(octets: &[u8]) -> usize
     };
     match from_first(outer.value, HOP_LIMIT) {
         None => end,
-        // Behind the type and the length, one octet each.
+        // After the type and the length, one octet each.
         Some(from) => end - from.len() + 2,
     }
 }

@@ -6,7 +6,7 @@ ghost use Rattle.ndn_names.specs.View.{components};
 ghost use Rattle.sha2.specs.Sha256.{sha256};
 ghost use Rattle.ndn_packets.specs.Packet.{digests_in, plain_signature};
 ghost use Rattle.ndn_packets.specs.Reading.{read_fields, take_interest_field, no_fields_yet, fields_from, octet_at, is_nil, parameters_on, octets_of_read, digest_fault, signature_of};
-ghost use Rattle.ndn_packets.specs.Found.{AreDigests, plain_info, interest_so_far};
+ghost use Rattle.ndn_packets.specs.SoFar.{AreDigests, plain_info, interest_so_far};
 
 use crate::fault::PacketFault;
 use crate::field_reader::{FieldReader, leading_name, number};
@@ -39,7 +39,7 @@ pub struct Interest<'a> {
     pub whole: &'a [u8],
 }
 
-/// The types of the fields of an Interest behind its Name.
+/// The types of the fields of an Interest after its Name.
 pub const CAN_BE_PREFIX: u32 = 33;
 
 pub const MUST_BE_FRESH: u32 = 18;
@@ -74,7 +74,7 @@ pub const PARAMETERS_SHA256_DIGEST: u16 = 2;
 
 /// The fields of an Interest that were read so far.
 #[derive(Clone, Copy)]
-struct Found<'a> {
+struct InterestFields<'a> {
     can_be_prefix: bool,
     must_be_fresh: bool,
     nonce: Option<[u8; 4]>,
@@ -87,19 +87,20 @@ struct Found<'a> {
     value: Option<&'a [u8]>,
 }
 
-impl<'a> Found<'a> {
+impl<'a> InterestFields<'a> {
     ghost use Rattle.std.specs.Prelude.{◌≡◌, ℕ, ◌<◌, slice_index};
     ghost use Rattle.ndn_packets.specs.Reading.{with_parameters};
-    ghost use Rattle.ndn_packets.specs.Found.{interest_so_far};
+    ghost use Rattle.ndn_packets.specs.SoFar.{interest_so_far};
 
     /// With the ApplicationParameters and the octets from these on.
-    fn with_parameters(self, value: &'a [u8], here: &'a [u8]) -> Found<'a>
-        ensures read { interest_so_far result ≡ with_parameters (interest_so_far self.entry) value.entry.now }
+    fn with_parameters(self, value: &'a [u8], here: &'a [u8]) -> InterestFields<'a>
+        ensures read { interest_so_far result
+            ≡ with_parameters (interest_so_far self.entry) value.entry.now }
         ensures here { result.from_parameters.now ≡ here.entry.now }
         // The proof of `fields_of` needs that octets are below 256.
         ensures octets { (i : ℕ) → slice_index here.entry.now i < 256 }
     {
-        Found {
+        InterestFields {
             parameters: Some(value),
             from_parameters: here,
             ..self
@@ -175,7 +176,9 @@ fn digest_fault(
     parameters: Option<&[u8]>,
     from_parameters: &[u8],
 ) -> Option<PacketFault>
-    ensures { result ≡ digest_fault (option_map (λ p. p.now) parameters.entry) (digests_in (components name.entry)) (sha256 from_parameters.now) }
+    ensures { result
+        ≡ digest_fault (option_map (λ p. p.now) parameters.entry)
+        (digests_in (components name.entry)) (sha256 from_parameters.now) }
 {
     match (parameters, digests_of(name)) {
         (None, Digests::None) => None,
@@ -194,7 +197,8 @@ fn signature_of<'a>(
     info: Option<SignatureInfo<'a>>,
     value: Option<&'a [u8]>,
 ) -> Option<Signature<'a>>
-    ensures { option_map plain_signature result ≡ signature_of (option_map plain_info info.entry) (option_map (λ v. v.now) value.entry) }
+    ensures { option_map plain_signature result
+        ≡ signature_of (option_map plain_info info.entry) (option_map (λ v. v.now) value.entry) }
 {
     let (Some(info), Some(value)) = (info, value) else {
         return None;
@@ -203,14 +207,17 @@ fn signature_of<'a>(
 }
 
 #[tactic(auto, using(crate::proofs::Parameters::stand_first, crate::proofs::Parameters::stand_still, crate::proofs::Parameters::stand_there))]
-/// The fields behind the Name.
-fn fields_of(rest: &[u8]) -> Result<Found<'_>, PacketFault>
+/// The fields after the Name.
+fn fields_of(rest: &[u8]) -> Result<InterestFields<'_>, PacketFault>
     ensures walk { on_result (λ f. Ok (interest_so_far f)) Err result
-        ≡ read_fields take_interest_field no_fields_yet (fields_from is_even_high interest_schema (elements_of rest.now)) }
-    ensures parameters { IfOk result (λ f. OnSome f.parameters (f.from_parameters.now ≡ octets_of_read (parameters_on (elements_of rest.now)))) }
+        ≡ read_fields take_interest_field no_fields_yet
+        (fields_from is_even_high interest_schema (elements_of rest.now)) }
+    ensures parameters { IfOk result
+        (λ f. OnSome f.parameters
+        (f.from_parameters.now ≡ octets_of_read (parameters_on (elements_of rest.now)))) }
 {
     let mut fields = FieldReader::new(Rules::Packet, rest, &FIELDS);
-    let mut found = Found {
+    let mut found = InterestFields {
         can_be_prefix: false,
         must_be_fresh: false,
         nonce: None,

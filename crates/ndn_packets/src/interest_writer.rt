@@ -25,7 +25,7 @@ use sha2::{Digest, Sha256};
 /// An Interest to write (NDN Packet Format 0.3, "Interest Packet").
 #[derive(Clone, Copy, Debug)]
 pub struct InterestWriter<'a> {
-    /// The name, without the digest of parameters, which is put behind it where there are some.
+    /// The name, without the digest of parameters, which is put after it where there are some.
     pub name: Name<'a>,
     pub can_be_prefix: bool,
     pub must_be_fresh: bool,
@@ -57,8 +57,8 @@ impl InterestWriter<'_> {
     ghost use Rattle.ndn_tlv.specs.Element.{element};
 
     #[tactic(auto, using(crate::proofs::WrittenInterests::interest_reads_back))]
-    /// Appends the Interest, its fields in the standard's order and in their shortest forms, and none
-    /// that is not asked for.
+    /// Appends the Interest, its fields in the standard's order and in their shortest forms, and
+    /// none that is not asked for.
     ///
     /// Refuses it by the first fault in the order of `WriteFault`, and then appends nothing.
     pub fn write(&self, out: &mut Vec<u8>) -> Result<(), WriteFault>
@@ -69,12 +69,18 @@ impl InterestWriter<'_> {
             (IfErr result (λ fault. fault ≡ WriteFault.Memory))
             (λ fault. result ≡ Err fault) }
         // Where there is room, memory is not refused.
-        ensures room { interest_refusal self.now ≡ None → vec_len out.old + length (interest_text self.now) ≤ vec_capacity out.old → IsOk result }
+        ensures room { interest_refusal self.now ≡ None
+            → vec_len out.old + length (interest_text self.now) ≤ vec_capacity out.old
+            → IsOk result }
         ensures capacity { vec_capacity out.old ≤ vec_capacity out.new }
         // What is written is in the grammar, and is what was asked for.
-        ensures reads_back { interest_refusal self.now ≡ None → IsInterest (interest_text self.now) (interest_asked self.now) }
+        ensures reads_back { interest_refusal self.now ≡ None
+            → IsInterest (interest_text self.now) (interest_asked self.now) }
         // A signature is of the octets that it covers.
-        ensures signed { interest_refusal self.now ≡ None → IfSome self.now.sign (λ signed. Covered (AnInterest (interest_text self.now) (interest_asked self.now)) (octets (components self.now.name)) (octets (covered_fields self.now signed))) }
+        ensures signed { interest_refusal self.now ≡ None
+            → IfSome self.now.sign
+            (λ signed. Covered (AnInterest (interest_text self.now) (interest_asked self.now))
+            (octets (components self.now.name)) (octets (covered_fields self.now signed))) }
     {
         if let Some(fault) = self.refusal() {
             return Err(fault);
@@ -129,7 +135,8 @@ impl InterestWriter<'_> {
         }
     }
 
-    /// The length of the fields between the name and the ApplicationParameters. It stops at `usize::MAX`.
+    /// The length of the fields between the name and the ApplicationParameters. It stops at
+    /// `usize::MAX`.
     fn early_len(&self) -> usize
         ensures len { IsLength result (octets (early_fields self.now)) }
         ensures nonce { AreOctets self.now.nonce }
@@ -175,7 +182,9 @@ impl InterestWriter<'_> {
 
     /// The length of the packet's value. It stops at `usize::MAX`.
     fn value_len(&self) -> usize
-        ensures len { IsLength result (octets ((7, octets (interest_name self.now)) ∷ (early_fields self.now ++ later_fields self.now self.now.sign))) }
+        ensures len { IsLength result
+            (octets ((7, octets (interest_name self.now))
+            ∷ (early_fields self.now ++ later_fields self.now self.now.sign))) }
         // The proofs that what is written is a packet need this.
         ensures sound { SoundInterest self.now }
     {
@@ -195,9 +204,11 @@ impl InterestWriter<'_> {
 
     /// Appends the fields from the ApplicationParameters on, or some octets of them.
     fn put_later(&self, out: &mut Vec<u8>) -> Result<(), Memory>
-        ensures ok { OnOk result (out.new.items ≡ out.old.items ++ octets (later_fields self.now self.now.sign)) }
+        ensures ok { OnOk result
+            (out.new.items ≡ out.old.items ++ octets (later_fields self.now self.now.sign)) }
         ensures begins { take (vec_len out.old) out.new.items ≡ out.old.items }
-        ensures room { vec_len out.old + length (octets (later_fields self.now self.now.sign)) ≤ vec_capacity out.old → IsOk result }
+        ensures room { vec_len out.old + length (octets (later_fields self.now self.now.sign))
+            ≤ vec_capacity out.old → IsOk result }
         ensures capacity { vec_capacity out.old ≤ vec_capacity out.new }
     {
         match self.sign {
@@ -211,11 +222,13 @@ impl InterestWriter<'_> {
         }
     }
 
-    /// Appends what the signature covers behind the name's components, or some octets of it.
+    /// Appends what the signature covers after the name's components, or some octets of it.
     fn put_covered(&self, out: &mut Vec<u8>, sign: Sign<'_>) -> Result<(), Memory>
-        ensures ok { OnOk result (out.new.items ≡ out.old.items ++ octets (covered_fields self.now sign.entry)) }
+        ensures ok { OnOk result
+            (out.new.items ≡ out.old.items ++ octets (covered_fields self.now sign.entry)) }
         ensures begins { take (vec_len out.old) out.new.items ≡ out.old.items }
-        ensures room { vec_len out.old + length (octets (covered_fields self.now sign.entry)) ≤ vec_capacity out.old → IsOk result }
+        ensures room { vec_len out.old + length (octets (covered_fields self.now sign.entry))
+            ≤ vec_capacity out.old → IsOk result }
         ensures capacity { vec_capacity out.old ≤ vec_capacity out.new }
     {
         put_element(out, APPLICATION_PARAMETERS, self.parameter_octets())?;
@@ -230,13 +243,15 @@ impl InterestWriter<'_> {
         sign.value(self.name.as_octets(), covered)
     }
 
-    /// Appends the name's element, or some octets of it. Where a digest of parameters stands in it, that
-    /// is zeros yet.
+    /// Appends the name's element, or some octets of it. Where a digest of parameters stands in it,
+    /// that is zeros yet.
     fn put_name(&self, out: &mut Vec<u8>) -> Result<(), Memory>
         requires short { length (octets (interest_name self.now)) ≤ 8800 }
-        ensures ok { OnOk result (out.new.items ≡ out.old.items ++ element (7, octets (zeroed_name self.now))) }
+        ensures ok { OnOk result
+            (out.new.items ≡ out.old.items ++ element (7, octets (zeroed_name self.now))) }
         ensures begins { take (vec_len out.old) out.new.items ≡ out.old.items }
-        ensures room { vec_len out.old + length (element (7, octets (zeroed_name self.now))) ≤ vec_capacity out.old → IsOk result }
+        ensures room { vec_len out.old + length (element (7, octets (zeroed_name self.now)))
+            ≤ vec_capacity out.old → IsOk result }
         ensures capacity { vec_capacity out.old ≤ vec_capacity out.new }
     {
         put_header(out, NAME, self.name_len())?;
@@ -251,7 +266,8 @@ impl InterestWriter<'_> {
     fn put_early(&self, out: &mut Vec<u8>) -> Result<(), Memory>
         ensures ok { OnOk result (out.new.items ≡ out.old.items ++ octets (early_fields self.now)) }
         ensures begins { take (vec_len out.old) out.new.items ≡ out.old.items }
-        ensures room { vec_len out.old + length (octets (early_fields self.now)) ≤ vec_capacity out.old → IsOk result }
+        ensures room { vec_len out.old + length (octets (early_fields self.now))
+            ≤ vec_capacity out.old → IsOk result }
         ensures capacity { vec_capacity out.old ≤ vec_capacity out.new }
     {
         put_flag(out, CAN_BE_PREFIX, self.can_be_prefix)?;
@@ -265,9 +281,16 @@ impl InterestWriter<'_> {
     /// Appends the fields of the Interest, or some octets of them.
     fn put_fields(&self, out: &mut Vec<u8>) -> Result<(), Memory>
         requires short { length (octets (interest_name self.now)) ≤ 8800 }
-        ensures ok { OnOk result (out.new.items ≡ out.old.items ++ octets ((7, octets (interest_name self.now)) ∷ (early_fields self.now ++ later_fields self.now self.now.sign))) }
+        ensures ok { OnOk result
+            (out.new.items
+            ≡ out.old.items
+            ++ octets ((7, octets (interest_name self.now))
+            ∷ (early_fields self.now ++ later_fields self.now self.now.sign))) }
         ensures begins { take (vec_len out.old) out.new.items ≡ out.old.items }
-        ensures room { vec_len out.old + length (octets ((7, octets (interest_name self.now)) ∷ (early_fields self.now ++ later_fields self.now self.now.sign))) ≤ vec_capacity out.old → IsOk result }
+        ensures room { vec_len out.old + length
+            (octets ((7, octets (interest_name self.now))
+            ∷ (early_fields self.now ++ later_fields self.now self.now.sign)))
+            ≤ vec_capacity out.old → IsOk result }
         ensures capacity { vec_capacity out.old ≤ vec_capacity out.new }
     {
         self.put_name(out)?;
@@ -286,7 +309,8 @@ impl InterestWriter<'_> {
         requires short { length (interest_text self.now) ≤ 8800 }
         ensures ok { OnOk result (out.new.items ≡ out.old.items ++ interest_text self.now) }
         ensures begins { take (vec_len out.old) out.new.items ≡ out.old.items }
-        ensures room { vec_len out.old + length (interest_text self.now) ≤ vec_capacity out.old → IsOk result }
+        ensures room { vec_len out.old + length (interest_text self.now) ≤ vec_capacity out.old
+            → IsOk result }
         ensures capacity { vec_capacity out.old ≤ vec_capacity out.new }
     {
         out.reserve(self.packet_len())?;
@@ -300,7 +324,9 @@ fn put_digest(octets: &mut [u8], digest_end: usize, start: usize)
     requires after { 32 ≤ digest_end }
     requires before { digest_end ≤ start }
     requires inside { start ≤ length octets.old }
-    ensures { octets.new ≡ take (digest_end - 32) octets.old ++ (sha256 (drop start octets.old) ++ drop digest_end octets.old) }
+    ensures { octets.new
+        ≡ take (digest_end - 32) octets.old
+        ++ (sha256 (drop start octets.old) ++ drop digest_end octets.old) }
 {
     let digest = Sha256::digest(&octets[start..]);
     overwrite(octets, digest_end - DIGEST_LEN, &digest);
@@ -334,9 +360,12 @@ fn octet_field_len(kind: u32, octet: Option<u8>) -> usize
 /// Appends an octet's field, where it is there, or some octets of it.
 fn put_octet_field(out: &mut Vec<u8>, kind: u32, octet: Option<u8>) -> Result<(), Memory>
     requires { 1 ≤ kind }
-    ensures ok { OnOk result (out.new.items ≡ out.old.items ++ octets (optional kind (option_map (λ n. n ∷ []) octet))) }
+    ensures ok { OnOk result
+        (out.new.items ≡ out.old.items ++ octets (optional kind (option_map (λ n. n ∷ []) octet))) }
     ensures begins { take (vec_len out.old) out.new.items ≡ out.old.items }
-    ensures room { vec_len out.old + length (octets (optional kind (option_map (λ n. n ∷ []) octet))) ≤ vec_capacity out.old → IsOk result }
+    ensures room { vec_len out.old + length
+        (octets (optional kind (option_map (λ n. n ∷ []) octet))) ≤ vec_capacity out.old
+        → IsOk result }
     ensures capacity { vec_capacity out.old ≤ vec_capacity out.new }
 {
     match octet {
@@ -350,7 +379,8 @@ fn put_flag(out: &mut Vec<u8>, kind: u32, set: bool) -> Result<(), Memory>
     requires { 1 ≤ kind }
     ensures ok { OnOk result (out.new.items ≡ out.old.items ++ octets (flag kind set)) }
     ensures begins { take (vec_len out.old) out.new.items ≡ out.old.items }
-    ensures room { vec_len out.old + length (octets (flag kind set)) ≤ vec_capacity out.old → IsOk result }
+    ensures room { vec_len out.old + length (octets (flag kind set)) ≤ vec_capacity out.old
+        → IsOk result }
     ensures capacity { vec_capacity out.old ≤ vec_capacity out.new }
 {
     if set {

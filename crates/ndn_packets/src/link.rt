@@ -55,7 +55,7 @@ impl Headers {
     ghost use Rattle.std.specs.Prelude.{◌≡◌, Ok, Err};
     ghost use Rattle.ndn_tlv.specs.Reading.{on_result};
     ghost use Rattle.ndn_packets.specs.FrameReading.{no_headers_yet, is_refused_header, with_header};
-    ghost use Rattle.ndn_packets.specs.Found.{link_so_far};
+    ghost use Rattle.ndn_packets.specs.SoFar.{link_so_far};
 
     fn none() -> Headers
         ensures { link_so_far result ≡ no_headers_yet }
@@ -69,9 +69,10 @@ impl Headers {
         }
     }
 
-    /// Whether a header field may not stand behind these.
+    /// Whether a header field may not stand after these.
     fn refuse(self, field: Element<'_>) -> bool
-        ensures { result ≡ is_refused_header (link_so_far self) (field.entry.kind, field.entry.value.now) }
+        ensures { result
+            ≡ is_refused_header (link_so_far self) (field.entry.kind, field.entry.value.now) }
     {
         match field.kind {
             SEQUENCE => self.sequence,
@@ -83,9 +84,10 @@ impl Headers {
         }
     }
 
-    /// These header fields and a further one that may stand behind them.
+    /// These header fields and a further one that may stand after them.
     fn with(self, field: Element<'_>) -> Result<Headers, PacketFault>
-        ensures { on_result (λ h. Ok (link_so_far h)) Err result ≡ with_header (link_so_far self) (field.entry.kind, field.entry.value.now) }
+        ensures { on_result (λ h. Ok (link_so_far h)) Err result
+            ≡ with_header (link_so_far self) (field.entry.kind, field.entry.value.now) }
     {
         let mut headers = self;
         match field.kind {
@@ -174,9 +176,10 @@ fn fragment_of(nack: Option<u64>, fragment: &[u8]) -> Result<Frame<'_>, PacketFa
 }
 
 #[tactic(auto, using(crate::proofs::Rules::no_elements))]
-/// Refuses octets behind a Fragment.
+/// Refuses octets after a Fragment.
 fn check_last(after: &[u8]) -> Result<(), PacketFault>
-    ensures { (frame : PlainFrame) → on_result (λ _. Ok frame) Err result ≡ last_of frame (elements_of after.now) }
+    ensures { (frame : PlainFrame)
+        → on_result (λ _. Ok frame) Err result ≡ last_of frame (elements_of after.now) }
 {
     if after.is_empty() {
         return Ok(());
@@ -191,10 +194,12 @@ pub fn put_nack(out: &mut Vec<u8>, reason: u64, interest: &[u8]) -> Result<(), M
     ensures ok { OnOk result (out.new.items ≡ out.old.items ++ nack_text reason interest.now) }
     ensures err { OnErr result (out.new.items ≡ out.old.items) }
     // Where there is room, memory is not refused.
-    ensures room { vec_len out.old + length (nack_text reason interest.now) ≤ vec_capacity out.old → IsOk result }
+    ensures room { vec_len out.old + length (nack_text reason interest.now) ≤ vec_capacity out.old
+        → IsOk result }
     ensures capacity { vec_capacity out.old ≤ vec_capacity out.new }
     // Around octets that are one Interest it is a Nack of that reason and Interest.
-    ensures reads_back { (i : PlainInterest) → IsInterest interest.now i → IsFrame (nack_text reason interest.now) (ANack reason interest.now i) }
+    ensures reads_back { (i : PlainInterest) → IsInterest interest.now i
+        → IsFrame (nack_text reason interest.now) (ANack reason interest.now i) }
 {
     let len = out.len();
     let done = put_nack_parts(out, reason, interest);
@@ -210,7 +215,8 @@ pub fn put_nack(out: &mut Vec<u8>, reason: u64, interest: &[u8]) -> Result<(), M
 fn put_nack_parts(out: &mut Vec<u8>, reason: u64, interest: &[u8]) -> Result<(), Memory>
     ensures ok { OnOk result (out.new.items ≡ out.old.items ++ nack_text reason interest.now) }
     ensures begins { take (vec_len out.old) out.new.items ≡ out.old.items }
-    ensures room { vec_len out.old + length (nack_text reason interest.now) ≤ vec_capacity out.old → IsOk result }
+    ensures room { vec_len out.old + length (nack_text reason interest.now) ≤ vec_capacity out.old
+        → IsOk result }
     ensures capacity { vec_capacity out.old ≤ vec_capacity out.new }
 {
     let value_len = nack_value_len(reason, interest);
@@ -223,7 +229,8 @@ fn put_nack_parts(out: &mut Vec<u8>, reason: u64, interest: &[u8]) -> Result<(),
 
 /// The length of the value of a Nack's link packet. It stops at `usize::MAX`.
 fn nack_value_len(reason: u64, interest: &[u8]) -> usize
-    ensures { IsLength result (element (800, element (801, shortest_nni reason)) ++ element (80, interest.now)) }
+    ensures { IsLength result
+        (element (800, element (801, shortest_nni reason)) ++ element (80, interest.now)) }
 {
     let nack_len = element_len(NACK, nni_element_len(NACK_REASON, reason));
     nack_len.saturating_add(element_len(FRAGMENT, interest.len()))
@@ -232,9 +239,11 @@ fn nack_value_len(reason: u64, interest: &[u8]) -> usize
 #[tactic(auto, using(crate::proofs::Lengths::element_put))]
 /// Appends the header field of a Nack of a reason, or some octets of it.
 fn put_reason(out: &mut Vec<u8>, reason: u64) -> Result<(), Memory>
-    ensures ok { OnOk result (out.new.items ≡ out.old.items ++ element (800, element (801, shortest_nni reason))) }
+    ensures ok { OnOk result
+        (out.new.items ≡ out.old.items ++ element (800, element (801, shortest_nni reason))) }
     ensures begins { take (vec_len out.old) out.new.items ≡ out.old.items }
-    ensures room { vec_len out.old + length (element (800, element (801, shortest_nni reason))) ≤ vec_capacity out.old → IsOk result }
+    ensures room { vec_len out.old + length (element (800, element (801, shortest_nni reason)))
+        ≤ vec_capacity out.old → IsOk result }
     ensures capacity { vec_capacity out.old ≤ vec_capacity out.new }
 {
     put_header(out, NACK, nni_element_len(NACK_REASON, reason))?;

@@ -1,5 +1,5 @@
 ghost use Rattle.std.specs.Prelude.{◌≡◌};
-ghost use Rattle.ndn_packets.specs.Fields.{is_follower, is_even_high};
+ghost use Rattle.ndn_packets.specs.Fields.{needs_previous_field, is_even_high};
 ghost use Rattle.ndn_packets.specs.FieldReader.{ignored_by};
 
 /// The type of an InterestSignatureInfo (NDN Packet Format 0.3, "Signed Interest").
@@ -12,7 +12,7 @@ pub const INTEREST_SIGNATURE_VALUE: u32 = 46;
 /// "Considerations for Evolvability of TLV-Based Encoding").
 #[derive(Clone, Copy)]
 pub enum Rules {
-    /// Behind the Name of a packet: even types from 32 on are ignored.
+    /// After the Name of a packet: even types from 32 on are ignored.
     Packet,
     /// In a MetaInfo, where the types 128 to 252 are ignored too.
     MetaInfo,
@@ -36,8 +36,8 @@ impl Rules {
 
 /// Whether a type counts only where the last field is the one before it in the schema, with ignored
 /// elements between them or without.
-pub fn is_follower(kind: u32) -> bool
-    ensures { result ≡ is_follower kind }
+pub fn needs_previous_field(kind: u32) -> bool
+    ensures { result ≡ needs_previous_field kind }
 {
     kind == INTEREST_SIGNATURE_INFO || kind == INTEREST_SIGNATURE_VALUE
 }

@@ -3,7 +3,7 @@ ghost use Rattle.ndn_tlv.specs.Reading.{elements_of, on_result};
 ghost use Rattle.ndn_packets.specs.Fields.{info_schema, is_ignored_in_signature_info};
 ghost use Rattle.ndn_packets.specs.Packet.{plain_locator};
 ghost use Rattle.ndn_packets.specs.Reading.{info_at, locator_at, no_info_yet, take_info_field, read_fields, fields_from};
-ghost use Rattle.ndn_packets.specs.Found.{plain_info, info_so_far};
+ghost use Rattle.ndn_packets.specs.SoFar.{plain_info, info_so_far};
 
 use crate::fault::PacketFault;
 use crate::field_reader::{FieldReader, NAME, number};
@@ -44,10 +44,11 @@ pub struct Signature<'a> {
 /// How a packet is signed that is written.
 #[derive(Clone, Copy, Debug)]
 pub enum Sign<'a> {
-    /// DigestSha256: the value is SHA-256 of the covered octets (NDN Packet Format 0.3, "DigestSha256").
+    /// DigestSha256: the value is SHA-256 of the covered octets (NDN Packet Format 0.3,
+    /// "DigestSha256").
     Digest,
-    /// HmacWithSha256: the value is the covered octets' HMAC with SHA-256 under a key of any length, whose
-    /// name is the KeyLocator (NDN Packet Format 0.3, "SignatureHmacWithSha256").
+    /// HmacWithSha256: the value is the covered octets' HMAC with SHA-256 under a key of any
+    /// length, whose name is the KeyLocator (NDN Packet Format 0.3, "SignatureHmacWithSha256").
     Hmac {
         /// The key's name.
         name: Name<'a>,
@@ -88,11 +89,14 @@ pub struct SignatureInfo<'a> {
 impl<'a> SignatureInfo<'a> {
     ghost use Rattle.std.specs.Prelude.{◌≡◌};
     ghost use Rattle.ndn_packets.specs.Packet.{plain_signature};
-    ghost use Rattle.ndn_packets.specs.Found.{plain_info};
+    ghost use Rattle.ndn_packets.specs.SoFar.{plain_info};
 
     /// The signature of this SignatureInfo and the value of a SignatureValue.
     pub fn with_value(self, value: &'a [u8]) -> Signature<'a>
-        ensures { plain_signature result ≡ record { info = plain_info self.entry; value = value.entry.now } }
+        ensures { plain_signature result ≡ record {
+          info = plain_info self.entry;
+          value = value.entry.now;
+        } }
     {
         Signature {
             kind: self.kind,
@@ -106,7 +110,7 @@ impl<'a> SignatureInfo<'a> {
 
 /// The fields of a SignatureInfo that were read so far.
 #[derive(Clone, Copy)]
-struct Found<'a> {
+struct InfoFields<'a> {
     kind: Option<u64>,
     locator: Locator<'a>,
     time: Option<u64>,
@@ -174,12 +178,13 @@ pub(crate) fn signature_info(value: &[u8]) -> Result<SignatureInfo<'_>, PacketFa
 }
 
 /// The fields of a SignatureInfo.
-fn fields_of(value: &[u8]) -> Result<Found<'_>, PacketFault>
+fn fields_of(value: &[u8]) -> Result<InfoFields<'_>, PacketFault>
     ensures { on_result (λ f. Ok (info_so_far f)) Err result
-        ≡ read_fields take_info_field no_info_yet (fields_from is_ignored_in_signature_info info_schema (elements_of value.now)) }
+        ≡ read_fields take_info_field no_info_yet
+        (fields_from is_ignored_in_signature_info info_schema (elements_of value.now)) }
 {
     let mut fields = FieldReader::new(Rules::SignatureInfo, value, &FIELDS);
-    let mut found = Found {
+    let mut found = InfoFields {
         kind: None,
         locator: Locator::Missing,
         time: None,

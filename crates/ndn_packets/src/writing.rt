@@ -1,4 +1,5 @@
-//! What the writers of packets share: lengths that are known before anything is written, and fields.
+//! What the writers of packets share: lengths that are known before anything is written, and
+//! fields.
 
 ghost use Rattle.std.specs.Prelude.{◌≡◌, ◌<◌, ◌≤◌, ◌+◌, ◌^◌, ◌++◌, ℕ, IfSome, List, drop, length, take, vec_len, option_map, OnOk, IsOk};
 ghost use Rattle.std.specs.Vec.{vec_capacity};
@@ -34,7 +35,8 @@ pub fn octets_len(octets: &[u8]) -> usize
 #[tactic(auto, using(crate::proofs::Lengths::header_lengths, crate::proofs::Lengths::element_is_long))]
 /// The length of an element whose value has this length. It stops at `usize::MAX`.
 pub fn element_len(kind: u32, value_len: usize) -> usize
-    ensures { (value : List ℕ) → IsLength value_len value → IsLength result (element (kind, value)) }
+    ensures { (value : List ℕ) → IsLength value_len value
+        → IsLength result (element (kind, value)) }
 {
     let header_len = number_len(u64::from(kind)) + number_len(value_len as u64);
     header_len.saturating_add(value_len)
@@ -104,7 +106,8 @@ fn locator_len(sign: Sign<'_>) -> usize
 }
 
 #[tactic(auto, using(crate::proofs::Lengths::info_is_long))]
-/// The length of the value of a SignatureInfo, or an InterestSignatureInfo. It stops at `usize::MAX`.
+/// The length of the value of a SignatureInfo, or an InterestSignatureInfo. It stops at
+/// `usize::MAX`.
 pub fn info_len(sign: Sign<'_>, time: Option<u64>, seq: Option<u64>) -> usize
     ensures len { IsLength result (octets (info_fields sign.entry time seq)) }
     ensures time { IsU64 time }
@@ -119,9 +122,11 @@ pub fn info_len(sign: Sign<'_>, time: Option<u64>, seq: Option<u64>) -> usize
 
 /// Appends the type of an element and the length of its value, or some octets of them.
 pub fn put_header(out: &mut Vec<u8>, kind: u32, value_len: usize) -> Result<(), Memory>
-    ensures ok { OnOk result (out.new.items ≡ out.old.items ++ (spelling kind ++ spelling value_len)) }
+    ensures ok { OnOk result
+        (out.new.items ≡ out.old.items ++ (spelling kind ++ spelling value_len)) }
     ensures begins { take (vec_len out.old) out.new.items ≡ out.old.items }
-    ensures room { vec_len out.old + length ((spelling kind ++ spelling value_len)) ≤ vec_capacity out.old → IsOk result }
+    ensures room { vec_len out.old + length ((spelling kind ++ spelling value_len))
+        ≤ vec_capacity out.old → IsOk result }
     ensures capacity { vec_capacity out.old ≤ vec_capacity out.new }
 {
     put_number(out, u64::from(kind))?;
@@ -131,9 +136,11 @@ pub fn put_header(out: &mut Vec<u8>, kind: u32, value_len: usize) -> Result<(), 
 
 /// Appends an element whose value is a number, or some octets of it.
 pub fn put_nni_element(out: &mut Vec<u8>, kind: u32, number: u64) -> Result<(), Memory>
-    ensures ok { OnOk result (out.new.items ≡ out.old.items ++ element (kind, shortest_nni number)) }
+    ensures ok { OnOk result
+        (out.new.items ≡ out.old.items ++ element (kind, shortest_nni number)) }
     ensures begins { take (vec_len out.old) out.new.items ≡ out.old.items }
-    ensures room { vec_len out.old + length (element (kind, shortest_nni number)) ≤ vec_capacity out.old → IsOk result }
+    ensures room { vec_len out.old + length (element (kind, shortest_nni number))
+        ≤ vec_capacity out.old → IsOk result }
     ensures capacity { vec_capacity out.old ≤ vec_capacity out.new }
 {
     put_header(out, kind, nni_len(number))?;
@@ -145,7 +152,8 @@ pub fn put_nni_element(out: &mut Vec<u8>, kind: u32, number: u64) -> Result<(), 
 pub fn put_number_field(out: &mut Vec<u8>, kind: u32, asked: Option<u64>) -> Result<(), Memory>
     ensures ok { OnOk result (out.new.items ≡ out.old.items ++ octets (number kind asked)) }
     ensures begins { take (vec_len out.old) out.new.items ≡ out.old.items }
-    ensures room { vec_len out.old + length (octets (number kind asked)) ≤ vec_capacity out.old → IsOk result }
+    ensures room { vec_len out.old + length (octets (number kind asked)) ≤ vec_capacity out.old
+        → IsOk result }
     ensures capacity { vec_capacity out.old ≤ vec_capacity out.new }
 {
     match asked {
@@ -157,9 +165,13 @@ pub fn put_number_field(out: &mut Vec<u8>, kind: u32, asked: Option<u64>) -> Res
 /// Appends a field, where it is there, or some octets of it.
 pub fn put_optional(out: &mut Vec<u8>, kind: u32, value: Option<&[u8]>) -> Result<(), Memory>
     requires { 1 ≤ kind }
-    ensures ok { OnOk result (out.new.items ≡ out.old.items ++ octets (optional kind (option_map (λ v. v.now) value.entry))) }
+    ensures ok { OnOk result
+        (out.new.items
+        ≡ out.old.items ++ octets (optional kind (option_map (λ v. v.now) value.entry))) }
     ensures begins { take (vec_len out.old) out.new.items ≡ out.old.items }
-    ensures room { vec_len out.old + length (octets (optional kind (option_map (λ v. v.now) value.entry))) ≤ vec_capacity out.old → IsOk result }
+    ensures room { vec_len out.old + length
+        (octets (optional kind (option_map (λ v. v.now) value.entry))) ≤ vec_capacity out.old
+        → IsOk result }
     ensures capacity { vec_capacity out.old ≤ vec_capacity out.new }
 {
     match value {
@@ -170,9 +182,11 @@ pub fn put_optional(out: &mut Vec<u8>, kind: u32, value: Option<&[u8]>) -> Resul
 
 /// Appends the KeyLocator, where there is one, or some octets of it.
 fn put_locator(out: &mut Vec<u8>, sign: Sign<'_>) -> Result<(), Memory>
-    ensures ok { OnOk result (out.new.items ≡ out.old.items ++ octets (optional 28 (locator_value sign.entry))) }
+    ensures ok { OnOk result
+        (out.new.items ≡ out.old.items ++ octets (optional 28 (locator_value sign.entry))) }
     ensures begins { take (vec_len out.old) out.new.items ≡ out.old.items }
-    ensures room { vec_len out.old + length (octets (optional 28 (locator_value sign.entry))) ≤ vec_capacity out.old → IsOk result }
+    ensures room { vec_len out.old + length (octets (optional 28 (locator_value sign.entry)))
+        ≤ vec_capacity out.old → IsOk result }
     ensures capacity { vec_capacity out.old ≤ vec_capacity out.new }
 {
     if let Sign::Hmac { name, .. } = sign {
@@ -190,9 +204,13 @@ pub fn put_info(
     time: Option<u64>,
     seq: Option<u64>,
 ) -> Result<(), Memory>
-    ensures ok { OnOk result (out.new.items ≡ out.old.items ++ element (kind, octets (info_fields sign.entry time seq))) }
+    ensures ok { OnOk result
+        (out.new.items
+        ≡ out.old.items ++ element (kind, octets (info_fields sign.entry time seq))) }
     ensures begins { take (vec_len out.old) out.new.items ≡ out.old.items }
-    ensures room { vec_len out.old + length (element (kind, octets (info_fields sign.entry time seq))) ≤ vec_capacity out.old → IsOk result }
+    ensures room { vec_len out.old + length
+        (element (kind, octets (info_fields sign.entry time seq))) ≤ vec_capacity out.old
+        → IsOk result }
     ensures capacity { vec_capacity out.old ≤ vec_capacity out.new }
 {
     put_header(out, kind, info_len(sign, time, seq))?;
@@ -206,7 +224,8 @@ pub fn put_info(
 /// Puts these octets in place of as many others.
 pub fn overwrite(octets: &mut [u8], place: usize, by: &[u8])
     requires { place + length by.now ≤ length octets.old }
-    ensures { octets.new ≡ take place octets.old ++ (by.now ++ drop (place + length by.now) octets.old) }
+    ensures { octets.new
+        ≡ take place octets.old ++ (by.now ++ drop (place + length by.now) octets.old) }
 {
     octets[place..place + by.len()].copy_from_slice(by);
 }

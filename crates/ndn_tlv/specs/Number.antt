@@ -2,7 +2,8 @@
 use Rattle.std.specs.Prelude.{◌≡◌, ℕ, ◌<◌, ◌≤◌, ◌^◌, ◌⊎◌, List, [], ◌∷◌, length, nat_lt, if◌then◌else◌}
 use Rattle.std.specs.Int.{w16, w32, w64, to_be_bytes}
 
--- The forms of a VAR-NUMBER: one octet up to 252, or 253, 254 or 255 and then 2, 4 or 8 octets in network order.
+-- The forms of a VAR-NUMBER: one octet up to 252, or 253, 254 or 255 and then 2, 4 or 8 octets in
+-- network order.
 abbrev pub IsForm : List ℕ → ℕ → Type 0
 IsForm text n =
     ((n < 253) × (text ≡ n ∷ []))

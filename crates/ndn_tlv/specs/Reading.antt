@@ -1,4 +1,5 @@
--- Reading from left to right, with the first fault that is met (NDN Packet Format 0.3, "Type-Length-Value (TLV) Encoding").
+-- Reading from left to right, with the first fault that is met (NDN Packet Format 0.3,
+-- "Type-Length-Value (TLV) Encoding").
 use Rattle.std.specs.Prelude.{◌≡◌, ◌≢◌, ℕ, zero, suc, ◌<◌, ◌≤◌, ◌^◌, ◌⊎◌, List, [], ◌∷◌, ◌++◌, length, take, drop, Result, Ok, Err, nat_lt, ◌==◌, slice_index, if◌then◌else◌}
 use Rattle.std.specs.Int.{Width, w16, w32, w64, byte_len, from_be_bytes}
 use Rattle.ndn_tlv.specs.declared.fault.TlvFault.{TlvFault}
@@ -11,7 +12,7 @@ abbrev pub ◌>>=◌ : {A B F : Type 0} → Result A F → (A → Result B F) �
 (Ok x) >>= f = f x
 (Err e) >>= f = Err e
 
--- what stands behind 253, 254 or 255, where smaller numbers have a shorter form
+-- what stands after 253, 254 or 255, where smaller numbers have a shorter form
 abbrev pub long_number_at : Width → ℕ → List ℕ → Result (ℕ × List ℕ) TlvFault
 long_number_at w least bytes =
     if nat_lt (length bytes) (byte_len w) then Err Truncated else (
@@ -40,14 +41,16 @@ nni_at value =
 abbrev pub type_at : List ℕ → Result (ℕ × List ℕ) TlvFault
 type_at bytes = do
   kind ← number_at bytes
-  if kind.0 == 0 then Err TypeZero else (if nat_lt kind.0 (2 ^ 32) then Ok kind else Err TypeTooLarge)
+  if kind.0 == 0 then Err TypeZero
+      else (if nat_lt kind.0 (2 ^ 32) then Ok kind else Err TypeTooLarge)
 
 -- an element and the octets after it
 unfoldable pub element_at : List ℕ → Result (Field × List ℕ) TlvFault
 element_at bytes = do
   kind ← type_at bytes
   len ← number_at kind.1
-  if nat_lt (length len.1) len.0 then Err Truncated else Ok ((kind.0, take len.0 len.1), drop len.0 len.1)
+  if nat_lt (length len.1) len.0 then Err Truncated
+      else Ok ((kind.0, take len.0 len.1), drop len.0 len.1)
 
 abbrev pub on_result : {A F C : Type 0} → (A → C) → (F → C) → Result A F → C
 on_result f g (Ok x) = f x
@@ -57,7 +60,8 @@ on_result f g (Err e) = g e
 unfoldable pub elements_within : ℕ → List ℕ → List (Result Field TlvFault)
 elements_within zero bytes = []
 elements_within (suc n) [] = []
-elements_within (suc n) (b ∷ bytes) = on_result (λ x. Ok x.0 ∷ elements_within n x.1) (λ f. Err f ∷ []) (element_at (b ∷ bytes))
+elements_within (suc n) (b ∷ bytes) =
+    on_result (λ x. Ok x.0 ∷ elements_within n x.1) (λ f. Err f ∷ []) (element_at (b ∷ bytes))
 
 -- the elements of a text in order, up to its end or to the first fault, which is then the last
 unfoldable pub elements_of : List ℕ → List (Result Field TlvFault)
@@ -69,7 +73,8 @@ IsCutNumber bytes = (missing : List ℕ) × (n : ℕ) × (missing ≢ []) × IsF
 
 -- a number stands at the front, in a form that is not its shortest
 abbrev pub BeginsTooLong : List ℕ → Type 0
-BeginsTooLong bytes = (text rest : List ℕ) × (n : ℕ) × (bytes ≡ text ++ rest) × IsForm text n × (Spells text n → ⊥)
+BeginsTooLong bytes =
+    (text rest : List ℕ) × (n : ℕ) × (bytes ≡ text ++ rest) × IsForm text n × (Spells text n → ⊥)
 
 -- what stands where a number cannot be read
 abbrev pub NumberFault : List ℕ → TlvFault → Type 0
@@ -81,16 +86,21 @@ NumberFault bytes BadInteger = ⊥
 
 -- a type, and then octets with this property
 abbrev pub AfterType : List ℕ → (List ℕ → Type 0) → Type 0
-AfterType bytes P = (text rest : List ℕ) × (kind : ℕ) × (bytes ≡ text ++ rest) × Spells text kind × (1 ≤ kind) × (kind < 2 ^ 32) × P rest
+AfterType bytes P =
+    (text rest : List ℕ) × (kind : ℕ) × (bytes ≡ text ++ rest) × Spells text kind × (1 ≤ kind)
+    × (kind < 2 ^ 32) × P rest
 
 -- a length of more octets than follow it
 abbrev pub IsCutValue : List ℕ → Type 0
-IsCutValue bytes = (text rest : List ℕ) × (n : ℕ) × (bytes ≡ text ++ rest) × Spells text n × (length rest < n)
+IsCutValue bytes =
+    (text rest : List ℕ) × (n : ℕ) × (bytes ≡ text ++ rest) × Spells text n × (length rest < n)
 
 -- what stands where an element cannot be read
 abbrev pub ElementFault : List ℕ → TlvFault → Type 0
-ElementFault bytes Truncated = IsCutNumber bytes ⊎ (AfterType bytes IsCutNumber ⊎ AfterType bytes IsCutValue)
+ElementFault bytes Truncated =
+    IsCutNumber bytes ⊎ (AfterType bytes IsCutNumber ⊎ AfterType bytes IsCutValue)
 ElementFault bytes NotShortest = BeginsTooLong bytes ⊎ AfterType bytes BeginsTooLong
 ElementFault bytes TypeZero = (rest : List ℕ) × (bytes ≡ 0 ∷ rest)
-ElementFault bytes TypeTooLarge = (text rest : List ℕ) × (kind : ℕ) × (bytes ≡ text ++ rest) × Spells text kind × (2 ^ 32 ≤ kind)
+ElementFault bytes TypeTooLarge =
+    (text rest : List ℕ) × (kind : ℕ) × (bytes ≡ text ++ rest) × Spells text kind × (2 ^ 32 ≤ kind)
 ElementFault bytes BadInteger = ⊥

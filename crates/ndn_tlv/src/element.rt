@@ -78,7 +78,8 @@ pub fn first_element<'a>(octets: &'a [u8]) -> Result<(Element<'a>, &'a [u8]), Tl
 fn put_parts(out: &mut Vec<u8>, kind: u32, value: &[u8]) -> Result<(), Memory>
     ensures ok { OnOk result (out.new.items ≡ out.old.items ++ element (kind, value.now)) }
     ensures begins { take (vec_len out.old) out.new.items ≡ out.old.items }
-    ensures room { vec_len out.old + length (element (kind, value.now)) ≤ vec_capacity out.old → IsOk result }
+    ensures room { vec_len out.old + length (element (kind, value.now)) ≤ vec_capacity out.old
+        → IsOk result }
     ensures capacity { vec_capacity out.old ≤ vec_capacity out.new }
 {
     put_number(out, u64::from(kind))?;
@@ -94,7 +95,8 @@ pub fn put_element(out: &mut Vec<u8>, kind: u32, value: &[u8]) -> Result<(), Mem
     requires { 1 ≤ kind }
     ensures ok { OnOk result (out.new.items ≡ out.old.items ++ element (kind, value.now)) }
     ensures err { OnErr result (out.new.items ≡ out.old.items) }
-    ensures room { vec_len out.old + length (element (kind, value.now)) ≤ vec_capacity out.old → IsOk result }
+    ensures room { vec_len out.old + length (element (kind, value.now)) ≤ vec_capacity out.old
+        → IsOk result }
     ensures capacity { vec_capacity out.old ≤ vec_capacity out.new }
     ensures spelled { IsElement (element (kind, value.now)) kind value.now }
 {
@@ -108,11 +110,14 @@ pub fn put_element(out: &mut Vec<u8>, kind: u32, value: &[u8]) -> Result<(), Mem
 
 /// Law: a text is the join of at most one list of elements, which `elements_of` reads.
 pub fn elements_have_one_reading()
-    ensures one { (text : List ℕ) (xs ys : List Field) → IsElements text xs → IsElements text ys → xs ≡ ys }
+    ensures one { (text : List ℕ) (xs ys : List Field) → IsElements text xs → IsElements text ys
+        → xs ≡ ys }
     ensures exact { (text : List ℕ) (fields : List Field) → ((i : ℕ) → slice_index text i < 256)
         → ((elements_of text ≡ map (λ f. Ok f) fields) ↔ IsElements text fields) }
-    // A text that ends in a fault is these elements, and then octets that begin with none for that cause.
-    ensures fault { (text : List ℕ) (fields : List Field) (fault : TlvFault) → ((i : ℕ) → slice_index text i < 256)
+    // A text that ends in a fault is these elements, and then octets that begin with none for that
+    // cause.
+    ensures fault { (text : List ℕ) (fields : List Field) (fault : TlvFault)
+        → ((i : ℕ) → slice_index text i < 256)
         → elements_of text ≡ map (λ f. Ok f) fields ++ Err fault ∷ []
         → (rest : List ℕ) × (text ≡ flat_map element fields ++ rest) × AllByRecursion IsField fields
         × (rest ≢ []) × ElementFault rest fault }

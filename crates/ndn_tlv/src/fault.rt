@@ -1,7 +1,7 @@
 use thiserror::Error;
 
 /// Why octets are no number or no element (NDN Packet Format 0.3, "Type-Length-Value (TLV)
-/// Encoding"). Of several faults the first from the left is told: the type's `Truncated` and
+/// Encoding"). Of several faults the first from the left is reported: the type's `Truncated` and
 /// `NotShortest`, then `TypeZero` and `TypeTooLarge`, the length's `Truncated` and `NotShortest`,
 /// the value's `Truncated`.
 #[derive(Clone, Copy, Debug, PartialEq, Eq, Error)]
@@ -19,6 +19,6 @@ pub enum TlvFault {
     #[error("a type is above 4294967295")]
     TypeTooLarge,
     /// A NonNegativeInteger has other than 1, 2, 4 or 8 octets.
-    #[error("an integer has other than 1, 2, 4 or 8 octets")]
+    #[error("an integer is not 1, 2, 4 or 8 octets long")]
     BadInteger,
 }

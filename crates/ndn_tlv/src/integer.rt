@@ -37,10 +37,12 @@ pub fn nni_of(value: &[u8]) -> Result<u64, TlvFault>
 pub fn put_nni(out: &mut Vec<u8>, number: u64) -> Result<(), Memory>
     ensures ok { OnOk result (out.new.items ≡ out.old.items ++ shortest_nni number) }
     ensures err { OnErr result (out.new.items ≡ out.old.items) }
-    ensures room { vec_len out.old + length (shortest_nni number) ≤ vec_capacity out.old → IsOk result }
+    ensures room { vec_len out.old + length (shortest_nni number) ≤ vec_capacity out.old
+        → IsOk result }
     ensures capacity { vec_capacity out.old ≤ vec_capacity out.new }
     ensures spelled { IsNni (shortest_nni number) number }
-    ensures shortest { (text : List ℕ) → IsNni text number → length (shortest_nni number) ≤ length text }
+    ensures shortest { (text : List ℕ) → IsNni text number
+        → length (shortest_nni number) ≤ length text }
 {
     if number < 256 {
         out.push(number as u8)?;

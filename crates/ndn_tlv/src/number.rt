@@ -39,7 +39,8 @@ fn four_octets(octets: &[u8]) -> Result<(u64, &[u8]), TlvFault>
 }
 
 fn eight_octets(octets: &[u8]) -> Result<(u64, &[u8]), TlvFault>
-    ensures { on_result (λ x. Ok (x.0, x.1.now)) Err result ≡ long_number_at w64 4294967296 octets.now }
+    ensures { on_result (λ x. Ok (x.0, x.1.now)) Err result
+        ≡ long_number_at w64 4294967296 octets.now }
 {
     match octets {
         [a, b, c, d, e, f, g, h, rest @ ..] => {
@@ -73,7 +74,8 @@ pub(crate) fn leading_number(octets: &[u8]) -> Result<(u64, &[u8]), TlvFault>
 /// number that has a shorter form (`NotShortest`).
 pub fn number_of(octets: &[u8]) -> Result<(u64, &[u8]), TlvFault>
     // What is read stands in front, in its shortest form.
-    ensures found { IfOk result (λ x. (text : List ℕ) × Spells text x.0 × (octets.now ≡ text ++ x.1.now)) }
+    ensures found { IfOk result
+        (λ x. (text : List ℕ) × Spells text x.0 × (octets.now ≡ text ++ x.1.now)) }
     // What stands in front in its shortest form is read.
     ensures only { (n : ℕ) (text rest : List ℕ) → Spells text n → octets.now ≡ text ++ rest
         → IsOkAnd result (λ x. (x.0 ≡ n) × (x.1.now ≡ rest)) }
@@ -86,7 +88,8 @@ pub fn number_of(octets: &[u8]) -> Result<(u64, &[u8]), TlvFault>
 
 /// Law: no spelling of a number begins another one's.
 pub fn no_spelling_begins_another()
-    ensures { (a b x y : List ℕ) (m n : ℕ) → Spells a m → Spells b n → a ++ x ≡ b ++ y → (a ≡ b) × (m ≡ n) }
+    ensures { (a b x y : List ℕ) (m n : ℕ) → Spells a m → Spells b n → a ++ x ≡ b ++ y
+        → (a ≡ b) × (m ≡ n) }
 {}
 
 /// Law: each number below 2^64 has one spelling, which `spelling` computes.
@@ -99,7 +102,8 @@ fn put_long(out: &mut Vec<u8>, first: u8, others: &[u8]) -> Result<(), Memory>
     requires { length others.now ≤ 8 }
     ensures ok { OnOk result (out.new.items ≡ out.old.items ++ first ∷ others.now) }
     ensures err { OnErr result (out.new.items ≡ out.old.items) }
-    ensures room { vec_len out.old + length (first ∷ others.now) ≤ vec_capacity out.old → IsOk result }
+    ensures room { vec_len out.old + length (first ∷ others.now) ≤ vec_capacity out.old
+        → IsOk result }
     ensures capacity { vec_capacity out.old ≤ vec_capacity out.new }
 {
     out.reserve(others.len() + 1)?;
@@ -128,8 +132,8 @@ pub fn put_number(out: &mut Vec<u8>, number: u64) -> Result<(), Memory>
     }
 }
 
-/// The length of the shortest VAR-NUMBER of a number, in octets: 1, 3, 5 or 9 (NDN Packet Format 0.3,
-/// "Type-Length-Value (TLV) Encoding").
+/// The length of the shortest VAR-NUMBER of a number, in octets: 1, 3, 5 or 9 (NDN Packet Format
+/// 0.3, "Type-Length-Value (TLV) Encoding").
 #[tactic(auto, unfolding(crate::specs::Number::spelling))]
 pub fn number_len(number: u64) -> usize
     ensures { result ≡ length (spelling number) }

@@ -2,7 +2,7 @@ use Rattle.std.proofs.Common.{◌≡◌, length}
 use Rattle.ndn_tlv.specs.Reading.{elements_of}
 use Rattle.ndn_packets.specs.Fields.{data_schema, is_even_high}
 use Rattle.ndn_packets.specs.FieldReader.{fields_left}
-use Rattle.ndn_packets.specs.Found.{so_far}
+use Rattle.ndn_packets.specs.SoFar.{so_far}
 use Rattle.ndn_packets.specs.Reading.{read_fields, take_data_field, nothing_yet, fields_from}
 use Rattle.ndn_packets.proofs.data.fields_of.Given as goal
 

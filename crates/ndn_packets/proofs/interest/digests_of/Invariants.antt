@@ -1,7 +1,7 @@
 use Rattle.std.proofs.Common.{◌≡◌, ◌++◌, map}
 use Rattle.ndn_names.specs.View.{field_of, components, components_left}
 use Rattle.ndn_packets.specs.Packet.{digests_in}
-use Rattle.ndn_packets.specs.Found.{AreDigests}
+use Rattle.ndn_packets.specs.SoFar.{AreDigests}
 use Rattle.ndn_packets.proofs.interest.digests_of.Given as goal
 
 abbrev pub invariant-loop-component : goal.invariant-loop-component

@@ -1,7 +1,7 @@
 use Rattle.std.proofs.Common.{rules, ◌≡◌, Ok}
 use Rattle.ndn_tlv.specs.Reading.{elements_of}
 use Rattle.ndn_packets.specs.Fields.{interest_schema, is_even_high}
-use Rattle.ndn_packets.specs.Found.{interest_so_far}
+use Rattle.ndn_packets.specs.SoFar.{interest_so_far}
 use Rattle.ndn_packets.specs.Reading.{read_fields, take_interest_field, no_fields_yet, fields_from}
 use Rattle.ndn_packets.proofs.Parameters.{stand_still, stand_last}
 use Rattle.ndn_packets.proofs.interest.fields_of.Goals as goal

@@ -2,7 +2,7 @@ use Rattle.std.proofs.Common.{◌≡◌, length}
 use Rattle.ndn_tlv.specs.Reading.{elements_of}
 use Rattle.ndn_packets.specs.Fields.{interest_schema, is_even_high}
 use Rattle.ndn_packets.specs.FieldReader.{fields_left}
-use Rattle.ndn_packets.specs.Found.{interest_so_far}
+use Rattle.ndn_packets.specs.SoFar.{interest_so_far}
 use Rattle.ndn_packets.specs.Reading.{read_fields, take_interest_field, no_fields_yet, fields_from}
 use Rattle.ndn_packets.proofs.Parameters.{Stand}
 use Rattle.ndn_packets.proofs.interest.fields_of.Given as goal

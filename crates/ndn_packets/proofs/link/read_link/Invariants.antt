@@ -1,6 +1,6 @@
 use Rattle.std.proofs.Common.{◌≡◌, length}
 use Rattle.ndn_tlv.specs.Reading.{elements_of}
-use Rattle.ndn_packets.specs.Found.{link_so_far}
+use Rattle.ndn_packets.specs.SoFar.{link_so_far}
 use Rattle.ndn_packets.specs.FrameReading.{no_headers_yet, link_from}
 use Rattle.ndn_packets.proofs.link.read_link.Given as goal
 

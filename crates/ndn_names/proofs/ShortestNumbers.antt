@@ -10,7 +10,7 @@ use Rattle.ndn_tlv.specs.declared.fault.TlvFault.{TlvFault}
 use Rattle.ndn_tlv.specs.Number.{IsNni, shortest_nni}
 use Rattle.ndn_tlv.specs.Reading.{nni_at}
 use Rattle.ndn_tlv.proofs.Integers.{length-shortest_one, length-shortest_two, length-shortest_four}
-use Rattle.ndn_names.specs.Word.{shortest_number}
+use Rattle.ndn_names.specs.TypeName.{shortest_number}
 
 -- the least number whose shortest form has so many octets
 abbrev pub least_of : ℕ → ℕ

@@ -1,7 +1,7 @@
 use Rattle.std.proofs.Common.{◌≡◌, length, ne_eqb, ◌∙◌, arith}
-use Rattle.ndn_names.proofs.Words.{least_of, shortest_number-is}
-use Rattle.ndn_names.proofs.word.shortest_number.Goals as goal
-use Rattle.ndn_names.proofs.word.shortest_number.Goals.{in-1, in-2, in-4, in_default}
+use Rattle.ndn_names.proofs.ShortestNumbers.{least_of, shortest_number-is}
+use Rattle.ndn_names.proofs.type_name.shortest_number.Goals as goal
+use Rattle.ndn_names.proofs.type_name.shortest_number.Goals.{in-1, in-2, in-4, in_default}
 
 pub returns : goal.returns
 returns c =

@@ -1,31 +1,52 @@
 -- What readers have found so far, without where it lies in memory.
 use Rattle.std.specs.Prelude.{◌≡◌, List, [], ◌∷◌}
 use Rattle.std.specs.Option.{option_map}
-use Rattle.ndn_packets.specs.declared.data.Found.{Found}
+use Rattle.ndn_packets.specs.declared.data.DataFields.{DataFields}
 use Rattle.ndn_tlv.specs.Element.{Field}
 use Rattle.ndn_packets.specs.declared.interest.Digests.{Digests}
 use Rattle.ndn_packets.specs.declared.interest.Digests.TheVariants as digests
-use Rattle.ndn_packets.specs.declared.interest.Found.{Found as InterestFound}
+use Rattle.ndn_packets.specs.declared.interest.InterestFields.{InterestFields}
 use Rattle.ndn_packets.specs.declared.link.Headers.{Headers}
-use Rattle.ndn_packets.specs.declared.signature.Found.{Found as InfoFound}
+use Rattle.ndn_packets.specs.declared.signature.InfoFields.{InfoFields}
 use Rattle.ndn_packets.specs.declared.signature.SignatureInfo.{SignatureInfo}
 use Rattle.ndn_packets.specs.Packet.{PlainSignatureInfo, plain_locator}
 use Rattle.ndn_packets.specs.Reading.{InterestSoFar, DataSoFar, InfoSoFar}
 use Rattle.ndn_packets.specs.FrameReading.{LinkSoFar}
 
 abbrev pub link_so_far : Headers → LinkSoFar
-link_so_far h = record { sequence = h.sequence; frag_index = h.frag_index; frag_count = h.frag_count; pit_token = h.pit_token; nack = h.nack }
+link_so_far h = record {
+  sequence = h.sequence;
+  frag_index = h.frag_index;
+  frag_count = h.frag_count;
+  pit_token = h.pit_token;
+  nack = h.nack;
+}
 
-abbrev pub info_so_far : InfoFound → InfoSoFar
-info_so_far f = record { kind = f.kind; locator = plain_locator f.locator; time = f.time; seq = f.seq }
+abbrev pub info_so_far : InfoFields → InfoSoFar
+info_so_far f = record {
+  kind = f.kind;
+  locator = plain_locator f.locator;
+  time = f.time;
+  seq = f.seq;
+}
 
 abbrev pub plain_info : SignatureInfo → PlainSignatureInfo
-plain_info s = record { kind = s.kind; locator = plain_locator s.locator; time = s.time; seq = s.seq }
+plain_info s = record {
+  kind = s.kind;
+  locator = plain_locator s.locator;
+  time = s.time;
+  seq = s.seq;
+}
 
-abbrev pub so_far : Found → DataSoFar
-so_far f = record { freshness = f.freshness; content = option_map (λ c. c.now) f.content; info = option_map plain_info f.info; value = option_map (λ v. v.now) f.value }
+abbrev pub so_far : DataFields → DataSoFar
+so_far f = record {
+  freshness = f.freshness;
+  content = option_map (λ c. c.now) f.content;
+  info = option_map plain_info f.info;
+  value = option_map (λ v. v.now) f.value;
+}
 
-abbrev pub interest_so_far : InterestFound → InterestSoFar
+abbrev pub interest_so_far : InterestFields → InterestSoFar
 interest_so_far f = record {
   can_be_prefix = f.can_be_prefix;
   must_be_fresh = f.must_be_fresh;

@@ -1,14 +1,14 @@
-//! Words that stand for component types in URI text (NDN Packet Format 0.3, "NDN URI Scheme"; NDN
+//! Names of component types in URI text (NDN Packet Format 0.3, "NDN URI Scheme"; NDN
 //! Naming Conventions, revision 3).
 
 ghost use Rattle.std.specs.Prelude.{◌≡◌, option_map};
-ghost use Rattle.ndn_names.specs.Word as said;
+ghost use Rattle.ndn_names.specs.TypeName as spec;
 
 use ndn_tlv::nni_of;
 
-/// The word for a type.
-pub fn word_of(kind: u16) -> Option<&'static str>
-    ensures { option_map (λ word. word.now) result ≡ said.word_of kind }
+/// The name of a type.
+pub fn type_name_of(kind: u16) -> Option<&'static str>
+    ensures { option_map (λ type_name. type_name.now) result ≡ spec.type_name_of kind }
 {
     match kind {
         1 => Some("sha256digest"),
@@ -22,11 +22,11 @@ pub fn word_of(kind: u16) -> Option<&'static str>
     }
 }
 
-/// The type that a word stands for.
-pub fn kind_of(word: &str) -> Option<u16>
-    ensures { result ≡ said.kind_of word.now }
+/// The type of this name.
+pub fn kind_of(type_name: &str) -> Option<u16>
+    ensures { result ≡ spec.kind_of type_name.now }
 {
-    match word {
+    match type_name {
         "sha256digest" => Some(1),
         "params-sha256" => Some(2),
         "seg" => Some(50),
@@ -40,7 +40,7 @@ pub fn kind_of(word: &str) -> Option<u16>
 
 /// The number whose shortest NonNegativeInteger the octets are.
 pub fn shortest_number(value: &[u8]) -> Option<u64>
-    ensures { result ≡ said.shortest_number value.now }
+    ensures { result ≡ spec.shortest_number value.now }
 {
     let n = nni_of(value).ok()?;
     let least = match value.len() {
