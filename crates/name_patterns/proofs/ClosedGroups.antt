@@ -8,7 +8,7 @@ use Rattle.std.proofs.lemmas.Option.{same_Some}
 use Rattle.ndn_tlv.specs.Element.{Field}
 use Rattle.ndn_names.specs.UriReading.{cut_at}
 use Rattle.ndn_names.proofs.TextReading.{Lacks, Lacks-append}
-use Rattle.ndn_names.proofs.WordReading.{own, digits-Lacks}
+use Rattle.ndn_names.proofs.TypeNameReading.{own, digits-Lacks}
 use Rattle.ndn_names.proofs.PieceReading.{IsCut, cut_found}
 use Rattle.name_patterns.specs.Pattern.{PlainTest, Anything, OneOf, NoneOf, Bounds, once, any_number, PlainAtom}
 use Rattle.name_patterns.specs.PatternReading.{◌>>=◌, Found, has_special, text_in, quoted_in, list_end, listed_within, list_in, bracketed_in, quoted_test_in, test_in, count_in, range_by_comma, range_by_cut, range_in, braced_in, repeat_in, atom_in, is_closed}

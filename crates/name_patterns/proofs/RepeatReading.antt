@@ -6,7 +6,7 @@ use Rattle.std.proofs.lemmas.Bool.{cases_eq, cases_Bool, and_parts, or_parts, lt
 use Rattle.std.proofs.lemmas.List.{nil_from_length}
 use Rattle.ndn_names.specs.UriReading.{cut_at}
 use Rattle.ndn_names.proofs.TextReading.{Lacks, Lacks-append}
-use Rattle.ndn_names.proofs.WordReading.{own, digits-Lacks}
+use Rattle.ndn_names.proofs.TypeNameReading.{own, digits-Lacks}
 use Rattle.ndn_names.proofs.PieceReading.{IsCut, cut_found, cut_again, cut_lacking}
 use Rattle.name_patterns.specs.Pattern.{Bounds, once, any_number}
 use Rattle.name_patterns.specs.Grammar.{IsCount, IsRange, IsRepeat}

@@ -5,22 +5,22 @@ use ndn_tlv::Memory as NoMemory;
 use std::alloc::{AllocError, AllocFailed};
 use thiserror::Error;
 
-/// Why octets or a text are no name, or why a name cannot grow (NDN Packet Format 0.3, "Name").
+/// Why octets or a text are not a name, or why a name cannot grow (NDN Packet Format 0.3, "Name").
 /// Components are read from left to right: the 65th is `TooManyComponents` whatever it holds, and
 /// of any other in octets the first fault in this enum's order is reported. `NameBuf::from_uri`
 /// says which fault of a text is reported.
 #[derive(Clone, Copy, Debug, PartialEq, Eq, Error)]
 pub enum NameFault {
-    /// A component's type is 0 or above 65535, or it is no element.
+    /// A component's type is 0 or above 65535, or it is not an element.
     #[error("a component is not an element of a type from 1 to 65535")]
     BadComponent,
-    /// A digest, a component of type 1 or 2, has other than 32 octets.
+    /// A digest, a component of type 1 or 2, is not 32 octets long.
     #[error("a digest component is not 32 octets long")]
     BadDigestLength,
     /// A name has more than 64 components.
     #[error("a name has more than 64 components")]
     TooManyComponents,
-    /// A text is no URI text of a name.
+    /// A text is not the URI of a name.
     #[error("the text is not a name such as /A/seg=5")]
     BadUri,
     /// Memory could not be allocated.

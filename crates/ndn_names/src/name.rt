@@ -19,7 +19,7 @@ pub struct Name<'a> {
     ghost spelled: { IsNameValue octets.now (components_of octets.now) } by { IsNameValue-prop octets.now (components_of octets.now) },
 }
 
-/// Refuses octets that are no name's.
+/// Refuses octets that are not a name's.
 fn check_components(octets: &[u8]) -> Result<(), NameFault>
     ensures { MatchResult result (λ _. (cs : List Field) × (name_at octets.now ≡ Ok cs))
         (λ fault. name_at octets.now ≡ Err fault) }
@@ -47,7 +47,7 @@ impl<'a> Name<'a> {
 
     /// Reads the TLV-VALUE of a Name element, from left to right.
     ///
-    /// Refuses it by the first fault: see `NameFault`, of which `Memory` never comes.
+    /// Refuses it with the first fault: see `NameFault`, of which `Memory` never occurs.
     pub fn read(value: &'a [u8]) -> Result<Name<'a>, NameFault>
         // What is read is spelled so.
         ensures found { IfOk result (λ name. IsNameValue value.now (components name)) }

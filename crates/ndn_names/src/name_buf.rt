@@ -46,7 +46,7 @@ impl NameBuf {
 
     /// Appends a component of a type and octets.
     ///
-    /// Refuses it by the first fault in this order, and then changes nothing: `TooManyComponents`
+    /// Refuses it with the first fault in this order, and then changes nothing: `TooManyComponents`
     /// where 64 stand, `BadComponent` at type 0, `BadDigestLength`, `Memory`.
     pub fn append(&mut self, kind: u16, value: &[u8]) -> Result<(), NameFault>
         ensures ok { OnOk result (self.new ≡ self.old ++ (kind, value.now) ∷ []) }

@@ -234,7 +234,7 @@ impl NameBuf {
     /// Reads URI text, as `/A/seg=5`, from left to right. The scheme `ndn:` may stand before it,
     /// and a slash after it.
     ///
-    /// Refuses it by the first fault in text order: `TooManyComponents` at the 65th component,
+    /// Refuses it with the first fault in text order: `TooManyComponents` at the 65th component,
     /// whatever it holds, `BadDigestLength` for `1=` or `2=` with other than 32 octets, and
     /// `BadUri` for all else. `Memory` may come at any text.
     pub fn from_uri(alloc: Global, text: &str) -> Result<NameBuf, NameFault>

@@ -54,8 +54,8 @@ impl DataWriter<'_> {
     /// Appends the Data, its fields in the standard's order and in their shortest forms, and none
     /// that is not asked for: without a FreshnessPeriod and a last segment there is no MetaInfo.
     ///
-    /// Refuses it by the first fault in the order of `WriteFault`, and then appends nothing;
-    /// `BadName` never comes.
+    /// Refuses it with the first fault in the order of `WriteFault`, and then appends nothing;
+    /// `BadName` never occurs.
     pub fn write(&self, out: &mut Vec<u8>) -> Result<(), WriteFault>
         ensures ok { OnOk result (out.new.items ≡ out.old.items ++ data_text self.now) }
         ensures err { OnErr result (out.new.items ≡ out.old.items) }

@@ -1,8 +1,8 @@
 use ndn_tlv::{Memory, TlvFault};
 use thiserror::Error;
 
-/// Why octets are no frame of this profile: the first fault from the left (NDN Packet Format 0.3,
-/// "Interest Packet" and "Data Packet"; NDNLPv2, "Packet Format").
+/// Why octets are not a frame of this profile: the first fault from the left (NDN Packet Format
+/// 0.3, "Interest Packet" and "Data Packet"; NDNLPv2, "Packet Format").
 ///
 /// The order is: `TooLong` above 9,000 octets, the outer element, octets after it, its type,
 /// `TooLong` above 8,800 octets, the Name, the elements after it one after the other, then a field
@@ -14,14 +14,14 @@ use thiserror::Error;
 /// its own elements, and a Fragment those of the packet in it, from the outer element on.
 #[derive(Clone, Copy, Debug, PartialEq, Eq, Error)]
 pub enum PacketFault {
-    /// An element cannot be read, one that this profile does not have among them.
+    /// An element cannot be read, even one that this profile does not know.
     #[error("{0}")]
     Tlv(TlvFault),
     /// A packet does not begin with a Name, or an Interest's Name is empty.
     #[error("no name")]
     NoName,
-    /// An element is no field, or no longer, and its type is odd or below 32; but the types 128 to
-    /// 252 in a MetaInfo, and 253 in a SignatureInfo, are ignored.
+    /// An element is not a field, or comes too late to be one, and its type is odd or below 32; but
+    /// the types 128 to 252 in a MetaInfo, and 253 in a SignatureInfo, are ignored.
     #[error("an unknown element that may not be ignored")]
     CriticalUnknown,
     /// A field other than the Name and the Nonce is missing, or a field has a value that is not of

@@ -49,8 +49,8 @@ pub const LINK_PACKET: u32 = 100;
 /// most 9,000, and those of a packet at most 8,800. A packet's received octets are its own element,
 /// without the link packet's.
 ///
-/// Refuses all else by the first fault from the left: see `PacketFault`. No signature is verified,
-/// and a PitToken is read and dropped.
+/// Refuses all else with the first fault from the left: see `PacketFault`. No signature is
+/// verified, and a PitToken is read and dropped.
 pub fn read_frame(octets: &[u8]) -> Result<Frame<'_>, PacketFault>
     // What is read is in the grammar.
     ensures found { IfOk result (λ frame. IsFrame octets.now (plain_frame frame)) }

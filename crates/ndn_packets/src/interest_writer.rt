@@ -60,7 +60,7 @@ impl InterestWriter<'_> {
     /// Appends the Interest, its fields in the standard's order and in their shortest forms, and
     /// none that is not asked for.
     ///
-    /// Refuses it by the first fault in the order of `WriteFault`, and then appends nothing.
+    /// Refuses it with the first fault in the order of `WriteFault`, and then appends nothing.
     pub fn write(&self, out: &mut Vec<u8>) -> Result<(), WriteFault>
         ensures ok { OnOk result (out.new.items ≡ out.old.items ++ interest_text self.now) }
         ensures err { OnErr result (out.new.items ≡ out.old.items) }

@@ -51,7 +51,8 @@ fn leading_field(octets: &[u8]) -> Result<(u32, &[u8], &[u8]), TlvFault>
 
 /// Reads the element at the front of the octets, and gives the octets after it.
 ///
-/// Refuses octets that begin with no element, by the first fault from the left: see `TlvFault`.
+/// Refuses octets that do not begin with an element, with the first fault from the left: see
+/// `TlvFault`.
 pub fn first_element<'a>(octets: &'a [u8]) -> Result<(Element<'a>, &'a [u8]), TlvFault>
     // What is read stands in front.
     ensures found { IfOk result (λ x. IsElement x.0.whole.now x.0.kind x.0.value.now

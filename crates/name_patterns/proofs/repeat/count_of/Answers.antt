@@ -4,7 +4,7 @@ use Rattle.std.specs.Str.Parse.{ParsesUnsigned, digits_value}
 use Rattle.std.proofs.lemmas.Bool.{lt-ltb, le-leb, ltb-true, leb-true}
 use Rattle.std.proofs.lemmas.Str.Parse.{parse_plain}
 use Rattle.std.proofs.lemmas.Str.Pattern.{starts_char}
-use Rattle.ndn_names.proofs.WordReading.{own}
+use Rattle.ndn_names.proofs.TypeNameReading.{own}
 use Rattle.name_patterns.specs.PatternReading.{count_in}
 use Rattle.name_patterns.proofs.repeat.count_of.Goals as goal
 
