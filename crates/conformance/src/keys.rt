@@ -93,7 +93,8 @@ fn found(alloc: Global, file: &str, uri: &str) -> Option<String> {
     format!(in alloc; "{len}: {key}").ok()
 }
 
-/// What is found of a name in a file. Before it may stand how many keys /0, /1 and so on begin the file.
+/// What is found of a name in a file: the keys /0, /1 and so on, as many as the number before a bar
+/// says, and then the lines after it.
 fn key_file(alloc: Global, input: &str) -> Option<String> {
     let (count, rest) = input.split_once('|').unwrap_or(("0", input));
     let (end, uri) = rest.split_once(" ? ").unwrap_or((rest, "/"));

@@ -1,7 +1,7 @@
 //! Packets, link packets, what signatures cover, and writers.
 //!
-//! In the rows `0703080141` is the Name /A, `0a0401020304` a Nonce, `16031b0100 1700` a SignatureInfo and
-//! an empty SignatureValue, and 050b.. the Interest of that Name and that Nonce.
+//! In the rows `0703080141` is the Name /A, `0a0401020304` a Nonce, `16031b0100 1700` a
+//! SignatureInfo and an empty SignatureValue, and `050b..` the Interest of that Name and Nonce.
 
 mod covered;
 mod link;

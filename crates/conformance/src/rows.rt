@@ -1,5 +1,5 @@
-//! Rows of texts: an input, ` -> `, and the text that it has to be shown as. Lines that begin with `#`
-//! are comments.
+//! Rows of text: an input, ` -> `, and the text that it has to be shown as. Lines that begin with
+//! `#` are comments.
 
 use std::alloc::Global;
 use std::process::Abort;

@@ -44,7 +44,8 @@ fn covered_octets_of_interests(rt: HostRuntime) {
 050b07030801410a0401020304 -> none
 5 | 0725 080141 0220c8955eebe3c124655eb09ba0d83fac6d2d5b167a9284b742161781298ec52206 0a0401020304 2400 f000 2e00 2c031b0100 -> none
 5 | 0728 080141 0220c7a783b9f47d850862870cfbe47daf9b8e2d5718e3e834527aa4e154cc9c2b5d 080142 0a0401020304 2400 f000 2e00 2c031b0100 2200 2e0107 2e0108 -> none
-# Two ApplicationParameters, of which the second is ignored. The digest was computed apart from this library.
+# Two ApplicationParameters, of which the second is ignored.
+# The digest was computed apart from this library.
 0539072508014102202f4d9a6469a8dadbaea58c32361ad408f7db2db2477a58fc50c7d9de4d62cd210a040102030424002401ff2c031b01002e00 -> 080141 + 24002401ff2c031b0100
 ";
     check_rows(&rt, rt.alloc(), rows, covered);
@@ -57,7 +58,8 @@ fn hop_limit_of(octets: &[u8]) -> Option<u8> {
     }
 }
 
-/// The HopLimit of an Interest, and its octets once that is 6; the first alone where it is not lent.
+/// The HopLimit of an Interest, and its octets once that is 6; the HopLimit alone where it is not
+/// lent.
 fn lent(alloc: Global, input: &str) -> Option<String> {
     let mut octets = packet(alloc, input)?;
     let limit = hop_limit_of(&octets);

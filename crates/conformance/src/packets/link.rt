@@ -29,7 +29,7 @@ fn link_packets(rt: HostRuntime) {
     check_rows(&rt, rt.alloc(), rows, cut);
 }
 
-/// Header fields around an Interest, and without a Fragment, where they have the same fault or none.
+/// Header fields with a Fragment and without one: the fault is the same.
 #[test]
 fn header_fields(rt: HostRuntime) {
     let rows = "

@@ -187,8 +187,8 @@ fn parameters_of_interests(rt: HostRuntime) {
     check_rows(&rt, rt.alloc(), rows, outcome);
 }
 
-/// A signed command of the management protocol, whose digest and HMAC with the key "key" were computed
-/// apart from this library.
+/// A signed command of the management protocol, whose digest and HMAC with the key "key" were
+/// computed apart from this library.
 const COMMAND: &str =
     "0598075008096c6f63616c686f737408036e66640803666962080b6164642d6e657874686f70080a680807030801416901020220b3efe71974da9dc26e88d0c074c8f0ff34ea85c38b109d9e9c6400b87694f2f20a040102030424002c1a1b01041c0f070d08036f707308034b45590801312804000f42402e20d113cf38056af9bbbec876471f4b51934978ef69345464b05cb762148eaa5dbb";
 
@@ -204,8 +204,9 @@ fn signed_interest(rt: HostRuntime) {
     check_rows(&rt, rt.alloc(), rows, cut);
 }
 
-/// How many packets have an outcome that are the command with one octet set to another one, at a place
-/// from the first to the last; or another outcome of one of them.
+/// The first and the last place, an octet and an outcome: how many packets have this outcome
+/// that are the command with one of these octets set to that one, or the outcome of one that has
+/// another.
 fn changed(alloc: Global, input: &str) -> Option<String> {
     let mut words = input.split(' ');
     let first = words.next()?.parse::<usize>().ok()?;
@@ -229,8 +230,9 @@ fn changed(alloc: Global, input: &str) -> Option<String> {
     count.to_string(alloc).ok()
 }
 
-/// Each octet of a signed Interest set to 0 and to 255: after the length of the packet, octets of components and of the Nonce make another Interest; the digest, and all octets from
-/// the parameters on, may not change.
+/// Each octet of a signed Interest set to 0 and to 255: after the length of the packet, octets of
+/// components and of the Nonce make another Interest; the digest, and all octets from the
+/// parameters on, may not change.
 #[test]
 fn changed_octets(rt: HostRuntime) {
     let rows = "

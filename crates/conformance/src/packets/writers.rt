@@ -32,6 +32,7 @@ fn sign<'a>(asked: &str, key_name: &'a [u8]) -> Option<Option<Sign<'a>>> {
     }
 }
 
+/// The Interest that is written for a row of its fields, or the fault.
 fn interest(alloc: Global, input: &str) -> Option<String> {
     let columns: Vec<&str> = input.split(", ").collect(alloc).ok()?;
     let [
@@ -67,6 +68,7 @@ fn interest(alloc: Global, input: &str) -> Option<String> {
     appended(alloc, fault, &out)
 }
 
+/// The Data that is written for a row of its fields, or the fault.
 fn data(alloc: Global, input: &str) -> Option<String> {
     let columns: Vec<&str> = input.split(", ").collect(alloc).ok()?;
     let [name, freshness, last, content, key] = columns.as_slice() else {
@@ -217,7 +219,8 @@ fn refused_memory(rt: HostRuntime) {
     assert!(rt; begins_or_memory(nack(rt.alloc(), "150, 050b07030801410a0401020304"), "64"));
 }
 
-/// The length and the capacity of an output with room for 200 octets, once all writers appended to it.
+/// The length and the capacity of an output with room for 200 octets, once all writers appended to
+/// it.
 fn filled_room(alloc: Global) -> Option<(usize, usize)> {
     let name_octets = octets(alloc, "080141")?;
     let name = Name::read(&name_octets).ok()?;
