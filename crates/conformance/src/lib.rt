@@ -2,6 +2,8 @@
 #![tactic(auto)]
 
 #[cfg(test)]
+mod forwarder;
+#[cfg(test)]
 mod keys;
 #[cfg(test)]
 mod names;

@@ -38,3 +38,19 @@ pub fn octets(alloc: Global, text: &str) -> Option<Vec<u8>> {
     }
     Some(octets)
 }
+
+/// Checks the rows of a text: what is given, ` => `, and what is wanted of it. Empty lines are skipped.
+pub fn check_each<F: Fn(&str, &str) -> bool>(rt: &impl Abort, rows: &str, is_right: F)
+    requires { F.IsAlwaysCallable is_right }
+{
+    assert!(rt; rows.contains(" => "), "there are no rows");
+    for row in rows.lines() {
+        if !row.is_empty() {
+            assert!(rt;
+                row.split_once(" => ")
+                    .is_some_and(|(given, wanted)| is_right(given, wanted)),
+                "{row}"
+            );
+        }
+    }
+}

@@ -20,6 +20,3 @@ pub use node::{Node, NodeFault, NodeParts};
 pub use outbox::Outbox;
 pub use past::{data_answers_pending_interests, step_preserves_runs};
 pub use script::{RunFault, run_script, scripts_have_one_reading};
-
-#[cfg(test)]
-mod tests;

@@ -1,0 +1,68 @@
+use super::{outcome, replies};
+use std::alloc::Global;
+use std::fmt::Write;
+
+const FACE_EVENTS: &str = "
+up 1 local 0
+1 passed
+up 2 far 0
+2 passed
+up 2 far 0
+3 dropped FaceOpen
+up 0 far 0
+4 dropped BadFace
+in 3 1000 INTEREST
+5 dropped NoFace
+in 1 1000 -
+6 dropped Malformed Tlv Truncated
+tick 900
+7 passed
+";
+
+#[test]
+fn face_events(rt: HostRuntime) {
+    replies(&rt, FACE_EVENTS);
+}
+
+const A_CLOSED_FACE_ASKS_NO_MORE: &str = "
+up 1 local 0
+1 passed
+up 2 far 0
+2 passed
+in 1 1000 INTEREST
+3 passed
+> 2 INTEREST
+down 1 1010
+4 passed
+up 1 local 1020
+5 passed
+in 2 1050 DATA
+6 passed
+";
+
+#[test]
+fn a_closed_face_asks_no_more(rt: HostRuntime) {
+    replies(&rt, A_CLOSED_FACE_ASKS_NO_MORE);
+}
+
+/// Whether 64 faces open, and a 65th only once one of them has closed.
+fn opens_64_faces(alloc: Global) -> Option<bool> {
+    let mut script = String::new(alloc);
+    let mut wanted = String::new(alloc);
+    for face in 1..65 {
+        writeln!(script, "up {face} far 0").ok()?;
+        writeln!(wanted, "{face} passed").ok()?;
+    }
+    script
+        .push_str("up 65 far 0\ndown 1 0\nup 65 far 0\n")
+        .ok()?;
+    wanted
+        .push_str("65 dropped FacesFull\n66 passed\n67 passed\nOk(())")
+        .ok()?;
+    Some(outcome(alloc, script.as_str())?.as_str() == wanted.as_str())
+}
+
+#[test]
+fn faces_full(rt: HostRuntime) {
+    assert!(rt; opens_64_faces(rt.alloc()).unwrap_or(false));
+}

@@ -1,0 +1,133 @@
+use super::parts;
+use node_core::{RunFault, run_script};
+use std::alloc::Global;
+use std::io;
+use std::io::{ErrorKind, Read, Write};
+use std::process::Abort;
+
+/// Gives at most so many octets at a time, and then fails or ends.
+#[derive(Drop)]
+struct Pieces<'a> {
+    rest: &'a [u8],
+    size: usize,
+    fails: bool,
+}
+
+impl Read for Pieces<'_> {
+    fn read(&mut self, buf: &mut [u8]) -> io::Result<usize> {
+        if self.rest.is_empty() && self.fails {
+            return Err(io::Error::from(ErrorKind::Other));
+        }
+        let count = self.size.min(self.rest.len()).min(buf.len());
+        let (front, rest) = self.rest.split_at(count);
+        buf[..count].copy_from_slice(front);
+        self.rest = rest;
+        Ok(count)
+    }
+}
+
+/// Takes at most so many octets at a time, and fails where it is full.
+#[derive(Drop)]
+pub struct Room {
+    pub held: Vec<u8>,
+    pub size: usize,
+    pub left: usize,
+}
+
+impl Write for Room {
+    fn write(&mut self, buf: &[u8]) -> io::Result<usize> {
+        let count = self.size.min(self.left).min(buf.len());
+        if count == 0 {
+            return Err(io::Error::from(ErrorKind::Other));
+        }
+        self.held.extend_from_slice(&buf[..count])?;
+        self.left -= count;
+        Ok(count)
+    }
+
+    fn flush(&mut self) -> io::Result<()> {
+        Ok(())
+    }
+}
+
+/// Whether a script that is read in pieces has these answers, and fails or ends.
+fn reads(alloc: Global, script: &str, size: usize, fails: bool, answers: &str) -> bool {
+    let mut input = Pieces {
+        rest: script.as_bytes(),
+        size,
+        fails,
+    };
+    let mut output = Vec::new(alloc);
+    let Some(parts) = parts(alloc) else {
+        return false;
+    };
+    let end = run_script(alloc, &mut input, &mut output, parts);
+    let wanted = if fails { Err(RunFault::Read) } else { Ok(()) };
+    end == wanted && output.as_slice() == answers.as_bytes()
+}
+
+/// Checks a script that is read in pieces of 1 to 100 octets.
+fn check_pieces(rt: &(impl Abort + AllocGlobal), script: &str, fails: bool, answers: &str) {
+    for size in 1..101 {
+        assert!(rt;
+            reads(rt.alloc(), script, size, fails, answers),
+            "pieces of {size} octets"
+        );
+    }
+}
+
+#[test]
+fn read_in_pieces(rt: HostRuntime) {
+    let script = "up 1 local 0\n#\ntick 1\ntick 2";
+    let answers = "1 passed\n2 passed\n3 passed\n";
+    check_pieces(&rt, script, false, answers);
+    let answers = "1 passed\n2 passed\n";
+    check_pieces(&rt, script, true, answers);
+}
+
+#[test]
+fn a_reader_that_fails(rt: HostRuntime) {
+    let script = "up 1 local 0\nup 2 far 0\ntick 7";
+    let answers = "1 passed\n2 passed\n";
+    check_pieces(&rt, script, true, answers);
+}
+
+/// Whether the answers to a script fill the room that is left, and then fail.
+fn writes(alloc: Global, script: &str, size: usize, left: usize, answers: &[u8]) -> bool {
+    let mut input = script.as_bytes();
+    let held = Vec::new(alloc);
+    let mut output = Room { held, size, left };
+    let Some(parts) = parts(alloc) else {
+        return false;
+    };
+    let end = run_script(alloc, &mut input, &mut output, parts);
+    let (wanted, len) = if left < answers.len() {
+        (Err(RunFault::Write), left)
+    } else {
+        (Ok(()), answers.len())
+    };
+    end == wanted && output.held.as_slice() == &answers[..len]
+}
+
+/// Checks a script whose answers have room for 0 to 40 octets.
+fn check_rooms(rt: &(impl Abort + AllocGlobal), script: &str, size: usize, answers: &[u8]) {
+    for left in 0..41 {
+        assert!(rt;
+            writes(rt.alloc(), script, size, left, answers),
+            "room for {left} octets"
+        );
+    }
+}
+
+#[test]
+fn full_writers(rt: HostRuntime) {
+    let answers = b"1 passed\n2 passed\n";
+    check_rooms(&rt, "tick 1\ntick 2\n", 3, answers);
+}
+
+#[test]
+fn a_writer_that_fails(rt: HostRuntime) {
+    let script = "up 1 local 0\nup 2 far 0\ntick 7";
+    let answers = b"1 passed\n2 passed\n3 passed\n";
+    check_rooms(&rt, script, 100, answers);
+}
