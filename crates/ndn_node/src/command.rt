@@ -13,31 +13,31 @@ use std::convert::AsStr;
 /// What a command line asks for.
 #[derive(Debug, Drop)]
 pub enum Request {
-    /// A text of help, for standard output.
+    /// The help text, for standard output.
     Help(Error),
-    /// To run the script of standard input.
+    /// To run the script on standard input.
     Script,
 }
 
 const ABOUT: &str =
-    "A node of Named Data Networking: Interests go from the face that asks to every other face, and the
-Data that answers goes back to the faces that asked.";
+    "A Named Data Networking node: it sends each Interest to every other face, and returns the Data
+that answers it to the faces that asked.";
 
-const ABOUT_SCRIPT: &str = "Runs the script of standard input, and prints the node's answers";
+const ABOUT_SCRIPT: &str = "Runs the script on standard input and prints the node's answers";
 
-const SCRIPTS: &str = "A script has one event on each line, its words parted by single spaces:
-  up FACE local|far MOMENT  opens a face, on this machine or on another
-  down FACE MOMENT          closes a face, which then asks for nothing any more
+const SCRIPTS: &str = "A script has one event on each line, with single spaces between its words:
+  up FACE local|far MOMENT  opens a face to a program on this machine, or to another machine
+  down FACE MOMENT          closes a face and drops the Interests pending there
   tick MOMENT               lets time pass
-  in FACE MOMENT HEX        hands the node the packet HEX that came in on a face
-FACE is a number from 1 on, of at most 64 open faces. MOMENT is in milliseconds since 1970. HEX is
-the packet in hexadecimal, and - stands for no octets. Empty lines, and lines that begin with #,
-are skipped.
+  in FACE MOMENT HEX        hands the node a packet that arrived on a face
+FACE is the number of a face, from 1; at most 64 faces are open at once. MOMENT is a time in
+milliseconds since 1970. HEX is the packet in hexadecimal, or - for no octets. Empty lines, and
+lines that begin with #, are skipped.
 
-The answer to event N is a line `N VERDICT`, and then a line `> FACE HEX` for each packet that the
-node sends. The verdict is `passed`, `dropped REASON`, or `memory` where memory ran out.
+The answer to event N is a line `N VERDICT`, followed by a line `> FACE HEX` for each packet that
+the node sends. The verdict is `passed`, `dropped REASON`, or `memory` if memory ran out.
 
-Example: the Interest /A of face 1 goes to face 2, and the Data comes back.
+Example: the Interest /A from face 1 goes to face 2, and the Data comes back.
   $ ndn_node script << END
   up 1 local 0
   up 2 far 0
@@ -51,16 +51,16 @@ Example: the Interest /A of face 1 goes to face 2, and the Data comes back.
   4 passed
   > 1 060f070308014115017816031b01001700
 
-Exit status: 0 at the script's end, 1 at a bad line (`script:LINE: bad line` on standard error), 2
-for a wrong command line, 3 where input, output or memory fails.";
+Exit status: 0 at the end of the script, 1 at a bad line (`script:LINE: bad line` on standard
+error), 2 for a wrong command line, 3 if input, output or memory fails.";
 
-/// Reads the words of a command line, of which the first is the program's name.
-pub(crate) fn request_of<S: AsStr>(alloc: Global, words: &[S]) -> Result<Request, Fault> {
+/// Reads the arguments of a command line, the first of which is the program's name.
+pub(crate) fn request_of<S: AsStr>(alloc: Global, arguments: &[S]) -> Result<Request, Fault> {
     let mut command = command(alloc)?;
-    match command.try_get_matches_from_mut(words) {
+    match command.try_get_matches_from_mut(arguments) {
         Err(error) => answer_to(error),
-        Ok(_) if words.len() == 2 => Ok(Request::Script),
-        // The reader lets a last `--` pass.
+        Ok(_) if arguments.len() == 2 => Ok(Request::Script),
+        // The parser accepts a trailing `--`.
         Ok(_) => answer_to(command.error(
             ErrorKind::UnknownArgument,
             "unexpected argument '--' found",
@@ -74,7 +74,7 @@ fn answer_to(error: Error) -> Result<Request, Fault>
     match error.kind() {
         ErrorKind::DisplayHelp => Ok(Request::Help(error)),
         ErrorKind::OutOfMemory => Err(Fault::Script(RunFault::Memory)),
-        _ => Err(Fault::Words(error)),
+        _ => Err(Fault::CommandLine(error)),
     }
 }
 

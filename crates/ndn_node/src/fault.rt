@@ -1,4 +1,4 @@
-//! Why the program stops: what it says, and the status that it exits with.
+//! Why the program stops: its message and its exit status.
 ghost use Rattle.std.specs.Prelude.{◌≡◌};
 ghost use Rattle.ndn_node.specs.Fault.{status_of};
 
@@ -6,26 +6,26 @@ use node_core::{NodeFault, RunFault};
 use std::alloc::AllocError;
 use std::fmt;
 
-/// Why the program has not done what it was asked.
+/// Why the program did not do what it was asked.
 #[derive(Debug, Drop)]
 pub enum Fault {
-    /// The words are no command line.
-    Words(clap::Error),
-    /// A word of the command line is not UTF-8.
+    /// The command line is wrong.
+    CommandLine(clap::Error),
+    /// An argument is not UTF-8.
     NotText,
-    /// The script was not run to its end.
+    /// The script did not run to its end.
     Script(RunFault),
 }
 
 impl Fault {
-    /// The exit status: 1 for a bad line, 2 for a wrong command line, 3 where reading, writing or
+    /// The exit status: 1 for a bad line, 2 for a wrong command line, 3 if reading, writing or
     /// memory failed.
     pub fn exit_status(&self) -> u8
         ensures { result ≡ status_of self.now }
     {
         match self {
             Fault::Script(RunFault::BadLine(_)) => 1,
-            Fault::Words(_)
+            Fault::CommandLine(_)
             | Fault::NotText
             | Fault::Script(RunFault::Node(NodeFault::BadRepoPrefix | NodeFault::BadCapacity)) => 2,
             Fault::Script(
@@ -41,13 +41,13 @@ impl Fault {
 impl fmt::Display for Fault {
     ghost use Rattle.ndn_node.specs.Fault.{text_of};
 
-    // Each text ends its line.
+    // Each message ends with an LF.
     ghost output = { text_of };
 
     fn fmt<W: fmt::Write>(&self, f: &mut fmt::Formatter<W>) -> fmt::Result {
         match self {
-            Fault::Words(error) => error.fmt(f),
-            Fault::NotText => f.write_str("error: a word of the command line is not UTF-8 text\n"),
+            Fault::CommandLine(error) => error.fmt(f),
+            Fault::NotText => f.write_str("error: an argument is not UTF-8 text\n"),
             Fault::Script(RunFault::BadLine(line)) => writeln!(f, "script:{line}: bad line"),
             Fault::Script(RunFault::Read) => {
                 f.write_str("error: standard input cannot be read\n")
@@ -56,7 +56,7 @@ impl fmt::Display for Fault {
                 f.write_str("error: standard output cannot be written\n")
             }
             Fault::Script(RunFault::Node(NodeFault::BadRepoPrefix)) => f.write_str(
-                "error: the repository's prefix is empty, or begins with /localhost: give a name as /repo\n",
+                "error: the repository's prefix is empty or begins with /localhost: give a name such as /repo\n",
             ),
             Fault::Script(RunFault::Node(NodeFault::BadCapacity)) => f.write_str(
                 "error: the cache's capacity is out of range: give a number from 1 to 65536\n",

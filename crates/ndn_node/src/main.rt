@@ -20,27 +20,27 @@ use std::{env, io};
 const GENERIC: u16 = 8;
 
 fn main(rt: HostRuntime) -> ExitCode {
-    let Err(fault) = obey(&rt) else {
+    let Err(fault) = run(&rt) else {
         return ExitCode::SUCCESS;
     };
     let status = fault.exit_status();
-    // Where standard error takes no text, the status alone tells.
-    let _told = rt.eprint(fault);
+    // If standard error cannot be written, the exit status alone reports the fault.
+    let _printed = rt.eprint(fault);
     ExitCode::from(status)
 }
 
 /// Does what the command line asks for.
-fn obey<R: Env + AllocGlobal + Input + Print>(rt: &R) -> Result<(), Fault> {
-    let words = words_of(rt)?;
-    match request_of(rt.alloc(), words.as_slice())? {
+fn run<R: Env + AllocGlobal + Input + Print>(rt: &R) -> Result<(), Fault> {
+    let arguments = arguments_of(rt)?;
+    match request_of(rt.alloc(), arguments.as_slice())? {
         Request::Help(help) => rt.print(help).map_err(|_| Fault::Script(RunFault::Write)),
         Request::Script => script(rt).map_err(Fault::Script),
     }
 }
 
-fn words_of<R: Env + AllocGlobal>(rt: &R) -> Result<Vec<String>, Fault> {
+fn arguments_of<R: Env + AllocGlobal>(rt: &R) -> Result<Vec<String>, Fault> {
     match env::args(rt) {
-        Ok(words) => words
+        Ok(arguments) => arguments
             .collect(rt.alloc())
             .map_err(|_| Fault::Script(RunFault::Memory)),
         Err(error) if error.kind() == io::ErrorKind::OutOfMemory => {
@@ -50,19 +50,19 @@ fn words_of<R: Env + AllocGlobal>(rt: &R) -> Result<Vec<String>, Fault> {
     }
 }
 
-/// What a node is made of where no option says otherwise: the repository /repo, and a cache of 1,024
-/// Data.
+/// The parts of the node: the repository's prefix is `/repo`, and the cache holds 1,024 Data.
 fn default_parts(alloc: Global) -> Result<NodeParts, RunFault>
-    ensures parts { IfOk result (λ parts. parts ≡ record { repo = (8, codes "repo") ∷ []; cache = 1024 }) }
+    ensures parts { IfOk result (λ parts.
+        parts ≡ record { repo = (8, codes "repo") ∷ []; cache = 1024 }) }
     ensures memory { IfErr result (λ fault. fault ≡ RunFault.Memory) }
 {
     let mut repo = NameBuf::new(alloc);
-    // Only memory can be wanting for this component.
+    // This component can be refused for want of memory alone.
     repo.append(GENERIC, b"repo").map_err(|_| RunFault::Memory)?;
     Ok(NodeParts { repo, cache: 1024 })
 }
 
-/// Runs the script of standard input, and writes each answer to standard output as it comes.
+/// Runs the script on standard input, and writes each answer to standard output as it comes.
 fn script<R: AllocGlobal + Input + Print>(rt: &R) -> Result<(), RunFault> {
     let parts = default_parts(rt.alloc())?;
     run_script(rt.alloc(), &mut rt.reader(), &mut io::writer(rt), parts)

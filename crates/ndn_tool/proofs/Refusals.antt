@@ -16,10 +16,10 @@ abbrev pub IsToldBy : Option WriteFault → WriteFault → Type 0
 IsToldBy None why = why ≡ Memory
 IsToldBy (Some cause) why = cause ≡ why
 
-pub told : (refusal : Option WriteFault) (why : WriteFault) (r : Result Unit WriteFault) → r ≡ Err why
+pub answered_error : (refusal : Option WriteFault) (why : WriteFault) (r : Result Unit WriteFault) → r ≡ Err why
     → MatchOption refusal (IfErr r (λ fault. fault ≡ Memory)) (λ fault. r ≡ Err fault) → IsToldBy refusal why
-told None why r e h = rw e at h
-told (Some cause) why r e h = cc
+answered_error None why r e h = rw e at h
+answered_error (Some cause) why r e h = cc
 
 -- there is nothing to refuse where the packet is written
 pub none_told : (refusal : Option WriteFault) (r : Result Unit WriteFault) → r ≡ Ok tt

@@ -57,7 +57,8 @@ SignsData (Some name) book sign = IsHmac name book sign
 
 -- ---- the packets that are asked for
 
-pub record AsksInterest (job : InterestJob) (book : List NamedKey) (w : InterestWriter) : Type 0 where
+pub record AsksInterest (job : InterestJob) (book : List NamedKey) (w : InterestWriter)
+    : Type 0 where
   pub name : components w.name ≡ job.name
   pub can_be_prefix : w.can_be_prefix ≡ job.can_be_prefix
   pub must_be_fresh : w.must_be_fresh ≡ job.must_be_fresh
@@ -80,14 +81,19 @@ pub record AsksData (job : DataJob) (book : List NamedKey) (w : DataWriter) : Ty
 
 -- the line of the Interest that is asked for
 abbrev pub IsInterestAnswer : InterestJob → List NamedKey → List ℕ → Type 0
-IsInterestAnswer job book text = (w : InterestWriter) × AsksInterest job book w × (interest_refusal w ≡ None) × (text ≡ hex_line (interest_text w))
+IsInterestAnswer job book text =
+    (w : InterestWriter) × AsksInterest job book w × (interest_refusal w ≡ None)
+    × (text ≡ hex_line (interest_text w))
 
 abbrev pub IsDataAnswer : DataJob → List NamedKey → List ℕ → Type 0
-IsDataAnswer job book text = (w : DataWriter) × AsksData job book w × (data_refusal w ≡ None) × (text ≡ hex_line (data_text w))
+IsDataAnswer job book text =
+    (w : DataWriter) × AsksData job book w × (data_refusal w ≡ None)
+    × (text ≡ hex_line (data_text w))
 
 -- the line of the tag of the octets under the key
 abbrev pub IsTagAnswer : TagJob → List NamedKey → List ℕ → Type 0
-IsTagAnswer job book text = (key : List ℕ) × IsAmong (job.key, key) book × (text ≡ hex_line (Mac key job.octets.items))
+IsTagAnswer job book text =
+    (key : List ℕ) × IsAmong (job.key, key) book × (text ≡ hex_line (Mac key job.octets.items))
 
 -- the lines of what the octets hold
 abbrev pub IsShown : List ℕ → List ℕ → Type 0
@@ -106,14 +112,16 @@ IsAnswer (job.Show octets) book text = IsShown octets.items text
 abbrev pub IsInterestRefusal : InterestJob → List NamedKey → ToolFault → Type 0
 IsInterestRefusal job book (fault.Usage usage) = ⊥
 IsInterestRefusal job book fault.NoKey = LacksChosen job.key.key book
-IsInterestRefusal job book (fault.Write why) = (w : InterestWriter) × AsksInterest job book w × (interest_refusal w ≡ Some why)
+IsInterestRefusal job book (fault.Write why) =
+    (w : InterestWriter) × AsksInterest job book w × (interest_refusal w ≡ Some why)
 IsInterestRefusal job book (fault.Packet why) = ⊥
 IsInterestRefusal job book fault.Memory = ⊤
 
 abbrev pub IsDataRefusal : DataJob → List NamedKey → ToolFault → Type 0
 IsDataRefusal job book (fault.Usage usage) = ⊥
 IsDataRefusal job book fault.NoKey = LacksChosen job.key.key book
-IsDataRefusal job book (fault.Write why) = (w : DataWriter) × AsksData job book w × (data_refusal w ≡ Some why)
+IsDataRefusal job book (fault.Write why) =
+    (w : DataWriter) × AsksData job book w × (data_refusal w ≡ Some why)
 IsDataRefusal job book (fault.Packet why) = ⊥
 IsDataRefusal job book fault.Memory = ⊤
 

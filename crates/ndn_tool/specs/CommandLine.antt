@@ -9,16 +9,16 @@ use Rattle.clap.specs.Simple.{App, app_of, new_rule, new_shape}
 
 -- ---- arguments
 
--- a word that has to be there
-abbrev pub a_word : List ℕ → Rule
-a_word id = record (new_rule id) { required = true }
+-- a positional argument, which is required
+abbrev pub a_positional : List ℕ → Rule
+a_positional id = record (new_rule id) { required = true }
 
 -- an option with a value
 abbrev pub an_option : List ℕ → Rule
 an_option id = record (new_rule id) { long = Some id; value_names = 1 }
 
-abbrev pub a_needed_option : List ℕ → Rule
-a_needed_option id = record (new_rule id) { long = Some id; value_names = 1; required = true }
+abbrev pub a_required_option : List ℕ → Rule
+a_required_option id = record (new_rule id) { long = Some id; value_names = 1; required = true }
 
 -- an option without a value
 abbrev pub a_flag : List ℕ → Rule
@@ -32,8 +32,8 @@ a_subcommand name rules = record { top = record (new_shape name) { rules = rules
 
 unfoldable pub interest_app : App
 interest_app = a_subcommand (codes "interest") (
-    a_word (codes "URI")
-    ∷ a_needed_option (codes "nonce")
+    a_positional (codes "URI")
+    ∷ a_required_option (codes "nonce")
     ∷ a_flag (codes "can-be-prefix")
     ∷ a_flag (codes "must-be-fresh")
     ∷ an_option (codes "lifetime")
@@ -47,7 +47,7 @@ interest_app = a_subcommand (codes "interest") (
 
 unfoldable pub data_app : App
 data_app = a_subcommand (codes "data") (
-    a_word (codes "URI")
+    a_positional (codes "URI")
     ∷ an_option (codes "content")
     ∷ an_option (codes "freshness")
     ∷ an_option (codes "keys")
@@ -56,15 +56,15 @@ data_app = a_subcommand (codes "data") (
 
 unfoldable pub tag_app : App
 tag_app = a_subcommand (codes "tag") (
-    a_word (codes "HEX")
-    ∷ a_needed_option (codes "keys")
-    ∷ a_needed_option (codes "key")
+    a_positional (codes "HEX")
+    ∷ a_required_option (codes "keys")
+    ∷ a_required_option (codes "key")
     ∷ [])
 
 unfoldable pub show_app : App
-show_app = a_subcommand (codes "show") (a_word (codes "HEX") ∷ [])
+show_app = a_subcommand (codes "show") (a_positional (codes "HEX") ∷ [])
 
--- one of these is wanted, and there is none that is named `help`
+-- one of these is required, and none is named `help`
 unfoldable pub tool : App
 tool = record {
   top = record (new_shape (codes "ndn_tool")) {
@@ -78,10 +78,10 @@ tool = record {
 
 -- ---- what is built
 
--- a command that is read as this one, and no argument of which is for its subcommands too
+-- a command that is parsed as this one, with no argument that its subcommands share
 abbrev pub HasApp : App → Command → Type 0
 HasApp app command = (app_of command ≡ app) × ((out-Command command).has_globals ≡ false)
 
--- an argument that is read by this rule
+-- an argument that is parsed by this rule
 abbrev pub HasRule : Rule → Arg → Type 0
 HasRule rule arg = (rule_of arg ≡ rule) × (arg.global ≡ false)

@@ -1,4 +1,4 @@
--- What the program says of a fault, and the status that it exits with.
+-- The message and the exit status of each fault of the program.
 use Rattle.std.specs.Prelude.{ℕ, List, ◌++◌, codes, Option, Some, None}
 use Rattle.std.specs.Fmt.{decimal}
 use Rattle.hmac_keys.specs.declared.fault.KeyFault.{KeyFault}
@@ -7,13 +7,13 @@ use Rattle.ndn_packets.specs.declared.fault.WriteFault.{WriteFault}
 use Rattle.ndn_packets.specs.declared.fault.WriteFault.TheVariants.{BadName, TooLong, Memory as WriteMemory}
 use Rattle.ndn_packets.specs.FaultName.{packet_name}
 use Rattle.ndn_tool.specs.declared.fault.Usage.{Usage}
-use Rattle.ndn_tool.specs.declared.fault.Usage.TheVariants.{Words, Word}
+use Rattle.ndn_tool.specs.declared.fault.Usage.TheVariants.{CommandLine, BadValue}
 use Rattle.ndn_tool.specs.declared.fault.ToolFault.{ToolFault}
 use Rattle.ndn_tool.specs.declared.fault.ToolFault.TheVariants as tool
 use Rattle.ndn_tool.specs.declared.fault.Fault.{Fault}
 use Rattle.ndn_tool.specs.declared.fault.Fault.TheVariants as fault
 
--- a packet that is not written: want of memory is the program's own
+-- a packet that is not written; a lack of memory is the program's own fault
 abbrev pub fault_of_write : WriteFault → ToolFault
 fault_of_write BadName = tool.Write BadName
 fault_of_write TooLong = tool.Write TooLong
@@ -35,7 +35,7 @@ key_status (TwiceNamed line) = 1
 key_status TooMany = 1
 key_status KeyMemory = 3
 
--- 1 for a fault in the key file, 3 where the system refused something
+-- 1 for a fault in the key file, 3 if the system refused something
 abbrev pub status_of : Fault → ℕ
 status_of (fault.Tool why) = tool_status why
 status_of fault.NotText = 2
@@ -46,10 +46,12 @@ status_of fault.Write = 3
 abbrev pub out_of_memory : List ℕ
 out_of_memory = codes "error: out of memory\n"
 
--- what is wrong with words, the reader of the command line says
+-- the message of a wrong command line is the parser's
 abbrev pub usage_text : Usage → Option (List ℕ)
-usage_text (Words error) = None
-usage_text (Word place wanted) = Some (codes "error: a wrong value for " ++ place.now ++ codes ": give " ++ wanted.now ++ codes "\n")
+usage_text (CommandLine error) = None
+usage_text (BadValue place wanted) =
+    Some (codes "error: invalid value for " ++ place.now
+    ++ codes ": give " ++ wanted.now ++ codes "\n")
 
 abbrev pub tool_text : ToolFault → Option (List ℕ)
 tool_text (tool.Usage usage) = usage_text usage
@@ -66,10 +68,10 @@ key_text (TwiceNamed line) = codes "keys:" ++ decimal line ++ codes ": TwiceName
 key_text TooMany = codes "keys:0: TooMany\n"
 key_text KeyMemory = out_of_memory
 
--- the text for standard error, its LF with it
+-- the message for standard error, with its LF
 abbrev pub text_of : Fault → Option (List ℕ)
 text_of (fault.Tool why) = tool_text why
-text_of fault.NotText = Some (codes "error: a word of the command line is not UTF-8 text\n")
+text_of fault.NotText = Some (codes "error: an argument is not UTF-8 text\n")
 text_of (fault.Keys why) = Some (key_text why)
 text_of fault.Read = Some (codes "error: the key file cannot be read\n")
 text_of fault.Write = Some (codes "error: standard output cannot be written\n")

@@ -12,5 +12,7 @@ AreKeys octets keys = IsUtf8 octets × KeysOf octets keys
 
 -- the fault of the text, or a bad line without a number where the octets are not UTF-8
 abbrev pub IsFileFault : List ℕ → Fault → Type 0
-IsFileFault octets (Keys why) = (IsUtf8 octets × IsFaultOf (keys_in octets) why) ⊎ (¬ (IsUtf8 octets) × (why ≡ BadLine 0))
+IsFileFault octets (Keys why) =
+    (IsUtf8 octets × IsFaultOf (keys_in octets) why)
+    ⊎ (¬ (IsUtf8 octets) × (why ≡ BadLine 0))
 IsFileFault octets why = ⊥

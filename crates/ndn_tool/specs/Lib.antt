@@ -1,4 +1,4 @@
-pub mod Word
+pub mod Value
 pub mod Options
 pub mod Job
 pub mod Fault

@@ -8,63 +8,66 @@ use Rattle.ndn_tool.specs.declared.job.KeyChoice.{KeyChoice}
 use Rattle.ndn_tool.specs.declared.job.InterestJob.{InterestJob}
 use Rattle.ndn_tool.specs.declared.job.DataJob.{DataJob}
 use Rattle.ndn_tool.specs.declared.job.TagJob.{TagJob}
-use Rattle.ndn_tool.specs.Word.{IsNumber, IsHops, AreOctets, IsNonce}
+use Rattle.ndn_tool.specs.Value.{IsNumber, IsHops, AreOctets, IsNonce}
 
 -- what was found, option by option
 abbrev pub rows_in : ArgMatches → List Row
 rows_in options = rows_of (found_of options)
 
--- the word of an option, if it is there
-abbrev pub word_at : List Row → List ℕ → Option (List ℕ)
-word_at rows id = first_of id rows
+-- the value of an option, if it is there
+abbrev pub value_at : List Row → List ℕ → Option (List ℕ)
+value_at rows id = first_of id rows
 
--- what is said of a flag
+-- what was found for a flag
 abbrev pub flag_at : List Row → List ℕ → Option (List ℕ)
 flag_at rows id = one_of id rows
 
--- a path is the word itself
+-- a path is the value itself
 abbrev pub IsPath : {Z : Type 0} → List ℕ → String Z → Type 0
-IsPath word path = string_bytes path ≡ word
+IsPath value path = string_bytes path ≡ value
 
--- a word is there, and spells this
+-- the value is there, and spells this
 abbrev pub Has : {A : Type 0} → Option (List ℕ) → (List ℕ → A → Type 0) → A → Type 0
-Has word Spells x = (w : List ℕ) × (word ≡ Some w) × Spells w x
+Has value Spells x = (w : List ℕ) × (value ≡ Some w) × Spells w x
 
 -- the same, or neither is there
 abbrev pub MayHave : {A : Type 0} → Option (List ℕ) → (List ℕ → A → Type 0) → Option A → Type 0
-MayHave word Spells None = word ≡ None
-MayHave word Spells (Some x) = Has word Spells x
+MayHave value Spells None = value ≡ None
+MayHave value Spells (Some x) = Has value Spells x
 
 abbrev pub IsFlag : Option (List ℕ) → Bool → Type 0
-IsFlag said b = (said ≡ Some (codes "true") → b ≡ true) × (said ≡ Some (codes "false") → b ≡ false) × (said ≡ None → b ≡ false)
+IsFlag said b =
+    (said ≡ Some (codes "true") → b ≡ true)
+    × (said ≡ Some (codes "false") → b ≡ false)
+    × (said ≡ None → b ≡ false)
 
 pub record IsKeyChoice (rows : List Row) (choice : KeyChoice) : Type 0 where
-  pub keys : MayHave (word_at rows (codes "keys")) IsPath choice.keys
-  pub key : MayHave (word_at rows (codes "key")) ReadsAs choice.key
+  pub keys : MayHave (value_at rows (codes "keys")) IsPath choice.keys
+  pub key : MayHave (value_at rows (codes "key")) ReadsAs choice.key
 
 pub record IsInterestJob (rows : List Row) (job : InterestJob) : Type 0 where
-  pub name : Has (word_at rows (codes "URI")) ReadsAs job.name
+  pub name : Has (value_at rows (codes "URI")) ReadsAs job.name
   pub can_be_prefix : IsFlag (flag_at rows (codes "can-be-prefix")) job.can_be_prefix
   pub must_be_fresh : IsFlag (flag_at rows (codes "must-be-fresh")) job.must_be_fresh
-  pub nonce : Has (word_at rows (codes "nonce")) IsNonce job.nonce
-  pub lifetime : MayHave (word_at rows (codes "lifetime")) IsNumber job.lifetime
-  pub hop_limit : MayHave (word_at rows (codes "hop-limit")) IsHops job.hop_limit
-  pub parameters : MayHave (word_at rows (codes "parameters")) AreOctets job.parameters
-  pub time : MayHave (word_at rows (codes "time")) IsNumber job.time
-  pub seq : MayHave (word_at rows (codes "seq")) IsNumber job.seq
+  pub nonce : Has (value_at rows (codes "nonce")) IsNonce job.nonce
+  pub lifetime : MayHave (value_at rows (codes "lifetime")) IsNumber job.lifetime
+  pub hop_limit : MayHave (value_at rows (codes "hop-limit")) IsHops job.hop_limit
+  pub parameters : MayHave (value_at rows (codes "parameters")) AreOctets job.parameters
+  pub time : MayHave (value_at rows (codes "time")) IsNumber job.time
+  pub seq : MayHave (value_at rows (codes "seq")) IsNumber job.seq
   pub key : IsKeyChoice rows job.key
 
 pub record IsDataJob (rows : List Row) (job : DataJob) : Type 0 where
-  pub name : Has (word_at rows (codes "URI")) ReadsAs job.name
-  pub content : MayHave (word_at rows (codes "content")) AreOctets job.content
-  pub freshness : MayHave (word_at rows (codes "freshness")) IsNumber job.freshness
+  pub name : Has (value_at rows (codes "URI")) ReadsAs job.name
+  pub content : MayHave (value_at rows (codes "content")) AreOctets job.content
+  pub freshness : MayHave (value_at rows (codes "freshness")) IsNumber job.freshness
   pub key : IsKeyChoice rows job.key
 
 pub record IsTagJob (rows : List Row) (job : TagJob) : Type 0 where
-  pub octets : Has (word_at rows (codes "HEX")) AreOctets job.octets
-  pub keys : Has (word_at rows (codes "keys")) IsPath job.keys
-  pub key : Has (word_at rows (codes "key")) ReadsAs job.key
+  pub octets : Has (value_at rows (codes "HEX")) AreOctets job.octets
+  pub keys : Has (value_at rows (codes "keys")) IsPath job.keys
+  pub key : Has (value_at rows (codes "key")) ReadsAs job.key
 
 -- the octets to show
 abbrev pub IsShowJob : {Z : Type 0} → List Row → Vec ℕ Z → Type 0
-IsShowJob rows octets = Has (word_at rows (codes "HEX")) AreOctets octets
+IsShowJob rows octets = Has (value_at rows (codes "HEX")) AreOctets octets

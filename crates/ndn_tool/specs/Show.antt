@@ -1,4 +1,4 @@
--- What a packet holds, in lines of words.
+-- What a packet holds, as lines of text.
 use Rattle.std.specs.Prelude.{ℕ, List, [], ◌∷◌, ◌++◌, codes, Option, None, Some, Bool, if◌then◌else◌}
 use Rattle.std.specs.Option.{option_map}
 use Rattle.std.specs.Fmt.{decimal}
@@ -9,52 +9,59 @@ use Rattle.ndn_packets.specs.Packet.{PlainSignature, PlainInterest, PlainData, P
 abbrev pub line : List ℕ → List ℕ
 line text = text ++ codes "\n"
 
--- a word, a space and a value
+-- a label, a space and a value
 abbrev pub named_line : List ℕ → List ℕ → List ℕ
-named_line word value = word ++ (codes " " ++ line value)
+named_line label value = label ++ (codes " " ++ line value)
 
--- a word alone, where it holds
+-- a label alone, where it holds
 abbrev pub flag_line : List ℕ → Bool → List ℕ
-flag_line word holds = if holds then line word else []
+flag_line label holds = if holds then line label else []
 
 -- what is absent has no line
 abbrev pub optional_line : List ℕ → Option (List ℕ) → List ℕ
-optional_line word None = []
-optional_line word (Some value) = named_line word value
+optional_line label None = []
+optional_line label (Some value) = named_line label value
 
 -- hexadecimal in lower case, or a dash for no octets
-abbrev pub hex_word : List ℕ → List ℕ
-hex_word [] = codes "-"
-hex_word (o ∷ octets) = encode_lower (o ∷ octets)
+abbrev pub hex_or_dash : List ℕ → List ℕ
+hex_or_dash [] = codes "-"
+hex_or_dash (o ∷ octets) = encode_lower (o ∷ octets)
 
 -- the type of the signature and its value
 abbrev pub signature_line : PlainSignature → List ℕ
-signature_line s = named_line (codes "signature") (decimal s.info.kind ++ (codes " " ++ hex_word s.value))
+signature_line s =
+    named_line (codes "signature") (decimal s.info.kind ++ (codes " " ++ hex_or_dash s.value))
 
 abbrev pub signature_lines : Option PlainSignature → List ℕ
 signature_lines None = []
 signature_lines (Some s) = signature_line s
 
 abbrev pub flag_lines : PlainInterest → List ℕ
-flag_lines i = flag_line (codes "can-be-prefix") i.can_be_prefix ++ flag_line (codes "must-be-fresh") i.must_be_fresh
+flag_lines i =
+    flag_line (codes "can-be-prefix") i.can_be_prefix
+    ++ flag_line (codes "must-be-fresh") i.must_be_fresh
 
 abbrev pub number_lines : PlainInterest → List ℕ
 number_lines i =
-    named_line (codes "nonce") (hex_word i.nonce)
+    named_line (codes "nonce") (hex_or_dash i.nonce)
     ++ (named_line (codes "lifetime") (decimal i.lifetime)
     ++ optional_line (codes "hop-limit") (option_map decimal i.hop_limit))
 
 abbrev pub parameter_lines : PlainInterest → List ℕ
-parameter_lines i = optional_line (codes "parameters") (option_map hex_word i.parameters) ++ signature_lines i.signature
+parameter_lines i =
+    optional_line (codes "parameters") (option_map hex_or_dash i.parameters)
+    ++ signature_lines i.signature
 
 abbrev pub interest_lines : PlainInterest → List ℕ
-interest_lines i = named_line (codes "interest") (uri_of i.name) ++ (flag_lines i ++ (number_lines i ++ parameter_lines i))
+interest_lines i =
+    named_line (codes "interest") (uri_of i.name)
+    ++ (flag_lines i ++ (number_lines i ++ parameter_lines i))
 
 abbrev pub data_lines : PlainData → List ℕ
 data_lines d =
     named_line (codes "data") (uri_of d.name)
     ++ (named_line (codes "freshness") (decimal d.freshness)
-    ++ (optional_line (codes "content") (option_map hex_word d.content)
+    ++ (optional_line (codes "content") (option_map hex_or_dash d.content)
     ++ signature_line d.signature))
 
 abbrev pub frame_lines : PlainFrame → List ℕ

@@ -13,10 +13,11 @@ use std::alloc::{AllocError, Global};
 
 /// Appends what the program prints for a job, with the keys of its key file.
 ///
-/// Refuses it by cause, and else by `Memory`, and then appends nothing. `Usage` never comes.
+/// Refuses a job by its cause or by `Memory`, never by `Usage`, and then appends nothing.
 pub fn answer(alloc: Global, job: &Job, book: &KeyBook, out: &mut Vec<u8>) -> Result<(), ToolFault>
     ensures answered { MatchResult result
-        (λ _. (text : List ℕ) × IsAnswer job.now book.now text × (out.new.items ≡ out.old.items ++ text))
+        (λ _. (text : List ℕ) × IsAnswer job.now book.now text
+        × (out.new.items ≡ out.old.items ++ text))
         (IsRefusal job.now book.now) }
     ensures err { OnErr result (out.new.items ≡ out.old.items) }
 {
@@ -26,7 +27,9 @@ pub fn answer(alloc: Global, job: &Job, book: &KeyBook, out: &mut Vec<u8>) -> Re
 }
 
 fn text_of(alloc: Global, job: &Job, book: &KeyBook) -> Result<Vec<u8>, ToolFault>
-    ensures { MatchResult result (λ text. IsAnswer job.now book.now text.items) (IsRefusal job.now book.now) }
+    ensures { MatchResult result
+        (λ text. IsAnswer job.now book.now text.items)
+        (IsRefusal job.now book.now) }
 {
     match job {
         Job::Help(help) => Ok(help.to_string(alloc)?.into_bytes()),
@@ -38,7 +41,9 @@ fn text_of(alloc: Global, job: &Job, book: &KeyBook) -> Result<Vec<u8>, ToolFaul
 }
 
 fn interest_text(alloc: Global, job: &InterestJob, book: &KeyBook) -> Result<Vec<u8>, ToolFault>
-    ensures { MatchResult result (λ text. IsInterestAnswer job.now book.now text.items) (IsInterestRefusal job.now book.now) }
+    ensures { MatchResult result
+        (λ text. IsInterestAnswer job.now book.now text.items)
+        (IsInterestRefusal job.now book.now) }
 {
     let sign = interest_sign(&job.key.key, book)?;
     let writer = InterestWriter {
@@ -59,7 +64,9 @@ fn interest_text(alloc: Global, job: &InterestJob, book: &KeyBook) -> Result<Vec
 }
 
 fn data_text(alloc: Global, job: &DataJob, book: &KeyBook) -> Result<Vec<u8>, ToolFault>
-    ensures { MatchResult result (λ text. IsDataAnswer job.now book.now text.items) (IsDataRefusal job.now book.now) }
+    ensures { MatchResult result
+        (λ text. IsDataAnswer job.now book.now text.items)
+        (IsDataRefusal job.now book.now) }
 {
     let sign = data_sign(&job.key.key, book)?;
     let writer = DataWriter {
@@ -75,7 +82,9 @@ fn data_text(alloc: Global, job: &DataJob, book: &KeyBook) -> Result<Vec<u8>, To
 }
 
 fn tag_text(alloc: Global, job: &TagJob, book: &KeyBook) -> Result<Vec<u8>, ToolFault>
-    ensures { MatchResult result (λ text. IsTagAnswer job.now book.now text.items) (IsTagRefusal job.now book.now) }
+    ensures { MatchResult result
+        (λ text. IsTagAnswer job.now book.now text.items)
+        (IsTagRefusal job.now book.now) }
 {
     match book.find(job.key.view()) {
         None => Err(ToolFault::NoKey),
@@ -96,7 +105,7 @@ fn shown_text(alloc: Global, octets: &[u8]) -> Result<Vec<u8>, ToolFault>
     }
 }
 
-/// The signature of an Interest: by its key, or none.
+/// The signature of an Interest: with its key, or none.
 fn interest_sign<'a>(
     key: &'a Option<NameBuf>,
     book: &'a KeyBook,
@@ -109,7 +118,7 @@ fn interest_sign<'a>(
     }
 }
 
-/// The signature of a Data: by its key, or by DigestSha256.
+/// The signature of a Data: with its key, or by DigestSha256.
 fn data_sign<'a>(key: &'a Option<NameBuf>, book: &'a KeyBook) -> Result<Sign<'a>, ToolFault>
     ensures { MatchResult result (SignsData key.now book.now) (IsNoKey key.now book.now) }
 {
@@ -119,7 +128,7 @@ fn data_sign<'a>(key: &'a Option<NameBuf>, book: &'a KeyBook) -> Result<Sign<'a>
     }
 }
 
-/// A signature by the key of this name.
+/// A signature with the key of this name.
 fn hmac_of<'a>(name: &'a NameBuf, book: &'a KeyBook) -> Result<Sign<'a>, ToolFault>
     ensures { MatchResult result (IsHmac name.now book.now) (IsNoKey (Some name.now) book.now) }
 {

@@ -2,48 +2,47 @@
 ghost use Rattle.std.specs.Prelude.{◌≡◌, codes, map, option_map, IfOk, MatchResult};
 ghost use Rattle.clap.specs.Words.{kind_of, subcommand_rows_of, with_rule};
 ghost use Rattle.clap.specs.Simple.{App};
-ghost use Rattle.ndn_tool.specs.Word.{IsUsage, ReadsInMemory};
+ghost use Rattle.ndn_tool.specs.Value.{IsUsage, ReadsInMemory};
 ghost use Rattle.ndn_tool.specs.Options.{rows_in};
-ghost use Rattle.ndn_tool.specs.CommandLine.{HasApp, HasRule, a_word, an_option, a_needed_option, a_flag, interest_app, data_app, tag_app, show_app, tool};
+ghost use Rattle.ndn_tool.specs.CommandLine.{HasApp, HasRule, a_positional, an_option, a_required_option, a_flag, interest_app, data_app, tag_app, show_app, tool};
 ghost use Rattle.ndn_tool.specs.Command.{reading_of, IsJob, IsNamedJob, Asks, IsRefusedLine};
 
 use crate::fault::{ToolFault, Usage};
 use crate::job::{DataJob, InterestJob, Job, TagJob};
-use crate::options::needed_octets;
+use crate::options::required_octets;
 use clap::error::ErrorKind;
 use clap::{Arg, ArgAction, ArgMatches, Command, Error};
 use std::alloc::{AllocError, Global};
 use std::convert::AsStr;
 
 const ABOUT: &str =
-    "A client of Named Data Networking: writes packets, computes tags and shows what packets hold.";
+    "A Named Data Networking client: it writes packets, computes tags and shows what packets hold.";
 
 const AFTER: &str =
-    "Packets and other octets are in hexadecimal, two digits for each octet, of either case. URI is the text
-of a name, as /A/seg=5. Numbers are in decimal digits.
+    "Packets and other octets are in hexadecimal, two digits for each octet, in either case. URI is
+the text of a name, such as /A/seg=5. Numbers are decimal.
 
-A key file has on each line the URI of a key's name, a space, and the key in hexadecimal. Empty lines,
-and lines that begin with ;, are skipped.
+A key file has on each line the URI of a key's name, a space, and the key in hexadecimal. Empty
+lines, and lines that begin with ;, are skipped.
 
-Example: a key, a signed Interest, and what it holds.
+Example: a key, an Interest signed with it, and what that Interest holds.
   $ echo '/ops/KEY/1 6b6579' > ops.keys
   $ packet=$(ndn_tool interest /A --nonce 01020304 --keys ops.keys --key /ops/KEY/1 --time 1000000)
   $ ndn_tool show $packet
 
-Exit status: 0 where the answer is printed, 1 for a fault in a key file, a key that is not there or a
-packet that cannot be read or written, 2 for a wrong command line, 3 where reading, writing or memory
-fails.";
+Exit status: 0 if the answer is printed, 1 for a fault in a key file, a missing key or a packet that
+cannot be read or written, 2 for a wrong command line, 3 if reading, writing or memory fails.";
 
 const AFTER_INTEREST: &str =
-    "With --key the Interest is signed with HmacWithSha256, and has parameters, empty ones where no others are
-given; their digest is put behind the name. --time and --seq are of signed Interests.
+    "With --key the Interest is signed with HmacWithSha256 and has parameters, empty if none are
+given; their digest is appended to the name. --time and --seq apply to signed Interests alone.
 
-Example: the Interest /A, which waits for 4,000 milliseconds.
+Example: an Interest for /A with the default lifetime of 4,000 milliseconds.
   $ ndn_tool interest /A --nonce 01020304
   050b07030801410a0401020304";
 
 const AFTER_DATA: &str =
-    "Without --key the Data is signed with DigestSha256, and with --key with HmacWithSha256.
+    "Without --key the Data is signed with DigestSha256; with --key, with HmacWithSha256.
 
 Example: a Data named /A whose content is the letter x.
   $ ndn_tool data /A --content 78
@@ -56,8 +55,8 @@ const AFTER_TAG: &str =
   5bdcc146bf60754e6a042426089575c75a003f089d2739839dec58b964ec3843";
 
 const AFTER_SHOW: &str =
-    "A line for each thing that the packet has, and always one for the lifetime of an Interest and the
-freshness of a Data; - stands for no octets.
+    "Prints one line for each field of the packet, and always one for the lifetime of an Interest
+and the freshness of a Data; - stands for no octets.
 
 Example: a Data named /A.
   $ ndn_tool show 060f070308014115017816031b01001700
@@ -66,14 +65,16 @@ Example: a Data named /A.
   content 78
   signature 0 -";
 
-/// Reads the words of a command line, of which the first is the program's name.
+/// Reads the arguments of a command line, the first of which is the program's name.
 ///
-/// Refuses it by `Usage` where it is wrong, and else by `Memory`.
-pub fn parse_words<S: AsStr>(alloc: Global, words: &[S]) -> Result<Job, ToolFault>
-    ensures { MatchResult result (Asks (map S.text words.now)) (IsRefusedLine (map S.text words.now)) }
+/// Refuses a wrong command line by `Usage`, and any other by `Memory` alone.
+pub fn parse_arguments<S: AsStr>(alloc: Global, arguments: &[S]) -> Result<Job, ToolFault>
+    ensures { MatchResult result
+        (Asks (map S.text arguments.now))
+        (IsRefusedLine (map S.text arguments.now)) }
 {
     let mut command = command(alloc)?;
-    match command.try_get_matches_from_mut(words) {
+    match command.try_get_matches_from_mut(arguments) {
         Ok(matches) => job_of(alloc, &matches),
         Err(error) => answer_to(error),
     }
@@ -85,7 +86,7 @@ fn answer_to(error: Error) -> Result<Job, ToolFault>
     match error.kind() {
         ErrorKind::DisplayHelp => Ok(Job::Help(error)),
         ErrorKind::OutOfMemory => Err(ToolFault::Memory),
-        _ => Err(ToolFault::Usage(Usage::Words(error))),
+        _ => Err(ToolFault::Usage(Usage::CommandLine(error))),
     }
 }
 
@@ -114,7 +115,7 @@ fn named_job(alloc: Global, name: &str, options: &ArgMatches<'_>) -> Result<Job,
         "interest" => Ok(Job::Interest(InterestJob::read(alloc, options)?)),
         "data" => Ok(Job::Data(DataJob::read(alloc, options)?)),
         "tag" => Ok(Job::Tag(TagJob::read(alloc, options)?)),
-        "show" => Ok(Job::Show(needed_octets(alloc, options, "HEX")?)),
+        "show" => Ok(Job::Show(required_octets(alloc, options, "HEX")?)),
         _ => Err(no_subcommand()),
     }
 }
@@ -122,8 +123,8 @@ fn named_job(alloc: Global, name: &str, options: &ArgMatches<'_>) -> Result<Job,
 fn no_subcommand() -> ToolFault
     ensures { IsUsage result }
 {
-    ToolFault::Usage(Usage::Word {
-        place: "the first word",
+    ToolFault::Usage(Usage::BadValue {
+        place: "the first positional",
         wanted: "a subcommand",
     })
 }
@@ -147,27 +148,27 @@ fn interest_command<'a>(alloc: Global) -> Result<Command<'a>, AllocError>
     ensures { IfOk result (HasApp interest_app) }
 {
     let command = Command::new(alloc, "interest")
-        .about("Writes an Interest, and prints it")
+        .about("Writes an Interest and prints it")
         .after_help(AFTER_INTEREST)
-        .arg(word(alloc, "URI", "The name"))?
-        .arg(needed_option(alloc, "nonce", "HEX", "The Nonce, 4 octets"))?
-        .arg(flag(alloc, "can-be-prefix", "Data of longer names answer too"))?
+        .arg(positional(alloc, "URI", "The name"))?
+        .arg(required_option(alloc, "nonce", "HEX", "The Nonce, 4 octets"))?
         .arg(flag(
             alloc,
-            "must-be-fresh",
-            "Data that is not fresh does not answer",
+            "can-be-prefix",
+            "Data with longer names may answer too",
         ))?
+        .arg(flag(alloc, "must-be-fresh", "Only fresh Data may answer"))?
         .arg(option(
             alloc,
             "lifetime",
             "N",
-            "The lifetime in milliseconds; 4000 where none is given",
+            "The lifetime in milliseconds; 4000 if absent",
         ))?
         .arg(option(
             alloc,
             "hop-limit",
             "N",
-            "How many hops it may go, at most 255",
+            "How many hops it may travel, at most 255",
         ))?
         .arg(option(alloc, "parameters", "HEX", "The application parameters"))?
         .arg(option(
@@ -184,15 +185,15 @@ fn data_command<'a>(alloc: Global) -> Result<Command<'a>, AllocError>
     ensures { IfOk result (HasApp data_app) }
 {
     let command = Command::new(alloc, "data")
-        .about("Writes a Data, and prints it")
+        .about("Writes a Data and prints it")
         .after_help(AFTER_DATA)
-        .arg(word(alloc, "URI", "The name"))?
+        .arg(positional(alloc, "URI", "The name"))?
         .arg(option(alloc, "content", "HEX", "The content"))?
         .arg(option(
             alloc,
             "freshness",
             "N",
-            "How long it is fresh, in milliseconds",
+            "How long the Data is fresh, in milliseconds",
         ))?;
     with_key(alloc, command)
 }
@@ -201,11 +202,11 @@ fn tag_command<'a>(alloc: Global) -> Result<Command<'a>, AllocError>
     ensures { IfOk result (HasApp tag_app) }
 {
     Command::new(alloc, "tag")
-        .about("Computes the HMAC with SHA-256 of octets, and prints it")
+        .about("Computes the HMAC with SHA-256 of octets and prints it")
         .after_help(AFTER_TAG)
-        .arg(word(alloc, "HEX", "The octets"))?
-        .arg(needed_option(alloc, "keys", "FILE", "The key file"))?
-        .arg(needed_option(alloc, "key", "URI", "The name of the key"))
+        .arg(positional(alloc, "HEX", "The octets"))?
+        .arg(required_option(alloc, "keys", "FILE", "The key file"))?
+        .arg(required_option(alloc, "key", "URI", "The name of the key"))
 }
 
 fn show_command<'a>(alloc: Global) -> Result<Command<'a>, AllocError>
@@ -214,28 +215,29 @@ fn show_command<'a>(alloc: Global) -> Result<Command<'a>, AllocError>
     Command::new(alloc, "show")
         .about("Shows what a packet holds")
         .after_help(AFTER_SHOW)
-        .arg(word(alloc, "HEX", "The packet, alone or in a link packet"))
+        .arg(positional(alloc, "HEX", "The packet, alone or in a link packet"))
 }
 
-/// With the options of a key.
+/// The command with the options of a key.
 fn with_key<'a>(alloc: Global, command: Command<'a>) -> Result<Command<'a>, AllocError>
-    ensures { (app : App) → HasApp app command.entry → IfOk result (HasApp (with_rule (with_rule app (an_option (codes "keys"))) (an_option (codes "key")))) }
+    ensures { (app : App) → HasApp app command.entry → IfOk result
+        (HasApp (with_rule (with_rule app (an_option (codes "keys"))) (an_option (codes "key")))) }
 {
     command
         .arg(option(alloc, "keys", "FILE", "The key file"))?
         .arg(option(alloc, "key", "URI", "The name of the key to sign with"))
 }
 
-/// A word that has to be there.
-fn word<'a>(alloc: Global, id: &'a str, help: &'a str) -> Arg<'a>
-    ensures { HasRule (a_word id.entry.now) result }
+/// A positional argument, which is required.
+fn positional<'a>(alloc: Global, id: &'a str, help: &'a str) -> Arg<'a>
+    ensures { HasRule (a_positional id.entry.now) result }
 {
     Arg::new(alloc, id).required(true).help(help)
 }
 
-/// An option with a value, which has to be there.
-fn needed_option<'a>(alloc: Global, id: &'a str, value: &'a str, help: &'a str) -> Arg<'a>
-    ensures { HasRule (a_needed_option id.entry.now) result }
+/// A required option with a value.
+fn required_option<'a>(alloc: Global, id: &'a str, value: &'a str, help: &'a str) -> Arg<'a>
+    ensures { HasRule (a_required_option id.entry.now) result }
 {
     option(alloc, id, value, help).required(true)
 }

@@ -1,4 +1,4 @@
-//! Why the program stops: what it says, and the status that it exits with.
+//! Why the program stops: its message and its exit status.
 use hmac_keys::KeyFault;
 use ndn_packets::{PacketFault, WriteFault};
 use ndn_tlv::Memory;
@@ -8,18 +8,18 @@ use std::fmt;
 /// What is wrong with a command line.
 #[derive(Debug, Drop)]
 pub enum Usage {
-    /// The words are no command line.
-    Words(clap::Error),
-    /// The word at a place is not what stands there.
-    Word {
-        /// The place, as the help names it.
+    /// The arguments are not a command line.
+    CommandLine(clap::Error),
+    /// A value is not one that may be given there.
+    BadValue {
+        /// The option or argument, as the help names it.
         place: &'static str,
-        /// What a right word is.
+        /// What to give there.
         wanted: &'static str,
     },
 }
 
-/// Why a job is not done.
+/// Why a job was not done.
 #[derive(Debug, Drop)]
 pub enum ToolFault {
     /// The command line is wrong.
@@ -28,20 +28,20 @@ pub enum ToolFault {
     NoKey,
     /// The packet cannot be written.
     Write(WriteFault),
-    /// The octets that are to be shown are no packet.
+    /// The octets to show are not a packet.
     Packet(PacketFault),
     /// A growth of memory was refused.
     Memory,
 }
 
-/// Why the program has not done what it was asked.
+/// Why the program did not do what it was asked.
 #[derive(Debug, Drop)]
 pub enum Fault {
-    /// The job is not done.
+    /// The job was not done.
     Tool(ToolFault),
-    /// A word of the command line is not UTF-8.
+    /// An argument is not UTF-8.
     NotText,
-    /// The key file is none.
+    /// The file is not a key file.
     Keys(KeyFault),
     /// The key file cannot be read.
     Read,
@@ -53,8 +53,8 @@ impl ToolFault {
     ghost use Rattle.std.specs.Prelude.{◌≡◌};
     ghost use Rattle.ndn_tool.specs.Fault.{tool_status};
 
-    /// The exit status: 1 for a key that is not there and for a packet, 2 for a wrong command line, 3
-    /// where memory was refused.
+    /// The exit status: 1 for a missing key or a bad packet, 2 for a wrong command line, 3 if
+    /// memory was refused.
     pub fn exit_status(&self) -> u8
         ensures { result ≡ tool_status self.now }
     {
@@ -72,8 +72,8 @@ impl Fault {
     ghost use Rattle.std.specs.Prelude.{◌≡◌};
     ghost use Rattle.ndn_tool.specs.Fault.{status_of};
 
-    /// The exit status: that of the job's fault, or 1 for a key file that is none, 2 for a wrong
-    /// command line, 3 where reading, writing or memory failed.
+    /// The exit status: that of the job's fault, or 1 for a bad key file, 2 for a wrong command
+    /// line, 3 if reading, writing or memory failed.
     pub fn exit_status(&self) -> u8
         ensures { result ≡ status_of self.now }
     {
@@ -89,14 +89,14 @@ impl Fault {
 impl fmt::Display for ToolFault {
     ghost use Rattle.ndn_tool.specs.Fault.{tool_text};
 
-    // Each text ends its line.
+    // Each message ends with an LF.
     ghost output = { tool_text };
 
     fn fmt<W: fmt::Write>(&self, f: &mut fmt::Formatter<W>) -> fmt::Result {
         match self {
-            ToolFault::Usage(Usage::Words(error)) => error.fmt(f),
-            ToolFault::Usage(Usage::Word { place, wanted }) => {
-                writeln!(f, "error: a wrong value for {place}: give {wanted}")
+            ToolFault::Usage(Usage::CommandLine(error)) => error.fmt(f),
+            ToolFault::Usage(Usage::BadValue { place, wanted }) => {
+                writeln!(f, "error: invalid value for {place}: give {wanted}")
             }
             ToolFault::NoKey => f.write_str("key not found\n"),
             ToolFault::Write(WriteFault::Memory) | ToolFault::Memory => {
@@ -111,13 +111,13 @@ impl fmt::Display for ToolFault {
 impl fmt::Display for Fault {
     ghost use Rattle.ndn_tool.specs.Fault.{text_of};
 
-    // Each text ends its line.
+    // Each message ends with an LF.
     ghost output = { text_of };
 
     fn fmt<W: fmt::Write>(&self, f: &mut fmt::Formatter<W>) -> fmt::Result {
         match self {
             Fault::Tool(fault) => fault.fmt(f),
-            Fault::NotText => f.write_str("error: a word of the command line is not UTF-8 text\n"),
+            Fault::NotText => f.write_str("error: an argument is not UTF-8 text\n"),
             Fault::Keys(KeyFault::BadLine(line)) => writeln!(f, "keys:{line}: BadLine"),
             Fault::Keys(KeyFault::TwiceNamed(line)) => writeln!(f, "keys:{line}: TwiceNamed"),
             Fault::Keys(KeyFault::TooMany) => f.write_str("keys:0: TooMany\n"),

@@ -9,7 +9,7 @@ use std::alloc::Global;
 /// What a command line asks for: a subcommand with its options.
 #[derive(Drop)]
 pub enum Job {
-    /// A text of help.
+    /// The help text.
     Help(Error),
     /// To write an Interest.
     Interest(InterestJob),
@@ -17,7 +17,7 @@ pub enum Job {
     Data(DataJob),
     /// To compute the tag of octets.
     Tag(TagJob),
-    /// To show what octets of a link hold.
+    /// To show what a packet holds.
     Show(Vec<u8>),
 }
 
@@ -92,7 +92,7 @@ impl Job {
 }
 
 impl InterestJob {
-    ghost use Rattle.ndn_tool.specs.Word.{ReadsInMemory};
+    ghost use Rattle.ndn_tool.specs.Value.{ReadsInMemory};
     ghost use Rattle.ndn_tool.specs.Options.{rows_in, IsInterestJob};
 
     /// The Interest that the options of `interest` ask for.
@@ -100,10 +100,10 @@ impl InterestJob {
         ensures { ReadsInMemory (IsInterestJob (rows_in options.now)) result }
     {
         Ok(InterestJob {
-            name: options::needed_name(alloc, options, "URI")?,
+            name: options::required_name(alloc, options, "URI")?,
             can_be_prefix: options::flag(options, "can-be-prefix"),
             must_be_fresh: options::flag(options, "must-be-fresh"),
-            nonce: options::needed_nonce(options, "nonce")?,
+            nonce: options::required_nonce(options, "nonce")?,
             lifetime: options::number(options, "lifetime")?,
             hop_limit: options::hops(options, "hop-limit")?,
             parameters: options::octets(alloc, options, "parameters")?,
@@ -115,7 +115,7 @@ impl InterestJob {
 }
 
 impl DataJob {
-    ghost use Rattle.ndn_tool.specs.Word.{ReadsInMemory};
+    ghost use Rattle.ndn_tool.specs.Value.{ReadsInMemory};
     ghost use Rattle.ndn_tool.specs.Options.{rows_in, IsDataJob};
 
     /// The Data that the options of `data` ask for.
@@ -123,7 +123,7 @@ impl DataJob {
         ensures { ReadsInMemory (IsDataJob (rows_in options.now)) result }
     {
         Ok(DataJob {
-            name: options::needed_name(alloc, options, "URI")?,
+            name: options::required_name(alloc, options, "URI")?,
             content: options::octets(alloc, options, "content")?,
             freshness: options::number(options, "freshness")?,
             key: KeyChoice::read(alloc, options)?,
@@ -132,7 +132,7 @@ impl DataJob {
 }
 
 impl TagJob {
-    ghost use Rattle.ndn_tool.specs.Word.{ReadsInMemory};
+    ghost use Rattle.ndn_tool.specs.Value.{ReadsInMemory};
     ghost use Rattle.ndn_tool.specs.Options.{rows_in, IsTagJob};
 
     /// The octets and the key that the options of `tag` name.
@@ -140,16 +140,16 @@ impl TagJob {
         ensures { ReadsInMemory (IsTagJob (rows_in options.now)) result }
     {
         Ok(TagJob {
-            octets: options::needed_octets(alloc, options, "HEX")?,
-            keys: options::needed_path(alloc, options, "keys")?,
-            key: options::needed_name(alloc, options, "key")?,
+            octets: options::required_octets(alloc, options, "HEX")?,
+            keys: options::required_path(alloc, options, "keys")?,
+            key: options::required_name(alloc, options, "key")?,
         })
     }
 }
 
 impl KeyChoice {
     ghost use Rattle.std.specs.Prelude.{◌≡◌, option_map, string_bytes};
-    ghost use Rattle.ndn_tool.specs.Word.{ReadsInMemory};
+    ghost use Rattle.ndn_tool.specs.Value.{ReadsInMemory};
     ghost use Rattle.ndn_tool.specs.Options.{rows_in, IsKeyChoice};
 
     fn read(alloc: Global, options: &ArgMatches<'_>) -> Result<KeyChoice, ToolFault>

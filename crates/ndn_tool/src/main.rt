@@ -1,5 +1,4 @@
-//! The client of a Named Data Networking node: writes packets, computes tags and shows what packets
-//! hold.
+//! A Named Data Networking client: it writes packets, computes tags and shows what packets hold.
 #![tactic(auto)]
 
 ghost use Rattle.std.specs.Prelude.{MatchResult};
@@ -11,10 +10,10 @@ mod fault;
 mod job;
 mod options;
 mod show;
-mod word;
+mod value;
 
 use answer::answer;
-use command::parse_words;
+use command::parse_arguments;
 use fault::{Fault, ToolFault};
 use hmac_keys::{KeyBook, KeyFault};
 use job::Job;
@@ -26,28 +25,28 @@ use std::rt::Files;
 use std::{env, fs, io, str};
 
 fn main(rt: HostRuntime) -> ExitCode {
-    let Err(fault) = obey(&rt) else {
+    let Err(fault) = run(&rt) else {
         return ExitCode::SUCCESS;
     };
     let status = fault.exit_status();
-    // Where standard error takes no text, the status alone tells.
-    let _told = rt.eprint(fault);
+    // If standard error cannot be written, the exit status alone reports the fault.
+    let _printed = rt.eprint(fault);
     ExitCode::from(status)
 }
 
 /// Does what the command line asks for, and prints the answer.
-fn obey<R: Env + AllocGlobal + Files + Print>(rt: &R) -> Result<(), Fault> {
-    let words = words_of(rt)?;
-    let job = parse_words(rt.alloc(), words.as_slice())?;
+fn run<R: Env + AllocGlobal + Files + Print>(rt: &R) -> Result<(), Fault> {
+    let arguments = arguments_of(rt)?;
+    let job = parse_arguments(rt.alloc(), arguments.as_slice())?;
     let book = book_of(rt, &job)?;
     let mut text = Vec::new(rt.alloc());
     answer(rt.alloc(), &job, &book, &mut text)?;
     io::writer(rt).write_all(&text).map_err(|_| Fault::Write)
 }
 
-fn words_of<R: Env + AllocGlobal>(rt: &R) -> Result<Vec<String>, Fault> {
+fn arguments_of<R: Env + AllocGlobal>(rt: &R) -> Result<Vec<String>, Fault> {
     match env::args(rt) {
-        Ok(words) => Ok(words.collect(rt.alloc())?),
+        Ok(arguments) => Ok(arguments.collect(rt.alloc())?),
         Err(error) if error.kind() == io::ErrorKind::OutOfMemory => {
             Err(Fault::Tool(ToolFault::Memory))
         }
@@ -69,7 +68,7 @@ fn book_of<R: AllocGlobal + Files>(rt: &R, job: &Job) -> Result<KeyBook, Fault> 
     }
 }
 
-/// The keys of a key file. One that is not UTF-8 is a bad line, which has no number.
+/// The keys of a key file. One that is not UTF-8 is reported as a bad line with the number 0.
 fn read_book(alloc: Global, octets: &[u8]) -> Result<KeyBook, Fault>
     ensures { MatchResult result (AreKeys octets.now) (IsFileFault octets.now) }
 {

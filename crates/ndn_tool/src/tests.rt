@@ -10,27 +10,29 @@ const OPS: &str = "/ops/KEY/1 6b6579\n";
 /// The name `/k` and its key, the text `Jefe`.
 const JEFE: &str = "/k 4a656665";
 
-/// What the program prints for words, with the keys of a text.
-fn answered(alloc: Global, words: &[&str], keys: &str) -> Result<String, ToolFault> {
-    let job = parse_words(alloc, words)?;
+/// What the program prints for arguments, with the keys of a text.
+fn answered(alloc: Global, arguments: &[&str], keys: &str) -> Result<String, ToolFault> {
+    let job = parse_arguments(alloc, arguments)?;
     let book = KeyBook::read(alloc, keys).map_err(|_| ToolFault::Memory)?;
     let mut out = Vec::new(alloc);
     answer(alloc, &job, &book, &mut out)?;
     String::from_utf8(out).map_err(|_| ToolFault::NoKey)
 }
 
-/// The words of a line, with single spaces between them; `''` is an empty word.
-fn words_in<'a>(alloc: Global, line: &'a str) -> Option<Vec<&'a str>> {
-    let mut words = Vec::new(alloc);
-    for word in line.split(' ') {
-        words.push(if word == "''" { "" } else { word }).ok()?;
+/// The arguments of a line, with single spaces between them; `''` is an empty one.
+fn arguments_in<'a>(alloc: Global, line: &'a str) -> Option<Vec<&'a str>> {
+    let mut arguments = Vec::new(alloc);
+    for argument in line.split(' ') {
+        arguments
+            .push(if argument == "''" { "" } else { argument })
+            .ok()?;
     }
-    Some(words)
+    Some(arguments)
 }
 
 /// The status that a command ends with, and what it prints.
 fn reply(alloc: Global, command: &str, keys: &str) -> Option<(u8, String)> {
-    match answered(alloc, words_in(alloc, command)?.as_slice(), keys) {
+    match answered(alloc, arguments_in(alloc, command)?.as_slice(), keys) {
         Ok(text) => Some((0, text)),
         Err(fault) => Some((fault.exit_status(), fault.to_string(alloc).ok()?)),
     }
@@ -169,19 +171,19 @@ fn hop_limits(rt: HostRuntime) {
 
 const REFUSED_HOP_LIMITS: &str = "
 $ ndn_tool interest /A --nonce 01020304 --hop-limit 256
-error: a wrong value for hop-limit: give a decimal number from 0 to 255
+error: invalid value for hop-limit: give a decimal number from 0 to 255
 status 2
 $ ndn_tool interest /A --nonce 01020304 --hop-limit x
-error: a wrong value for hop-limit: give a decimal number from 0 to 255
+error: invalid value for hop-limit: give a decimal number from 0 to 255
 status 2
 $ ndn_tool interest /A --nonce 01020304 --hop-limit +10
-error: a wrong value for hop-limit: give a decimal number from 0 to 255
+error: invalid value for hop-limit: give a decimal number from 0 to 255
 status 2
 $ ndn_tool interest /A --nonce 01020304 --hop-limit ''
-error: a wrong value for hop-limit: give a decimal number from 0 to 255
+error: invalid value for hop-limit: give a decimal number from 0 to 255
 status 2
 $ ndn_tool interest /A --nonce 01020304 --hop-limit 18446744073709551616
-error: a wrong value for hop-limit: give a decimal number from 0 to 255
+error: invalid value for hop-limit: give a decimal number from 0 to 255
 status 2
 ";
 
@@ -198,16 +200,16 @@ interest /A
 nonce abcdef09
 lifetime 4000
 $ ndn_tool interest /A --nonce 0102030
-error: a wrong value for nonce: give 8 hexadecimal digits, as 01020304
+error: invalid value for nonce: give 8 hexadecimal digits, such as 01020304
 status 2
 $ ndn_tool interest /A --nonce 0102030405
-error: a wrong value for nonce: give 8 hexadecimal digits, as 01020304
+error: invalid value for nonce: give 8 hexadecimal digits, such as 01020304
 status 2
 $ ndn_tool interest /A --nonce 0102030g
-error: a wrong value for nonce: give 8 hexadecimal digits, as 01020304
+error: invalid value for nonce: give 8 hexadecimal digits, such as 01020304
 status 2
 $ ndn_tool interest /A --nonce ''
-error: a wrong value for nonce: give 8 hexadecimal digits, as 01020304
+error: invalid value for nonce: give 8 hexadecimal digits, such as 01020304
 status 2
 ";
 
@@ -328,16 +330,16 @@ $ ndn_tool show 05050703080141
 NoNonce
 status 1
 $ ndn_tool show 0
-error: a wrong value for HEX: give two hexadecimal digits for each octet
+error: invalid value for HEX: give two hexadecimal digits for each octet
 status 2
 $ ndn_tool show -
-error: a wrong value for HEX: give two hexadecimal digits for each octet
+error: invalid value for HEX: give two hexadecimal digits for each octet
 status 2
 $ ndn_tool data A
-error: a wrong value for URI: give the URI of a name, as /A/B
+error: invalid value for URI: give the URI of a name, such as /A/B
 status 2
 $ ndn_tool data /A --freshness +1
-error: a wrong value for freshness: give a decimal number below 2^64
+error: invalid value for freshness: give a decimal number below 2^64
 status 2
 ";
 
@@ -434,7 +436,7 @@ fn key_files(rt: HostRuntime) {
 
 /// Whether a command names this key file.
 fn names_file(alloc: Global, command: &str, path: Option<&str>) -> Option<bool> {
-    let job = parse_words(alloc, words_in(alloc, command)?.as_slice()).ok()?;
+    let job = parse_arguments(alloc, arguments_in(alloc, command)?.as_slice()).ok()?;
     Some(job.key_file() == path)
 }
 
@@ -453,7 +455,7 @@ fn ends_with(fault: Fault, status: u8) -> bool {
 /// Each way to stop has its status.
 #[test]
 fn statuses(rt: HostRuntime) {
-    let usage = Usage::Word {
+    let usage = Usage::BadValue {
         place: "HEX",
         wanted: "octets",
     };
@@ -470,7 +472,7 @@ fn statuses(rt: HostRuntime) {
 
 /// The number of keys that a command is given, or the status that it ends with.
 fn keys_of<R: AllocGlobal + Files>(rt: &R, command: &str) -> Option<Result<usize, u8>> {
-    let job = parse_words(rt.alloc(), words_in(rt.alloc(), command)?.as_slice()).ok()?;
+    let job = parse_arguments(rt.alloc(), arguments_in(rt.alloc(), command)?.as_slice()).ok()?;
     match book_of(rt, &job) {
         Ok(book) => Some(Ok(book.len())),
         Err(fault) => Some(Err(fault.exit_status())),

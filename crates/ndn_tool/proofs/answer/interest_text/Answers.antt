@@ -3,7 +3,7 @@ use Rattle.std.proofs.lemmas.Result.{err_from_is_err_and}
 use Rattle.ndn_packets.specs.declared.interest_writer.InterestWriter.{InterestWriter}
 use Rattle.ndn_packets.specs.Writing.{interest_text, interest_refusal}
 use Rattle.ndn_tool.specs.Answer.{AsksInterest, hex_line}
-use Rattle.ndn_tool.proofs.Refusals.{told, none_told, interest_refused}
+use Rattle.ndn_tool.proofs.Refusals.{answered_error, none_told, interest_refused}
 use Rattle.ndn_tool.proofs.answer.interest_text.Goals as goal
 use Rattle.ndn_tool.proofs.answer.interest_text.Goals.{After-octets_in}
 
@@ -20,7 +20,7 @@ returns-in_err-write c =
     let asks = is_asked (goal.at.returns-in_err-write c).After-octets_in in
     let why = c.in_err-write.field-0.0 in
     let p = err_from_is_err_and c.from_residual-in_err-write.result c.from_residual-in_err-write.ensures.1 in
-    rw (p.1, p.2) (interest_refused c.args.job.now c.args.book.now w why asks (told (interest_refusal w) why (Err why) refl c.in_err-write.ensures.fault))
+    rw (p.1, p.2) (interest_refused c.args.job.now c.args.book.now w why asks (answered_error (interest_refusal w) why (Err why) refl c.in_err-write.ensures.fault))
 
 pub returns : goal.returns
 returns c =

@@ -7,8 +7,8 @@ pub returns : goal.returns
 unfolding interest_app
 returns c =
     let start = described (codes "interest") c.new.result c.about.result c.after_help.result _ _ c.new.ensures.app c.new.ensures.local c.about.ensures c.after_help.ensures in
-    let name = added _ _ c.in_ok-arg.field-0 _ _ start c.word.ensures c.in_ok-arg.ensures in
-    let nonce = added _ _ c.in_ok-arg-2.field-0 _ _ name c.needed_option.ensures c.in_ok-arg-2.ensures in
+    let name = added _ _ c.in_ok-arg.field-0 _ _ start c.positional.ensures c.in_ok-arg.ensures in
+    let nonce = added _ _ c.in_ok-arg-2.field-0 _ _ name c.required_option.ensures c.in_ok-arg-2.ensures in
     let prefix = added _ _ c.in_ok-arg-3.field-0 _ _ nonce c.flag.ensures c.in_ok-arg-3.ensures in
     let fresh = added _ _ c.in_ok-arg-4.field-0 _ _ prefix c.flag-2.ensures c.in_ok-arg-4.ensures in
     let lifetime = added _ _ c.in_ok-arg-5.field-0 _ _ fresh c.option.ensures c.in_ok-arg-5.ensures in

@@ -18,7 +18,7 @@ returns-in_err-read-in-tag c =
     let p = err_from_is_err_and c.from_residual-in_err-read-in-tag.result c.from_residual-in_err-read-in-tag.ensures.1 in
     rw (p.1, p.2) (refused_part _ _ (a_tag c.args.name.now _ c.in-tag.is) c.in_err-read-in-tag.field-0.0 c.in_err-read-in-tag.ensures)
 
-pub returns-in_err-needed_octets-in-show : goal.returns-in_err-needed_octets-in-show
-returns-in_err-needed_octets-in-show c =
-    let p = err_from_is_err_and c.from_residual-in_err-needed_octets-in-show.result c.from_residual-in_err-needed_octets-in-show.ensures.1 in
-    rw (p.1, p.2) (refused_part _ _ (a_show c.args.name.now _ c.in-show.is) c.in_err-needed_octets-in-show.field-0.0 c.in_err-needed_octets-in-show.ensures)
+pub returns-in_err-required_octets-in-show : goal.returns-in_err-required_octets-in-show
+returns-in_err-required_octets-in-show c =
+    let p = err_from_is_err_and c.from_residual-in_err-required_octets-in-show.result c.from_residual-in_err-required_octets-in-show.ensures.1 in
+    rw (p.1, p.2) (refused_part _ _ (a_show c.args.name.now _ c.in-show.is) c.in_err-required_octets-in-show.field-0.0 c.in_err-required_octets-in-show.ensures)

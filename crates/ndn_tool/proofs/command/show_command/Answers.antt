@@ -8,4 +8,4 @@ pub returns : goal.returns
 unfolding show_app
 returns c =
     let start = described (codes "show") c.new.result c.about.result c.after_help.result _ _ c.new.ensures.app c.new.ensures.local c.about.ensures c.after_help.ensures in
-    IfOk-weaker c.arg.result _ _ (λ command adds. added _ _ command _ _ start c.word.ensures adds) c.arg.ensures
+    IfOk-weaker c.arg.result _ _ (λ command adds. added _ _ command _ _ start c.positional.ensures adds) c.arg.ensures

@@ -1,38 +1,38 @@
--- Which values the words of a command line spell, and which fault tells of words that spell none.
+-- The values that texts of a command line spell, and the fault of a text that spells none.
 use Rattle.std.specs.Prelude.{◌≡◌, ℕ, ◌<◌, ◌^◌, List, length, Result, Ok, Err, Vec, ⊤}
 use Rattle.std.specs.Str.Parse.{IsNumeral, digits_value}
 use Rattle.hex.specs.Hex.{decode_of}
-use Rattle.ndn_tool.specs.declared.fault.Usage.TheVariants.{Word}
+use Rattle.ndn_tool.specs.declared.fault.Usage.TheVariants.{BadValue}
 use Rattle.ndn_tool.specs.declared.fault.ToolFault.{ToolFault}
 use Rattle.ndn_tool.specs.declared.fault.ToolFault.TheVariants as fault
 
--- decimal digits, of a number below 2^64; zeros may stand in front
+-- decimal digits of a number below 2^64; leading zeros are allowed
 abbrev pub IsNumber : List ℕ → ℕ → Type 0
-IsNumber word n = IsNumeral 10 word × (digits_value 10 word ≡ n) × (n < 2 ^ 64)
+IsNumber text n = IsNumeral 10 text × (digits_value 10 text ≡ n) × (n < 2 ^ 64)
 
 -- the same, below 256
 abbrev pub IsHops : List ℕ → ℕ → Type 0
-IsHops word n = IsNumeral 10 word × (digits_value 10 word ≡ n) × (n < 256)
+IsHops text n = IsNumeral 10 text × (digits_value 10 text ≡ n) × (n < 256)
 
 -- two hexadecimal digits of either case for each octet
 abbrev pub IsOctets : List ℕ → List ℕ → Type 0
-IsOctets word octets = decode_of word ≡ Ok octets
+IsOctets text octets = decode_of text ≡ Ok octets
 
 abbrev pub AreOctets : {Z : Type 0} → List ℕ → Vec ℕ Z → Type 0
-AreOctets word octets = IsOctets word octets.items
+AreOctets text octets = IsOctets text octets.items
 
 -- the same, of 4 octets
 abbrev pub IsNonce : List ℕ → List ℕ → Type 0
-IsNonce word octets = IsOctets word octets × (length octets ≡ 4)
+IsNonce text octets = IsOctets text octets × (length octets ≡ 4)
 
--- the fault of a word
+-- the fault of a text
 abbrev pub IsUsage : ToolFault → Type 0
-IsUsage (fault.Usage (Word place wanted)) = ⊤
+IsUsage (fault.Usage (BadValue place wanted)) = ⊤
 IsUsage why = ⊥
 
--- the same, where there is nothing that is spelled
+-- the same, of a text that spells nothing
 abbrev pub IsWrong : {A : Type 0} → (A → Type 0) → ToolFault → Type 0
-IsWrong {A} Spell (fault.Usage (Word place wanted)) = (x : A) → Spell x → ⊥
+IsWrong {A} Spell (fault.Usage (BadValue place wanted)) = (x : A) → Spell x → ⊥
 IsWrong Spell why = ⊥
 
 -- the same, or memory was refused
@@ -40,7 +40,7 @@ abbrev pub IsRefused : {A : Type 0} → (A → Type 0) → ToolFault → Type 0
 IsRefused Spell fault.Memory = ⊤
 IsRefused Spell why = IsWrong Spell why
 
--- a value that is spelled, or the fault where there is none
+-- the value that is spelled, or the fault if there is none
 abbrev pub Reads : {A : Type 0} → (A → Type 0) → Result A ToolFault → Type 0
 Reads Spell (Ok value) = Spell value
 Reads Spell (Err fault) = IsWrong Spell fault
