@@ -10,29 +10,28 @@ const OPS: &str = "/ops/KEY/1 6b6579\n";
 /// The name `/k` and its key, the text `Jefe`.
 const JEFE: &str = "/k 4a656665";
 
-/// What the program prints for arguments, with the keys of a text.
-fn answered(alloc: Global, arguments: &[&str], keys: &str) -> Result<String, ToolFault> {
-    let job = parse_arguments(alloc, arguments)?;
+/// The job of a command, with single spaces between its arguments; `''` is an empty one.
+fn job_of(alloc: Global, command: &str) -> Result<Job, ToolFault> {
+    let mut arguments = Vec::new(alloc);
+    for argument in command.split(' ') {
+        let argument = if argument == "''" { "" } else { argument };
+        arguments.push(argument).map_err(|_| ToolFault::Memory)?;
+    }
+    parse_arguments(alloc, arguments.as_slice())
+}
+
+/// What the program prints for a command, with the keys of a text.
+fn answered(alloc: Global, command: &str, keys: &str) -> Result<String, ToolFault> {
+    let job = job_of(alloc, command)?;
     let book = KeyBook::read(alloc, keys).map_err(|_| ToolFault::Memory)?;
     let mut out = Vec::new(alloc);
     answer(alloc, &job, &book, &mut out)?;
     String::from_utf8(out).map_err(|_| ToolFault::NoKey)
 }
 
-/// The arguments of a line, with single spaces between them; `''` is an empty one.
-fn arguments_in<'a>(alloc: Global, line: &'a str) -> Option<Vec<&'a str>> {
-    let mut arguments = Vec::new(alloc);
-    for argument in line.split(' ') {
-        arguments
-            .push(if argument == "''" { "" } else { argument })
-            .ok()?;
-    }
-    Some(arguments)
-}
-
 /// The status that a command ends with, and what it prints.
 fn reply(alloc: Global, command: &str, keys: &str) -> Option<(u8, String)> {
-    match answered(alloc, arguments_in(alloc, command)?.as_slice(), keys) {
+    match answered(alloc, command, keys) {
         Ok(text) => Some((0, text)),
         Err(fault) => Some((fault.exit_status(), fault.to_string(alloc).ok()?)),
     }
@@ -434,18 +433,37 @@ fn key_files(rt: HostRuntime) {
     assert!(rt; reads_keys(rt.alloc(), OPS.as_bytes(), 1));
 }
 
-/// Whether a command names this key file.
-fn names_file(alloc: Global, command: &str, path: Option<&str>) -> Option<bool> {
-    let job = parse_arguments(alloc, arguments_in(alloc, command)?.as_slice()).ok()?;
-    Some(job.key_file() == path)
+/// The status that reading the key file of a job ends with: 0 for no keys.
+fn key_file_status<R: AllocGlobal + Files>(rt: &R, job: &Job) -> u8 {
+    match book_of(rt, job) {
+        Ok(book) => u8::from(book.len() > 0),
+        Err(fault) => fault.exit_status(),
+    }
 }
 
-/// The job names its key file.
+/// Whether a command names this key file, and reading it ends with this status.
+fn has_key_file<R: AllocGlobal + Files>(
+    rt: &R,
+    command: &str,
+    path: Option<&str>,
+    status: u8,
+) -> bool {
+    job_of(rt.alloc(), command).is_ok_and(|job| job.key_file() == path
+        && key_file_status(rt, &job) == status)
+}
+
+/// A key file that is not there cannot be read.
+#[test]
+fn unreadable_key_file(rt: HostRuntime) {
+    let path = Some("no/such/file");
+    assert!(rt; has_key_file(&rt, "ndn_tool data /A --keys no/such/file", path, 3));
+}
+
+/// The job names its key file, and without one it has no keys.
 #[test]
 fn key_file_options(rt: HostRuntime) {
-    let named = names_file(rt.alloc(), "ndn_tool data /A --keys a.keys", Some("a.keys"));
-    assert!(rt; named == Some(true));
-    assert!(rt; names_file(rt.alloc(), "ndn_tool data /A", None) == Some(true));
+    assert!(rt; has_key_file(&rt, "ndn_tool data /A --keys a.keys", Some("a.keys"), 3));
+    assert!(rt; has_key_file(&rt, "ndn_tool data /A", None, 0));
 }
 
 fn ends_with(fault: Fault, status: u8) -> bool {
@@ -468,22 +486,6 @@ fn statuses(rt: HostRuntime) {
     assert!(rt; ends_with(Fault::Tool(ToolFault::Write(WriteFault::TooLong)), 1));
     assert!(rt; ends_with(Fault::Tool(ToolFault::Packet(PacketFault::NoName)), 1));
     assert!(rt; ends_with(Fault::Tool(ToolFault::Usage(usage)), 2));
-}
-
-/// The number of keys that a command is given, or the status that it ends with.
-fn keys_of<R: AllocGlobal + Files>(rt: &R, command: &str) -> Option<Result<usize, u8>> {
-    let job = parse_arguments(rt.alloc(), arguments_in(rt.alloc(), command)?.as_slice()).ok()?;
-    match book_of(rt, &job) {
-        Ok(book) => Some(Ok(book.len())),
-        Err(fault) => Some(Err(fault.exit_status())),
-    }
-}
-
-/// A key file that is not there cannot be read, and no key file has no keys.
-#[test]
-fn unreadable_key_file(rt: HostRuntime) {
-    assert!(rt; keys_of(&rt, "ndn_tool data /A --keys no/such/file") == Some(Err(3)));
-    assert!(rt; keys_of(&rt, "ndn_tool data /A") == Some(Ok(0)));
 }
 
 const IN_MEMORY: &str = "
