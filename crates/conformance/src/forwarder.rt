@@ -34,7 +34,10 @@ fn outcome(alloc: Global, script: &str) -> Option<String> {
     String::from_utf8(output).ok()
 }
 
-/// Whether a line of a dialogue is an answer: `3 passed`, or `> 2 INTEREST`.
+// A dialogue is a script in which each event is followed by its answer, with INTEREST and DATA for
+// their hexadecimal.
+
+/// Whether a line of a dialogue belongs to an answer: `3 passed`, or `> 2 INTEREST`.
 fn is_answer(line: &str) -> bool {
     line.starts_with('>') || line.starts_with(|c: char| c.is_ascii_digit())
 }
@@ -68,7 +71,10 @@ fn replies(rt: &(impl Abort + AllocGlobal), dialogue: &str) {
     let outcome = dialogue_outcome(rt.alloc(), dialogue.as_str()).expect(rt, "memory");
     let mut answers = outcome.as_str().lines();
     for line in dialogue.as_str().lines() {
-        assert!(rt; !is_answer(line) || answers.next() == Some(line), "{line}");
+        assert!(rt;
+            !is_answer(line) || answers.next() == Some(line),
+            "not `{line}`"
+        );
     }
-    assert!(rt; answers.next() == Some("Ok(())"), "another end");
+    assert!(rt; answers.next() == Some("Ok(())"), "not the end");
 }

@@ -12,7 +12,8 @@ in 1 1000 050e07030801410a0401020304f10100
 4 dropped Malformed CriticalUnknown
 ";
 
-/// An Interest with an unknown element goes on with it; of an odd type it does not.
+/// An Interest is forwarded with an unknown element of an even type, and dropped for one of an odd
+/// type.
 #[test]
 fn unknown_elements(rt: HostRuntime) {
     replies(&rt, UNKNOWN_ELEMENTS);
@@ -32,8 +33,8 @@ in 1 1000 050d07030801410a04010203042400
 5 dropped Malformed DigestMissing
 ";
 
-/// A signed Interest whose name has the digest of its parameters goes on; with another digest or with
-/// none it does not.
+/// A signed Interest whose name has the digest of its parameters is forwarded; with another digest
+/// or none it is not.
 #[test]
 fn parameters_digest(rt: HostRuntime) {
     replies(&rt, PARAMETERS_DIGEST);
@@ -60,7 +61,7 @@ in 2 1050 64166201075011060f070308014115017816031b01001700
 > 1 060f070308014115017816031b01001700
 ";
 
-/// A packet goes on without the link packet around it. A Nack and an idle link packet do not.
+/// A packet is forwarded without the link packet around it. A Nack and an idle link packet are not.
 #[test]
 fn link_packets(rt: HostRuntime) {
     replies(&rt, LINK_PACKETS);
@@ -91,8 +92,8 @@ in 2 1256 06300703080141140c18010219020bb81a0308014215017816141b01041c0507030801
 4 passed
 ";
 
-/// An Interest with all fields but parameters, whose lifetime of 256 milliseconds ends at 1256, and a
-/// Data with all fields.
+/// An Interest with all fields but parameters, whose lifetime of 256 milliseconds ends at 1256, and
+/// a Data with all fields.
 #[test]
 fn whole_packets(rt: HostRuntime) {
     replies(&rt, WHOLE_PACKETS);

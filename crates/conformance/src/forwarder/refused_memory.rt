@@ -1,4 +1,4 @@
-//! For `rt try --test --fail-alloc N`: of one refusal at most.
+//! These also pass when any one allocation fails, as under `rt try --test --fail-alloc N`.
 use super::nodes::{DATA, INTEREST, node_of_three, packet};
 use super::parts;
 use super::streams::Room;
@@ -6,7 +6,7 @@ use ndn_tlv::Memory;
 use node_core::{Node, NodeFault, Outbox, RunFault, Verdict, run_script};
 use std::alloc::Global;
 
-/// Whether a packet passes. A step that had no memory is made again, and goes on as if it had come for
+/// Whether a packet passes. A step that had no memory is tried again, as if the packet had come for
 /// the first time.
 fn passes(node: &mut Node, outbox: &mut Outbox, face: u64, octets: &[u8]) -> bool {
     let before = outbox.len();
