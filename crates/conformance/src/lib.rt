@@ -10,6 +10,10 @@ mod names;
 #[cfg(test)]
 mod packets;
 #[cfg(test)]
+mod patterns;
+#[cfg(test)]
 mod rows;
+#[cfg(test)]
+mod rules;
 #[cfg(test)]
 mod tlv;

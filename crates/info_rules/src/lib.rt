@@ -40,12 +40,3 @@ pub use rule_file::no_rule_is_dropped;
 pub use rules::{RuleNo, Rules};
 pub use tree::InfoTree;
 pub use tree_reader::trees_have_one_reading;
-
-#[cfg(test)]
-mod decision_tests;
-#[cfg(test)]
-mod example_tests;
-#[cfg(test)]
-mod reading_tests;
-#[cfg(test)]
-mod tree_tests;

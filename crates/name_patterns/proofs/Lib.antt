@@ -1,4 +1,3 @@
-pub mod AllSplits
 pub mod Among
 pub mod ClosedGroups
 pub mod Counts

@@ -21,6 +21,3 @@ pub use pattern::Pattern;
 pub use pattern_reader::patterns_have_one_reading;
 pub use template::Template;
 pub use template_reader::templates_have_one_reading;
-
-#[cfg(test)]
-mod tests;

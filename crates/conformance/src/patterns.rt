@@ -1,0 +1,4 @@
+mod all_splits;
+mod matching;
+mod reading;
+mod templates;

@@ -1,0 +1,226 @@
+//! The match against a plain program that goes over all splits, from the greatest to the least.
+
+use name_patterns::Pattern;
+use ndn_names::NameBuf;
+use std::alloc::Global;
+
+/// The atoms of the patterns here, two implied ones among them.
+const ATOMS: usize = 6;
+
+/// A test's text, and the letters that pass it.
+const TESTS: [(&str, &[u8]); 6] = [
+    ("<>", b"abc"),
+    ("<a>", b"a"),
+    ("<b>", b"b"),
+    ("[<a><b>]", b"ab"),
+    ("[^<a>]", b"bc"),
+    ("[^<b><a>]", b"c"),
+];
+
+/// A repeat's text, the least number and the greatest, if there is one.
+const REPEATS: [(&str, usize, Option<usize>); 10] = [
+    ("", 1, Some(1)),
+    ("*", 0, None),
+    ("+", 1, None),
+    ("?", 0, Some(1)),
+    ("{2}", 2, Some(2)),
+    ("{1,}", 1, None),
+    ("{,2}", 0, Some(2)),
+    ("{1,2}", 1, Some(2)),
+    ("{0}", 0, Some(0)),
+    ("{0,3}", 0, Some(3)),
+];
+
+/// An atom by the letters that pass, and its bounds.
+#[derive(Clone, Copy)]
+struct Spelled {
+    letters: &'static [u8],
+    least: usize,
+    most: Option<usize>,
+}
+
+/// The atom that takes nothing.
+const NOTHING: Spelled = Spelled {
+    letters: b"",
+    least: 0,
+    most: Some(0),
+};
+
+/// The atom that takes anything.
+const ANYTHING: Spelled = Spelled {
+    letters: b"abc",
+    least: 0,
+    most: None,
+};
+
+/// A pattern: its text, its atoms, and its group by the numbers of atoms before it and before its
+/// end.
+#[derive(Drop)]
+struct Sample {
+    text: String,
+    atoms: [Spelled; ATOMS],
+    group: Option<(usize, usize)>,
+}
+
+/// A fixed sequence of numbers.
+#[derive(Drop)]
+struct Numbers(u64);
+
+impl Numbers {
+    /// The next number below a limit that is not 0.
+    fn below(&mut self, limit: usize) -> usize {
+        self.0 = self
+            .0
+            .wrapping_mul(6364136223846793005)
+            .wrapping_add(1442695040888963407);
+        ((self.0 >> 33) as usize).checked_rem(limit).unwrap_or(0)
+    }
+}
+
+/// A pattern of up to four written atoms, of which some may be in a group.
+fn next_sample(alloc: Global, numbers: &mut Numbers) -> Option<Sample> {
+    let mut text = String::new(alloc);
+    let mut atoms = [NOTHING; ATOMS];
+    let mut group = None;
+    let written = numbers.below(5);
+    let first = numbers.below(5);
+    let end = first.saturating_add(numbers.below(3));
+    if numbers.below(2) == 0 {
+        atoms[0] = ANYTHING;
+    } else {
+        text.push_str("^").ok()?;
+    }
+    for i in 0..4 {
+        if i == first && i < written {
+            text.push_str("(").ok()?;
+            group = Some((i + 1, i + 1));
+        }
+        if i < written {
+            let (test, letters) = *TESTS.get(numbers.below(6))?;
+            let (repeat, least, most) = *REPEATS.get(numbers.below(10))?;
+            text.push_str(test).ok()?;
+            text.push_str(repeat).ok()?;
+            atoms[i + 1] = Spelled {
+                letters,
+                least,
+                most,
+            };
+        }
+        if let Some((start, _)) = group {
+            if i == end || (i == 3 && end > 3) {
+                text.push_str(")").ok()?;
+                group = Some((start, i + 2));
+            }
+        }
+    }
+    if numbers.below(2) == 0 {
+        atoms[5] = ANYTHING;
+    } else {
+        text.push_str("$").ok()?;
+    }
+    Some(Sample { text, atoms, group })
+}
+
+/// Up to four letters.
+fn next_letters(alloc: Global, numbers: &mut Numbers) -> Option<Vec<u8>> {
+    let mut letters = Vec::new(alloc);
+    for _ in 0..numbers.below(5) {
+        letters.push(*b"aabc".get(numbers.below(4))?).ok()?;
+    }
+    Some(letters)
+}
+
+/// The name that has a component for each letter.
+fn name_of(alloc: Global, letters: &[u8]) -> Option<NameBuf> {
+    let mut name = NameBuf::new(alloc);
+    for letter in letters {
+        name.append(8, &[*letter]).ok()?;
+    }
+    Some(name)
+}
+
+impl Spelled {
+    /// Whether the atom can take these letters.
+    fn can_take(&self, letters: &[u8]) -> bool {
+        self.least <= letters.len()
+            && self.most.is_none_or(|most| letters.len() <= most)
+            && letters.iter().all(|letter| self.letters.contains(letter))
+    }
+}
+
+/// The greatest of all lists of counts that split the letters among the last atoms. It tries the
+/// counts of the first of them from the greatest to the least, and takes one after which the others
+/// have a split.
+fn greatest_split(atoms: &[Spelled], letters: &[u8]) -> Option<[usize; ATOMS]> {
+    let Some((atom, others)) = atoms.split_first() else {
+        return letters.is_empty().then_some([0; ATOMS]);
+    };
+    for count in (0..letters.len() + 1).rev() {
+        let (taken, rest) = letters.split_at(count);
+        if atom.can_take(taken) {
+            if let Some(mut counts) = greatest_split(others, rest) {
+                *counts.get_mut(ATOMS.checked_sub(atoms.len())?)? = count;
+                return Some(counts);
+            }
+        }
+    }
+    None
+}
+
+/// The sum of the first counts.
+fn place_of(counts: &[usize; ATOMS], end: usize) -> usize {
+    counts
+        .iter()
+        .take(end)
+        .fold(0usize, |sum, count| sum.saturating_add(*count))
+}
+
+/// Whether a pattern matches letters where they have a split, and its group is in place, and
+/// whether it matches; `None` where they disagree.
+fn agreed(
+    alloc: Global,
+    text: &str,
+    atoms: &[Spelled],
+    group: Option<(usize, usize)>,
+    letters: &[u8],
+) -> Option<bool> {
+    let name = name_of(alloc, letters)?;
+    let pattern = Pattern::read(alloc, text).ok()?;
+    let Some(counts) = greatest_split(atoms, letters) else {
+        return pattern.matches(name.view()).is_none().then_some(false);
+    };
+    let captures = pattern.matches(name.view())?;
+    let group = group.map(|(first, end)| (place_of(&counts, first), place_of(&counts, end)));
+    let agrees = captures.group(0) == Some((0, letters.len())) && captures.group(1) == group;
+    agrees.then_some(true)
+}
+
+/// Whether the next pattern matches the next letters, if the plain program agrees.
+fn next_agreed(alloc: Global, numbers: &mut Numbers) -> Option<bool> {
+    let Sample { text, atoms, group } = next_sample(alloc, numbers)?;
+    let letters = next_letters(alloc, numbers)?;
+    agreed(alloc, text.as_str(), &atoms, group, &letters)
+}
+
+/// How many of 3000 samples match, or the number of the first on which the plain program disagrees.
+fn matches_of_3000(alloc: Global) -> Result<u32, u32> {
+    let mut numbers = Numbers(2014);
+    let mut matched = 0u32;
+    for number in 0..3000u32 {
+        match next_agreed(alloc, &mut numbers) {
+            Some(true) => matched = matched.saturating_add(1),
+            Some(false) => {}
+            None => return Err(number),
+        }
+    }
+    Ok(matched)
+}
+
+#[test]
+fn agrees_with_all_splits(rt: HostRuntime) {
+    let matched = matches_of_3000(rt.alloc());
+    assert!(rt;
+        matched.is_ok_and(|matched| (500..2500).contains(&matched)),
+        "{matched:?}"
+    );
+}

@@ -1,0 +1,151 @@
+//! Which texts are templates, and what they make of names.
+
+use crate::rows::{assert_right, first_wrong};
+use name_patterns::{Pattern, PatternFault, Template};
+use ndn_names::{Name, NameBuf, NameFault};
+use std::alloc::Global;
+
+/// What a template, read for a pattern, makes of a name, if the pattern matches it.
+fn expanded(
+    alloc: Global,
+    pattern: &Pattern,
+    template: &str,
+    name: Name<'_>,
+) -> Result<Option<Result<NameBuf, NameFault>>, PatternFault> {
+    let template = Template::read(alloc, template, pattern.groups())?;
+    match pattern.matches(name) {
+        None => Ok(None),
+        Some(captures) => Ok(Some(template.expand(alloc, &captures, name))),
+    }
+}
+
+/// The URI of what a template makes of a name by a pattern that matches it, or why it makes nothing;
+/// `None` where one of these is refused, or the pattern does not match.
+fn made(alloc: Global, pattern: &str, name: &str, template: &str) -> Option<String> {
+    let pattern = Pattern::read(alloc, pattern).ok()?;
+    let name = NameBuf::from_uri(alloc, name).ok()?;
+    match expanded(alloc, &pattern, template, name.view()).ok()?? {
+        Ok(made) => made.to_uri(alloc).ok(),
+        Err(fault) => format!(in alloc; "{fault:?}").ok(),
+    }
+}
+
+/// Whether a row `PATTERN at NAME by TEMPLATE → URI`, or with a fault in place of the URI, is right.
+pub fn is_made_so(alloc: Global, row: &str) -> bool {
+    let Some((front, wanted)) = row.split_once(" → ") else {
+        return false;
+    };
+    let Some((front, template)) = front.split_once(" by ") else {
+        return false;
+    };
+    let Some((pattern, name)) = front.split_once(" at ") else {
+        return false;
+    };
+    made(alloc, pattern, name, template).is_some_and(|made| made.as_str() == wanted)
+}
+
+/// Whether a row `TEMPLATE for GROUPS → FAULT` or `TEMPLATE for GROUPS → a template` is right.
+fn is_template_so(alloc: Global, row: &str) -> bool {
+    let Some((front, wanted)) = row.split_once(" → ") else {
+        return false;
+    };
+    let Some((template, groups)) = front.split_once(" for ") else {
+        return false;
+    };
+    let Ok(groups) = groups.parse::<u8>() else {
+        return false;
+    };
+    match Template::read(alloc, template, groups) {
+        Ok(_) => wanted == "a template",
+        Err(fault) => format!(in alloc; "{fault:?}").is_ok_and(|fault| fault.as_str() == wanted),
+    }
+}
+
+const EXPANSIONS: &str = r"
+^(<>*)<KEY>(<>*)$ at /a/KEY/b/KEY/c by  → /
+^(<>*)<KEY>(<>*)$ at /a/KEY/b/KEY/c by \0 → /a/KEY/b/KEY/c
+^(<>*)<KEY>(<>*)$ at /a/KEY/b/KEY/c by \1 → /a/KEY/b
+^(<>*)<KEY>(<>*)$ at /a/KEY/b/KEY/c by \2 → /c
+^(<>*)<KEY>(<>*)$ at /a/KEY/b/KEY/c by \1<x> → /a/KEY/b/x
+^(<>*)<KEY>(<>*)$ at /a/KEY/b/KEY/c by <x>\1 → /x/a/KEY/b
+^(<>*)<KEY>(<>*)$ at /a/KEY/b/KEY/c by \2\1\2 → /c/a/KEY/b/c
+^(<>*)<KEY>(<>*)$ at /a/KEY/b/KEY/c by <x><seg=5><%41><...><9=z> → /x/seg=5/A/.../9=z
+^(<>*)<c>()$ at /a/b/c by \2<x>\2 → /x
+";
+
+#[test]
+fn expansions(rt: HostRuntime) {
+    assert_right(&rt, first_wrong(rt.alloc(), EXPANSIONS, is_made_so));
+}
+
+const FAULTS: &str = r"
+\0\9 for 9 → a template
+\9 for 255 → a template
+\0 for 0 → a template
+<a<b> for 0 → a template
+\1 for 0 → BadGroup(0)
+\1\2 for 1 → BadGroup(2)
+<x>\9 for 8 → BadGroup(3)
+\ for 9 → Syntax(0)
+\a for 9 → Syntax(0)
+\\1 for 9 → Syntax(0)
+\10 for 9 → Syntax(2)
+x for 9 → Syntax(0)
+<> for 9 → Syntax(0)
+<x for 9 → Syntax(0)
+\1<.> for 9 → Syntax(2)
+<a/b> for 9 → Syntax(0)
+<x>* for 9 → Syntax(3)
+(\1) for 9 → Syntax(0)
+[<x>] for 9 → Syntax(0)
+^\1$ for 9 → Syntax(0)
+<a*> for 9 → Inner(0)
+\1<\2> for 9 → Inner(2)
+<%*> for 9 → Syntax(0)
+<a*>\7 for 1 → Inner(0)
+";
+
+#[test]
+fn faults(rt: HostRuntime) {
+    assert_right(&rt, first_wrong(rt.alloc(), FAULTS, is_template_so));
+}
+
+/// The empty pattern matches every name.
+const LONG_EXPANSIONS: &str = r"
+ at /a/a/a/a/a/a/a/a/a/a/a/a/a/a/a/a/a/a/a/a/a/a/a/a/a/a/a/a/a/a/a/a/a/a/a/a/a/a/a/a/a/a/a/a/a/a/a/a/a/a/a/a/a/a/a/a/a/a/a/a/a/a/a/a by \0 → /a/a/a/a/a/a/a/a/a/a/a/a/a/a/a/a/a/a/a/a/a/a/a/a/a/a/a/a/a/a/a/a/a/a/a/a/a/a/a/a/a/a/a/a/a/a/a/a/a/a/a/a/a/a/a/a/a/a/a/a/a/a/a/a
+ at /a/a/a/a/a/a/a/a/a/a/a/a/a/a/a/a/a/a/a/a/a/a/a/a/a/a/a/a/a/a/a/a/a/a/a/a/a/a/a/a/a/a/a/a/a/a/a/a/a/a/a/a/a/a/a/a/a/a/a/a/a/a/a by \0<x> → /a/a/a/a/a/a/a/a/a/a/a/a/a/a/a/a/a/a/a/a/a/a/a/a/a/a/a/a/a/a/a/a/a/a/a/a/a/a/a/a/a/a/a/a/a/a/a/a/a/a/a/a/a/a/a/a/a/a/a/a/a/a/a/x
+ at /a/a/a/a/a/a/a/a/a/a/a/a/a/a/a/a/a/a/a/a/a/a/a/a/a/a/a/a/a/a/a/a/a/a/a/a/a/a/a/a/a/a/a/a/a/a/a/a/a/a/a/a/a/a/a/a/a/a/a/a/a/a/a/a by \0<x> → TooManyComponents
+ at /a/a/a/a/a/a/a/a/a/a/a/a/a/a/a/a/a/a/a/a/a/a/a/a/a/a/a/a/a/a/a/a/a/a/a/a/a/a/a/a/a/a/a/a/a/a/a/a/a/a/a/a/a/a/a/a/a/a/a/a/a/a/a/a by <x>\0 → TooManyComponents
+ at /a/a/a/a/a/a/a/a/a/a/a/a/a/a/a/a/a/a/a/a/a/a/a/a/a/a/a/a/a/a/a/a by \0\0 → /a/a/a/a/a/a/a/a/a/a/a/a/a/a/a/a/a/a/a/a/a/a/a/a/a/a/a/a/a/a/a/a/a/a/a/a/a/a/a/a/a/a/a/a/a/a/a/a/a/a/a/a/a/a/a/a/a/a/a/a/a/a/a/a
+ at /a/a/a/a/a/a/a/a/a/a/a/a/a/a/a/a/a/a/a/a/a/a/a/a/a/a/a/a/a/a/a/a/a by \0\0 → TooManyComponents
+ at /a/a/a/a/a/a/a/a/a/a/a/a/a/a/a/a/a/a/a/a/a by \0\0\0<x> → /a/a/a/a/a/a/a/a/a/a/a/a/a/a/a/a/a/a/a/a/a/a/a/a/a/a/a/a/a/a/a/a/a/a/a/a/a/a/a/a/a/a/a/a/a/a/a/a/a/a/a/a/a/a/a/a/a/a/a/a/a/a/a/x
+ at /a/a/a/a/a/a/a/a/a/a/a/a/a/a/a/a/a/a/a/a/a by \0\0\0<x><x> → TooManyComponents
+ at / by \0\0\0 → /
+";
+
+#[test]
+fn long_expansions(rt: HostRuntime) {
+    assert_right(&rt, first_wrong(rt.alloc(), LONG_EXPANSIONS, is_made_so));
+}
+
+/// Whether a template makes five components of /A/KEY, or memory was refused.
+fn is_made_unless_memory(alloc: Global) -> bool {
+    let pattern = match Pattern::read(alloc, "<KEY>") {
+        Ok(pattern) => pattern,
+        Err(fault) => return fault == PatternFault::Memory,
+    };
+    let Ok(name) = Name::read(&[8, 1, 65, 8, 3, 75, 69, 89]) else {
+        return false;
+    };
+    match expanded(alloc, &pattern, r"<ops>\0<%00><seg=7>", name) {
+        Ok(Some(Ok(made))) => made.view().len() == 5,
+        Ok(Some(Err(fault))) => fault == NameFault::Memory,
+        Ok(None) => false,
+        Err(fault) => fault == PatternFault::Memory,
+    }
+}
+
+#[test]
+fn refused_memory(rt: HostRuntime) {
+    assert!(rt; is_made_unless_memory(rt.alloc()));
+}

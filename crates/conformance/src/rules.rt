@@ -1,0 +1,4 @@
+mod decisions;
+mod examples;
+mod reading;
+mod trees;

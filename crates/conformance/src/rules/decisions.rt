@@ -1,0 +1,495 @@
+//! What rules decide of packets.
+
+use super::reading::rules_of;
+use crate::rows::{assert_right, first_wrong, typed};
+use hmac_keys::KeyBook;
+use info_rules::{Decision, Kind, Packet, Rules};
+use ndn_names::{Name, NameBuf};
+use ndn_packets::{DataWriter, Frame, InterestWriter, Sign, read_frame};
+use std::alloc::Global;
+
+/// The keys of these tests. The octets of each are those of the text `key`.
+pub const KEYS: &str = r"/ops/KEY/1 6b6579
+/archive/KEY/1 6b6579
+/lab/roof/KEY/7 6b6579
+/sensors/roof/KEY/7 6b6579
+/keys/roof/KEY/7 6b6579
+/a/b/KEY/1 6b6579
+/k/b 6b6579
+/l/b 6b6579
+/1/2/3/4/5/6/7/8 6b6579
+/ops/KEY/1/2 6b6579
+/ops/KEY/1/2/3 6b6579
+/ops/KEY/1/2/3/4 6b6579
+/ops/KEY 6b6579
+/ops/1 6b6579
+/KEY/1 6b6579
+/ops/9=KEY/1 6b6579
+/ops/KE/1 6b6579
+/a/KEY/b/KEY/c 6b6579
+/a/KEY/b/KEY 6b6579
+/a/KEY/KEY/1 6b6579
+/a/KEY/KEY 6b6579
+";
+
+/// The octets of a Data, or of a signed Interest of the time 1.
+fn written<'a>(alloc: Global, kind: &str, name: Name<'a>, sign: Sign<'a>) -> Option<Vec<u8>> {
+    let mut octets = Vec::new(alloc);
+    if kind == "data" {
+        let writer = DataWriter {
+            name,
+            freshness: None,
+            last: None,
+            content: Some(b"x"),
+            sign,
+        };
+        writer.write(&mut octets).ok()?;
+    } else if kind == "interest" {
+        let writer = InterestWriter {
+            name,
+            can_be_prefix: false,
+            must_be_fresh: false,
+            nonce: [1, 2, 3, 4],
+            lifetime: None,
+            hop_limit: None,
+            parameters: None,
+            sign: Some(sign),
+            time: Some(1),
+            seq: None,
+        };
+        writer.write(&mut octets).ok()?;
+    } else {
+        return None;
+    }
+    Some(octets)
+}
+
+fn sign_by<'a>(name: Name<'a>, key: &'a [u8]) -> Sign<'a> {
+    Sign::Hmac { name, key }
+}
+
+/// The octets of a packet: `octets 0605..`, or its kind and name and `by digest`, or `by` with the
+/// name of a key and the text whose octets are its own.
+fn octets_of(alloc: Global, packet: &str) -> Option<Vec<u8>> {
+    let (kind, rest) = packet.split_once(' ')?;
+    if kind == "octets" {
+        return hex::decode(alloc, rest).ok();
+    }
+    let (name, signer) = rest.split_once(" by ")?;
+    let name = NameBuf::from_uri(alloc, name).ok()?;
+    if signer == "digest" {
+        return written(alloc, kind, name.view(), Sign::Digest);
+    }
+    let (key_name, key) = signer.split_once(' ')?;
+    let key_name = NameBuf::from_uri(alloc, key_name).ok()?;
+    let sign = sign_by(key_name.view(), key.as_bytes());
+    written(alloc, kind, name.view(), sign)
+}
+
+/// The packet of a frame, if rules decide of such packets.
+fn packet_of<'a>(frame: &'a Frame<'a>) -> Option<Packet<'a>> {
+    match frame {
+        Frame::Interest(interest) => Some(Packet::Interest(interest)),
+        Frame::Data(data) => Some(Packet::Data(data)),
+        _ => None,
+    }
+}
+
+/// What the rules decide of a packet of these octets.
+fn decided(alloc: Global, rules: &Rules, keys: &str, octets: &[u8]) -> Option<Decision> {
+    let keys = KeyBook::read(alloc, keys).ok()?;
+    let frame = read_frame(octets).ok()?;
+    rules.decide(alloc, &keys, packet_of(&frame)?).ok()
+}
+
+/// What a rule file decides of a packet, as `allowed 0`, `denied 0 Tag` or `no rule`, and of `any` kind
+/// and name which rule is first, as `rule 0` or `no rule`; `None` where something is refused.
+pub fn told_of(alloc: Global, file: &str, keys: &str, packet: &str) -> Option<String> {
+    let rules = rules_of(alloc, typed(alloc, file)?.as_str()).ok()?;
+    if let Some(named) = packet.strip_prefix("any ") {
+        return told_first(alloc, &rules, named);
+    }
+    let octets = octets_of(alloc, packet)?;
+    match decided(alloc, &rules, keys, &octets)? {
+        Decision::Allowed(rule) => format!(in alloc; "allowed {}", rule.0).ok(),
+        Decision::Denied(rule, reason) => format!(in alloc; "denied {} {reason:?}", rule.0).ok(),
+        Decision::NoRule => String::from_str(alloc, "no rule").ok(),
+    }
+}
+
+/// The first rule for a kind and a name.
+fn told_first(alloc: Global, rules: &Rules, named: &str) -> Option<String> {
+    let (kind, name) = named.split_once(' ')?;
+    let name = NameBuf::from_uri(alloc, name).ok()?;
+    let kind = match kind {
+        "data" => Kind::Data,
+        "interest" => Kind::Interest,
+        _ => return None,
+    };
+    match rules.first_match(kind, name.view()) {
+        Some(rule) => format!(in alloc; "rule {}", rule.0).ok(),
+        None => String::from_str(alloc, "no rule").ok(),
+    }
+}
+
+/// Whether a row `PACKET → DECISION` is right under the keys of these tests.
+fn is_decided_so(alloc: Global, file: &str, row: &str) -> bool {
+    let Some((packet, wanted)) = row.split_once(" → ") else {
+        return false;
+    };
+    told_of(alloc, file, KEYS, packet).is_some_and(|told| told.as_str() == wanted)
+}
+
+/// The first wrong line of the rows of a rule file.
+pub fn first_wrong_under(alloc: Global, file: &str, rows: &str) -> usize {
+    first_wrong(alloc, rows, |alloc, row| is_decided_so(alloc, file, row))
+}
+
+/// The first wrong line of a text of rule files, each on a line of its own with its rows on those after
+/// it up to an empty one. The text begins with an empty line, the first.
+fn first_wrong_of(alloc: Global, files: &str) -> usize {
+    let mut lines = 1usize;
+    for file in files.trim_matches('\n').split("\n\n") {
+        let Some((file, rows)) = file.split_once('\n') else {
+            return lines.saturating_add(1);
+        };
+        let wrong = first_wrong_under(alloc, file, rows);
+        if wrong != 0 {
+            return lines.saturating_add(1).saturating_add(wrong);
+        }
+        lines = lines.saturating_add(rows.lines().count()).saturating_add(2);
+    }
+    0
+}
+
+const FIRST_RULE: &str = r"
+rule {␊ id first␊ for data␊ filter {␊ type name␊ name /A␊ relation is-prefix-of }␊ checker {␊ type customized␊ sig-type hmac-sha256␊ key-locator {␊ type name␊ name /ops/KEY/1␊ relation equal } } }␊ rule {␊ id second␊ for data␊ checker {␊ type customized␊ sig-type sha256 } }
+data /A/x by /ops/KEY/1 key → allowed 0
+data /A/x by digest → denied 0 SigType
+data /B/x by /ops/KEY/1 key → denied 1 SigType
+data /B/x by digest → allowed 1
+";
+
+/// The first rule that applies decides alone: the later one would allow what it denies.
+#[test]
+fn the_first_rule_decides(rt: HostRuntime) {
+    assert_right(&rt, first_wrong_of(rt.alloc(), FIRST_RULE));
+}
+
+const OTHER_KIND: &str = r"
+rule {␊ id first␊ for data␊ filter {␊ type name␊ name /A␊ relation is-prefix-of }␊ checker {␊ type customized␊ sig-type hmac-sha256␊ key-locator {␊ type name␊ name /ops/KEY/1␊ relation equal } } }␊ rule {␊ id second␊ for data␊ checker {␊ type customized␊ sig-type sha256 } }
+interest /A/x by /ops/KEY/1 key → no rule
+any data /A/x → rule 0
+any interest /A/x → no rule
+";
+
+/// No rule is for Interests.
+#[test]
+fn rules_of_another_kind(rt: HostRuntime) {
+    assert_right(&rt, first_wrong_of(rt.alloc(), OTHER_KIND));
+}
+
+const FILTERS: &str = r"
+rule {␊ id a␊ for interest␊ filter {␊ type name␊ name /A␊ relation equal }␊ filter {␊ type name␊ name /B␊ relation is-strict-prefix-of }␊ filter {␊ type name␊ name /C/d␊ relation is-prefix-of }␊ filter {␊ type name␊ regex ^<D><>{2}$ } }
+any interest /A → rule 0
+any interest /A/x → no rule
+any interest /B → no rule
+any interest /B/x → rule 0
+any interest /B/x/y → rule 0
+any interest /C → no rule
+any interest /C/d → rule 0
+any interest /C/d/e → rule 0
+any interest /D/x → no rule
+any interest /D/x/y → rule 0
+any interest / → no rule
+";
+
+/// One of several filters is enough.
+#[test]
+fn filters(rt: HostRuntime) {
+    assert_right(&rt, first_wrong_of(rt.alloc(), FILTERS));
+}
+
+const REASONS_OF_KEYS: &str = r"
+rule {␊ id a␊ for data␊ checker {␊ type customized␊ sig-type hmac-sha256␊ key-locator {␊ type name␊ name /ops/KEY␊ relation is-strict-prefix-of } } }
+data /A by /ops/KEY/1 key → allowed 0
+data /A by /ops/KEX/1 key → denied 0 KeyLocator
+data /A by /ops/KEY/2 key → denied 0 KeyUnknown
+data /A by /ops/KEY/1 kez → denied 0 Tag
+data /A by digest → denied 0 SigType
+
+rule {␊ id a␊ for interest␊ checker {␊ type customized␊ sig-type hmac-sha256␊ key-locator {␊ type name␊ name /ops/KEY␊ relation is-strict-prefix-of } } }
+interest /A by /ops/KEY/1 key → allowed 0
+interest /A by /ops/KEX/1 key → denied 0 KeyLocator
+interest /A by /ops/KEY/2 key → denied 0 KeyUnknown
+interest /A by /ops/KEY/1 kez → denied 0 Tag
+interest /A by digest → denied 0 SigType
+";
+
+/// Each reason that a checker of HmacWithSha256 has, for Data and for Interests.
+#[test]
+fn reasons_of_keys(rt: HostRuntime) {
+    assert_right(&rt, first_wrong_of(rt.alloc(), REASONS_OF_KEYS));
+}
+
+const REASONS_OF_DIGESTS: &str = r"
+rule {␊ id a␊ for interest␊ checker {␊ type customized␊ sig-type sha256 } }
+interest /A by digest → allowed 0
+interest /A by /ops/KEY/1 key → denied 0 SigType
+
+rule {␊ id a␊ for data␊ checker {␊ type customized␊ sig-type sha256 } }
+data /A by digest → allowed 0
+# The last octet of the digest is another one.
+octets 062f070308014115017816031b01001720e4f0b5aed03446e702356a360c7194c208b8b6a28ff30de430f1baa08ba29267 → denied 0 Tag
+";
+
+/// Each reason that a checker of DigestSha256 has.
+#[test]
+fn reasons_of_digests(rt: HostRuntime) {
+    assert_right(&rt, first_wrong_of(rt.alloc(), REASONS_OF_DIGESTS));
+}
+
+const NO_NAMES: &str = r"
+rule {␊ id a␊ for data␊ checker {␊ type customized␊ sig-type hmac-sha256␊ key-locator {␊ type name␊ name /ops/KEY/1␊ relation equal } } }
+octets 060c070308014116031b01041700 → denied 0 KeyLocator
+octets 0610070308014116071b01041c021d001700 → denied 0 KeyLocator
+octets 0610070308014116071b01041c0206001700 → denied 0 KeyLocator
+";
+
+/// Signatures of type 4 without a KeyLocator, with a KeyDigest, and with an element of type 6.
+#[test]
+fn key_locators_that_are_no_names(rt: HostRuntime) {
+    assert_right(&rt, first_wrong_of(rt.alloc(), NO_NAMES));
+}
+
+const UNSUPPORTED: &str = r"
+rule {␊ id a␊ for data␊ checker {␊ type customized␊ sig-type rsa-sha256␊ key-locator {␊ type name␊ name /A␊ relation equal } } }
+# A signature of type 1, SignatureSha256WithRsa.
+octets 060c070308014116031b01011700 → denied 0 SigType
+data /A by /ops/KEY/1 key → denied 0 SigType
+
+rule {␊ id a␊ for data␊ checker {␊ type customized␊ sig-type ecdsa-sha256␊ key-locator {␊ type name␊ name /A␊ relation equal } } }
+# A signature of type 1, SignatureSha256WithRsa.
+octets 060c070308014116031b01011700 → denied 0 SigType
+data /A by /ops/KEY/1 key → denied 0 SigType
+";
+
+/// A rule that names RSA or ECDSA accepts nothing, whatever the type of the signature is.
+#[test]
+fn unsupported_signatures(rt: HostRuntime) {
+    assert_right(&rt, first_wrong_of(rt.alloc(), UNSUPPORTED));
+}
+
+const GREATEST_REASON: &str = r"
+rule {␊ id a␊ for data␊ checker {␊ type customized␊ sig-type sha256 }␊ checker {␊ type customized␊ sig-type hmac-sha256␊ key-locator {␊ type name␊ name /ops/KEY/2␊ relation equal } }␊ checker {␊ type customized␊ sig-type hmac-sha256␊ key-locator {␊ type name␊ name /ops/KEY/1␊ relation equal } } }
+data /A by /ops/KEY/1 kez → denied 0 Tag
+
+rule {␊ id a␊ for data␊ checker {␊ type customized␊ sig-type hmac-sha256␊ key-locator {␊ type name␊ name /ops/KEY/1␊ relation equal } }␊ checker {␊ type customized␊ sig-type hmac-sha256␊ key-locator {␊ type name␊ name /ops/KEY/2␊ relation equal } }␊ checker {␊ type customized␊ sig-type rsa-sha256␊ key-locator {␊ type name␊ name /A␊ relation equal } } }
+data /A by /ops/KEY/1 kez → denied 0 Tag
+";
+
+/// Of the reasons of several checkers the greatest is reported.
+#[test]
+fn the_greatest_reason(rt: HostRuntime) {
+    assert_right(&rt, first_wrong_of(rt.alloc(), GREATEST_REASON));
+}
+
+const NO_CHECKER_OF_THE_TYPE: &str = r"
+rule {␊ id a␊ for data␊ checker {␊ type customized␊ sig-type sha256 }␊ checker {␊ type customized␊ sig-type rsa-sha256␊ key-locator {␊ type name␊ name /A␊ relation equal } } }
+data /A by /ops/KEY/1 kez → denied 0 SigType
+
+rule {␊ id a␊ for data }
+data /A by /ops/KEY/1 kez → denied 0 KeyLocator
+";
+
+/// Checkers of another type of signature, and none.
+#[test]
+fn no_checker_of_the_type(rt: HostRuntime) {
+    assert_right(&rt, first_wrong_of(rt.alloc(), NO_CHECKER_OF_THE_TYPE));
+}
+
+const ONE_CHECKER: &str = r"
+rule {␊ id a␊ for data␊ checker {␊ type customized␊ sig-type rsa-sha256␊ key-locator {␊ type name␊ name /A␊ relation equal } }␊ checker {␊ type customized␊ sig-type hmac-sha256␊ key-locator {␊ type name␊ name /ops/KEY/1␊ relation equal } }␊ checker {␊ type customized␊ sig-type sha256 } }
+data /A by /ops/KEY/1 key → allowed 0
+";
+
+/// One checker that passes is enough.
+#[test]
+fn one_checker_passes(rt: HostRuntime) {
+    assert_right(&rt, first_wrong_of(rt.alloc(), ONE_CHECKER));
+}
+
+const NOT_SIGNED: &str = r"
+rule {␊ id a␊ for interest␊ filter {␊ type name␊ name /A␊ relation equal } }
+octets 050b07030801410a0401020304 → denied 0 NotSigned
+# With the parameter p.
+octets 053007250801410220620e59c59d04596b40d4cbe11e875a127f928accec817bec4519ae74d661f47a0a0401020304240170 → denied 0 NotSigned
+# Of the name /A/B.
+octets 053307280801410801420220620e59c59d04596b40d4cbe11e875a127f928accec817bec4519ae74d661f47a0a0401020304240170 → no rule
+";
+
+/// An Interest goes by its name without the digest of its parameters.
+#[test]
+fn interests_that_are_not_signed(rt: HostRuntime) {
+    assert_right(&rt, first_wrong_of(rt.alloc(), NOT_SIGNED));
+}
+
+const SIGNED_INTERESTS: &str = r"
+rule {␊ id a␊ for interest␊ filter {␊ type name␊ name /A␊ relation equal } }
+# Without a SignatureTime.
+octets 0567072508014102204b517d4208fcf6ccf88fa54794a0898bf87bd1bd363776b41a1ffc21de2c45e40a040102030424002c141b01041c0f070d08036f707308034b45590801312e2053e19b46871ffce8148f2fb6e1f8f68051928febaf46a966ae4de3357c0525a4 → denied 0 Shape
+interest /A by /ops/KEY/1 key → denied 0 KeyLocator
+";
+
+/// Without a time, and without a checker.
+#[test]
+fn signed_interests(rt: HostRuntime) {
+    assert_right(&rt, first_wrong_of(rt.alloc(), SIGNED_INTERESTS));
+}
+
+const DIGEST_INSIDE: &str = r"
+rule {␊ id a␊ for interest␊ filter {␊ type name␊ regex ^<A><><B>$ }␊ checker {␊ type customized␊ sig-type sha256 } }
+# The name is /A, the digest of the parameters and /B.
+octets 053c0728080141022041269ed42c4350afd5f68d9befb49e040be485700083988d7704c7e1ad57baaf0801420a040102030424002c061b01002801012e00 → denied 0 Shape
+
+rule {␊ id a␊ for interest␊ filter {␊ type name␊ regex ^<A><>$ }␊ checker {␊ type customized␊ sig-type sha256 } }
+octets 053c0728080141022041269ed42c4350afd5f68d9befb49e040be485700083988d7704c7e1ad57baaf0801420a040102030424002c061b01002801012e00 → no rule
+
+rule {␊ id a␊ for interest␊ filter {␊ type name␊ regex ^<A>$ }␊ checker {␊ type customized␊ sig-type sha256 } }
+octets 053c0728080141022041269ed42c4350afd5f68d9befb49e040be485700083988d7704c7e1ad57baaf0801420a040102030424002c061b01002801012e00 → no rule
+";
+
+/// Where the digest is not the last component, the whole name is matched.
+#[test]
+fn a_digest_inside_a_name(rt: HostRuntime) {
+    assert_right(&rt, first_wrong_of(rt.alloc(), DIGEST_INSIDE));
+}
+
+const IGNORED_ELEMENTS: &str = r"
+rule {␊ id a␊ for data␊ checker {␊ type customized␊ sig-type sha256 } }
+# An element of type 240, which is ignored, stands before the SignatureInfo.
+octets 062f0703080141f0010916031b010017207f4cf50ddc2aa108ac334034089f197d91c4e8956f89fd14bcc64d05ae511a93 → allowed 0
+# The digest of the other octets.
+octets 062f0703080141f0010916031b010017204dc3687307ff540517001990590b74ae07d1065ea72fb5d58aa0e03d56bb1d1c → denied 0 Tag
+";
+
+/// Elements that are ignored are covered all the same.
+#[test]
+fn ignored_elements_are_covered(rt: HostRuntime) {
+    assert_right(&rt, first_wrong_of(rt.alloc(), IGNORED_ELEMENTS));
+}
+
+const HIERARCHICAL_KEYS: &str = r"
+rule {␊ id a␊ for data␊ checker {␊ type hierarchical } }
+data /ops by /ops/KEY/1 key → allowed 0
+data /ops/x by /ops/KEY/1 key → allowed 0
+data / by /ops/KEY/1 key → denied 0 KeyLocator
+data /opt/x by /ops/KEY/1 key → denied 0 KeyLocator
+data /ops/x by /ops/KEY/1/2 key → allowed 0
+data /ops/x by /ops/KEY/1/2/3 key → allowed 0
+data /ops/x by /ops/KEY/1/2/3/4 key → denied 0 KeyLocator
+data /ops/x by /ops/KEY key → denied 0 KeyLocator
+data /ops/x by /ops/1 key → denied 0 KeyLocator
+data /ops/x by / key → denied 0 KeyLocator
+data /ops/x by /KEY/1 key → allowed 0
+data / by /KEY/1 key → allowed 0
+# Another type, another text.
+data /ops/x by /ops/9=KEY/1 key → denied 0 KeyLocator
+data /ops/x by /ops/KE/1 key → denied 0 KeyLocator
+# The last KEY that has one to three components after it.
+data /a/x by /a/KEY/b/KEY/c key → denied 0 KeyLocator
+data /a/KEY/b/x by /a/KEY/b/KEY/c key → allowed 0
+data /a/x by /a/KEY/b/KEY key → allowed 0
+data /a/x by /a/KEY/KEY/1 key → denied 0 KeyLocator
+data /a/KEY by /a/KEY/KEY/1 key → allowed 0
+data /a/x by /a/KEY/KEY key → allowed 0
+";
+
+#[test]
+fn hierarchical_keys(rt: HostRuntime) {
+    assert_right(&rt, first_wrong_of(rt.alloc(), HIERARCHICAL_KEYS));
+}
+
+const HYPER_RELATIONS: &str = r#"
+rule {␊ id a␊ for data␊ checker {␊ type customized␊ sig-type hmac-sha256␊ key-locator {␊ type name␊ hyper-relation {␊ k-regex ^(<>*)<KEY><>$␊ k-expand \1␊ h-relation equal␊ p-regex ""␊ p-expand \0 } } } }
+data /a/b by /a/b/KEY/1 key → allowed 0
+data /a/b/c by /a/b/KEY/1 key → denied 0 KeyLocator
+data /a by /a/b/KEY/1 key → denied 0 KeyLocator
+
+rule {␊ id a␊ for data␊ checker {␊ type customized␊ sig-type hmac-sha256␊ key-locator {␊ type name␊ hyper-relation {␊ k-regex ^(<>*)<KEY><>$␊ k-expand \1␊ h-relation is-prefix-of␊ p-regex ""␊ p-expand \0 } } } }
+data /a/b by /a/b/KEY/1 key → allowed 0
+data /a/b/c by /a/b/KEY/1 key → allowed 0
+data /a by /a/b/KEY/1 key → denied 0 KeyLocator
+
+rule {␊ id a␊ for data␊ checker {␊ type customized␊ sig-type hmac-sha256␊ key-locator {␊ type name␊ hyper-relation {␊ k-regex ^(<>*)<KEY><>$␊ k-expand \1␊ h-relation is-strict-prefix-of␊ p-regex ""␊ p-expand \0 } } } }
+data /a/b by /a/b/KEY/1 key → denied 0 KeyLocator
+data /a/b/c by /a/b/KEY/1 key → allowed 0
+data /a by /a/b/KEY/1 key → denied 0 KeyLocator
+
+rule {␊ id a␊ for data␊ checker {␊ type customized␊ sig-type hmac-sha256␊ key-locator {␊ type name␊ hyper-relation {␊ k-regex ^(<>*)<KEY><>$␊ k-expand \1␊ h-relation is-prefix-of␊ p-regex ^<z>␊ p-expand \0 } } } }
+data /a/b/c by /a/b/KEY/1 key → denied 0 KeyLocator
+"#;
+
+/// What is made of the key's name is the first of the two names that are compared.
+#[test]
+fn hyper_relations(rt: HostRuntime) {
+    assert_right(&rt, first_wrong_of(rt.alloc(), HYPER_RELATIONS));
+}
+
+const TEMPLATES: &str = r"
+rule {␊ id a␊ for data␊ checker {␊ type customized␊ sig-type hmac-sha256␊ key-locator {␊ type name␊ hyper-relation {␊ k-regex ^<k>(<>)$␊ k-expand <a>\1␊ h-relation equal␊ p-regex ^(<>)<>(<>)$␊ p-expand \1\2 } } } }
+data /a/x/b by /k/b key → allowed 0
+data /a/b/x by /k/b key → denied 0 KeyLocator
+data /a/x/b by /l/b key → denied 0 KeyLocator
+";
+
+/// Components of templates, several groups, and a key's name that does not match.
+#[test]
+fn templates(rt: HostRuntime) {
+    assert_right(&rt, first_wrong_of(rt.alloc(), TEMPLATES));
+}
+
+const LONG_EXPANSIONS: &str = r#"
+rule {␊ id a␊ for data␊ checker {␊ type customized␊ sig-type hmac-sha256␊ key-locator {␊ type name␊ hyper-relation {␊ k-regex ""␊ k-expand \0\0\0\0\0\0\0\0␊ h-relation equal␊ p-regex ""␊ p-expand \0\0\0\0\0\0\0\0 } } } }
+data /1/2/3/4/5/6/7/8 by /1/2/3/4/5/6/7/8 key → allowed 0
+
+rule {␊ id a␊ for data␊ checker {␊ type customized␊ sig-type hmac-sha256␊ key-locator {␊ type name␊ hyper-relation {␊ k-regex ""␊ k-expand \0\0\0\0\0\0\0\0<a>␊ h-relation equal␊ p-regex ""␊ p-expand \0\0\0\0\0\0\0\0<a> } } } }
+data /1/2/3/4/5/6/7/8 by /1/2/3/4/5/6/7/8 key → denied 0 KeyLocator
+"#;
+
+/// Names of more than 64 components are not compared, though they were equal.
+#[test]
+fn expansions_that_are_too_long(rt: HostRuntime) {
+    assert_right(&rt, first_wrong_of(rt.alloc(), LONG_EXPANSIONS));
+}
+
+const HYPER_OF_INTERESTS: &str = r#"
+rule {␊ id a␊ for interest␊ checker {␊ type customized␊ sig-type hmac-sha256␊ key-locator {␊ type name␊ hyper-relation {␊ k-regex ^(<>*)<KEY><>$␊ k-expand \1␊ h-relation equal␊ p-regex ""␊ p-expand \0 } } } }
+interest /ops by /ops/KEY/1 key → allowed 0
+"#;
+
+/// A hyper-relation sees an Interest's name without its digest.
+#[test]
+fn hyper_relations_of_interests(rt: HostRuntime) {
+    assert_right(&rt, first_wrong_of(rt.alloc(), HYPER_OF_INTERESTS));
+}
+
+const KEY_OF_NAME_OPS_KEY: &str = r"
+rule {␊ id a␊ for interest␊ checker {␊ type customized␊ sig-type hmac-sha256␊ key-locator {␊ type name␊ name /ops/KEY␊ relation equal } } }
+";
+
+/// Whether this is decided, under these keys, of an Interest of the name /A that the key of the name
+/// /ops/KEY signed.
+fn is_ops_decided(alloc: Global, keys: &str, wanted: &str) -> bool {
+    let packet =
+        "octets 05670725080141022052d80660e71c995e200e90fca82774055b6c5240685cab9cef7cdb476c5d1c240a040102030424002c141b01041c0c070a08036f707308034b45592801012e200e161f3e3217de961e12f02dca786e191af9e5a29166ddb8293582ab256106cd";
+    told_of(alloc, KEY_OF_NAME_OPS_KEY, keys, packet).is_some_and(|told| told.as_str() == wanted)
+}
+
+/// An Interest's signature covers its name before the digest, and its octets from the parameters on.
+#[test]
+fn both_parts_are_covered(rt: HostRuntime) {
+    assert!(rt; is_ops_decided(rt.alloc(), "/ops/KEY 6b6579", "allowed 0"));
+    assert!(rt; is_ops_decided(rt.alloc(), "/ops/KEY 6b657a", "denied 0 Tag"));
+    assert!(rt; is_ops_decided(rt.alloc(), "", "denied 0 KeyUnknown"));
+}
