@@ -34,16 +34,16 @@ unfolding unescaped
 kept_backslash [] bare plain = refl
 kept_backslash (next ∷ word) bare plain = rw (ne_eqb next 92 bare, ne_eqb next 34 plain) refl
 
-pub escape_front : (behind sign after : List ℕ) → 0 < length behind → is_escaped (get_or behind 0 0) ≡ true → sign ≡ take 1 behind → after ≡ drop 1 behind
-    → unescaped (92 ∷ behind) ≡ sign ++ unescaped after
+pub escape_front : (following sign after : List ℕ) → 0 < length following → is_escaped (get_or following 0 0) ≡ true → sign ≡ take 1 following → after ≡ drop 1 following
+    → unescaped (92 ∷ following) ≡ sign ++ unescaped after
 escape_front [] sign after some h is_sign is_after = absurd (omega arith)
-escape_front (next ∷ behind) sign after some h is_sign is_after = rw (is_sign, is_after) (escaped_octet next behind h)
+escape_front (next ∷ following) sign after some h is_sign is_after = rw (is_sign, is_after) (escaped_octet next following h)
 
 -- what one round of the reading adds
-pub further : (word text before behind sign after rest : List ℕ) → unescaped word ≡ text ++ unescaped rest → rest ≡ before ++ 92 ∷ behind → Lacks 92 before → unescaped (92 ∷ behind) ≡ sign ++ unescaped after
+pub further : (word text before following sign after rest : List ℕ) → unescaped word ≡ text ++ unescaped rest → rest ≡ before ++ 92 ∷ following → Lacks 92 before → unescaped (92 ∷ following) ≡ sign ++ unescaped after
     → unescaped word ≡ ((text ++ before) ++ sign) ++ unescaped after
-further word text before behind sign after rest e parts plain read =
-    e ∙ ap (λ (w : List ℕ). text ++ unescaped w) parts ∙ ap (λ (w : List ℕ). text ++ w) (plain_front before (92 ∷ behind) plain ∙ ap (λ (w : List ℕ). before ++ w) read)
+further word text before following sign after rest e parts plain read =
+    e ∙ ap (λ (w : List ℕ). text ++ unescaped w) parts ∙ ap (λ (w : List ℕ). text ++ w) (plain_front before (92 ∷ following) plain ∙ ap (λ (w : List ℕ). before ++ w) read)
     ∙ sym (append_assoc text before (sign ++ unescaped after)) ∙ sym (append_assoc (text ++ before) sign (unescaped after))
 
 pub last_part : (word text rest : List ℕ) → unescaped word ≡ text ++ unescaped rest → Lacks 92 rest → unescaped word ≡ text ++ rest

@@ -35,8 +35,8 @@ late_split rest some few =
 key_split : (prefix name : List Field) (h : IsKeyOf prefix name) → IsSplit hierarchical_pattern.atoms name (length prefix ∷ 1 ∷ length h.0 ∷ [])
 key_split prefix name h =
     let long : length prefix ≤ length name = omega (arith, ap length h.1, length-append prefix (key_component ∷ h.0)) in
-    let behind : drop (length prefix) name ≡ key_component ∷ h.0 = ap (drop (length prefix)) h.1 ∙ drop_front prefix (key_component ∷ h.0) in
-    (omega arith, tt, long, all_pass (take (length prefix) name), subst (λ (cs : List Field). IsSplit late_atoms cs (1 ∷ length h.0 ∷ [])) (sym behind) (late_split h.0 h.2 h.3))
+    let following : drop (length prefix) name ≡ key_component ∷ h.0 = ap (drop (length prefix)) h.1 ∙ drop_front prefix (key_component ∷ h.0) in
+    (omega arith, tt, long, all_pass (take (length prefix) name), subst (λ (cs : List Field). IsSplit late_atoms cs (1 ∷ length h.0 ∷ [])) (sym following) (late_split h.0 h.2 h.3))
 
 -- what a split of the late atoms is
 pub record Late (cs : List Field) (counts : List ℕ) : Type 0 where

@@ -25,29 +25,29 @@ split_at (x ∷ name) zero c e =
     λ k. same k ∷ name
 split_at (x ∷ name) (suc place) c e = ap (λ (xs : List Field). x ∷ xs) (split_at name place c e)
 
-pub key_here : (name : List Field) (place behind : ℕ) → slice_get name place ≡ Some key_component → length name ≡ place + 1 + behind → 1 ≤ behind → behind ≤ 3 → IsKeyOf (take place name) name
-key_here name place behind there len some few =
-    let long : length (drop (suc place) name) ≡ behind = length-drop (suc place) name ∙ omega (arith, len) in
+pub key_here : (name : List Field) (place following : ℕ) → slice_get name place ≡ Some key_component → length name ≡ place + 1 + following → 1 ≤ following → following ≤ 3 → IsKeyOf (take place name) name
+key_here name place following there len some few =
+    let long : length (drop (suc place) name) ≡ following = length-drop (suc place) name ∙ omega (arith, len) in
     (drop (suc place) name, split_at name place key_component there, omega (arith, long, some), omega (arith, long, few))
 
--- each prefix before a component KEY has more than so many components behind that
-abbrev pub HasBehind : List Field → ℕ → Type 0
-HasBehind name behind = (prefix : List Field) → IsKeyOf prefix name → length prefix + 1 + behind ≤ length name
+-- each prefix before a component KEY has more than so many components after that
+abbrev pub HasFollowing : List Field → ℕ → Type 0
+HasFollowing name following = (prefix : List Field) → IsKeyOf prefix name → length prefix + 1 + following ≤ length name
 
-pub behind_first : (name : List Field) → HasBehind name 1
-behind_first name prefix h = omega (arith, key_len prefix name h, h.2)
+pub following_first : (name : List Field) → HasFollowing name 1
+following_first name prefix h = omega (arith, key_len prefix name h, h.2)
 
-pub behind_next : (name : List Field) (place behind : ℕ) → length name ≡ place + 1 + behind → (slice_get name place ≡ Some key_component → ⊥) → HasBehind name behind → HasBehind name (behind + 1)
-behind_next name place behind len other have prefix h =
+pub following_next : (name : List Field) (place following : ℕ) → length name ≡ place + 1 + following → (slice_get name place ≡ Some key_component → ⊥) → HasFollowing name following → HasFollowing name (following + 1)
+following_next name place following len other have prefix h =
     let apart : length prefix ≡ place → ⊥ = λ e. other (ap (slice_get name) (sym e) ∙ key_at prefix name h) in
     let least = have prefix h in
     omega (arith, len, apart, least)
 
-pub behind_all : (name : List Field) (behind : ℕ) → 4 ≤ behind → HasBehind name behind → (prefix : List Field) → ¬ IsKeyOf prefix name
-behind_all name behind all have prefix h = absurd (omega (arith, all, key_len prefix name h, have prefix h, h.3))
+pub following_all : (name : List Field) (following : ℕ) → 4 ≤ following → HasFollowing name following → (prefix : List Field) → ¬ IsKeyOf prefix name
+following_all name following all have prefix h = absurd (omega (arith, all, key_len prefix name h, have prefix h, h.3))
 
-pub behind_short : (name : List Field) (behind : ℕ) → length name < behind + 1 → HasBehind name behind → (prefix : List Field) → ¬ IsKeyOf prefix name
-behind_short name behind short have prefix h = absurd (omega (arith, short, have prefix h))
+pub following_short : (name : List Field) (following : ℕ) → length name < following + 1 → HasFollowing name following → (prefix : List Field) → ¬ IsKeyOf prefix name
+following_short name following short have prefix h = absurd (omega (arith, short, have prefix h))
 
 prefix_is : (prefix name : List Field) → IsKeyOf prefix name → prefix ≡ take (length prefix) name
 prefix_is prefix name h = sym (ap (take (length prefix)) h.1 ∙ take-append_seam prefix (key_component ∷ h.0))

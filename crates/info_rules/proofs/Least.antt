@@ -25,7 +25,7 @@ along a b c h k = less_along a.line (kind_number a.kind) b.line (kind_number b.k
 itself : (a : RulesFault) → sooner a a ≡ false
 itself a = less_itself a.line (kind_number a.kind)
 
--- which of two is told
+-- which of two is reported
 record IsTold (a b told : RulesFault) : Type 0 where
   one : (told ≡ a) ⊎ (told ≡ b)
   first : sooner a told ≡ false
@@ -38,7 +38,7 @@ told_of_two a b = by_test (sooner b a) refl
     by_test true e = record { one = inr refl; first = less_not b.line (kind_number b.kind) a.line (kind_number a.kind) e; second = itself b }
     by_test false e = record { one = inl refl; first = itself a; second = e }
 
--- what is told of a fault and others
+-- what is reported of a fault and others
 abbrev IsFirst : RulesFault → List RulesFault → RulesFault → Type 0
 IsFirst fault faults told = IsAmong told (fault ∷ faults) × NoneIsSooner told (fault ∷ faults)
 

@@ -20,7 +20,7 @@ use Rattle.info_rules.specs.Rule.{PlainRule}
 use Rattle.info_rules.specs.First.{Applies, NoneApplies, IsFirst}
 use Rattle.info_rules.specs.Seen.{SeenPacket, PlainSigned, IsSigned, SaysWhen, seen_interest, seen_data}
 use Rattle.info_rules.specs.Checks.{Checks}
-use Rattle.info_rules.specs.Decides.{number_of, IsPassed, IsAtMost, IsGreatest, Allow, IsUnfit, Deny, DecideSeen, Decides}
+use Rattle.info_rules.specs.Decides.{reason_number, IsPassed, IsAtMost, IsGreatest, Allow, IsUnfit, Deny, DecideSeen, Decides}
 use Rattle.info_rules.proofs.Firsts.{within}
 use Rattle.info_rules.proofs.OneCheck.{one_check}
 
@@ -125,7 +125,7 @@ reason_of n =
     if n == 6 then reasons.Tag else
     reasons.Replay)))))
 
-numbers_back : (a : Reason) → reason_of (number_of a) ≡ a
+numbers_back : (a : Reason) → reason_of (reason_number a) ≡ a
 numbers_back reasons.NotSigned = refl
 numbers_back reasons.Shape = refl
 numbers_back reasons.SigType = refl
@@ -134,7 +134,7 @@ numbers_back reasons.KeyUnknown = refl
 numbers_back reasons.Tag = refl
 numbers_back reasons.Replay = refl
 
-one_reason : (a b : Reason) → number_of a ≡ number_of b → a ≡ b
+one_reason : (a b : Reason) → reason_number a ≡ reason_number b → a ≡ b
 one_reason a b e = sym (numbers_back a) ∙ (ap reason_of e ∙ numbers_back b)
 
 given_one : (keys : List NamedKey) (checker : Checker) (signed : PlainSigned) (a b : Reason) → AreApart keys → Checks keys checker signed (Some a) → Checks keys checker signed (Some b) → a ≡ b
@@ -163,11 +163,11 @@ not_both keys all signed reason apart passed (inr g) =
     passes_none keys passed.1 signed given.0 apart passed.4 given.1
 
 no_greater : (keys : List NamedKey) (all : List Checker) (signed : PlainSigned) (a b : Reason) → AreApart keys → All (IsAtMost keys signed b) all → Any (λ checker. Checks keys checker signed (Some a)) all
-    → number_of a ≤ number_of b
+    → reason_number a ≤ reason_number b
 no_greater keys all signed a b apart every any =
     let given = here (IsAtMost keys signed b) all any.0 any.1 every any.2 any.3 in
     let same : given.0 ≡ a = given_one keys any.1 signed given.0 a apart given.1 any.4 in
-    omega (arith, given.2, ap number_of same)
+    omega (arith, given.2, ap reason_number same)
 
 one_greatest : (keys : List NamedKey) (all : List Checker) (signed : PlainSigned) (a b : Reason) → AreApart keys → IsGreatest keys all signed a → IsGreatest keys all signed b → a ≡ b
 one_greatest keys all signed a b apart (inl p) (inl q) = p.1 ∙ sym q.1

@@ -23,15 +23,15 @@ lack_more depth entries i entry lt is e h =
     subst (Lack depth) (sym grown) (lack_both depth (take i entries) entry h e)
 
 -- entries in front of others, of which none is at this depth
-abbrev pub behind : ℕ → List PlainEntry → List Entry → List PlainEntry × List Block
-behind depth front rest = (front ++ (parted depth (map entry_of rest)).0, (parted depth (map entry_of rest)).1)
+abbrev pub following : ℕ → List PlainEntry → List Entry → List PlainEntry × List Block
+following depth front rest = (front ++ (parted depth (map entry_of rest)).0, (parted depth (map entry_of rest)).1)
 
-past : (depth : ℕ) (front rest : List Entry) → Lack depth front → parted depth (map entry_of (front ++ rest)) ≡ behind depth (map entry_of front) rest
+past : (depth : ℕ) (front rest : List Entry) → Lack depth front → parted depth (map entry_of (front ++ rest)) ≡ following depth (map entry_of front) rest
 unfolding parted
 past depth [] rest h = refl
 past depth (entry ∷ front) rest h = rw (h.0, past depth front rest h.1) refl
 
-pub past_at : (depth : ℕ) (entries : List Entry) (i : ℕ) → Lack depth (take i entries) → parted depth (map entry_of entries) ≡ behind depth (map entry_of (take i entries)) (drop i entries)
+pub past_at : (depth : ℕ) (entries : List Entry) (i : ℕ) → Lack depth (take i entries) → parted depth (map entry_of entries) ≡ following depth (map entry_of (take i entries)) (drop i entries)
 past_at depth entries i h = ap (λ (l : List Entry). parted depth (map entry_of l)) (sym (take-append-drop i entries)) ∙ past depth (take i entries) (drop i entries) h
 
 pub begins_here : (depth : ℕ) (entry : Entry) (entries : List Entry) → eqb entry.depth depth ≡ true → (parted depth (map entry_of (entry ∷ entries))).0 ≡ []

@@ -8,7 +8,7 @@ use Rattle.info_rules.specs.declared.decision.Reason.{Reason}
 use Rattle.info_rules.specs.declared.decision.Reason.TheVariants as reasons
 use Rattle.info_rules.specs.Seen.{PlainSigned}
 use Rattle.info_rules.specs.Checks.{Checks}
-use Rattle.info_rules.specs.Decides.{number_of, IsGreater, IsAtMost, IsGreatest}
+use Rattle.info_rules.specs.Decides.{reason_number, IsGreater, IsAtMost, IsGreatest}
 
 -- the greatest reason of the first n checkers, where there is one
 abbrev pub SoFar : List NamedKey → List Checker → PlainSigned → ℕ → Option Reason → Type 0
@@ -17,12 +17,12 @@ SoFar keys all signed n (Some reason) =
     ((k : ℕ) → k < n → (d : Checker) → IsAtMost keys signed reason (get_or all k d))
     × ((k : ℕ) × (x : Checker) × (k < n) × (get_or all k x ≡ x) × Checks keys x signed (Some reason))
 
-at_most : (keys : List NamedKey) (signed : PlainSigned) (less more : Reason) (checker : Checker) → number_of less ≤ number_of more → IsAtMost keys signed less checker → IsAtMost keys signed more checker
+at_most : (keys : List NamedKey) (signed : PlainSigned) (less more : Reason) (checker : Checker) → reason_number less ≤ reason_number more → IsAtMost keys signed less checker → IsAtMost keys signed more checker
 at_most keys signed less more checker le h = (h.0, h.1, omega (arith, le, h.2))
 
 -- one more checker, whose reason is the greater one
 with_reason : (keys : List NamedKey) (all : List Checker) (signed : PlainSigned) (n : ℕ) (checker : Checker) (reason greatest : Reason)
-    → n < length all → checker ≡ get_or all n checker → Checks keys checker signed (Some reason) → number_of reason ≤ number_of greatest
+    → n < length all → checker ≡ get_or all n checker → Checks keys checker signed (Some reason) → reason_number reason ≤ reason_number greatest
     → ((k : ℕ) → k < n → (d : Checker) → IsAtMost keys signed greatest (get_or all k d))
     → (k : ℕ) → k < n + 1 → (d : Checker) → IsAtMost keys signed greatest (get_or all k d)
 with_reason keys all signed n checker reason greatest low is given le below =
@@ -34,17 +34,17 @@ pub one_more : (keys : List NamedKey) (all : List Checker) (signed : PlainSigned
     → SoFar keys all signed n earlier → SoFar keys all signed (n + 1) (Some greatest)
 one_more keys all signed n checker None reason greatest low is given greater so_far =
     let here : Checks keys checker signed (Some greatest) = subst (λ (r : Reason). Checks keys checker signed (Some r)) (sym greater) given in
-    (with_reason keys all signed n checker reason greatest low is given (omega (arith, ap number_of greater)) (λ k lt d. absurd (omega (arith, lt, so_far))), (n, checker, omega arith, sym is, here))
+    (with_reason keys all signed n checker reason greatest low is given (omega (arith, ap reason_number greater)) (λ k lt d. absurd (omega (arith, lt, so_far))), (n, checker, omega arith, sym is, here))
 one_more keys all signed n checker (Some earlier) reason greatest low is given (inl g) so_far =
     let same : earlier ≡ greatest = sym g.0 in (
-      with_reason keys all signed n checker reason greatest low is given (omega (arith, g.1, ap number_of same))
+      with_reason keys all signed n checker reason greatest low is given (omega (arith, g.1, ap reason_number same))
           (λ k lt d. subst (λ (r : Reason). IsAtMost keys signed r (get_or all k d)) same (so_far.0 k lt d)),
       (so_far.1.0, so_far.1.1, omega (arith, so_far.1.2), so_far.1.3, subst (λ (r : Reason). Checks keys so_far.1.1 signed (Some r)) same so_far.1.4),
     )
 one_more keys all signed n checker (Some earlier) reason greatest low is given (inr g) so_far =
     let here : Checks keys checker signed (Some greatest) = subst (λ (r : Reason). Checks keys checker signed (Some r)) (sym g.0) given in (
-      with_reason keys all signed n checker reason greatest low is given (omega (arith, ap number_of g.0))
-          (λ k lt d. at_most keys signed earlier greatest (get_or all k d) (omega (arith, g.1, ap number_of g.0)) (so_far.0 k lt d)),
+      with_reason keys all signed n checker reason greatest low is given (omega (arith, ap reason_number g.0))
+          (λ k lt d. at_most keys signed earlier greatest (get_or all k d) (omega (arith, g.1, ap reason_number g.0)) (so_far.0 k lt d)),
       (n, checker, omega arith, sym is, here),
     )
 

@@ -9,12 +9,12 @@ use Rattle.std.proofs.lemmas.List.Sums.{prefix_len-le-length, passes_at_first}
 use Rattle.std.proofs.lemmas.Bool.{cases_lt, or_cases, cases_eq, cases_Bool, eq-eqb, eqb-true, ne_eqb, or_parts, and_parts}
 use Rattle.std.proofs.lemmas.List.{append-nil}
 use Rattle.std.proofs.Math.Seq.{drop-cons, drop-length}
-use Rattle.info_rules.specs.Words.{Token, Word, Broken, parts_words, word_token, Mode, Between, InComment, InWord, InQuotes, begun_by, is_closing, line_after, tokens_from, quoted_len, from_line_end}
+use Rattle.info_rules.specs.Words.{Token, Word, Broken, is_separator, word_token, Mode, Between, InComment, InWord, InQuotes, begun_by, is_closing, line_after, tokens_from, quoted_len, from_line_end}
 
 -- ---- words
 
-same_line : (o : ℕ) → parts_words o ≡ false → eqb o 10 ≡ false
-unfolding parts_words
+same_line : (o : ℕ) → is_separator o ≡ false → eqb o 10 ≡ false
+unfolding is_separator
 same_line o h =
     let a = or_parts (eqb o 32) _ h in
     let b = or_parts (eqb o 9) _ a.1 in
@@ -22,22 +22,22 @@ same_line o h =
     (or_parts (eqb o 10) _ c.1).0
 
 pub word_through : (before text : List ℕ) (line : ℕ)
-    → tokens_from (InWord before) line text ≡ (line, word_token (before ++ take (position_or_len parts_words text) text)) ∷ tokens_from Between line (drop (position_or_len parts_words text) text)
+    → tokens_from (InWord before) line text ≡ (line, word_token (before ++ take (position_or_len is_separator text) text)) ∷ tokens_from Between line (drop (position_or_len is_separator text) text)
 unfolding tokens_from
 word_through before [] line = ap (λ (w : List ℕ). (line, word_token w) ∷ []) (sym (append-nil before))
 word_through before (o ∷ text) line =
-    elim (cases_Bool (parts_words o)) [
+    elim (cases_Bool (is_separator o)) [
       | inl parts ↦ rw (parts, append-nil before) refl
       | inr plain ↦
-          let n = position_or_len parts_words text in
+          let n = position_or_len is_separator text in
           let more : 1 + n ≡ suc n = omega arith in
           let goes_on = word_through (before ++ o ∷ []) text line ∙ ap (λ (w : List ℕ). (line, word_token w) ∷ tokens_from Between line (drop n text)) (append_assoc before (o ∷ []) (take n text)) in
           rw (plain, same_line o plain, more) goes_on
     ]
 
-pub parts_small : (o : ℕ) → parts_words o ≡ true → o < 128
-unfolding parts_words
-parts_small o h =
+pub separator_is_small : (o : ℕ) → is_separator o ≡ true → o < 128
+unfolding is_separator
+separator_is_small o h =
     elim (or_cases (eqb o 32) _ h) [
       | inl e ↦ omega (arith, eqb-true o 32 e)
       | inr others ↦
@@ -56,38 +56,38 @@ parts_small o h =
     ]
 
 -- where a word ends the text may be cut
-pub word_boundary : (text : List ℕ) → IsCharBoundary text (position_or_len parts_words text)
+pub word_boundary : (text : List ℕ) → IsCharBoundary text (position_or_len is_separator text)
 word_boundary text =
-    let few = prefix_len-le-length (λ o. not (parts_words o)) text in
-    elim (cases_lt (position_or_len parts_words text) (length text)) [
-      | inl within ↦ IsCharBoundary-before_ascii text (position_or_len parts_words text) within (parts_small (get_or text (position_or_len parts_words text) 0) (passes_at_first parts_words text 0 within))
-      | inr past ↦ let last : length text ≡ position_or_len parts_words text = omega arith in subst (IsCharBoundary text) last (IsCharBoundary-end text)
+    let few = prefix_len-le-length (λ o. not (is_separator o)) text in
+    elim (cases_lt (position_or_len is_separator text) (length text)) [
+      | inl within ↦ IsCharBoundary-before_ascii text (position_or_len is_separator text) within (separator_is_small (get_or text (position_or_len is_separator text) 0) (passes_at_first is_separator text 0 within))
+      | inr past ↦ let last : length text ≡ position_or_len is_separator text = omega arith in subst (IsCharBoundary text) last (IsCharBoundary-end text)
     ]
 
-no_comment : (o : ℕ) → parts_words o ≡ false → eqb o 59 ≡ false
-unfolding parts_words
+no_comment : (o : ℕ) → is_separator o ≡ false → eqb o 59 ≡ false
+unfolding is_separator
 no_comment o h =
     let a = or_parts (eqb o 32) _ h in
     let b = or_parts (eqb o 9) _ a.1 in
     let c = or_parts (eqb o 13) _ b.1 in
     (or_parts (eqb o 10) _ c.1).1
 
-begins_word : (o : ℕ) → parts_words o ≡ false → o ≢ 34 → begun_by o ≡ InWord (o ∷ [])
+begins_word : (o : ℕ) → is_separator o ≡ false → o ≢ 34 → begun_by o ≡ InWord (o ∷ [])
 unfolding begun_by
 begins_word o plain bare = rw (ne_eqb o 34 bare, no_comment o plain, plain) refl
 
 -- a word at the front of a text
-pub word_at_front : (text : List ℕ) (line : ℕ) → 0 < length text → parts_words (get_or text 0 0) ≡ false → get_or text 0 0 ≢ 34
-    → tokens_from Between line text ≡ (line, word_token (take (position_or_len parts_words text) text)) ∷ tokens_from Between line (drop (position_or_len parts_words text) text)
+pub word_at_front : (text : List ℕ) (line : ℕ) → 0 < length text → is_separator (get_or text 0 0) ≡ false → get_or text 0 0 ≢ 34
+    → tokens_from Between line text ≡ (line, word_token (take (position_or_len is_separator text) text)) ∷ tokens_from Between line (drop (position_or_len is_separator text) text)
 unfolding tokens_from
 word_at_front [] line some plain bare = absurd (omega arith)
 word_at_front (o ∷ text) line some plain bare =
     let begun = begins_word o plain bare in
-    let n = position_or_len parts_words text in
+    let n = position_or_len is_separator text in
     let more : 1 + n ≡ suc n = omega arith in
     rw (plain, begun, same_line o plain, more) (word_through (o ∷ []) text line)
 
-pub word_some : (text : List ℕ) → 0 < length text → parts_words (get_or text 0 0) ≡ false → 0 < position_or_len parts_words text
+pub word_some : (text : List ℕ) → 0 < length text → is_separator (get_or text 0 0) ≡ false → 0 < position_or_len is_separator text
 word_some [] some plain = absurd (omega arith)
 word_some (o ∷ text) some plain = rw plain (omega arith)
 
@@ -113,7 +113,7 @@ line_end_none [] none = refl
 line_end_none (o ∷ text) none = rw (ne_eqb o 10 (none 0 (omega arith))) (line_end_none text (λ i lt. none (suc i) (omega arith)))
 
 begun_by_lf : begun_by 10 ≡ Between
-unfolding begun_by parts_words
+unfolding begun_by is_separator
 begun_by_lf = refl
 
 -- an LF outside of words
@@ -190,7 +190,7 @@ quote_closes : (escaped : Bool) (o : ℕ) → is_closing escaped o ≡ true → 
 unfolding is_closing
 quote_closes escaped o h = eqb-true o 34 (and_parts (eqb o 34) (not escaped) h).0
 
--- a quoted text of this length, with what stands behind it
+-- a quoted text of this length, with what stands after it
 pub record IsQuoted (escaped : Bool) (inner : List ℕ) (line len : ℕ) (text : List ℕ) : Type 0 where
   pub rest : List ℕ
   pub closes : drop len text ≡ 34 ∷ rest
@@ -331,7 +331,7 @@ begun_by_semicolon : begun_by 59 ≡ InComment
 unfolding begun_by
 begun_by_semicolon = refl
 
-begun_by_gap : (o : ℕ) → parts_words o ≡ true → o ≢ 34 → o ≢ 59 → begun_by o ≡ Between
+begun_by_gap : (o : ℕ) → is_separator o ≡ true → o ≢ 34 → o ≢ 59 → begun_by o ≡ Between
 unfolding begun_by
 begun_by_gap o parts bare other = rw (ne_eqb o 34 bare, ne_eqb o 59 other, parts) refl
 
@@ -352,7 +352,7 @@ comment_begins text rest line parts is =
     ap (tokens_from Between line) parts ∙ step (get_or text 0 0) rest line ∙ ap (λ (n : ℕ). tokens_from (begun_by (get_or text 0 0)) n rest) (on_line line (get_or text 0 0) (omega arith))
     ∙ ap (λ (m : Mode). tokens_from m line rest) (ap begun_by is ∙ begun_by_semicolon) ∙ comment_through rest line
 
-pub gap_begins : (text rest : List ℕ) (line : ℕ) → text ≡ get_or text 0 0 ∷ rest → parts_words (get_or text 0 0) ≡ true → get_or text 0 0 ≢ 34 → get_or text 0 0 ≢ 59
+pub gap_begins : (text rest : List ℕ) (line : ℕ) → text ≡ get_or text 0 0 ∷ rest → is_separator (get_or text 0 0) ≡ true → get_or text 0 0 ≢ 34 → get_or text 0 0 ≢ 59
     → tokens_from Between line text ≡ tokens_from Between (line_after line (get_or text 0 0)) rest
 gap_begins text rest line parts gap bare other =
     ap (tokens_from Between line) parts ∙ step (get_or text 0 0) rest line ∙ ap (λ (m : Mode). tokens_from m (line_after line (get_or text 0 0)) rest) (begun_by_gap (get_or text 0 0) gap bare other)

@@ -16,7 +16,7 @@ use Rattle.info_rules.proofs.TreeSteps.{ok_is, ok_unless, word_found, open_found
 
 -- ---- what is left of the blocks that are open
 
--- the entries that are left of the innermost open block, and those behind it
+-- the entries that are left of the innermost open block, and those after it
 data Levels : Type 0 where
   Bottom : Nodes → Levels
   Inside : Nodes → ℕ → Levels → Levels
@@ -145,7 +145,7 @@ blocked before (Block opened block closed) = true
 abbrev finished : PlainEntry → Option (List ℕ) → Tail → PlainEntry
 finished entry value tail = record entry { value = valued entry.value value; has_block = blocked entry.has_block tail }
 
--- behind an entry, which may still get a value and a block
+-- after an entry, which may still get a value and a block
 record IsGoing (entry : PlainEntry) (depth : ℕ) (ended : List PlainEntry) (tokens : List (ℕ × Token)) (entries : List PlainEntry) : Type 0 where
   value : Option (List ℕ)
   tail : Tail
@@ -161,7 +161,7 @@ abbrev Means : Option PlainEntry → PlainDraft → List (ℕ × Token) → List
 Means None draft tokens entries = IsFresh draft.closed draft.depth draft.ended tokens entries
 Means (Some entry) draft tokens entries = IsGoing entry draft.depth draft.ended tokens entries
 
--- entries behind the pending one, if there is one
+-- entries after the pending one, if there is one
 further : (draft : PlainDraft) (tokens : List (ℕ × Token)) (entries : List PlainEntry) (levels : Levels) → (pending : Option PlainEntry) → draft.pending ≡ pending → tokens ≡ level_tokens levels
     → (draft.pending ≡ None → StartsOff draft.closed (top levels)) → ((entry : PlainEntry) → draft.pending ≡ Some entry → BeginsOff entry.line (top levels)) → AreLevels draft.depth levels
     → entries ≡ entries_of draft ++ level_outline draft.depth levels → Means pending draft tokens entries

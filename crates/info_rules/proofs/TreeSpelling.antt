@@ -66,10 +66,10 @@ Starts draft NoNode = Unit {0}
 Starts draft (Leaf head others) = MayBegin head.line draft.pending draft.closed
 Starts draft (Branch head opened block closed others) = MayBegin head.line draft.pending draft.closed
 
-starts_behind : (draft : PlainDraft) (head : Head) (others : Nodes) → BeginsOff head.line others → Starts (headed draft head) others
-starts_behind draft head NoNode off = tt
-starts_behind draft head (Leaf next others) off = λ e. off (sym e)
-starts_behind draft head (Branch next opened block closed others) off = λ e. off (sym e)
+starts_after_head : (draft : PlainDraft) (head : Head) (others : Nodes) → BeginsOff head.line others → Starts (headed draft head) others
+starts_after_head draft head NoNode off = tt
+starts_after_head draft head (Leaf next others) off = λ e. off (sym e)
+starts_after_head draft head (Branch next opened block closed others) off = λ e. off (sym e)
 
 starts_closed : (draft : PlainDraft) (line : ℕ) (others : Nodes) → BeginsOff line others → Starts (block_closed draft line) others
 starts_closed draft line NoNode off = tt
@@ -93,7 +93,7 @@ nodes_read : (nodes : Nodes) (draft : PlainDraft) (tokens : List (ℕ × Token))
 unfolding tokens_of IsApart IsShallow outline
 nodes_read NoNode draft tokens shallow starts apart fits = record { after = draft; read = refl; depth = refl; shallow = shallow; listed = sym (append-nil (entries_of draft)) }
 nodes_read (Leaf head others) draft tokens shallow starts apart fits =
-    let p = nodes_read others (headed draft head) tokens shallow (starts_behind draft head others apart.0) apart.1 fits in
+    let p = nodes_read others (headed draft head) tokens shallow (starts_after_head draft head others apart.0) apart.1 fits in
     record {
       after = p.after;
       read = ap (with_tokens draft) (append_assoc (head_tokens head) (tokens_of others) tokens) ∙ head_read draft head (tokens_of others ++ tokens) shallow starts ∙ p.read;
@@ -107,9 +107,9 @@ nodes_read (Branch head opened block closed others) draft tokens shallow starts 
     let inside = block_opened (headed draft head) entry opened in
     let still : inside.deep ≡ None = rw (lt-leb 8 draft.depth fits.0) shallow in
     let p = nodes_read block inside ((closed, Close) ∷ (tokens_of others ++ tokens)) still (starts_opened (headed draft head) entry opened block) apart.0 fits.1 in
-    let behind = block_closed p.after closed in
-    let deep_as : behind.depth ≡ draft.depth = omega (arith, p.depth) in
-    let q = nodes_read others behind tokens p.shallow (starts_closed p.after closed others apart.1) apart.2 (subst (λ (n : ℕ). IsShallow n others) (sym deep_as) fits.2) in
+    let following = block_closed p.after closed in
+    let deep_as : following.depth ≡ draft.depth = omega (arith, p.depth) in
+    let q = nodes_read others following tokens p.shallow (starts_closed p.after closed others apart.1) apart.2 (subst (λ (n : ℕ). IsShallow n others) (sym deep_as) fits.2) in
     let some : p.after.depth ≢ 0 = λ e. omega (arith, p.depth, e) in
     record {
       after = q.after;
@@ -118,7 +118,7 @@ nodes_read (Branch head opened block closed others) draft tokens shallow starts 
           ∙ tokens_one (headed draft head) inside opened Open ((tokens_of block ++ (closed, Close) ∷ tokens_of others) ++ tokens) (in_time (headed draft head) inside opened Open shallow (block_added (headed draft head) entry opened refl))
           ∙ ap (with_tokens inside) (append_assoc (tokens_of block) ((closed, Close) ∷ tokens_of others) tokens)
           ∙ p.read
-          ∙ tokens_one p.after behind closed Close (tokens_of others ++ tokens) (in_time p.after behind closed Close p.shallow (close_added p.after closed some))
+          ∙ tokens_one p.after following closed Close (tokens_of others ++ tokens) (in_time p.after following closed Close p.shallow (close_added p.after closed some))
           ∙ q.read;
       depth = q.depth ∙ deep_as;
       shallow = q.shallow;

@@ -16,21 +16,21 @@ use Rattle.info_rules.specs.First.{NoneApplies, IsFirst}
 use Rattle.info_rules.specs.Seen.{SeenPacket, seen_interest, seen_data, SaysWhen, PlainSigned, IsSigned}
 use Rattle.info_rules.specs.Checks.{Checks}
 
--- the number of a reason: of several the greatest is told
-abbrev pub number_of : Reason → ℕ
-number_of reasons.NotSigned = 1
-number_of reasons.Shape = 2
-number_of reasons.SigType = 3
-number_of reasons.KeyLocator = 4
-number_of reasons.KeyUnknown = 5
-number_of reasons.Tag = 6
-number_of reasons.Replay = 7
+-- the number of a reason: of several the greatest is reported
+abbrev pub reason_number : Reason → ℕ
+reason_number reasons.NotSigned = 1
+reason_number reasons.Shape = 2
+reason_number reasons.SigType = 3
+reason_number reasons.KeyLocator = 4
+reason_number reasons.KeyUnknown = 5
+reason_number reasons.Tag = 6
+reason_number reasons.Replay = 7
 
 -- of an earlier reason, where there is one, and another the greater one is this
 abbrev pub IsGreater : Option Reason → Reason → Reason → Type 0
 IsGreater None reason greatest = greatest ≡ reason
 IsGreater (Some earlier) reason greatest =
-    ((greatest ≡ earlier) × (number_of reason ≤ number_of earlier)) ⊎ ((greatest ≡ reason) × (number_of earlier ≤ number_of reason))
+    ((greatest ≡ earlier) × (reason_number reason ≤ reason_number earlier)) ⊎ ((greatest ≡ reason) × (reason_number earlier ≤ reason_number reason))
 
 -- a checker passes the packet
 abbrev pub IsPassed : List NamedKey → List Checker → PlainSigned → Type 0
@@ -38,7 +38,7 @@ IsPassed keys all signed = Any (λ checker. Checks keys checker signed None) all
 
 -- a checker's reason against the packet, which is no greater than this one
 abbrev pub IsAtMost : List NamedKey → PlainSigned → Reason → Checker → Type 0
-IsAtMost keys signed reason checker = (given : Reason) × Checks keys checker signed (Some given) × (number_of given ≤ number_of reason)
+IsAtMost keys signed reason checker = (given : Reason) × Checks keys checker signed (Some given) × (reason_number given ≤ reason_number reason)
 
 -- The greatest reason that a checker has against the packet, which none passes. Where there is no checker, no key is the right one.
 abbrev pub IsGreatest : List NamedKey → List Checker → PlainSigned → Reason → Type 0

@@ -63,6 +63,6 @@ many_faults most word keys = if nat_lt most (length (named word keys)) then reco
 abbrev pub shape_faults : Block → List RulesFault
 shape_faults key = if is_some key.0.value || not key.0.has_block then fault_at BadValue key ∷ [] else []
 
--- the faults of a key that needs a block, by those of a block of keys at this depth behind a key on a line
+-- the faults of a key that needs a block, by those of a block of keys at this depth after a key on a line
 abbrev pub block_faults : ℕ → (ℕ → List Block → List RulesFault) → Block → List RulesFault
 block_faults depth faults_of key = shape_faults key ++ (if key.0.has_block then faults_of key.0.line (blocks_of depth key.1) else [])

@@ -48,7 +48,7 @@ file_faults keys = flat_map top_key_faults keys ++ many_faults 256 (codes "rule"
 unfoldable pub all_rules : List Block → Option (List PlainRule)
 all_rules keys = all_of rule_in (named (codes "rule") keys)
 
--- the rules of a file, or the fault to tell
+-- the rules of a file, or the fault to report
 unfoldable pub rules_in : List PlainEntry → Result (List PlainRule) RulesFault
 rules_in entries =
     on_option Err (on_option Ok (Err memory_fault) (all_rules (blocks_of 0 entries))) (after None (file_faults (blocks_of 0 entries)))

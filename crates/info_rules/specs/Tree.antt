@@ -1,7 +1,7 @@
 -- Entries of rule files, and the blocks that they are in.
 use Rattle.std.specs.Prelude.{ℕ, List, [], ◌∷◌, Option, Bool, ◌==◌, if◌then◌else◌}
 
--- a key, and what stands behind it
+-- a key, and what stands after it
 pub record PlainEntry : Type 0 where
   -- how many blocks it is in
   pub depth : ℕ
@@ -15,7 +15,7 @@ pub record PlainEntry : Type 0 where
 abbrev pub Block : Type 0
 Block = PlainEntry × List PlainEntry
 
--- entries in front of the first of this depth, and those of this depth, each with those behind it up to the next
+-- entries in front of the first of this depth, and those of this depth, each with those after it up to the next
 unfoldable pub parted : ℕ → List PlainEntry → List PlainEntry × List Block
 parted depth [] = ([], [])
 parted depth (entry ∷ entries) =

@@ -10,7 +10,7 @@ pub record Head : Type 0 where
   pub key : List ℕ
   pub value : Option (List ℕ)
 
--- entries that stand one behind the other in a block, or outside of all blocks
+-- entries that stand one after the other in a block, or outside of all blocks
 pub data Nodes : Type 0 where
   NoNode : Nodes
   Leaf : Head → Nodes → Nodes

@@ -60,7 +60,7 @@ abbrev pub with_word : PlainDraft → ℕ → List ℕ → Option PlainEntry →
 with_word draft line word None = if is_on line draft.closed then Err (syntax line) else Ok (with_key draft line word)
 with_word draft line word (Some entry) = if entry.line == line then with_value draft line word entry entry.value else Ok (with_key draft line word)
 
--- a block is opened behind a key, or behind its value
+-- a block is opened after a key, or after its value
 abbrev pub with_open : PlainDraft → ℕ → Option PlainEntry → Next
 with_open draft line None = Err (syntax line)
 with_open draft line (Some entry) = Ok (record {

@@ -12,8 +12,8 @@ pub data Token : Type 0 where
   Broken : Token
 
 -- space, tab, CR, LF and the semicolon
-unfoldable pub parts_words : ℕ → Bool
-parts_words o = (o == 32) || ((o == 9) || ((o == 13) || ((o == 10) || (o == 59))))
+unfoldable pub is_separator : ℕ → Bool
+is_separator o = (o == 32) || ((o == 9) || ((o == 13) || ((o == 10) || (o == 59))))
 
 abbrev pub is_alone : ℕ → List ℕ → Bool
 is_alone sign [] = false
@@ -28,14 +28,14 @@ word_token word = if is_alone 123 word then Open else (if is_alone 125 word then
 pub data Mode : Type 0 where
   Between : Mode
   InComment : Mode
-  -- behind the first octets of a word
+  -- after the first octets of a word
   InWord : List ℕ → Mode
-  -- behind a quote and some octets, the last of which may be a backslash
+  -- after a quote and some octets, the last of which may be a backslash
   InQuotes : Bool → List ℕ → Mode
 
--- behind an octet that is in no word before it
+-- after an octet that is in no word before it
 unfoldable pub begun_by : ℕ → Mode
-begun_by o = if o == 34 then InQuotes false [] else (if o == 59 then InComment else (if parts_words o then Between else InWord (o ∷ [])))
+begun_by o = if o == 34 then InQuotes false [] else (if o == 59 then InComment else (if is_separator o then Between else InWord (o ∷ [])))
 
 -- a quote closes a quoted text where no backslash stands directly before it
 unfoldable pub is_closing : Bool → ℕ → Bool
@@ -45,13 +45,13 @@ is_closing escaped o = (o == 34) && not escaped
 abbrev pub ended_by : Mode → ℕ → Option Token
 ended_by Between o = None
 ended_by InComment o = None
-ended_by (InWord word) o = if parts_words o then Some (word_token word) else None
+ended_by (InWord word) o = if is_separator o then Some (word_token word) else None
 ended_by (InQuotes escaped inner) o = if o == 10 then Some Broken else (if is_closing escaped o then Some (Word inner) else None)
 
 abbrev pub mode_after : Mode → ℕ → Mode
 mode_after Between o = begun_by o
 mode_after InComment o = if o == 10 then Between else InComment
-mode_after (InWord word) o = if parts_words o then begun_by o else InWord (word ++ o ∷ [])
+mode_after (InWord word) o = if is_separator o then begun_by o else InWord (word ++ o ∷ [])
 mode_after (InQuotes escaped inner) o = if o == 10 then Between else (if is_closing escaped o then Between else InQuotes (o == 92) (inner ++ o ∷ []))
 
 -- what the end of the text ends

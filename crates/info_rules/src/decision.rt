@@ -17,7 +17,7 @@ use ndn_names::Name;
 use ndn_tlv::Memory;
 use std::alloc::Global;
 
-/// Why a packet is denied. Of several reasons that checkers give the last in this order is told.
+/// Why a packet is denied. Of several reasons that checkers give the last in this order is reported.
 #[derive(Clone, Copy, Debug, PartialEq, Eq)]
 pub enum Reason {
     /// An Interest is not signed.
@@ -49,11 +49,11 @@ pub enum Decision {
 
 impl Reason {
     ghost use Rattle.std.specs.Prelude.{◌≡◌};
-    ghost use Rattle.info_rules.specs.Decides.{number_of};
+    ghost use Rattle.info_rules.specs.Decides.{reason_number};
 
     /// Its number, from 1 on in the order above.
     fn number(self) -> u8
-        ensures { result ≡ number_of self }
+        ensures { result ≡ reason_number self }
     {
         match self {
             Reason::NotSigned => 1,

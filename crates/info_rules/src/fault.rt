@@ -6,7 +6,7 @@ ghost use Rattle.info_rules.specs.declared.fault.RulesFaultKind.TheVariants as k
 use std::alloc::{AllocError, AllocFailed};
 use thiserror::Error;
 
-/// What is wrong. Of several faults of one line the first in this order is told.
+/// What is wrong. Of several faults of one line the first in this order is reported.
 #[derive(Clone, Copy, Debug, PartialEq, Eq, Error)]
 pub enum RulesFaultKind {
     /// A word or a brace that may not stand where it stands, a quote that no other closes on its
@@ -45,7 +45,7 @@ pub enum RulesFaultKind {
 }
 
 /// Why a text is no rule file: a line, counted from 1, and what is wrong there. `TooLarge` and
-/// `Memory` are told of line 0.
+/// `Memory` are reported at line 0.
 #[derive(Clone, Copy, Debug, PartialEq, Eq, Error)]
 #[error("line {line}: {kind}")]
 pub struct RulesFault {
@@ -53,7 +53,7 @@ pub struct RulesFault {
     pub kind: RulesFaultKind,
 }
 
-/// A refusal of memory, which has no place in the text. Where a block is read, it is told too of what
+/// A refusal of memory, which has no place in the text. Where a block is read, it is reported too beside what
 /// is not there; but files are read once nothing is wrong with them, and then nothing is missing.
 pub const MEMORY: RulesFault = RulesFault {
     line: 0,

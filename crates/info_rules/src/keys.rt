@@ -101,18 +101,18 @@ impl<'a> Keys<'a> {
         (self.entries, &[])
     }
 
-    /// The first key, and those behind it.
+    /// The first key, and those after it.
     pub fn split_first(self) -> Option<(Key<'a>, Keys<'a>)>
         ensures { MatchOption result (keys_of self.entry ≡ [])
             (λ parts. (keys_of self.entry ≡ key_of parts.0 ∷ keys_of parts.1)
             × (length parts.1.entries.now < length self.entry.entries.now)) }
     {
         let (_, entries) = self.parted();
-        let (own, behind) = entries.split_first()?;
+        let (own, following) = entries.split_first()?;
         let depth = self.depth;
         let (inner, entries) = Keys {
             depth,
-            entries: behind,
+            entries: following,
         }
         .parted();
         Some((Key { own, inner }, Keys { depth, entries }))

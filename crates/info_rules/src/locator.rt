@@ -19,11 +19,11 @@ use std::alloc::Global;
 /// The type of a GenericNameComponent.
 const GENERIC: u16 = 8;
 
-/// The value of the component behind the prefix of a key's name.
+/// The value of the component after the prefix of a key's name.
 const KEY: &[u8; 3] = b"KEY";
 
-/// The greatest number of components behind that one; there is one at least.
-const MAX_BEHIND: usize = 3;
+/// The greatest number of components after that one; there is one at least.
+const MAX_AFTER_KEY: usize = 3;
 
 /// Whether the key of a name is one that is asked for, where the packet has that name. Memory is
 /// asked for by a hyper-relation alone.
@@ -104,8 +104,8 @@ fn prefix_of_key(key: Name<'_>) -> Option<Name<'_>>
         (λ found. IsKeyOf (components found) (components key.entry)
         × ((prefix : List Field) → IsKeyOf prefix (components key.entry) → length prefix ≤ length (components found))) }
 {
-    for behind in 1..=MAX_BEHIND {
-        let Some(place) = key.len().checked_sub(behind + 1) else {
+    for following in 1..=MAX_AFTER_KEY {
+        let Some(place) = key.len().checked_sub(following + 1) else {
             return None;
         };
         if is_key_component(key.component(place)) {
@@ -115,7 +115,7 @@ fn prefix_of_key(key: Name<'_>) -> Option<Name<'_>>
     None
 }
 
-/// Whether there is a component, and it is the one behind the prefix of a key's name.
+/// Whether there is a component, and it is the one after the prefix of a key's name.
 fn is_key_component(component: Option<Component<'_>>) -> bool
     ensures { IsTrue result ↔ (option_map field_of component.entry ≡ Some key_component) }
 {

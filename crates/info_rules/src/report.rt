@@ -1,4 +1,4 @@
-//! Which fault of a rule file is told.
+//! Which fault of a rule file is reported.
 
 ghost use Rattle.std.specs.Prelude.{◌≡◌, None, Some, List, [], MatchOption};
 ghost use Rattle.info_rules.specs.Faults.{noted, after, IsAmong, NoneIsSooner};
@@ -6,7 +6,7 @@ ghost use Rattle.info_rules.specs.Faults.{noted, after, IsAmong, NoneIsSooner};
 use crate::fault::{RulesFault, RulesFaultKind};
 use std::marker::Model;
 
-/// The fault to tell, of those that were met so far.
+/// The fault to report, of those that were met so far.
 #[derive(Drop)]
 pub struct Report {
     first: Option<RulesFault>,
@@ -48,7 +48,7 @@ impl RulesFault {
     ghost use Rattle.std.specs.Prelude.{◌≡◌};
     ghost use Rattle.info_rules.specs.Faults.{sooner};
 
-    /// Whether it is told before the other fault.
+    /// Whether it is reported before the other fault.
     fn is_sooner(self, other: RulesFault) -> bool
         ensures { result ≡ sooner self other }
     {
@@ -57,7 +57,7 @@ impl RulesFault {
     }
 }
 
-/// The fault to tell, when one more is met.
+/// The fault to report, when one more is met.
 fn told_of(first: Option<RulesFault>, fault: RulesFault) -> RulesFault
     ensures { noted first fault ≡ Some result }
 {
@@ -86,7 +86,7 @@ impl Report {
         self.first = Some(told_of(self.first, RulesFault { line, kind }));
     }
 
-    /// The fault to tell, if any was met.
+    /// The fault to report, if any was met.
     pub fn first(&self) -> Option<RulesFault>
         ensures { result ≡ self.now }
     {
@@ -94,7 +94,7 @@ impl Report {
     }
 }
 
-/// Law: of faults that are met in turn the least is told, and none only where none was met.
+/// Law: of faults that are met in turn the least is reported, and none only where none was met.
 pub fn the_least_is_told()
     ensures { (faults : List RulesFault) → MatchOption (after None faults) (faults ≡ []) (λ told. IsAmong told faults × NoneIsSooner told faults) }
 {}

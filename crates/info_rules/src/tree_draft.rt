@@ -76,7 +76,7 @@ impl Draft {
         }
     }
 
-    /// Puts the pending entry, if there is one, behind the others.
+    /// Puts the pending entry, if there is one, after the others.
     fn end_entry(&mut self) -> Result<(), RulesFault>
         ensures { MatchResult result (λ _. draft_of self.new ≡ read.with_ended (draft_of self.old)) (λ fault. fault ≡ memory_fault) }
     {
@@ -138,7 +138,7 @@ impl Draft {
         self.add_key(alloc, line, word)
     }
 
-    /// Opens a block behind the pending entry.
+    /// Opens a block after the pending entry.
     fn open_block(&mut self, line: u32) -> Result<(), RulesFault>
         requires { self.old.depth + 1 < 2 ^ 64 }
         ensures { let next = read.with_open (draft_of self.old) line (option_map entry_of self.old.pending) in

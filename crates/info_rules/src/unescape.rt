@@ -7,16 +7,16 @@ ghost use Rattle.info_rules.specs.Faults.{memory_fault};
 use crate::fault::RulesFault;
 use std::alloc::Global;
 
-/// What a backslash and the text behind it begin with, and the text behind that.
+/// What a backslash and the text after it begin with, and the text after that.
 #[tactic(auto, using(crate::proofs::Escapes::escape_front, crate::proofs::Escapes::kept_backslash))]
-fn first_sign(behind: &str) -> (&str, &str)
-    ensures read { words.unescaped (92 ∷ behind.now) ≡ result.0.now ++ words.unescaped result.1.now }
-    ensures shorter { length result.1.now ≤ length behind.now }
+fn first_sign(following: &str) -> (&str, &str)
+    ensures read { words.unescaped (92 ∷ following.now) ≡ result.0.now ++ words.unescaped result.1.now }
+    ensures shorter { length result.1.now ≤ length following.now }
 {
-    if behind.starts_with('\\') || behind.starts_with('"') {
-        behind.split_at(1)
+    if following.starts_with('\\') || following.starts_with('"') {
+        following.split_at(1)
     } else {
-        ("\\", behind)
+        ("\\", following)
     }
 }
 
@@ -27,8 +27,8 @@ pub fn unescaped(alloc: Global, word: &str) -> Result<String, RulesFault>
 {
     let mut text = String::new(alloc);
     let mut rest = word;
-    while let Some((before, behind)) = rest.split_once('\\') {
-        let (sign, after) = first_sign(behind);
+    while let Some((before, following)) = rest.split_once('\\') {
+        let (sign, after) = first_sign(following);
         text.push_str(before)?;
         text.push_str(sign)?;
         rest = after;

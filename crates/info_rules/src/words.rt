@@ -17,18 +17,18 @@ pub enum Token<'a> {
     Broken,
 }
 
-/// A token, its line, and the text behind it, which begins on that line.
+/// A token, its line, and the text after it, which begins on that line.
 #[derive(Clone, Copy, Debug)]
-pub struct Found<'a> {
+pub struct NextToken<'a> {
     pub token: Token<'a>,
     pub line: u32,
     pub rest: &'a str,
 }
 
 /// Whether an octet is in no word that is not quoted.
-#[tactic(auto, unfolding(crate::specs::Words::parts_words))]
-fn parts_words(octet: u8) -> bool
-    ensures { result ≡ words.parts_words octet }
+#[tactic(auto, unfolding(crate::specs::Words::is_separator))]
+fn is_separator(octet: u8) -> bool
+    ensures { result ≡ words.is_separator octet }
 {
     matches!(octet, b' ' | b'\t' | b'\r' | b'\n' | b';')
 }
@@ -47,10 +47,10 @@ fn word_token(word: &str) -> Token<'_>
 
 /// The length of the word at the front.
 fn word_len(text: &[u8]) -> usize
-    ensures { result ≡ position_or_len words.parts_words text.now }
+    ensures { result ≡ position_or_len words.is_separator text.now }
 {
     for (place, octet) in text.iter().enumerate() {
-        if parts_words(*octet) {
+        if is_separator(*octet) {
             return place;
         }
     }
@@ -65,7 +65,7 @@ fn is_closing(is_escaped: bool, octet: u8) -> bool
     octet == b'"' && !is_escaped
 }
 
-/// The length of the quoted text behind its first quote, if it is closed on its line.
+/// The length of the quoted text after its first quote, if it is closed on its line.
 fn quoted_len(text: &[u8]) -> Option<usize>
     ensures { result ≡ quoted_len false text.now }
 {
@@ -93,7 +93,7 @@ fn from_line_end(text: &str) -> &str
     }
 }
 
-/// The text behind its first octet.
+/// The text after its first octet.
 fn past_first(text: &str) -> &str
     requires some { 0 < length text.now }
     requires ascii { slice_index text.now 0 < 128 }
@@ -104,38 +104,38 @@ fn past_first(text: &str) -> &str
 
 /// The word at the front of the text.
 #[tactic(auto, using(crate::proofs::Scanning::word_boundary, crate::proofs::Scanning::word_at_front, crate::proofs::Scanning::word_some))]
-fn first_word(line: u32, text: &str) -> Found<'_>
+fn first_word(line: u32, text: &str) -> NextToken<'_>
     requires some { 0 < length text.now }
-    requires plain { words.parts_words (slice_index text.now 0) ≡ false }
+    requires plain { words.is_separator (slice_index text.now 0) ≡ false }
     requires bare { slice_index text.now 0 ≢ 34 }
     ensures read { tokens_from words.Between line text.now ≡ (result.line, token_of result.token) ∷ tokens_from words.Between line result.rest.now }
     ensures same { result.line ≡ line }
     ensures shorter { length result.rest.now < length text.now }
 {
     let (word, rest) = text.split_at(word_len(text.as_bytes()));
-    Found {
+    NextToken {
         token: word_token(word),
         line,
         rest,
     }
 }
 
-/// The quoted text behind its first quote.
-fn first_quoted(line: u32, text: &str) -> Found<'_>
+/// The quoted text after its first quote.
+fn first_quoted(line: u32, text: &str) -> NextToken<'_>
     ensures read { tokens_from (words.InQuotes false []) line text.now ≡ (result.line, token_of result.token) ∷ tokens_from words.Between line result.rest.now }
     ensures same { result.line ≡ line }
     ensures shorter { length result.rest.now ≤ length text.now }
 {
     match quoted_len(text.as_bytes()) {
         Some(len) => {
-            let (inner, behind) = text.split_at(len);
-            Found {
+            let (inner, following) = text.split_at(len);
+            NextToken {
                 token: Token::Word(inner),
                 line,
-                rest: past_first(behind),
+                rest: past_first(following),
             }
         }
-        None => Found {
+        None => NextToken {
             token: Token::Broken,
             line,
             rest: from_line_end(text),
@@ -143,7 +143,7 @@ fn first_quoted(line: u32, text: &str) -> Found<'_>
     }
 }
 
-/// The line of what stands behind an octet of a line.
+/// The line of what stands after an octet of a line.
 fn line_after(line: u32, octet: u8) -> u32
     requires { line + 1 < 2 ^ 32 }
     ensures { result ≡ words.line_after line octet }
@@ -152,7 +152,7 @@ fn line_after(line: u32, octet: u8) -> u32
 }
 
 /// The first token of a text that begins on a line; none where only gaps and comments are left.
-pub fn first_token(first_line: u32, text: &str) -> Option<Found<'_>>
+pub fn first_token(first_line: u32, text: &str) -> Option<NextToken<'_>>
     requires { first_line + length text.now < 2 ^ 32 }
     ensures read { MatchOption result (tokens_from words.Between first_line text.now ≡ [])
         (λ found. tokens_from words.Between first_line text.now ≡ (found.line, token_of found.token) ∷ tokens_from words.Between found.line found.rest.now) }
@@ -166,7 +166,7 @@ pub fn first_token(first_line: u32, text: &str) -> Option<Found<'_>>
         if octet == b'"' {
             return Some(first_quoted(line, past_first(rest)));
         }
-        if !parts_words(octet) {
+        if !is_separator(octet) {
             return Some(first_word(line, rest));
         }
         if octet == b';' {

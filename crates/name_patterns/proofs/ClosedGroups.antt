@@ -11,7 +11,7 @@ use Rattle.ndn_names.proofs.TextReading.{Lacks, Lacks-append}
 use Rattle.ndn_names.proofs.TypeNameReading.{own, digits-Lacks}
 use Rattle.ndn_names.proofs.PieceReading.{IsCut, cut_found}
 use Rattle.name_patterns.specs.Pattern.{PlainTest, Anything, OneOf, NoneOf, Bounds, once, any_number, PlainAtom}
-use Rattle.name_patterns.specs.PatternReading.{◌>>=◌, Found, has_special, text_in, quoted_in, list_end, listed_within, list_in, bracketed_in, quoted_test_in, test_in, count_in, range_by_comma, range_by_cut, range_in, braced_in, repeat_in, atom_in, is_closed}
+use Rattle.name_patterns.specs.PatternReading.{◌>>=◌, FrontPart, has_special, text_in, quoted_in, list_end, listed_within, list_in, bracketed_in, quoted_test_in, test_in, count_in, range_by_comma, range_by_cut, range_in, braced_in, repeat_in, atom_in, is_closed}
 use Rattle.name_patterns.proofs.Steps.{found_by, found_if, found_unless}
 use Rattle.name_patterns.proofs.ListReading.{before_others}
 
@@ -42,35 +42,35 @@ quoted_passed (o ∷ text) quoted e =
     let cut = subst (IsCut 62 text) p.1 (cut_found 62 text) in
     ap (λ (first : ℕ). is_closed false (first ∷ text)) (eqb-true o 60 p.0) ∙ ap (λ (t : List ℕ). is_closed true t) cut.0 ∙ passed_inside quoted.0 quoted.1 cut.1
 
-end_passed : (text : List ℕ) (listed : Found (List Field)) → list_end text ≡ Some listed → is_closed false text ≡ is_closed false listed.rest
+end_passed : (text : List ℕ) (listed : FrontPart (List Field)) → list_end text ≡ Some listed → is_closed false text ≡ is_closed false listed.rest
 end_passed [] listed e = absurd cc
 end_passed (o ∷ text) listed e =
     let p = found_if (eqb o 93) (Some (record { part = []; is_inner = false; rest = text })) listed e in
-    passed_sign 93 o text (omega arith) (omega arith) (eqb-true o 93 p.0) ∙ ap (λ (found : Found (List Field)). is_closed false found.rest) (same_Some _ _ p.1)
+    passed_sign 93 o text (omega arith) (omega arith) (eqb-true o 93 p.0) ∙ ap (λ (found : FrontPart (List Field)). is_closed false found.rest) (same_Some _ _ p.1)
 
-listed_passed : (n : ℕ) (text : List ℕ) (listed : Found (List Field)) → listed_within n text ≡ Some listed → is_closed false text ≡ is_closed false listed.rest
+listed_passed : (n : ℕ) (text : List ℕ) (listed : FrontPart (List Field)) → listed_within n text ≡ Some listed → is_closed false text ≡ is_closed false listed.rest
 unfolding listed_within
 listed_passed zero text listed e = end_passed text listed e
 listed_passed (suc n) text listed e = by_text (quoted_in text) refl (λ rest others h. listed_passed n rest others h) e
   where
     by_text : (first : Option (List ℕ × List ℕ)) → quoted_in text ≡ first
-        → ((rest : List ℕ) (others : Found (List Field)) → listed_within n rest ≡ Some others → is_closed false rest ≡ is_closed false others.rest)
+        → ((rest : List ℕ) (others : FrontPart (List Field)) → listed_within n rest ≡ Some others → is_closed false rest ≡ is_closed false others.rest)
         → option_map_or (λ quoted. text_in quoted.0 >>= λ c. before_others (c ∷ []) (has_special quoted.0) (listed_within n quoted.1)) first (list_end text) ≡ Some listed
         → is_closed false text ≡ is_closed false listed.rest
     by_text None is further e = end_passed text listed e
     by_text (Some quoted) is further e =
         let c = found_by (text_in quoted.0) (λ c. before_others (c ∷ []) (has_special quoted.0) (listed_within n quoted.1)) listed e in
         let others = found_by (listed_within n quoted.1) (λ others. Some (record { part = c.0 ∷ others.part; is_inner = has_special quoted.0 || others.is_inner; rest = others.rest })) listed c.2 in
-        quoted_passed text quoted is ∙ further quoted.1 others.0 others.1 ∙ ap (λ (found : Found (List Field)). is_closed false found.rest) (same_Some _ _ others.2)
+        quoted_passed text quoted is ∙ further quoted.1 others.0 others.1 ∙ ap (λ (found : FrontPart (List Field)). is_closed false found.rest) (same_Some _ _ others.2)
 
-list_passed : (test : List Field → PlainTest) (text : List ℕ) (found : Found PlainTest) → list_in test text ≡ Some found → is_closed false text ≡ is_closed false found.rest
+list_passed : (test : List Field → PlainTest) (text : List ℕ) (found : FrontPart PlainTest) → list_in test text ≡ Some found → is_closed false text ≡ is_closed false found.rest
 list_passed test text found e =
     let listed = found_by (listed_within (length text) text)
     (λ listed. cond (eqb (length listed.part) 0) None (Some (record { part = test listed.part; is_inner = listed.is_inner; rest = listed.rest }))) found e in
     let some = found_unless (eqb (length listed.0.part) 0) (Some (record { part = test listed.0.part; is_inner = listed.0.is_inner; rest = listed.0.rest })) found listed.2 in
-    listed_passed (length text) text listed.0 listed.1 ∙ ap (λ (found : Found PlainTest). is_closed false found.rest) (same_Some _ _ some.1)
+    listed_passed (length text) text listed.0 listed.1 ∙ ap (λ (found : FrontPart PlainTest). is_closed false found.rest) (same_Some _ _ some.1)
 
-bracketed_passed : (text : List ℕ) (found : Found PlainTest) → bracketed_in text ≡ Some found → is_closed false text ≡ is_closed false found.rest
+bracketed_passed : (text : List ℕ) (found : FrontPart PlainTest) → bracketed_in text ≡ Some found → is_closed false text ≡ is_closed false found.rest
 bracketed_passed [] found e = list_passed OneOf [] found e
 bracketed_passed (o ∷ text) found e =
     elim (cases_eq o 94) [
@@ -78,7 +78,7 @@ bracketed_passed (o ∷ text) found e =
       | inr other ↦ list_passed OneOf (o ∷ text) found (rw (ne_eqb o 94 other) at e)
     ]
 
-quoted_test_passed : (text : List ℕ) (found : Found PlainTest) → quoted_test_in text ≡ Some found → is_closed false text ≡ is_closed false found.rest
+quoted_test_passed : (text : List ℕ) (found : FrontPart PlainTest) → quoted_test_in text ≡ Some found → is_closed false text ≡ is_closed false found.rest
 quoted_test_passed text found e =
     let quoted = found_by (quoted_in text)
     (λ quoted. cond (eqb (length quoted.0) 0) (Some (record { part = Anything; is_inner = false; rest = quoted.1 }))
@@ -89,11 +89,11 @@ quoted_test_passed text found e =
         → cond is_empty (Some (record { part = Anything; is_inner = false; rest = quoted.1 }))
         (component >>= λ c. Some (record { part = OneOf (c ∷ []); is_inner = has_special quoted.0; rest = quoted.1 })) ≡ Some found
         → quoted.1 ≡ found.rest
-    by_test true component quoted e = ap (λ (found : Found PlainTest). found.rest) (same_Some _ _ e)
+    by_test true component quoted e = ap (λ (found : FrontPart PlainTest). found.rest) (same_Some _ _ e)
     by_test false None quoted e = absurd cc
-    by_test false (Some c) quoted e = ap (λ (found : Found PlainTest). found.rest) (same_Some _ _ e)
+    by_test false (Some c) quoted e = ap (λ (found : FrontPart PlainTest). found.rest) (same_Some _ _ e)
 
-test_passed : (text : List ℕ) (found : Found PlainTest) → test_in text ≡ Some found → is_closed false text ≡ is_closed false found.rest
+test_passed : (text : List ℕ) (found : FrontPart PlainTest) → test_in text ≡ Some found → is_closed false text ≡ is_closed false found.rest
 unfolding test_in
 test_passed [] found e = absurd cc
 test_passed (o ∷ text) found e =
@@ -183,14 +183,14 @@ repeat_passed (o ∷ text) found e =
     ]
 
 -- an atom is passed over
-pub atom_passed : (text : List ℕ) (found : Found PlainAtom) → atom_in text ≡ Some found → is_closed false text ≡ is_closed false found.rest
+pub atom_passed : (text : List ℕ) (found : FrontPart PlainAtom) → atom_in text ≡ Some found → is_closed false text ≡ is_closed false found.rest
 unfolding atom_in
 atom_passed text found e =
     let test = found_by (test_in text)
     (λ test. repeat_in test.rest >>= λ bounds. Some (record { part = record { test = test.part; bounds = bounds.0 }; is_inner = test.is_inner; rest = bounds.1 })) found e in
     let bounds = found_by (repeat_in test.0.rest)
     (λ bounds. Some (record { part = record { test = test.0.part; bounds = bounds.0 }; is_inner = test.0.is_inner; rest = bounds.1 })) found test.2 in
-    test_passed text test.0 test.1 ∙ repeat_passed test.0.rest bounds.0 bounds.1 ∙ ap (λ (found : Found PlainAtom). is_closed false found.rest) (same_Some _ _ bounds.2)
+    test_passed text test.0 test.1 ∙ repeat_passed test.0.rest bounds.0 bounds.1 ∙ ap (λ (found : FrontPart PlainAtom). is_closed false found.rest) (same_Some _ _ bounds.2)
 
 -- a parenthesis that closes
 pub closed_here : (o : ℕ) (text : List ℕ) → o ≡ 41 → is_closed false (o ∷ text) ≡ true

@@ -10,7 +10,7 @@ use Rattle.name_patterns.specs.declared.fault.PatternFault.{PatternFault}
 use Rattle.name_patterns.specs.declared.fault.PatternFault.TheVariants.{Syntax, Inner, BadGroup}
 use Rattle.name_patterns.specs.Pattern.{PlainAtom, anything, LiesIn}
 use Rattle.name_patterns.specs.Faults.{read_at}
-use Rattle.name_patterns.specs.PatternReading.{Found, begins_repeat, atom_in, PlainDraft, with_atom, with_open, with_closed, with_item, with_implied, IsDraft}
+use Rattle.name_patterns.specs.PatternReading.{FrontPart, begins_repeat, atom_in, PlainDraft, with_atom, with_open, with_closed, with_item, with_implied, IsDraft}
 use Rattle.name_patterns.proofs.Steps.{done_unless, done_is}
 
 -- ---- what was added
@@ -31,12 +31,12 @@ abbrev taken : PlainDraft → List ℕ → Result Next PatternFault
 taken draft rest = Ok (draft, rest)
 
 pub atom_found : (draft : PlainDraft) (at : ℕ) (text : List ℕ) (next : PlainDraft) (after : List ℕ) → with_atom draft at text ≡ Ok (next, after)
-    → (found : Found PlainAtom) × (atom_in text ≡ Some found) × (draft.written < 32) × (atom_added draft found.part ≡ next) × (found.rest ≡ after)
+    → (found : FrontPart PlainAtom) × (atom_in text ≡ Some found) × (draft.written < 32) × (atom_added draft found.part ≡ next) × (found.rest ≡ after)
 atom_found draft at text next after e = by_atom (atom_in text) e
   where
-    by_atom : (atom : Option (Found PlainAtom))
+    by_atom : (atom : Option (FrontPart PlainAtom))
         → on_result (λ found. cond {A = Result Next PatternFault} (leb 32 draft.written) (Err (Syntax at)) (cond {A = Result Next PatternFault} found.is_inner (Err (Inner at)) (taken (atom_added draft found.part) found.rest))) Err (read_at at atom) ≡ Ok (next, after)
-        → (found : Found PlainAtom) × (atom ≡ Some found) × (draft.written < 32) × (atom_added draft found.part ≡ next) × (found.rest ≡ after)
+        → (found : FrontPart PlainAtom) × (atom ≡ Some found) × (draft.written < 32) × (atom_added draft found.part ≡ next) × (found.rest ≡ after)
     by_atom None e = absurd cc
     by_atom (Some found) e =
         let room = done_unless {A = Next} (leb 32 draft.written) (Syntax at) (cond {A = Result Next PatternFault} found.is_inner (Err (Inner at)) (taken (atom_added draft found.part) found.rest)) (next, after) e in

@@ -11,26 +11,26 @@ use Rattle.name_patterns.specs.declared.fault.PatternFault.TheVariants.{Syntax, 
 use Rattle.name_patterns.specs.Pattern.{PlainTest, Bounds, once, PlainAtom, anything, PlainPattern}
 use Rattle.name_patterns.specs.Grammar.{IsRepeat, IsAtom, AreAtoms, Item, Alone, Group, AreItems, item_atoms, groups_from, IsAnchor, IsPattern}
 use Rattle.name_patterns.specs.Faults.{IsFaultOf, read_at}
-use Rattle.name_patterns.specs.PatternReading.{◌>>=◌, Found, test_in, begins_repeat, repeat_in, atom_in, PlainDraft, with_atom, with_open, with_closed, with_item, first_fault, whole_of, with_implied, at_end, is_end, items_within, items_in, begun, pattern_after, pattern_in}
+use Rattle.name_patterns.specs.PatternReading.{◌>>=◌, FrontPart, test_in, begins_repeat, repeat_in, atom_in, PlainDraft, with_atom, with_open, with_closed, with_item, first_fault, whole_of, with_implied, at_end, is_end, items_within, items_in, begun, pattern_after, pattern_in}
 use Rattle.name_patterns.proofs.GrammarSteps.{bind_some, given, given_is, ok_is, result_is, read_is, done, done_is, done_to, not_refused}
 use Rattle.name_patterns.proofs.TestGrammar.{IsTestAt, test_found, test_again, BeginsTest, test_begins}
 use Rattle.name_patterns.proofs.RepeatReading.{IsRepeatAt, repeat_found, repeat_again, repeat_none}
 
 -- ---- atoms
 
-abbrev IsAtomAt : List ℕ → Found PlainAtom → Type 0
+abbrev IsAtomAt : List ℕ → FrontPart PlainAtom → Type 0
 IsAtomAt text found = (front : List ℕ) × (text ≡ front ++ found.rest) × IsAtom front found.part
 
-atom_is : (text : List ℕ) (test : Found PlainTest) (bounds : Bounds × List ℕ) (found : Found PlainAtom)
+atom_is : (text : List ℕ) (test : FrontPart PlainTest) (bounds : Bounds × List ℕ) (found : FrontPart PlainAtom)
     → given (record { part = record { test = test.part; bounds = bounds.0 }; is_inner = test.is_inner; rest = bounds.1 }) ≡ given found → found.is_inner ≡ false
     → (test.is_inner ≡ false → IsTestAt text test) → IsRepeatAt test.rest bounds → IsAtomAt text found
 atom_is text test bounds found e none plain r =
     let same = given_is (record { part = record { test = test.part; bounds = bounds.0 }; is_inner = test.is_inner; rest = bounds.1 }) found e in
-    let t = plain (ap (λ (f : Found PlainAtom). f.is_inner) same ∙ none) in
+    let t = plain (ap (λ (f : FrontPart PlainAtom). f.is_inner) same ∙ none) in
     subst (IsAtomAt text) same
     (t.0 ++ r.0, t.1 ∙ ap (λ (s : List ℕ). t.0 ++ s) r.1 ∙ sym (append_assoc t.0 r.0 bounds.1), (t.0, r.0, refl, t.2, r.2))
 
-atom_found : (text : List ℕ) (found : Found PlainAtom) → atom_in text ≡ Some found → found.is_inner ≡ false → IsAtomAt text found
+atom_found : (text : List ℕ) (found : FrontPart PlainAtom) → atom_in text ≡ Some found → found.is_inner ≡ false → IsAtomAt text found
 unfolding atom_in
 atom_found text found e none =
     let a = bind_some (test_in text) (λ test. repeat_in test.rest >>= λ bounds.
@@ -39,7 +39,7 @@ atom_found text found e none =
     Some (record { part = record { test = a.0.part; bounds = bounds.0 }; is_inner = a.0.is_inner; rest = bounds.1 })) found a.2 in
     atom_is text a.0 b.0 found b.2 none (λ plain. test_found text a.0 a.1 plain) (repeat_found a.0.rest b.0 b.1)
 
--- what may stand behind a test, before this text
+-- what may stand after a test, before this text
 repeated_again : (text rest : List ℕ) (bounds : Bounds) → ((text ≡ []) × (bounds ≡ once)) ⊎ IsRepeat text bounds → begins_repeat rest ≡ false
     → repeat_in (text ++ rest) ≡ Some (bounds, rest)
 repeated_again text rest bounds (inl h) free =
@@ -61,7 +61,7 @@ atom_begins text atom h =
 test_some : (text : List ℕ) → BeginsTest text → 0 < length text
 test_some text h = let size = ap length h.2 in omega arith
 
-atom_shorter : (text : List ℕ) (found : Found PlainAtom) → IsAtomAt text found → length found.rest < length text
+atom_shorter : (text : List ℕ) (found : FrontPart PlainAtom) → IsAtomAt text found → length found.rest < length text
 atom_shorter text found h =
     let size = ap length h.1 ∙ length-append h.0 found.rest in
     let some = test_some h.0 (atom_begins h.0 found.part h.2) in
@@ -140,14 +140,14 @@ group_before atoms written groups text pattern h =
     let r = h.5 in
     let few = r.few_atoms in
     let size = length-append h.2 (flat_map item_atoms r.items) in
-    let behind : text ≡ (h.0 ++ codes ")") ++ (r.middle ++ r.end) =
+    let following : text ≡ (h.0 ++ codes ")") ++ (r.middle ++ r.end) =
     h.3 ∙ sym (append_assoc h.0 (codes ")") h.1) ∙ ap (λ (t : List ℕ). (h.0 ++ codes ")") ++ t) r.parts in
     record {
       middle = (40 ∷ (h.0 ++ codes ")")) ++ r.middle;
       end = r.end;
       items = Group h.2 ∷ r.items;
       after = r.after;
-      parts = ap (λ (t : List ℕ). 40 ∷ t) (behind ∙ sym (append_assoc (h.0 ++ codes ")") r.middle r.end));
+      parts = ap (λ (t : List ℕ). 40 ∷ t) (following ∙ sym (append_assoc (h.0 ++ codes ")") r.middle r.end));
       spelled = (40 ∷ (h.0 ++ codes ")"), r.middle, refl, (h.0, refl, h.4), r.spelled);
       ends = r.ends;
       is = r.is ∙ whole_group atoms groups h.2 r.items r.after;
@@ -192,7 +192,7 @@ abbrev HasRoom : PlainDraft → Option OpenGroup → Type 0
 HasRoom draft None = (draft.written ≤ 32) × (length draft.groups ≤ 9)
 HasRoom draft (Some group) = (draft.written ≤ 32) × (length draft.groups < 9)
 
--- the text is spelled, once what stands behind its first item is
+-- the text is spelled, once what stands after its first item is
 record IsStep (draft : PlainDraft) (text : List ℕ) (next : PlainDraft × List ℕ) : Type 0 where
   shorter : length next.1 < length text
   room : HasRoom next.0 next.0.open_group
@@ -356,7 +356,7 @@ pattern_found (o ∷ text) pattern e =
 
 -- ---- what the text spells is read
 
--- no anchor and no repeat begins what stands behind an item
+-- no anchor and no repeat begins what stands after an item
 abbrev begins_other : List ℕ → Bool
 begins_other [] = false
 begins_other (o ∷ text) = list_any (λ sign. sign == o) (codes "^*+?{")
@@ -373,7 +373,7 @@ test_other text rest h =
       | inr is ↦ ap (λ (first : ℕ). begins_other (first ∷ (h.1 ++ rest))) is
     ]
 
--- what stands behind an atom in a group
+-- what stands after an atom in a group
 inside_other : (text rest : List ℕ) (atoms : List PlainAtom) → AreAtoms text atoms → begins_other (text ++ (41 ∷ rest)) ≡ false
 inside_other text rest [] h = ap (λ (t : List ℕ). begins_other (t ++ (41 ∷ rest))) h
 inside_other text rest (atom ∷ atoms) h =
@@ -384,7 +384,7 @@ end_other : (end : List ℕ) (after : List PlainAtom) → IsAnchor (codes "$") e
 end_other end after (inl h) = ap begins_other h.0
 end_other end after (inr h) = ap begins_other h.0
 
--- what stands behind an item that is in no group
+-- what stands after an item that is in no group
 items_other : (text end : List ℕ) (items : List Item) (after : List PlainAtom) → AreItems text items → IsAnchor (codes "$") end after → begins_other (text ++ end) ≡ false
 items_other text end [] after h ends = ap (λ (t : List ℕ). begins_other (t ++ end)) h ∙ end_other end after ends
 items_other text end (Alone atom ∷ items) after h ends =
@@ -547,9 +547,9 @@ rest_again (Group more ∷ items) zero len middle end atoms written groups after
 rest_again (Group more ∷ items) (suc n) len middle end atoms written groups after h ends le few places =
     let inner = h.3.0 in
     let rest = h.1 ++ end in
-    let behind : (inner ++ codes ")") ++ rest ≡ inner ++ (41 ∷ rest) = append_assoc inner (codes ")") rest in
+    let following : (inner ++ codes ")") ++ rest ≡ inner ++ (41 ∷ rest) = append_assoc inner (codes ")") rest in
     let split : middle ++ end ≡ 40 ∷ (inner ++ (41 ∷ rest)) =
-    ap (λ (t : List ℕ). t ++ end) (h.2 ∙ ap (λ (t : List ℕ). t ++ h.1) h.3.1) ∙ append_assoc (40 ∷ (inner ++ codes ")")) h.1 end ∙ ap (λ (t : List ℕ). 40 ∷ t) behind in
+    ap (λ (t : List ℕ). t ++ end) (h.2 ∙ ap (λ (t : List ℕ). t ++ h.1) h.3.1) ∙ append_assoc (40 ∷ (inner ++ codes ")")) h.1 end ∙ ap (λ (t : List ℕ). 40 ∷ t) following in
     let size = ap length split in
     let all_atoms = length-append more (flat_map item_atoms items) in
     let all_groups = length-append groups ((length atoms, length atoms + length more) ∷ groups_from (length atoms + length more) items) in

@@ -37,7 +37,7 @@ pub ok_is : {A B : Type 0} (r : Result A PatternFault) (f : A → Result B Patte
 ok_is (Ok x) f y e = (x, refl, e)
 ok_is (Err fault) f y e = absurd cc
 
--- the value of a step whose fault may be told as another
+-- the value of a step whose fault may be reported as another
 pub result_is : {A B : Type 0} (f : A → Result B PatternFault) (g : PatternFault → PatternFault) (r : Result A PatternFault) (y : B) → on_result f (λ fault. Err (g fault)) r ≡ Ok y
     → (x : A) × (r ≡ Ok x) × (f x ≡ Ok y)
 result_is f g (Ok x) y e = (x, refl, e)

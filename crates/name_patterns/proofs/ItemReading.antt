@@ -69,7 +69,7 @@ never_closed (suc n) len draft text group is_open never =
 
 -- ---- items in turn
 
--- the text's pattern is what the rest says, behind this draft
+-- the text's pattern is what the rest says, after this draft
 abbrev pub HasItems : ℕ → PlainDraft → List ℕ → PlainDraft → List ℕ → Type 0
 HasItems len begun items draft rest = (n : ℕ) × (length rest ≤ n) × (items_in len begun items ≡ items_within n len draft rest)
 

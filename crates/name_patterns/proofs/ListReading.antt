@@ -4,12 +4,12 @@ use Rattle.std.proofs.lemmas.List.{append-nil}
 use Rattle.ndn_tlv.specs.Element.{Field}
 use Rattle.name_patterns.specs.declared.fault.PatternFault.{PatternFault}
 use Rattle.name_patterns.specs.Faults.{IsFaultOf, read_at}
-use Rattle.name_patterns.specs.PatternReading.{◌>>=◌, Found, has_special, text_in, quoted_in, list_end, listed_within}
+use Rattle.name_patterns.specs.PatternReading.{◌>>=◌, FrontPart, has_special, text_in, quoted_in, list_end, listed_within}
 use Rattle.name_patterns.proofs.Steps.{fault_on}
 use Rattle.name_patterns.proofs.TextParts.{BeginsNot, first_other}
 
 -- components before those of others
-abbrev pub before_others : List Field → Bool → Option (Found (List Field)) → Option (Found (List Field))
+abbrev pub before_others : List Field → Bool → Option (FrontPart (List Field)) → Option (FrontPart (List Field))
 before_others cs is_inner listed =
     listed >>= λ others. Some (record { part = cs ++ others.part; is_inner = is_inner || others.is_inner; rest = others.rest })
 
@@ -21,7 +21,7 @@ HasListed cs is_inner text rest =
 pub listed_nothing : (text : List ℕ) → HasListed [] false text text
 listed_nothing text = (length text, omega arith, sym (nothing (listed_within (length text) text)))
   where
-    nothing : (listed : Option (Found (List Field))) → before_others [] false listed ≡ listed
+    nothing : (listed : Option (FrontPart (List Field))) → before_others [] false listed ≡ listed
     nothing None = refl
     nothing (Some others) = refl
 
@@ -37,7 +37,7 @@ listed_one cs is_inner text rest front after c (zero, few, h) e shorter read = a
 listed_one cs is_inner text rest front after c (suc n, few, h) e shorter read =
     (n, omega arith, h ∙ ap (before_others cs is_inner) (listed_more n rest front after e ∙ rw read refl) ∙ moved is_inner (has_special front) (listed_within n after))
   where
-    moved : (a b : Bool) (listed : Option (Found (List Field))) → before_others cs a (before_others (c ∷ []) b listed) ≡ before_others (cs ++ c ∷ []) (a || b) listed
+    moved : (a b : Bool) (listed : Option (FrontPart (List Field))) → before_others cs a (before_others (c ∷ []) b listed) ≡ before_others (cs ++ c ∷ []) (a || b) listed
     moved a b None = refl
     moved true b (Some others) = ap (λ (ds : List Field). Some (record { part = ds; is_inner = true; rest = others.rest })) (sym (append_assoc cs (c ∷ []) others.part))
     moved false b (Some others) = ap (λ (ds : List Field). Some (record { part = ds; is_inner = b || others.is_inner; rest = others.rest })) (sym (append_assoc cs (c ∷ []) others.part))

@@ -77,7 +77,7 @@ count_in_row : (atoms : List PlainAtom) (cs : List Field) (after : List (Option 
 count_in_row atoms cs after place k is_row fits =
     rw (get_in_drop after place k, is_row (place + k) fits, drop-drop k place cs) refl
 
--- the first count of an atom, by the row of the atoms behind it
+-- the first count of an atom, by the row of the atoms after it
 pub count_by_row : (atom : PlainAtom) (atoms : List PlainAtom) (cs : List Field) (after : List (Option ℕ)) (place run : ℕ)
     → IsRow atoms cs after → run ≡ run_of atom.test (drop place cs) → run + place ≤ length cs
     → greatest (has_count (drop place after)) atom.bounds.least (at_most atom.bounds.most run) ≡ first_count (atom ∷ atoms) (drop place cs)
@@ -93,13 +93,13 @@ pub row_step : (atom : PlainAtom) (atoms : List PlainAtom) (cs : List Field) (af
     → IsRow atoms cs after → place < length row → run ≡ run_of atom.test (drop place cs) → run + place ≤ length cs
     → v ≡ greatest (has_count (drop place after)) atom.bounds.least (at_most atom.bounds.most run)
     → IsRowFrom (atom ∷ atoms) cs (place + 1) row → IsRowFrom (atom ∷ atoms) cs place (slice_set row place v)
-row_step atom atoms cs after row place run v is_row room run_is fits v_is behind p from low =
+row_step atom atoms cs after row place run v is_row room run_is fits v_is following p from low =
     elim (cases_eq place p) [
       | inl is ↦
           let here : slice_get (slice_set row place v) place ≡ Some (first_count (atom ∷ atoms) (drop place cs)) =
           set_same row place v room ∙ ap Some (v_is ∙ count_by_row atom atoms cs after place run is_row run_is fits) in
           rw (← is) here
-      | inr other ↦ set_other row place p v other ∙ behind p (omega arith) low
+      | inr other ↦ set_other row place p v other ∙ following p (omega arith) low
     ]
 
 pub run_end : (atom : PlainAtom) (cs : List Field) → 0 ≡ run_of atom.test (drop (length cs) cs)
@@ -112,8 +112,8 @@ run_step atom cs passed place run passed_is h run_is =
     let d : Field = (0, []) in
     let here : get_or passed place false ≡ passes atom.test (get_or cs place d) =
     ap (λ (bs : List Bool). get_or bs place false) passed_is ∙ get_or-map (passes atom.test) cs place d false h in
-    let behind : run ≡ run_of atom.test (drop (suc place) cs) = rw add-one at run_is in
-    rw (drop-cons cs place d h, here, behind) refl
+    let following : run ≡ run_of atom.test (drop (suc place) cs) = rw add-one at run_is in
+    rw (drop-cons cs place d h, here, following) refl
 
 abbrev pub IsAt : PlainAtom → List PlainAtom → List Field → ℕ → List (Option ℕ) → ℕ → Type 0
 IsAt atom atoms cs place row run = IsRowFrom (atom ∷ atoms) cs place row × (run ≡ run_of atom.test (drop place cs))
@@ -150,7 +150,7 @@ drop_map_end : {X Y : Type 0} (f : X → Y) (xs : List X) → drop (length xs) (
 drop_map_end f [] = refl
 drop_map_end f (x ∷ xs) = drop_map_end f xs
 
--- the row of no atoms, behind all atoms
+-- the row of no atoms, after all atoms
 pub end_row : {X : Type 0} (f : X → PlainAtom) (xs : List X) (cs : List Field) (row : List (Option ℕ)) (len : ℕ) → len ≡ length cs → len ≤ 64
     → row ≡ slice_set (replicate 65 None) len (Some 0) → IsRow (drop (length xs) (map f xs)) cs row
 end_row f xs cs row len len_is small row_is =
@@ -169,12 +169,12 @@ drop_map f (y ∷ xs) (suc at) x h is = rw next (drop_map f xs at x (omega arith
 -- one more row of a table
 pub table_step : {X : Type 0} (P : ℕ → X → Type 0) (rows : List X) (at n : ℕ) (row : X) → at < length rows → P at row
     → ((k : ℕ) → at + 1 ≤ k → k ≤ n → IsSomeAnd (slice_get rows k) (P k)) → (k : ℕ) → at ≤ k → k ≤ n → IsSomeAnd (slice_get (slice_set rows at row) k) (P k)
-table_step P rows at n row room here behind k from low =
+table_step P rows at n row room here following k from low =
     elim (cases_eq at k) [
       | inl is ↦
           let first : IsSomeAnd (slice_get (slice_set rows at row) at) (P at) = rw (set_same rows at row room) here in
           rw (← is) first
-      | inr other ↦ rw (set_other rows at k row other) (behind k (omega arith) low)
+      | inr other ↦ rw (set_other rows at k row other) (following k (omega arith) low)
     ]
 
 pub times_step : (i at len : ℕ) → i ≡ at + 1 → len + at * len ≡ i * len

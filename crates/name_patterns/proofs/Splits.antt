@@ -184,18 +184,18 @@ AreSearched atoms = (cs : List Field) → IsSearched atoms cs (first_count atoms
 -- a count of a split can be taken, and is within the bound
 taken : (atom : PlainAtom) (atoms : List PlainAtom) (cs : List Field) (count : ℕ) (counts : List ℕ) → AreSearched atoms → IsSplit (atom ∷ atoms) cs (count ∷ counts)
     → (count ≤ at_most atom.bounds.most (run_of atom.test cs)) × (is_some (first_count atoms (drop count cs)) ≡ true)
-taken atom atoms cs count counts behind split = (
+taken atom atoms cs count counts following split = (
   bound_again atom.bounds.most (run_of atom.test cs) count split.1 (run_again atom.test cs count split.2 split.3),
-  some_splits atoms (drop count cs) (first_count atoms (drop count cs)) counts (behind (drop count cs)) split.4,
+  some_splits atoms (drop count cs) (first_count atoms (drop count cs)) counts (following (drop count cs)) split.4,
 )
 
 -- an atom in front of others has no first count
 no_split : (atom : PlainAtom) (atoms : List PlainAtom) (cs : List Field) → AreSearched atoms → first_count (atom ∷ atoms) cs ≡ None
     → (counts : List ℕ) → IsSplit (atom ∷ atoms) cs counts → ⊥
 unfolding first_count
-no_split atom atoms cs behind e [] split = split
-no_split atom atoms cs behind e (count ∷ counts) split =
-    let t = taken atom atoms cs count counts behind split in
+no_split atom atoms cs following e [] split = split
+no_split atom atoms cs following e (count ∷ counts) split =
+    let t = taken atom atoms cs count counts following split in
     no_greatest (λ n. is_some (first_count atoms (drop n cs))) atom.bounds.least (at_most atom.bounds.most (run_of atom.test cs)) e count split.0 t.0 t.1
 
 -- no other split is greater
@@ -203,15 +203,15 @@ not_greater : (atom : PlainAtom) (atoms : List PlainAtom) (cs : List Field) (k :
     → IsGreatest (λ n. is_some (first_count atoms (drop n cs))) atom.bounds.least (at_most atom.bounds.most (run_of atom.test cs)) k
     → IsGreatestSplit atoms (drop k cs) best
     → (other : List ℕ) → IsSplit (atom ∷ atoms) cs other → (other ≡ k ∷ best) ⊎ DiffersBelow ◌<◌ other (k ∷ best)
-not_greater atom atoms cs k best behind g rest [] split = absurd split
-not_greater atom atoms cs k best behind g rest (j ∷ other) split =
-    let t = taken atom atoms cs j other behind split in
+not_greater atom atoms cs k best following g rest [] split = absurd split
+not_greater atom atoms cs k best following g rest (j ∷ other) split =
+    let t = taken atom atoms cs j other following split in
     elim (cases_lt k j) [
       | inl above ↦ absurd (g.last j above t.0 t.1)
       | inr not_above ↦ elim (cases_eq j k) [
         | inl same_count ↦
-            let behind_split : IsSplit atoms (drop k cs) other = rw same_count at split.4 in
-            elim (rest.greatest other behind_split) [
+            let following_split : IsSplit atoms (drop k cs) other = rw same_count at split.4 in
+            elim (rest.greatest other following_split) [
               | inl is ↦ inl cc
               | inr d ↦
                   let mine : j ∷ other ≡ (k ∷ d.0) ++ d.3 ∷ d.1 = ap (λ (xs : List ℕ). j ∷ xs) d.5 ∙ ap (λ (n : ℕ). n ∷ (d.0 ++ d.3 ∷ d.1)) same_count in
@@ -231,20 +231,20 @@ first_is atom atoms cs k e =
 step : (atom : PlainAtom) (atoms : List PlainAtom) (cs : List Field) → AreSearched atoms
     → (r : Option ℕ) → first_count (atom ∷ atoms) cs ≡ r → IsSearched (atom ∷ atoms) cs r
 unfolding greedy
-step atom atoms cs behind None e = (
-  no_split atom atoms cs behind e,
+step atom atoms cs following None e = (
+  no_split atom atoms cs following e,
   rw e refl,
 )
-step atom atoms cs behind (Some k) e =
+step atom atoms cs following (Some k) e =
     let g = first_is atom atoms cs k e in
-    let here = splits_some atoms (drop k cs) (first_count atoms (drop k cs)) (behind (drop k cs)) g.can_take in
+    let here = splits_some atoms (drop k cs) (first_count atoms (drop k cs)) (following (drop k cs)) g.can_take in
     let b = bound_found atom.bounds.most (run_of atom.test cs) k g.high in
     let r = run_found atom.test cs k b.1 in (
       k ∷ here.0,
       rw (e, here.1) refl,
       record {
         split = (g.low, b.0, r.0, r.1, here.2.split);
-        greatest = not_greater atom atoms cs k here.0 behind g here.2;
+        greatest = not_greater atom atoms cs k here.0 following g here.2;
       },
     )
 

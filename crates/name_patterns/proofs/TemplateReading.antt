@@ -10,7 +10,7 @@ use Rattle.name_patterns.specs.declared.fault.PatternFault.TheVariants.{Inner, B
 use Rattle.name_patterns.specs.Grammar.{IsQuoted}
 use Rattle.name_patterns.specs.Template.{PlainPart, OfGroup, Single, IsPart, IsTemplate, NeedAtMost, CanStand}
 use Rattle.name_patterns.specs.Faults.{IsFaultOf, read_at}
-use Rattle.name_patterns.specs.PatternReading.{◌>>=◌, Found, has_special, text_in, quoted_in}
+use Rattle.name_patterns.specs.PatternReading.{◌>>=◌, FrontPart, has_special, text_in, quoted_in}
 use Rattle.name_patterns.specs.TemplateReading.{digit_in, group_in, single_in, single_part_in, part_in, parts_within, template_in}
 use Rattle.name_patterns.proofs.GrammarSteps.{bind_some, given, given_is, given_to, passed, ok_is, read_is, done_is, done_to, not_refused}
 use Rattle.name_patterns.proofs.QuotedReading.{text_again, text_none, quoted_again, quoted_front, single_found}
@@ -50,16 +50,16 @@ group_again : (groups at n : ℕ) (rest : List ℕ) → n ≤ 9 → n ≤ groups
 group_again groups at n rest small few = rw (digit_again n rest small, le-ltb groups n few) refl
 
 -- a component between < and >
-abbrev IsSingleAt : List ℕ → Found Field → Type 0
+abbrev IsSingleAt : List ℕ → FrontPart Field → Type 0
 IsSingleAt text found = (front : List ℕ) × (text ≡ front ++ found.rest) × IsQuoted front found.part
 
-single_is : (text : List ℕ) (quoted : List ℕ × List ℕ) (c : Field) (found : Found Field) → quoted_in text ≡ Some quoted → text_in quoted.0 ≡ Some c
+single_is : (text : List ℕ) (quoted : List ℕ × List ℕ) (c : Field) (found : FrontPart Field) → quoted_in text ≡ Some quoted → text_in quoted.0 ≡ Some c
     → given (record { part = c; is_inner = has_special quoted.0; rest = quoted.1 }) ≡ given found → found.is_inner ≡ false → IsSingleAt text found
 single_is text quoted c found was is e none =
     let same = given_is (record { part = c; is_inner = has_special quoted.0; rest = quoted.1 }) found e in
-    subst (IsSingleAt text) same (single_found text quoted c was is (ap (λ (f : Found Field). f.is_inner) same ∙ none))
+    subst (IsSingleAt text) same (single_found text quoted c was is (ap (λ (f : FrontPart Field). f.is_inner) same ∙ none))
 
-single_in_found : (text : List ℕ) (found : Found Field) → single_in text ≡ Some found → found.is_inner ≡ false → IsSingleAt text found
+single_in_found : (text : List ℕ) (found : FrontPart Field) → single_in text ≡ Some found → found.is_inner ≡ false → IsSingleAt text found
 single_in_found text found e none =
     let q = bind_some (quoted_in text) (λ quoted. text_in quoted.0 >>= λ c. Some (record { part = c; is_inner = has_special quoted.0; rest = quoted.1 })) found e in
     let c = bind_some (text_in q.0.0) (λ c. Some (record { part = c; is_inner = has_special q.0.0; rest = q.0.1 })) found q.2 in

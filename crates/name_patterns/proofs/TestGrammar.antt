@@ -6,16 +6,16 @@ use Rattle.std.specs.Option.{option_map_or}
 use Rattle.ndn_tlv.specs.Element.{Field}
 use Rattle.name_patterns.specs.Pattern.{PlainTest, Anything, OneOf, NoneOf}
 use Rattle.name_patterns.specs.Grammar.{IsQuoted, AreQuoted, IsTestText}
-use Rattle.name_patterns.specs.PatternReading.{◌>>=◌, Found, has_special, text_in, quoted_in, list_end, listed_within, list_in, bracketed_in, quoted_test_in, test_in}
+use Rattle.name_patterns.specs.PatternReading.{◌>>=◌, FrontPart, has_special, text_in, quoted_in, list_end, listed_within, list_in, bracketed_in, quoted_test_in, test_in}
 use Rattle.name_patterns.proofs.GrammarSteps.{bind_some, given, given_is, given_to, passed, failed}
 use Rattle.name_patterns.proofs.QuotedReading.{text_again, text_none, text_some, quoted_found, quoted_again, quoted_front, single_found}
 
 -- ---- lists of texts
 
-abbrev IsListed : List ℕ → Found (List Field) → Type 0
+abbrev IsListed : List ℕ → FrontPart (List Field) → Type 0
 IsListed text found = (inner : List ℕ) × (text ≡ inner ++ (93 ∷ found.rest)) × AreQuoted inner found.part
 
-end_found : (text : List ℕ) (found : Found (List Field)) → list_end text ≡ Some found → IsListed text found
+end_found : (text : List ℕ) (found : FrontPart (List Field)) → list_end text ≡ Some found → IsListed text found
 end_found [] found e = absurd cc
 end_found (o ∷ text) found e =
     let p = passed (eqb o 93) (Some (record { part = []; is_inner = false; rest = text })) found e in
@@ -23,18 +23,18 @@ end_found (o ∷ text) found e =
     ([], ap (λ (first : ℕ). first ∷ text) (eqb-true o 93 p.0), refl)
 
 -- a text before others
-before_listed : (text : List ℕ) (quoted : List ℕ × List ℕ) (c : Field) (others found : Found (List Field)) → quoted_in text ≡ Some quoted → text_in quoted.0 ≡ Some c
+before_listed : (text : List ℕ) (quoted : List ℕ × List ℕ) (c : Field) (others found : FrontPart (List Field)) → quoted_in text ≡ Some quoted → text_in quoted.0 ≡ Some c
     → given (record { part = c ∷ others.part; is_inner = has_special quoted.0 || others.is_inner; rest = others.rest }) ≡ given found → found.is_inner ≡ false
     → (others.is_inner ≡ false → IsListed quoted.1 others) → IsListed text found
 before_listed text quoted c others found was is e none listed =
     let same = given_is (record { part = c ∷ others.part; is_inner = has_special quoted.0 || others.is_inner; rest = others.rest }) found e in
-    let both = or_parts (has_special quoted.0) others.is_inner (ap (λ (f : Found (List Field)). f.is_inner) same ∙ none) in
+    let both = or_parts (has_special quoted.0) others.is_inner (ap (λ (f : FrontPart (List Field)). f.is_inner) same ∙ none) in
     let s = single_found text quoted c was is both.0 in
     let h = listed both.1 in
     subst (IsListed text) same
     (s.0 ++ h.0, s.1 ∙ ap (λ (t : List ℕ). s.0 ++ t) h.1 ∙ sym (append_assoc s.0 h.0 (93 ∷ others.rest)), (s.0, h.0, refl, s.2, h.2))
 
-listed_found : (n : ℕ) (text : List ℕ) (found : Found (List Field)) → listed_within n text ≡ Some found → found.is_inner ≡ false → IsListed text found
+listed_found : (n : ℕ) (text : List ℕ) (found : FrontPart (List Field)) → listed_within n text ≡ Some found → found.is_inner ≡ false → IsListed text found
 unfolding listed_within
 listed_found zero text found e none = end_found text found e
 listed_found (suc n) text found e none =
@@ -75,19 +75,19 @@ listed_again (suc n) inner rest (c ∷ cs) le h =
     ap (listed_within (suc n)) split
     ∙ rw (here, text, listed_again n h.1 rest cs (omega arith) h.4, none) refl
 
-abbrev IsList : (List Field → PlainTest) → List ℕ → Found PlainTest → Type 0
+abbrev IsList : (List Field → PlainTest) → List ℕ → FrontPart PlainTest → Type 0
 IsList test text found = (inner : List ℕ) × (cs : List Field) × (text ≡ inner ++ (93 ∷ found.rest)) × (cs ≢ []) × AreQuoted inner cs × (test cs ≡ found.part)
 
-list_is : (test : List Field → PlainTest) (text : List ℕ) (listed : Found (List Field)) (found : Found PlainTest) → eqb (length listed.part) 0 ≡ false
+list_is : (test : List Field → PlainTest) (text : List ℕ) (listed : FrontPart (List Field)) (found : FrontPart PlainTest) → eqb (length listed.part) 0 ≡ false
     → given (record { part = test listed.part; is_inner = listed.is_inner; rest = listed.rest }) ≡ given found → found.is_inner ≡ false
     → (listed.is_inner ≡ false → IsListed text listed) → IsList test text found
 list_is test text listed found some e none plain =
     let same = given_is (record { part = test listed.part; is_inner = listed.is_inner; rest = listed.rest }) found e in
-    let h = plain (ap (λ (f : Found PlainTest). f.is_inner) same ∙ none) in
+    let h = plain (ap (λ (f : FrontPart PlainTest). f.is_inner) same ∙ none) in
     let not_empty = eqb-false (length listed.part) 0 some in
     subst (IsList test text) same (h.0, listed.part, h.1, (λ empty. not_empty (ap length empty)), h.2, refl)
 
-list_found : (test : List Field → PlainTest) (text : List ℕ) (found : Found PlainTest) → list_in test text ≡ Some found → found.is_inner ≡ false → IsList test text found
+list_found : (test : List Field → PlainTest) (text : List ℕ) (found : FrontPart PlainTest) → list_in test text ≡ Some found → found.is_inner ≡ false → IsList test text found
 list_found test text found e none =
     let a = bind_some (listed_within (length text) text) (λ listed.
     cond (eqb (length listed.part) 0) None (Some (record { part = test listed.part; is_inner = listed.is_inner; rest = listed.rest }))) found e in
@@ -103,10 +103,10 @@ list_again test inner rest cs some h =
 
 -- ---- tests
 
-abbrev pub IsTestAt : List ℕ → Found PlainTest → Type 0
+abbrev pub IsTestAt : List ℕ → FrontPart PlainTest → Type 0
 IsTestAt text found = (front : List ℕ) × (text ≡ front ++ found.rest) × IsTestText front found.part
 
-one_of_found : (text : List ℕ) (found : Found PlainTest) → list_in OneOf text ≡ Some found → found.is_inner ≡ false → IsTestAt (91 ∷ text) found
+one_of_found : (text : List ℕ) (found : FrontPart PlainTest) → list_in OneOf text ≡ Some found → found.is_inner ≡ false → IsTestAt (91 ∷ text) found
 one_of_found text found e none =
     let h = list_found OneOf text found e none in (
       91 ∷ (h.0 ++ codes "]"),
@@ -114,7 +114,7 @@ one_of_found text found e none =
       subst (IsTestText (91 ∷ (h.0 ++ codes "]"))) h.5 (inr (h.0, refl, h.3, h.4)),
     )
 
-none_of_found : (text : List ℕ) (found : Found PlainTest) → list_in NoneOf text ≡ Some found → found.is_inner ≡ false → IsTestAt (91 ∷ 94 ∷ text) found
+none_of_found : (text : List ℕ) (found : FrontPart PlainTest) → list_in NoneOf text ≡ Some found → found.is_inner ≡ false → IsTestAt (91 ∷ 94 ∷ text) found
 none_of_found text found e none =
     let h = list_found NoneOf text found e none in (
       91 ∷ 94 ∷ (h.0 ++ codes "]"),
@@ -122,7 +122,7 @@ none_of_found text found e none =
       subst (IsTestText (91 ∷ 94 ∷ (h.0 ++ codes "]"))) h.5 (h.0, refl, h.3, h.4),
     )
 
-bracketed_found : (text : List ℕ) (found : Found PlainTest) → bracketed_in text ≡ Some found → found.is_inner ≡ false → IsTestAt (91 ∷ text) found
+bracketed_found : (text : List ℕ) (found : FrontPart PlainTest) → bracketed_in text ≡ Some found → found.is_inner ≡ false → IsTestAt (91 ∷ text) found
 bracketed_found [] found e none = one_of_found [] found e none
 bracketed_found (o ∷ text) found e none =
     elim (cases_eq o 94) [
@@ -135,14 +135,14 @@ anything_found text quoted e none =
     let q = quoted_found text quoted e in
     (codes "<>", q.0 ∙ ap (λ (inner : List ℕ). (codes "<" ++ (inner ++ codes ">")) ++ quoted.1) (nil_from_length quoted.0 none), refl)
 
-component_found : (text : List ℕ) (quoted : List ℕ × List ℕ) (c : Field) (found : Found PlainTest) → quoted_in text ≡ Some quoted → text_in quoted.0 ≡ Some c
+component_found : (text : List ℕ) (quoted : List ℕ × List ℕ) (c : Field) (found : FrontPart PlainTest) → quoted_in text ≡ Some quoted → text_in quoted.0 ≡ Some c
     → given (record { part = OneOf (c ∷ []); is_inner = has_special quoted.0; rest = quoted.1 }) ≡ given found → found.is_inner ≡ false → IsTestAt text found
 component_found text quoted c found was is e none =
     let same = given_is (record { part = OneOf (c ∷ []); is_inner = has_special quoted.0; rest = quoted.1 }) found e in
-    let s = single_found text quoted c was is (ap (λ (f : Found PlainTest). f.is_inner) same ∙ none) in
+    let s = single_found text quoted c was is (ap (λ (f : FrontPart PlainTest). f.is_inner) same ∙ none) in
     subst (IsTestAt text) same (s.0, s.1, inl (c, refl, s.2))
 
-quoted_test_found : (text : List ℕ) (found : Found PlainTest) → quoted_test_in text ≡ Some found → found.is_inner ≡ false → IsTestAt text found
+quoted_test_found : (text : List ℕ) (found : FrontPart PlainTest) → quoted_test_in text ≡ Some found → found.is_inner ≡ false → IsTestAt text found
 quoted_test_found text found e none =
     let a = bind_some (quoted_in text) (λ quoted.
     cond (eqb (length quoted.0) 0) (Some (record { part = Anything; is_inner = false; rest = quoted.1 })) (text_in quoted.0 >>= λ c.
@@ -156,7 +156,7 @@ quoted_test_found text found e none =
           component_found text a.0 c.0 found a.1 c.1 c.2 none
     ]
 
-pub test_found : (text : List ℕ) (found : Found PlainTest) → test_in text ≡ Some found → found.is_inner ≡ false → IsTestAt text found
+pub test_found : (text : List ℕ) (found : FrontPart PlainTest) → test_in text ≡ Some found → found.is_inner ≡ false → IsTestAt text found
 unfolding test_in
 test_found [] found e none = absurd cc
 test_found (o ∷ text) found e none =

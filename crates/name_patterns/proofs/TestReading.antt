@@ -5,7 +5,7 @@ use Rattle.ndn_tlv.specs.Element.{Field}
 use Rattle.name_patterns.specs.declared.fault.PatternFault.{PatternFault}
 use Rattle.name_patterns.specs.Faults.{IsFaultOf, read_at}
 use Rattle.name_patterns.specs.Pattern.{PlainTest, OneOf, NoneOf}
-use Rattle.name_patterns.specs.PatternReading.{Found, listed_within, list_in, bracketed_in, quoted_test_in, test_in}
+use Rattle.name_patterns.specs.PatternReading.{FrontPart, listed_within, list_in, bracketed_in, quoted_test_in, test_in}
 use Rattle.name_patterns.proofs.Steps.{fault_on}
 use Rattle.name_patterns.proofs.TextParts.{BeginsNot, first_other}
 
@@ -18,11 +18,11 @@ pub bracketed_plain : (text : List ℕ) → BeginsNot 94 text → bracketed_in t
 bracketed_plain [] other = refl
 bracketed_plain (o ∷ text) other = rw (first_other 94 o text other) refl
 
-pub list_found : (test : List Field → PlainTest) (text : List ℕ) (listed : Found (List Field)) → listed_within (length text) text ≡ Some listed
+pub list_found : (test : List Field → PlainTest) (text : List ℕ) (listed : FrontPart (List Field)) → listed_within (length text) text ≡ Some listed
     → length listed.part ≢ 0 → list_in test text ≡ Some (record { part = test listed.part; is_inner = listed.is_inner; rest = listed.rest })
 list_found test text listed e some = rw (e, ne_eqb (length listed.part) 0 some) refl
 
-pub list_empty : (test : List Field → PlainTest) (text : List ℕ) (listed : Found (List Field)) → listed_within (length text) text ≡ Some listed
+pub list_empty : (test : List Field → PlainTest) (text : List ℕ) (listed : FrontPart (List Field)) → listed_within (length text) text ≡ Some listed
     → length listed.part ≡ 0 → list_in test text ≡ None
 list_empty test text listed e none = rw (e, none) refl
 

@@ -79,20 +79,20 @@ walk_step atoms cs i place starts done k w low room e =
       ];
     }
 
-behind_all : {X : Type 0} (xs : List X) (i : ℕ) → i ≡ length xs → drop i xs ≡ []
-behind_all xs i e = rw e (drop-length xs)
+dropped_all : {X : Type 0} (xs : List X) (i : ℕ) → i ≡ length xs → drop i xs ≡ []
+dropped_all xs i e = rw e (drop-length xs)
 
 pub walk_end : (atoms : List PlainAtom) (cs : List Field) (i place : ℕ) (starts done : List ℕ) (k : ℕ) → IsWalked atoms cs i place starts done → i ≡ length atoms
     → first_count (drop i atoms) (drop place cs) ≡ Some k → IsSomeAnd (greedy atoms cs) (λ counts. AreStarts atoms counts starts)
 walk_end atoms cs i place starts done k w i_is e =
-    let nil = behind_all atoms i i_is in
+    let nil = dropped_all atoms i i_is in
     let counts_are : greedy atoms cs ≡ Some done = w.rest ∙ rw nil (greedy_end done (drop place cs) k (rw nil at e)) in
     rw counts_are (λ n low. w.starts_are n (omega arith))
 
 pub walk_no_end : (atoms : List PlainAtom) (cs : List Field) (i place : ℕ) (starts done : List ℕ) → IsWalked atoms cs i place starts done → i ≡ length atoms
     → first_count (drop i atoms) (drop place cs) ≡ None → greedy atoms cs ≡ None
 walk_no_end atoms cs i place starts done w i_is e =
-    let nil = behind_all atoms i i_is in
+    let nil = dropped_all atoms i i_is in
     w.rest ∙ rw nil (greedy_no_end done (drop place cs) (rw nil at e))
 
 pub walk_start : (atoms : List PlainAtom) (cs : List Field) (starts : List ℕ) → slice_get starts 0 ≡ Some 0 → IsWalked atoms cs 0 0 starts []

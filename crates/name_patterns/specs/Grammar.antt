@@ -37,7 +37,7 @@ IsTestText text (NoneOf cs) = (inner : List ℕ) × (text ≡ codes "[^" ++ (inn
 abbrev pub IsCount : List ℕ → ℕ → Type 0
 IsCount text n = IsNumeral 10 text × (digits_value 10 text ≡ n) × (n ≤ 64)
 
--- between braces: n, or n, with a comma behind it, or a comma and m, or n, a comma and m
+-- between braces: n, or n, with a comma after it, or a comma and m, or n, a comma and m
 abbrev pub IsRange : List ℕ → ℕ → Option ℕ → Type 0
 IsRange text least None = (low : List ℕ) × (text ≡ low ++ codes ",") × IsCount low least
 IsRange text least (Some most) =

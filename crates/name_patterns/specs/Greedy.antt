@@ -57,6 +57,6 @@ IsRow atoms cs row = (place : ℕ) → place ≤ length cs → slice_get row pla
 abbrev pub IsTable : List PlainAtom → List Field → List (List (Option ℕ)) → Type 0
 IsTable atoms cs rows = (i : ℕ) → i ≤ length atoms → IsSomeAnd (slice_get rows i) (IsRow (drop i atoms) cs)
 
--- the places in front of each atom and behind the last, by the counts of the atoms
+-- the places in front of each atom and after the last, by the counts of the atoms
 abbrev pub AreStarts : List PlainAtom → List ℕ → List ℕ → Type 0
 AreStarts atoms counts starts = (i : ℕ) → i ≤ length atoms → slice_get starts i ≡ Some (sum (take i counts))

@@ -21,7 +21,7 @@ IsAtMost count None = ⊤
 IsAtMost count (Some most) = count ≤ most
 
 -- A split of components gives each atom in turn a count of them. The count is within the atom's bounds, so many components are
--- there and each passes the atom's test. The atoms behind it split the components behind those.
+-- there and each passes the atom's test. The atoms after it split the components after those.
 abbrev pub IsSplit : List PlainAtom → List Field → List ℕ → Type 0
 IsSplit [] cs counts = (cs ≡ []) × (counts ≡ [])
 IsSplit (atom ∷ atoms) cs [] = ⊥

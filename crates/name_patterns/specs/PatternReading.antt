@@ -27,24 +27,24 @@ has_special text = list_any is_special text
 abbrev pub text_in : List ℕ → Option Field
 text_in text = on_result (λ c. Some c) (λ _. None) (piece_in text)
 
--- a part of a pattern, whether a special sign stands in a text of it, and what stands behind it
-pub record Found (A : Type 0) : Type 0 where
+-- a part of a pattern, whether a special sign stands in a text of it, and what stands after it
+pub record FrontPart (A : Type 0) : Type 0 where
   pub part : A
   pub is_inner : Bool
   pub rest : List ℕ
 
--- a text between < and the first > behind it; it may be empty
+-- a text between < and the first > after it; it may be empty
 abbrev pub quoted_in : List ℕ → Option (List ℕ × List ℕ)
 quoted_in [] = None
 quoted_in (o ∷ text) = if o == 60 then cut_at 62 text else None
 
 -- no text, up to the bracket that closes a list
-abbrev pub list_end : List ℕ → Option (Found (List Field))
+abbrev pub list_end : List ℕ → Option (FrontPart (List Field))
 list_end [] = None
 list_end (o ∷ text) = if o == 93 then Some (record { part = []; is_inner = false; rest = text }) else None
 
 -- at most n texts between < and >, up to the bracket that closes a list
-unfoldable pub listed_within : ℕ → List ℕ → Option (Found (List Field))
+unfoldable pub listed_within : ℕ → List ℕ → Option (FrontPart (List Field))
 listed_within zero text = list_end text
 listed_within (suc n) text = option_map_or
     (λ quoted. do
@@ -54,18 +54,18 @@ listed_within (suc n) text = option_map_or
     (quoted_in text) (list_end text)
 
 -- one text or more, up to the bracket that closes the list
-abbrev pub list_in : (List Field → PlainTest) → List ℕ → Option (Found PlainTest)
+abbrev pub list_in : (List Field → PlainTest) → List ℕ → Option (FrontPart PlainTest)
 list_in test text = do
   listed ← listed_within (length text) text
   if length listed.part == 0 then None else Some (record { part = test listed.part; is_inner = listed.is_inner; rest = listed.rest })
 
--- a list, behind its first bracket
-abbrev pub bracketed_in : List ℕ → Option (Found PlainTest)
+-- a list, after its first bracket
+abbrev pub bracketed_in : List ℕ → Option (FrontPart PlainTest)
 bracketed_in [] = list_in OneOf []
 bracketed_in (o ∷ text) = if o == 94 then list_in NoneOf text else list_in OneOf (o ∷ text)
 
 -- a text between < and >, which may be empty
-abbrev pub quoted_test_in : List ℕ → Option (Found PlainTest)
+abbrev pub quoted_test_in : List ℕ → Option (FrontPart PlainTest)
 quoted_test_in text = do
   quoted ← quoted_in text
   if length quoted.0 == 0 then Some (record { part = Anything; is_inner = false; rest = quoted.1 }) else (do
@@ -73,7 +73,7 @@ quoted_test_in text = do
     Some (record { part = OneOf (c ∷ []); is_inner = has_special quoted.0; rest = quoted.1 }))
 
 -- a test at the front of the text
-unfoldable pub test_in : List ℕ → Option (Found PlainTest)
+unfoldable pub test_in : List ℕ → Option (FrontPart PlainTest)
 test_in [] = None
 test_in (o ∷ text) = if o == 91 then bracketed_in text else quoted_test_in (o ∷ text)
 
@@ -82,7 +82,7 @@ abbrev pub count_in : List ℕ → Option ℕ
 count_in text =
     if all_ascii_digits text && (nat_lt 0 (length text) && nat_le (digits_value 10 text) 64) then Some (digits_value 10 text) else None
 
--- the range of what stands before and behind a comma, not both of which are empty
+-- the range of what stands before and after a comma, not both of which are empty
 abbrev pub range_by_comma : List ℕ → List ℕ → Option Bounds
 range_by_comma low high =
     if length high == 0 then (do
@@ -108,7 +108,7 @@ abbrev pub begins_repeat : List ℕ → Bool
 begins_repeat [] = false
 begins_repeat (o ∷ text) = list_any (λ sign. sign == o) (codes "*+?{")
 
--- a repeat in braces, behind the first of them
+-- a repeat in braces, after the first of them
 abbrev pub braced_in : List ℕ → Option (Bounds × List ℕ)
 braced_in text = do
   parts ← cut_at 125 text
@@ -126,7 +126,7 @@ repeat_in (o ∷ text) =
     Some (once, o ∷ text))))
 
 -- an atom at the front of the text
-unfoldable pub atom_in : List ℕ → Option (Found PlainAtom)
+unfoldable pub atom_in : List ℕ → Option (FrontPart PlainAtom)
 atom_in text = do
   test ← test_in text
   bounds ← repeat_in test.rest
@@ -213,7 +213,7 @@ items_in len draft text = items_within (length text) len draft text
 abbrev pub begun : PlainDraft
 begun = record { atoms = []; written = 0; groups = []; open_group = None }
 
--- the pattern of a text of this length behind its first anchor
+-- the pattern of a text of this length after its first anchor
 abbrev pub pattern_after : ℕ → List ℕ → Result PlainPattern PatternFault
 pattern_after len [] = items_in len (with_implied begun) []
 pattern_after len (o ∷ text) = if o == 94 then items_in len begun text else items_in len (with_implied begun) (o ∷ text)

@@ -5,7 +5,7 @@ use Rattle.ndn_tlv.specs.Reading.{on_result}
 use Rattle.name_patterns.specs.declared.fault.PatternFault.{PatternFault}
 use Rattle.name_patterns.specs.declared.fault.PatternFault.TheVariants.{Syntax, Inner, BadGroup}
 use Rattle.name_patterns.specs.Template.{PlainPart, OfGroup, Single}
-use Rattle.name_patterns.specs.PatternReading.{◌>>=◌, Found, has_special, text_in, quoted_in}
+use Rattle.name_patterns.specs.PatternReading.{◌>>=◌, FrontPart, has_special, text_in, quoted_in}
 use Rattle.name_patterns.specs.Faults.{read_at}
 
 -- a decimal digit at the front
@@ -13,13 +13,13 @@ abbrev pub digit_in : List ℕ → Option (ℕ × List ℕ)
 digit_in [] = None
 digit_in (o ∷ text) = if nat_le 48 o && nat_le o 57 then Some (o - 48, text) else None
 
--- a group by its digit, behind a backslash at this place
+-- a group by its digit, after a backslash at this place
 abbrev pub group_in : ℕ → ℕ → List ℕ → Result (PlainPart × List ℕ) PatternFault
 group_in groups at text =
     on_result (λ digit. if nat_lt groups digit.0 then Err (BadGroup at) else Ok (OfGroup digit.0, digit.1)) Err (read_at at (digit_in text))
 
 -- the component of a text between < and >
-abbrev pub single_in : List ℕ → Option (Found Field)
+abbrev pub single_in : List ℕ → Option (FrontPart Field)
 single_in text = do
   quoted ← quoted_in text
   c ← text_in quoted.0

@@ -10,7 +10,7 @@ use crate::component_test::Test;
 use crate::fault::PatternFault;
 use crate::repeat::{Repeat, first_repeat};
 use crate::test_reader::read_test;
-use crate::text::Found;
+use crate::text::FrontPart;
 use std::alloc::Global;
 
 /// A number of components that pass a test.
@@ -34,13 +34,13 @@ pub fn any_components() -> Atom
 }
 
 /// The atom at the front of the text, which stands at a place.
-pub fn read_atom(alloc: Global, at: usize, text: &str) -> Result<Found<'_, Atom>, PatternFault>
+pub fn read_atom(alloc: Global, at: usize, text: &str) -> Result<FrontPart<'_, Atom>, PatternFault>
     ensures read { let atom = read.atom_in text.now in
         MatchResult result (λ found. atom ≡ Some (record { part = atom_of found.part; is_inner = found.is_inner; rest = found.rest.now }))
         (IsFaultOf (read_at at atom)) }
     ensures shorter { IfOk result (λ found. length found.rest.now < length text.now) }
 {
-    let Found {
+    let FrontPart {
         part: test,
         is_inner,
         rest,
@@ -48,7 +48,7 @@ pub fn read_atom(alloc: Global, at: usize, text: &str) -> Result<Found<'_, Atom>
     let Some((repeat, rest)) = first_repeat(rest) else {
         return Err(PatternFault::Syntax(at));
     };
-    Ok(Found {
+    Ok(FrontPart {
         part: Atom { test, repeat },
         is_inner,
         rest,

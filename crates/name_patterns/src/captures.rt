@@ -44,7 +44,7 @@ impl Captures {
         self.count += 1;
     }
 
-    /// The place of the first component of a group, and the place behind its last, counted from 0.
+    /// The place of the first component of a group, and the place after its last, counted from 0.
     /// Group 0 is the whole name, the others are counted from 1 on.
     pub fn group(&self, i: usize) -> Option<(usize, usize)>
         ensures { result ≡ slice_get self.now i }

@@ -56,7 +56,7 @@ impl Draft {
         Ok(())
     }
 
-    /// Adds the atom at the front of the text, which stands at a place; gives the text behind it.
+    /// Adds the atom at the front of the text, which stands at a place; gives the text after it.
     fn add_atom<'a>(
         &mut self,
         alloc: Global,
@@ -117,7 +117,7 @@ impl Draft {
         Ok(())
     }
 
-    /// Adds the item at the front of the text, which stands at a place; gives the text behind it.
+    /// Adds the item at the front of the text, which stands at a place; gives the text after it.
     pub fn add_item<'a>(
         &mut self,
         alloc: Global,

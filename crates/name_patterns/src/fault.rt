@@ -5,7 +5,7 @@ use std::alloc::AllocFailed;
 use thiserror::Error;
 
 /// Why a text is no pattern, or no template: its leftmost faulty item, by the place of the item's
-/// first octet, counted from 0. Of several faults of one item the first in this order is told, but
+/// first octet, counted from 0. Of several faults of one item the first in this order is reported, but
 /// `Memory` may come in place of any.
 #[derive(Clone, Copy, Debug, PartialEq, Eq, Error)]
 pub enum PatternFault {

@@ -29,7 +29,7 @@ fn is_closed(text: &[u8]) -> bool
     false
 }
 
-/// The fault to tell of one in front of this text: a group that is never closed is the item before
+/// The fault to report of one in front of this text: a group that is never closed is the item before
 /// it.
 fn first_fault(open_group: Option<OpenGroup>, text: &str, fault: PatternFault) -> PatternFault
     ensures { result ≡ read.first_fault open_group text.now fault }

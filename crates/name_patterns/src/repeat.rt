@@ -27,7 +27,7 @@ fn count_of(text: &str) -> Option<u8>
     }
 }
 
-/// The range of what stands before and behind a comma, where one of them may be empty.
+/// The range of what stands before and after a comma, where one of them may be empty.
 fn range_by_comma(low: &str, high: &str) -> Option<Repeat>
     ensures { option_map bounds_of result ≡ read.range_by_comma low.now high.now }
 {
@@ -72,7 +72,7 @@ pub fn begins_repeat(text: &str) -> bool
     }
 }
 
-/// The repeat in braces behind the first of them, and the text behind it.
+/// The repeat in braces after the first of them, and the text after it.
 fn braced_repeat(text: &str) -> Option<(Repeat, &str)>
     ensures read { option_map (λ found. (bounds_of found.0, found.1.now)) result ≡ read.braced_in text.now }
     ensures shorter { IfSome result (λ found. length found.1.now ≤ length text.now) }
@@ -81,7 +81,7 @@ fn braced_repeat(text: &str) -> Option<(Repeat, &str)>
     Some((range_of(range)?, rest))
 }
 
-/// The repeat at the front, which is one component where none stands there, and the text behind it.
+/// The repeat at the front, which is one component where none stands there, and the text after it.
 /// Braces that hold no range are no repeat, and nothing else.
 pub fn first_repeat(text: &str) -> Option<(Repeat, &str)>
     ensures read { option_map (λ found. (bounds_of found.0, found.1.now)) result ≡ read.repeat_in text.now }

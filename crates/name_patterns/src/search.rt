@@ -15,10 +15,10 @@ use ndn_names::{MAX_COMPONENTS, Name};
 /// 32 atoms that are written at most, one implied in place of each anchor, and the end.
 const MAX_STARTS: usize = 35;
 
-/// The places of a name, the one behind its last component among them.
+/// The places of a name, the one after its last component among them.
 const MAX_PLACES: usize = 65;
 
-/// The places in front of each atom, and behind the last.
+/// The places in front of each atom, and after the last.
 pub type Starts = [usize; MAX_STARTS];
 
 /// For each place of a name, how many of the components from there on the first of some atoms takes
@@ -45,7 +45,7 @@ fn passed(test: &Test, name: Name<'_>, steps: &mut u64) -> [bool; MAX_COMPONENTS
 
 #[tactic(auto, using(crate::proofs::Counts::down_passes))]
 /// The greatest count that an atom can take of a run of components that pass, from a place on: the
-/// atoms behind it have a count where it then ends.
+/// atoms after it have a count where it then ends.
 fn greatest(repeat: Repeat, run: u8, after: &Row, place: usize) -> Option<u8>
     requires { run + place ≤ 64 }
     ensures { result ≡ greatest (has_count (drop place after.now)) repeat.least (at_most repeat.most run) }
@@ -91,7 +91,7 @@ fn run_from(passes: bool, run: u8) -> u8
     if passes { run + 1 } else { 0 }
 }
 
-/// The row of an atom, by which components pass its test, and the row of the atoms behind it.
+/// The row of an atom, by which components pass its test, and the row of the atoms after it.
 fn row_before(repeat: Repeat, passed: &[bool], after: &Row) -> Row
     requires { length passed.now ≤ 64 }
     ensures { (atom : PlainAtom) → (atoms : List PlainAtom) → (cs : List Field) → bounds_of repeat ≡ atom.bounds
@@ -107,7 +107,7 @@ fn row_before(repeat: Repeat, passed: &[bool], after: &Row) -> Row
     row
 }
 
-/// The row of an atom for the components of a name, and the row of the atoms behind it.
+/// The row of an atom for the components of a name, and the row of the atoms after it.
 fn row_of(atom: &Atom, name: Name<'_>, after: &Row, steps: &mut u64) -> Row
     requires { steps.old + 64 < 2 ^ 64 }
     ensures exact { (atoms : List PlainAtom) → IsRow atoms (components name.entry) after.now
@@ -141,7 +141,7 @@ fn table_of(atoms: &[Atom], name: Name<'_>, steps: &mut u64) -> Table
     table
 }
 
-/// The places in front of each atom, and behind the last, in the first split of a name, in which
+/// The places in front of each atom, and after the last, in the first split of a name, in which
 /// each atom in turn prefers more components. It tests each atom against each component once.
 pub fn first_split(atoms: &[Atom], name: Name<'_>, steps: &mut u64) -> Option<Starts>
     requires few { length atoms.now ≤ 34 }

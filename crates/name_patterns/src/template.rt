@@ -67,7 +67,7 @@ impl Template {
 
     /// The name that the template stands for, where the groups hold these places of a name.
     ///
-    /// Refuses it as `TooManyComponents`, which is told before memory is asked for, or as `Memory`.
+    /// Refuses it as `TooManyComponents`, which is reported before memory is asked for, or as `Memory`.
     pub fn expand(
         &self,
         alloc: Global,

@@ -11,7 +11,7 @@ use crate::template::{Part, Template};
 use crate::text::{first_quoted, has_special, read_text};
 use std::alloc::Global;
 
-/// The decimal digit at the front, and the text behind it.
+/// The decimal digit at the front, and the text after it.
 fn first_digit(text: &str) -> Option<(u8, &str)>
     ensures read { option_map (λ digit. (digit.0, digit.1.now)) result ≡ read.digit_in text.now }
     ensures shorter { IfSome result (λ digit. length digit.1.now < length text.now) }
@@ -23,7 +23,7 @@ fn first_digit(text: &str) -> Option<(u8, &str)>
     Some((digit - b'0', text.strip_prefix(digit as char)?))
 }
 
-/// The group of the digit at the front, behind a backslash at a place, and the text behind it.
+/// The group of the digit at the front, after a backslash at a place, and the text after it.
 fn read_group(at: usize, text: &str, groups: u8) -> Result<(Part, &str), PatternFault>
     ensures read { let group = read.group_in groups at text.now in
         MatchResult result (λ found. group ≡ Ok (part_of found.0, found.1.now)) (λ fault. group ≡ Err fault) }
@@ -39,7 +39,7 @@ fn read_group(at: usize, text: &str, groups: u8) -> Result<(Part, &str), Pattern
 }
 
 /// The component of the text between `<` and `>` at the front, which stands at a place, and the text
-/// behind it.
+/// after it.
 fn read_single(alloc: Global, at: usize, text: &str) -> Result<(Part, &str), PatternFault>
     ensures read { let single = read.single_part_in at text.now in
         MatchResult result (λ found. single ≡ Ok (part_of found.0, found.1.now)) (IsFaultOf single) }
@@ -55,7 +55,7 @@ fn read_single(alloc: Global, at: usize, text: &str) -> Result<(Part, &str), Pat
     Ok((Part::Single(single), rest))
 }
 
-/// The part at the front of the text, which stands at a place, and the text behind it.
+/// The part at the front of the text, which stands at a place, and the text after it.
 fn read_part(alloc: Global, at: usize, text: &str, groups: u8) -> Result<(Part, &str), PatternFault>
     ensures read { let part = read.part_in groups at text.now in
         MatchResult result (λ found. part ≡ Ok (part_of found.0, found.1.now)) (IsFaultOf part) }

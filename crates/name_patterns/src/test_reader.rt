@@ -7,11 +7,11 @@ ghost use Rattle.name_patterns.specs.Shown.{field_of, test_of};
 
 use crate::component_test::Test;
 use crate::fault::PatternFault;
-use crate::text::{Found, Text, first_quoted, has_special, read_text};
+use crate::text::{FrontPart, Text, first_quoted, has_special, read_text};
 use std::alloc::Global;
 
 /// The texts up to the bracket that closes a list.
-fn read_texts(alloc: Global, at: usize, text: &str) -> Result<Found<'_, Vec<Text>>, PatternFault>
+fn read_texts(alloc: Global, at: usize, text: &str) -> Result<FrontPart<'_, Vec<Text>>, PatternFault>
     ensures read { let listed = read.listed_within (length text.now) text.now in
         MatchResult result (λ found. listed ≡ Some (record { part = map field_of found.part.items; is_inner = found.is_inner; rest = found.rest.now }))
         (IsFaultOf (read_at at listed)) }
@@ -26,7 +26,7 @@ fn read_texts(alloc: Global, at: usize, text: &str) -> Result<Found<'_, Vec<Text
         rest = after;
     }
     match rest.strip_prefix(']') {
-        Some(rest) => Ok(Found {
+        Some(rest) => Ok(FrontPart {
             part: texts,
             is_inner,
             rest,
@@ -35,8 +35,8 @@ fn read_texts(alloc: Global, at: usize, text: &str) -> Result<Found<'_, Vec<Text
     }
 }
 
-/// The test of a list, behind its first bracket.
-fn read_list(alloc: Global, at: usize, text: &str) -> Result<Found<'_, Test>, PatternFault>
+/// The test of a list, after its first bracket.
+fn read_list(alloc: Global, at: usize, text: &str) -> Result<FrontPart<'_, Test>, PatternFault>
     ensures read { let listed = read.bracketed_in text.now in
         MatchResult result (λ found. listed ≡ Some (record { part = test_of found.part; is_inner = found.is_inner; rest = found.rest.now }))
         (IsFaultOf (read_at at listed)) }
@@ -50,7 +50,7 @@ fn read_list(alloc: Global, at: usize, text: &str) -> Result<Found<'_, Test>, Pa
     if found.part.is_empty() {
         return Err(PatternFault::Syntax(at));
     }
-    let Found {
+    let FrontPart {
         part,
         is_inner,
         rest,
@@ -60,7 +60,7 @@ fn read_list(alloc: Global, at: usize, text: &str) -> Result<Found<'_, Test>, Pa
     } else {
         Test::one_of(part)
     };
-    Ok(Found {
+    Ok(FrontPart {
         part: test,
         is_inner,
         rest,
@@ -68,7 +68,7 @@ fn read_list(alloc: Global, at: usize, text: &str) -> Result<Found<'_, Test>, Pa
 }
 
 /// The test of a text between `<` and `>`, which may be empty.
-fn read_quoted(alloc: Global, at: usize, text: &str) -> Result<Found<'_, Test>, PatternFault>
+fn read_quoted(alloc: Global, at: usize, text: &str) -> Result<FrontPart<'_, Test>, PatternFault>
     ensures read { let quoted = read.quoted_test_in text.now in
         MatchResult result (λ found. quoted ≡ Some (record { part = test_of found.part; is_inner = found.is_inner; rest = found.rest.now }))
         (IsFaultOf (read_at at quoted)) }
@@ -78,7 +78,7 @@ fn read_quoted(alloc: Global, at: usize, text: &str) -> Result<Found<'_, Test>, 
         return Err(PatternFault::Syntax(at));
     };
     if inner.is_empty() {
-        return Ok(Found {
+        return Ok(FrontPart {
             part: Test::anything(),
             is_inner: false,
             rest,
@@ -86,7 +86,7 @@ fn read_quoted(alloc: Global, at: usize, text: &str) -> Result<Found<'_, Test>, 
     }
     let mut texts = Vec::new(alloc);
     texts.push(read_text(alloc, at, inner)?)?;
-    Ok(Found {
+    Ok(FrontPart {
         part: Test::one_of(texts),
         is_inner: has_special(inner),
         rest,
@@ -94,7 +94,7 @@ fn read_quoted(alloc: Global, at: usize, text: &str) -> Result<Found<'_, Test>, 
 }
 
 /// The test at the front of the text, in the item at a place.
-pub fn read_test(alloc: Global, at: usize, text: &str) -> Result<Found<'_, Test>, PatternFault>
+pub fn read_test(alloc: Global, at: usize, text: &str) -> Result<FrontPart<'_, Test>, PatternFault>
     ensures read { let test = read.test_in text.now in
         MatchResult result (λ found. test ≡ Some (record { part = test_of found.part; is_inner = found.is_inner; rest = found.rest.now }))
         (IsFaultOf (read_at at test)) }

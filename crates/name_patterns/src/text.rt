@@ -31,9 +31,9 @@ impl Text {
     }
 }
 
-/// What is read of a pattern, whether a special sign stands in a text of it, and the text behind it.
+/// What is read of a pattern, whether a special sign stands in a text of it, and the text after it.
 #[derive(Debug, Drop)]
-pub struct Found<'a, T> {
+pub struct FrontPart<'a, T> {
     pub part: T,
     pub is_inner: bool,
     pub rest: &'a str,
@@ -53,7 +53,7 @@ pub fn has_special(text: &str) -> bool
     text.as_bytes().iter().any(|octet| is_special(*octet))
 }
 
-/// The text between `<` at the front and the first `>`, and the text behind that.
+/// The text between `<` at the front and the first `>`, and the text after that.
 pub fn first_quoted(text: &str) -> Option<(&str, &str)>
     ensures read { option_map (λ parts. (parts.0.now, parts.1.now)) result ≡ read.quoted_in text.now }
     ensures shorter { IfSome result (λ parts. length parts.1.now < length text.now) }

@@ -4,11 +4,11 @@ use Rattle.info_rules.specs.Keys.{named}
 use Rattle.info_rules.specs.RuleBlock.{rule_in}
 use Rattle.info_rules.specs.RuleBlock.{all_of}
 use Rattle.info_rules.specs.Shown.{keys_of, rule_of}
-use Rattle.info_rules.proofs.AllOf.{behind}
+use Rattle.info_rules.proofs.AllOf.{following}
 use Rattle.info_rules.proofs.rule_file.read_rules.Given as goal
 
 abbrev pub decreases-loop-key : goal.decreases-loop-key
 decreases-loop-key l = length l.left.entries.now
 
 abbrev pub invariant-loop-key : goal.invariant-loop-key
-invariant-loop-key l = behind (map rule_of l.read.items) (all_of rule_in (named (codes "rule") (keys_of l.left))) ≡ all_of rule_in (named (codes "rule") (keys_of l.keys))
+invariant-loop-key l = following (map rule_of l.read.items) (all_of rule_in (named (codes "rule") (keys_of l.left))) ≡ all_of rule_in (named (codes "rule") (keys_of l.keys))

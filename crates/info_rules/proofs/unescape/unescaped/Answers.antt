@@ -7,10 +7,10 @@ use Rattle.info_rules.proofs.unescape.unescaped.Goals as goal
 
 pub loop-before-preserved : goal.loop-before-preserved
 loop-before-preserved c =
-    let parts = split_parts 92 c.loop-before.rest.now (Some (c.in-Some.before, c.in-Some.behind)) c.in-Some.ensures.cases (omega arith) in
+    let parts = split_parts 92 c.loop-before.rest.now (Some (c.in-Some.before, c.in-Some.following)) c.in-Some.ensures.cases (omega arith) in
     let sign = c.first_sign.result.0.now in
     let after = c.first_sign.result.1.now in (
-      further c.args.word.now (string_bytes c.loop-before.text) c.in-Some.before.now c.in-Some.behind.now sign after c.loop-before.rest.now c.loop-before.invariant.0 parts.0
+      further c.args.word.now (string_bytes c.loop-before.text) c.in-Some.before.now c.in-Some.following.now sign after c.loop-before.rest.now c.loop-before.invariant.0 parts.0
           (lacks_from_places 92 c.in-Some.before.now parts.1) c.first_sign.ensures.read
           ∙ ap (λ (t : List ℕ). t ++ unescaped after) (sym (c.in_ok-push_str-2.ensures.bytes ∙ ap (λ (t : List ℕ). t ++ sign) c.in_ok-push_str.ensures.bytes)),
       search rules,

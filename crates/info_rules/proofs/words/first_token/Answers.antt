@@ -1,8 +1,8 @@
 use Rattle.std.proofs.Common.{◌≡◌, ℕ, List, ◌∷◌, get_or, true, sym, ap, ◌∙◌, arith}
 use Rattle.std.proofs.lemmas.Bool.{eqb-true}
-use Rattle.info_rules.specs.Words.{parts_words, line_after, tokens_from, Between}
+use Rattle.info_rules.specs.Words.{is_separator, line_after, tokens_from, Between}
 use Rattle.info_rules.specs.Shown.{token_of}
-use Rattle.info_rules.proofs.Scanning.{quote_begins, comment_begins, gap_begins, nothing_begins, parts_small, next_line, shorter_by_one}
+use Rattle.info_rules.proofs.Scanning.{quote_begins, comment_begins, gap_begins, nothing_begins, separator_is_small, next_line, shorter_by_one}
 use Rattle.info_rules.proofs.words.first_token.Goals as goal
 use Rattle.info_rules.proofs.words.first_token.Goals.{After-as_bytes}
 
@@ -31,7 +31,7 @@ loop-rest-preserved-then-octet-eq59 c =
 pub past_first-rest-requires-clause-ascii : goal.past_first-rest-requires-clause-ascii
 past_first-rest-requires-clause-ascii c =
     let is = first_is (goal.at.past_first-rest-requires-clause-ascii c).After-as_bytes in
-    let small = parts_small (get_or c.as_bytes.result.now 0 0) (sym c.parts_words.ensures ∙ c.if-not-parts_words.false) in
+    let small = separator_is_small (get_or c.as_bytes.result.now 0 0) (sym c.is_separator.ensures ∙ c.if-not-is_separator.false) in
     omega (arith, is, small)
 
 pub loop-rest-preserved : goal.loop-rest-preserved
@@ -39,7 +39,7 @@ loop-rest-preserved c =
     let is = first_is (goal.at.loop-rest-preserved c).After-as_bytes in
     let one = shorter_by_one c.loop-rest.rest.now c.past_first-rest.result.now c.past_first-rest.ensures in
     let few = next_line c.loop-rest.line (get_or c.as_bytes.result.now 0 0) in
-    let gap : parts_words (get_or c.loop-rest.rest.now 0 0) ≡ true = ap parts_words (sym is) ∙ sym c.parts_words.ensures ∙ c.if-not-parts_words.false in
+    let gap : is_separator (get_or c.loop-rest.rest.now 0 0) ≡ true = ap is_separator (sym is) ∙ sym c.is_separator.ensures ∙ c.if-not-is_separator.false in
     record {
       read = c.loop-rest.invariant.read
           ∙ gap_begins c.loop-rest.rest.now c.past_first-rest.result.now c.loop-rest.line c.past_first-rest.ensures gap (λ e. c.if-octet-eq34.false (is ∙ e)) (λ e. c.if-octet-eq59.false (is ∙ e))
