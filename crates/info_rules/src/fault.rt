@@ -11,7 +11,7 @@ use thiserror::Error;
 pub enum RulesFaultKind {
     /// A word or a brace that may not stand where it stands, a quote that no other closes on its
     /// line, or a block that is never closed.
-    #[error("Syntax: this does not fit here")]
+    #[error("Syntax: unexpected word or brace, or a quote or block that is not closed")]
     Syntax,
     /// A block inside eight others.
     #[error("TooDeep: blocks nest more than 8 deep")]
@@ -21,23 +21,23 @@ pub enum RulesFaultKind {
     #[error("TooLarge: more than 65536 octets, 256 rules, or 16 filters or checkers in a rule")]
     TooLarge,
     /// A key that means nothing in its block.
-    #[error("UnknownKey: this key means nothing here")]
+    #[error("UnknownKey: this key is not known in this block")]
     UnknownKey,
     /// A block lacks a key that it needs.
     #[error("Missing: this block lacks a key that it needs")]
     Missing,
     /// A key lacks the value or the block that it needs, has one that it does not take or a value
     /// that it cannot have, or begins a second form where one is allowed.
-    #[error("BadValue: this key has a wrong value or block, or lacks one, or does not go with the others")]
+    #[error("BadValue: wrong or missing value or block, or a key that cannot stand with the others")]
     BadValue,
     /// A key stands twice in a block where one is allowed, or two rules have one id.
-    #[error("TwiceNamed: this key or id is there already")]
+    #[error("TwiceNamed: this key or id was given before")]
     TwiceNamed,
     /// A pattern or a template that cannot be read.
-    #[error("Pattern: this is no pattern, or no template for its pattern")]
+    #[error("Pattern: not a valid pattern, or not a valid template for its pattern")]
     Pattern,
     /// A trust anchor that would accept any packet.
-    #[error("AnyAnchor: a trust anchor of type any allows without a rule")]
+    #[error("AnyAnchor: a trust anchor of type any would allow packets without a rule")]
     AnyAnchor,
     /// A growth of memory was refused.
     #[error("Memory: out of memory")]
@@ -53,8 +53,9 @@ pub struct RulesFault {
     pub kind: RulesFaultKind,
 }
 
-/// A refusal of memory, which has no place in the text. Where a block is read, it is reported too beside what
-/// is not there; but files are read once nothing is wrong with them, and then nothing is missing.
+/// A refusal of memory, which has no place in the text. Where a block is read, it is reported too
+/// beside what is not there; but files are read once nothing is wrong with them, and then nothing
+/// is missing.
 pub const MEMORY: RulesFault = RulesFault {
     line: 0,
     kind: RulesFaultKind::Memory,

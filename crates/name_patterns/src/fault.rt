@@ -5,22 +5,22 @@ use std::alloc::AllocFailed;
 use thiserror::Error;
 
 /// Why a text is no pattern, or no template: its leftmost faulty item, by the place of the item's
-/// first octet, counted from 0. Of several faults of one item the first in this order is reported, but
-/// `Memory` may come in place of any.
+/// first octet, counted from 0. Of several faults of one item the first in this order is reported,
+/// but `Memory` may come in place of any.
 #[derive(Clone, Copy, Debug, PartialEq, Eq, Error)]
 pub enum PatternFault {
     /// What stands here is not in the grammar, or is the 33rd atom.
-    #[error("octet {0} begins no part of a pattern")]
+    #[error("octet {0}: not part of a pattern")]
     Syntax(usize),
     /// A component's text has one of the signs ( ) [ ] { } * + ? ^ $ \ |, which are for patterns
     /// inside a component.
-    #[error("octet {0} begins a pattern inside a component")]
+    #[error("octet {0}: a pattern inside a component")]
     Inner(usize),
     /// A group in a group, or a group that is repeated.
-    #[error("octet {0} nests or repeats a group")]
+    #[error("octet {0}: a group that is nested or repeated")]
     Nested(usize),
     /// A pattern's tenth group, or a group in a template that the pattern does not have.
-    #[error("octet {0} begins a group too many")]
+    #[error("octet {0}: a group that does not exist, or one too many")]
     BadGroup(usize),
     /// A growth of memory was refused.
     #[error("out of memory")]

@@ -357,28 +357,28 @@ fn messages(rt: HostRuntime) {
         is_reported_as(
             alloc,
             PatternFault::Syntax(3),
-            "octet 3 begins no part of a pattern"
+            "octet 3: not part of a pattern"
         )
     );
     assert!(rt;
         is_reported_as(
             alloc,
             PatternFault::Inner(3),
-            "octet 3 begins a pattern inside a component"
+            "octet 3: a pattern inside a component"
         )
     );
     assert!(rt;
         is_reported_as(
             alloc,
             PatternFault::Nested(3),
-            "octet 3 nests or repeats a group"
+            "octet 3: a group that is nested or repeated"
         )
     );
     assert!(rt;
         is_reported_as(
             alloc,
             PatternFault::BadGroup(3),
-            "octet 3 begins a group too many"
+            "octet 3: a group that does not exist, or one too many"
         )
     );
     assert!(rt; is_reported_as(alloc, PatternFault::Memory, "out of memory"));

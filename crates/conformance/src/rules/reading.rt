@@ -319,7 +319,7 @@ fn rule_file_faults(rt: HostRuntime) {
         is_reported_as(
             rt.alloc(),
             SAME_ID,
-            "line 8: TwiceNamed: this key or id is there already"
+            "line 8: TwiceNamed: this key or id was given before"
         )
     );
 }
