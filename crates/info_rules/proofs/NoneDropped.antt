@@ -317,8 +317,8 @@ hyper_beside key form is e =
     by_form forms.Matching e = absurd cc
     by_form forms.Hyper e = refl
 
-there_behind : (word : List ℕ) (key : Block) (keys : List Block) → is_word word key ≡ false → IsThere word (key ∷ keys) → IsThere word keys
-there_behind word key keys e there = sym (ap (λ (l : List Block). is_some (first_of l)) (if_false (is_word word key) (key ∷ named word keys) (named word keys) e)) ∙ there
+there_after : (word : List ℕ) (key : Block) (keys : List Block) → is_word word key ≡ false → IsThere word (key ∷ keys) → IsThere word keys
+there_after word key keys e there = sym (ap (λ (l : List Block). is_some (first_of l)) (if_false (is_word word key) (key ∷ named word keys) (named word keys) e)) ∙ there
 
 -- where a hyper-relation is there, and no key of another form than this one, it is this one
 only_hyper : (keys : List Block) (form : Form) → IsThere (codes "hyper-relation") keys → first_other KeyName (Some form) keys ≡ None → form ≡ forms.Hyper
@@ -331,7 +331,7 @@ only_hyper (key ∷ keys) form there e =
         → (o : Option (Form × ℕ)) → other_form_of KeyName (Some form) key ≡ o → (t : Bool) → is_word (codes "hyper-relation") key ≡ t → form ≡ forms.Hyper
     by_key further None is true word = hyper_beside key form word is
     by_key further None is false word =
-        further (there_behind (codes "hyper-relation") key keys word there) (sym (ap first_of (passed_none (other_form_of KeyName (Some form)) key keys is)) ∙ e)
+        further (there_after (codes "hyper-relation") key keys word there) (sym (ap first_of (passed_none (other_form_of KeyName (Some form)) key keys is)) ∙ e)
     by_key further (Some y) is t word =
         let no : Some y ≡ None = sym (ap first_of (passed_some (other_form_of KeyName (Some form)) key keys y is)) ∙ e in absurd cc
 

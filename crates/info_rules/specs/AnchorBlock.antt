@@ -12,7 +12,8 @@ unfoldable pub anchor_key_faults : Block → List RulesFault
 anchor_key_faults key = if is_word (codes "type") key then value_faults AnchorType key else []
 
 unfoldable pub anchor_block_faults : ℕ → List Block → List RulesFault
-anchor_block_faults line keys = flat_map anchor_key_faults keys ++ once_faults line (codes "type") keys
+anchor_block_faults line keys =
+    flat_map anchor_key_faults keys ++ once_faults line (codes "type") keys
 
 -- what is wrong with a `trust-anchor`
 unfoldable pub anchor_faults : Block → List RulesFault

@@ -26,7 +26,8 @@ checker_type_of keys = first_value (codes "type") keys >>= checker_type_in
 -- the word for the type of signatures, where it is right: HMAC with SHA-256, where no key gives it
 unfoldable pub signature_type_of : List Block → Option SignatureType
 signature_type_of keys =
-    on_option (λ key. first_value (codes "sig-type") keys >>= signature_type_in) (Some HmacSha256) (first_of (named (codes "sig-type") keys))
+    on_option (λ key. first_value (codes "sig-type") keys >>= signature_type_in) (Some HmacSha256)
+    (first_of (named (codes "sig-type") keys))
 
 abbrev pub is_hierarchical : Option CheckerType → Bool
 is_hierarchical None = false
@@ -50,17 +51,20 @@ checker_key_faults hierarchical key =
     if not hierarchical && is_word (codes "key-locator") key then locator_faults key else
     fault_at UnknownKey key ∷ []))
 
--- how often the key locator is there; a hierarchical checker has none, whose keys are faults by themselves
+-- how often the key locator is there; a hierarchical checker has none, whose keys are faults by
+-- themselves
 unfoldable pub locator_count_faults : ℕ → List Block → List RulesFault
 locator_count_faults line keys =
     if is_hierarchical (checker_type_of keys) then [] else
     twice_faults (codes "key-locator") keys
-    ++ (if needs_locator (checker_type_of keys) (signature_type_of keys) then missing_faults line (codes "key-locator") keys else [])
+    ++ (if needs_locator (checker_type_of keys) (signature_type_of keys)
+    then missing_faults line (codes "key-locator") keys else [])
 
 unfoldable pub checker_block_faults : ℕ → List Block → List RulesFault
 checker_block_faults line keys =
     flat_map (checker_key_faults (is_hierarchical (checker_type_of keys))) keys
-    ++ once_faults line (codes "type") keys ++ twice_faults (codes "sig-type") keys ++ locator_count_faults line keys
+    ++ once_faults line (codes "type") keys ++ twice_faults
+    (codes "sig-type") keys ++ locator_count_faults line keys
 
 -- what is wrong with a `checker`
 unfoldable pub checker_faults : Block → List RulesFault
@@ -75,7 +79,8 @@ locator_by_type keys Customized = first_of (named (codes "key-locator") keys) >>
 abbrev pub checker_by_type : List Block → SignatureType → Option Checker
 checker_by_type keys Sha256 = Some checkers.Sha256
 checker_by_type keys Asymmetric = Some checkers.Unsupported
-checker_by_type keys HmacSha256 = option_map checkers.HmacSha256 (checker_type_of keys >>= locator_by_type keys)
+checker_by_type keys HmacSha256 =
+    option_map checkers.HmacSha256 (checker_type_of keys >>= locator_by_type keys)
 
 abbrev pub checker_of_keys : List Block → Option Checker
 checker_of_keys keys = signature_type_of keys >>= checker_by_type keys

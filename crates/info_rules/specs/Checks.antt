@@ -1,4 +1,5 @@
--- What checkers say of a signed packet: the first of their reasons against it, or nothing where it passes.
+-- What checkers say of a signed packet: the first of their reasons against it, or nothing where it
+-- passes.
 use Rattle.std.specs.Prelude.{◌≡◌, ◌⊎◌, ℕ, List, Option, None, Some}
 use Rattle.sha2.specs.Sha256.{sha256}
 use Rattle.ndn_tlv.specs.Element.{Field}
@@ -28,17 +29,22 @@ ChecksKey keys name signed given =
     ⊎ ((key : List ℕ) × IsAmong (name, key) keys × ChecksTag (Mac key signed.covered) signed given)
 
 -- the KeyLocator is the name of a key that is asked for
-abbrev pub ChecksLocator : List NamedKey → LocatorTest → PlainLocator → PlainSigned → Option Reason → Type 0
+abbrev pub ChecksLocator : List NamedKey → LocatorTest → PlainLocator → PlainSigned → Option Reason
+    → Type 0
 ChecksLocator keys test (KeyName name) signed given =
-    Unless (PassesLocator test name signed.name) reasons.KeyLocator given (ChecksKey keys name signed given)
+    Unless (PassesLocator test name signed.name) reasons.KeyLocator given
+    (ChecksKey keys name signed given)
 ChecksLocator keys test Missing signed given = given ≡ Some reasons.KeyLocator
 ChecksLocator keys test Digest signed given = given ≡ Some reasons.KeyLocator
 ChecksLocator keys test Other signed given = given ≡ Some reasons.KeyLocator
 
--- Signatures of type 0 are DigestSha256, those of type 4 HmacWithSha256 (NDN Packet Format 0.3, "Signature").
+-- Signatures of type 0 are DigestSha256, those of type 4 HmacWithSha256 (NDN Packet Format 0.3,
+-- "Signature").
 abbrev pub Checks : List NamedKey → Checker → PlainSigned → Option Reason → Type 0
 Checks keys checkers.Sha256 signed given =
-    Unless (signed.signature.info.kind ≡ 0) reasons.SigType given (ChecksTag (sha256 signed.covered) signed given)
+    Unless (signed.signature.info.kind ≡ 0) reasons.SigType given
+    (ChecksTag (sha256 signed.covered) signed given)
 Checks keys (checkers.HmacSha256 test) signed given =
-    Unless (signed.signature.info.kind ≡ 4) reasons.SigType given (ChecksLocator keys test signed.signature.info.locator signed given)
+    Unless (signed.signature.info.kind ≡ 4) reasons.SigType given
+    (ChecksLocator keys test signed.signature.info.locator signed given)
 Checks keys checkers.Unsupported signed given = given ≡ Some reasons.SigType

@@ -30,7 +30,8 @@ reason_number reasons.Replay = 7
 abbrev pub IsGreater : Option Reason → Reason → Reason → Type 0
 IsGreater None reason greatest = greatest ≡ reason
 IsGreater (Some earlier) reason greatest =
-    ((greatest ≡ earlier) × (reason_number reason ≤ reason_number earlier)) ⊎ ((greatest ≡ reason) × (reason_number earlier ≤ reason_number reason))
+    ((greatest ≡ earlier) × (reason_number reason ≤ reason_number earlier))
+    ⊎ ((greatest ≡ reason) × (reason_number earlier ≤ reason_number reason))
 
 -- a checker passes the packet
 abbrev pub IsPassed : List NamedKey → List Checker → PlainSigned → Type 0
@@ -38,13 +39,17 @@ IsPassed keys all signed = Any (λ checker. Checks keys checker signed None) all
 
 -- a checker's reason against the packet, which is no greater than this one
 abbrev pub IsAtMost : List NamedKey → PlainSigned → Reason → Checker → Type 0
-IsAtMost keys signed reason checker = (given : Reason) × Checks keys checker signed (Some given) × (reason_number given ≤ reason_number reason)
+IsAtMost keys signed reason checker =
+    (given : Reason) × Checks keys checker signed (Some given)
+    × (reason_number given ≤ reason_number reason)
 
--- The greatest reason that a checker has against the packet, which none passes. Where there is no checker, no key is the right one.
+-- The greatest reason that a checker has against the packet, which none passes. Where there is no
+-- checker, no key is the right one.
 abbrev pub IsGreatest : List NamedKey → List Checker → PlainSigned → Reason → Type 0
 IsGreatest keys all signed reason =
     ((all ≡ []) × (reason ≡ reasons.KeyLocator))
-    ⊎ (All (IsAtMost keys signed reason) all × Any (λ checker. Checks keys checker signed (Some reason)) all)
+    ⊎ (All (IsAtMost keys signed reason) all
+    × Any (λ checker. Checks keys checker signed (Some reason)) all)
 
 -- checkers that allow the packet
 abbrev pub Allow : List NamedKey → List Checker → SeenPacket → Type 0
@@ -52,16 +57,22 @@ Allow keys all packet = (signed : PlainSigned) × IsSigned packet signed × IsPa
 
 -- checkers that deny it, by the greatest of their reasons
 abbrev pub DenyBy : List NamedKey → List Checker → SeenPacket → Reason → Type 0
-DenyBy keys all packet reason = (signed : PlainSigned) × IsSigned packet signed × IsGreatest keys all signed reason
+DenyBy keys all packet reason =
+    (signed : PlainSigned) × IsSigned packet signed × IsGreatest keys all signed reason
 
--- it is not said when it was signed, or nothing is covered: in an Interest, since the digest of parameters is not the last component
+-- it is not said when it was signed, or nothing is covered: in an Interest, since the digest of
+-- parameters is not the last component
 abbrev pub IsMisshaped : SeenPacket → PlainSignature → Type 0
-IsMisshaped packet signature = (¬ SaysWhen packet.kind signature) ⊎ ((first second : List ℕ) → Covered packet.frame first second → ⊥)
+IsMisshaped packet signature =
+    (¬ SaysWhen packet.kind signature)
+    ⊎ ((first second : List ℕ) → Covered packet.frame first second → ⊥)
 
 -- no checker has to look at the packet
 abbrev pub IsUnfit : SeenPacket → Reason → Type 0
 IsUnfit packet reasons.NotSigned = packet.signature ≡ None
-IsUnfit packet reasons.Shape = (signature : PlainSignature) × (packet.signature ≡ Some signature) × IsMisshaped packet signature
+IsUnfit packet reasons.Shape =
+    (signature : PlainSignature) × (packet.signature ≡ Some signature)
+    × IsMisshaped packet signature
 IsUnfit packet reasons.SigType = ⊥
 IsUnfit packet reasons.KeyLocator = ⊥
 IsUnfit packet reasons.KeyUnknown = ⊥
@@ -74,14 +85,17 @@ Deny keys all packet reason = IsUnfit packet reason ⊎ DenyBy keys all packet r
 
 abbrev pub DecideSeen : List PlainRule → List NamedKey → SeenPacket → Decision → Type 0
 DecideSeen rules keys packet (decisions.Allowed n) =
-    (rule : PlainRule) × IsFirst rules packet.kind packet.name n.0 rule × Allow keys rule.checkers packet
+    (rule : PlainRule) × IsFirst rules packet.kind packet.name n.0 rule
+    × Allow keys rule.checkers packet
 DecideSeen rules keys packet (decisions.Denied n reason) =
-    (rule : PlainRule) × IsFirst rules packet.kind packet.name n.0 rule × Deny keys rule.checkers packet reason
+    (rule : PlainRule) × IsFirst rules packet.kind packet.name n.0 rule
+    × Deny keys rule.checkers packet reason
 DecideSeen rules keys packet decisions.NoRule = NoneApplies rules packet.kind packet.name
 
 -- The first rule that applies to an Interest or a Data decides alone.
 abbrev pub Decides : List PlainRule → List NamedKey → PlainFrame → Decision → Type 0
-Decides rules keys (AnInterest whole i) decision = DecideSeen rules keys (seen_interest whole i) decision
+Decides rules keys (AnInterest whole i) decision =
+    DecideSeen rules keys (seen_interest whole i) decision
 Decides rules keys (AData whole d) decision = DecideSeen rules keys (seen_data whole d) decision
 Decides rules keys (ANack reason whole i) decision = ⊥
 Decides rules keys Idle decision = ⊥
@@ -102,7 +116,8 @@ Expands checkers.Unsupported = ⊥
 -- a checker of the first rule that applies expands templates
 abbrev pub AsksForMemory : List PlainRule → SeenPacket → Type 0
 AsksForMemory rules packet =
-    (n : ℕ) × (rule : PlainRule) × IsFirst rules packet.kind packet.name n rule × Any Expands rule.checkers
+    (n : ℕ) × (rule : PlainRule) × IsFirst rules packet.kind packet.name n rule
+    × Any Expands rule.checkers
 
 abbrev pub MayRefuse : List PlainRule → PlainFrame → Type 0
 MayRefuse rules (AnInterest whole i) = AsksForMemory rules (seen_interest whole i)

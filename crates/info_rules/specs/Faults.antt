@@ -18,9 +18,11 @@ kind_number Pattern = 8
 kind_number AnyAnchor = 9
 kind_number Memory = 10
 
--- the first fault is reported before the second: it is on a line further up, or of a smaller number on the same line
+-- the first fault is reported before the second: it is on a line further up, or of a smaller number
+-- on the same line
 abbrev pub sooner : RulesFault → RulesFault → Bool
-sooner a b = nat_lt a.line b.line || (a.line == b.line && nat_lt (kind_number a.kind) (kind_number b.kind))
+sooner a b = nat_lt a.line b.line ||
+    (a.line == b.line && nat_lt (kind_number a.kind) (kind_number b.kind))
 
 -- the fault to report, if any, when one more is met
 abbrev pub noted : Option RulesFault → RulesFault → Option RulesFault

@@ -15,13 +15,15 @@ Passes (tests.Matching pattern) name = (places : List (ℕ × ℕ)) × Match pat
 
 -- the rule is for packets of this kind and, if it has filters, the name passes one of them
 abbrev pub Applies : PlainRule → Kind → List Field → Type 0
-Applies rule kind name = (rule.kind ≡ kind) × ((rule.filters ≡ []) ⊎ Any (λ test. Passes test name) rule.filters)
+Applies rule kind name =
+    (rule.kind ≡ kind) × ((rule.filters ≡ []) ⊎ Any (λ test. Passes test name) rule.filters)
 
 abbrev pub NoneApplies : List PlainRule → Kind → List Field → Type 0
 NoneApplies rules kind name = All (λ rule. ¬ Applies rule kind name) rules
 
 -- the first rule that applies is this one, and its number is n, counted from 0
-pub record IsFirst (rules : List PlainRule) (kind : Kind) (name : List Field) (n : ℕ) (rule : PlainRule) : Type 0 where
+pub record IsFirst (rules : List PlainRule) (kind : Kind) (name : List Field) (n : ℕ)
+    (rule : PlainRule) : Type 0 where
   pub there : slice_get rules n ≡ Some rule
   pub applies : Applies rule kind name
   pub earlier : NoneApplies (take n rules) kind name

@@ -4,7 +4,8 @@ use Rattle.name_patterns.specs.Pattern.{PlainPattern}
 use Rattle.name_patterns.specs.Template.{PlainPart, NeedAtMost}
 use Rattle.info_rules.specs.declared.rule.Relation.{Relation}
 
--- two patterns, each with a template for a name that is made of what it matches, and how the key's stands to the packet's
+-- two patterns, each with a template for a name that is made of what it matches, and how the key's
+-- stands to the packet's
 pub record PlainHyper : Type 0 where
   pub key_pattern : PlainPattern
   pub key_template : List PlainPart
@@ -15,4 +16,5 @@ pub record PlainHyper : Type 0 where
 -- the templates need no group that their patterns do not have
 abbrev pub HasGroups : PlainHyper → Type 0
 HasGroups hyper =
-    NeedAtMost (length hyper.key_pattern.groups) hyper.key_template × NeedAtMost (length hyper.packet_pattern.groups) hyper.packet_template
+    NeedAtMost (length hyper.key_pattern.groups) hyper.key_template
+    × NeedAtMost (length hyper.packet_pattern.groups) hyper.packet_template

@@ -27,9 +27,12 @@ hyper_key_faults key_groups packet_groups key =
 -- what is wrong in a block, whose keys are needed unless another form stands beside it
 unfoldable pub hyper_block_faults : Bool → ℕ → List Block → List RulesFault
 hyper_block_faults needed line keys =
-    flat_map (hyper_key_faults (groups_in (first_value (codes "k-regex") keys)) (groups_in (first_value (codes "p-regex") keys))) keys
-    ++ number_faults needed line (codes "k-regex") keys ++ number_faults needed line (codes "k-expand") keys ++ number_faults needed line (codes "h-relation") keys
-    ++ number_faults needed line (codes "p-regex") keys ++ number_faults needed line (codes "p-expand") keys
+    flat_map (hyper_key_faults (groups_in (first_value (codes "k-regex") keys))
+    (groups_in (first_value (codes "p-regex") keys))) keys
+    ++ number_faults needed line (codes "k-regex") keys ++ number_faults needed line
+    (codes "k-expand") keys ++ number_faults needed line (codes "h-relation") keys
+    ++ number_faults needed line (codes "p-regex") keys ++ number_faults needed line
+    (codes "p-expand") keys
 
 -- what is wrong with a `hyper-relation`
 unfoldable pub hyper_faults : Bool → Block → List RulesFault
@@ -51,7 +54,13 @@ hyper_of_keys keys = do
   word ← first_value (codes "h-relation") keys
   relation ← relation_in word
   packet_half ← half_in (codes "p-regex") (codes "p-expand") keys
-  Some (record { key_pattern = key_half.0; key_template = key_half.1; relation = relation; packet_pattern = packet_half.0; packet_template = packet_half.1 })
+  Some (record {
+    key_pattern = key_half.0;
+    key_template = key_half.1;
+    relation = relation;
+    packet_pattern = packet_half.0;
+    packet_template = packet_half.1;
+  })
 
 unfoldable pub hyper_in : Block → Option PlainHyper
 hyper_in key = hyper_of_keys (blocks_of 4 key.1)

@@ -45,7 +45,8 @@ twice_faults word keys = map (fault_at TwiceNamed) (others_of (named word keys))
 
 -- no key is this word, in the block of a key on this line
 abbrev pub missing_faults : ℕ → List ℕ → List Block → List RulesFault
-missing_faults line word keys = if is_some (first_of (named word keys)) then [] else record { line = line; kind = Missing } ∷ []
+missing_faults line word keys =
+    if is_some (first_of (named word keys)) then [] else record { line = line; kind = Missing } ∷ []
 
 -- not just one key is this word
 abbrev pub once_faults : ℕ → List ℕ → List Block → List RulesFault
@@ -53,16 +54,22 @@ once_faults line word keys = twice_faults word keys ++ missing_faults line word 
 
 -- more than one key is this word or, where one is needed, none
 abbrev pub number_faults : Bool → ℕ → List ℕ → List Block → List RulesFault
-number_faults needed line word keys = twice_faults word keys ++ (if needed then missing_faults line word keys else [])
+number_faults needed line word keys =
+    twice_faults word keys ++ (if needed then missing_faults line word keys else [])
 
 -- more keys than so many are this word
 abbrev pub many_faults : ℕ → List ℕ → List Block → List RulesFault
-many_faults most word keys = if nat_lt most (length (named word keys)) then record { line = 0; kind = TooLarge } ∷ [] else []
+many_faults most word keys =
+    if nat_lt most (length (named word keys)) then record { line = 0; kind = TooLarge } ∷ [] else []
 
 -- a key that needs a block has a value, or no block
 abbrev pub shape_faults : Block → List RulesFault
-shape_faults key = if is_some key.0.value || not key.0.has_block then fault_at BadValue key ∷ [] else []
+shape_faults key =
+    if is_some key.0.value || not key.0.has_block then fault_at BadValue key ∷ [] else []
 
--- the faults of a key that needs a block, by those of a block of keys at this depth after a key on a line
+-- the faults of a key that needs a block, by those of a block of keys at this depth after a key on
+-- a line
 abbrev pub block_faults : ℕ → (ℕ → List Block → List RulesFault) → Block → List RulesFault
-block_faults depth faults_of key = shape_faults key ++ (if key.0.has_block then faults_of key.0.line (blocks_of depth key.1) else [])
+block_faults depth faults_of key =
+    shape_faults key
+    ++ (if key.0.has_block then faults_of key.0.line (blocks_of depth key.1) else [])

@@ -11,8 +11,10 @@ use Rattle.info_rules.specs.Related.{Related}
 use Rattle.info_rules.specs.Hyper.{PlainHyper}
 use Rattle.info_rules.specs.First.{Passes}
 
--- The pattern matches the name, and its groups expand the template to the other name, which has no more components than a name may.
-pub record Makes (pattern : PlainPattern) (template : List PlainPart) (name made : List Field) : Type 0 where
+-- The pattern matches the name, and its groups expand the template to the other name, which has no
+-- more components than a name may.
+pub record Makes (pattern : PlainPattern) (template : List PlainPart)
+    (name made : List Field) : Type 0 where
   pub places : List (ℕ × ℕ)
   pub matched : Match pattern name places
   pub expanded : made ≡ expansion_of template places name
@@ -21,7 +23,8 @@ pub record Makes (pattern : PlainPattern) (template : List PlainPart) (name made
 -- what is made of the key's name stands so to what is made of the packet's
 abbrev pub IsHyperRelated : PlainHyper → List Field → List Field → Type 0
 IsHyperRelated hyper key packet =
-    (a b : List Field) × Makes hyper.key_pattern hyper.key_template key a × Makes hyper.packet_pattern hyper.packet_template packet b
+    (a b : List Field) × Makes hyper.key_pattern hyper.key_template key a
+    × Makes hyper.packet_pattern hyper.packet_template packet b
     × Related hyper.relation a b
 
 -- the GenericNameComponent KEY
@@ -30,12 +33,15 @@ key_component = (8, codes "KEY")
 
 -- the name is this prefix, a component KEY, and one to three components more
 abbrev pub IsKeyOf : List Field → List Field → Type 0
-IsKeyOf prefix name = (rest : List Field) × (name ≡ prefix ++ key_component ∷ rest) × (1 ≤ length rest) × (length rest ≤ 3)
+IsKeyOf prefix name =
+    (rest : List Field) × (name ≡ prefix ++ key_component ∷ rest) × (1 ≤ length rest)
+    × (length rest ≤ 3)
 
 -- the same as a pattern: ^(<>*)<KEY><>{1,3}$
 abbrev pub hierarchical_pattern : PlainPattern
 hierarchical_pattern = record {
-  atoms = anything ∷ record { test = OneOf (key_component ∷ []); bounds = once } ∷ record { test = Anything; bounds = record { least = 1; most = Some 3 } } ∷ [];
+  atoms = anything ∷ record { test = OneOf (key_component ∷ []); bounds = once }
+      ∷ record { test = Anything; bounds = record { least = 1; most = Some 3 } } ∷ [];
   groups = (0, 1) ∷ [];
 }
 

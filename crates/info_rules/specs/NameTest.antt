@@ -48,7 +48,9 @@ is_other (Some other) form = not (is_form other form)
 
 -- the form and the line of a key that is of a form, but not of this one
 abbrev pub other_form_of : Tested → Option Form → Block → Option (Form × ℕ)
-other_form_of tested other key = on_option (λ form. if is_other other form then Some (form, key.0.line) else None) None (form_of tested key)
+other_form_of tested other key =
+    on_option (λ form. if is_other other form then Some (form, key.0.line) else None) None
+    (form_of tested key)
 
 -- the first such key
 abbrev pub first_other : Tested → Option Form → List Block → Option (Form × ℕ)
@@ -56,19 +58,22 @@ first_other tested other keys = first_of (filter_map (other_form_of tested other
 
 -- a name needs a relation, and a relation a name
 abbrev pub half_faults : ℕ → List Block → Form → List RulesFault
-half_faults line keys forms.Related = missing_faults line (codes "name") keys ++ missing_faults line (codes "relation") keys
+half_faults line keys forms.Related =
+    missing_faults line (codes "name") keys ++ missing_faults line (codes "relation") keys
 half_faults line keys forms.Matching = []
 half_faults line keys forms.Hyper = []
 
 -- a key of a second form, or else what the form lacks
 abbrev pub second_faults : Tested → ℕ → List Block → Form → List RulesFault
 second_faults tested line keys form =
-    on_option (λ second. record { line = second.1; kind = BadValue } ∷ []) (half_faults line keys form) (first_other tested (Some form) keys)
+    on_option (λ second. record { line = second.1; kind = BadValue } ∷ [])
+    (half_faults line keys form) (first_other tested (Some form) keys)
 
 -- what is wrong with the forms in the block of a key on this line: one is needed
 unfoldable pub form_faults : Tested → ℕ → List Block → List RulesFault
 form_faults tested line keys =
-    on_option (λ first. second_faults tested line keys first.0) (record { line = line; kind = Missing } ∷ []) (first_other tested None keys)
+    on_option (λ first. second_faults tested line keys first.0)
+    (record { line = line; kind = Missing } ∷ []) (first_other tested None keys)
 
 -- a key of a filter
 unfoldable pub test_key_faults : Block → List RulesFault
@@ -82,7 +87,8 @@ test_key_faults key =
 -- keys that stand together as they may not
 unfoldable pub test_faults : Tested → ℕ → List Block → List RulesFault
 test_faults tested line keys =
-    once_faults line (codes "type") keys ++ twice_faults (codes "name") keys ++ twice_faults (codes "relation") keys ++ twice_faults (codes "regex") keys
+    once_faults line (codes "type") keys ++ twice_faults (codes "name") keys ++ twice_faults
+    (codes "relation") keys ++ twice_faults (codes "regex") keys
     ++ form_faults tested line keys
 
 -- ---- the meaning

@@ -23,7 +23,8 @@ rule_key_faults key =
 
 unfoldable pub rule_block_faults : ℕ → List Block → List RulesFault
 rule_block_faults line keys =
-    flat_map rule_key_faults keys ++ once_faults line (codes "id") keys ++ once_faults line (codes "for") keys
+    flat_map rule_key_faults keys ++ once_faults line (codes "id") keys ++ once_faults line
+    (codes "for") keys
     ++ many_faults 16 (codes "filter") keys ++ many_faults 16 (codes "checker") keys
 
 -- what is wrong with a `rule`, by itself

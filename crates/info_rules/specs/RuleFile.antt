@@ -15,16 +15,20 @@ use Rattle.info_rules.specs.RuleBlock.{rule_faults, all_of, rule_in}
 
 -- the key with the id of a key that is a rule
 unfoldable pub id_key : Block → Option Block
-id_key key = if is_word (codes "rule") key then first_of (named (codes "id") (blocks_of 1 key.1)) else None
+id_key key = if is_word (codes "rule") key then first_of (named (codes "id") (blocks_of 1 key.1))
+    else None
 
 -- the key with the id, where it is this text
 unfoldable pub same_id_faults : List ℕ → Block → List RulesFault
 same_id_faults id key =
-    on_option (λ later. on_option (λ text. if bytes_eq text id then fault_at TwiceNamed later ∷ [] else []) [] (value_of later)) [] (id_key key)
+    on_option (λ later. on_option
+    (λ text. if bytes_eq text id then fault_at TwiceNamed later ∷ [] else []) []
+    (value_of later)) [] (id_key key)
 
 -- ids of these that are the id of one key
 unfoldable pub repeated_faults : Block → List Block → List RulesFault
-repeated_faults key later = on_option (λ id. flat_map (same_id_faults id) later) [] (id_key key >>= value_of)
+repeated_faults key later =
+    on_option (λ id. flat_map (same_id_faults id) later) [] (id_key key >>= value_of)
 
 -- ids that an earlier rule has
 unfoldable pub id_faults : List Block → List RulesFault
@@ -42,7 +46,8 @@ top_key_faults key =
 
 -- all that is wrong with a file, by its keys that are in no block
 unfoldable pub file_faults : List Block → List RulesFault
-file_faults keys = flat_map top_key_faults keys ++ many_faults 256 (codes "rule") keys ++ id_faults keys
+file_faults keys =
+    flat_map top_key_faults keys ++ many_faults 256 (codes "rule") keys ++ id_faults keys
 
 -- the rules that these keys give, one for each `rule`
 unfoldable pub all_rules : List Block → Option (List PlainRule)
@@ -51,4 +56,5 @@ all_rules keys = all_of rule_in (named (codes "rule") keys)
 -- the rules of a file, or the fault to report
 unfoldable pub rules_in : List PlainEntry → Result (List PlainRule) RulesFault
 rules_in entries =
-    on_option Err (on_option Ok (Err memory_fault) (all_rules (blocks_of 0 entries))) (after None (file_faults (blocks_of 0 entries)))
+    on_option Err (on_option Ok (Err memory_fault) (all_rules (blocks_of 0 entries)))
+    (after None (file_faults (blocks_of 0 entries)))

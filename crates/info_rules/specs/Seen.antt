@@ -19,13 +19,21 @@ is_digest (Some c) = c.0 == 2
 
 -- the name without its last component, where that is a digest of parameters
 abbrev pub without_digest : List Field → List Field
-without_digest name = if is_digest (slice_get name (length name - 1)) then take (length name - 1) name else name
+without_digest name =
+    if is_digest (slice_get name (length name - 1)) then take (length name - 1) name else name
 
 abbrev pub seen_interest : List ℕ → PlainInterest → SeenPacket
-seen_interest whole i = record { kind = kinds.Interest; name = without_digest i.name; signature = i.signature; frame = AnInterest whole i }
+seen_interest whole i =
+    record {
+      kind = kinds.Interest;
+      name = without_digest i.name;
+      signature = i.signature;
+      frame = AnInterest whole i;
+    }
 
 abbrev pub seen_data : List ℕ → PlainData → SeenPacket
-seen_data whole d = record { kind = kinds.Data; name = d.name; signature = Some d.signature; frame = AData whole d }
+seen_data whole d =
+    record { kind = kinds.Data; name = d.name; signature = Some d.signature; frame = AData whole d }
 
 -- the signature of an Interest says when it was made; that of a Data need not
 abbrev pub SaysWhen : Kind → PlainSignature → Type 0

@@ -20,10 +20,21 @@ use Rattle.info_rules.specs.declared.words.Token.TheVariants as views
 use Rattle.info_rules.specs.declared.packet.Packet.TheVariants as packets
 
 abbrev pub entry_of : Entry → PlainEntry
-entry_of entry = record { depth = entry.depth; line = entry.line; key = string_bytes entry.key; value = option_map string_bytes entry.value; has_block = entry.has_block }
+entry_of entry = record {
+  depth = entry.depth;
+  line = entry.line;
+  key = string_bytes entry.key;
+  value = option_map string_bytes entry.value;
+  has_block = entry.has_block;
+}
 
 abbrev pub rule_of : Rule → PlainRule
-rule_of rule = record { id = string_bytes rule.id; kind = rule.kind; filters = rule.filters.items; checkers = rule.checkers.items }
+rule_of rule = record {
+  id = string_bytes rule.id;
+  kind = rule.kind;
+  filters = rule.filters.items;
+  checkers = rule.checkers.items;
+}
 
 abbrev pub token_of : TokenView → Token
 token_of (views.Word word) = Word word.now
@@ -32,7 +43,13 @@ token_of views.Close = Close
 token_of views.Broken = Broken
 
 abbrev pub draft_of : Draft → PlainDraft
-draft_of draft = record { ended = map entry_of draft.ended.items; pending = option_map entry_of draft.pending; depth = draft.depth; closed = draft.closed; deep = draft.deep }
+draft_of draft = record {
+  ended = map entry_of draft.ended.items;
+  pending = option_map entry_of draft.pending;
+  depth = draft.depth;
+  closed = draft.closed;
+  deep = draft.deep;
+}
 
 abbrev pub key_of : Key → Block
 key_of key = (entry_of key.own.now, map entry_of key.inner.now)
@@ -49,4 +66,8 @@ seen_of (packets.Interest i) = seen_interest i.now.whole.now (plain_interest i.n
 seen_of (packets.Data d) = seen_data d.now.whole.now (plain_data d.now)
 
 abbrev pub signed_of : Signed → PlainSigned
-signed_of s = record { name = components s.name; signature = plain_signature s.signature; covered = s.parts.first.now ++ s.parts.second.now }
+signed_of s = record {
+  name = components s.name;
+  signature = plain_signature s.signature;
+  covered = s.parts.first.now ++ s.parts.second.now;
+}

@@ -15,7 +15,8 @@ pub record PlainEntry : Type 0 where
 abbrev pub Block : Type 0
 Block = PlainEntry × List PlainEntry
 
--- entries in front of the first of this depth, and those of this depth, each with those after it up to the next
+-- entries in front of the first of this depth, and those of this depth, each with those after it up
+-- to the next
 unfoldable pub parted : ℕ → List PlainEntry → List PlainEntry × List Block
 parted depth [] = ([], [])
 parted depth (entry ∷ entries) =

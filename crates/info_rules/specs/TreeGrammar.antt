@@ -14,7 +14,8 @@ pub record Head : Type 0 where
 pub data Nodes : Type 0 where
   NoNode : Nodes
   Leaf : Head → Nodes → Nodes
-  -- an entry with a block: the line of the brace that opens it, its entries, and the line of the brace that closes it
+  -- an entry with a block: the line of the brace that opens it, its entries, and the line of the
+  -- brace that closes it
   Branch : Head → ℕ → Nodes → ℕ → Nodes → Nodes
 
 abbrev pub head_tokens : Head → List (ℕ × Token)
@@ -27,7 +28,8 @@ head_tokens head = (head.line, Word head.key) ∷ value_tokens head.value
 unfoldable pub tokens_of : Nodes → List (ℕ × Token)
 tokens_of NoNode = []
 tokens_of (Leaf head others) = head_tokens head ++ tokens_of others
-tokens_of (Branch head opened block closed others) = head_tokens head ++ (opened, Open) ∷ (tokens_of block ++ (closed, Close) ∷ tokens_of others)
+tokens_of (Branch head opened block closed others) =
+    head_tokens head ++ (opened, Open) ∷ (tokens_of block ++ (closed, Close) ∷ tokens_of others)
 
 -- the first entry begins on another line
 abbrev pub BeginsOff : ℕ → Nodes → Type 0
@@ -39,22 +41,32 @@ BeginsOff line (Branch head opened block closed others) = head.line ≢ line
 unfoldable pub IsApart : Nodes → Type 0
 IsApart NoNode = ⊤
 IsApart (Leaf head others) = BeginsOff head.line others × IsApart others
-IsApart (Branch head opened block closed others) = IsApart block × BeginsOff closed others × IsApart others
+IsApart (Branch head opened block closed others) =
+    IsApart block × BeginsOff closed others × IsApart others
 
 -- at most eight blocks are open at once
 unfoldable pub IsShallow : ℕ → Nodes → Type 0
 IsShallow depth NoNode = ⊤
 IsShallow depth (Leaf head others) = IsShallow depth others
-IsShallow depth (Branch head opened block closed others) = (depth < 8) × IsShallow (depth + 1) block × IsShallow depth others
+IsShallow depth (Branch head opened block closed others) =
+    (depth < 8) × IsShallow (depth + 1) block × IsShallow depth others
 
 abbrev pub entry_of_head : ℕ → Head → Bool → PlainEntry
-entry_of_head depth head has_block = record { depth = depth; line = head.line; key = unescaped head.key; value = option_map unescaped head.value; has_block = has_block }
+entry_of_head depth head has_block =
+    record {
+      depth = depth;
+      line = head.line;
+      key = unescaped head.key;
+      value = option_map unescaped head.value;
+      has_block = has_block;
+    }
 
 -- all the entries, each in front of those of its block
 unfoldable pub outline : ℕ → Nodes → List PlainEntry
 outline depth NoNode = []
 outline depth (Leaf head others) = entry_of_head depth head false ∷ outline depth others
-outline depth (Branch head opened block closed others) = entry_of_head depth head true ∷ (outline (depth + 1) block ++ outline depth others)
+outline depth (Branch head opened block closed others) =
+    entry_of_head depth head true ∷ (outline (depth + 1) block ++ outline depth others)
 
 pub record IsTree (tokens : List (ℕ × Token)) (entries : List PlainEntry) : Type 0 where
   pub nodes : Nodes

@@ -45,11 +45,21 @@ Next = Result PlainDraft RulesFault
 -- a word that is a key
 abbrev pub with_key : PlainDraft → ℕ → List ℕ → PlainDraft
 with_key draft line word =
-    record draft { ended = entries_of draft; pending = Some (record { depth = draft.depth; line = line; key = unescaped word; value = None; has_block = false }) }
+    record draft {
+      ended = entries_of draft;
+      pending = Some (record {
+        depth = draft.depth;
+        line = line;
+        key = unescaped word;
+        value = None;
+        has_block = false;
+      });
+    }
 
 -- a second word on the line of a key is its value, and a third does not fit
 abbrev pub with_value : PlainDraft → ℕ → List ℕ → PlainEntry → Option (List ℕ) → Next
-with_value draft line word entry None = Ok (record draft { pending = Some (record entry { value = Some (unescaped word) }) })
+with_value draft line word entry None =
+    Ok (record draft { pending = Some (record entry { value = Some (unescaped word) }) })
 with_value draft line word entry (Some value) = Err (syntax line)
 
 abbrev pub is_on : ℕ → Option ℕ → Bool
@@ -57,8 +67,11 @@ is_on line None = false
 is_on line (Some other) = other == line
 
 abbrev pub with_word : PlainDraft → ℕ → List ℕ → Option PlainEntry → Next
-with_word draft line word None = if is_on line draft.closed then Err (syntax line) else Ok (with_key draft line word)
-with_word draft line word (Some entry) = if entry.line == line then with_value draft line word entry entry.value else Ok (with_key draft line word)
+with_word draft line word None =
+    if is_on line draft.closed then Err (syntax line) else Ok (with_key draft line word)
+with_word draft line word (Some entry) =
+    if entry.line == line then with_value draft line word entry entry.value
+    else Ok (with_key draft line word)
 
 -- a block is opened after a key, or after its value
 abbrev pub with_open : PlainDraft → ℕ → Option PlainEntry → Next
@@ -73,7 +86,13 @@ with_open draft line (Some entry) = Ok (record {
 
 abbrev pub with_close : PlainDraft → ℕ → Next
 with_close draft line =
-    if draft.depth == 0 then Err (syntax line) else Ok (record draft { ended = entries_of draft; pending = None; depth = draft.depth - 1; closed = Some line })
+    if draft.depth == 0 then Err (syntax line)
+    else Ok (record draft {
+      ended = entries_of draft;
+      pending = None;
+      depth = draft.depth - 1;
+      closed = Some line;
+    })
 
 abbrev pub with_fitting : PlainDraft → ℕ → Token → Next
 with_fitting draft line (Word word) = with_word draft line word draft.pending
@@ -86,16 +105,20 @@ abbrev pub deep_before : Option ℕ → ℕ → Option RulesFault
 deep_before None line = None
 deep_before (Some deep) line = if deep == line then None else Some (too_deep deep)
 
-abbrev pub unless_fault : {A : Type 0} → Option RulesFault → Result A RulesFault → Result A RulesFault
+abbrev pub unless_fault : {A : Type 0} → Option RulesFault → Result A RulesFault
+    → Result A RulesFault
 unless_fault None read = read
 unless_fault (Some fault) read = Err fault
 
 abbrev pub with_token : PlainDraft → ℕ → Token → Next
-with_token draft line token = unless_fault (deep_before draft.deep line) (with_fitting draft line token)
+with_token draft line token =
+    unless_fault (deep_before draft.deep line) (with_fitting draft line token)
 
 unfoldable pub with_tokens : PlainDraft → List (ℕ × Token) → Next
 with_tokens draft [] = Ok draft
-with_tokens draft (token ∷ tokens) = on_result (λ next. with_tokens next tokens) (λ fault. Err fault) (with_token draft token.0 token.1)
+with_tokens draft (token ∷ tokens) =
+    on_result (λ next. with_tokens next tokens) (λ fault. Err fault)
+    (with_token draft token.0 token.1)
 
 abbrev pub if_shallow : Option ℕ → List PlainEntry → Result (List PlainEntry) RulesFault
 if_shallow None entries = Ok entries
@@ -103,14 +126,17 @@ if_shallow (Some deep) entries = Err (too_deep deep)
 
 -- the entries, where the text ends on this line
 abbrev pub whole_of : ℕ → PlainDraft → Result (List PlainEntry) RulesFault
-whole_of line draft = unless_fault (deep_before draft.deep line) (if draft.depth == 0 then if_shallow draft.deep (entries_of draft) else Err (syntax line))
+whole_of line draft = unless_fault (deep_before draft.deep line)
+    (if draft.depth == 0 then if_shallow draft.deep (entries_of draft) else Err (syntax line))
 
 -- the entries of a text of at most 65,536 octets
 abbrev pub entries_in : List ℕ → Result (List PlainEntry) RulesFault
-entries_in text = on_result (whole_of (end_line text)) (λ fault. Err fault) (with_tokens begun (tokens_in text))
+entries_in text =
+    on_result (whole_of (end_line text)) (λ fault. Err fault) (with_tokens begun (tokens_in text))
 
 unfoldable pub tree_in : List ℕ → Result (List PlainEntry) RulesFault
-tree_in text = if nat_lt 65536 (length text) then Err (record { line = 0; kind = TooLarge }) else entries_in text
+tree_in text = if nat_lt 65536 (length text) then Err (record { line = 0; kind = TooLarge })
+    else entries_in text
 
 -- the fault of a reading, or that of refused memory, which has no cause in the text
 abbrev pub IsTreeFaultOf : {A : Type 0} → Result A RulesFault → RulesFault → Type 0

@@ -30,12 +30,15 @@ abbrev pub signature_type_in : List ℕ → Option SignatureType
 signature_type_in text =
     if bytes_eq text (codes "hmac-sha256") then Some HmacSha256 else (
     if bytes_eq text (codes "sha256") then Some Sha256 else (
-    if bytes_eq text (codes "rsa-sha256") || bytes_eq text (codes "ecdsa-sha256") then Some Asymmetric else None))
+    if bytes_eq text (codes "rsa-sha256") || bytes_eq text (codes "ecdsa-sha256")
+    then Some Asymmetric else None))
 
 -- an id has from 1 to 100 octets, and no control character
 abbrev pub is_id : List ℕ → Bool
-is_id text = nat_le 1 (length text) && nat_le (length text) 100 && list_all (λ octet. nat_le 32 octet) text
+is_id text = nat_le 1 (length text) && nat_le (length text) 100 && list_all
+    (λ octet. nat_le 32 octet) text
 
 -- the types of trust anchors that are taken
 abbrev pub is_anchor_type : List ℕ → Bool
-is_anchor_type text = bytes_eq text (codes "file") || bytes_eq text (codes "dir") || bytes_eq text (codes "base64")
+is_anchor_type text =
+    bytes_eq text (codes "file") || bytes_eq text (codes "dir") || bytes_eq text (codes "base64")

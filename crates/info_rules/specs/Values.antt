@@ -37,15 +37,18 @@ text_fault Pattern text = unless kinds.Pattern (is_some (ok_of (pattern_in text)
 text_fault (Template groups) text = unless kinds.Pattern (is_some (ok_of (template_in groups text)))
 text_fault CheckerType text = unless BadValue (is_some (checker_type_in text))
 text_fault SignatureType text = unless BadValue (is_some (signature_type_in text))
-text_fault AnchorType text = if bytes_eq text (codes "any") then Some AnyAnchor else unless BadValue (is_anchor_type text)
+text_fault AnchorType text =
+    if bytes_eq text (codes "any") then Some AnyAnchor else unless BadValue (is_anchor_type text)
 
 -- what is wrong with a key that needs a value of this kind
 abbrev pub value_fault : ValueKind → Block → Option RulesFaultKind
 value_fault value_kind key = on_option (text_fault value_kind) (Some BadValue) (value_of key)
 
 unfoldable pub value_faults : ValueKind → Block → List RulesFault
-value_faults value_kind key = on_option (λ kind. fault_at kind key ∷ []) [] (value_fault value_kind key)
+value_faults value_kind key =
+    on_option (λ kind. fault_at kind key ∷ []) [] (value_fault value_kind key)
 
--- the groups of the pattern that a text spells, where it spells one; else as many as a pattern can have
+-- the groups of the pattern that a text spells, where it spells one; else as many as a pattern can
+-- have
 unfoldable pub groups_in : Option (List ℕ) → ℕ
 groups_in text = on_option (λ pattern. length pattern.groups) 9 (text >>= λ t. ok_of (pattern_in t))

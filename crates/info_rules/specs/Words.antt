@@ -22,7 +22,8 @@ is_alone sign (o ∷ (other ∷ word)) = false
 
 -- what a word that is not quoted is
 unfoldable pub word_token : List ℕ → Token
-word_token word = if is_alone 123 word then Open else (if is_alone 125 word then Close else Word word)
+word_token word =
+    if is_alone 123 word then Open else (if is_alone 125 word then Close else Word word)
 
 -- where the reading of a text stands
 pub data Mode : Type 0 where
@@ -35,7 +36,8 @@ pub data Mode : Type 0 where
 
 -- after an octet that is in no word before it
 unfoldable pub begun_by : ℕ → Mode
-begun_by o = if o == 34 then InQuotes false [] else (if o == 59 then InComment else (if is_separator o then Between else InWord (o ∷ [])))
+begun_by o = if o == 34 then InQuotes false []
+    else (if o == 59 then InComment else (if is_separator o then Between else InWord (o ∷ [])))
 
 -- a quote closes a quoted text where no backslash stands directly before it
 unfoldable pub is_closing : Bool → ℕ → Bool
@@ -46,13 +48,16 @@ abbrev pub ended_by : Mode → ℕ → Option Token
 ended_by Between o = None
 ended_by InComment o = None
 ended_by (InWord word) o = if is_separator o then Some (word_token word) else None
-ended_by (InQuotes escaped inner) o = if o == 10 then Some Broken else (if is_closing escaped o then Some (Word inner) else None)
+ended_by (InQuotes escaped inner) o =
+    if o == 10 then Some Broken else (if is_closing escaped o then Some (Word inner) else None)
 
 abbrev pub mode_after : Mode → ℕ → Mode
 mode_after Between o = begun_by o
 mode_after InComment o = if o == 10 then Between else InComment
 mode_after (InWord word) o = if is_separator o then begun_by o else InWord (word ++ o ∷ [])
-mode_after (InQuotes escaped inner) o = if o == 10 then Between else (if is_closing escaped o then Between else InQuotes (o == 92) (inner ++ o ∷ []))
+mode_after (InQuotes escaped inner) o =
+    if o == 10 then Between
+    else (if is_closing escaped o then Between else InQuotes (o == 92) (inner ++ o ∷ []))
 
 -- what the end of the text ends
 abbrev pub ended_at_end : Mode → Option Token
@@ -71,12 +76,16 @@ with_ended line (Some token) tokens = (line, token) ∷ tokens
 -- the tokens of a text that begins on this line
 unfoldable pub tokens_from : Mode → ℕ → List ℕ → List (ℕ × Token)
 tokens_from mode line [] = with_ended line (ended_at_end mode) []
-tokens_from mode line (o ∷ text) = with_ended line (ended_by mode o) (tokens_from (mode_after mode o) (line_after line o) text)
+tokens_from mode line (o ∷ text) =
+    with_ended line (ended_by mode o) (tokens_from (mode_after mode o) (line_after line o) text)
 
 -- what stands in front of the quote that closes a quoted text on its line
 unfoldable pub quoted_len : Bool → List ℕ → Option ℕ
 quoted_len escaped [] = None
-quoted_len escaped (o ∷ text) = if o == 10 then None else (if is_closing escaped o then Some 0 else option_map (λ len. len + 1) (quoted_len (o == 92) text))
+quoted_len escaped (o ∷ text) =
+    if o == 10 then None
+    else (if is_closing escaped o then Some 0
+    else option_map (λ len. len + 1) (quoted_len (o == 92) text))
 
 -- what stands from the end of the first line on
 unfoldable pub from_line_end : List ℕ → List ℕ
@@ -98,4 +107,5 @@ is_escaped o = (o == 92) || (o == 34)
 unfoldable pub unescaped : List ℕ → List ℕ
 unescaped [] = []
 unescaped (o ∷ []) = o ∷ []
-unescaped (o ∷ (next ∷ word)) = if (o == 92) && is_escaped next then next ∷ unescaped word else o ∷ unescaped (next ∷ word)
+unescaped (o ∷ (next ∷ word)) =
+    if (o == 92) && is_escaped next then next ∷ unescaped word else o ∷ unescaped (next ∷ word)

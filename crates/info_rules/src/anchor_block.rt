@@ -18,7 +18,9 @@ const DEPTH: usize = 1;
 /// Notes what is wrong with a key of a trust anchor. Only memory is refused.
 #[tactic(auto, using(crate::proofs::Reports::after_none), unfolding(crate::specs::AnchorBlock::anchor_key_faults))]
 fn judge_key(alloc: Global, key: Key<'_>, report: &mut Report) -> Result<(), RulesFault>
-    ensures { MatchResult result (λ _. report.new ≡ after report.old (anchor_key_faults (key_of key.entry))) (λ fault. fault ≡ memory_fault) }
+    ensures { MatchResult result
+        (λ _. report.new ≡ after report.old (anchor_key_faults (key_of key.entry)))
+        (λ fault. fault ≡ memory_fault) }
 {
     if key.is("type") {
         return judge_value(alloc, ValueKind::AnchorType, key, report);
@@ -29,7 +31,9 @@ fn judge_key(alloc: Global, key: Key<'_>, report: &mut Report) -> Result<(), Rul
 /// Notes what is wrong with each key of a trust anchor. Only memory is refused.
 #[tactic(auto, using(crate::proofs::Reports::after_first, crate::proofs::Reports::after_no))]
 fn judge_keys(alloc: Global, keys: Keys<'_>, report: &mut Report) -> Result<(), RulesFault>
-    ensures { MatchResult result (λ _. report.new ≡ after report.old (flat_map anchor_key_faults (keys_of keys.entry))) (λ fault. fault ≡ memory_fault) }
+    ensures { MatchResult result
+        (λ _. report.new ≡ after report.old (flat_map anchor_key_faults (keys_of keys.entry)))
+        (λ fault. fault ≡ memory_fault) }
 {
     let mut left = keys;
     while let Some((key, others)) = left.split_first() {
@@ -47,7 +51,9 @@ fn judge_block(
     keys: Keys<'_>,
     report: &mut Report,
 ) -> Result<(), RulesFault>
-    ensures { MatchResult result (λ _. report.new ≡ after report.old (anchor_block_faults line (keys_of keys.entry))) (λ fault. fault ≡ memory_fault) }
+    ensures { MatchResult result
+        (λ _. report.new ≡ after report.old (anchor_block_faults line (keys_of keys.entry)))
+        (λ fault. fault ≡ memory_fault) }
 {
     judge_keys(alloc, keys, report)?;
     keys.judge_once(line, "type", report);
@@ -57,7 +63,9 @@ fn judge_block(
 /// Notes what is wrong with a trust anchor. Only memory is refused.
 #[tactic(auto, using(crate::proofs::Reports::after_append, crate::proofs::Reports::after_none), unfolding(crate::specs::AnchorBlock::anchor_faults))]
 pub fn judge_anchor(alloc: Global, key: Key<'_>, report: &mut Report) -> Result<(), RulesFault>
-    ensures { MatchResult result (λ _. report.new ≡ after report.old (anchor_faults (key_of key.entry))) (λ fault. fault ≡ memory_fault) }
+    ensures { MatchResult result
+        (λ _. report.new ≡ after report.old (anchor_faults (key_of key.entry)))
+        (λ fault. fault ≡ memory_fault) }
 {
     key.judge_shape(report);
     if key.has_block() {

@@ -62,7 +62,9 @@ fn judge_key(
     key: Key<'_>,
     report: &mut Report,
 ) -> Result<(), RulesFault>
-    ensures { MatchResult result (λ _. report.new ≡ after report.old (checker_key_faults hierarchical (key_of key.entry))) (λ fault. fault ≡ memory_fault) }
+    ensures { MatchResult result
+        (λ _. report.new ≡ after report.old (checker_key_faults hierarchical (key_of key.entry)))
+        (λ fault. fault ≡ memory_fault) }
 {
     if key.is("type") {
         return judge_value(alloc, ValueKind::CheckerType, key, report);
@@ -85,7 +87,10 @@ fn judge_keys(
     keys: Keys<'_>,
     report: &mut Report,
 ) -> Result<(), RulesFault>
-    ensures { MatchResult result (λ _. report.new ≡ after report.old (flat_map (checker_key_faults hierarchical) (keys_of keys.entry))) (λ fault. fault ≡ memory_fault) }
+    ensures { MatchResult result
+        (λ _. report.new ≡ after report.old
+        (flat_map (checker_key_faults hierarchical) (keys_of keys.entry)))
+        (λ fault. fault ≡ memory_fault) }
 {
     let mut left = keys;
     while let Some((key, others)) = left.split_first() {
@@ -98,7 +103,9 @@ fn judge_keys(
 #[tactic(auto, using(crate::proofs::Reports::after_none))]
 /// Notes that the block of a checker on this line lacks the key locator that it needs, if so.
 fn judge_locator_missing(line: u32, keys: Keys<'_>, report: &mut Report)
-    ensures { report.new ≡ after report.old (if needs_locator (checker_type_of (keys_of keys.entry)) (signature_type_of (keys_of keys.entry))
+    ensures { report.new ≡ after report.old
+        (if needs_locator (checker_type_of (keys_of keys.entry))
+        (signature_type_of (keys_of keys.entry))
         then missing_faults line (codes "key-locator") (keys_of keys.entry) else []) }
 {
     if needs_locator(checker_type_of(keys), signature_type_of(keys)) {
@@ -106,8 +113,8 @@ fn judge_locator_missing(line: u32, keys: Keys<'_>, report: &mut Report)
     }
 }
 
-/// Notes the key locators after the first, and that the one is missing that the block of a checker on
-/// this line needs. A hierarchical checker has none, whose keys are faults by themselves.
+/// Notes the key locators after the first, and that the one is missing that the block of a checker
+/// on this line needs. A hierarchical checker has none, whose keys are faults by themselves.
 #[tactic(auto, using(crate::proofs::Reports::after_append, crate::proofs::Reports::after_none), unfolding(crate::specs::CheckerBlock::locator_count_faults))]
 fn judge_locator_count(line: u32, keys: Keys<'_>, report: &mut Report)
     ensures { report.new ≡ after report.old (locator_count_faults line (keys_of keys.entry)) }
@@ -127,7 +134,9 @@ fn judge_block(
     keys: Keys<'_>,
     report: &mut Report,
 ) -> Result<(), RulesFault>
-    ensures { MatchResult result (λ _. report.new ≡ after report.old (checker_block_faults line (keys_of keys.entry))) (λ fault. fault ≡ memory_fault) }
+    ensures { MatchResult result
+        (λ _. report.new ≡ after report.old (checker_block_faults line (keys_of keys.entry)))
+        (λ fault. fault ≡ memory_fault) }
 {
     judge_keys(alloc, is_hierarchical(checker_type_of(keys)), keys, report)?;
     keys.judge_once(line, "type", report);
@@ -139,7 +148,9 @@ fn judge_block(
 /// Notes what is wrong with a checker. Only memory is refused.
 #[tactic(auto, using(crate::proofs::Reports::after_append, crate::proofs::Reports::after_none), unfolding(crate::specs::CheckerBlock::checker_faults))]
 pub fn judge_checker(alloc: Global, key: Key<'_>, report: &mut Report) -> Result<(), RulesFault>
-    ensures { MatchResult result (λ _. report.new ≡ after report.old (checker_faults (key_of key.entry))) (λ fault. fault ≡ memory_fault) }
+    ensures { MatchResult result
+        (λ _. report.new ≡ after report.old (checker_faults (key_of key.entry)))
+        (λ fault. fault ≡ memory_fault) }
 {
     key.judge_shape(report);
     if key.has_block() {
@@ -154,7 +165,9 @@ fn read_locator_test(
     keys: Keys<'_>,
     checker_type: CheckerType,
 ) -> Result<LocatorTest, RulesFault>
-    ensures { MatchResult result (λ test. locator_by_type (keys_of keys.entry) checker_type ≡ Some test) (λ fault. fault ≡ memory_fault) }
+    ensures { MatchResult result
+        (λ test. locator_by_type (keys_of keys.entry) checker_type ≡ Some test)
+        (λ fault. fault ≡ memory_fault) }
 {
     match checker_type {
         CheckerType::Hierarchical => Ok(LocatorTest::Hierarchical),
@@ -167,7 +180,9 @@ fn read_locator_test(
 
 /// What a checker without faults asks of a signature by HMAC with SHA-256.
 fn read_hmac(alloc: Global, keys: Keys<'_>) -> Result<Checker, RulesFault>
-    ensures { MatchResult result (λ checker. checker_by_type (keys_of keys.entry) SignatureType.HmacSha256 ≡ Some checker) (λ fault. fault ≡ memory_fault) }
+    ensures { MatchResult result
+        (λ checker. checker_by_type (keys_of keys.entry) SignatureType.HmacSha256 ≡ Some checker)
+        (λ fault. fault ≡ memory_fault) }
 {
     let checker_type = checker_type_of(keys).ok_or(MEMORY)?;
     Ok(Checker::HmacSha256(read_locator_test(alloc, keys, checker_type)?))
@@ -175,7 +190,8 @@ fn read_hmac(alloc: Global, keys: Keys<'_>) -> Result<Checker, RulesFault>
 
 /// What these keys of a block without faults ask of a signature.
 fn read_keys(alloc: Global, keys: Keys<'_>) -> Result<Checker, RulesFault>
-    ensures { MatchResult result (λ checker. checker_of_keys (keys_of keys.entry) ≡ Some checker) (λ fault. fault ≡ memory_fault) }
+    ensures { MatchResult result (λ checker. checker_of_keys (keys_of keys.entry) ≡ Some checker)
+        (λ fault. fault ≡ memory_fault) }
 {
     match signature_type_of(keys).ok_or(MEMORY)? {
         SignatureType::Sha256 => Ok(Checker::Sha256),
@@ -187,7 +203,8 @@ fn read_keys(alloc: Global, keys: Keys<'_>) -> Result<Checker, RulesFault>
 /// What a checker without faults asks of a signature.
 #[tactic(auto, unfolding(crate::specs::CheckerBlock::checker_in))]
 pub fn read_checker(alloc: Global, key: Key<'_>) -> Result<Checker, RulesFault>
-    ensures { MatchResult result (λ checker. checker_in (key_of key.entry) ≡ Some checker) (λ fault. fault ≡ memory_fault) }
+    ensures { MatchResult result (λ checker. checker_in (key_of key.entry) ≡ Some checker)
+        (λ fault. fault ≡ memory_fault) }
 {
     read_keys(alloc, key.keys(DEPTH))
 }

@@ -32,7 +32,8 @@ pub fn check(
     checker: &Checker,
     signed: Signed<'_>,
 ) -> Result<Option<Reason>, Memory>
-    ensures { MatchResult result (Checks keys.now checker.now (signed_of signed.entry)) (λ _. Expands checker.now) }
+    ensures { MatchResult result (Checks keys.now checker.now (signed_of signed.entry))
+        (λ _. Expands checker.now) }
 {
     match checker {
         Checker::Sha256 => Ok(check_sha256(signed)),
@@ -56,7 +57,9 @@ fn check_hmac(
     test: &LocatorTest,
     signed: Signed<'_>,
 ) -> Result<Option<Reason>, Memory>
-    ensures { MatchResult result (Checks keys.now (Checker.HmacSha256 test.now) (signed_of signed.entry)) (λ _. IsHyper test.now) }
+    ensures { MatchResult result
+        (Checks keys.now (Checker.HmacSha256 test.now) (signed_of signed.entry))
+        (λ _. IsHyper test.now) }
 {
     if signed.signature.kind != HMAC_WITH_SHA256 {
         return Ok(Some(Reason::SigType));

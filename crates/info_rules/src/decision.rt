@@ -17,7 +17,8 @@ use ndn_names::Name;
 use ndn_tlv::Memory;
 use std::alloc::Global;
 
-/// Why a packet is denied. Of several reasons that checkers give the last in this order is reported.
+/// Why a packet is denied. Of several reasons that checkers give the last in this order is
+/// reported.
 #[derive(Clone, Copy, Debug, PartialEq, Eq)]
 pub enum Reason {
     /// An Interest is not signed.
@@ -86,7 +87,8 @@ impl Rules {
 
     /// The first rule for the packets of this kind and name. It takes no memory.
     pub fn first_match(&self, kind: Kind, name: Name<'_>) -> Option<RuleNo>
-        ensures { MatchOption result (NoneApplies self.now kind (components name.entry)) (λ rule. First self.now kind (components name.entry) rule.0) }
+        ensures { MatchOption result (NoneApplies self.now kind (components name.entry))
+            (λ rule. First self.now kind (components name.entry) rule.0) }
     {
         for (number, rule) in self.rules.iter().enumerate() {
             if applies(rule, kind, name) {
@@ -106,7 +108,8 @@ impl Rules {
         keys: &KeyBook,
         packet: Packet<'_>,
     ) -> Result<Decision, Memory>
-        ensures { MatchResult result (Decides self.now keys.now (frame_of packet.entry)) (λ _. MayRefuse self.now (frame_of packet.entry)) }
+        ensures { MatchResult result (Decides self.now keys.now (frame_of packet.entry))
+            (λ _. MayRefuse self.now (frame_of packet.entry)) }
     {
         let Some(rule) = self.first_match(packet.kind(), packet.name()) else {
             return Ok(Decision::NoRule);
@@ -127,7 +130,8 @@ fn reason_against(
     packet: Packet<'_>,
 ) -> Result<Option<Reason>, Memory>
     ensures { MatchResult result
-        (λ reason. MatchOption reason (Allow keys.now checkers.now (seen_of packet.entry)) (Deny keys.now checkers.now (seen_of packet.entry)))
+        (λ reason. MatchOption reason (Allow keys.now checkers.now (seen_of packet.entry))
+        (Deny keys.now checkers.now (seen_of packet.entry)))
         (λ _. Any Expands checkers.now) }
 {
     match packet.signed() {
@@ -144,7 +148,8 @@ fn greatest_reason(
     signed: Signed<'_>,
 ) -> Result<Option<Reason>, Memory>
     ensures { MatchResult result
-        (λ reason. MatchOption reason (IsPassed keys.now checkers.now (signed_of signed.entry)) (IsGreatest keys.now checkers.now (signed_of signed.entry)))
+        (λ reason. MatchOption reason (IsPassed keys.now checkers.now (signed_of signed.entry))
+        (IsGreatest keys.now checkers.now (signed_of signed.entry)))
         (λ _. Any Expands checkers.now) }
 {
     let mut greatest = None;
@@ -159,6 +164,7 @@ fn greatest_reason(
 
 /// Law: two decisions of one packet are the same, where the keys of a book have different names.
 pub fn decisions_are_unique()
-    ensures { (rules : List PlainRule) (keys : List NamedKey) (packet : PlainFrame) (a b : Decision) → AreApart keys
+    ensures { (rules : List PlainRule) (keys : List NamedKey) (packet : PlainFrame) (a b : Decision)
+        → AreApart keys
         → Decides rules keys packet a → Decides rules keys packet b → a ≡ b }
 {}

@@ -21,7 +21,9 @@ const DEPTH: usize = 2;
 /// Notes what is wrong with each key of a filter. Only memory is refused.
 #[tactic(auto, using(crate::proofs::Reports::after_first, crate::proofs::Reports::after_no))]
 fn judge_keys(alloc: Global, keys: Keys<'_>, report: &mut Report) -> Result<(), RulesFault>
-    ensures { MatchResult result (λ _. report.new ≡ after report.old (flat_map test_key_faults (keys_of keys.entry))) (λ fault. fault ≡ memory_fault) }
+    ensures { MatchResult result
+        (λ _. report.new ≡ after report.old (flat_map test_key_faults (keys_of keys.entry)))
+        (λ fault. fault ≡ memory_fault) }
 {
     let mut left = keys;
     while let Some((key, others)) = left.split_first() {
@@ -39,7 +41,9 @@ fn judge_block(
     keys: Keys<'_>,
     report: &mut Report,
 ) -> Result<(), RulesFault>
-    ensures { MatchResult result (λ _. report.new ≡ after report.old (filter_block_faults line (keys_of keys.entry))) (λ fault. fault ≡ memory_fault) }
+    ensures { MatchResult result
+        (λ _. report.new ≡ after report.old (filter_block_faults line (keys_of keys.entry)))
+        (λ fault. fault ≡ memory_fault) }
 {
     judge_keys(alloc, keys, report)?;
     judge_test(Tested::PacketName, line, keys, report);
@@ -49,7 +53,9 @@ fn judge_block(
 /// Notes what is wrong with a filter. Only memory is refused.
 #[tactic(auto, using(crate::proofs::Reports::after_append, crate::proofs::Reports::after_none), unfolding(crate::specs::FilterBlock::filter_faults))]
 pub fn judge_filter(alloc: Global, key: Key<'_>, report: &mut Report) -> Result<(), RulesFault>
-    ensures { MatchResult result (λ _. report.new ≡ after report.old (filter_faults (key_of key.entry))) (λ fault. fault ≡ memory_fault) }
+    ensures { MatchResult result
+        (λ _. report.new ≡ after report.old (filter_faults (key_of key.entry)))
+        (λ fault. fault ≡ memory_fault) }
 {
     key.judge_shape(report);
     if key.has_block() {
@@ -61,7 +67,8 @@ pub fn judge_filter(alloc: Global, key: Key<'_>, report: &mut Report) -> Result<
 /// What a filter without faults asks of a packet's name.
 #[tactic(auto, unfolding(crate::specs::FilterBlock::filter_in))]
 pub fn read_filter(alloc: Global, key: Key<'_>) -> Result<NameTest, RulesFault>
-    ensures { MatchResult result (λ test. filter_in (key_of key.entry) ≡ Some test) (λ fault. fault ≡ memory_fault) }
+    ensures { MatchResult result (λ test. filter_in (key_of key.entry) ≡ Some test)
+        (λ fault. fault ≡ memory_fault) }
 {
     read_test(alloc, key.keys(DEPTH))
 }

@@ -20,8 +20,8 @@ use std::alloc::Global;
 /// How many blocks the keys of a hyper-relation are in.
 const DEPTH: usize = 4;
 
-/// Notes what is wrong with a key of a hyper-relation, by the groups of the key's pattern and of the
-/// packet's. Only memory is refused.
+/// Notes what is wrong with a key of a hyper-relation, by the groups of the key's pattern and of
+/// the packet's. Only memory is refused.
 #[tactic(auto, unfolding(crate::specs::HyperBlock::hyper_key_faults))]
 fn judge_key(
     alloc: Global,
@@ -30,7 +30,10 @@ fn judge_key(
     key: Key<'_>,
     report: &mut Report,
 ) -> Result<(), RulesFault>
-    ensures { MatchResult result (λ _. report.new ≡ after report.old (hyper_key_faults key_groups packet_groups (key_of key.entry))) (λ fault. fault ≡ memory_fault) }
+    ensures { MatchResult result
+        (λ _. report.new ≡ after report.old
+        (hyper_key_faults key_groups packet_groups (key_of key.entry)))
+        (λ fault. fault ≡ memory_fault) }
 {
     if key.is("k-regex") {
         return judge_value(alloc, ValueKind::Pattern, key, report);
@@ -60,7 +63,10 @@ fn judge_keys(
     keys: Keys<'_>,
     report: &mut Report,
 ) -> Result<(), RulesFault>
-    ensures { MatchResult result (λ _. report.new ≡ after report.old (flat_map (hyper_key_faults key_groups packet_groups) (keys_of keys.entry))) (λ fault. fault ≡ memory_fault) }
+    ensures { MatchResult result
+        (λ _. report.new ≡ after report.old
+        (flat_map (hyper_key_faults key_groups packet_groups) (keys_of keys.entry)))
+        (λ fault. fault ≡ memory_fault) }
 {
     let mut left = keys;
     while let Some((key, others)) = left.split_first() {
@@ -70,8 +76,8 @@ fn judge_keys(
     Ok(())
 }
 
-/// Notes what is wrong in the block of a hyper-relation on this line, whose keys may be needed. Only
-/// memory is refused.
+/// Notes what is wrong in the block of a hyper-relation on this line, whose keys may be needed.
+/// Only memory is refused.
 #[tactic(auto, using(crate::proofs::Reports::after_append, crate::proofs::Reports::after_none), unfolding(crate::specs::HyperBlock::hyper_block_faults))]
 fn judge_block(
     alloc: Global,
@@ -80,7 +86,9 @@ fn judge_block(
     keys: Keys<'_>,
     report: &mut Report,
 ) -> Result<(), RulesFault>
-    ensures { MatchResult result (λ _. report.new ≡ after report.old (hyper_block_faults needed line (keys_of keys.entry))) (λ fault. fault ≡ memory_fault) }
+    ensures { MatchResult result
+        (λ _. report.new ≡ after report.old (hyper_block_faults needed line (keys_of keys.entry)))
+        (λ fault. fault ≡ memory_fault) }
 {
     let key_groups = groups_of(alloc, keys.first_value("k-regex"))?;
     let packet_groups = groups_of(alloc, keys.first_value("p-regex"))?;
@@ -101,7 +109,9 @@ pub fn judge_hyper(
     key: Key<'_>,
     report: &mut Report,
 ) -> Result<(), RulesFault>
-    ensures { MatchResult result (λ _. report.new ≡ after report.old (hyper_faults needed (key_of key.entry))) (λ fault. fault ≡ memory_fault) }
+    ensures { MatchResult result
+        (λ _. report.new ≡ after report.old (hyper_faults needed (key_of key.entry)))
+        (λ fault. fault ≡ memory_fault) }
 {
     key.judge_shape(report);
     if key.has_block() {
@@ -118,7 +128,9 @@ fn read_half(
     pattern_word: &str,
     template_word: &str,
 ) -> Result<(Pattern, Template), RulesFault>
-    ensures read { MatchResult result (λ half. half_in pattern_word.now template_word.now (keys_of keys.entry) ≡ Some half) (λ fault. fault ≡ memory_fault) }
+    ensures read { MatchResult result
+        (λ half. half_in pattern_word.now template_word.now (keys_of keys.entry) ≡ Some half)
+        (λ fault. fault ≡ memory_fault) }
     // The template needs none but the pattern's groups.
     ensures groups { IfOk result (λ half. NeedAtMost (length half.0.groups) half.1) }
 {
@@ -132,7 +144,8 @@ fn read_half(
 /// The hyper-relation that a block without faults gives.
 #[tactic(auto, unfolding(crate::specs::HyperBlock::hyper_in))]
 pub fn read_hyper(alloc: Global, key: Key<'_>) -> Result<HyperRelation, RulesFault>
-    ensures { MatchResult result (λ hyper. hyper_in (key_of key.entry) ≡ Some hyper) (λ fault. fault ≡ memory_fault) }
+    ensures { MatchResult result (λ hyper. hyper_in (key_of key.entry) ≡ Some hyper)
+        (λ fault. fault ≡ memory_fault) }
 {
     let keys = key.keys(DEPTH);
     let (key_pattern, key_template) = read_half(alloc, keys, "k-regex", "k-expand")?;

@@ -175,7 +175,8 @@ impl<'a> Keys<'a> {
     /// Notes that no key is this word, if so. It stands at the line of the key of their block.
     #[tactic(auto, unfolding(crate::specs::Faults::after))]
     pub fn judge_missing(self, line: u32, word: &str, report: &mut Report)
-        ensures { report.new ≡ after report.old (missing_faults line word.now (keys_of self.entry)) }
+        ensures { report.new
+            ≡ after report.old (missing_faults line word.now (keys_of self.entry)) }
     {
         if self.first_named(word).is_none() {
             report.note(line, RulesFaultKind::Missing);
@@ -194,7 +195,8 @@ impl<'a> Keys<'a> {
     /// Notes more than one key that is this word or, where one is needed, that there is none.
     #[tactic(auto, using(crate::proofs::Reports::after_append, crate::proofs::Reports::after_none))]
     pub fn judge_number(self, needed: bool, line: u32, word: &str, report: &mut Report)
-        ensures { report.new ≡ after report.old (number_faults needed line word.now (keys_of self.entry)) }
+        ensures { report.new
+            ≡ after report.old (number_faults needed line word.now (keys_of self.entry)) }
     {
         self.judge_twice(word, report);
         if needed {

@@ -34,7 +34,8 @@ pub fn passes_locator(
     packet: Name<'_>,
 ) -> Result<bool, Memory>
     ensures { MatchResult result
-        (λ passed. IsTrue passed ↔ PassesLocator test.now (components key.entry) (components packet.entry))
+        (λ passed. IsTrue passed
+        ↔ PassesLocator test.now (components key.entry) (components packet.entry))
         (λ _. IsHyper test.now) }
 {
     match test {
@@ -51,7 +52,9 @@ fn is_hyper_related(
     key: Name<'_>,
     packet: Name<'_>,
 ) -> Result<bool, Memory>
-    ensures { IfOk result (λ related. IsTrue related ↔ IsHyperRelated hyper.now (components key.entry) (components packet.entry)) }
+    ensures { IfOk result
+        (λ related. IsTrue related
+        ↔ IsHyperRelated hyper.now (components key.entry) (components packet.entry)) }
 {
     let Some(of_key) = made_of(alloc, &hyper.key_pattern, &hyper.key_template, key)? else {
         return Ok(false);
@@ -102,7 +105,8 @@ fn prefix_of_key(key: Name<'_>) -> Option<Name<'_>>
     ensures { MatchOption result
         ((prefix : List Field) → ¬ IsKeyOf prefix (components key.entry))
         (λ found. IsKeyOf (components found) (components key.entry)
-        × ((prefix : List Field) → IsKeyOf prefix (components key.entry) → length prefix ≤ length (components found))) }
+        × ((prefix : List Field) → IsKeyOf prefix (components key.entry)
+        → length prefix ≤ length (components found))) }
 {
     for following in 1..=MAX_AFTER_KEY {
         let Some(place) = key.len().checked_sub(following + 1) else {
@@ -125,9 +129,10 @@ fn is_key_component(component: Option<Component<'_>>) -> bool
     }
 }
 
-/// Law: a hierarchical key's name matches the pattern `^(<>*)<KEY><>{1,3}$`, and what group 1 holds is
-/// a prefix of the packet's name.
+/// Law: a hierarchical key's name matches the pattern `^(<>*)<KEY><>{1,3}$`, and what group 1 holds
+/// is a prefix of the packet's name.
 pub fn hierarchical_keys_match_a_pattern()
     ensures { (key packet : List Field) → IsHierarchical key packet
-        ↔ ((places : List (ℕ × ℕ)) × Match hierarchical_pattern key places × IsPrefix (part_of places key (OfGroup 1)) packet) }
+        ↔ ((places : List (ℕ × ℕ)) × Match hierarchical_pattern key places
+        × IsPrefix (part_of places key (OfGroup 1)) packet) }
 {}

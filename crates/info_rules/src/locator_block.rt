@@ -27,7 +27,9 @@ fn judge_key(
     key: Key<'_>,
     report: &mut Report,
 ) -> Result<(), RulesFault>
-    ensures { MatchResult result (λ _. report.new ≡ after report.old (locator_key_faults needed (key_of key.entry))) (λ fault. fault ≡ memory_fault) }
+    ensures { MatchResult result
+        (λ _. report.new ≡ after report.old (locator_key_faults needed (key_of key.entry)))
+        (λ fault. fault ≡ memory_fault) }
 {
     if key.is("hyper-relation") {
         return judge_hyper(alloc, needed, key, report);
@@ -51,7 +53,10 @@ fn judge_keys(
     keys: Keys<'_>,
     report: &mut Report,
 ) -> Result<(), RulesFault>
-    ensures { MatchResult result (λ _. report.new ≡ after report.old (flat_map (locator_key_faults needed) (keys_of keys.entry))) (λ fault. fault ≡ memory_fault) }
+    ensures { MatchResult result
+        (λ _. report.new ≡ after report.old
+        (flat_map (locator_key_faults needed) (keys_of keys.entry)))
+        (λ fault. fault ≡ memory_fault) }
 {
     let mut left = keys;
     while let Some((key, others)) = left.split_first() {
@@ -69,7 +74,9 @@ fn judge_block(
     keys: Keys<'_>,
     report: &mut Report,
 ) -> Result<(), RulesFault>
-    ensures { MatchResult result (λ _. report.new ≡ after report.old (locator_block_faults line (keys_of keys.entry))) (λ fault. fault ≡ memory_fault) }
+    ensures { MatchResult result
+        (λ _. report.new ≡ after report.old (locator_block_faults line (keys_of keys.entry)))
+        (λ fault. fault ≡ memory_fault) }
 {
     judge_keys(alloc, is_hyper_alone(keys), keys, report)?;
     keys.judge_twice("hyper-relation", report);
@@ -80,7 +87,9 @@ fn judge_block(
 /// Notes what is wrong with a key locator. Only memory is refused.
 #[tactic(auto, using(crate::proofs::Reports::after_append, crate::proofs::Reports::after_none), unfolding(crate::specs::LocatorBlock::locator_faults))]
 pub fn judge_locator(alloc: Global, key: Key<'_>, report: &mut Report) -> Result<(), RulesFault>
-    ensures { MatchResult result (λ _. report.new ≡ after report.old (locator_faults (key_of key.entry))) (λ fault. fault ≡ memory_fault) }
+    ensures { MatchResult result
+        (λ _. report.new ≡ after report.old (locator_faults (key_of key.entry)))
+        (λ fault. fault ≡ memory_fault) }
 {
     key.judge_shape(report);
     if key.has_block() {
@@ -91,7 +100,8 @@ pub fn judge_locator(alloc: Global, key: Key<'_>, report: &mut Report) -> Result
 
 /// What these keys of a block without faults ask of a key's name.
 fn read_keys(alloc: Global, keys: Keys<'_>) -> Result<LocatorTest, RulesFault>
-    ensures { MatchResult result (λ test. locator_of_keys (keys_of keys.entry) ≡ Some test) (λ fault. fault ≡ memory_fault) }
+    ensures { MatchResult result (λ test. locator_of_keys (keys_of keys.entry) ≡ Some test)
+        (λ fault. fault ≡ memory_fault) }
 {
     match keys.first_named("hyper-relation") {
         Some(key) => Ok(LocatorTest::Hyper(read_hyper(alloc, key)?)),
@@ -102,7 +112,8 @@ fn read_keys(alloc: Global, keys: Keys<'_>) -> Result<LocatorTest, RulesFault>
 /// What a key locator without faults asks of a key's name.
 #[tactic(auto, unfolding(crate::specs::LocatorBlock::locator_in))]
 pub fn read_locator(alloc: Global, key: Key<'_>) -> Result<LocatorTest, RulesFault>
-    ensures { MatchResult result (λ test. locator_in (key_of key.entry) ≡ Some test) (λ fault. fault ≡ memory_fault) }
+    ensures { MatchResult result (λ test. locator_in (key_of key.entry) ≡ Some test)
+        (λ fault. fault ≡ memory_fault) }
 {
     read_keys(alloc, key.keys(DEPTH))
 }

@@ -56,7 +56,8 @@ impl<'a> Packet<'a> {
 
     /// What checkers see, or why none has to look.
     pub(crate) fn signed(self) -> Result<Signed<'a>, Reason>
-        ensures { MatchResult result (λ signed. IsSigned (seen_of self.entry) (signed_of signed)) (IsUnfit (seen_of self.entry)) }
+        ensures { MatchResult result (λ signed. IsSigned (seen_of self.entry) (signed_of signed))
+            (IsUnfit (seen_of self.entry)) }
     {
         match self {
             Packet::Interest(interest) => signed_interest(interest),
@@ -79,7 +80,8 @@ fn without_digest(name: Name<'_>) -> Name<'_>
 }
 
 fn signed_interest<'a>(interest: &'a Interest<'a>) -> Result<Signed<'a>, Reason>
-    ensures { let seen = seen_interest interest.entry.now.whole.now (plain_interest interest.entry.now) in
+    ensures { let seen = seen_interest interest.entry.now.whole.now
+        (plain_interest interest.entry.now) in
         MatchResult result (λ signed. IsSigned seen (signed_of signed)) (IsUnfit seen) }
 {
     let Some(signature) = interest.signature else {
@@ -113,11 +115,14 @@ fn signed_data<'a>(packet: &'a Data<'a>) -> Result<Signed<'a>, Reason>
     }
 }
 
-/// Law: a Data that was read has a shape that checkers can look at, and so has a signed Interest but
-/// where it does not say when it was signed, or the digest of its parameters is not the last
+/// Law: a Data that was read has a shape that checkers can look at, and so has a signed Interest
+/// but where it does not say when it was signed, or the digest of its parameters is not the last
 /// component of its name.
 pub fn read_packets_have_a_shape()
-    ensures data { (text : List ℕ) (d : PlainData) (reason : Reason) → IsData text d → ¬ IsUnfit (seen_data text d) reason }
-    ensures interest { (text : List ℕ) (i : PlainInterest) (s : PlainSignature) → IsInterest text i → i.signature ≡ Some s
-        → IsMisshaped (seen_interest text i) s ↔ ((¬ IsSome s.info.time) ⊎ (¬ EndsInDigest i.name)) }
+    ensures data { (text : List ℕ) (d : PlainData) (reason : Reason) → IsData text d
+        → ¬ IsUnfit (seen_data text d) reason }
+    ensures interest { (text : List ℕ) (i : PlainInterest) (s : PlainSignature) → IsInterest text i
+        → i.signature ≡ Some s
+        → IsMisshaped (seen_interest text i) s
+        ↔ ((¬ IsSome s.info.time) ⊎ (¬ EndsInDigest i.name)) }
 {}

@@ -46,9 +46,22 @@ impl Model for HyperRelation {
 
     ghost Value = { PlainHyper };
 
-    ghost view = { λ hyper. record { key_pattern = hyper.key_pattern; key_template = hyper.key_template; relation = hyper.relation; packet_pattern = hyper.packet_pattern; packet_template = hyper.packet_template } };
+    ghost view = { λ hyper. record {
+      key_pattern = hyper.key_pattern;
+      key_template = hyper.key_template;
+      relation = hyper.relation;
+      packet_pattern = hyper.packet_pattern;
+      packet_template = hyper.packet_template;
+    } };
 
-    ghost invariant = { λ hyper. HasGroups (record { key_pattern = hyper.key_pattern; key_template = hyper.key_template; relation = hyper.relation; packet_pattern = hyper.packet_pattern; packet_template = hyper.packet_template }) };
+    ghost invariant = { λ hyper. HasGroups
+        (record {
+          key_pattern = hyper.key_pattern;
+          key_template = hyper.key_template;
+          relation = hyper.relation;
+          packet_pattern = hyper.packet_pattern;
+          packet_template = hyper.packet_template;
+        }) };
 }
 
 impl HyperRelation {
@@ -65,7 +78,13 @@ impl HyperRelation {
     ) -> HyperRelation
         requires key { NeedAtMost (length key_pattern.groups) key_template }
         requires packet { NeedAtMost (length packet_pattern.groups) packet_template }
-        ensures { result ≡ record { key_pattern = key_pattern; key_template = key_template; relation = relation; packet_pattern = packet_pattern; packet_template = packet_template } }
+        ensures { result ≡ record {
+          key_pattern = key_pattern;
+          key_template = key_template;
+          relation = relation;
+          packet_pattern = packet_pattern;
+          packet_template = packet_template;
+        } }
     {
         HyperRelation {
             key_pattern,
@@ -82,8 +101,8 @@ impl HyperRelation {
 pub enum LocatorTest {
     Name(NameTest),
     Hyper(HyperRelation),
-    /// That it is a name, a component `KEY` and one to three more, where that first name is a prefix
-    /// of the packet's.
+    /// That it is a name, a component `KEY` and one to three more, where that first name is a
+    /// prefix of the packet's.
     Hierarchical,
 }
 

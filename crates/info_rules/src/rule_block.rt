@@ -30,7 +30,9 @@ const MAX_TESTS: usize = 16;
 /// Notes what is wrong with a key of a rule. Only memory is refused.
 #[tactic(auto, unfolding(crate::specs::RuleBlock::rule_key_faults))]
 fn judge_key(alloc: Global, key: Key<'_>, report: &mut Report) -> Result<(), RulesFault>
-    ensures { MatchResult result (λ _. report.new ≡ after report.old (rule_key_faults (key_of key.entry))) (λ fault. fault ≡ memory_fault) }
+    ensures { MatchResult result
+        (λ _. report.new ≡ after report.old (rule_key_faults (key_of key.entry)))
+        (λ fault. fault ≡ memory_fault) }
 {
     if key.is("id") {
         return judge_value(alloc, ValueKind::Id, key, report);
@@ -51,7 +53,9 @@ fn judge_key(alloc: Global, key: Key<'_>, report: &mut Report) -> Result<(), Rul
 /// Notes what is wrong with each key of a rule. Only memory is refused.
 #[tactic(auto, using(crate::proofs::Reports::after_first, crate::proofs::Reports::after_no))]
 fn judge_keys(alloc: Global, keys: Keys<'_>, report: &mut Report) -> Result<(), RulesFault>
-    ensures { MatchResult result (λ _. report.new ≡ after report.old (flat_map rule_key_faults (keys_of keys.entry))) (λ fault. fault ≡ memory_fault) }
+    ensures { MatchResult result
+        (λ _. report.new ≡ after report.old (flat_map rule_key_faults (keys_of keys.entry)))
+        (λ fault. fault ≡ memory_fault) }
 {
     let mut left = keys;
     while let Some((key, others)) = left.split_first() {
@@ -69,7 +73,9 @@ fn judge_block(
     keys: Keys<'_>,
     report: &mut Report,
 ) -> Result<(), RulesFault>
-    ensures { MatchResult result (λ _. report.new ≡ after report.old (rule_block_faults line (keys_of keys.entry))) (λ fault. fault ≡ memory_fault) }
+    ensures { MatchResult result
+        (λ _. report.new ≡ after report.old (rule_block_faults line (keys_of keys.entry)))
+        (λ fault. fault ≡ memory_fault) }
 {
     judge_keys(alloc, keys, report)?;
     keys.judge_once(line, "id", report);
@@ -82,7 +88,9 @@ fn judge_block(
 /// Notes what is wrong with a rule by itself. Only memory is refused.
 #[tactic(auto, using(crate::proofs::Reports::after_append, crate::proofs::Reports::after_none), unfolding(crate::specs::RuleBlock::rule_faults))]
 pub fn judge_rule(alloc: Global, key: Key<'_>, report: &mut Report) -> Result<(), RulesFault>
-    ensures { MatchResult result (λ _. report.new ≡ after report.old (rule_faults (key_of key.entry))) (λ fault. fault ≡ memory_fault) }
+    ensures { MatchResult result
+        (λ _. report.new ≡ after report.old (rule_faults (key_of key.entry)))
+        (λ fault. fault ≡ memory_fault) }
 {
     key.judge_shape(report);
     if key.has_block() {
@@ -93,7 +101,9 @@ pub fn judge_rule(alloc: Global, key: Key<'_>, report: &mut Report) -> Result<()
 
 /// The filters that these keys of a block without faults give.
 fn read_filters(alloc: Global, keys: Keys<'_>) -> Result<Vec<NameTest>, RulesFault>
-    ensures { MatchResult result (λ read. all_of filter_in (named (codes "filter") (keys_of keys.entry)) ≡ Some read.items) (λ fault. fault ≡ memory_fault) }
+    ensures { MatchResult result
+        (λ read. all_of filter_in (named (codes "filter") (keys_of keys.entry)) ≡ Some read.items)
+        (λ fault. fault ≡ memory_fault) }
 {
     let mut read = Vec::new(alloc);
     let mut left = keys;
@@ -108,7 +118,9 @@ fn read_filters(alloc: Global, keys: Keys<'_>) -> Result<Vec<NameTest>, RulesFau
 
 /// The checkers that these keys of a block without faults give.
 fn read_checkers(alloc: Global, keys: Keys<'_>) -> Result<Vec<Checker>, RulesFault>
-    ensures { MatchResult result (λ read. all_of checker_in (named (codes "checker") (keys_of keys.entry)) ≡ Some read.items) (λ fault. fault ≡ memory_fault) }
+    ensures { MatchResult result
+        (λ read. all_of checker_in (named (codes "checker") (keys_of keys.entry)) ≡ Some read.items)
+        (λ fault. fault ≡ memory_fault) }
 {
     let mut read = Vec::new(alloc);
     let mut left = keys;
@@ -123,7 +135,8 @@ fn read_checkers(alloc: Global, keys: Keys<'_>) -> Result<Vec<Checker>, RulesFau
 
 /// The rule that these keys of a block without faults give.
 fn read_keys(alloc: Global, keys: Keys<'_>) -> Result<Rule, RulesFault>
-    ensures { MatchResult result (λ rule. rule_of_keys (keys_of keys.entry) ≡ Some (rule_of rule)) (λ fault. fault ≡ memory_fault) }
+    ensures { MatchResult result (λ rule. rule_of_keys (keys_of keys.entry) ≡ Some (rule_of rule))
+        (λ fault. fault ≡ memory_fault) }
 {
     let id = keys.first_value("id").ok_or(MEMORY)?;
     let word = keys.first_value("for").ok_or(MEMORY)?;
@@ -141,7 +154,8 @@ fn read_keys(alloc: Global, keys: Keys<'_>) -> Result<Rule, RulesFault>
 /// The rule that a key without faults gives.
 #[tactic(auto, unfolding(crate::specs::RuleBlock::rule_in))]
 pub fn read_rule(alloc: Global, key: Key<'_>) -> Result<Rule, RulesFault>
-    ensures { MatchResult result (λ rule. rule_in (key_of key.entry) ≡ Some (rule_of rule)) (λ fault. fault ≡ memory_fault) }
+    ensures { MatchResult result (λ rule. rule_in (key_of key.entry) ≡ Some (rule_of rule))
+        (λ fault. fault ≡ memory_fault) }
 {
     read_keys(alloc, key.keys(DEPTH))
 }

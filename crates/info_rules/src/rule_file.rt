@@ -1,5 +1,5 @@
-//! Rule files: their faults, and their rules. A file is judged as a whole first, and read only where
-//! nothing is wrong with it.
+//! Rule files: their faults, and their rules. A file is judged as a whole first, and read only
+//where ! nothing is wrong with it.
 
 ghost use Rattle.std.specs.Prelude.{◌≡◌, Some, MatchResult};
 ghost use Rattle.std.specs.List.{flat_map};
@@ -55,7 +55,8 @@ fn judge_same_id(id: &str, key: Key<'_>, report: &mut Report)
 /// Notes the ids of rules that are this text.
 #[tactic(auto, using(crate::proofs::Reports::after_first, crate::proofs::Reports::after_no))]
 fn judge_same_ids(id: &str, keys: Keys<'_>, report: &mut Report)
-    ensures { report.new ≡ after report.old (flat_map (same_id_faults id.now) (keys_of keys.entry)) }
+    ensures { report.new
+        ≡ after report.old (flat_map (same_id_faults id.now) (keys_of keys.entry)) }
 {
     let mut left = keys;
     while let Some((key, others)) = left.split_first() {
@@ -67,7 +68,8 @@ fn judge_same_ids(id: &str, keys: Keys<'_>, report: &mut Report)
 #[tactic(auto, using(crate::proofs::Reports::after_none), unfolding(crate::specs::RuleFile::repeated_faults))]
 /// Notes the ids of later rules that are the id of this one.
 fn judge_repeated(key: Key<'_>, later: Keys<'_>, report: &mut Report)
-    ensures { report.new ≡ after report.old (repeated_faults (key_of key.entry) (keys_of later.entry)) }
+    ensures { report.new
+        ≡ after report.old (repeated_faults (key_of key.entry) (keys_of later.entry)) }
 {
     if let Some(first) = id_key(key) {
         if let Some(id) = first.value() {
@@ -91,7 +93,9 @@ fn judge_ids(keys: Keys<'_>, report: &mut Report)
 /// Notes what is wrong with a key in no block. Only memory is refused.
 #[tactic(auto, unfolding(crate::specs::RuleFile::top_key_faults))]
 fn judge_key(alloc: Global, key: Key<'_>, report: &mut Report) -> Result<(), RulesFault>
-    ensures { MatchResult result (λ _. report.new ≡ after report.old (top_key_faults (key_of key.entry))) (λ fault. fault ≡ memory_fault) }
+    ensures { MatchResult result
+        (λ _. report.new ≡ after report.old (top_key_faults (key_of key.entry)))
+        (λ fault. fault ≡ memory_fault) }
 {
     if key.is("rule") {
         return judge_rule(alloc, key, report);
@@ -106,7 +110,9 @@ fn judge_key(alloc: Global, key: Key<'_>, report: &mut Report) -> Result<(), Rul
 /// Notes what is wrong with each key in no block. Only memory is refused.
 #[tactic(auto, using(crate::proofs::Reports::after_first, crate::proofs::Reports::after_no))]
 fn judge_keys(alloc: Global, keys: Keys<'_>, report: &mut Report) -> Result<(), RulesFault>
-    ensures { MatchResult result (λ _. report.new ≡ after report.old (flat_map top_key_faults (keys_of keys.entry))) (λ fault. fault ≡ memory_fault) }
+    ensures { MatchResult result
+        (λ _. report.new ≡ after report.old (flat_map top_key_faults (keys_of keys.entry)))
+        (λ fault. fault ≡ memory_fault) }
 {
     let mut left = keys;
     while let Some((key, others)) = left.split_first() {
@@ -119,7 +125,9 @@ fn judge_keys(alloc: Global, keys: Keys<'_>, report: &mut Report) -> Result<(), 
 /// Notes all that is wrong with a file. Only memory is refused.
 #[tactic(auto, using(crate::proofs::Reports::after_append, crate::proofs::Reports::after_none), unfolding(crate::specs::RuleFile::file_faults))]
 fn judge_file(alloc: Global, keys: Keys<'_>, report: &mut Report) -> Result<(), RulesFault>
-    ensures { MatchResult result (λ _. report.new ≡ after report.old (file_faults (keys_of keys.entry))) (λ fault. fault ≡ memory_fault) }
+    ensures { MatchResult result
+        (λ _. report.new ≡ after report.old (file_faults (keys_of keys.entry)))
+        (λ fault. fault ≡ memory_fault) }
 {
     judge_keys(alloc, keys, report)?;
     keys.judge_many(MAX_RULES, "rule", report);
@@ -130,7 +138,9 @@ fn judge_file(alloc: Global, keys: Keys<'_>, report: &mut Report) -> Result<(), 
 /// The rules of a file without faults.
 #[tactic(auto, unfolding(crate::specs::RuleFile::all_rules))]
 fn read_rules(alloc: Global, keys: Keys<'_>) -> Result<Vec<Rule>, RulesFault>
-    ensures { MatchResult result (λ rules. all_rules (keys_of keys.entry) ≡ Some (map rule_of rules.items)) (λ fault. fault ≡ memory_fault) }
+    ensures { MatchResult result
+        (λ rules. all_rules (keys_of keys.entry) ≡ Some (map rule_of rules.items))
+        (λ fault. fault ≡ memory_fault) }
 {
     let mut read = Vec::new(alloc);
     let mut left = keys;

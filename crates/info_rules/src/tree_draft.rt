@@ -78,7 +78,8 @@ impl Draft {
 
     /// Puts the pending entry, if there is one, after the others.
     fn end_entry(&mut self) -> Result<(), RulesFault>
-        ensures { MatchResult result (λ _. draft_of self.new ≡ read.with_ended (draft_of self.old)) (λ fault. fault ≡ memory_fault) }
+        ensures { MatchResult result (λ _. draft_of self.new ≡ read.with_ended (draft_of self.old))
+            (λ fault. fault ≡ memory_fault) }
     {
         if let Some(entry) = self.pending.take() {
             self.ended.push(entry)?;
@@ -88,7 +89,9 @@ impl Draft {
 
     /// Adds a word that is a key.
     fn add_key(&mut self, alloc: Global, line: u32, word: &str) -> Result<(), RulesFault>
-        ensures { MatchResult result (λ _. draft_of self.new ≡ read.with_key (draft_of self.old) line word.now) (λ fault. fault ≡ memory_fault) }
+        ensures { MatchResult result
+            (λ _. draft_of self.new ≡ read.with_key (draft_of self.old) line word.now)
+            (λ fault. fault ≡ memory_fault) }
     {
         self.end_entry()?;
         let key = unescaped(alloc, word)?;
@@ -110,7 +113,8 @@ impl Draft {
         word: &str,
         entry: Entry,
     ) -> Result<(), RulesFault>
-        ensures { let next = read.with_value (draft_of self.old) line word.now (entry_of entry) (option_map string_bytes entry.value) in
+        ensures { let next = read.with_value (draft_of self.old) line word.now (entry_of entry)
+            (option_map string_bytes entry.value) in
             MatchResult result (λ _. next ≡ Ok (draft_of self.new)) (IsTreeFaultOf next) }
     {
         if entry.value.is_some() {
@@ -126,7 +130,8 @@ impl Draft {
 
     /// Adds a word.
     fn add_word(&mut self, alloc: Global, line: u32, word: &str) -> Result<(), RulesFault>
-        ensures { let next = read.with_word (draft_of self.old) line word.now (option_map entry_of self.old.pending) in
+        ensures { let next = read.with_word (draft_of self.old) line word.now
+            (option_map entry_of self.old.pending) in
             MatchResult result (λ _. next ≡ Ok (draft_of self.new)) (IsTreeFaultOf next) }
     {
         match self.pending.take() {
@@ -141,7 +146,8 @@ impl Draft {
     /// Opens a block after the pending entry.
     fn open_block(&mut self, line: u32) -> Result<(), RulesFault>
         requires { self.old.depth + 1 < 2 ^ 64 }
-        ensures { let next = read.with_open (draft_of self.old) line (option_map entry_of self.old.pending) in
+        ensures { let next = read.with_open (draft_of self.old) line
+            (option_map entry_of self.old.pending) in
             MatchResult result (λ _. next ≡ Ok (draft_of self.new)) (IsTreeFaultOf next) }
     {
         let Some(entry) = self.pending.take() else {
@@ -198,7 +204,8 @@ impl Draft {
     /// The entries, where the text ends on a line.
     pub fn finish(self, line: u32) -> Result<Vec<Entry>, RulesFault>
         ensures { let whole = read.whole_of line (draft_of self) in
-            MatchResult result (λ entries. whole ≡ Ok (map entry_of entries.items)) (IsTreeFaultOf whole) }
+            MatchResult result (λ entries. whole ≡ Ok (map entry_of entries.items))
+            (IsTreeFaultOf whole) }
     {
         if let Some(fault) = deep_before(self.deep, line) {
             return Err(fault);

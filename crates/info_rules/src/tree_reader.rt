@@ -20,7 +20,8 @@ const MAX_LEN: usize = 65536;
 /// The entries of a text that is not too large.
 fn read_entries(alloc: Global, text: &str) -> Result<Vec<Entry>, RulesFault>
     requires { length text.now ≤ 65536 }
-    ensures { MatchResult result (λ entries. entries_in text.now ≡ Ok (map entry_of entries.items)) (IsTreeFaultOf (entries_in text.now)) }
+    ensures { MatchResult result (λ entries. entries_in text.now ≡ Ok (map entry_of entries.items))
+        (IsTreeFaultOf (entries_in text.now)) }
 {
     let mut draft = Draft::new(alloc);
     let mut line = 1;
@@ -36,7 +37,8 @@ fn read_entries(alloc: Global, text: &str) -> Result<Vec<Entry>, RulesFault>
 /// The entries of a text.
 #[tactic(auto, unfolding(crate::specs::TreeReading::tree_in))]
 fn read_tree(alloc: Global, text: &str) -> Result<InfoTree, RulesFault>
-    ensures { MatchResult result (λ tree. tree_in text.now ≡ Ok tree) (IsTreeFaultOf (tree_in text.now)) }
+    ensures { MatchResult result (λ tree. tree_in text.now ≡ Ok tree)
+        (IsTreeFaultOf (tree_in text.now)) }
 {
     if text.len() > MAX_LEN {
         return Err(RulesFault {
@@ -70,7 +72,8 @@ impl InfoTree {
         ensures only { (entries : List PlainEntry) → TreeOf text.now entries
             → MatchResult result (λ tree. tree ≡ entries) (λ fault. fault ≡ memory_fault) }
         // Which fault it is.
-        ensures exact { MatchResult result (λ tree. tree_in text.now ≡ Ok tree) (IsTreeFaultOf (tree_in text.now)) }
+        ensures exact { MatchResult result (λ tree. tree_in text.now ≡ Ok tree)
+            (IsTreeFaultOf (tree_in text.now)) }
     {
         read_tree(alloc, text)
     }
@@ -78,6 +81,7 @@ impl InfoTree {
 
 /// Law: a text spells one list of entries at most, which `tree_in` gives.
 pub fn trees_have_one_reading()
-    ensures exact { (text : List ℕ) (entries : List PlainEntry) → (tree_in text ≡ Ok entries) ↔ TreeOf text entries }
+    ensures exact { (text : List ℕ) (entries : List PlainEntry) → (tree_in text ≡ Ok entries)
+        ↔ TreeOf text entries }
     ensures one { (text : List ℕ) (a b : List PlainEntry) → TreeOf text a → TreeOf text b → a ≡ b }
 {}

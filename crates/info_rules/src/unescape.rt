@@ -10,7 +10,8 @@ use std::alloc::Global;
 /// What a backslash and the text after it begin with, and the text after that.
 #[tactic(auto, using(crate::proofs::Escapes::escape_front, crate::proofs::Escapes::kept_backslash))]
 fn first_sign(following: &str) -> (&str, &str)
-    ensures read { words.unescaped (92 ∷ following.now) ≡ result.0.now ++ words.unescaped result.1.now }
+    ensures read { words.unescaped (92 ∷ following.now)
+        ≡ result.0.now ++ words.unescaped result.1.now }
     ensures shorter { length result.1.now ≤ length following.now }
 {
     if following.starts_with('\\') || following.starts_with('"') {
@@ -23,7 +24,8 @@ fn first_sign(following: &str) -> (&str, &str)
 /// A word with a backslash in place of each pair of them, and without that before a quote; refused
 /// for memory alone.
 pub fn unescaped(alloc: Global, word: &str) -> Result<String, RulesFault>
-    ensures { MatchResult result (λ text. string_bytes text ≡ words.unescaped word.now) (λ fault. fault ≡ memory_fault) }
+    ensures { MatchResult result (λ text. string_bytes text ≡ words.unescaped word.now)
+        (λ fault. fault ≡ memory_fault) }
 {
     let mut text = String::new(alloc);
     let mut rest = word;

@@ -64,7 +64,8 @@ fn refused_unless(is_right: bool) -> Option<RulesFaultKind>
 
 /// What is wrong with a type of trust anchor, if anything is.
 fn anchor_fault(text: &str) -> Option<RulesFaultKind>
-    ensures { result ≡ (if bytes_eq text.now (codes "any") then Some RulesFaultKind.AnyAnchor else unless RulesFaultKind.BadValue (is_anchor_type text.now)) }
+    ensures { result ≡ (if bytes_eq text.now (codes "any") then Some RulesFaultKind.AnyAnchor
+        else unless RulesFaultKind.BadValue (is_anchor_type text.now)) }
 {
     if text == "any" {
         return Some(RulesFaultKind::AnyAnchor);
@@ -76,7 +77,8 @@ impl ValueKind {
     /// What is wrong with a text as such a value, if anything is. Only memory is refused.
     #[tactic(auto, unfolding(crate::specs::Values::text_fault))]
     fn text_fault(self, alloc: Global, text: &str) -> Result<Option<RulesFaultKind>, RulesFault>
-        ensures { MatchResult result (λ wrong. wrong ≡ text_fault self text.now) (λ fault. fault ≡ memory_fault) }
+        ensures { MatchResult result (λ wrong. wrong ≡ text_fault self text.now)
+            (λ fault. fault ≡ memory_fault) }
     {
         Ok(match self {
             ValueKind::Id => bad_value_unless(is_id(text)),
@@ -96,7 +98,8 @@ impl ValueKind {
 
     /// What is wrong with a key that needs such a value, if anything is. Only memory is refused.
     fn value_fault(self, alloc: Global, key: Key<'_>) -> Result<Option<RulesFaultKind>, RulesFault>
-        ensures { MatchResult result (λ wrong. wrong ≡ value_fault self (key_of key.entry)) (λ fault. fault ≡ memory_fault) }
+        ensures { MatchResult result (λ wrong. wrong ≡ value_fault self (key_of key.entry))
+            (λ fault. fault ≡ memory_fault) }
     {
         match key.value() {
             Some(text) => self.text_fault(alloc, text),
@@ -113,7 +116,9 @@ pub fn judge_value(
     key: Key<'_>,
     report: &mut Report,
 ) -> Result<(), RulesFault>
-    ensures { MatchResult result (λ _. report.new ≡ after report.old (value_faults kind (key_of key.entry))) (λ fault. fault ≡ memory_fault) }
+    ensures { MatchResult result
+        (λ _. report.new ≡ after report.old (value_faults kind (key_of key.entry)))
+        (λ fault. fault ≡ memory_fault) }
 {
     if let Some(wrong) = kind.value_fault(alloc, key)? {
         report.note(key.line(), wrong);

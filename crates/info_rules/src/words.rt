@@ -108,7 +108,8 @@ fn first_word(line: u32, text: &str) -> NextToken<'_>
     requires some { 0 < length text.now }
     requires plain { words.is_separator (slice_index text.now 0) ≡ false }
     requires bare { slice_index text.now 0 ≢ 34 }
-    ensures read { tokens_from words.Between line text.now ≡ (result.line, token_of result.token) ∷ tokens_from words.Between line result.rest.now }
+    ensures read { tokens_from words.Between line text.now
+        ≡ (result.line, token_of result.token) ∷ tokens_from words.Between line result.rest.now }
     ensures same { result.line ≡ line }
     ensures shorter { length result.rest.now < length text.now }
 {
@@ -122,7 +123,8 @@ fn first_word(line: u32, text: &str) -> NextToken<'_>
 
 /// The quoted text after its first quote.
 fn first_quoted(line: u32, text: &str) -> NextToken<'_>
-    ensures read { tokens_from (words.InQuotes false []) line text.now ≡ (result.line, token_of result.token) ∷ tokens_from words.Between line result.rest.now }
+    ensures read { tokens_from (words.InQuotes false []) line text.now
+        ≡ (result.line, token_of result.token) ∷ tokens_from words.Between line result.rest.now }
     ensures same { result.line ≡ line }
     ensures shorter { length result.rest.now ≤ length text.now }
 {
@@ -155,9 +157,12 @@ fn line_after(line: u32, octet: u8) -> u32
 pub fn first_token(first_line: u32, text: &str) -> Option<NextToken<'_>>
     requires { first_line + length text.now < 2 ^ 32 }
     ensures read { MatchOption result (tokens_from words.Between first_line text.now ≡ [])
-        (λ found. tokens_from words.Between first_line text.now ≡ (found.line, token_of found.token) ∷ tokens_from words.Between found.line found.rest.now) }
+        (λ found. tokens_from words.Between first_line text.now
+        ≡ (found.line, token_of found.token)
+        ∷ tokens_from words.Between found.line found.rest.now) }
     ensures shorter { IfSome result (λ found. length found.rest.now < length text.now) }
-    ensures fits { IfSome result (λ found. found.line + length found.rest.now ≤ first_line + length text.now) }
+    ensures fits { IfSome result
+        (λ found. found.line + length found.rest.now ≤ first_line + length text.now) }
 {
     let mut line = first_line;
     let mut rest = text;

@@ -14,7 +14,8 @@ is_special o = list_any (λ sign. sign == o) (92 ∷ codes "()[]{}*+?^$|")
 -- the URI text of a component, which has no special sign and no >
 abbrev pub IsText : List ℕ → Field → Type 0
 IsText text c =
-    AllByRecursion (λ o. (is_special o ≡ false) × (o ≢ 62)) text × ReadsComponent text c × IsComponent c
+    AllByRecursion (λ o. (is_special o ≡ false) × (o ≢ 62)) text × ReadsComponent text c
+    × IsComponent c
 
 -- a text between < and >
 abbrev pub IsQuoted : List ℕ → Field → Type 0
@@ -23,15 +24,19 @@ IsQuoted text c = (inner : List ℕ) × (text ≡ codes "<" ++ (inner ++ codes "
 -- such texts, one after the other
 abbrev pub AreQuoted : List ℕ → List Field → Type 0
 AreQuoted text [] = text ≡ []
-AreQuoted text (c ∷ cs) = (front rest : List ℕ) × (text ≡ front ++ rest) × IsQuoted front c × AreQuoted rest cs
+AreQuoted text (c ∷ cs) =
+    (front rest : List ℕ) × (text ≡ front ++ rest) × IsQuoted front c × AreQuoted rest cs
 
--- <> for anything, one text for one component, a list for one of several, and a list that begins with ^ for none of them
+-- <> for anything, one text for one component, a list for one of several, and a list that begins
+-- with ^ for none of them
 abbrev pub IsTestText : List ℕ → PlainTest → Type 0
 IsTestText text Anything = text ≡ codes "<>"
 IsTestText text (OneOf cs) =
     ((c : Field) × (cs ≡ c ∷ []) × IsQuoted text c)
-    ⊎ ((inner : List ℕ) × (text ≡ codes "[" ++ (inner ++ codes "]")) × (cs ≢ []) × AreQuoted inner cs)
-IsTestText text (NoneOf cs) = (inner : List ℕ) × (text ≡ codes "[^" ++ (inner ++ codes "]")) × (cs ≢ []) × AreQuoted inner cs
+    ⊎ ((inner : List ℕ) × (text ≡ codes "[" ++ (inner ++ codes "]")) × (cs ≢ [])
+    × AreQuoted inner cs)
+IsTestText text (NoneOf cs) =
+    (inner : List ℕ) × (text ≡ codes "[^" ++ (inner ++ codes "]")) × (cs ≢ []) × AreQuoted inner cs
 
 -- a number from 0 to 64 in decimal digits
 abbrev pub IsCount : List ℕ → ℕ → Type 0
@@ -43,7 +48,8 @@ IsRange text least None = (low : List ℕ) × (text ≡ low ++ codes ",") × IsC
 IsRange text least (Some most) =
     ((least ≡ most) × IsCount text most)
     ⊎ (((least ≡ 0) × ((high : List ℕ) × (text ≡ codes "," ++ high) × IsCount high most))
-    ⊎ ((low high : List ℕ) × (text ≡ low ++ (codes "," ++ high)) × IsCount low least × IsCount high most × (least ≤ most)))
+    ⊎ ((low high : List ℕ) × (text ≡ low ++ (codes "," ++ high)) × IsCount low least
+    × IsCount high most × (least ≤ most)))
 
 -- * + ? or a range in braces
 abbrev pub IsRepeat : List ℕ → Bounds → Type 0
@@ -51,7 +57,8 @@ IsRepeat text bounds =
     ((text ≡ codes "*") × (bounds.least ≡ 0) × (bounds.most ≡ None))
     ⊎ (((text ≡ codes "+") × (bounds.least ≡ 1) × (bounds.most ≡ None))
     ⊎ (((text ≡ codes "?") × (bounds.least ≡ 0) × (bounds.most ≡ Some 1))
-    ⊎ ((inner : List ℕ) × (text ≡ codes "{" ++ (inner ++ codes "}")) × IsRange inner bounds.least bounds.most)))
+    ⊎ ((inner : List ℕ) × (text ≡ codes "{" ++ (inner ++ codes "}"))
+    × IsRange inner bounds.least bounds.most)))
 
 -- a test, and what repeats it; without that, one component is taken
 abbrev pub IsAtom : List ℕ → PlainAtom → Type 0
@@ -61,7 +68,8 @@ IsAtom text atom =
 
 abbrev pub AreAtoms : List ℕ → List PlainAtom → Type 0
 AreAtoms text [] = text ≡ []
-AreAtoms text (atom ∷ atoms) = (front rest : List ℕ) × (text ≡ front ++ rest) × IsAtom front atom × AreAtoms rest atoms
+AreAtoms text (atom ∷ atoms) =
+    (front rest : List ℕ) × (text ≡ front ++ rest) × IsAtom front atom × AreAtoms rest atoms
 
 -- an atom alone, or a group of atoms
 pub data Item : Type 0 where
@@ -70,11 +78,13 @@ pub data Item : Type 0 where
 
 abbrev pub IsItem : List ℕ → Item → Type 0
 IsItem text (Alone atom) = IsAtom text atom
-IsItem text (Group atoms) = (inner : List ℕ) × (text ≡ codes "(" ++ (inner ++ codes ")")) × AreAtoms inner atoms
+IsItem text (Group atoms) =
+    (inner : List ℕ) × (text ≡ codes "(" ++ (inner ++ codes ")")) × AreAtoms inner atoms
 
 abbrev pub AreItems : List ℕ → List Item → Type 0
 AreItems text [] = text ≡ []
-AreItems text (item ∷ items) = (front rest : List ℕ) × (text ≡ front ++ rest) × IsItem front item × AreItems rest items
+AreItems text (item ∷ items) =
+    (front rest : List ℕ) × (text ≡ front ++ rest) × IsItem front item × AreItems rest items
 
 abbrev pub item_atoms : Item → List PlainAtom
 item_atoms (Alone atom) = atom ∷ []

@@ -27,19 +27,21 @@ greatest can_take least (suc n) =
     if nat_lt (suc n) least then None else (
     if can_take (suc n) then Some (suc n) else greatest can_take least n)
 
--- The count of the first atom in the greatest split: the greatest in its bounds after which the other atoms have a split.
--- Where there is no atom, 0 stands for the split of no components.
+-- The count of the first atom in the greatest split: the greatest in its bounds after which the
+-- other atoms have a split. Where there is no atom, 0 stands for the split of no components.
 unfoldable pub first_count : List PlainAtom → List Field → Option ℕ
 first_count [] [] = Some 0
 first_count [] (c ∷ cs) = None
 first_count (atom ∷ atoms) cs =
-    greatest (λ count. is_some (first_count atoms (drop count cs))) atom.bounds.least (at_most atom.bounds.most (run_of atom.test cs))
+    greatest (λ count. is_some (first_count atoms (drop count cs))) atom.bounds.least
+    (at_most atom.bounds.most (run_of atom.test cs))
 
 -- all counts of the greatest split, if there is one
 unfoldable pub greedy : List PlainAtom → List Field → Option (List ℕ)
 greedy [] cs = option_map (λ count. []) (first_count [] cs)
 greedy (atom ∷ atoms) cs =
-    option_and_then (λ count. option_map (λ counts. count ∷ counts) (greedy atoms (drop count cs))) (first_count (atom ∷ atoms) cs)
+    option_and_then (λ count. option_map (λ counts. count ∷ counts) (greedy atoms (drop count cs)))
+    (first_count (atom ∷ atoms) cs)
 
 -- a count stands at this place
 abbrev pub is_count : Option (Option ℕ) → Bool
@@ -51,12 +53,15 @@ has_count row place = is_count (slice_get row place)
 
 -- a row has, for each place of the components, the first count of the atoms from that place on
 abbrev pub IsRow : List PlainAtom → List Field → List (Option ℕ) → Type 0
-IsRow atoms cs row = (place : ℕ) → place ≤ length cs → slice_get row place ≡ Some (first_count atoms (drop place cs))
+IsRow atoms cs row =
+    (place : ℕ) → place ≤ length cs → slice_get row place ≡ Some (first_count atoms (drop place cs))
 
 -- a table has a row for the atoms from each of them on
 abbrev pub IsTable : List PlainAtom → List Field → List (List (Option ℕ)) → Type 0
-IsTable atoms cs rows = (i : ℕ) → i ≤ length atoms → IsSomeAnd (slice_get rows i) (IsRow (drop i atoms) cs)
+IsTable atoms cs rows =
+    (i : ℕ) → i ≤ length atoms → IsSomeAnd (slice_get rows i) (IsRow (drop i atoms) cs)
 
 -- the places in front of each atom and after the last, by the counts of the atoms
 abbrev pub AreStarts : List PlainAtom → List ℕ → List ℕ → Type 0
-AreStarts atoms counts starts = (i : ℕ) → i ≤ length atoms → slice_get starts i ≡ Some (sum (take i counts))
+AreStarts atoms counts starts =
+    (i : ℕ) → i ≤ length atoms → slice_get starts i ≡ Some (sum (take i counts))

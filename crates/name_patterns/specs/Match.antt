@@ -20,8 +20,9 @@ abbrev pub IsAtMost : ℕ → Option ℕ → Type 0
 IsAtMost count None = ⊤
 IsAtMost count (Some most) = count ≤ most
 
--- A split of components gives each atom in turn a count of them. The count is within the atom's bounds, so many components are
--- there and each passes the atom's test. The atoms after it split the components after those.
+-- A split of components gives each atom in turn a count of them. The count is within the atom's
+-- bounds, so many components are there and each passes the atom's test. The atoms after it split
+-- the components after those.
 abbrev pub IsSplit : List PlainAtom → List Field → List ℕ → Type 0
 IsSplit [] cs counts = (cs ≡ []) × (counts ≡ [])
 IsSplit (atom ∷ atoms) cs [] = ⊥
@@ -33,10 +34,13 @@ IsSplit (atom ∷ atoms) cs (count ∷ counts) =
 abbrev pub HasNoSplit : List PlainAtom → List Field → Type 0
 HasNoSplit atoms cs = (counts : List ℕ) → IsSplit atoms cs counts → ⊥
 
--- The split whose list of counts is the greatest, compared from the left: where another differs from it first, the other has less.
-pub record IsGreatestSplit (atoms : List PlainAtom) (cs : List Field) (counts : List ℕ) : Type 0 where
+-- The split whose list of counts is the greatest, compared from the left: where another differs
+-- from it first, the other has less.
+pub record IsGreatestSplit (atoms : List PlainAtom) (cs : List Field)
+    (counts : List ℕ) : Type 0 where
   pub split : IsSplit atoms cs counts
-  pub greatest : (other : List ℕ) → IsSplit atoms cs other → (other ≡ counts) ⊎ DiffersBelow ◌<◌ other counts
+  pub greatest : (other : List ℕ) → IsSplit atoms cs other → (other ≡ counts)
+      ⊎ DiffersBelow ◌<◌ other counts
 
 -- the places in a name where a group begins and ends, by the counts of the atoms
 abbrev pub group_places : List ℕ → ℕ × ℕ → ℕ × ℕ
@@ -48,4 +52,6 @@ places_of pattern cs counts = (0, length cs) ∷ map (group_places counts) patte
 
 -- the pattern matches the name of these components, and its groups stand at these places
 abbrev pub Match : PlainPattern → List Field → List (ℕ × ℕ) → Type 0
-Match pattern cs places = (counts : List ℕ) × IsGreatestSplit pattern.atoms cs counts × (places ≡ places_of pattern cs counts)
+Match pattern cs places =
+    (counts : List ℕ) × IsGreatestSplit pattern.atoms cs counts
+    × (places ≡ places_of pattern cs counts)

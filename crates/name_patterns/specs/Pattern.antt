@@ -29,8 +29,8 @@ pub record PlainAtom : Type 0 where
 abbrev pub anything : PlainAtom
 anything = record { test = Anything; bounds = any_number }
 
--- A pattern: its atoms in turn, implied ones included, and its groups. Of a group there is the number of atoms before its first
--- atom, and of those before its end.
+-- A pattern: its atoms in turn, implied ones included, and its groups. Of a group there is the
+-- number of atoms before its first atom, and of those before its end.
 pub record PlainPattern : Type 0 where
   pub atoms : List PlainAtom
   pub groups : List (ℕ × ℕ)

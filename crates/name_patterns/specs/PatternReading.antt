@@ -41,7 +41,8 @@ quoted_in (o ∷ text) = if o == 60 then cut_at 62 text else None
 -- no text, up to the bracket that closes a list
 abbrev pub list_end : List ℕ → Option (FrontPart (List Field))
 list_end [] = None
-list_end (o ∷ text) = if o == 93 then Some (record { part = []; is_inner = false; rest = text }) else None
+list_end (o ∷ text) =
+    if o == 93 then Some (record { part = []; is_inner = false; rest = text }) else None
 
 -- at most n texts between < and >, up to the bracket that closes a list
 unfoldable pub listed_within : ℕ → List ℕ → Option (FrontPart (List Field))
@@ -50,14 +51,19 @@ listed_within (suc n) text = option_map_or
     (λ quoted. do
       c ← text_in quoted.0
       others ← listed_within n quoted.1
-      Some (record { part = c ∷ others.part; is_inner = has_special quoted.0 || others.is_inner; rest = others.rest }))
+      Some (record {
+        part = c ∷ others.part;
+        is_inner = has_special quoted.0 || others.is_inner;
+        rest = others.rest;
+      }))
     (quoted_in text) (list_end text)
 
 -- one text or more, up to the bracket that closes the list
 abbrev pub list_in : (List Field → PlainTest) → List ℕ → Option (FrontPart PlainTest)
 list_in test text = do
   listed ← listed_within (length text) text
-  if length listed.part == 0 then None else Some (record { part = test listed.part; is_inner = listed.is_inner; rest = listed.rest })
+  if length listed.part == 0 then None
+      else Some (record { part = test listed.part; is_inner = listed.is_inner; rest = listed.rest })
 
 -- a list, after its first bracket
 abbrev pub bracketed_in : List ℕ → Option (FrontPart PlainTest)
@@ -68,9 +74,10 @@ bracketed_in (o ∷ text) = if o == 94 then list_in NoneOf text else list_in One
 abbrev pub quoted_test_in : List ℕ → Option (FrontPart PlainTest)
 quoted_test_in text = do
   quoted ← quoted_in text
-  if length quoted.0 == 0 then Some (record { part = Anything; is_inner = false; rest = quoted.1 }) else (do
-    c ← text_in quoted.0
-    Some (record { part = OneOf (c ∷ []); is_inner = has_special quoted.0; rest = quoted.1 }))
+  if length quoted.0 == 0 then Some (record { part = Anything; is_inner = false; rest = quoted.1 })
+      else (do
+        c ← text_in quoted.0
+        Some (record { part = OneOf (c ∷ []); is_inner = has_special quoted.0; rest = quoted.1 }))
 
 -- a test at the front of the text
 unfoldable pub test_in : List ℕ → Option (FrontPart PlainTest)
@@ -80,7 +87,8 @@ test_in (o ∷ text) = if o == 91 then bracketed_in text else quoted_test_in (o 
 -- a number from 0 to 64
 abbrev pub count_in : List ℕ → Option ℕ
 count_in text =
-    if all_ascii_digits text && (nat_lt 0 (length text) && nat_le (digits_value 10 text) 64) then Some (digits_value 10 text) else None
+    if all_ascii_digits text && (nat_lt 0 (length text) && nat_le (digits_value 10 text) 64)
+    then Some (digits_value 10 text) else None
 
 -- the range of what stands before and after a comma, not both of which are empty
 abbrev pub range_by_comma : List ℕ → List ℕ → Option Bounds
@@ -130,9 +138,14 @@ unfoldable pub atom_in : List ℕ → Option (FrontPart PlainAtom)
 atom_in text = do
   test ← test_in text
   bounds ← repeat_in test.rest
-  Some (record { part = record { test = test.part; bounds = bounds.0 }; is_inner = test.is_inner; rest = bounds.1 })
+  Some (record {
+    part = record { test = test.part; bounds = bounds.0 };
+    is_inner = test.is_inner;
+    rest = bounds.1;
+  })
 
--- what is read of a pattern: its atoms, how many of them are written, its groups, and the group that is open
+-- what is read of a pattern: its atoms, how many of them are written, its groups, and the group
+-- that is open
 pub record PlainDraft : Type 0 where
   pub atoms : List PlainAtom
   pub written : ℕ
@@ -145,22 +158,43 @@ with_atom draft at text = on_result
     (λ found.
     if nat_le 32 draft.written then Err (Syntax at) else (
     if found.is_inner then Err (Inner at) else
-    Ok (record draft { atoms = draft.atoms ++ found.part ∷ []; written = draft.written + 1 }, found.rest)))
+    Ok (
+      record draft {
+        atoms = draft.atoms ++ found.part ∷ [];
+        written = draft.written + 1;
+      },
+      found.rest,
+    )))
     Err (read_at at (atom_in text))
 
 -- a parenthesis at this place that opens a group
-abbrev pub with_open : PlainDraft → ℕ → List ℕ → Option OpenGroup → Result (PlainDraft × List ℕ) PatternFault
+abbrev pub with_open : PlainDraft → ℕ → List ℕ → Option OpenGroup
+    → Result (PlainDraft × List ℕ) PatternFault
 with_open draft at text (Some group) = Err (Nested at)
 with_open draft at text None =
     if nat_le 9 (length draft.groups) then Err (BadGroup at) else
-    Ok (record draft { open_group = Some (record { place = at; first = length draft.atoms }) }, text)
+    Ok (
+      record draft {
+        open_group = Some
+            (record { place = at; first = length draft.atoms });
+      },
+      text,
+    )
 
 -- A parenthesis at this place that closes a group. No repeat follows it.
-abbrev pub with_closed : PlainDraft → ℕ → List ℕ → Option OpenGroup → Result (PlainDraft × List ℕ) PatternFault
+abbrev pub with_closed : PlainDraft → ℕ → List ℕ → Option OpenGroup
+    → Result (PlainDraft × List ℕ) PatternFault
 with_closed draft at text None = Err (Syntax at)
 with_closed draft at text (Some group) =
-    if begins_repeat text then Err (if is_some (repeat_in text) then Nested (at + 1) else Syntax (at + 1)) else
-    Ok (record draft { groups = draft.groups ++ (group.first, length draft.atoms) ∷ []; open_group = None }, text)
+    if begins_repeat text
+    then Err (if is_some (repeat_in text) then Nested (at + 1) else Syntax (at + 1)) else
+    Ok (
+      record draft {
+        groups = draft.groups ++ (group.first, length draft.atoms) ∷ [];
+        open_group = None;
+      },
+      text,
+    )
 
 -- what stands at this place: a parenthesis, or an atom
 abbrev pub with_item : PlainDraft → ℕ → List ℕ → Result (PlainDraft × List ℕ) PatternFault
@@ -170,7 +204,8 @@ with_item draft at (o ∷ text) =
     if o == 41 then with_closed draft at text draft.open_group else
     with_atom draft at (o ∷ text))
 
--- a parenthesis that closes stands in the text outside of all < and >; at first the text is inside of them, or not
+-- a parenthesis that closes stands in the text outside of all < and >; at first the text is inside
+-- of them, or not
 unfoldable pub is_closed : Bool → List ℕ → Bool
 is_closed is_inside [] = false
 is_closed is_inside (o ∷ text) =
@@ -203,7 +238,8 @@ unfoldable pub items_within : ℕ → ℕ → PlainDraft → List ℕ → Result
 items_within zero len draft text = at_end draft text
 items_within (suc n) len draft text =
     if is_end text then at_end draft text else
-    on_result (λ next. items_within n len next.0 next.1) (λ fault. Err (first_fault draft.open_group text fault))
+    on_result (λ next. items_within n len next.0 next.1)
+    (λ fault. Err (first_fault draft.open_group text fault))
     (with_item draft (len - length text) text)
 
 abbrev pub items_in : ℕ → PlainDraft → List ℕ → Result PlainPattern PatternFault
@@ -216,7 +252,8 @@ begun = record { atoms = []; written = 0; groups = []; open_group = None }
 -- the pattern of a text of this length after its first anchor
 abbrev pub pattern_after : ℕ → List ℕ → Result PlainPattern PatternFault
 pattern_after len [] = items_in len (with_implied begun) []
-pattern_after len (o ∷ text) = if o == 94 then items_in len begun text else items_in len (with_implied begun) (o ∷ text)
+pattern_after len (o ∷ text) =
+    if o == 94 then items_in len begun text else items_in len (with_implied begun) (o ∷ text)
 
 -- the pattern of a text
 unfoldable pub pattern_in : List ℕ → Result PlainPattern PatternFault
@@ -228,4 +265,5 @@ pub record IsDraft (implied : ℕ) (draft : PlainDraft) : Type 0 where
   pub few_atoms : length draft.atoms ≤ draft.written + implied
   pub few_groups : length draft.groups ≤ 9
   pub groups : AllByRecursion (LiesIn (length draft.atoms)) draft.groups
-  pub open_group : IfSome draft.open_group (λ group. (group.first ≤ length draft.atoms) × (length draft.groups < 9))
+  pub open_group : IfSome draft.open_group
+      (λ group. (group.first ≤ length draft.atoms) × (length draft.groups < 9))

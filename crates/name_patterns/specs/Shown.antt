@@ -36,4 +36,9 @@ part_of (parts.Group n) = OfGroup n
 part_of (parts.Single text) = Single (field_of text)
 
 abbrev pub draft_of : Draft → PlainDraft
-draft_of draft = record { atoms = map atom_of draft.atoms.items; written = draft.written; groups = draft.groups.items; open_group = draft.open_group }
+draft_of draft = record {
+  atoms = map atom_of draft.atoms.items;
+  written = draft.written;
+  groups = draft.groups.items;
+  open_group = draft.open_group;
+}

@@ -21,7 +21,8 @@ IsPart groups text (Single c) = IsQuoted text c
 abbrev pub IsTemplate : ℕ → List ℕ → List PlainPart → Type 0
 IsTemplate groups text [] = text ≡ []
 IsTemplate groups text (part ∷ parts) =
-    (front rest : List ℕ) × (text ≡ front ++ rest) × IsPart groups front part × IsTemplate groups rest parts
+    (front rest : List ℕ) × (text ≡ front ++ rest) × IsPart groups front part
+    × IsTemplate groups rest parts
 
 -- what stands in a list from one place up to another
 abbrev pub between : List Field → ℕ × ℕ → List Field
@@ -38,7 +39,8 @@ expansion_of parts captures cs = flat_map (part_of captures cs) parts
 
 -- how many components a part stands for, by the places of its group
 abbrev pub part_len : List (ℕ × ℕ) → PlainPart → ℕ
-part_len captures (OfGroup n) = option_map_or (λ places. places.1 - places.0) (slice_get captures n) 0
+part_len captures (OfGroup n) =
+    option_map_or (λ places. places.1 - places.0) (slice_get captures n) 0
 part_len captures (Single c) = 1
 
 -- a part's group is among the captures, and lies within the name

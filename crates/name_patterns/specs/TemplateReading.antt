@@ -16,7 +16,8 @@ digit_in (o ∷ text) = if nat_le 48 o && nat_le o 57 then Some (o - 48, text) e
 -- a group by its digit, after a backslash at this place
 abbrev pub group_in : ℕ → ℕ → List ℕ → Result (PlainPart × List ℕ) PatternFault
 group_in groups at text =
-    on_result (λ digit. if nat_lt groups digit.0 then Err (BadGroup at) else Ok (OfGroup digit.0, digit.1)) Err (read_at at (digit_in text))
+    on_result (λ digit. if nat_lt groups digit.0 then Err (BadGroup at)
+    else Ok (OfGroup digit.0, digit.1)) Err (read_at at (digit_in text))
 
 -- the component of a text between < and >
 abbrev pub single_in : List ℕ → Option (FrontPart Field)
@@ -28,19 +29,22 @@ single_in text = do
 -- such a text at this place, as a part
 abbrev pub single_part_in : ℕ → List ℕ → Result (PlainPart × List ℕ) PatternFault
 single_part_in at text =
-    on_result (λ found. if found.is_inner then Err (Inner at) else Ok (Single found.part, found.rest)) Err (read_at at (single_in text))
+    on_result (λ found. if found.is_inner then Err (Inner at)
+    else Ok (Single found.part, found.rest)) Err (read_at at (single_in text))
 
 -- a part at this place
 abbrev pub part_in : ℕ → ℕ → List ℕ → Result (PlainPart × List ℕ) PatternFault
 part_in groups at [] = Err (Syntax at)
-part_in groups at (o ∷ text) = if o == 92 then group_in groups at text else single_part_in at (o ∷ text)
+part_in groups at (o ∷ text) =
+    if o == 92 then group_in groups at text else single_part_in at (o ∷ text)
 
 -- the parts of a text of this length, of which a rest is left; at most n more parts are read
 unfoldable pub parts_within : ℕ → ℕ → ℕ → List ℕ → Result (List PlainPart) PatternFault
 parts_within zero groups len text = Ok []
 parts_within (suc n) groups len text =
     if length text == 0 then Ok [] else
-    on_result (λ next. on_result (λ parts. Ok (next.0 ∷ parts)) Err (parts_within n groups len next.1)) Err
+    on_result (λ next. on_result (λ parts. Ok (next.0 ∷ parts)) Err
+    (parts_within n groups len next.1)) Err
     (part_in groups (len - length text) text)
 
 -- the parts of a text

@@ -36,7 +36,12 @@ pub fn any_components() -> Atom
 /// The atom at the front of the text, which stands at a place.
 pub fn read_atom(alloc: Global, at: usize, text: &str) -> Result<FrontPart<'_, Atom>, PatternFault>
     ensures read { let atom = read.atom_in text.now in
-        MatchResult result (λ found. atom ≡ Some (record { part = atom_of found.part; is_inner = found.is_inner; rest = found.rest.now }))
+        MatchResult result (λ found. atom
+        ≡ Some (record {
+          part = atom_of found.part;
+          is_inner = found.is_inner;
+          rest = found.rest.now;
+        }))
         (IsFaultOf (read_at at atom)) }
     ensures shorter { IfOk result (λ found. length found.rest.now < length text.now) }
 {

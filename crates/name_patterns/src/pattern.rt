@@ -21,9 +21,13 @@ impl Model for Pattern {
     ghost use Rattle.std.specs.Prelude.{map};
     ghost use Rattle.name_patterns.specs.Shown.{atom_of};
 
-    ghost view = { λ pattern. record { atoms = map atom_of pattern.atoms.items; groups = pattern.groups.items } };
+    ghost view = { λ pattern. record {
+      atoms = map atom_of pattern.atoms.items;
+      groups = pattern.groups.items;
+    } };
 
-    ghost invariant = { λ pattern. IsWithinLimits (record { atoms = map atom_of pattern.atoms.items; groups = pattern.groups.items }) };
+    ghost invariant = { λ pattern. IsWithinLimits
+        (record { atoms = map atom_of pattern.atoms.items; groups = pattern.groups.items }) };
 }
 
 impl Pattern {
@@ -48,7 +52,8 @@ impl Pattern {
         // Where nothing is given, there is no match.
         ensures none { IfNone result (HasNoSplit self.now.atoms (components name.entry)) }
         // Templates for so many groups can be expanded.
-        ensures there { IfSome result (λ captures. (parts : List PlainPart) → NeedAtMost (length self.now.groups) parts
+        ensures there { IfSome result
+            (λ captures. (parts : List PlainPart) → NeedAtMost (length self.now.groups) parts
             → AreThere captures (components name.entry) parts) }
     {
         let mut steps = 0;
@@ -61,9 +66,11 @@ impl Pattern {
         requires { steps.old + 1000000 < 2 ^ 64 }
         ensures found { IfSome result (Match self.now (components name.entry)) }
         ensures none { IfNone result (HasNoSplit self.now.atoms (components name.entry)) }
-        ensures there { IfSome result (λ captures. (parts : List PlainPart) → NeedAtMost (length self.now.groups) parts
+        ensures there { IfSome result
+            (λ captures. (parts : List PlainPart) → NeedAtMost (length self.now.groups) parts
             → AreThere captures (components name.entry) parts) }
-        ensures cost { steps.new ≡ steps.old + length self.now.atoms * length (components name.entry) }
+        ensures cost { steps.new
+            ≡ steps.old + length self.now.atoms * length (components name.entry) }
     {
         let starts = first_split(&self.atoms, name, steps)?;
         Some(self.captures(&starts, name.len()))
@@ -71,7 +78,9 @@ impl Pattern {
 
     /// The places of the groups, by those in front of each atom, in a name of so many components.
     fn captures(&self, starts: &Starts, len: usize) -> Captures
-        ensures { result ≡ (0, len) ∷ map (λ group. (slice_index starts.now group.0, slice_index starts.now group.1)) self.now.groups }
+        ensures { result ≡ (0, len) ∷ map
+            (λ group. (slice_index starts.now group.0, slice_index starts.now group.1))
+            self.now.groups }
     {
         let mut captures = Captures::of_name(len);
         for (first, end) in &self.groups {

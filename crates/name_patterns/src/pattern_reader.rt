@@ -29,8 +29,8 @@ fn is_closed(text: &[u8]) -> bool
     false
 }
 
-/// The fault to report of one in front of this text: a group that is never closed is the item before
-/// it.
+/// The fault to report of one in front of this text: a group that is never closed is the item
+/// before it.
 fn first_fault(open_group: Option<OpenGroup>, text: &str, fault: PatternFault) -> PatternFault
     ensures { result ≡ read.first_fault open_group text.now fault }
 {
@@ -65,7 +65,8 @@ fn read_items(alloc: Global, begun: Draft, len: usize, items: &str) -> Result<Pa
 
 /// The pattern of a text.
 fn read_pattern(alloc: Global, text: &str) -> Result<Pattern, PatternFault>
-    ensures { MatchResult result (λ pattern. read.pattern_in text.now ≡ Ok pattern) (IsFaultOf (read.pattern_in text.now)) }
+    ensures { MatchResult result (λ pattern. read.pattern_in text.now ≡ Ok pattern)
+        (IsFaultOf (read.pattern_in text.now)) }
 {
     let mut draft = Draft::new(alloc);
     if let Some(items) = text.strip_prefix('^') {
@@ -103,6 +104,8 @@ impl Pattern {
 
 /// Law: a text spells one pattern at most, which `pattern_in` gives.
 pub fn patterns_have_one_reading()
-    ensures exact { (text : List ℕ) (pattern : PlainPattern) → (read.pattern_in text ≡ Ok pattern) ↔ IsPattern text pattern }
-    ensures one { (text : List ℕ) (a b : PlainPattern) → IsPattern text a → IsPattern text b → a ≡ b }
+    ensures exact { (text : List ℕ) (pattern : PlainPattern) → (read.pattern_in text ≡ Ok pattern)
+        ↔ IsPattern text pattern }
+    ensures one { (text : List ℕ) (a b : PlainPattern) → IsPattern text a → IsPattern text b
+        → a ≡ b }
 {}

@@ -74,7 +74,8 @@ pub fn begins_repeat(text: &str) -> bool
 
 /// The repeat in braces after the first of them, and the text after it.
 fn braced_repeat(text: &str) -> Option<(Repeat, &str)>
-    ensures read { option_map (λ found. (bounds_of found.0, found.1.now)) result ≡ read.braced_in text.now }
+    ensures read { option_map (λ found. (bounds_of found.0, found.1.now)) result
+        ≡ read.braced_in text.now }
     ensures shorter { IfSome result (λ found. length found.1.now ≤ length text.now) }
 {
     let (range, rest) = text.split_once('}')?;
@@ -84,7 +85,8 @@ fn braced_repeat(text: &str) -> Option<(Repeat, &str)>
 /// The repeat at the front, which is one component where none stands there, and the text after it.
 /// Braces that hold no range are no repeat, and nothing else.
 pub fn first_repeat(text: &str) -> Option<(Repeat, &str)>
-    ensures read { option_map (λ found. (bounds_of found.0, found.1.now)) result ≡ read.repeat_in text.now }
+    ensures read { option_map (λ found. (bounds_of found.0, found.1.now)) result
+        ≡ read.repeat_in text.now }
     ensures shorter { IfSome result (λ found. length found.1.now ≤ length text.now) }
 {
     if let Some(rest) = text.strip_prefix('{') {

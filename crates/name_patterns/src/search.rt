@@ -31,7 +31,8 @@ type Table = [Row; MAX_STARTS];
 /// Which components of the name pass the test.
 fn passed(test: &Test, name: Name<'_>, steps: &mut u64) -> [bool; MAX_COMPONENTS]
     requires { steps.old + 64 < 2 ^ 64 }
-    ensures exact { take (length (components name.entry)) result ≡ map (passes (test_of test.now)) (components name.entry) }
+    ensures exact { take (length (components name.entry)) result
+        ≡ map (passes (test_of test.now)) (components name.entry) }
     ensures cost { steps.new ≡ steps.old + length (components name.entry) }
 {
     let mut passed = [false; MAX_COMPONENTS];
@@ -48,7 +49,8 @@ fn passed(test: &Test, name: Name<'_>, steps: &mut u64) -> [bool; MAX_COMPONENTS
 /// atoms after it have a count where it then ends.
 fn greatest(repeat: Repeat, run: u8, after: &Row, place: usize) -> Option<u8>
     requires { run + place ≤ 64 }
-    ensures { result ≡ greatest (has_count (drop place after.now)) repeat.least (at_most repeat.most run) }
+    ensures { result
+        ≡ greatest (has_count (drop place after.now)) repeat.least (at_most repeat.most run) }
 {
     let most = match repeat.most {
         Some(most) => most.min(run),
@@ -94,8 +96,10 @@ fn run_from(passes: bool, run: u8) -> u8
 /// The row of an atom, by which components pass its test, and the row of the atoms after it.
 fn row_before(repeat: Repeat, passed: &[bool], after: &Row) -> Row
     requires { length passed.now ≤ 64 }
-    ensures { (atom : PlainAtom) → (atoms : List PlainAtom) → (cs : List Field) → bounds_of repeat ≡ atom.bounds
-        → passed.now ≡ map (passes atom.test) cs → IsRow atoms cs after.now → IsRow (atom ∷ atoms) cs result }
+    ensures { (atom : PlainAtom) → (atoms : List PlainAtom) → (cs : List Field)
+        → bounds_of repeat ≡ atom.bounds
+        → passed.now ≡ map (passes atom.test) cs → IsRow atoms cs after.now
+        → IsRow (atom ∷ atoms) cs result }
 {
     let mut row = empty_row();
     let mut run = 0;
@@ -146,7 +150,8 @@ fn table_of(atoms: &[Atom], name: Name<'_>, steps: &mut u64) -> Table
 pub fn first_split(atoms: &[Atom], name: Name<'_>, steps: &mut u64) -> Option<Starts>
     requires few { length atoms.now ≤ 34 }
     requires room { steps.old + 1000000 < 2 ^ 64 }
-    ensures found { IfSome result (λ starts. IsSomeAnd (greedy (map atom_of atoms.now) (components name.entry))
+    ensures found { IfSome result
+        (λ starts. IsSomeAnd (greedy (map atom_of atoms.now) (components name.entry))
         (λ counts. AreStarts (map atom_of atoms.now) counts starts)) }
     ensures none { IfNone result (greedy (map atom_of atoms.now) (components name.entry) ≡ None) }
     ensures cost { steps.new ≡ steps.old + length atoms.now * length (components name.entry) }

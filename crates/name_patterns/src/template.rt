@@ -67,7 +67,8 @@ impl Template {
 
     /// The name that the template stands for, where the groups hold these places of a name.
     ///
-    /// Refuses it as `TooManyComponents`, which is reported before memory is asked for, or as `Memory`.
+    /// Refuses it as `TooManyComponents`, which is reported before memory is asked for, or as
+    /// `Memory`.
     pub fn expand(
         &self,
         alloc: Global,
@@ -76,10 +77,12 @@ impl Template {
     ) -> Result<NameBuf, NameFault>
         // Each group is among the captures, and lies within the name.
         requires { AreThere captures.now (components name) self.now }
-        ensures ok { IfOk result (λ expanded. expanded ≡ expansion_of self.now captures.now (components name.entry)) }
+        ensures ok { IfOk result
+            (λ expanded. expanded ≡ expansion_of self.now captures.now (components name.entry)) }
         ensures long { (result ≡ Err NameFault.TooManyComponents)
             ↔ (64 < length (expansion_of self.now captures.now (components name.entry))) }
-        ensures fault { IfErr result (λ fault. (fault ≡ NameFault.TooManyComponents) ⊎ (fault ≡ NameFault.Memory)) }
+        ensures fault { IfErr result
+            (λ fault. (fault ≡ NameFault.TooManyComponents) ⊎ (fault ≡ NameFault.Memory)) }
     {
         if self.is_too_long(captures) {
             return Err(NameFault::TooManyComponents);
@@ -114,10 +117,13 @@ fn append_part(
     captures: &Captures,
     name: Name<'_>,
 ) -> Result<(), NameFault>
-    ensures ok { OnOk result (expanded.new ≡ expanded.old ++ template.part_of captures.now (components name.entry) (part_of part.now)) }
+    ensures ok { OnOk result
+        (expanded.new ≡ expanded.old ++ template.part_of captures.now (components name.entry)
+        (part_of part.now)) }
     // Where there is room, nothing but memory is refused.
     ensures room { CanStand (part_of part.now)
-        → length expanded.old + length (template.part_of captures.now (components name.entry) (part_of part.now)) ≤ 64
+        → length expanded.old + length
+        (template.part_of captures.now (components name.entry) (part_of part.now)) ≤ 64
         → IfErr result (λ fault. fault ≡ NameFault.Memory) }
 {
     match part {
@@ -138,7 +144,8 @@ fn append_between(
     start: usize,
     end: usize,
 ) -> Result<(), NameFault>
-    ensures ok { OnOk result (expanded.new ≡ expanded.old ++ between (components name.entry) (start, end)) }
+    ensures ok { OnOk result
+        (expanded.new ≡ expanded.old ++ between (components name.entry) (start, end)) }
     // Where there is room, nothing but memory is refused.
     ensures room { length expanded.old + length (between (components name.entry) (start, end)) ≤ 64
         → IfErr result (λ fault. fault ≡ NameFault.Memory) }

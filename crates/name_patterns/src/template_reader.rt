@@ -26,7 +26,8 @@ fn first_digit(text: &str) -> Option<(u8, &str)>
 /// The group of the digit at the front, after a backslash at a place, and the text after it.
 fn read_group(at: usize, text: &str, groups: u8) -> Result<(Part, &str), PatternFault>
     ensures read { let group = read.group_in groups at text.now in
-        MatchResult result (λ found. group ≡ Ok (part_of found.0, found.1.now)) (λ fault. group ≡ Err fault) }
+        MatchResult result (λ found. group ≡ Ok (part_of found.0, found.1.now))
+        (λ fault. group ≡ Err fault) }
     ensures shorter { IfOk result (λ found. length found.1.now < length text.now) }
 {
     let Some((group, rest)) = first_digit(text) else {
@@ -38,11 +39,12 @@ fn read_group(at: usize, text: &str, groups: u8) -> Result<(Part, &str), Pattern
     Ok((Part::Group(group), rest))
 }
 
-/// The component of the text between `<` and `>` at the front, which stands at a place, and the text
-/// after it.
+/// The component of the text between `<` and `>` at the front, which stands at a place, and the
+/// text after it.
 fn read_single(alloc: Global, at: usize, text: &str) -> Result<(Part, &str), PatternFault>
     ensures read { let single = read.single_part_in at text.now in
-        MatchResult result (λ found. single ≡ Ok (part_of found.0, found.1.now)) (IsFaultOf single) }
+        MatchResult result (λ found. single ≡ Ok (part_of found.0, found.1.now))
+        (IsFaultOf single) }
     ensures shorter { IfOk result (λ found. length found.1.now < length text.now) }
 {
     let Some((inner, rest)) = first_quoted(text) else {

@@ -11,7 +11,11 @@ use crate::text::{FrontPart, Text, first_quoted, has_special, read_text};
 use std::alloc::Global;
 
 /// The texts up to the bracket that closes a list.
-fn read_texts(alloc: Global, at: usize, text: &str) -> Result<FrontPart<'_, Vec<Text>>, PatternFault>
+fn read_texts(
+    alloc: Global,
+    at: usize,
+    text: &str,
+) -> Result<FrontPart<'_, Vec<Text>>, PatternFault>
     ensures read { let listed = read.listed_within (length text.now) text.now in
         MatchResult result (λ found. listed ≡ Some (record { part = map field_of found.part.items; is_inner = found.is_inner; rest = found.rest.now }))
         (IsFaultOf (read_at at listed)) }

@@ -25,7 +25,8 @@ impl Text {
 
     /// Whether this is the component's text.
     pub fn is(&self, candidate: Component<'_>) -> bool
-        ensures { result ≡ ((self.now.kind == candidate.entry.kind) && bytes_eq self.now.value.items candidate.entry.value.now) }
+        ensures { result ≡ ((self.now.kind == candidate.entry.kind)
+            && bytes_eq self.now.value.items candidate.entry.value.now) }
     {
         self.kind == candidate.kind && self.value.as_slice() == candidate.value
     }
@@ -55,7 +56,8 @@ pub fn has_special(text: &str) -> bool
 
 /// The text between `<` at the front and the first `>`, and the text after that.
 pub fn first_quoted(text: &str) -> Option<(&str, &str)>
-    ensures read { option_map (λ parts. (parts.0.now, parts.1.now)) result ≡ read.quoted_in text.now }
+    ensures read { option_map (λ parts. (parts.0.now, parts.1.now)) result
+        ≡ read.quoted_in text.now }
     ensures shorter { IfSome result (λ parts. length parts.1.now < length text.now) }
 {
     text.strip_prefix('<')?.split_once('>')
@@ -64,7 +66,8 @@ pub fn first_quoted(text: &str) -> Option<(&str, &str)>
 /// The component of a text in the item at a place.
 pub fn read_text(alloc: Global, at: usize, text: &str) -> Result<Text, PatternFault>
     ensures { let component = read.text_in text.now in
-        MatchResult result (λ text. component ≡ Some (field_of text)) (IsFaultOf (read_at at component)) }
+        MatchResult result (λ text. component ≡ Some (field_of text))
+        (IsFaultOf (read_at at component)) }
 {
     match component_from_uri(alloc, text) {
         Ok((kind, value)) => Ok(Text { kind, value }),
