@@ -4,6 +4,8 @@
 #[cfg(test)]
 mod forwarder;
 #[cfg(test)]
+mod guard;
+#[cfg(test)]
 mod keys;
 #[cfg(test)]
 mod names;

@@ -1,10 +1,10 @@
-//! Rows of text: an input, ` -> `, and the text that it has to be shown as. Lines that begin with
-//! `#` are comments.
+//! Tests as rows of a text, of which each is a case. Lines that begin with `#` are comments.
 
 use std::alloc::Global;
 use std::process::Abort;
 
-/// Fails at the first row whose input is shown as another text, and where there is no row.
+/// Fails at the first row whose input is shown as another text, and where there is no row. A row is
+/// an input, ` -> `, and the text that it has to be shown as.
 pub fn check_rows(
     rt: &impl Abort,
     alloc: Global,
@@ -37,22 +37,6 @@ pub fn octets(alloc: Global, text: &str) -> Option<Vec<u8>> {
         }
     }
     Some(octets)
-}
-
-/// Checks the rows of a text: what is given, ` => `, and what is wanted of it. Empty lines are skipped.
-pub fn check_each<F: Fn(&str, &str) -> bool>(rt: &impl Abort, rows: &str, is_right: F)
-    requires { F.IsAlwaysCallable is_right }
-{
-    assert!(rt; rows.contains(" => "), "there are no rows");
-    for row in rows.lines() {
-        if !row.is_empty() {
-            assert!(rt;
-                row.split_once(" => ")
-                    .is_some_and(|(given, wanted)| is_right(given, wanted)),
-                "{row}"
-            );
-        }
-    }
 }
 
 /// The first line, counted from 1, that a check refuses, or 0 where it refuses none. A line that is

@@ -68,7 +68,7 @@ Example: a Data named /A.
 /// Reads the arguments of a command line, the first of which is the program's name.
 ///
 /// Refuses a wrong command line by `Usage`, and any other by `Memory` alone.
-pub fn parse_arguments<S: AsStr>(alloc: Global, arguments: &[S]) -> Result<Job, ToolFault>
+pub fn parse_words<S: AsStr>(alloc: Global, arguments: &[S]) -> Result<Job, ToolFault>
     ensures { MatchResult result
         (Asks (map S.text arguments.now))
         (IsRefusedLine (map S.text arguments.now)) }

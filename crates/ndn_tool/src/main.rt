@@ -13,7 +13,7 @@ mod show;
 mod value;
 
 use answer::answer;
-use command::parse_arguments;
+use command::parse_words;
 use fault::{Fault, ToolFault};
 use hmac_keys::{KeyBook, KeyFault};
 use job::Job;
@@ -37,7 +37,7 @@ fn main(rt: HostRuntime) -> ExitCode {
 /// Does what the command line asks for, and prints the answer.
 fn run<R: Env + AllocGlobal + Files + Print>(rt: &R) -> Result<(), Fault> {
     let arguments = arguments_of(rt)?;
-    let job = parse_arguments(rt.alloc(), arguments.as_slice())?;
+    let job = parse_words(rt.alloc(), arguments.as_slice())?;
     let book = book_of(rt, &job)?;
     let mut text = Vec::new(rt.alloc());
     answer(rt.alloc(), &job, &book, &mut text)?;

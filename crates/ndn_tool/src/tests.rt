@@ -17,7 +17,7 @@ fn job_of(alloc: Global, command: &str) -> Result<Job, ToolFault> {
         let argument = if argument == "''" { "" } else { argument };
         arguments.push(argument).map_err(|_| ToolFault::Memory)?;
     }
-    parse_arguments(alloc, arguments.as_slice())
+    parse_words(alloc, arguments.as_slice())
 }
 
 /// What the program prints for a command, with the keys of a text.
