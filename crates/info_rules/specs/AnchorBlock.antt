@@ -1,4 +1,4 @@
--- Blocks of trust anchors, of which only the type is looked at.
+-- Blocks of trust anchors, of which only the type is checked.
 use Rattle.std.specs.Prelude.{ℕ, List, [], ◌++◌, codes, if◌then◌else◌}
 use Rattle.std.specs.List.{flat_map}
 use Rattle.info_rules.specs.declared.fault.RulesFault.{RulesFault}

@@ -1,4 +1,4 @@
-//! Blocks of trust anchors, of which only the type is looked at.
+//! Blocks of trust anchors, of which only the type is checked.
 
 ghost use Rattle.std.specs.Prelude.{◌≡◌, Some, MatchResult};
 ghost use Rattle.std.specs.List.{flat_map};

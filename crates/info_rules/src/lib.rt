@@ -34,7 +34,7 @@ pub use decision::{Decision, Reason, decisions_are_unique};
 pub use fault::{RulesFault, RulesFaultKind};
 pub use locator::hierarchical_keys_match_a_pattern;
 pub use packet::{Packet, read_packets_have_a_shape};
-pub use report::the_least_is_told;
+pub use report::the_least_is_reported;
 pub use rule::Kind;
 pub use rule_file::no_rule_is_dropped;
 pub use rules::{RuleNo, Rules};

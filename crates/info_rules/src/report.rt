@@ -95,7 +95,7 @@ impl Report {
 }
 
 /// Law: of faults that are met in turn the least is reported, and none only where none was met.
-pub fn the_least_is_told()
+pub fn the_least_is_reported()
     ensures { (faults : List RulesFault)
         → MatchOption (after None faults) (faults ≡ [])
         (λ told. IsAmong told faults × NoneIsSooner told faults) }

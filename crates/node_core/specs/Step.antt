@@ -60,7 +60,7 @@ after_opening s face scope =
       },
     )))
 
--- A face closes, and its pending Interests are gone.
+-- A face closes, and its pending Interests end.
 abbrev pub after_closing : State → ℕ → Answer × State
 after_closing s face =
     if is_open face s.faces

@@ -89,7 +89,7 @@ fn faults_of_interests(rt: HostRuntime) {
 5 | 0703080141 f100 0a0401020304 -> CriticalUnknown
 5 | 0703080141 1400 0a0401020304 -> CriticalUnknown
 5 | 0703080141 fd00fd00 0a0401020304 -> CriticalUnknown
-# Parameters, and no digest of them in the name: told after the last field.
+# Parameters, and no digest of them in the name: reported after the last field.
 5 | 0703080141 0a0401020304 2400 -> DigestMissing
 5 | 0703080141 2400 -> NoNonce
 # Flags with octets.
@@ -105,7 +105,7 @@ fn faults_of_interests(rt: HostRuntime) {
 5 | 0703080141 0a0401020304 0c00 -> BadField
 5 | 0703080141 0a0401020304 22020000 -> BadField
 5 | 0703080141 0a0401020304 2200 -> BadField
-# What stands first is told.
+# What stands first is reported.
 5 | 0703080141 2101 -> Tlv Truncated
 5 | 0703080141 1f00 0a0401 -> CriticalUnknown
 5 | 0703080141 0a0401020304 01 -> Tlv Truncated
@@ -332,7 +332,7 @@ fn faults_of_data(rt: HostRuntime) {
 6 | 0703080141 16021c00 1700 -> BadField
 6 | 0703080141 16051c001b0100 1700 -> CriticalUnknown
 6 | 0703080141 16071b0100fd00ff00 1700 -> CriticalUnknown
-# What stands first is told: an element that is broken itself, one before and one after an
+# What stands first is reported: an element that is broken itself, one before and one after an
 # element that is not allowed, in a field and after it, and a missing SignatureType.
 6 | 0703080141 16021b01 1700 -> Tlv Truncated
 6 | 0703080141 1401 -> Tlv Truncated
