@@ -42,6 +42,7 @@ pub(crate) fn component_kind(kind: u32, value: &[u8]) -> Result<u16, NameFault>
 }
 
 /// The component at the front of the octets, and the octets after it.
+#[inline(always)]
 pub(crate) fn first_component<'a>(octets: &'a [u8]) -> Result<(Component<'a>, &'a [u8]), NameFault>
     ensures shorter { IfOk result (λ x. length x.1.now < length octets.now) }
     ensures front { IfOk result (λ x. octets.now ≡ element (x.0.kind, x.0.value.now) ++ x.1.now) }

@@ -38,6 +38,7 @@ impl<'a> FieldReader<'a> {
     }
 
     /// The next field. Elements that are none are ignored or refused.
+    #[inline(always)]
     pub fn next(&mut self) -> Result<Option<Element<'a>>, PacketFault>
         ensures walk { MatchResult result
             (λ next. MatchOption next
@@ -65,6 +66,7 @@ impl<'a> FieldReader<'a> {
 }
 
 /// What of a schema stands after a type that counts in it.
+#[inline(always)]
 fn rest_of_schema(schema: &[u32], kind: u32) -> Option<&[u32]>
     ensures { option_map (λ s. s.now) result ≡ schema_after kind schema.now }
 {

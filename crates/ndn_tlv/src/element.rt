@@ -22,6 +22,7 @@ pub struct Element<'a> {
     ghost spelled: { IsElement whole.now kind value.now },
 }
 
+#[inline(always)]
 fn leading_type(octets: &[u8]) -> Result<(u32, &[u8]), TlvFault>
     ensures { on_result (λ x. Ok (x.0, x.1.now)) Err result ≡ type_at octets.now }
 {
@@ -37,6 +38,7 @@ fn leading_type(octets: &[u8]) -> Result<(u32, &[u8]), TlvFault>
 
 /// A type, a value and the octets after it.
 #[tactic(auto, unfolding(crate::specs::Reading::element_at))]
+#[inline(always)]
 fn leading_field(octets: &[u8]) -> Result<(u32, &[u8], &[u8]), TlvFault>
     ensures { on_result (λ x. Ok ((x.0, x.1.now), x.2.now)) Err result ≡ element_at octets.now }
 {
@@ -53,6 +55,7 @@ fn leading_field(octets: &[u8]) -> Result<(u32, &[u8], &[u8]), TlvFault>
 ///
 /// Refuses octets that do not begin with an element, with the first fault from the left: see
 /// `TlvFault`.
+#[inline(always)]
 pub fn first_element<'a>(octets: &'a [u8]) -> Result<(Element<'a>, &'a [u8]), TlvFault>
     // What is read stands in front.
     ensures found { IfOk result (λ x. IsElement x.0.whole.now x.0.kind x.0.value.now

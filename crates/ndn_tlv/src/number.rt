@@ -55,6 +55,7 @@ fn eight_octets(octets: &[u8]) -> Result<(u64, &[u8]), TlvFault>
 }
 
 #[tactic(auto, unfolding(crate::specs::Reading::number_at))]
+#[inline(always)]
 pub(crate) fn leading_number(octets: &[u8]) -> Result<(u64, &[u8]), TlvFault>
     ensures { on_result (λ x. Ok (x.0, x.1.now)) Err result ≡ number_at octets.now }
 {
@@ -98,6 +99,7 @@ pub fn each_number_has_one_spelling()
 {}
 
 /// Appends a first octet and the others, or nothing.
+#[inline(always)]
 fn put_long(out: &mut Vec<u8>, first: u8, others: &[u8]) -> Result<(), Memory>
     requires { length others.now ≤ 8 }
     ensures ok { OnOk result (out.new.items ≡ out.old.items ++ first ∷ others.now) }
@@ -115,6 +117,7 @@ fn put_long(out: &mut Vec<u8>, first: u8, others: &[u8]) -> Result<(), Memory>
 /// Appends the shortest VAR-NUMBER of a number (NDN Packet Format 0.3, "Type-Length-Value (TLV)
 /// Encoding"): 1, 3, 5 or 9 octets. Where memory is refused, nothing is appended.
 #[tactic(auto, unfolding(crate::specs::Number::spelling))]
+#[inline(always)]
 pub fn put_number(out: &mut Vec<u8>, number: u64) -> Result<(), Memory>
     ensures ok { OnOk result (out.new.items ≡ out.old.items ++ spelling number) }
     ensures err { OnErr result (out.new.items ≡ out.old.items) }
