@@ -54,7 +54,7 @@ impl Guard {
 
     /// Whether a signed command is fresh: its time, in milliseconds since 1970, is at most 120,000
     /// from `now` and greater than each recorded time of its signer, and its number, if it has one,
-    /// is greater than each recorded number.
+    /// is greater than each recorded number of the same signer.
     pub fn check(&self, signer: Signer<'_>, time: u64, seq: Option<u64>, now: u64) -> bool
         ensures { IsTrue result ↔ IsFresh self.now.latest (signer_of signer.entry) time seq now }
     {
@@ -102,7 +102,8 @@ impl Guard {
         Ok(())
     }
 
-    /// Prepares one `record` of this signer, which is then not refused memory.
+    /// Prepares one `record` of this signer, which is then not refused memory. The next `record` or
+    /// `prepare`, of any signer and a refused one too, ends the preparation.
     pub fn prepare(&mut self, signer: Signer<'_>) -> Result<(), Memory>
         ensures latest { self.new.latest ≡ self.old.latest }
         ensures ok { OnOk result (self.new.prepared ≡ Some (signer_of signer.entry)) }
