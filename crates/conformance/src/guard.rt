@@ -28,9 +28,13 @@ fn number_in(text: &str) -> Option<Option<u64>> {
     Some(Some(text.parse().ok()?))
 }
 
-/// Records a command: its signer, time and number.
+/// Records a command: its signer, time and number. After `prepare` it prepares a signer's.
 fn record(alloc: Global, guard: &mut Guard, command: &str) -> Option<()> {
     let (signer, rest) = command.split_once(' ')?;
+    if signer == "prepare" {
+        let key = key_in(alloc, rest)?;
+        return guard.prepare(signer_of(&key)).ok();
+    }
     let (time, number) = rest.split_once(' ')?;
     let key = key_in(alloc, signer)?;
     guard
@@ -71,6 +75,12 @@ fn replay_windows(rt: HostRuntime) {
 ? digest 879999 - 1000000 -> no
 ? /k 1120000 - 1000000 -> fresh
 ? /k 1120001 - 1000000 -> no
+? digest 0 - 120000 -> fresh
+? digest 0 - 120001 -> no
+? /k 120000 - 0 -> fresh
+? /k 120001 - 0 -> no
+? /k 18446744073709551615 - 18446744073709431615 -> fresh
+? /k 18446744073709551615 - 18446744073709431614 -> no
 # An equal time, and an equal number.
 /k 1000000 5, ? /k 1000000 6 1000000 -> no
 /k 1000000 5, ? /k 1000001 5 1000000 -> no
@@ -79,6 +89,12 @@ fn replay_windows(rt: HostRuntime) {
 /k 1000000 5, ? /k 1000001 - 1000000 -> fresh
 /k 1000000 5, /k 1000001 -, ? /k 1000002 5 1000000 -> no
 /k 1000000 5, /k 1000001 -, ? /k 1000002 6 1000000 -> fresh
+# A number after none counts, and 0 is a number.
+/k 1 -, /k 2 5, ? /k 3 5 3 -> no
+/k 1 -, /k 2 5, ? /k 3 6 3 -> fresh
+/k 0 0, ? /k 1 0 1 -> no
+/k 0 0, ? /k 1 1 1 -> fresh
+/k 0 -, ? /k 1 0 1 -> fresh
 # The greatest of all that was recorded counts.
 /k 1000001 6, /k 1000000 5, ? /k 1000001 7 1000000 -> no
 /k 1000001 6, /k 1000000 5, ? /k 1000002 6 1000000 -> no
@@ -89,6 +105,10 @@ fn replay_windows(rt: HostRuntime) {
 /k 1000000 5, ? digest 1000000 5 1000000 -> fresh
 digest 1000000 -, ? digest 1000000 - 1000000 -> no
 digest 1000000 -, /k 1000001 -, ? digest 1000001 - 1000000 -> fresh
+# The key of the empty name is no digest.
+/ 0 0, ? / 0 0 0 -> no
+/ 0 0, ? digest 0 0 0 -> fresh
+digest 0 0, ? / 0 0 0 -> fresh
 # The ends of time and of numbers.
 ? /k 0 0 0 -> fresh
 ? /k 0 - 18446744073709551615 -> no
@@ -96,6 +116,42 @@ digest 1000000 -, /k 1000001 -, ? digest 1000001 - 1000000 -> fresh
 ? /k 18446744073709551615 18446744073709551615 18446744073709551615 -> fresh
 /k 18446744073709551615 -, ? /k 18446744073709551615 - 18446744073709551615 -> no
 /k 0 18446744073709551615, ? /k 1 18446744073709551615 0 -> no
+";
+    check_rows(&rt, rt.alloc(), rows, freshness);
+}
+
+/// With ample memory each call is prepared and recorded.
+#[test]
+fn prepared_records(rt: HostRuntime) {
+    let rows = "
+# A preparation records nothing.
+prepare /k, ? /k 0 - 0 -> fresh
+prepare digest, ? digest 0 - 0 -> fresh
+/k 5 5, prepare /k, ? /k 5 6 5 -> no
+/k 5 5, prepare /k, ? /k 6 6 5 -> fresh
+# The prepared call has its effect.
+prepare /k, /k 0 0, ? /k 0 1 0 -> no
+prepare /k, /k 0 0, ? /k 1 0 0 -> no
+prepare /k, /k 0 0, ? /k 1 1 0 -> fresh
+prepare /k, /k 0 0, ? /l 0 0 0 -> fresh
+prepare digest, digest 0 0, ? digest 0 1 0 -> no
+prepare digest, digest 0 0, ? digest 1 1 0 -> fresh
+prepare digest, digest 0 0, ? /k 0 0 0 -> fresh
+/k 5 5, prepare /k, /k 6 6, ? /k 7 6 5 -> no
+/k 5 5, prepare /k, /k 6 6, ? /k 7 7 5 -> fresh
+# A call of another signer has its own.
+prepare /k, /l 0 0, ? /l 0 1 0 -> no
+prepare /k, /l 0 0, ? /k 0 0 0 -> fresh
+prepare /k, digest 0 0, ? digest 0 1 0 -> no
+prepare /k, digest 0 0, ? /k 0 0 0 -> fresh
+prepare digest, /k 0 0, ? digest 0 0 0 -> fresh
+# So has the signer's own call after that.
+prepare /k, /l 0 0, /k 0 0, ? /k 0 1 0 -> no
+prepare /k, /l 0 0, /k 0 0, ? /l 0 1 0 -> no
+# The second of two preparations counts.
+prepare /k, prepare /l, /l 0 0, ? /l 0 1 0 -> no
+prepare /k, prepare /l, /l 0 0, ? /k 0 0 0 -> fresh
+prepare /k, prepare /l, /k 0 0, ? /k 0 1 0 -> no
 ";
     check_rows(&rt, rt.alloc(), rows, freshness);
 }
@@ -115,4 +171,33 @@ fn keeps_its_promise(alloc: Global) -> Option<bool> {
 #[test]
 fn refused_memory_for_records(rt: HostRuntime) {
     assert!(rt; keeps_its_promise(rt.alloc()) != Some(false));
+}
+
+/// Whether a refused call for a new signer leaves what was recorded, as one does that another
+/// signer's call has taken the preparation from.
+fn leaves_earlier_records(alloc: Global) -> Option<bool> {
+    let mut guard = Guard::new(alloc);
+    let (first, second) = (key_in(alloc, "/k")?, key_in(alloc, "/l")?);
+    let (first, second) = (signer_of(&first), signer_of(&second));
+    guard.record(Signer::Digest, 5, Some(5)).ok()?;
+    guard.prepare(second).ok()?;
+    guard.record(first, 5, Some(5)).ok()?;
+    let was_recorded = guard.record(second, 5, Some(5)).is_ok();
+    Some(
+        guard.check(second, 5, Some(5), 5) != was_recorded
+            && is_recorded(&guard, Signer::Digest)
+            && is_recorded(&guard, first),
+    )
+}
+
+/// Whether just a command of the time 5 and the number 5 is recorded of a signer.
+fn is_recorded(guard: &Guard, signer: Signer<'_>) -> bool {
+    !guard.check(signer, 5, Some(6), 5)
+        && !guard.check(signer, 6, Some(5), 5)
+        && guard.check(signer, 6, Some(6), 5)
+}
+
+#[test]
+fn earlier_records_with_refused_memory(rt: HostRuntime) {
+    assert!(rt; leaves_earlier_records(rt.alloc()) != Some(false));
 }
