@@ -149,7 +149,7 @@ impl Node {
             (record { verdict = verdict; sends = sends })) }
         ensures memory { OnErr result ((self.new ≡ self.old) × (outbox.new ≡ outbox.old)) }
         ensures without_memory { NeedsNoMemory self.old (plain event.entry) → IsOk result }
-        // The faces of every node are in rising order, and so are the sends.
+        // The faces of every node are in rising order of their numbers.
         ensures rising { IsRising (numbers self.new.faces) }
     {
         match event {
