@@ -1,0 +1,6 @@
+use Rattle.std.specs.Ordering.{nat_cmp}
+use Rattle.pit_fib.proofs.Rows.{from_none}
+use Rattle.pit_fib.proofs.by_face.Used.new.Goals as goal
+
+pub returns : goal.returns
+returns c = from_none nat_cmp

@@ -1,0 +1,7 @@
+use Rattle.std.proofs.Common.{take}
+use Rattle.std.specs.Ordering.{nat_cmp}
+use Rattle.pit_fib.proofs.Rows.{AllLower}
+use Rattle.pit_fib.proofs.by_face.place_of.Given as goal
+
+abbrev pub invariant-loop-at : goal.invariant-loop-at
+invariant-loop-at l = AllLower nat_cmp l.face (take l.at l.places)

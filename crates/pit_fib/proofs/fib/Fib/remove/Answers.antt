@@ -1,0 +1,23 @@
+use Rattle.std.proofs.Common.{◌≡◌, ℕ, ◌-◌, Bool, true, false, cond, nat_cmp, refl, sym, ap, subst, arith, ◌∙◌}
+use Rattle.std.specs.Prelude.{Option, None, Some, IsSome, unwrap_or}
+use Rattle.std.specs.Cmp.{nat_cmp_total}
+use Rattle.std.specs.FinMap.{get, len, remove, contains_key, empty, len-remove, len-empty}
+use Rattle.ndn_names.specs.View.{components}
+use Rattle.pit_fib.specs.Tables.{ByFace}
+use Rattle.pit_fib.proofs.fib.Fib.remove.Goals as goal
+
+less_than_none : (b : Bool) (n : ℕ) → n ≡ 0 → cond b (n - 1) n ≡ 0
+less_than_none true n zero = omega arith
+less_than_none false n zero = zero
+
+-- an entry of which costs outlive the removal of a face
+stands : (o : Option ByFace) (face : ℕ) → (len (remove (unwrap_or o empty) face) ≡ 0 → ⊥) → IsSome o
+stands None face some =
+    absurd (some (len-remove nat_cmp_total (empty {X = ℕ}) face ∙ less_than_none (contains_key (empty {X = ℕ} {R = nat_cmp}) face) _ (len-empty nat_cmp ℕ)))
+stands (Some costs) face some = refl
+
+pub replace-requires : goal.replace-requires
+replace-requires c =
+    let name = components c.args.name in
+    subst (λ t. IsSome (get t.table name)) (sym c.self.view_is) (stands (get c.args.self.now.table name) c.args.face (λ none.
+    c.if-len-eq0.false (c.len.ensures.exact ∙ ap (λ (m : ByFace). len m) (c.remove.ensures ∙ ap (λ (m : ByFace). remove m c.args.face) c.costs_of-costs.ensures) ∙ none)))

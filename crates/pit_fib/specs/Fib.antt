@@ -1,0 +1,65 @@
+-- Routes, as a map from names to costs by face (NFD Developer's Guide, "Forwarding Information
+-- Base").
+use Rattle.std.specs.Prelude.{ℕ, ◌<◌, ◌⊎◌, List, Option, None, Some, IsSome, map, length, nat_lt, nat_le, unwrap_or, ◌==◌, if◌then◌else◌}
+use Rattle.std.specs.FinMap as map
+use Rattle.ndn_tlv.specs.Element.{Field}
+use Rattle.pit_fib.specs.declared.hops.Hop.{Hop}
+use Rattle.pit_fib.specs.declared.fault.TableFault.{TableFault}
+use Rattle.pit_fib.specs.declared.fault.TableFault.TheVariants.{TooDeep, TableFull}
+use Rattle.pit_fib.specs.Tables.{ByFace, ByName, revise, longest}
+use Rattle.pit_fib.specs.Hops.{hops_of}
+
+abbrev pub Routes : Type 0
+Routes = ByName ByFace
+
+-- why a table takes no value of a name: more than 32 components, or a new name while 4,096 stand
+abbrev pub refusal : {X : Type 0} → ByName X → List Field → Option TableFault
+refusal table name =
+    if nat_lt 32 (length name) then Some TooDeep else (
+    if map.contains_key table name then None else (
+    if nat_le 4096 (map.len table) then Some TableFull else
+    None))
+
+-- the costs of a name's hops
+abbrev pub costs_at : Routes → List Field → ByFace
+costs_at routes name = unwrap_or (map.get routes name) map.empty
+
+-- an entry has this face, or fewer than 64
+abbrev pub HasRoomFor : ByFace → ℕ → Type 0
+HasRoomFor costs face = IsSome (map.get costs face) ⊎ (map.len costs < 64)
+
+-- with the hop of this face, of this cost
+abbrev pub with_route : Routes → List Field → ℕ → ℕ → Routes
+with_route routes name face cost =
+    map.insert routes name (map.insert (costs_at routes name) face cost)
+
+-- the costs without those of a face; an entry without hops goes
+abbrev pub without_hop : ℕ → ByFace → Option ByFace
+without_hop face costs =
+    let rest = map.remove costs face in
+    if map.len rest == 0 then None else Some rest
+
+-- the map with this value of a name, or with none
+abbrev pub with_value : {X : Type 0} → ByName X → List Field → Option X → ByName X
+with_value table name None = map.remove table name
+with_value table name (Some x) = map.insert table name x
+
+-- without the hop of this face
+abbrev pub without_route : Routes → List Field → ℕ → Routes
+without_route routes name face =
+    with_value routes name (without_hop face (costs_at routes name))
+
+-- without the hops of a face that closed
+abbrev pub without_face : Routes → ℕ → Routes
+without_face routes face = revise (without_hop face) routes
+
+-- the hops of the longest prefix that has an entry
+abbrev pub longest_hops : Routes → List Field → List Hop
+longest_hops routes name = hops_of (unwrap_or (longest routes name) map.empty)
+
+abbrev pub entry_listed : List Field × ByFace → List Field × List Hop
+entry_listed entry = (entry.0, hops_of entry.1)
+
+-- all entries in canonical order
+abbrev pub listed : Routes → List (List Field × List Hop)
+listed routes = map entry_listed (map.entries routes)

@@ -1,0 +1,32 @@
+-- Next hops (NFD Developer's Guide, "Forwarding Information Base").
+use Rattle.std.specs.Prelude.{ℕ, List, [], ◌∷◌, Bool, false, map, fold, nat_lt, ◌==◌, ◌&&◌, ◌||◌, if◌then◌else◌}
+use Rattle.std.specs.FinMap.{entries}
+use Rattle.pit_fib.specs.declared.hops.Hop.{Hop}
+use Rattle.pit_fib.specs.Faces.{has_face}
+use Rattle.pit_fib.specs.Tables.{ByFace}
+
+-- by cost, then by face
+abbrev pub is_before : Hop → Hop → Bool
+is_before a b = nat_lt a.cost b.cost || ((a.cost == b.cost) && nat_lt a.face b.face)
+
+-- the hops with one more, at its place in this order
+abbrev pub with_hop : Hop → List Hop → List Hop
+with_hop hop [] = hop ∷ []
+with_hop hop (h ∷ hops) = if is_before hop h then hop ∷ h ∷ hops else h ∷ with_hop hop hops
+
+-- a cost by face, as a hop
+abbrev pub far_hop : ℕ × ℕ → Hop
+far_hop e = record { face = e.0; cost = e.1; local = false }
+
+-- costs by face, as hops in order
+abbrev pub in_order : List (ℕ × ℕ) → List Hop
+in_order costs = fold {A = ℕ × ℕ} {B = List Hop} (λ hops e. with_hop (far_hop e) hops) [] costs
+
+-- the hops of an entry, in order
+abbrev pub hops_of : ByFace → List Hop
+hops_of costs = in_order (entries costs)
+
+-- the hops, those of these faces Local
+abbrev pub marked : List ℕ → List Hop → List Hop
+marked locals hops =
+    map {A = Hop} (λ h. record h { local = h.local || has_face h.face locals }) hops

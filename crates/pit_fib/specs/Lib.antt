@@ -1,0 +1,5 @@
+pub mod Faces
+pub mod Tables
+pub mod Hops
+pub mod NameTable
+pub mod Fib

@@ -1,0 +1,157 @@
+ghost use Rattle.std.specs.Prelude.{◌≡◌, ◌+◌, ◌<◌, ◌≤◌, true, false, ℕ, Some, length, insert, slice_set, slice_get, slice_index_or, IfOk, IfErr, IsTrue, None, take, filter, not};
+ghost use lib.Dec.{T};
+ghost use Rattle.std.specs.Ordering.{nat_cmp, eq_by_cmp};
+ghost use Rattle.std.specs.FinMap as map;
+
+use crate::array_list::insert_at;
+use crate::faces::MAX_FACES;
+use std::cmp::Ordering;
+use std::marker::Model;
+
+/// Numbers of at most 64 faces, in rising order of the faces: the costs of an entry's hops, or when
+/// an Interest was last sent to a face, in milliseconds since 1970. They take no memory beside their
+/// own.
+#[derive(Drop)]
+pub struct Used {
+    places: [(u64, u64); MAX_FACES],
+    len: usize,
+}
+
+impl Model for Used {
+    ghost use lib.Dec.{T};
+    ghost use Rattle.std.specs.Prelude.{◌≡◌, ◌≤◌, length, take};
+    ghost use Rattle.std.specs.Ordering.{nat_cmp};
+    ghost use Rattle.std.specs.Coded.{coded_ℕ};
+    ghost use Rattle.std.specs.FinMap as map;
+    ghost use Rattle.pit_fib.specs.Tables.{ByFace};
+
+    ghost Value = { ByFace };
+
+    ghost coded = { map.code coded_ℕ coded_ℕ };
+
+    ghost view = { λ u. map.from_sorted (take u.len u.places) };
+
+    ghost invariant = { λ u. (length u.places ≡ 64) × (u.len ≤ 64)
+        × T (map.is_sorted nat_cmp (take u.len u.places)) };
+}
+
+impl Used {
+    /// No faces.
+    pub fn new() -> Used
+        ensures { result ≡ map.empty }
+    {
+        Used {
+            places: [(0, 0); MAX_FACES],
+            len: 0,
+        }
+    }
+
+    pub(crate) fn as_slice(&self) -> &[(u64, u64)]
+        ensures rows { result.now ≡ map.entries self.now }
+        ensures sorted { T (map.is_sorted nat_cmp result.now) }
+        ensures small { length result.now ≤ 64 }
+    {
+        &self.places[..self.len]
+    }
+
+    /// The number of faces.
+    pub fn len(&self) -> usize
+        ensures exact { result ≡ map.len self.now }
+        ensures small { result ≤ 64 }
+    {
+        self.as_slice().len()
+    }
+
+    /// The number of a face.
+    pub fn get(&self, face: u64) -> Option<u64>
+        ensures { result ≡ map.get self.now face }
+    {
+        match place_of(self.as_slice(), face) {
+            Ok(at) => Some(self.as_slice()[at].1),
+            Err(_) => None,
+        }
+    }
+
+    /// The face and its number at a place, counted from 0 in rising order.
+    pub fn at(&self, i: usize) -> Option<(u64, u64)>
+        ensures { result ≡ slice_get (map.entries self.now) i }
+    {
+        let place = self.as_slice().get(i)?;
+        Some(*place)
+    }
+
+    /// Sets the number of a face. Answers false, and changes nothing, for a new face while 64 stand.
+    pub fn insert(&mut self, face: u64, number: u64) -> bool
+        ensures ok { IsTrue result → self.new ≡ map.insert self.old face number }
+        ensures full { result ≡ false → (self.new ≡ self.old) × (map.get self.old face ≡ None)
+            × (64 ≤ map.len self.old) }
+    {
+        match place_of(&self.places[..self.len], face) {
+            Ok(at) => self.places[at] = (face, number),
+            Err(at) => {
+                if self.len == MAX_FACES {
+                    return false;
+                }
+                insert_at(&mut self.places, self.len, at, (face, number));
+                self.len += 1;
+            }
+        }
+        true
+    }
+
+    /// Removes a face.
+    pub(crate) fn remove(&mut self, face: u64)
+        ensures { self.new ≡ map.remove self.old face }
+    {
+        self.len = without_face(&mut self.places, self.len, face);
+    }
+
+    /// The same numbers once more.
+    pub(crate) fn copied(&self) -> Used
+        ensures { result ≡ self.now }
+    {
+        Used {
+            places: self.places,
+            len: self.len,
+        }
+    }
+}
+
+/// Of the first `len` places, moves those of other faces to the front, and gives their number.
+fn without_face(places: &mut [(u64, u64)], len: usize, face: u64) -> usize
+    requires { len ≤ length places.old }
+    ensures fewer { result ≤ len }
+    ensures kept { take result places.new
+        ≡ filter (λ place. not (eq_by_cmp nat_cmp place.0 face)) (take len places.old) }
+{
+    let mut kept = 0;
+    for at in 0..len {
+        let place = places[at];
+        if place.0 != face {
+            places[kept] = place;
+            kept += 1;
+        }
+    }
+    kept
+}
+
+/// Where the face is, or where it would go.
+fn place_of(places: &[(u64, u64)], face: u64) -> Result<usize, usize>
+    requires { T (map.is_sorted nat_cmp places.now) }
+    ensures found { IfOk result (λ at. (at < length places.now)
+        × ((number : ℕ) → map.put nat_cmp face number places.now ≡ slice_set places.now at (face, number))
+        × ((place : ℕ × ℕ) → place ≡ slice_index_or places.now at place
+        → map.find nat_cmp face places.now ≡ Some place.1)) }
+    ensures absent { IfErr result (λ at. (at ≤ length places.now)
+        × ((number : ℕ) → map.put nat_cmp face number places.now ≡ insert places.now at (face, number))
+        × (map.find nat_cmp face places.now ≡ None)) }
+{
+    for (at, place) in places.iter().enumerate() {
+        match face.cmp(&place.0) {
+            Ordering::Greater => {}
+            Ordering::Equal => return Ok(at),
+            Ordering::Less => return Err(at),
+        }
+    }
+    Err(places.len())
+}

@@ -1,0 +1,95 @@
+ghost use Rattle.std.specs.Prelude.{◌≡◌, [], ◌<◌, ◌≤◌, length, insert, slice_get, IfOk, IfErr, true, false};
+ghost use Rattle.pit_fib.specs.Faces.{IsRising, has_face, with_face, adding};
+
+use crate::array_list::insert_at;
+use std::marker::Model;
+
+/// The greatest number of faces.
+pub const MAX_FACES: usize = 64;
+
+/// The numbers of at most 64 faces, in rising order. It takes no memory beside its own.
+#[derive(Drop)]
+pub struct Faces {
+    places: [u64; MAX_FACES],
+    len: usize,
+}
+
+impl Model for Faces {
+    ghost use Rattle.std.specs.Prelude.{List, ℕ, ◌≤◌, take};
+    ghost use Rattle.pit_fib.specs.Faces.{IsRising};
+
+    ghost Value = { List ℕ };
+
+    ghost view = { λ f. take f.len f.places };
+
+    ghost invariant = { λ f. (f.len ≤ 64) × IsRising (take f.len f.places) };
+}
+
+impl Faces {
+    /// No faces.
+    pub fn new() -> Faces
+        ensures { result ≡ [] }
+    {
+        Faces {
+            places: [0; MAX_FACES],
+            len: 0,
+        }
+    }
+
+    /// Adds a face, unless it is there. Answers false, and changes nothing, for a new face while 64
+    /// stand.
+    pub fn insert(&mut self, face: u64) -> bool
+        ensures { (result, self.new) ≡ adding face self.old }
+    {
+        let Err(at) = place_of(&self.places[..self.len], face) else {
+            return true;
+        };
+        if self.len == MAX_FACES {
+            return false;
+        }
+        insert_at(&mut self.places, self.len, at, face);
+        self.len += 1;
+        true
+    }
+
+    /// Whether the face is there.
+    pub fn contains(&self, face: u64) -> bool
+        ensures { result ≡ has_face face self.now }
+    {
+        self.places[..self.len].iter().any(|f| *f == face)
+    }
+
+    /// The number of faces.
+    pub fn len(&self) -> usize
+        ensures exact { result ≡ length self.now }
+        ensures small { result ≤ 64 }
+        ensures rising { IsRising self.now }
+    {
+        self.len
+    }
+
+    /// The face at a place, counted from 0 in rising order.
+    pub fn get(&self, i: usize) -> Option<u64>
+        ensures { result ≡ slice_get self.now i }
+    {
+        self.places[..self.len].get(i).copied()
+    }
+}
+
+/// Where the face is, or where it would go.
+fn place_of(faces: &[u64], face: u64) -> Result<usize, usize>
+    requires { IsRising faces.now }
+    ensures found { IfOk result (λ at. has_face face faces.now ≡ true) }
+    ensures absent { IfErr result (λ at. (at ≤ length faces.now) × (has_face face faces.now ≡ false)
+        × (with_face face faces.now ≡ insert faces.now at face)) }
+{
+    for (at, other) in faces.iter().enumerate() {
+        if *other == face {
+            return Ok(at);
+        }
+        if face < *other {
+            return Err(at);
+        }
+    }
+    Err(faces.len())
+}

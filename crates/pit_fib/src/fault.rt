@@ -1,0 +1,28 @@
+ghost use Rattle.std.specs.Prelude.{◌≡◌};
+ghost use Rattle.pit_fib.specs.declared.fault.TableFault.TheVariants as faults;
+
+use ndn_tlv::Memory as NoMemory;
+use thiserror::Error;
+
+/// Why a table of names takes no entry. Of several faults, the first in this order
+/// is reported.
+#[derive(Clone, Copy, Debug, PartialEq, Eq, Error)]
+pub enum TableFault {
+    /// The name has more than 32 components.
+    #[error("the name has more than 32 components")]
+    TooDeep,
+    /// The name is new, and 4,096 stand.
+    #[error("the table has 4096 names")]
+    TableFull,
+    /// A growth of memory was refused.
+    #[error("out of memory")]
+    Memory,
+}
+
+impl From<NoMemory> for TableFault {
+    ghost from_gives = { λ _ e. e ≡ faults.Memory };
+
+    fn from(_error: NoMemory) -> TableFault {
+        TableFault::Memory
+    }
+}

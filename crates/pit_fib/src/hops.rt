@@ -1,0 +1,113 @@
+ghost use Rattle.std.specs.Prelude.{◌≡◌, [], ◌+◌, ◌<◌, ◌≤◌, length, insert, slice_get, true, false};
+ghost use Rattle.pit_fib.specs.Hops.{with_hop, is_before as is_hop_before, marked};
+
+use crate::array_list::insert_at;
+use crate::faces::{Faces, MAX_FACES};
+use std::marker::Model;
+
+/// A next hop (NFD Developer's Guide, "Forwarding Information Base").
+#[derive(Clone, Copy, Debug, PartialEq, Eq)]
+pub struct Hop {
+    pub face: u64,
+    pub cost: u64,
+    /// Whether the face is Local: it leads to a program on this machine.
+    pub local: bool,
+}
+
+/// At most 64 next hops, in the order of their costs, and of their faces at one cost. They take no
+/// memory beside their own.
+#[derive(Drop)]
+pub struct Hops {
+    places: [Hop; MAX_FACES],
+    len: usize,
+}
+
+impl Model for Hops {
+    ghost use Rattle.std.specs.Prelude.{List, ◌≤◌, take};
+    ghost use Rattle.pit_fib.specs.declared.hops.Hop.{Hop};
+
+    ghost Value = { List Hop };
+
+    ghost view = { λ h. take h.len h.places };
+
+    ghost invariant = { λ h. h.len ≤ 64 };
+}
+
+impl Hops {
+    /// No hops.
+    pub(crate) fn new() -> Hops
+        ensures { result ≡ [] }
+    {
+        let none = Hop {
+            face: 0,
+            cost: 0,
+            local: false,
+        };
+        Hops {
+            places: [none; MAX_FACES],
+            len: 0,
+        }
+    }
+
+    /// Adds a hop at its place.
+    pub(crate) fn insert(&mut self, hop: Hop)
+        requires { length self.old < 64 }
+        ensures { self.new ≡ with_hop hop self.old }
+    {
+        let at = place_of(self.as_slice(), hop);
+        insert_at(&mut self.places, self.len, at, hop);
+        self.len += 1;
+    }
+
+    fn as_slice(&self) -> &[Hop]
+        ensures value { result.now ≡ self.now }
+        ensures small { length result.now ≤ 64 }
+    {
+        &self.places[..self.len]
+    }
+
+    /// The number of hops.
+    pub fn len(&self) -> usize
+        ensures exact { result ≡ length self.now }
+        ensures small { result ≤ 64 }
+    {
+        self.as_slice().len()
+    }
+
+    /// The hop at a place, counted from 0.
+    pub fn get(&self, i: usize) -> Option<Hop>
+        ensures { result ≡ slice_get self.now i }
+    {
+        self.as_slice().get(i).copied()
+    }
+
+    /// Says that these faces are Local.
+    pub fn mark(&mut self, locals: &Faces)
+        ensures { self.new ≡ marked locals.now self.old }
+    {
+        for hop in &mut self.places[..self.len] {
+            let is_local = locals.contains(hop.face);
+            hop.local |= is_local;
+        }
+    }
+}
+
+/// Whether a hop stands before another.
+fn is_before(a: Hop, b: Hop) -> bool
+    ensures { result ≡ is_hop_before a b }
+{
+    a.cost < b.cost || (a.cost == b.cost && a.face < b.face)
+}
+
+/// Where a hop goes.
+fn place_of(hops: &[Hop], hop: Hop) -> usize
+    ensures within { result ≤ length hops.now }
+    ensures place { with_hop hop hops.now ≡ insert hops.now result hop }
+{
+    for (at, other) in hops.iter().enumerate() {
+        if is_before(hop, *other) {
+            return at;
+        }
+    }
+    hops.len()
+}

@@ -1,0 +1,16 @@
+//! Where Interests go: next hops by name, and lists of faces.
+#![tactic(auto)]
+
+mod array_list;
+mod by_face;
+mod faces;
+mod fault;
+mod fib;
+mod hops;
+mod name_map;
+
+pub use by_face::Used;
+pub use faces::Faces;
+pub use fault::TableFault;
+pub use fib::{Fib, MAX_DEPTH, MAX_ENTRIES};
+pub use hops::{Hop, Hops};
