@@ -1,0 +1,4 @@
+pub mod Places
+pub mod FaceSets
+pub mod Gathered
+pub mod Chosen

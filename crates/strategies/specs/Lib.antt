@@ -1,0 +1,4 @@
+pub mod Eligible
+pub mod Selection
+pub mod Choice
+pub mod Laws

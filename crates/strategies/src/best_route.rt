@@ -1,0 +1,120 @@
+ghost use Rattle.std.specs.Prelude.{◌≡◌, filter};
+ghost use Rattle.std.specs.List.{list_any};
+ghost use Rattle.std.specs.FinMap as map;
+ghost use Rattle.pit_fib.specs.Hops.{is_before as is_hop_before};
+ghost use Rattle.strategies.specs.Eligible.{eligible};
+ghost use Rattle.strategies.specs.Selection.{best_route, lesser as lesser_by, least, is_new as is_hop_new, is_staler as is_hop_staler, is_recent as came_recently};
+ghost use Rattle.strategies.specs.Laws.{best_route_takes};
+
+use crate::eligible::{any_eligible, eligible_at, is_recent};
+use crate::strategy::{Ask, Choice, Strategy};
+use pit_fib::{Faces, Hop, Hops, Used};
+
+/// Sends to one hop: the least one that was not asked, by cost and then by face, else the one asked
+/// longest ago. Sends to none while some face was asked less than 10 milliseconds ago.
+#[derive(Clone, Copy, Debug)]
+pub struct BestRoute;
+
+impl Strategy for BestRoute {
+    ghost selection = { best_route };
+
+    ghost takes_eligible = { best_route_takes };
+
+    fn choose(&self, hops: &Hops, used: &Used, ask: Ask) -> Choice {
+        if !any_eligible(hops, ask) {
+            return Choice::NoRoute;
+        }
+        let mut faces = Faces::new();
+        if any_recent(used, ask.now) {
+            return Choice::Send(faces);
+        }
+        let new = least_new(hops, used, ask);
+        if let Some(hop) = new.or(stalest(hops, used, ask)) {
+            faces.insert(hop.face);
+        }
+        Choice::Send(faces)
+    }
+}
+
+/// Whether some face was asked less than 10 milliseconds ago.
+fn any_recent(used: &Used, now: u64) -> bool
+    ensures { result ≡ list_any (λ e. came_recently now e.1) (map.entries used.now) }
+{
+    for i in 0..used.len() {
+        if let Some((_, time)) = used.at(i)
+            && is_recent(now, time)
+        {
+            return true;
+        }
+    }
+    false
+}
+
+/// The least eligible hop, by cost and then by face, that was not asked.
+fn least_new(hops: &Hops, used: &Used, ask: Ask) -> Option<Hop>
+    ensures { result ≡ least is_hop_before (filter (is_hop_new used.now) (eligible ask hops.now)) }
+{
+    let mut first: Option<Hop> = None;
+    for i in (0..hops.len()).rev() {
+        if let Some(hop) = eligible_at(hops, i, ask)
+            && is_new(used, hop)
+        {
+            first = Some(lesser(hop, first));
+        }
+    }
+    first
+}
+
+/// The eligible hop that was asked longest ago: of several, the least by cost and then by face.
+fn stalest(hops: &Hops, used: &Used, ask: Ask) -> Option<Hop>
+    ensures { result ≡ least (is_hop_staler used.now) (eligible ask hops.now) }
+{
+    let mut first: Option<Hop> = None;
+    for i in (0..hops.len()).rev() {
+        if let Some(hop) = eligible_at(hops, i, ask) {
+            first = Some(staler(used, hop, first));
+        }
+    }
+    first
+}
+
+/// Whether a hop was never asked.
+fn is_new(used: &Used, hop: Hop) -> bool
+    ensures { result ≡ is_hop_new used.now hop }
+{
+    used.get(hop.face).is_none()
+}
+
+fn lesser(hop: Hop, first: Option<Hop>) -> Hop
+    ensures { result ≡ lesser_by is_hop_before hop first }
+{
+    match first {
+        Some(other) if is_before(other, hop) => other,
+        _ => hop,
+    }
+}
+
+fn staler(used: &Used, hop: Hop, first: Option<Hop>) -> Hop
+    ensures { result ≡ lesser_by (is_hop_staler used.now) hop first }
+{
+    match first {
+        Some(other) if is_staler(used, other, hop) => other,
+        _ => hop,
+    }
+}
+
+/// Whether a hop stands before another, by cost and then by face.
+fn is_before(a: Hop, b: Hop) -> bool
+    ensures { result ≡ is_hop_before a b }
+{
+    a.cost < b.cost || (a.cost == b.cost && a.face < b.face)
+}
+
+/// Whether a hop was asked longer ago than another, or at the same moment and stands before it.
+fn is_staler(used: &Used, a: Hop, b: Hop) -> bool
+    ensures { result ≡ is_hop_staler used.now a b }
+{
+    let s = used.get(a.face).unwrap_or(0);
+    let t = used.get(b.face).unwrap_or(0);
+    s < t || (s == t && is_before(a, b))
+}

@@ -1,0 +1,55 @@
+ghost use Rattle.std.specs.Prelude.{◌≡◌, ◌+◌, ◌++◌, drop};
+ghost use Rattle.std.specs.List.{list_any};
+ghost use Rattle.std.specs.Option.{option_to_list};
+ghost use Rattle.strategies.specs.Eligible.{is_eligible as may_get, eligible};
+ghost use Rattle.strategies.specs.Selection.{is_recent as came_recently};
+
+use crate::strategy::Ask;
+use pit_fib::{Hop, Hops};
+
+/// A face is asked again after so many milliseconds.
+const RETRY_AFTER: u64 = 10;
+
+/// Whether a hop may get the Interest: never the asker; only a Local one where the Interest stays
+/// on this machine.
+pub fn is_eligible(hop: Hop, ask: Ask) -> bool
+    ensures { result ≡ may_get ask hop }
+{
+    let is_asker = match ask.asker {
+        Some(asker) => asker == hop.face,
+        None => false,
+    };
+    !is_asker && (hop.local || !(ask.localhost || ask.hop_zero))
+}
+
+/// Whether some hop is eligible.
+pub fn any_eligible(hops: &Hops, ask: Ask) -> bool
+    ensures { result ≡ list_any (may_get ask) hops.now }
+{
+    for i in 0..hops.len() {
+        if let Some(hop) = hops.get(i)
+            && is_eligible(hop, ask)
+        {
+            return true;
+        }
+    }
+    false
+}
+
+/// The hop at a place, counted from 0, if it is eligible.
+pub fn eligible_at(hops: &Hops, i: usize, ask: Ask) -> Option<Hop>
+    ensures { eligible ask (drop i hops.now)
+        ≡ option_to_list result ++ eligible ask (drop (i + 1) hops.now) }
+{
+    match hops.get(i) {
+        Some(hop) if is_eligible(hop, ask) => Some(hop),
+        _ => None,
+    }
+}
+
+/// Whether a moment is less than 10 milliseconds ago, or still to come.
+pub fn is_recent(now: u64, time: u64) -> bool
+    ensures { result ≡ came_recently now time }
+{
+    now.saturating_sub(time) < RETRY_AFTER
+}

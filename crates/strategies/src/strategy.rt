@@ -1,0 +1,43 @@
+ghost use Rattle.std.specs.Prelude.{◌≡◌, ℕ, List, All, Contains};
+ghost use Rattle.pit_fib.specs.declared.hops.Hop.{Hop};
+ghost use Rattle.pit_fib.specs.Tables.{ByFace};
+ghost use Rattle.strategies.specs.Choice.{chosen};
+
+use pit_fib::{Faces, Hops, Used};
+
+/// The Interest for which a strategy chooses.
+#[derive(Clone, Copy, Debug, PartialEq, Eq)]
+pub struct Ask {
+    /// The face that it came from, if it came from one.
+    pub asker: Option<u64>,
+    /// Whether its name begins with `/localhost`, which stays on this machine.
+    pub localhost: bool,
+    /// Whether its HopLimit was lowered to 0, so that it goes to no other machine.
+    pub hop_zero: bool,
+    /// The moment, in milliseconds since 1970.
+    pub now: u64,
+}
+
+/// Where an Interest goes.
+#[derive(Drop)]
+pub enum Choice {
+    /// No next hop may get it.
+    NoRoute,
+    /// To these faces, which may be none.
+    Send(Faces),
+}
+
+/// Chooses where an Interest goes (NFD Developer's Guide, "Strategies").
+pub trait Strategy {
+    /// The hops taken, of the eligible ones, when each face was last asked, and now.
+    ghost selection: { List Hop → ByFace → ℕ → List Hop };
+
+    /// Chooses among next hops, with the moments, in milliseconds since 1970, at which faces were
+    /// last asked for the same.
+    fn choose(&self, hops: &Hops, used: &Used, ask: Ask) -> Choice
+        ensures { result ≡ chosen selection hops.now used.now ask };
+
+    /// What is taken stands among the eligible hops.
+    ghost takes_eligible: { (hops : List Hop) (used : ByFace) (now : ℕ)
+        → All (Contains hops) (selection hops used now) };
+}
