@@ -138,7 +138,7 @@ EachDataIsAsked past event answer =
     × (frame_at octets ≡ Ok (AData text d)) × (face ≢ from)
     × Asks past (max (now_of past) t) face d.name
 
--- the first-path promise, of each event of a run
+-- the forwarding theorem, of each event of a run
 abbrev pub KeepsPromise : Run → Type 0
 KeepsPromise Start = Unit {0}
 KeepsPromise (Then before event answer) = KeepsPromise before × EachDataIsAsked before event answer

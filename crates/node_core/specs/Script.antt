@@ -84,5 +84,5 @@ pub record IsTextOfRun (events : List PlainEvent) (text : List ℕ) : Type 0 whe
   pub written : text ≡ script_text outcomes
   pub is_run : IsRun (run_from Start events outcomes)
   pub stands : Stands (run_from Start events outcomes) last
-  -- the first-path promise, of each event
+  -- the forwarding theorem, of each event
   pub promise : KeepsPromise (run_from Start events outcomes)
