@@ -87,6 +87,9 @@ fn found(alloc: Global, file: &str, uri: &str) -> Option<String> {
     let name = NameBuf::from_uri(alloc, uri).ok()?;
     let key = hex::encode(alloc, book.find(name.view()).unwrap_or(&[])).ok()?;
     let len = book.len();
+    if book.is_empty() != (len == 0) {
+        return None;
+    }
     if key.is_empty() {
         return len.to_string(alloc).ok();
     }
@@ -115,7 +118,7 @@ fn key_file(alloc: Global, input: &str) -> Option<String> {
 
 #[test]
 fn key_files(rt: HostRuntime) {
-    assert!(rt; KeyBook::new(rt.alloc()).len() == 0);
+    assert!(rt; KeyBook::new(rt.alloc()).is_empty());
     let rows = "
 /ops/KEY/1 6b6579 ? /ops/KEY/1 -> 1: 6b6579
 /ops/KEY/1 6b6579↵ ? /ops/KEY/1 -> 1: 6b6579
@@ -221,6 +224,30 @@ fn keys_by_names(rt: HostRuntime) {
 /A/B 01↵/A/B/C 02↵/B 0304↵ ? / -> 3
 ";
     check_rows(&rt, rt.alloc(), rows, key_file);
+}
+
+/// What a fault is called, its line and its text.
+fn fault_text(alloc: Global, fault: &str) -> Option<String> {
+    let fault = match fault {
+        "BadLine 7" => KeyFault::BadLine(7),
+        "TwiceNamed 8" => KeyFault::TwiceNamed(8),
+        "TooMany" => KeyFault::TooMany,
+        "Memory" => KeyFault::Memory,
+        _ => return None,
+    };
+    let line = fault.line().unwrap_or(0);
+    format!(in alloc; "{} {line}: {fault}", fault.name()).ok()
+}
+
+#[test]
+fn texts_of_faults(rt: HostRuntime) {
+    let rows = "
+BadLine 7 -> BadLine 7: line 7 is not a name and the octets of a key, as /ops/KEY/1 6b6579
+TwiceNamed 8 -> TwiceNamed 8: line 8 has the name of an earlier key, and each needs its own
+TooMany -> TooMany 0: the file has more than 256 keys, the most
+Memory -> Memory 0: out of memory
+";
+    check_rows(&rt, rt.alloc(), rows, fault_text);
 }
 
 /// Whether a file has this number of keys, or this fault, unless memory is refused.

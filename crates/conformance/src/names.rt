@@ -425,9 +425,9 @@ fn prefixes_of_names(rt: HostRuntime) {
     check_rows(&rt, rt.alloc(), rows, relation);
 }
 
-fn hash_of(name: &NameBuf) -> u64 {
+fn hash_of<T: Hash>(value: &T) -> u64 {
     let mut state = DefaultHasher::new();
-    name.hash(&mut state);
+    value.hash(&mut state);
     state.finish()
 }
 
@@ -441,6 +441,9 @@ fn relation(alloc: Global, input: &str) -> Option<String> {
     if right.view().compare(left.view()) != order.reverse()
         || (left == right) != is_equal
         || (hash_of(&left) == hash_of(&right)) != is_equal
+        || right.view().cmp(&left.view()) != order.reverse()
+        || (left.view() == right.view()) != is_equal
+        || hash_of(&left.view()) != hash_of(&left)
     {
         return None;
     }
@@ -478,6 +481,85 @@ fn name_order(rt: HostRuntime) {
 /9=... /9=... -> Equal, a prefix
 ";
     check_rows(&rt, rt.alloc(), rows, relation);
+}
+
+/// How the first component of a name stands to that of another one, in both directions.
+fn first_components(alloc: Global, input: &str) -> Option<String> {
+    let (left, right) = input.split_once(' ')?;
+    let left = NameBuf::from_uri(alloc, left).ok()?;
+    let right = NameBuf::from_uri(alloc, right).ok()?;
+    let left = left.view().component(0)?;
+    let right = right.view().component(0)?;
+    let order = left.cmp(&right);
+    let is_equal = order.is_eq();
+    if right.cmp(&left) != order.reverse()
+        || (left == right) != is_equal
+        || (hash_of(&left) == hash_of(&right)) != is_equal
+    {
+        return None;
+    }
+    format!(in alloc; "{order:?}").ok()
+}
+
+#[test]
+fn component_order(rt: HostRuntime) {
+    let rows = "
+/A /8=%41 -> Equal
+/A /B -> Less
+/B /AA -> Less
+/AA /9=... -> Less
+/... /A -> Less
+/sha256digest=ffffffffffffffffffffffffffffffffffffffffffffffffffffffffffffffff /... -> Less
+";
+    check_rows(&rt, rt.alloc(), rows, first_components);
+}
+
+/// The components of a name, and how many of them come after the first.
+fn in_turn(alloc: Global, input: &str) -> Option<String> {
+    let name = NameBuf::from_uri(alloc, input).ok()?.try_clone(alloc).ok()?;
+    let name = name.view();
+    let mut text = String::new(alloc);
+    for component in &name {
+        write!(text, "({component})").ok()?;
+    }
+    let mut after_first = name.into_iter();
+    after_first.next();
+    let count = after_first.clone().ok()?.count();
+    write!(text, ", {count} after the first").ok()?;
+    (after_first.count() == count).then_some(text)
+}
+
+#[test]
+fn components_in_turn(rt: HostRuntime) {
+    let rows = "
+/A/BB/seg=5 -> (A)(BB)(seg=5), 2 after the first
+";
+    check_rows(&rt, rt.alloc(), rows, in_turn);
+}
+
+/// The text of a fault.
+fn text_of_fault(alloc: Global, fault: &str) -> Option<String> {
+    let fault = match fault {
+        "BadComponent" => NameFault::BadComponent,
+        "BadDigestLength" => NameFault::BadDigestLength,
+        "TooManyComponents" => NameFault::TooManyComponents,
+        "BadUri" => NameFault::BadUri,
+        "Memory" => NameFault::Memory,
+        _ => return None,
+    };
+    fault.to_string(alloc).ok()
+}
+
+#[test]
+fn texts_of_faults(rt: HostRuntime) {
+    let rows = "
+BadComponent -> a component has to be a whole element of a type from 1 to 65535
+BadDigestLength -> a digest, a component of type 1 or 2, has to be 32 octets long
+TooManyComponents -> a name has more than 64 components, the most
+BadUri -> the text is not a name such as /A/seg=5
+Memory -> out of memory
+";
+    check_rows(&rt, rt.alloc(), rows, text_of_fault);
 }
 
 #[test]

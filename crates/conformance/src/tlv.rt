@@ -87,8 +87,37 @@ ff0000000100000000 -> TypeTooLarge
 050b07030141410a0401 -> Truncated
 050b07030141410a040102 -> Truncated
 050b07030141410a04010203 -> Truncated
+# The length is 2^64 - 1.
+05ffffffffffffffffff -> Truncated
 ";
     check_rows(&rt, rt.alloc(), rows, first);
+}
+
+/// The text of a fault.
+fn fault_text(alloc: Global, fault: &str) -> Option<String> {
+    let fault = match fault {
+        "Truncated" => TlvFault::Truncated,
+        "NotShortest" => TlvFault::NotShortest,
+        "TypeZero" => TlvFault::TypeZero,
+        "TypeTooLarge" => TlvFault::TypeTooLarge,
+        "BadInteger" => TlvFault::BadInteger,
+        "Memory" => return Memory.to_string(alloc).ok(),
+        _ => return None,
+    };
+    fault.to_string(alloc).ok()
+}
+
+#[test]
+fn texts_of_faults(rt: HostRuntime) {
+    let rows = "
+Truncated -> the octets end inside a number or an element
+NotShortest -> a number has a shorter form, as 0b in place of fd000b
+TypeZero -> a type is 0, and has to be from 1 to 4294967295
+TypeTooLarge -> a type is above 4294967295, the greatest
+BadInteger -> an integer has to be 1, 2, 4 or 8 octets long
+Memory -> out of memory
+";
+    check_rows(&rt, rt.alloc(), rows, fault_text);
 }
 
 /// A whole value as a NonNegativeInteger.

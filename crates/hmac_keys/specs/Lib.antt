@@ -2,4 +2,5 @@ pub mod Mac
 pub mod KeyFile
 pub mod KeyReading
 pub mod LineFault
+pub mod FaultName
 pub mod Shown

@@ -10,17 +10,43 @@ use thiserror::Error;
 #[derive(Clone, Copy, Debug, PartialEq, Eq, Error)]
 pub enum KeyFault {
     /// A line is not the URI of a nonempty name, a space, and 1 to 256 octets in hexadecimal.
-    #[error("line {0} is not a name and a key")]
+    #[error("line {0} is not a name and the octets of a key, as /ops/KEY/1 6b6579")]
     BadLine(u64),
     /// A line has the name of an earlier line's key.
-    #[error("line {0} names a key again")]
+    #[error("line {0} has the name of an earlier key, and each needs its own")]
     TwiceNamed(u64),
     /// A line has the 257th key.
-    #[error("more than 256 keys")]
+    #[error("the file has more than 256 keys, the most")]
     TooMany,
     /// Memory could not be allocated.
     #[error("out of memory")]
     Memory,
+}
+
+impl KeyFault {
+    ghost use Rattle.hmac_keys.specs.FaultName.{fault_name, fault_line};
+
+    /// The name of the fault, as the client prints it.
+    pub fn name(self) -> &'static str
+        ensures { result.now ≡ fault_name self }
+    {
+        match self {
+            KeyFault::BadLine(_) => "BadLine",
+            KeyFault::TwiceNamed(_) => "TwiceNamed",
+            KeyFault::TooMany => "TooMany",
+            KeyFault::Memory => "Memory",
+        }
+    }
+
+    /// The number of the faulty line, counted from 1, where one is to blame.
+    pub fn line(self) -> Option<u64>
+        ensures { result ≡ fault_line self }
+    {
+        match self {
+            KeyFault::BadLine(line) | KeyFault::TwiceNamed(line) => Some(line),
+            KeyFault::TooMany | KeyFault::Memory => None,
+        }
+    }
 }
 
 impl<T: Drop> From<AllocFailed<T>> for KeyFault {

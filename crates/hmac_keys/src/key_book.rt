@@ -58,7 +58,7 @@ impl Model for KeyBook {
 }
 
 impl KeyBook {
-    ghost use Rattle.std.specs.Prelude.{◌≡◌, ◌⊎◌, ℕ, Ok, IfOk, IfErr, IsErrOf, MatchOption, MatchResult, List, [], length};
+    ghost use Rattle.std.specs.Prelude.{◌≡◌, ◌⊎◌, ℕ, Ok, IfOk, IfErr, IsErrOf, MatchOption, MatchResult, IsTrue, ◌↔◌, List, [], length};
     ghost use Rattle.ndn_names.specs.View.{components};
     ghost use Rattle.hmac_keys.specs.KeyFile.{NamedKey, KeysOf, IsAmong};
     ghost use Rattle.hmac_keys.specs.KeyReading.{keys_in, after_line, with_key, IsFaultOf};
@@ -146,5 +146,12 @@ impl KeyBook {
         ensures { result ≡ length self.now }
     {
         self.keys.len()
+    }
+
+    /// Whether the book has no key.
+    pub fn is_empty(&self) -> bool
+        ensures { IsTrue result ↔ (self.now ≡ []) }
+    {
+        self.keys.is_empty()
     }
 }

@@ -3,6 +3,7 @@ pub mod Reading
 pub mod Order
 pub mod View
 pub mod Key
+pub mod ViewKey
 pub mod TypeName
 pub mod Uri
 pub mod ReadsAs

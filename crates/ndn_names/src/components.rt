@@ -1,12 +1,26 @@
 ghost use Rattle.ndn_names.specs.Name.{IsNameValue, IsNameValue-prop, components_of};
 
 use crate::component::{Component, first_component};
+use std::alloc::AllocError;
 
 /// The components of a name, from its first to its last.
 #[derive(Debug, Drop)]
 pub struct Components<'a> {
     pub(crate) rest: &'a [u8],
     ghost spelled: { IsNameValue rest.now (components_of rest.now) } by { IsNameValue-prop rest.now (components_of rest.now) },
+}
+
+impl Clone for Components<'_> {
+    ghost use Rattle.std.specs.Prelude.{◌≡◌, ⊤};
+    ghost use Rattle.ndn_names.specs.View.{components_left};
+
+    ghost is_clone = { λ it copy. components_left copy ≡ components_left it };
+
+    ghost is_infallible = { λ _. ⊤ };
+
+    fn clone(&self) -> Result<Self, AllocError> {
+        Ok(Components { rest: self.rest })
+    }
 }
 
 impl<'a> Iterator for Components<'a> {

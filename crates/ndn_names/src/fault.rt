@@ -12,13 +12,13 @@ use thiserror::Error;
 #[derive(Clone, Copy, Debug, PartialEq, Eq, Error)]
 pub enum NameFault {
     /// A component's type is 0 or above 65535, or it is not an element.
-    #[error("a component is not an element of a type from 1 to 65535")]
+    #[error("a component has to be a whole element of a type from 1 to 65535")]
     BadComponent,
     /// A digest, a component of type 1 or 2, is not 32 octets long.
-    #[error("a digest component is not 32 octets long")]
+    #[error("a digest, a component of type 1 or 2, has to be 32 octets long")]
     BadDigestLength,
     /// A name has more than 64 components.
-    #[error("a name has more than 64 components")]
+    #[error("a name has more than 64 components, the most")]
     TooManyComponents,
     /// A text is not the URI of a name.
     #[error("the text is not a name such as /A/seg=5")]

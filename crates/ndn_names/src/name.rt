@@ -136,6 +136,34 @@ impl<'a> Name<'a> {
     }
 }
 
+impl<'a> IntoIterator for Name<'a> {
+    type Item = Component<'a>;
+
+    type IntoIter = Components<'a>;
+
+    ghost use Rattle.ndn_names.specs.View.{components, components_left};
+
+    ghost into_iter_gives = { λ name it. components_left it ≡ components name };
+
+    fn into_iter(self) -> Components<'a> {
+        self.iter()
+    }
+}
+
+impl<'a> IntoIterator for &Name<'a> {
+    type Item = Component<'a>;
+
+    type IntoIter = Components<'a>;
+
+    ghost use Rattle.ndn_names.specs.View.{components, components_left};
+
+    ghost into_iter_gives = { λ name it. components_left it ≡ components name.now };
+
+    fn into_iter(self) -> Components<'a> {
+        self.iter()
+    }
+}
+
 /// Law: octets are the TLV-VALUE of at most one name, which `name_at` and `components_of` read.
 pub fn names_have_one_reading()
     ensures one { (value : List ℕ) (a b : List Field) → IsNameValue value a → IsNameValue value b

@@ -44,6 +44,13 @@ impl NameBuf {
         Ok(NameBuf { octets })
     }
 
+    /// A copy of this name.
+    pub fn try_clone(&self, alloc: Global) -> Result<NameBuf, Memory>
+        ensures { IfOk result (λ copy. copy ≡ self.now) }
+    {
+        NameBuf::from_name(alloc, self.view())
+    }
+
     /// Appends a component of a type and octets.
     ///
     /// Refuses it with the first fault in this order, and then changes nothing: `TooManyComponents`

@@ -7,18 +7,18 @@ use thiserror::Error;
 #[derive(Clone, Copy, Debug, PartialEq, Eq, Error)]
 pub enum TlvFault {
     /// Octets are missing. The empty text is truncated too.
-    #[error("octets are missing")]
+    #[error("the octets end inside a number or an element")]
     Truncated,
     /// A number takes more octets than it needs.
-    #[error("a number is not in its shortest form")]
+    #[error("a number has a shorter form, as 0b in place of fd000b")]
     NotShortest,
     /// A TLV-TYPE is 0.
-    #[error("a type is 0")]
+    #[error("a type is 0, and has to be from 1 to 4294967295")]
     TypeZero,
     /// A TLV-TYPE is 2^32 or more.
-    #[error("a type is above 4294967295")]
+    #[error("a type is above 4294967295, the greatest")]
     TypeTooLarge,
     /// A NonNegativeInteger is not 1, 2, 4 or 8 octets long.
-    #[error("an integer is not 1, 2, 4 or 8 octets long")]
+    #[error("an integer has to be 1, 2, 4 or 8 octets long")]
     BadInteger,
 }

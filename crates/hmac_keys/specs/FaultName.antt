@@ -1,0 +1,16 @@
+-- What a fault of a key file carries: its name, and the number of its line.
+use Rattle.std.specs.Prelude.{ℕ, List, Option, Some, None, codes}
+use Rattle.hmac_keys.specs.declared.fault.KeyFault.{KeyFault}
+use Rattle.hmac_keys.specs.declared.fault.KeyFault.TheVariants.{BadLine, TwiceNamed, TooMany, Memory}
+
+abbrev pub fault_name : KeyFault → List ℕ
+fault_name (BadLine n) = codes "BadLine"
+fault_name (TwiceNamed n) = codes "TwiceNamed"
+fault_name TooMany = codes "TooMany"
+fault_name Memory = codes "Memory"
+
+abbrev pub fault_line : KeyFault → Option ℕ
+fault_line (BadLine n) = Some n
+fault_line (TwiceNamed n) = Some n
+fault_line TooMany = None
+fault_line Memory = None

@@ -1,0 +1,47 @@
+-- Views of names and components as keys of maps: they compare and are hashed as what they show.
+use Rattle.std.specs.Prelude.{◌≡◌, true, ◌++◌}
+use mathlib.Core.Path.{ap}
+use Rattle.std.specs.declared.cmp.Ordering.{Ordering}
+use Rattle.std.specs.Cmp.{IsTotalOrder, on_total, Equal-is}
+use Rattle.std.specs.Hash.{HashWrites, slice, u8, u16}
+use Rattle.std.specs.Ordering.{on, eq_by_cmp}
+use Rattle.ndn_tlv.specs.Element.{Field}
+use Rattle.ndn_names.specs.declared.component.Component.{Component}
+use Rattle.ndn_names.specs.declared.name.Name.{Name}
+use Rattle.ndn_names.specs.Order.{component_cmp, name_cmp}
+use Rattle.ndn_names.specs.Key.{component_cmp-total, component_cmp-antisymmetric, name_cmp-total, name_writes, name_writes-alike}
+use Rattle.ndn_names.specs.View.{field_of, components}
+
+-- names, as those that own their octets
+abbrev pub view_cmp : Name → Name → Ordering
+view_cmp = on components name_cmp
+
+pub view_cmp-total : IsTotalOrder view_cmp
+view_cmp-total = on_total components name_cmp-total
+
+abbrev pub view_writes : Name → HashWrites
+view_writes name = name_writes (components name)
+
+pub view_writes-alike : (a b : Name) → eq_by_cmp view_cmp a b ≡ true
+    → view_writes a ≡ view_writes b
+view_writes-alike a b e = name_writes-alike (components a) (components b) e
+
+-- components, by type, then length, then octets
+abbrev pub part_cmp : Component → Component → Ordering
+part_cmp = on field_of component_cmp
+
+pub part_cmp-total : IsTotalOrder part_cmp
+part_cmp-total = on_total field_of component_cmp-total
+
+-- what a component feeds to a hash: its type and its octets
+abbrev pub component_writes : Field → HashWrites
+component_writes c = u16 c.0 ++ slice u8 c.1
+
+abbrev pub part_writes : Component → HashWrites
+part_writes c = component_writes (field_of c)
+
+pub part_writes-alike : (a b : Component) → eq_by_cmp part_cmp a b ≡ true
+    → part_writes a ≡ part_writes b
+part_writes-alike a b e =
+    ap component_writes
+    (component_cmp-antisymmetric (field_of a) (field_of b) ((Equal-is (part_cmp a b)).0 e))
