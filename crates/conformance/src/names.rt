@@ -623,6 +623,19 @@ fn give_all_or_memory(alloc: Global, text: &str) -> bool {
     }
 }
 
+/// Whether a text is refused for this cause, whether there is memory or not.
+fn is_refused(alloc: Global, text: &str, fault: NameFault) -> bool {
+    NameBuf::from_uri(alloc, text).err() == Some(fault)
+}
+
+/// Memory is asked for only where the text is a name's.
+#[test]
+fn faults_come_before_memory(rt: HostRuntime) {
+    assert!(rt; is_refused(rt.alloc(), "/A/%4", NameFault::BadUri));
+    assert!(rt; is_refused(rt.alloc(), "/A/1=00", NameFault::BadDigestLength));
+    assert!(rt; component_from_uri(rt.alloc(), "seg=x").err() == Some(NameFault::BadUri));
+}
+
 #[test]
 fn refused_memory(rt: HostRuntime) {
     let text = "/A/%00/seg=5/.../9=a%20long%20value%20of%20a%20component%20with%20a%20type";

@@ -3,6 +3,7 @@ pub mod OctetOrder
 pub mod Names
 pub mod Prefixes
 pub mod Octets
+pub mod ComponentTexts
 pub mod Decimals
 pub mod ShortestNumbers
 pub mod TextReading
@@ -11,4 +12,5 @@ pub mod PieceReading
 pub mod PathReading
 pub mod Cuts
 pub mod ReadBack
+pub mod UriCaused
 pub mod NameReading

@@ -1,20 +1,23 @@
 -- Reading the pieces of a name one after the other.
-use Rattle.std.proofs.Common.{◌≡◌, ◌≢◌, ℕ, ◌≤◌, List, [], ◌∷◌, ◌++◌, length, Result, Ok, Err, refl, sym, ap, subst, ◌∙◌, arith, inl, inr}
-use Rattle.std.specs.Prelude.{IfOk, MatchResult, codes, bytes_eq}
+use Rattle.std.proofs.Common.{◌≡◌, ◌≢◌, ℕ, ◌+◌, ◌<◌, ◌≤◌, ◌^◌, append_assoc, length-append, List, [], ◌∷◌, ◌++◌, length, Result, Ok, Err, refl, sym, ap, ◌∙◌, arith, inl, inr}
+use Rattle.std.specs.Prelude.{IfOk, IfErr, MatchResult, codes, bytes_eq}
 use Rattle.std.specs.List.{AllByRecursion}
-use Rattle.std.proofs.lemmas.Bool.{le-ltb, ne_eqb, false_from_ne_true}
+use Rattle.std.proofs.lemmas.List.{append-nil}
+use Rattle.std.proofs.lemmas.Grind.{flat_map-append}
+use Rattle.std.proofs.lemmas.Bool.{lt-ltb, le-ltb, ne_eqb, false_from_ne_true}
 use Rattle.std.proofs.lemmas.Slice.Eq.{bytes_eq-Decides}
-use Rattle.ndn_tlv.specs.Element.{Field}
+use Rattle.ndn_tlv.specs.Number.{spelling}
+use Rattle.ndn_tlv.specs.Element.{Field, IsField, element}
 use Rattle.ndn_tlv.specs.Reading.{◌>>=◌}
 use Rattle.ndn_names.specs.declared.fault.NameFault.{NameFault}
 use Rattle.ndn_names.specs.declared.fault.NameFault.TheVariants.{TooManyComponents, BadUri, Memory}
-use Rattle.ndn_names.specs.Reading.{component_of}
-use Rattle.ndn_names.specs.UriReading.{component_in, components_in, pieces_of, without_scheme, name_after_slash, name_in_path, name_in, IsFaultOf}
-use Rattle.ndn_names.specs.ReadsAs.{ReadsAs}
-use Rattle.ndn_names.proofs.Names.{component_again}
-use Rattle.ndn_names.proofs.TextReading.{Lacks}
-use Rattle.ndn_names.proofs.PieceReading.{piece_found}
-use Rattle.ndn_names.proofs.PathReading.{pieces_lack, pieces_none, text_found, text_again}
+use Rattle.ndn_names.specs.UriReading.{component_in, components_in, pieces_of, without_scheme, name_after_slash, name_in_path, name_in, piece_in, IsFaultOf, IsFaultFirst}
+use Rattle.ndn_names.specs.Name.{IsComponent, IsNameValue, octets_of, components_of}
+use Rattle.ndn_names.specs.ReadsAs.{ReadsAs, ReadsComponent}
+use Rattle.ndn_names.proofs.Names.{done_is, is_shown}
+use Rattle.ndn_names.proofs.UriCaused.{name_in-caused, piece_in-caused}
+use Rattle.ndn_names.proofs.PieceReading.{alone_found, alone_again}
+use Rattle.ndn_names.proofs.PathReading.{pieces_none, text_found, text_again}
 
 -- components before others
 abbrev pub named : List Field → Result (List Field) NameFault → Result (List Field) NameFault
@@ -35,11 +38,35 @@ named_full count cs text rest h full some = h.2 ∙ ap (named cs) (refused (piec
     refused [] more = absurd (more refl)
     refused (piece ∷ pieces) more = rw (le-ltb count 64 (omega arith)) refl
 
--- what is read of a piece can follow
-pub piece_fits : (rest piece after : List ℕ) (c : Field) → pieces_of rest ≡ piece ∷ pieces_of after → component_in piece ≡ Ok c → component_of c ≡ Ok c
-piece_fits rest piece after c split e =
-    let lacking = subst (AllByRecursion (Lacks 47)) split (pieces_lack rest) in
-    component_again c (piece_found piece c lacking.0 e).1
+-- one component more
+pub named_one : (count : ℕ) (cs : List Field) (text rest piece after : List ℕ) (c : Field) → HasNamed count cs text rest → count ≢ 64 → pieces_of rest ≡ piece ∷ pieces_of after → component_in piece ≡ Ok c
+    → HasNamed (count + 1) (cs ++ c ∷ []) text after
+named_one count cs text rest piece after c h room split e =
+    (omega (arith, length-append cs (c ∷ []), h.0), omega (arith, h.1), h.2 ∙ ap (λ (ps : List (List ℕ)). named cs (components_in count ps)) split ∙ rw (lt-ltb count 64 (omega (arith, h.1)), e) (moved cs (components_in (count + 1) (pieces_of after))))
+  where
+    moved : (cs : List Field) (r : Result (List Field) NameFault) → named cs (r >>= λ ds. Ok (c ∷ ds)) ≡ named (cs ++ c ∷ []) r
+    moved cs (Ok ds) = ap (λ (t : List Field). Ok t) (sym (append_assoc cs (c ∷ []) ds))
+    moved cs (Err fault) = refl
+
+-- its octets
+pub octets_more : (old now next : List ℕ) (cs : List Field) (c : Field) → now ≡ old ++ octets_of cs → next ≡ now ++ element c → next ≡ old ++ octets_of (cs ++ c ∷ [])
+octets_more old now next cs c e put =
+    put ∙ ap (λ (t : List ℕ). t ++ element c) e ∙ append_assoc old (octets_of cs) (element c)
+    ∙ ap (λ (t : List ℕ). old ++ t) (ap (λ (t : List ℕ). octets_of cs ++ t) (sym (append-nil (element c))) ∙ sym (flat_map-append element cs (c ∷ [])))
+
+-- no component is longer than all of them
+short_fields : (cs : List Field) → AllByRecursion IsComponent cs → length (octets_of cs) < 2 ^ 64 → AllByRecursion IsField cs
+short_fields [] is short = tt
+short_fields (c ∷ cs) is short =
+    let whole = length-append (element c) (octets_of cs) in
+    let first = length-append (spelling c.0) (spelling (length c.1) ++ c.1) in
+    let value = length-append (spelling (length c.1)) c.1 in
+    ((omega (arith, is.0.0), omega (arith, is.0.1), omega (arith, whole, first, value)), short_fields cs is.1 (omega (arith, whole)))
+
+pub value_shown : (text value : List ℕ) (cs : List Field) → name_in text ≡ Ok cs → value ≡ octets_of cs → length value < 2 ^ 64 → (components_of value ≡ cs) × IsNameValue value (components_of value)
+value_shown text value cs read e short =
+    let is = (text_found text cs read).7 in
+    is_shown value cs ((short_fields cs is.1 (omega (arith, ap length e)), e), is)
 
 -- ---- the text before the pieces
 
@@ -61,12 +88,58 @@ slash_first text rest e other = ap name_in_path e ∙ rw (false_from_ne_true (by
 
 -- ---- what a reading of the whole text says
 
-pub whole_found : (text : List ℕ) (r : Result (List Field) NameFault) → MatchResult r (λ cs. name_in text ≡ Ok cs) (IsFaultOf (name_in text)) → IfOk r (ReadsAs text)
+-- a fault of the text stands before Memory
+abbrev IsFirst : {A : Type 0} → Result A NameFault → Result A NameFault → Type 0
+IsFirst {A} read r = MatchResult r (λ x. read ≡ Ok x) (IsFaultFirst read)
+
+fault_weak : {A : Type 0} (read : Result A NameFault) (fault : NameFault) → IsFaultFirst read fault → IsFaultOf read fault
+fault_weak read fault (inl e) = inl e
+fault_weak read fault (inr memory) = inr memory.0
+
+memory_last : {A : Type 0} (read : Result A NameFault) (fault : NameFault) → (read ≡ Err Memory → ⊥) → IsFaultFirst read fault → fault ≡ Memory → (x : A) × (read ≡ Ok x)
+memory_last read fault never (inl e) is = absurd (never (e ∙ ap (λ (f : NameFault). Err f) is))
+memory_last read fault never (inr memory) is = memory.1
+
+pub whole_exact : (text : List ℕ) (r : Result (List Field) NameFault) → IsFirst (name_in text) r → MatchResult r (λ cs. name_in text ≡ Ok cs) (IsFaultOf (name_in text))
+whole_exact text (Ok cs) h = h
+whole_exact text (Err fault) h = fault_weak (name_in text) fault h
+
+pub whole_found : (text : List ℕ) (r : Result (List Field) NameFault) → IsFirst (name_in text) r → IfOk r (ReadsAs text)
 whole_found text (Ok cs) h = text_found text cs h
 whole_found text (Err fault) h = tt
 
-pub whole_only : (text : List ℕ) (r : Result (List Field) NameFault) → MatchResult r (λ cs. name_in text ≡ Ok cs) (IsFaultOf (name_in text))
-    → (cs : List Field) → ReadsAs text cs → MatchResult r (λ ds. ds ≡ cs) (λ fault. fault ≡ Memory)
+pub whole_only : (text : List ℕ) (r : Result (List Field) NameFault) → IsFirst (name_in text) r → (cs : List Field) → ReadsAs text cs → MatchResult r (λ ds. ds ≡ cs) (λ fault. fault ≡ Memory)
 whole_only text (Ok ds) h cs reads = let both : Ok ds ≡ Ok cs = sym h ∙ text_again text cs reads in cc
 whole_only text (Err fault) (inl e) cs reads = let both : Err fault ≡ Ok cs = sym e ∙ text_again text cs reads in absurd cc
-whole_only text (Err fault) (inr memory) cs reads = memory
+whole_only text (Err fault) (inr memory) cs reads = memory.0
+
+pub whole_memory : (text : List ℕ) (r : Result (List Field) NameFault) → IsFirst (name_in text) r → IfErr r (λ fault. fault ≡ Memory → (cs : List Field) × ReadsAs text cs)
+whole_memory text (Ok cs) h = tt
+whole_memory text (Err fault) h = λ is. let read = memory_last (name_in text) fault (name_in-caused text) h is in (read.0, text_found text read.0 read.1)
+
+-- ---- what a reading of one component says
+
+abbrev IsFirstPart : {X : Type 0} → (X → List ℕ) → List ℕ → Result (ℕ × X) NameFault → Type 0
+IsFirstPart items text r = MatchResult r (λ c. piece_in text ≡ Ok (c.0, items c.1)) (IsFaultFirst (piece_in text))
+
+pub part_exact : {X : Type 0} (items : X → List ℕ) (text : List ℕ) (r : Result (ℕ × X) NameFault) → IsFirstPart items text r → MatchResult r (λ c. piece_in text ≡ Ok (c.0, items c.1)) (IsFaultOf (piece_in text))
+part_exact items text (Ok c) h = h
+part_exact items text (Err fault) h = fault_weak (piece_in text) fault h
+
+pub part_found : {X : Type 0} (items : X → List ℕ) (text : List ℕ) (r : Result (ℕ × X) NameFault) → IsFirstPart items text r
+    → IfOk r (λ c. ReadsComponent text (c.0, items c.1) × IsComponent (c.0, items c.1))
+part_found items text (Ok c) h = alone_found text (c.0, items c.1) h
+part_found items text (Err fault) h = tt
+
+pub part_only : {X : Type 0} (items : X → List ℕ) (text : List ℕ) (r : Result (ℕ × X) NameFault) → IsFirstPart items text r → (d : Field) → ReadsComponent text d → IsComponent d
+    → MatchResult r (λ c. (c.0, items c.1) ≡ d) (λ fault. fault ≡ Memory)
+part_only items text (Ok c) h d reads is = done_is (c.0, items c.1) d (sym h ∙ alone_again text d reads is)
+part_only items text (Err fault) (inl e) d reads is = let both : Err fault ≡ Ok d = sym e ∙ alone_again text d reads is in absurd cc
+part_only items text (Err fault) (inr memory) d reads is = memory.0
+
+pub part_memory : {X : Type 0} (items : X → List ℕ) (text : List ℕ) (r : Result (ℕ × X) NameFault) → IsFirstPart items text r
+    → IfErr r (λ fault. fault ≡ Memory → (d : Field) × ReadsComponent text d × IsComponent d)
+part_memory items text (Ok c) h = tt
+part_memory items text (Err fault) h =
+    λ is. let read = memory_last (piece_in text) fault (piece_in-caused text) h is in
+    let found = alone_found text read.0 read.1 in (read.0, found.0, found.1)

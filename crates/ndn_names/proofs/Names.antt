@@ -186,7 +186,7 @@ IsCaused (Err TooManyComponents) = Unit {0}
 IsCaused (Err BadUri) = Unit {0}
 IsCaused (Err Memory) = ⊥
 
-caused_then : {A B : Type 0} (r : Result A NameFault) (f : A → Result B NameFault) → IsCaused r → ((x : A) → IsCaused (f x)) → IsCaused (r >>= f)
+pub caused_then : {A B : Type 0} (r : Result A NameFault) (f : A → Result B NameFault) → IsCaused r → ((x : A) → IsCaused (f x)) → IsCaused (r >>= f)
 caused_then (Ok x) f h g = g x
 caused_then (Err BadComponent) f h g = tt
 caused_then (Err BadDigestLength) f h g = tt
@@ -194,16 +194,17 @@ caused_then (Err TooManyComponents) f h g = tt
 caused_then (Err BadUri) f h g = tt
 caused_then (Err Memory) f h g = h
 
-caused_if : {A : Type 0} (b : Bool) (r s : Result A NameFault) → IsCaused r → IsCaused s → IsCaused (cond b r s)
+pub caused_if : {A : Type 0} (b : Bool) (r s : Result A NameFault) → IsCaused r → IsCaused s → IsCaused (cond b r s)
 caused_if true r s h g = h
 caused_if false r s h g = g
 
+pub field_caused : (c : Field) → IsCaused (component_of c)
+field_caused c =
+    caused_if ((eqb c.0 0) || ltb 65535 c.0) (Err BadComponent) (cond (leb c.0 2 && not (eqb (length c.1) 32)) (Err BadDigestLength) (Ok c)) tt
+    (caused_if (leb c.0 2 && not (eqb (length c.1) 32)) (Err BadDigestLength) (Ok c) tt tt)
+
 component_caused : (n : ℕ) (x : Result Field TlvFault) → IsCaused (component_after n x)
-component_caused n (Ok c) =
-    caused_if (ltb n 64) (component_of c) (Err TooManyComponents)
-    (caused_if ((eqb c.0 0) || ltb 65535 c.0) (Err BadComponent) (cond (leb c.0 2 && not (eqb (length c.1) 32)) (Err BadDigestLength) (Ok c)) tt
-    (caused_if (leb c.0 2 && not (eqb (length c.1) 32)) (Err BadDigestLength) (Ok c) tt tt))
-    tt
+component_caused n (Ok c) = caused_if (ltb n 64) (component_of c) (Err TooManyComponents) (field_caused c) tt
 component_caused n (Err f) = caused_if {A = Field} (ltb n 64) (Err BadComponent) (Err TooManyComponents) tt tt
 
 components_caused : (n : ℕ) (es : List (Result Field TlvFault)) → IsCaused (components_after n es)

@@ -1,5 +1,5 @@
 -- What reading a component's text says of the text.
-use Rattle.std.proofs.Common.{◌≡◌, ℕ, ◌^◌, ◌<◌, eqb, List, [], ◌∷◌, ◌++◌, length, Option, Some, None, Result, Ok, Err, MatchResult, refl, sym, ap, subst, ◌∙◌, arith, inl, inr, eq-eqb, decimal, true, false}
+use Rattle.std.proofs.Common.{◌≡◌, ℕ, ◌^◌, ◌<◌, eqb, List, [], ◌∷◌, ◌++◌, length, Option, Some, None, Ok, Err, refl, sym, ap, subst, ◌∙◌, arith, inl, inr, eq-eqb, decimal, true, false}
 use Rattle.std.specs.List.{list_any}
 use Rattle.std.specs.Str.Parse.{IsNumeral, digits_value}
 use Rattle.std.proofs.lemmas.Bool.{cases_lt, cases_eq, eqb-true, ne_eqb, le-leb, lt-leb}
@@ -7,14 +7,13 @@ use Rattle.std.proofs.lemmas.List.{length-append}
 use Rattle.ndn_tlv.specs.Element.{Field}
 use Rattle.ndn_tlv.specs.Number.{shortest_nni}
 use Rattle.ndn_tlv.specs.Reading.{◌>>=◌}
-use Rattle.ndn_names.specs.declared.fault.NameFault.{NameFault}
-use Rattle.ndn_names.specs.declared.fault.NameFault.TheVariants.{BadUri, Memory}
+use Rattle.ndn_names.specs.declared.fault.NameFault.TheVariants.{BadUri}
 use Rattle.ndn_names.specs.Name.{IsComponent}
 use Rattle.ndn_names.specs.Reading.{component_of}
 use Rattle.ndn_names.specs.TypeName.{type_name_of, kind_of}
 use Rattle.ndn_names.specs.Uri.{padded}
 use Rattle.ndn_names.specs.ReadsAs.{IsHex, StandsFor, IsValueText, IsGeneric, IsTyped, IsDigest, IsNumbered, ReadsComponent}
-use Rattle.ndn_names.specs.UriReading.{octets_in, unpadded, hex_in, plain_in, number_in, type_in, digest_in, numbered_in, typed_in, cut_at, component_by_cut, component_in, piece_in, IsFaultOf}
+use Rattle.ndn_names.specs.UriReading.{octets_in, unpadded, hex_in, plain_in, number_in, type_in, digest_in, numbered_in, typed_in, cut_at, component_by_cut, component_in, piece_in}
 use Rattle.ndn_names.proofs.Names.{component_found, component_again, bind_ok, done_is}
 use Rattle.ndn_names.proofs.TextReading.{test_passed, test_failed, hex_found, hex_again, hex_length, hex_no_slash, Lacks, Lacks-append, Lacks-parts, octets_found, octets_again, octets_some, padded_some, octets_no_slash, unpadded_found, unpadded_again}
 use Rattle.ndn_names.proofs.TypeNameReading.{number_found, number_again, digits-Lacks, decimal-Lacks, type_found, type_again, type_name_found, type_name_again, type_name_kind, decimal_no_type_name, type_name_lacks}
@@ -187,10 +186,3 @@ with_slash text e = rw e refl
 
 pub without_slash : (text : List ℕ) → list_any (λ o. eqb o 47) text ≡ false → piece_in text ≡ component_in text
 without_slash text e = rw e refl
-
--- what reads as a component is what is read, but for memory
-pub alone_only : (text : List ℕ) (r : Result Field NameFault) → MatchResult r (λ d. piece_in text ≡ Ok d) (IsFaultOf (piece_in text))
-    → (c : Field) → ReadsComponent text c → IsComponent c → MatchResult r (λ d. d ≡ c) (λ fault. fault ≡ Memory)
-alone_only text (Ok d) e c h is = done_is d c (sym e ∙ alone_again text c h is)
-alone_only text (Err fault) (inl e) c h is = absurd cc (sym (alone_again text c h is) ∙ e)
-alone_only text (Err fault) (inr e) c h is = e

@@ -8,3 +8,4 @@ pub mod TypeName
 pub mod Uri
 pub mod ReadsAs
 pub mod UriReading
+pub mod ComponentText

@@ -1,4 +1,4 @@
-ghost use Rattle.std.specs.Prelude.{◌≡◌, ◌<◌, ◌≢◌, ◌++◌, [], ◌∷◌, List, Result, Ok, Err, length, IfOk, MatchResult};
+ghost use Rattle.std.specs.Prelude.{◌≡◌, ◌<◌, ◌≢◌, ◌++◌, [], ◌∷◌, ℕ, List, Result, Ok, Err, length, IfOk, MatchResult};
 ghost use Rattle.ndn_tlv.specs.declared.fault.TlvFault.{TlvFault};
 ghost use Rattle.ndn_tlv.specs.Element.{Field, element};
 ghost use Rattle.ndn_tlv.specs.Reading.{elements_of, on_result};
@@ -26,8 +26,17 @@ pub struct Component<'a> {
 }
 
 /// The type of a component of these octets.
+#[inline(always)]
 pub(crate) fn component_kind(kind: u32, value: &[u8]) -> Result<u16, NameFault>
     ensures { on_result (λ k. Ok (k, value.now)) Err result ≡ component_of (kind, value.now) }
+{
+    kind_by_len(kind, value.len())
+}
+
+/// The type of a component of so many octets.
+pub(crate) fn kind_by_len(kind: u32, len: usize) -> Result<u16, NameFault>
+    ensures { (value : List ℕ) → len ≡ length value
+        → on_result (λ k. Ok (k, value)) Err result ≡ component_of (kind, value) }
 {
     let Ok(kind) = u16::try_from(kind) else {
         return Err(NameFault::BadComponent);
@@ -35,7 +44,7 @@ pub(crate) fn component_kind(kind: u32, value: &[u8]) -> Result<u16, NameFault>
     if kind == 0 {
         return Err(NameFault::BadComponent);
     }
-    if kind <= PARAMETERS_SHA256_DIGEST && value.len() != SHA256_LEN {
+    if kind <= PARAMETERS_SHA256_DIGEST && len != SHA256_LEN {
         return Err(NameFault::BadDigestLength);
     }
     Ok(kind)

@@ -2,6 +2,7 @@
 #![tactic(auto)]
 
 mod component;
+mod component_text;
 mod components;
 mod fault;
 mod key;

@@ -36,6 +36,14 @@ impl NameBuf {
         }
     }
 
+    /// The name of these octets.
+    pub(crate) fn from_octets(octets: Vec<u8>) -> NameBuf
+        requires { IsNameValue octets.items (components_of octets.items) }
+        ensures { result ≡ components_of octets.items }
+    {
+        NameBuf { octets }
+    }
+
     /// A copy of a name.
     pub fn from_name(alloc: Global, name: Name<'_>) -> Result<NameBuf, Memory>
         ensures { IfOk result (λ copy. copy ≡ components name.entry) }
@@ -73,7 +81,7 @@ impl NameBuf {
     }
 
     /// Appends a component that can follow.
-    pub(crate) fn push(&mut self, kind: u16, value: &[u8]) -> Result<(), Memory>
+    fn push(&mut self, kind: u16, value: &[u8]) -> Result<(), Memory>
         requires room { length self.old < 64 }
         requires fits { component_of (kind, value.now) ≡ Ok (kind, value.now) }
         ensures ok { OnOk result (self.new ≡ self.old ++ (kind, value.now) ∷ []) }

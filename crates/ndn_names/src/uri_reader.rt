@@ -1,174 +1,23 @@
 //! Reading names from URI text (NDN Packet Format 0.3, "NDN URI Scheme").
 
-ghost use Rattle.std.specs.Prelude.{◌≡◌, ◌↔◌, ◌≢◌, ◌<◌, ◌≤◌, ◌∷◌, ◌++◌, ℕ, List, [], length, Ok, Err, IfOk, MatchResult};
-ghost use Rattle.ndn_tlv.specs.Element.{Field};
-ghost use Rattle.ndn_names.specs.TypeName.{kind_of};
-ghost use Rattle.ndn_names.specs.Uri.{is_periods};
-ghost use Rattle.ndn_names.specs.Name.{IsComponent};
+ghost use Rattle.std.specs.Prelude.{◌≡◌, ◌↔◌, ◌≢◌, ◌<◌, ◌∷◌, ◌++◌, ℕ, List, [], length, Ok, Err, IfOk, IfErr, MatchResult};
+ghost use Rattle.ndn_tlv.specs.Element.{Field, element};
+ghost use Rattle.ndn_names.specs.Name.{IsComponent, octets_of};
 ghost use Rattle.ndn_names.specs.ReadsAs.{ReadsAs, ReadsComponent};
 ghost use Rattle.ndn_names.specs.UriReading as read;
 
-use crate::component::{GENERIC, PARAMETERS_SHA256_DIGEST, SHA256_LEN, component_kind};
+use crate::component_text::{component_text, put_value};
 use crate::fault::NameFault;
 use crate::name::MAX_COMPONENTS;
 use crate::name_buf::NameBuf;
-use crate::type_name::kind_of;
-use ndn_tlv::put_nni;
+use ndn_tlv::{number_len, put_number};
 use std::alloc::Global;
-
-/// The octet of two hexadecimal digits.
-fn octet_of(high: u8, low: u8) -> Result<u8, NameFault>
-    ensures { result ≡ read.pair_in high low }
-{
-    match ((high as char).to_digit(16), (low as char).to_digit(16)) {
-        (Some(high), Some(low)) => Ok((16 * high + low) as u8),
-        _ => Err(NameFault::BadUri),
-    }
-}
-
-/// The octet that stands at the front, and the text after it.
-fn first_octet<'a>(first: u8, after: &'a [u8]) -> Result<(u8, &'a [u8]), NameFault>
-    ensures read { MatchResult result
-        (λ x. read.octets_in (first ∷ after.now) ≡ read.before x.0 (read.octets_in x.1.now))
-        (λ fault. read.octets_in (first ∷ after.now) ≡ Err fault) }
-    ensures shorter { IfOk result (λ x. length x.1.now ≤ length after.now) }
-{
-    if first != b'%' {
-        return Ok((first, after));
-    }
-    match after {
-        [high, low, rest @ ..] => Ok((octet_of(*high, *low)?, rest)),
-        _ => Err(NameFault::BadUri),
-    }
-}
-
-/// Appends the octets of text with percent signs.
-fn put_octets(value: &mut Vec<u8>, text: &[u8]) -> Result<(), NameFault>
-    ensures { MatchResult result
-        (λ _. (octets : List ℕ) × (read.octets_in text.now ≡ Ok octets)
-        × (value.new.items ≡ value.old.items ++ octets))
-        (λ fault. read.IsFaultOf (read.octets_in text.now) fault) }
-{
-    let mut rest = text;
-    while let Some((first, after)) = rest.split_first() {
-        let (octet, after) = first_octet(*first, after)?;
-        value.push(octet)?;
-        rest = after;
-    }
-    Ok(())
-}
-
-/// Whether nothing but periods stands here.
-fn is_periods(octets: &[u8]) -> bool
-    ensures { result ≡ is_periods octets.now }
-{
-    octets.iter().all(|octet| *octet == b'.')
-}
-
-/// Takes three periods off octets that are periods only.
-fn unpad(value: &mut Vec<u8>) -> Result<(), NameFault>
-    ensures { MatchResult result (λ _. read.unpadded value.old.items ≡ Ok value.new.items)
-        (λ fault. read.unpadded value.old.items ≡ Err fault) }
-{
-    if !is_periods(value) {
-        return Ok(());
-    }
-    if value.len() < 3 {
-        return Err(NameFault::BadUri);
-    }
-    value.truncate(value.len() - 3);
-    Ok(())
-}
-
-/// The number of decimal digits.
-fn decimal_number(text: &str) -> Result<u64, NameFault>
-    ensures { result ≡ read.number_in text.now }
-{
-    if text.starts_with('+') {
-        return Err(NameFault::BadUri);
-    }
-    match text.parse::<u64>() {
-        Ok(n) => Ok(n),
-        Err(_) => Err(NameFault::BadUri),
-    }
-}
-
-/// The number of a type, without leading zeros.
-fn type_of(type_name: &str) -> Result<u16, NameFault>
-    ensures { result ≡ read.type_in type_name.now }
-{
-    if type_name.starts_with('0') {
-        return Err(NameFault::BadUri);
-    }
-    match u16::try_from(decimal_number(type_name)?) {
-        Ok(kind) => Ok(kind),
-        Err(_) => Err(NameFault::BadUri),
-    }
-}
-
-/// Puts the value of a component of a type into `value`.
-fn read_plain(value: &mut Vec<u8>, kind: u16, text: &str) -> Result<u16, NameFault>
-    requires { value.old.items ≡ [] }
-    ensures { MatchResult result
-        (λ read_kind. read.plain_in kind text.now ≡ Ok (read_kind, value.new.items))
-        (λ fault. read.IsFaultOf (read.plain_in kind text.now) fault) }
-{
-    put_octets(value, text.as_bytes())?;
-    unpad(value)?;
-    component_kind(u32::from(kind), value)
-}
-
-/// Puts the octets of a digest into `value`.
-fn read_digest(value: &mut Vec<u8>, kind: u16, text: &[u8]) -> Result<u16, NameFault>
-    requires { value.old.items ≡ [] }
-    ensures { MatchResult result
-        (λ read_kind. read.digest_in kind text.now ≡ Ok (read_kind, value.new.items))
-        (λ fault. read.IsFaultOf (read.digest_in kind text.now) fault) }
-{
-    if text.len() != 2 * SHA256_LEN {
-        return Err(NameFault::BadUri);
-    }
-    for i in 0..SHA256_LEN {
-        value.push(octet_of(text[2 * i], text[2 * i + 1])?)?;
-    }
-    Ok(kind)
-}
-
-/// The type of a component, and its value in `value`, by the texts before and after its first
-/// equals sign.
-fn read_typed(value: &mut Vec<u8>, type_name: &str, text: &str) -> Result<u16, NameFault>
-    requires { value.old.items ≡ [] }
-    ensures { let typed = read.typed_in type_name.now text.now (kind_of type_name.now) in
-        MatchResult result (λ kind. typed ≡ Ok (kind, value.new.items))
-        (λ fault. read.IsFaultOf typed fault) }
-{
-    match kind_of(type_name) {
-        None => read_plain(value, type_of(type_name)?, text),
-        Some(kind) if kind <= PARAMETERS_SHA256_DIGEST => read_digest(value, kind, text.as_bytes()),
-        Some(kind) => {
-            put_nni(value, decimal_number(text)?)?;
-            Ok(kind)
-        }
-    }
-}
-
-/// The type of a component, and its value in `value`.
-fn read_component(value: &mut Vec<u8>, piece: &str) -> Result<u16, NameFault>
-    ensures { MatchResult result (λ kind. read.component_in piece.now ≡ Ok (kind, value.new.items))
-        (λ fault. read.IsFaultOf (read.component_in piece.now) fault) }
-{
-    value.clear();
-    match piece.split_once('=') {
-        Some((type_name, text)) => read_typed(value, type_name, text),
-        None => read_plain(value, GENERIC, piece),
-    }
-}
 
 /// Reads the URI text of one component, as `A` or `seg=5`: its type and its octets.
 ///
 /// Refuses it as `NameBuf::from_uri` refuses the component: `BadDigestLength` for `1=` or `2=` with
-/// other than 32 octets, and `BadUri` for all else, a text with a slash among it. `Memory` may come
-/// at any text.
+/// other than 32 octets, and `BadUri` for all else, a text with a slash among it. `Memory` comes
+/// only where the text reads as a component.
 pub fn component_from_uri(alloc: Global, text: &str) -> Result<(u16, Vec<u8>), NameFault>
     // What is read is the component that the text reads as.
     ensures found { IfOk result
@@ -180,13 +29,24 @@ pub fn component_from_uri(alloc: Global, text: &str) -> Result<(u16, Vec<u8>), N
     // Which fault it is.
     ensures exact { MatchResult result (λ c. read.piece_in text.now ≡ Ok (c.0, c.1.items))
         (λ fault. read.IsFaultOf (read.piece_in text.now) fault) }
+    // Memory is refused only after all of the text was found to be right.
+    ensures memory { IfErr result (λ fault. fault ≡ NameFault.Memory
+        → (c : Field) × ReadsComponent text.now c × IsComponent c) }
+{
+    read_component(alloc, text)
+}
+
+fn read_component(alloc: Global, text: &str) -> Result<(u16, Vec<u8>), NameFault>
+    ensures { MatchResult result (λ c. read.piece_in text.now ≡ Ok (c.0, c.1.items))
+        (read.IsFaultFirst (read.piece_in text.now)) }
 {
     if text.as_bytes().contains(&b'/') {
         return Err(NameFault::BadUri);
     }
-    let mut value = Vec::new(alloc);
-    let kind = read_component(&mut value, text)?;
-    Ok((kind, value))
+    let component = component_text(text)?;
+    let mut value = Vec::with_capacity(alloc, component.len)?;
+    put_value(&mut value, component)?;
+    Ok((component.kind, value))
 }
 
 /// The text after the scheme, if it stands there.
@@ -208,13 +68,39 @@ fn first_piece(text: &str) -> (&str, &str)
     }
 }
 
-/// The name of the pieces between slashes.
-fn read_pieces(alloc: Global, text: &str) -> Result<NameBuf, NameFault>
+/// Refuses pieces between slashes that are not a name's. Otherwise gives the length of the name's
+/// TLV-VALUE, in octets.
+fn check_pieces(text: &str) -> Result<usize, NameFault>
     ensures { let name_in = read.components_in 0 (read.pieces_of text.now) in
-        MatchResult result (λ name. name_in ≡ Ok name) (λ fault. read.IsFaultOf name_in fault) }
+        MatchResult result (λ _. (cs : List Field) × (name_in ≡ Ok cs))
+        (λ fault. name_in ≡ Err fault) }
 {
-    let mut name = NameBuf::new(alloc);
-    let mut value = Vec::new(alloc);
+    let mut rest = text;
+    let mut count = 0;
+    let mut len: usize = 0;
+    while !rest.is_empty() {
+        if count == MAX_COMPONENTS {
+            return Err(NameFault::TooManyComponents);
+        }
+        let (piece, after) = first_piece(rest);
+        let component = component_text(piece)?;
+        len = len.saturating_add(number_len(u64::from(component.kind)));
+        len = len.saturating_add(number_len(component.len as u64));
+        len = len.saturating_add(component.len);
+        rest = after;
+        count += 1;
+    }
+    Ok(len)
+}
+
+/// Appends the TLV-VALUE of the name of the pieces between slashes.
+fn put_pieces(out: &mut Vec<u8>, text: &str) -> Result<(), NameFault>
+    ensures { let name_in = read.components_in 0 (read.pieces_of text.now) in
+        MatchResult result
+        (λ _. (cs : List Field) × (name_in ≡ Ok cs)
+        × (out.new.items ≡ out.old.items ++ octets_of cs))
+        (λ fault. read.IsFaultOf name_in fault) }
+{
     let mut rest = text;
     let mut count = 0;
     while !rest.is_empty() {
@@ -222,12 +108,49 @@ fn read_pieces(alloc: Global, text: &str) -> Result<NameBuf, NameFault>
             return Err(NameFault::TooManyComponents);
         }
         let (piece, after) = first_piece(rest);
-        let kind = read_component(&mut value, piece)?;
-        name.push(kind, &value)?;
+        put_component(out, piece)?;
         rest = after;
         count += 1;
     }
-    Ok(name)
+    Ok(())
+}
+
+/// Appends the component of a piece.
+fn put_component(out: &mut Vec<u8>, piece: &str) -> Result<(), NameFault>
+    ensures { MatchResult result
+        (λ _. (c : Field) × (read.component_in piece.now ≡ Ok c)
+        × (out.new.items ≡ out.old.items ++ element c))
+        (λ fault. read.IsFaultOf (read.component_in piece.now) fault) }
+{
+    let component = component_text(piece)?;
+    put_number(out, u64::from(component.kind))?;
+    put_number(out, component.len as u64)?;
+    put_value(out, component)
+}
+
+/// The pieces after the first slash, without a slash that is all of them.
+fn pieces_text(text: &str) -> Result<&str, NameFault>
+    ensures { MatchResult result
+        (λ rest. read.name_in text.now ≡ read.components_in 0 (read.pieces_of rest.now))
+        (λ fault. read.name_in text.now ≡ Err fault) }
+{
+    match without_scheme(text).strip_prefix('/') {
+        None => Err(NameFault::BadUri),
+        Some("/") => Ok(""),
+        Some(rest) => Ok(rest),
+    }
+}
+
+/// The text is checked before memory is asked for, once and for all of the name.
+fn read_name(alloc: Global, text: &str) -> Result<NameBuf, NameFault>
+    ensures { MatchResult result (λ name. read.name_in text.now ≡ Ok name)
+        (read.IsFaultFirst (read.name_in text.now)) }
+{
+    let pieces = pieces_text(text)?;
+    let len = check_pieces(pieces)?;
+    let mut octets = Vec::with_capacity(alloc, len)?;
+    put_pieces(&mut octets, pieces)?;
+    Ok(NameBuf::from_octets(octets))
 }
 
 impl NameBuf {
@@ -236,7 +159,7 @@ impl NameBuf {
     ///
     /// Refuses it with the first fault in text order: `TooManyComponents` at the 65th component,
     /// whatever it holds, `BadDigestLength` for `1=` or `2=` with other than 32 octets, and
-    /// `BadUri` for all else. `Memory` may come at any text.
+    /// `BadUri` for all else. `Memory` comes only where the text reads as a name.
     pub fn from_uri(alloc: Global, text: &str) -> Result<NameBuf, NameFault>
         // What is read is the name that the text reads as.
         ensures found { IfOk result (λ name. ReadsAs text.now name) }
@@ -246,12 +169,11 @@ impl NameBuf {
         // Which fault it is.
         ensures exact { MatchResult result (λ name. read.name_in text.now ≡ Ok name)
             (λ fault. read.IsFaultOf (read.name_in text.now) fault) }
+        // Memory is refused only after all of the text was found to be right.
+        ensures memory { IfErr result (λ fault. fault ≡ NameFault.Memory
+            → (cs : List Field) × ReadsAs text.now cs) }
     {
-        match without_scheme(text).strip_prefix('/') {
-            None => Err(NameFault::BadUri),
-            Some("/") => Ok(NameBuf::new(alloc)),
-            Some(rest) => read_pieces(alloc, rest),
-        }
+        read_name(alloc, text)
     }
 }
 

@@ -125,7 +125,8 @@ pub fn put_number(out: &mut Vec<u8>, number: u64) -> Result<(), Memory>
     ensures capacity { vec_capacity out.old ≤ vec_capacity out.new }
 {
     if number < 253 {
-        put_long(out, number as u8, &[])
+        out.push(number as u8)?;
+        Ok(())
     } else if number < 65_536 {
         put_long(out, 253, &(number as u16).to_be_bytes())
     } else if number < 4_294_967_296 {

@@ -1,10 +1,10 @@
 use Rattle.std.proofs.Common.{length}
 use Rattle.ndn_names.specs.UriReading.{octets_in}
 use Rattle.ndn_names.proofs.Octets.{HasPut}
-use Rattle.ndn_names.proofs.uri_reader.put_octets.Given as goal
+use Rattle.ndn_names.proofs.component_text.put_escaped.Given as goal
 
 abbrev pub invariant-loop-first : goal.invariant-loop-first
-invariant-loop-first l = HasPut octets_in l.fn.value.items l.value.items l.text l.rest
+invariant-loop-first l = HasPut octets_in l.fn.out.items l.out.items l.text l.rest
 
 abbrev pub decreases-loop-first : goal.decreases-loop-first
 decreases-loop-first l = length l.rest

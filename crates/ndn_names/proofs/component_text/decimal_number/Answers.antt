@@ -2,7 +2,7 @@ use Rattle.std.proofs.Common.{◌≢◌, get_or, Ok, Err, sym, ◌∙◌, arith}
 use Rattle.std.proofs.lemmas.Str.Pattern.{starts_char}
 use Rattle.ndn_names.specs.declared.fault.NameFault.TheVariants.{BadUri}
 use Rattle.ndn_names.proofs.Decimals.{number_read, sign_unread}
-use Rattle.ndn_names.proofs.uri_reader.decimal_number.Goals as goal
+use Rattle.ndn_names.proofs.component_text.decimal_number.Goals as goal
 
 pub returns-then-starts_with : goal.returns-then-starts_with
 returns-then-starts_with c =

@@ -1,7 +1,7 @@
 use Rattle.std.proofs.Common.{◌≢◌, get_or, sym, ◌∙◌, arith}
 use Rattle.std.proofs.lemmas.Str.Pattern.{starts_char}
 use Rattle.ndn_names.proofs.Decimals.{type_read, type_with_zero}
-use Rattle.ndn_names.proofs.uri_reader.type_of.Goals as goal
+use Rattle.ndn_names.proofs.component_text.type_of.Goals as goal
 
 pub returns-then-starts_with : goal.returns-then-starts_with
 returns-then-starts_with c =

@@ -1,0 +1,24 @@
+-- Components in text that are not decoded yet.
+use Rattle.std.specs.Prelude.{◌≡◌, ℕ, List, length, take, Result, Ok}
+use Rattle.ndn_tlv.specs.Element.{Field}
+use Rattle.ndn_tlv.specs.Number.{shortest_nni}
+use Rattle.ndn_tlv.specs.Reading.{◌>>=◌}
+use Rattle.ndn_names.specs.declared.component_text.ComponentText.{ComponentText}
+use Rattle.ndn_names.specs.declared.component_text.ValueText.{ValueText}
+use Rattle.ndn_names.specs.declared.component_text.ValueText.TheVariants.{Plain, Escaped, Hexadecimal, Number}
+use Rattle.ndn_names.specs.declared.fault.NameFault.{NameFault}
+use Rattle.ndn_names.specs.UriReading.{octets_in, hex_in}
+
+-- the value of so many octets that a text says
+abbrev pub value_in : ℕ → ValueText → Result (List ℕ) NameFault
+value_in len (Plain octets) = Ok octets.now
+value_in len (Escaped text) = do
+  octets ← octets_in text.now
+  Ok (take len octets)
+value_in len (Hexadecimal text) = hex_in text.now
+value_in len (Number n) = Ok (shortest_nni n)
+
+-- the text is that of this component
+abbrev pub IsTextOf : Field → ComponentText → Type 0
+IsTextOf c text =
+    (text.kind ≡ c.0) × (text.len ≡ length c.1) × (value_in text.len text.value ≡ Ok c.1)
