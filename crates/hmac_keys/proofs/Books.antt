@@ -65,12 +65,12 @@ among_at name (first ∷ keys) (suc i) key lt is e = inr (among_at name keys i k
 
 -- ---- a further key
 
-has_from_among : (name : List Field) (keys : List NamedKey) (octets : List ℕ) → IsAmong (name, octets) keys → has_name name keys ≡ true
+pub has_from_among : (name : List Field) (keys : List NamedKey) (octets : List ℕ) → IsAmong (name, octets) keys → has_name name keys ≡ true
 has_from_among name [] octets a = absurd a
 has_from_among name (key ∷ keys) octets (inl e) = or_left (is_eq (name_cmp key.0 name)) (has_name name keys) (same_name key.0 name (ap (λ (k : NamedKey). k.0) e))
 has_from_among name (key ∷ keys) octets (inr a) = or_right (is_eq (name_cmp key.0 name)) (has_name name keys) (has_from_among name keys octets a)
 
-among_from_has : (name : List Field) (keys : List NamedKey) → has_name name keys ≡ true → (octets : List ℕ) × IsAmong (name, octets) keys
+pub among_from_has : (name : List Field) (keys : List NamedKey) → has_name name keys ≡ true → (octets : List ℕ) × IsAmong (name, octets) keys
 among_from_has name [] h = absurd cc
 among_from_has name (key ∷ keys) h = elim (or_cases (is_eq (name_cmp key.0 name)) (has_name name keys) h) [
   | inl e ↦ (key.1, inl (ap (λ (n : List Field). (n, key.1)) (one_name key.0 name e)))

@@ -136,12 +136,12 @@ keys_again n (line ∷ lines) keys new (inr h) apart few =
 
 -- ---- a whole text
 
-found : (text : List ℕ) (keys : List NamedKey) → keys_in text ≡ Ok keys → KeysOf text keys
+pub found : (text : List ℕ) (keys : List NamedKey) → keys_in text ≡ Ok keys → KeysOf text keys
 found text keys e =
     let read = keys_read 1 (lines_of text) [] keys e tt (omega arith) in
     (subst (AreKeysOf (lines_of text)) (sym read.whole) read.are, read.apart, read.few)
 
-again : (text : List ℕ) (keys : List NamedKey) → KeysOf text keys → keys_in text ≡ Ok keys
+pub again : (text : List ℕ) (keys : List NamedKey) → KeysOf text keys → keys_in text ≡ Ok keys
 again text keys h = keys_again 1 (lines_of text) [] keys h.0 h.1 h.2
 
 pub read_found : (text : List ℕ) (r : Result (List NamedKey) KeyFault) → MatchResult r (λ keys. keys_in text ≡ Ok keys) (IsFaultOf (keys_in text)) → IfOk r (KeysOf text)

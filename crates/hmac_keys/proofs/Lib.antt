@@ -4,3 +4,4 @@ pub mod Digits
 pub mod Keys
 pub mod Books
 pub mod Files
+pub mod FaultyLines

@@ -1,5 +1,11 @@
 //! Books of named keys.
 
+ghost use Rattle.std.specs.Prelude.{◌≡◌, ◌↔◌, ℕ, List, Ok, Err};
+ghost use Rattle.hmac_keys.specs.declared.fault.KeyFault.{KeyFault};
+ghost use Rattle.hmac_keys.specs.FirstFault.{FirstFault};
+ghost use Rattle.hmac_keys.specs.KeyFile.{NamedKey, KeysOf};
+ghost use Rattle.hmac_keys.specs.KeyReading.{keys_in};
+
 use crate::fault::KeyFault;
 use crate::key_line::{first_line, is_skipped, name_of, octets_of};
 use ndn_names::{Name, NameBuf};
@@ -155,3 +161,13 @@ impl KeyBook {
         self.keys.is_empty()
     }
 }
+
+/// Law: a text spells the keys of one book at most, which `keys_in` reads, and a text that it
+/// refuses has the fault on its first faulty line.
+pub fn key_files_have_one_reading()
+    ensures exact { (text : List ℕ) (keys : List NamedKey) → (keys_in text ≡ Ok keys)
+        ↔ KeysOf text keys }
+    ensures one { (text : List ℕ) (a b : List NamedKey) → KeysOf text a → KeysOf text b → a ≡ b }
+    ensures fault { (text : List ℕ) (fault : KeyFault) → keys_in text ≡ Err fault
+        → FirstFault text fault }
+{}

@@ -8,4 +8,4 @@ mod key_line;
 
 pub use fault::KeyFault;
 pub use hmac::{hmac_sha256, tags_equal};
-pub use key_book::KeyBook;
+pub use key_book::{KeyBook, key_files_have_one_reading};

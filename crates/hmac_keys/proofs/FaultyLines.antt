@@ -1,0 +1,72 @@
+-- What stands in a key file that is refused.
+use Rattle.std.proofs.Common.{◌≡◌, ◌≢◌, ℕ, ◌+◌, ◌≤◌, true, false, List, [], ◌∷◌, ◌++◌, length, Result, Err, refl, sym, ap, subst, ◌∙◌, append_assoc, arith, inl, inr}
+use Rattle.std.specs.Prelude.{Option, Some, None}
+use Rattle.std.proofs.lemmas.Bool.{cases_Bool, cases_eq}
+use Rattle.std.proofs.lemmas.List.{length-append}
+use Rattle.ndn_tlv.specs.Reading.{on_result}
+use Rattle.hmac_keys.specs.declared.fault.KeyFault.{KeyFault}
+use Rattle.hmac_keys.specs.declared.fault.KeyFault.TheVariants.{BadLine, TwiceNamed, TooMany}
+use Rattle.hmac_keys.specs.KeyFile.{NamedKey, AreApart, AreKeysOf, IsKeyLine, is_skipped, lines_of}
+use Rattle.hmac_keys.specs.FirstFault.{IsReached, FaultIn, FirstFault}
+use Rattle.hmac_keys.specs.KeyReading.{has_name, key_in, with_key, on_option, keys_from, keys_in}
+use Rattle.hmac_keys.proofs.Keys.{key_found, key_again}
+use Rattle.hmac_keys.proofs.Books.{none_among, among_from_has, named_twice, one_too_many, key_added, apart_more}
+
+-- one line more
+skipped_after : (before : List (List ℕ)) (keys : List NamedKey) (line : List ℕ) → AreKeysOf before keys → is_skipped line ≡ true → AreKeysOf (before ++ line ∷ []) keys
+skipped_after [] keys line h skipped = inl (skipped, h)
+skipped_after (first ∷ before) keys line (inl h) skipped = inl (h.0, skipped_after before keys line h.1 skipped)
+skipped_after (first ∷ before) keys line (inr h) skipped = inr (h.0, (h.1.0, h.1.1, h.1.2, h.1.3, skipped_after before h.1.1 line h.1.4 skipped))
+
+key_after : (before : List (List ℕ)) (keys : List NamedKey) (line : List ℕ) (key : NamedKey) → AreKeysOf before keys → is_skipped line ≡ false → IsKeyLine line key → AreKeysOf (before ++ line ∷ []) (keys ++ key ∷ [])
+key_after [] keys line key h kept is = inr (kept, (key, [], ap (λ (k : List NamedKey). k ++ key ∷ []) h, is, refl))
+key_after (first ∷ before) keys line key (inl h) kept is = inl (h.0, key_after before keys line key h.1 kept is)
+key_after (first ∷ before) keys line key (inr h) kept is =
+    inr (h.0, (h.1.0, h.1.1 ++ key ∷ [], ap (λ (k : List NamedKey). k ++ key ∷ []) h.1.2, h.1.3, key_after before h.1.1 line key h.1.4 kept is))
+
+-- the fault that is told is that of the line
+is_told : (lines : List (List ℕ)) (found told : KeyFault) → (r : Result (List NamedKey) KeyFault) → r ≡ Err found → r ≡ Err told → FaultIn lines found → FaultIn lines told
+is_told lines found told r e f h = let same : Err found ≡ Err told = sym e ∙ f in subst (FaultIn lines) (cc) h
+
+-- the fault of a line that is not skipped, or of those after it
+line_faulty : (n : ℕ) (before lines : List (List ℕ)) (line : List ℕ) (keys : List NamedKey) (fault : KeyFault) → n ≡ length before + 1 → is_skipped line ≡ false → AreKeysOf before keys → AreApart keys → length keys ≤ 256
+    → ((key : NamedKey) → IsKeyLine line key → has_name key.0 keys ≡ false → length keys ≢ 256 → keys_from (n + 1) (keys ++ key ∷ []) lines ≡ Err fault → FaultIn (before ++ line ∷ lines) fault)
+    → (r : Option NamedKey) → key_in line ≡ r → on_result (λ more. keys_from (n + 1) more lines) (λ told. Err told) (on_option (with_key n keys) (Err (BadLine n)) r) ≡ Err fault → FaultIn (before ++ line ∷ lines) fault
+line_faulty n before lines line keys fault number kept are apart few later None is e =
+    let reached : IsReached (before ++ line ∷ lines) n line keys = record { before = before; after = lines; whole = refl; number = number; kept = kept; are = are; apart = apart; few = few } in
+    let no_key : (key : NamedKey) → IsKeyLine line key → ⊥ = λ key h. (let both : Some key ≡ None = sym (key_again line key h) ∙ is in absurd cc) in
+    is_told (before ++ line ∷ lines) (BadLine n) fault _ refl e (line, keys, reached, no_key)
+line_faulty n before lines line keys fault number kept are apart few later (Some key) is e =
+    let reached : IsReached (before ++ line ∷ lines) n line keys = record { before = before; after = lines; whole = refl; number = number; kept = kept; are = are; apart = apart; few = few } in
+    let key_line = key_found line key is in
+    elim (cases_Bool (has_name key.0 keys)) [
+      | inl twice ↦
+          is_told (before ++ line ∷ lines) (TwiceNamed n) fault (on_result (λ more. keys_from (n + 1) more lines) (λ told. Err told) (with_key n keys key)) (rw (named_twice n keys key twice) refl) e
+          (line, keys, reached, (key, key_line, among_from_has key.0 keys twice))
+      | inr other ↦ elim (cases_eq (length keys) 256) [
+        | inl full ↦
+            is_told (before ++ line ∷ lines) TooMany fault (on_result (λ more. keys_from (n + 1) more lines) (λ told. Err told) (with_key n keys key)) (rw (one_too_many n keys key other full) refl) e
+            (n, line, keys, reached, full, (key, key_line, none_among key.0 keys other))
+        | inr room ↦ later key key_line other room (rw (key_added n keys key other room) at e)
+      ]
+    ]
+
+faulty : (n : ℕ) (before lines : List (List ℕ)) (keys : List NamedKey) (fault : KeyFault) → n ≡ length before + 1 → AreKeysOf before keys → AreApart keys → length keys ≤ 256 → keys_from n keys lines ≡ Err fault
+    → FaultIn (before ++ lines) fault
+unfolding keys_from
+faulty n before [] keys fault number are apart few e = absurd cc
+faulty n before (line ∷ lines) keys fault number are apart few e =
+    let next : n + 1 ≡ length (before ++ line ∷ []) + 1 = omega (arith, length-append before (line ∷ [])) in
+    let moved = subst (λ (whole : List (List ℕ)). FaultIn whole fault) (append_assoc before (line ∷ []) lines) in
+    elim (cases_Bool (is_skipped line)) [
+      | inl skipped ↦ moved (faulty (n + 1) (before ++ line ∷ []) lines keys fault next (skipped_after before keys line are skipped) apart few (rw skipped at e))
+      | inr kept ↦
+          line_faulty n before lines line keys fault number kept are apart few
+          (λ key is other room rest. moved
+          (faulty (n + 1) (before ++ line ∷ []) lines (keys ++ key ∷ []) fault next (key_after before keys line key are kept is) (apart_more keys key apart other)
+          (omega (arith, room, length-append keys (key ∷ []))) rest))
+          (key_in line) refl (rw kept at e)
+    ]
+
+pub first_fault : (text : List ℕ) (fault : KeyFault) → keys_in text ≡ Err fault → FirstFault text fault
+first_fault text fault e = faulty 1 [] (lines_of text) [] fault refl refl tt (omega arith) e

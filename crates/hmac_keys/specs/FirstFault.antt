@@ -1,0 +1,46 @@
+-- Which texts have which fault: what is wrong on the first faulty line of a key file.
+use Rattle.std.specs.Prelude.{◌≡◌, ℕ, ◌+◌, ◌≤◌, List, ◌∷◌, ◌++◌, length, false}
+use Rattle.hmac_keys.specs.declared.fault.KeyFault.{KeyFault}
+use Rattle.hmac_keys.specs.declared.fault.KeyFault.TheVariants.{BadLine, TwiceNamed, TooMany, Memory}
+use Rattle.hmac_keys.specs.KeyFile.{NamedKey, AreApart, AreKeysOf, IsAmong, IsKeyLine, is_skipped, lines_of}
+
+-- line n of these lines is not skipped, and all lines before it are read, as these keys
+pub record IsReached (lines : List (List ℕ)) (n : ℕ) (line : List ℕ) (keys : List NamedKey) : Type 0 where
+  pub before : List (List ℕ)
+  pub after : List (List ℕ)
+  pub whole : lines ≡ before ++ line ∷ after
+  pub number : n ≡ length before + 1
+  pub kept : is_skipped line ≡ false
+  pub are : AreKeysOf before keys
+  pub apart : AreApart keys
+  pub few : length keys ≤ 256
+
+-- line n is not the line of a key
+abbrev pub HasBadLine : List (List ℕ) → ℕ → Type 0
+HasBadLine lines n =
+    (line : List ℕ) × (keys : List NamedKey) × IsReached lines n line keys
+    × ((key : NamedKey) → IsKeyLine line key → ⊥)
+
+-- line n has the name of a key before it
+abbrev pub HasNameTwice : List (List ℕ) → ℕ → Type 0
+HasNameTwice lines n =
+    (line : List ℕ) × (keys : List NamedKey) × IsReached lines n line keys
+    × ((key : NamedKey) × IsKeyLine line key × ((octets : List ℕ) × IsAmong (key.0, octets) keys))
+
+-- some line has a key of another name, and 256 keys stand before it
+abbrev pub HasTooMany : List (List ℕ) → Type 0
+HasTooMany lines =
+    (n : ℕ) × (line : List ℕ) × (keys : List NamedKey) × IsReached lines n line keys
+    × (length keys ≡ 256)
+    × ((key : NamedKey) × IsKeyLine line key
+    × ((octets : List ℕ) → IsAmong (key.0, octets) keys → ⊥))
+
+abbrev pub FaultIn : List (List ℕ) → KeyFault → Type 0
+FaultIn lines (BadLine n) = HasBadLine lines n
+FaultIn lines (TwiceNamed n) = HasNameTwice lines n
+FaultIn lines TooMany = HasTooMany lines
+FaultIn lines Memory = ⊥
+
+-- what stands in a text that is refused for this fault; Memory has no cause in it
+abbrev pub FirstFault : List ℕ → KeyFault → Type 0
+FirstFault text fault = FaultIn (lines_of text) fault
