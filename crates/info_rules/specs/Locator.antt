@@ -1,6 +1,7 @@
 -- Which keys may sign which packets, by their names.
 use Rattle.std.specs.Prelude.{◌≡◌, ℕ, ◌≤◌, List, [], ◌∷◌, ◌++◌, length, codes, Some}
 use Rattle.ndn_tlv.specs.Element.{Field}
+use Rattle.ndn_names.specs.declared.component_type.TheConstants.{GENERIC}
 use Rattle.ndn_names.specs.Name.{IsPrefix}
 use Rattle.name_patterns.specs.Pattern.{PlainPattern, Anything, OneOf, once, anything}
 use Rattle.name_patterns.specs.Match.{Match}
@@ -29,7 +30,7 @@ IsHyperRelated hyper key packet =
 
 -- the GenericNameComponent KEY
 abbrev pub key_component : Field
-key_component = (8, codes "KEY")
+key_component = (GENERIC, codes "KEY")
 
 -- the name is this prefix, a component KEY, and one to three components more
 abbrev pub IsKeyOf : List Field → List Field → Type 0

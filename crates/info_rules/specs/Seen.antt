@@ -1,6 +1,7 @@
 -- What rules see of a packet.
 use Rattle.std.specs.Prelude.{◌≡◌, ◌-◌, ◌==◌, ℕ, List, ◌++◌, length, take, Option, None, Some, IsSome, slice_get, Bool, false, ⊤, if◌then◌else◌}
 use Rattle.ndn_tlv.specs.Element.{Field}
+use Rattle.ndn_names.specs.declared.component_type.TheConstants.{PARAMETERS_SHA256_DIGEST}
 use Rattle.ndn_packets.specs.Packet.{PlainSignature, PlainInterest, PlainData, PlainFrame, AnInterest, AData}
 use Rattle.ndn_packets.specs.Covered.{Covered}
 use Rattle.info_rules.specs.declared.rule.Kind.{Kind}
@@ -15,7 +16,7 @@ pub record SeenPacket : Type 0 where
 
 abbrev pub is_digest : Option Field → Bool
 is_digest None = false
-is_digest (Some c) = c.0 == 2
+is_digest (Some c) = c.0 == PARAMETERS_SHA256_DIGEST
 
 -- the name without its last component, where that is a digest of parameters
 abbrev pub without_digest : List Field → List Field

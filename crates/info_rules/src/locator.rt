@@ -12,12 +12,10 @@ ghost use Rattle.info_rules.specs.Decides.{IsHyper};
 use crate::matching::{is_related, passes};
 use crate::rule::{HyperRelation, LocatorTest};
 use name_patterns::{Pattern, Template};
+use ndn_names::component_type::GENERIC;
 use ndn_names::{Component, Name, NameBuf, NameFault};
 use ndn_tlv::Memory;
 use std::alloc::Global;
-
-/// The type of a GenericNameComponent.
-const GENERIC: u16 = 8;
 
 /// The value of the component after the prefix of a key's name.
 const KEY: &[u8; 3] = b"KEY";

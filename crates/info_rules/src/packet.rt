@@ -12,10 +12,8 @@ ghost use Rattle.info_rules.specs.Decides.{IsMisshaped, IsUnfit};
 use crate::decision::Reason;
 use crate::rule::Kind;
 use ndn_names::Name;
+use ndn_names::component_type::PARAMETERS_SHA256_DIGEST;
 use ndn_packets::{Data, Interest, Parts, Signature};
-
-/// The type of a component that is a digest of parameters (NDN Packet Format 0.3, "Name").
-const PARAMETERS_SHA256_DIGEST: u16 = 2;
 
 /// A packet to decide.
 #[derive(Clone, Copy, Debug)]

@@ -5,11 +5,12 @@ use Rattle.std.specs.Coded.{×_prop, →_prop, le_prop, Coded-set, coded_ℕ, co
 use Rattle.std.specs.Result.{result_ok}
 use Rattle.ndn_tlv.specs.Element.{Field, IsField, element, IsElements}
 use Rattle.ndn_tlv.specs.Reading.{elements_of}
+use Rattle.ndn_names.specs.declared.component_type.TheConstants.{PARAMETERS_SHA256_DIGEST}
 
--- a component is its type and its octets: types up to 65535, and 32 octets in the two digests,
--- types 1 and 2
+-- a component is its type and its octets: types up to 65535, and 32 octets in the two digests, which
+-- have the least types
 abbrev pub IsComponent : Field → Type 0
-IsComponent c = (1 ≤ c.0) × (c.0 < 65536) × (c.0 ≤ 2 → length c.1 ≡ 32)
+IsComponent c = (1 ≤ c.0) × (c.0 < 65536) × (c.0 ≤ PARAMETERS_SHA256_DIGEST → length c.1 ≡ 32)
 
 -- a name is at most 64 components
 abbrev pub IsName : List Field → Type 0

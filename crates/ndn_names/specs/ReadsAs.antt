@@ -5,6 +5,7 @@ use Rattle.std.specs.Char.{digit_value}
 use Rattle.std.specs.Str.Parse.{IsNumeral, digits_value}
 use Rattle.ndn_tlv.specs.Element.{Field}
 use Rattle.ndn_tlv.specs.Number.{shortest_nni}
+use Rattle.ndn_names.specs.declared.component_type.TheConstants.{GENERIC, PARAMETERS_SHA256_DIGEST}
 use Rattle.ndn_names.specs.Name.{IsName}
 use Rattle.ndn_names.specs.TypeName.{type_name_of}
 use Rattle.ndn_names.specs.Uri.{padded, path_of}
@@ -40,7 +41,7 @@ IsValueText text value = StandsFor text (padded value)
 
 -- without an equals sign: a GenericNameComponent
 abbrev pub IsGeneric : List ℕ → Field → Type 0
-IsGeneric piece c = AllByRecursion (λ o. o ≢ 61) piece × (c.0 ≡ 8) × IsValueText piece c.1
+IsGeneric piece c = AllByRecursion (λ o. o ≢ 61) piece × (c.0 ≡ GENERIC) × IsValueText piece c.1
 
 -- the number of a type, without leading zeros, an equals sign, and the value
 abbrev pub IsTyped : List ℕ → Field → Type 0
@@ -52,14 +53,14 @@ IsTyped piece c =
 abbrev pub IsDigest : List ℕ → Field → Type 0
 IsDigest piece c =
     (type_name text : List ℕ) × (piece ≡ type_name ++ 61 ∷ text)
-    × (type_name_of c.0 ≡ Some type_name) × (c.0 ≤ 2)
+    × (type_name_of c.0 ≡ Some type_name) × (c.0 ≤ PARAMETERS_SHA256_DIGEST)
     × (length text ≡ 64) × IsHex text c.1
 
 -- the name of the type of a number, an equals sign, and a number below 2 ^ 64 in decimal digits
 abbrev pub IsNumbered : List ℕ → Field → Type 0
 IsNumbered piece c =
     (type_name text : List ℕ) × (piece ≡ type_name ++ 61 ∷ text)
-    × (type_name_of c.0 ≡ Some type_name) × (2 < c.0)
+    × (type_name_of c.0 ≡ Some type_name) × (PARAMETERS_SHA256_DIGEST < c.0)
     × IsNumeral 10 text × (digits_value 10 text < 2 ^ 64)
     × (c.1 ≡ shortest_nni (digits_value 10 text))
 

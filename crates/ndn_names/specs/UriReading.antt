@@ -10,6 +10,7 @@ use Rattle.ndn_tlv.specs.Number.{shortest_nni}
 use Rattle.ndn_tlv.specs.Reading.{◌>>=◌}
 use Rattle.ndn_names.specs.declared.fault.NameFault.{NameFault}
 use Rattle.ndn_names.specs.declared.fault.NameFault.TheVariants.{TooManyComponents, BadUri, Memory}
+use Rattle.ndn_names.specs.declared.component_type.TheConstants.{GENERIC, PARAMETERS_SHA256_DIGEST}
 use Rattle.ndn_names.specs.Reading.{component_of}
 use Rattle.ndn_names.specs.TypeName.{kind_of}
 use Rattle.ndn_names.specs.Uri.{is_periods}
@@ -85,7 +86,7 @@ numbered_in kind text = do
 -- before it
 abbrev pub typed_in : List ℕ → List ℕ → Option ℕ → Result Field NameFault
 typed_in type_name text (Some kind) =
-    if nat_le kind 2 then digest_in kind text else numbered_in kind text
+    if nat_le kind PARAMETERS_SHA256_DIGEST then digest_in kind text else numbered_in kind text
 typed_in type_name text None = do
   kind ← type_in type_name
   plain_in kind text
@@ -100,7 +101,7 @@ cut_at c (o ∷ text) = if o == c then Some ([], text) else (more o (cut_at c te
     more o (Some parts) = Some (o ∷ parts.0, parts.1)
 
 abbrev pub component_by_cut : List ℕ → Option (List ℕ × List ℕ) → Result Field NameFault
-component_by_cut piece None = plain_in 8 piece
+component_by_cut piece None = plain_in GENERIC piece
 component_by_cut piece (Some parts) = typed_in parts.0 parts.1 (kind_of parts.0)
 
 -- a component

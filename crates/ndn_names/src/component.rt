@@ -4,14 +4,9 @@ ghost use Rattle.ndn_tlv.specs.Element.{Field, element};
 ghost use Rattle.ndn_tlv.specs.Reading.{elements_of, on_result};
 ghost use Rattle.ndn_names.specs.Reading.{component_of, component_at};
 
+use crate::component_type::PARAMETERS_SHA256_DIGEST;
 use crate::fault::NameFault;
 use ndn_tlv::first_element;
-
-/// The type of a GenericNameComponent.
-pub(crate) const GENERIC: u16 = 8;
-
-/// The type of a ParametersSha256DigestComponent, and the greatest type of a digest.
-pub(crate) const PARAMETERS_SHA256_DIGEST: u16 = 2;
 
 /// The octets of a digest.
 pub(crate) const SHA256_LEN: usize = 32;

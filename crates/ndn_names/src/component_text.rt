@@ -7,7 +7,8 @@ ghost use Rattle.ndn_names.specs.Uri.{is_periods};
 ghost use Rattle.ndn_names.specs.ComponentText.{value_in, IsTextOf};
 ghost use Rattle.ndn_names.specs.UriReading as read;
 
-use crate::component::{GENERIC, PARAMETERS_SHA256_DIGEST, SHA256_LEN, kind_by_len};
+use crate::component::{SHA256_LEN, kind_by_len};
+use crate::component_type::{GENERIC, PARAMETERS_SHA256_DIGEST};
 use crate::fault::NameFault;
 use crate::type_name::kind_of;
 use ndn_tlv::{nni_len, put_nni};

@@ -3,6 +3,7 @@
 
 mod component;
 mod component_text;
+pub mod component_type;
 mod components;
 mod fault;
 mod key;

@@ -4,6 +4,10 @@
 ghost use Rattle.std.specs.Prelude.{◌≡◌, option_map};
 ghost use Rattle.ndn_names.specs.TypeName as spec;
 
+use crate::component_type::{
+    BYTE_OFFSET, IMPLICIT_SHA256_DIGEST, PARAMETERS_SHA256_DIGEST, SEGMENT, SEQUENCE_NUM,
+    TIMESTAMP, VERSION,
+};
 use ndn_tlv::nni_of;
 
 /// The name of a type.
@@ -11,13 +15,13 @@ pub fn type_name_of(kind: u16) -> Option<&'static str>
     ensures { option_map (λ type_name. type_name.now) result ≡ spec.type_name_of kind }
 {
     match kind {
-        1 => Some("sha256digest"),
-        2 => Some("params-sha256"),
-        50 => Some("seg"),
-        52 => Some("off"),
-        54 => Some("v"),
-        56 => Some("t"),
-        58 => Some("seq"),
+        IMPLICIT_SHA256_DIGEST => Some("sha256digest"),
+        PARAMETERS_SHA256_DIGEST => Some("params-sha256"),
+        SEGMENT => Some("seg"),
+        BYTE_OFFSET => Some("off"),
+        VERSION => Some("v"),
+        TIMESTAMP => Some("t"),
+        SEQUENCE_NUM => Some("seq"),
         _ => None,
     }
 }
@@ -27,13 +31,13 @@ pub fn kind_of(type_name: &str) -> Option<u16>
     ensures { result ≡ spec.kind_of type_name.now }
 {
     match type_name {
-        "sha256digest" => Some(1),
-        "params-sha256" => Some(2),
-        "seg" => Some(50),
-        "off" => Some(52),
-        "v" => Some(54),
-        "t" => Some(56),
-        "seq" => Some(58),
+        "sha256digest" => Some(IMPLICIT_SHA256_DIGEST),
+        "params-sha256" => Some(PARAMETERS_SHA256_DIGEST),
+        "seg" => Some(SEGMENT),
+        "off" => Some(BYTE_OFFSET),
+        "v" => Some(VERSION),
+        "t" => Some(TIMESTAMP),
+        "seq" => Some(SEQUENCE_NUM),
         _ => None,
     }
 }

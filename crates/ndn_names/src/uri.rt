@@ -7,7 +7,8 @@ ghost use Rattle.ndn_names.specs.Uri.{escaped, hexadecimal, value_text, componen
 ghost use Rattle.ndn_names.specs.ReadsAs.{ReadsAs};
 ghost use Rattle.ndn_names.specs.View.{field_of, components};
 
-use crate::component::{Component, GENERIC, PARAMETERS_SHA256_DIGEST};
+use crate::component::Component;
+use crate::component_type::{GENERIC, PARAMETERS_SHA256_DIGEST};
 use crate::name::Name;
 use crate::name_buf::NameBuf;
 use crate::type_name::{shortest_number, type_name_of};

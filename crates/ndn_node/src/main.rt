@@ -9,15 +9,13 @@ ghost use Rattle.std.specs.Prelude.{◌≡◌, [], ◌∷◌, codes, IfOk, IfErr
 use command::{Request, request_of};
 use fault::Fault;
 use ndn_names::NameBuf;
+use ndn_names::component_type::GENERIC;
 use node_core::{NodeParts, RunFault, run_script};
 use std::alloc::Global;
 use std::env::Env;
 use std::io::Input;
 use std::process::ExitCode;
 use std::{env, io};
-
-/// The type of a GenericNameComponent (NDN Packet Format 0.3, "Name").
-const GENERIC: u16 = 8;
 
 fn main(rt: HostRuntime) -> ExitCode {
     let Err(fault) = run(&rt) else {

@@ -2,12 +2,13 @@
 use Rattle.std.specs.Prelude.{ℕ, List, [], ◌∷◌, Bool, true, Option, None, Some, codes, nat_eq, nat_lt, ◌==◌, ◌&&◌, ◌||◌, if◌then◌else◌}
 use Rattle.std.specs.Cmp.Lexicographic.{pointwise}
 use Rattle.ndn_tlv.specs.Element.{Field}
+use Rattle.ndn_names.specs.declared.component_type.TheConstants.{GENERIC}
 use Rattle.node_core.specs.declared.node.NodeFault.{NodeFault}
 use Rattle.node_core.specs.declared.node.NodeFault.TheVariants.{BadRepoPrefix, BadCapacity}
 
 -- the component `localhost`
 abbrev pub is_localhost : Field → Bool
-is_localhost c = (c.0 == 8) && pointwise nat_eq c.1 (codes "localhost")
+is_localhost c = (c.0 == GENERIC) && pointwise nat_eq c.1 (codes "localhost")
 
 -- the empty name, and names under `/localhost`
 abbrev pub is_bad_prefix : List Field → Bool

@@ -13,14 +13,12 @@ use crate::pending::{
     Pending, deadline_after, remove_expired, remove_of_face, remove_of_name, remove_one,
 };
 use ndn_names::NameBuf;
+use ndn_names::component_type::GENERIC;
 use ndn_packets::{Data, Frame, Interest, read_frame};
 use ndn_tlv::Memory;
 use std::alloc::{AllocError, Global};
 use std::marker::Model;
 use thiserror::Error;
-
-/// The type of a GenericNameComponent (NDN Packet Format 0.3, "Name").
-const GENERIC: u16 = 8;
 
 /// The greatest capacity of a cache, in Data.
 const MAX_CACHE: u32 = 65_536;

@@ -1,0 +1,29 @@
+//! Types of components (NDN Packet Format 0.3, "Name"; NDN Naming Conventions, revision 3).
+
+/// ImplicitSha256DigestComponent: SHA-256 of a Data packet, 32 octets.
+pub const IMPLICIT_SHA256_DIGEST: u16 = 1;
+
+/// ParametersSha256DigestComponent: SHA-256 of an Interest's parameters, 32 octets. No digest has a
+/// greater type.
+pub const PARAMETERS_SHA256_DIGEST: u16 = 2;
+
+/// GenericNameComponent: any octets.
+pub const GENERIC: u16 = 8;
+
+/// KeywordNameComponent: a word with a meaning of its own.
+pub const KEYWORD: u16 = 32;
+
+/// SegmentNameComponent: the number of a segment.
+pub const SEGMENT: u16 = 50;
+
+/// ByteOffsetNameComponent: where a segment begins, in octets.
+pub const BYTE_OFFSET: u16 = 52;
+
+/// VersionNameComponent: the number of a version.
+pub const VERSION: u16 = 54;
+
+/// TimestampNameComponent: microseconds since 1970.
+pub const TIMESTAMP: u16 = 56;
+
+/// SequenceNumNameComponent: the number of a collection's item.
+pub const SEQUENCE_NUM: u16 = 58;
