@@ -1,17 +1,19 @@
 -- The blocks of HMAC, and comparing tags without an early end.
-use Rattle.std.proofs.Common.{◌≡◌, ℕ, ◌+◌, ◌<◌, List, [], ◌∷◌, ◌++◌, length, get_or, take, refl, sym, ap, ◌∙◌, arith}
+use Rattle.std.proofs.Common.{◌≡◌, ℕ, ◌+◌, ◌<◌, List, [], ◌∷◌, ◌++◌, length, get_or, take, drop, length-append, refl, sym, ap, ◌∙◌, arith}
 use Rattle.std.specs.Prelude.{◌↔◌}
 use Rattle.std.specs.Int.Bits.{bit_or, bit_xor, xor_zero_r, xor_self, xor_assoc, or_add_and, and_le_l, and_le_r}
-use Rattle.std.proofs.Math.ListN.{set}
-use Rattle.std.proofs.lemmas.List.{take_more, take_more_set, take_more_same, map-append, get_or-take, take-take}
+use Rattle.std.proofs.lemmas.List.{length-take, length-map, length-drop, take_more_same, get_or-take, take-take}
 use Rattle.hmac_keys.specs.Mac.{xor_each}
 
--- one octet more is combined with the pad
-pub combined_more : (block out : List ℕ) (pad i : ℕ) → i < length block → i < length out → take i out ≡ xor_each pad (take i block)
-    → take (i + 1) (set out i (bit_xor (get_or block i 0) pad)) ≡ xor_each pad (take (i + 1) block)
-combined_more block out pad i a b h =
-    take_more_set out i (bit_xor (get_or block i 0) pad) b ∙ ap (λ (front : List ℕ). front ++ bit_xor (get_or block i 0) pad ∷ []) h
-    ∙ sym (ap (xor_each pad) (take_more block i 0 a) ∙ map-append (λ o. bit_xor o pad) (take i block) (get_or block i 0 ∷ []))
+-- combining changes no length
+pub combined_len : (old now : List ℕ) (pad i : ℕ) → i < length old → now ≡ xor_each pad (take i old) ++ drop i old → i < length now
+combined_len old now pad i lt e =
+    omega (arith, lt, simp (length-append, length-map, length-take, length-drop) at (ap length e))
+
+-- the inner pad, and then what takes it off and puts the outer pad on
+pub pads : (block : List ℕ) → xor_each 0x6A (xor_each 0x36 block) ≡ xor_each 0x5C block
+pads [] = refl
+pads (octet ∷ block) = λ i. xor_assoc octet 0x36 0x6A i ∷ pads block i
 
 -- the octets compared so far are equal just where no difference was found
 abbrev pub HasCompared : List ℕ → List ℕ → ℕ → ℕ → Type 0

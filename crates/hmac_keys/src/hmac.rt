@@ -18,47 +18,49 @@ const INNER_PAD: u8 = 0x36;
 pub fn hmac_sha256(key: &[u8], first: &[u8], second: &[u8]) -> [u8; 32]
     ensures { result ≡ Mac key.now (first.now ++ second.now) }
 {
-    let block = block_of(key);
+    let mut block = [0; BLOCK_LEN];
+    put_key(&mut block, key);
+    combine(&mut block, INNER_PAD);
     let mut inner = Sha256::new();
-    inner.update(&xor_each(&block, INNER_PAD));
+    inner.update(&block);
     inner.update(first);
     inner.update(second);
+    // The inner pad is taken off again with the outer one put on.
+    combine(&mut block, INNER_PAD ^ OUTER_PAD);
     let mut outer = Sha256::new();
-    outer.update(&xor_each(&block, OUTER_PAD));
+    outer.update(&block);
     outer.update(&inner.finalize());
     outer.finalize()
 }
 
-/// The key as a block: hashed where it is longer, and filled with zeros.
-fn block_of(key: &[u8]) -> [u8; BLOCK_LEN]
-    ensures { result ≡ block_of key.now }
+/// Puts the key into a block of zeros, hashed where it is longer than the block.
+fn put_key(block: &mut [u8; BLOCK_LEN], key: &[u8])
+    requires { block.old ≡ replicate 64 0 }
+    ensures { block.new ≡ block_of key.now }
 {
     if key.len() > BLOCK_LEN {
-        filled(&Sha256::digest(key))
+        put_short(block, &Sha256::digest(key));
     } else {
-        filled(key)
+        put_short(block, key);
     }
 }
 
-/// A short key, filled with zeros.
-fn filled(key: &[u8]) -> [u8; BLOCK_LEN]
-    requires { length key.now ≤ 64 }
-    ensures { result ≡ key.now ++ replicate (64 - length key.now) 0 }
+/// Puts a short key into a block of zeros.
+fn put_short(block: &mut [u8; BLOCK_LEN], key: &[u8])
+    requires zeros { block.old ≡ replicate 64 0 }
+    requires short { length key.now ≤ 64 }
+    ensures { block.new ≡ key.now ++ replicate (64 - length key.now) 0 }
 {
-    let mut block = [0; BLOCK_LEN];
     block[..key.len()].copy_from_slice(key);
-    block
 }
 
-/// Each octet combined with the pad.
-fn xor_each(block: &[u8; BLOCK_LEN], pad: u8) -> [u8; BLOCK_LEN]
-    ensures { result ≡ xor_each pad block.now }
+/// Combines each octet with the pad.
+fn combine(block: &mut [u8; BLOCK_LEN], pad: u8)
+    ensures { block.new ≡ xor_each pad block.old }
 {
-    let mut combined = [0; BLOCK_LEN];
     for i in 0..BLOCK_LEN {
-        combined[i] = block[i] ^ pad;
+        block[i] ^= pad;
     }
-    combined
 }
 
 /// Whether a signature's value is this tag of 32 octets; a value of another length is not. All the
