@@ -12,7 +12,8 @@ use Rattle.info_rules.specs.Rule.{PlainRule}
 use Rattle.info_rules.specs.declared.keys.Key.{Key}
 use Rattle.info_rules.specs.declared.keys.Keys.{Keys}
 use Rattle.info_rules.specs.declared.packet.Packet.{Packet}
-use Rattle.ndn_packets.specs.Packet.{PlainFrame, AnInterest, AData, plain_interest, plain_data, plain_signature}
+use Rattle.ndn_packets.specs.Packet.{PlainFrame, AnInterest, AData, plain_signature}
+use Rattle.ndn_packets.specs.View.{plain_interest, plain_data}
 use Rattle.ndn_names.specs.View.{components}
 use Rattle.info_rules.specs.declared.packet.Signed.{Signed}
 use Rattle.info_rules.specs.Seen.{SeenPacket, seen_interest, seen_data, PlainSigned}

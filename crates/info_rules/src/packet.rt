@@ -2,7 +2,8 @@
 
 ghost use Rattle.std.specs.Prelude.{◌≡◌, ◌⊎◌, ◌↔◌, ℕ, List, Some, IsSome, MatchResult};
 ghost use Rattle.ndn_names.specs.View.{components};
-ghost use Rattle.ndn_packets.specs.Packet.{PlainSignature, PlainInterest, PlainData, plain_interest, plain_data};
+ghost use Rattle.ndn_packets.specs.Packet.{PlainSignature, PlainInterest, PlainData};
+ghost use Rattle.ndn_packets.specs.View.{plain_interest, plain_data};
 ghost use Rattle.ndn_packets.specs.Grammar.{IsInterest, IsData};
 ghost use Rattle.ndn_packets.specs.Covered.{EndsInDigest};
 ghost use Rattle.info_rules.specs.Seen.{without_digest, seen_interest, seen_data, IsSigned};

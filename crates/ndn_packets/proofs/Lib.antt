@@ -12,6 +12,7 @@ pub mod Parameters
 pub mod Digests
 pub mod Interests
 pub mod Packets
+pub mod Held
 pub mod Wholes
 pub mod Cuts
 pub mod Places

@@ -73,12 +73,12 @@ only_again text value kind outer = rw (element_alone text value kind outer) refl
 
 -- ---- packets, which their own element holds
 
-interest_of_found : (text value : List ℕ) (i : PlainInterest) → IsBytes text → IsElement text 5 value → interest_of text value ≡ Ok i → IsInterest text i
+pub interest_of_found : (text value : List ℕ) (i : PlainInterest) → IsBytes text → IsElement text 5 value → interest_of text value ≡ Ok i → IsInterest text i
 interest_of_found text value i fits outer e =
     let g = guard_ok (ltb 8800 (length text)) TooLong (interest_at value) i e in
     is_interest text value i outer (ltb-false _ _ g.0) fits (interest_found value i (IsBytes-inside text value 5 fits outer) g.1)
 
-data_of_found : (text value : List ℕ) (d : PlainData) → IsBytes text → IsElement text 6 value → data_of text value ≡ Ok d → IsData text d
+pub data_of_found : (text value : List ℕ) (d : PlainData) → IsBytes text → IsElement text 6 value → data_of text value ≡ Ok d → IsData text d
 data_of_found text value d fits outer e =
     let g = guard_ok (ltb 8800 (length text)) TooLong (data_at value) d e in
     is_data text value d outer (ltb-false _ _ g.0) fits (data_found value d (IsBytes-inside text value 6 fits outer) g.1)

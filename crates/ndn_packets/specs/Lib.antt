@@ -2,6 +2,7 @@ pub mod Packet
 pub mod Fields
 pub mod Grammar
 pub mod Link
+pub mod View
 pub mod Answers
 pub mod Reading
 pub mod FrameReading

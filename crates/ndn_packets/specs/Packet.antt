@@ -1,15 +1,10 @@
--- Packets as plain data: what a view shows, without where it lies in memory.
+-- Packets as plain data, without where they lie in memory.
 use Rattle.std.specs.Prelude.{ℕ, List, Option, Bool, filter, ◌==◌}
 use Rattle.ndn_tlv.specs.Element.{Field}
 use Rattle.ndn_names.specs.View.{components}
 use Rattle.ndn_packets.specs.declared.signature.Locator.{Locator}
 use Rattle.ndn_packets.specs.declared.signature.Locator.TheVariants as locators
 use Rattle.ndn_packets.specs.declared.signature.Signature.{Signature}
-use Rattle.ndn_packets.specs.declared.interest.Interest.{Interest}
-use Rattle.ndn_packets.specs.declared.data.Data.{Data}
-use Rattle.ndn_packets.specs.declared.frame.Frame.{Frame}
-use Rattle.ndn_packets.specs.declared.frame.Frame.TheVariants as frames
-use Rattle.std.specs.Option.{option_map}
 
 pub data PlainLocator : Type 0 where
   Missing : PlainLocator
@@ -66,29 +61,3 @@ plain_signature s = record {
   info = record { kind = s.kind; locator = plain_locator s.locator; time = s.time; seq = s.seq };
   value = s.value.now;
 }
-
-abbrev pub plain_interest : Interest → PlainInterest
-plain_interest i = record {
-  name = components i.name;
-  can_be_prefix = i.can_be_prefix;
-  must_be_fresh = i.must_be_fresh;
-  nonce = i.nonce;
-  lifetime = i.lifetime;
-  hop_limit = i.hop_limit;
-  parameters = option_map (λ p. p.now) i.parameters;
-  signature = option_map plain_signature i.signature;
-}
-
-abbrev pub plain_data : Data → PlainData
-plain_data d = record {
-  name = components d.name;
-  freshness = d.freshness;
-  content = option_map (λ c. c.now) d.content;
-  signature = plain_signature d.signature;
-}
-
-abbrev pub plain_frame : Frame → PlainFrame
-plain_frame (frames.Interest i) = AnInterest i.whole.now (plain_interest i)
-plain_frame (frames.Data d) = AData d.whole.now (plain_data d)
-plain_frame (frames.Nack reason i) = ANack reason i.whole.now (plain_interest i)
-plain_frame frames.Idle = Idle

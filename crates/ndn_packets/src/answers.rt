@@ -13,9 +13,13 @@ use sha2::{Digest, Sha256};
 const IMPLICIT_SHA256_DIGEST: u16 = 1;
 
 impl Data<'_> {
+    ghost use Rattle.ndn_packets.specs.View.{IsReadData};
+
     /// The implicit digest: SHA-256 of the whole packet.
     pub fn digest(&self) -> [u8; 32]
-        ensures { result ≡ sha256 self.now.whole.now }
+        ensures exact { result ≡ sha256 self.now.whole.now }
+        // Those octets are the Data.
+        ensures packet { IsReadData self.now }
     {
         Sha256::digest(self.whole)
     }
@@ -24,9 +28,11 @@ impl Data<'_> {
     /// implicit digest as last component, is the Interest's or, where the Interest has CanBePrefix,
     /// begins with it. The digest is computed only where the answer depends on it.
     pub fn answers(&self, asked: Name<'_>, can_be_prefix: bool) -> bool
-        ensures { IsTrue result
+        ensures exact { IsTrue result
             ↔ Answers (components self.now.name) (sha256 self.now.whole.now)
             (components asked.entry) can_be_prefix }
+        // The name and the digest are those of one Data.
+        ensures packet { IsReadData self.now }
     {
         if asked.is_prefix_of(self.name) {
             return can_be_prefix || self.name.is_prefix_of(asked);

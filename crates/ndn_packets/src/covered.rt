@@ -23,7 +23,8 @@ pub struct Parts<'a> {
 
 impl<'a> Data<'a> {
     ghost use Rattle.std.specs.Prelude.{List, ℕ, MatchOption};
-    ghost use Rattle.ndn_packets.specs.Packet.{AData, plain_data};
+    ghost use Rattle.ndn_packets.specs.Packet.{AData};
+    ghost use Rattle.ndn_packets.specs.View.{plain_data};
     ghost use Rattle.ndn_packets.specs.Covered.{Covered};
 
     /// The octets that the signature covers, as they were received: those from the Name up to the
@@ -46,7 +47,8 @@ impl<'a> Data<'a> {
 
 impl<'a> Interest<'a> {
     ghost use Rattle.std.specs.Prelude.{List, ℕ, MatchOption};
-    ghost use Rattle.ndn_packets.specs.Packet.{AnInterest, plain_interest};
+    ghost use Rattle.ndn_packets.specs.Packet.{AnInterest};
+    ghost use Rattle.ndn_packets.specs.View.{plain_interest};
     ghost use Rattle.ndn_packets.specs.Covered.{Covered};
 
     /// The octets that the signature covers, as they were received: those of the name's components

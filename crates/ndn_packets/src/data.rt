@@ -1,15 +1,20 @@
-ghost use Rattle.std.specs.Prelude.{◌≡◌, [], ◌∷◌, Ok, Err};
+ghost use Rattle.std.specs.Prelude.{◌≡◌, [], ◌∷◌, Ok, Err, option_map};
 ghost use Rattle.ndn_tlv.specs.Reading.{elements_of, on_result};
 ghost use Rattle.ndn_packets.specs.Fields.{data_schema, is_even_high};
 ghost use Rattle.ndn_packets.specs.Reading.{read_fields, take_data_field, nothing_yet, fields_from};
 ghost use Rattle.ndn_packets.specs.SoFar.{so_far};
+ghost use Rattle.ndn_names.specs.View.{components};
+ghost use Rattle.ndn_packets.specs.Packet.{plain_signature};
+ghost use Rattle.ndn_packets.specs.Grammar.{IsData};
 
 use crate::fault::PacketFault;
 use crate::field_reader::{FieldReader, leading_name};
+use crate::frame::is_too_long;
 use crate::meta_info::freshness_of;
 use crate::schema::Rules;
 use crate::signature::{Signature, SignatureInfo, signature_info};
 use ndn_names::Name;
+use ndn_tlv::Element;
 
 /// A Data, a view of the octets that it was read from (NDN Packet Format 0.3, "Data Packet").
 #[derive(Clone, Copy, Debug)]
@@ -24,6 +29,12 @@ pub struct Data<'a> {
     pub signature: Signature<'a>,
     /// The received octets of the whole packet, its type and length among them, at most 8,800.
     pub whole: &'a [u8],
+    ghost spelled: { ∥ IsData whole.now (record {
+      name = components name;
+      freshness = freshness;
+      content = option_map (λ c. c.now) content;
+      signature = plain_signature signature;
+    }) ∥₁ },
 }
 
 /// The types of the fields of a Data after its Name.
@@ -49,16 +60,21 @@ struct DataFields<'a> {
 impl<'a> Data<'a> {
     ghost use Rattle.std.specs.Prelude.{◌≡◌, IfOk, Ok, Err};
     ghost use Rattle.ndn_tlv.specs.Reading.{on_result};
-    ghost use Rattle.ndn_packets.specs.Packet.{plain_data};
-    ghost use Rattle.ndn_packets.specs.Reading.{data_at};
+    ghost use Rattle.ndn_packets.specs.View.{plain_data};
+    ghost use Rattle.ndn_packets.specs.FrameReading.{data_of};
 
     #[tactic(auto, unfolding(crate::specs::Reading::data_at))]
-    /// Reads the value of a Data element, which is the whole one.
-    pub(crate) fn read(whole: &'a [u8], value: &'a [u8]) -> Result<Data<'a>, PacketFault>
-        ensures exact { on_result (λ d. Ok (plain_data d)) Err result ≡ data_at value.now }
-        ensures whole { IfOk result (λ d. d.whole.now ≡ whole.now) }
+    /// Reads the Data that this element is.
+    pub(crate) fn read(outer: Element<'a>) -> Result<Data<'a>, PacketFault>
+        requires { outer.kind ≡ 6 }
+        ensures exact { on_result (λ d. Ok (plain_data d)) Err result
+            ≡ data_of outer.entry.whole.now outer.entry.value.now }
+        ensures whole { IfOk result (λ d. d.whole.now ≡ outer.entry.whole.now) }
     {
-        let (name, rest) = leading_name(value)?;
+        if is_too_long(outer.whole) {
+            return Err(PacketFault::TooLong);
+        }
+        let (name, rest) = leading_name(outer.value)?;
         let found = fields_of(rest)?;
         let (Some(info), Some(value)) = (found.info, found.value) else {
             return Err(PacketFault::BadField);
@@ -68,7 +84,7 @@ impl<'a> Data<'a> {
             freshness: found.freshness,
             content: found.content,
             signature: info.with_value(value),
-            whole,
+            whole: outer.whole,
         })
     }
 }

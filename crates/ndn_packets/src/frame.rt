@@ -1,8 +1,11 @@
-ghost use Rattle.std.specs.Prelude.{◌≡◌, ◌↔◌, ◌<◌, ℕ, List, slice_index, Ok, Err, IfOk, IfErr};
+ghost use Rattle.std.specs.Prelude.{◌≡◌, ◌↔◌, ◌<◌, ℕ, List, length, nat_lt, slice_index, Ok, Err, IfOk, IfErr};
 ghost use Rattle.ndn_tlv.specs.Reading.{on_result};
-ghost use Rattle.ndn_packets.specs.Packet.{PlainFrame, plain_interest, plain_data, plain_frame};
+ghost use Rattle.ndn_packets.specs.Packet.{PlainFrame};
+ghost use Rattle.ndn_packets.specs.View.{plain_frame, IsReadInterest, IsReadData};
+ghost use Rattle.ndn_packets.specs.declared.interest.Interest.{Interest};
+ghost use Rattle.ndn_packets.specs.declared.data.Data.{Data};
 ghost use Rattle.ndn_packets.specs.Link.{IsFrame};
-ghost use Rattle.ndn_packets.specs.FrameReading.{only_element, interest_of, data_of, packet_of, nacked_of, frame_at, FaultOf};
+ghost use Rattle.ndn_packets.specs.FrameReading.{only_element, packet_of, nacked_of, frame_at, FaultOf};
 
 use crate::data::Data;
 use crate::fault::PacketFault;
@@ -75,12 +78,13 @@ fn frame_of(octets: &[u8]) -> Result<Frame<'_>, PacketFault>
     if outer.kind == LINK_PACKET {
         return read_link(outer.value);
     }
-    packet_of(octets, outer)
+    packet_of(outer)
 }
 
 /// The one element that the octets are.
 pub(crate) fn only_element(octets: &[u8]) -> Result<Element<'_>, PacketFault>
-    ensures { on_result (λ e. Ok (e.kind, e.value.now)) Err result ≡ only_element octets.now }
+    ensures exact { on_result (λ e. Ok (e.kind, e.value.now)) Err result ≡ only_element octets.now }
+    ensures whole { IfOk result (λ e. e.whole.now ≡ octets.now) }
 {
     let (element, rest) = first_element(octets).map_err(PacketFault::Tlv)?;
     if !rest.is_empty() {
@@ -89,56 +93,37 @@ pub(crate) fn only_element(octets: &[u8]) -> Result<Element<'_>, PacketFault>
     Ok(element)
 }
 
-/// The Interest or the Data that the octets are, whose element this is.
-pub(crate) fn packet_of<'a>(octets: &'a [u8], outer: Element<'a>) -> Result<Frame<'a>, PacketFault>
+/// Whether a packet of these octets is longer than one may be.
+pub(crate) fn is_too_long(whole: &[u8]) -> bool
+    ensures exact { result ≡ nat_lt 8800 (length whole.now) }
+    // That a packet in hand is one needs that octets are below 256.
+    ensures octets { (i : ℕ) → slice_index whole.now i < 256 }
+{
+    whole.len() > MAX_PACKET
+}
+
+/// The Interest or the Data that this element is.
+pub(crate) fn packet_of(outer: Element<'_>) -> Result<Frame<'_>, PacketFault>
     ensures { on_result (λ f. Ok (plain_frame f)) Err result
-        ≡ packet_of octets.entry.now (outer.entry.kind, outer.entry.value.now) }
+        ≡ packet_of outer.entry.whole.now (outer.entry.kind, outer.entry.value.now) }
 {
     match outer.kind {
-        INTEREST => Ok(Frame::Interest(interest_of(octets, outer.value)?)),
-        DATA => Ok(Frame::Data(data_of(octets, outer.value)?)),
+        INTEREST => Ok(Frame::Interest(Interest::read(outer)?)),
+        DATA => Ok(Frame::Data(Data::read(outer)?)),
         _ => Err(PacketFault::BadField),
     }
 }
 
-/// The Interest inside a Nack of this reason, that the octets are, whose element this is.
-pub(crate) fn nacked_of<'a>(
-    reason: u64,
-    octets: &'a [u8],
-    outer: Element<'a>,
-) -> Result<Frame<'a>, PacketFault>
+/// The Interest inside a Nack of this reason, that this element is.
+pub(crate) fn nacked_of(reason: u64, outer: Element<'_>) -> Result<Frame<'_>, PacketFault>
     ensures { on_result (λ f. Ok (plain_frame f)) Err result
-        ≡ nacked_of reason octets.entry.now (outer.entry.kind, outer.entry.value.now) }
+        ≡ nacked_of reason outer.entry.whole.now (outer.entry.kind, outer.entry.value.now) }
 {
     if outer.kind != INTEREST {
         return Err(PacketFault::BadField);
     }
-    let interest = interest_of(octets, outer.value)?;
+    let interest = Interest::read(outer)?;
     Ok(Frame::Nack { reason, interest })
-}
-
-/// The Interest that the octets are, whose value this is.
-fn interest_of<'a>(octets: &'a [u8], value: &'a [u8]) -> Result<Interest<'a>, PacketFault>
-    ensures exact { on_result (λ i. Ok (plain_interest i)) Err result
-        ≡ interest_of octets.entry.now value.entry.now }
-    ensures whole { IfOk result (λ i. i.whole.now ≡ octets.entry.now) }
-{
-    if octets.len() > MAX_PACKET {
-        return Err(PacketFault::TooLong);
-    }
-    Interest::read(octets, value)
-}
-
-/// The Data that the octets are, whose value this is.
-fn data_of<'a>(octets: &'a [u8], value: &'a [u8]) -> Result<Data<'a>, PacketFault>
-    ensures exact { on_result (λ d. Ok (plain_data d)) Err result
-        ≡ data_of octets.entry.now value.entry.now }
-    ensures whole { IfOk result (λ d. d.whole.now ≡ octets.entry.now) }
-{
-    if octets.len() > MAX_PACKET {
-        return Err(PacketFault::TooLong);
-    }
-    Data::read(octets, value)
 }
 
 /// Law: octets are one frame at most, which `frame_at` reads.
@@ -146,4 +131,11 @@ pub fn frames_have_one_reading()
     ensures one { (text : List ℕ) (a b : PlainFrame) → IsFrame text a → IsFrame text b → a ≡ b }
     ensures exact { (text : List ℕ) (frame : PlainFrame) → ((i : ℕ) → slice_index text i < 256)
         → ((frame_at text ≡ Ok frame) ↔ IsFrame text frame) }
+{}
+
+/// Law: the received octets of every Interest and every Data in hand are that packet, also where it
+/// stood in a link packet: only `read_frame` makes them.
+pub fn packets_in_hand_are_read()
+    ensures interest { (i : Interest) → IsReadInterest i }
+    ensures data { (d : Data) → IsReadData d }
 {}

@@ -5,14 +5,17 @@ ghost use Rattle.ndn_tlv.specs.Reading.{elements_of, on_result};
 ghost use Rattle.ndn_names.specs.View.{components};
 ghost use Rattle.sha2.specs.Sha256.{sha256};
 ghost use Rattle.ndn_packets.specs.Packet.{digests_in, plain_signature};
+ghost use Rattle.ndn_packets.specs.Grammar.{IsInterest};
 ghost use Rattle.ndn_packets.specs.Reading.{read_fields, take_interest_field, no_fields_yet, fields_from, octet_at, is_nil, parameters_on, octets_of_read, digest_fault, signature_of};
 ghost use Rattle.ndn_packets.specs.SoFar.{AreDigests, plain_info, interest_so_far};
 
 use crate::fault::PacketFault;
 use crate::field_reader::{FieldReader, leading_name, number};
+use crate::frame::is_too_long;
 use crate::schema::{INTEREST_SIGNATURE_INFO, INTEREST_SIGNATURE_VALUE, Rules};
 use crate::signature::{Signature, SignatureInfo, signature_info};
 use ndn_names::Name;
+use ndn_tlv::Element;
 use sha2::{Digest, Sha256};
 
 /// An Interest, a view of the octets that it was read from (NDN Packet Format 0.3, "Interest
@@ -37,6 +40,16 @@ pub struct Interest<'a> {
     pub signature: Option<Signature<'a>>,
     /// The received octets of the whole packet, its type and length among them, at most 8,800.
     pub whole: &'a [u8],
+    ghost spelled: { ∥ IsInterest whole.now (record {
+      name = components name;
+      can_be_prefix = can_be_prefix;
+      must_be_fresh = must_be_fresh;
+      nonce = nonce;
+      lifetime = lifetime;
+      hop_limit = hop_limit;
+      parameters = option_map (λ p. p.now) parameters;
+      signature = option_map plain_signature signature;
+    }) ∥₁ },
 }
 
 /// The types of the fields of an Interest after its Name.
@@ -119,16 +132,21 @@ pub enum Digests<'a> {
 impl<'a> Interest<'a> {
     ghost use Rattle.std.specs.Prelude.{◌≡◌, IfOk, Ok, Err};
     ghost use Rattle.ndn_tlv.specs.Reading.{on_result};
-    ghost use Rattle.ndn_packets.specs.Packet.{plain_interest};
-    ghost use Rattle.ndn_packets.specs.Reading.{interest_at};
+    ghost use Rattle.ndn_packets.specs.View.{plain_interest};
+    ghost use Rattle.ndn_packets.specs.FrameReading.{interest_of};
 
     #[tactic(auto, using(crate::proofs::Rules::nil_tests), unfolding(crate::specs::Reading::interest_at))]
-    /// Reads the value of an Interest element, which is the whole one.
-    pub(crate) fn read(whole: &'a [u8], value: &'a [u8]) -> Result<Interest<'a>, PacketFault>
-        ensures exact { on_result (λ i. Ok (plain_interest i)) Err result ≡ interest_at value.now }
-        ensures whole { IfOk result (λ i. i.whole.now ≡ whole.now) }
+    /// Reads the Interest that this element is.
+    pub(crate) fn read(outer: Element<'a>) -> Result<Interest<'a>, PacketFault>
+        requires { outer.kind ≡ 5 }
+        ensures exact { on_result (λ i. Ok (plain_interest i)) Err result
+            ≡ interest_of outer.entry.whole.now outer.entry.value.now }
+        ensures whole { IfOk result (λ i. i.whole.now ≡ outer.entry.whole.now) }
     {
-        let (name, rest) = leading_name(value)?;
+        if is_too_long(outer.whole) {
+            return Err(PacketFault::TooLong);
+        }
+        let (name, rest) = leading_name(outer.value)?;
         if name.is_empty() {
             return Err(PacketFault::NoName);
         }
@@ -148,7 +166,7 @@ impl<'a> Interest<'a> {
             hop_limit: found.hop_limit,
             parameters: found.parameters,
             signature: signature_of(found.info, found.value),
-            whole,
+            whole: outer.whole,
         })
     }
 }

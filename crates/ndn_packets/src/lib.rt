@@ -22,7 +22,7 @@ pub use covered::{Parts, covered_octets_have_one_reading, signed_packets_have_co
 pub use data::Data;
 pub use data_writer::{DataWriter, put_reply};
 pub use fault::{PacketFault, WriteFault};
-pub use frame::{Frame, frames_have_one_reading, read_frame};
+pub use frame::{Frame, frames_have_one_reading, packets_in_hand_are_read, read_frame};
 pub use hop_limit::hop_limit_mut;
 pub use interest::Interest;
 pub use interest_writer::InterestWriter;

@@ -5,7 +5,8 @@ ghost use Rattle.std.specs.Vec.{vec_capacity};
 ghost use Rattle.ndn_tlv.specs.Number.{shortest_nni};
 ghost use Rattle.ndn_tlv.specs.Element.{element};
 ghost use Rattle.ndn_tlv.specs.Reading.{on_result, elements_of};
-ghost use Rattle.ndn_packets.specs.Packet.{PlainInterest, PlainFrame, ANack, plain_frame};
+ghost use Rattle.ndn_packets.specs.Packet.{PlainInterest, PlainFrame, ANack};
+ghost use Rattle.ndn_packets.specs.View.{plain_frame};
 ghost use Rattle.ndn_packets.specs.Grammar.{IsInterest};
 ghost use Rattle.ndn_packets.specs.Link.{IsFrame, is_ignored_header};
 ghost use Rattle.ndn_packets.specs.FrameReading.{LinkSoFar, at_most, nack_at, fragment_at, last_of, link_at};
@@ -170,8 +171,8 @@ fn fragment_of(nack: Option<u64>, fragment: &[u8]) -> Result<Frame<'_>, PacketFa
 {
     let outer = only_element(fragment)?;
     match nack {
-        None => packet_of(fragment, outer),
-        Some(reason) => nacked_of(reason, fragment, outer),
+        None => packet_of(outer),
+        Some(reason) => nacked_of(reason, outer),
     }
 }
 

@@ -1,5 +1,5 @@
 ghost use Rattle.std.specs.Prelude.{◌≡◌, ◌++◌, List, [], length, drop, Err, IfOk, IfErr, OnOk, OnErr, IsOk, MatchOption};
-ghost use Rattle.ndn_packets.specs.Packet.{plain_interest, plain_data};
+ghost use Rattle.ndn_packets.specs.View.{plain_interest, plain_data};
 ghost use Rattle.node_core.specs.Event.{plain, Send};
 ghost use Rattle.node_core.specs.State.{State, initial, IsRising, numbers};
 ghost use Rattle.node_core.specs.Step.{after_expiry, after_opening, after_closing, after_interest, after_data, NeedsNoMemory, Step, ReceivesNothing, IsPacketStep};

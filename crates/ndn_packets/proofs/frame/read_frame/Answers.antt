@@ -1,5 +1,5 @@
 use Rattle.std.proofs.Common.{◌∙◌, arith}
-use Rattle.ndn_packets.specs.Packet.{plain_frame}
+use Rattle.ndn_packets.specs.View.{plain_frame}
 use Rattle.ndn_packets.proofs.Packets.{found_from, frame_again}
 use Rattle.ndn_packets.proofs.frame.read_frame.Goals as goal
 

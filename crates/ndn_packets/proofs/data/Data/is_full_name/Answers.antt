@@ -12,7 +12,7 @@ returns-then-last-eq-IMPLICIT_SHA256_DIGEST c =
     let asked = components c.args.asked in
     let longer : length asked ≡ length name + 1 = omega (arith, c.if-len.false, c.len.ensures.exact, c.len-len.ensures.exact) in
     let is = full_name_is name asked (sha256 c.args.self.now.whole.now) c.in-Some.last.value.now c.in-Some.last.kind c.len-len.result (c.if-not-is_prefix_of.ensures.0 refl) longer c.len-len.ensures.exact c.in-Some.ensures.exact in
-    let digest = c.as_slice.ensures ∙ c.digest.ensures in
+    let digest = c.as_slice.ensures ∙ c.digest.ensures.exact in
     let same = bytes_eq-Decides c.in-Some.last.value.now c.as_slice.result.now in
     (λ t. is.1 (c.if-last-eq-IMPLICIT_SHA256_DIGEST.true, same.0 (sym c.eq.ensures ∙ t) ∙ digest), λ e. c.eq.ensures ∙ same.1 ((is.0 e).1 ∙ sym digest))
 
