@@ -13,6 +13,7 @@ pub mod Digests
 pub mod Interests
 pub mod Packets
 pub mod Held
+pub mod KeyOrder
 pub mod Wholes
 pub mod Cuts
 pub mod Places

@@ -3,6 +3,7 @@ pub mod Fields
 pub mod Grammar
 pub mod Link
 pub mod View
+pub mod Key
 pub mod Answers
 pub mod Reading
 pub mod FrameReading

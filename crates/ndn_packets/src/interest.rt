@@ -12,6 +12,7 @@ ghost use Rattle.ndn_packets.specs.SoFar.{AreDigests, plain_info, interest_so_fa
 use crate::fault::PacketFault;
 use crate::field_reader::{FieldReader, leading_name, number};
 use crate::frame::is_too_long;
+use crate::key::Key;
 use crate::schema::{INTEREST_SIGNATURE_INFO, INTEREST_SIGNATURE_VALUE, Rules};
 use crate::signature::{Signature, SignatureInfo, signature_info};
 use ndn_names::Name;
@@ -131,9 +132,21 @@ pub enum Digests<'a> {
 
 impl<'a> Interest<'a> {
     ghost use Rattle.std.specs.Prelude.{◌≡◌, IfOk, Ok, Err};
+    ghost use Rattle.ndn_packets.specs.Key.{plain_key, key_of};
     ghost use Rattle.ndn_tlv.specs.Reading.{on_result};
     ghost use Rattle.ndn_packets.specs.View.{plain_interest};
     ghost use Rattle.ndn_packets.specs.FrameReading.{interest_of};
+
+    /// The key of the Interest.
+    pub fn key(&self) -> Key<'a>
+        ensures { plain_key result ≡ key_of (plain_interest self.now) }
+    {
+        Key {
+            name: self.name,
+            can_be_prefix: self.can_be_prefix,
+            must_be_fresh: self.must_be_fresh,
+        }
+    }
 
     #[tactic(auto, using(crate::proofs::Rules::nil_tests), unfolding(crate::specs::Reading::interest_at))]
     /// Reads the Interest that this element is.

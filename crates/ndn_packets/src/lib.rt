@@ -12,6 +12,7 @@ mod frame;
 mod hop_limit;
 mod interest;
 mod interest_writer;
+mod key;
 mod link;
 mod meta_info;
 mod schema;
@@ -26,5 +27,6 @@ pub use frame::{Frame, frames_have_one_reading, packets_in_hand_are_read, read_f
 pub use hop_limit::hop_limit_mut;
 pub use interest::Interest;
 pub use interest_writer::InterestWriter;
+pub use key::{Key, interest_keys_can_be_keys};
 pub use link::put_nack;
 pub use signature::{Locator, Sign, Signature};
