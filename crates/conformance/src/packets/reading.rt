@@ -428,3 +428,29 @@ fn packet_size_limit(rt: HostRuntime) {
 ";
     check_rows(&rt, rt.alloc(), rows, lengths);
 }
+
+/// How the key of one Interest compares with that of another.
+fn keys(alloc: Global, input: &str) -> Option<String> {
+    let (one, other) = input.split_once(' ')?;
+    let (one, other) = (packet(alloc, one)?, packet(alloc, other)?);
+    match (read_frame(&one), read_frame(&other)) {
+        (Ok(Frame::Interest(one)), Ok(Frame::Interest(other))) => {
+            format!(in alloc; "{:?}", one.key().compare(other.key())).ok()
+        }
+        _ => None,
+    }
+}
+
+#[test]
+fn keys_of_interests(rt: HostRuntime) {
+    let rows = "
+# Another Nonce.
+5|07030801410a0401020304 5|07030801410a0401020305 -> Equal
+5|07030801410a0401020304 5|07030801420a0401020304 -> Less
+5|07030801420a0401020304 5|070308014121000a0401020304 -> Greater
+5|07030801410a0401020304 5|070308014112000a0401020304 -> Less
+5|070308014121000a0401020304 5|070308014112000a0401020304 -> Greater
+5|0703080141210012000a0401020304 5|070308014121000a0401020304 -> Greater
+";
+    check_rows(&rt, rt.alloc(), rows, keys);
+}
