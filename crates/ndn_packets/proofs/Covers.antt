@@ -1,6 +1,6 @@
 -- Which packets have octets that a signature covers, and which octets these are.
 use Rattle.std.proofs.Common.{◌≡◌, ◌≢◌, ℕ, ◌-◌, ◌⊎◌, Bool, eqb, List, [], ◌∷◌, ◌++◌, length, take, Option, None, Some, refl, sym, ap, subst, ◌∙◌, append_assoc, arith, inl, inr}
-use Rattle.std.specs.Prelude.{IsSome}
+use Rattle.std.specs.Prelude.{◌↔◌, IsSome, IsSomeAnd, MatchOption, is_some, option_map}
 use Rattle.std.specs.List.{flat_map, AllByRecursion}
 use Rattle.std.proofs.lemmas.Bool.{eqb-false, ne_eqb}
 use Rattle.std.proofs.lemmas.List.{length-append, take_at, append_cancel_right}
@@ -485,3 +485,17 @@ one_covered (AData whole d) first second other_first other_second c e =
     ((one_cut 23 c.0.value e.0.value first c.0.from_signature other_first e.0.from_signature (outer_one whole 6 c.0.value e.0.value c.0.outer e.0.outer) c.0.cut e.0.cut).0, c.1 ∙ sym e.1)
 one_covered (ANack reason whole i) first second other_first other_second c d = absurd c
 one_covered Idle first second other_first other_second c d = absurd c
+
+-- ---- where there is something covered
+
+pub always_there : {A : Type 0} (r : Option A) (P : Type 0) (Q : A → Type 0) → MatchOption r P Q → ¬ P → IsSomeAnd r Q
+always_there None P Q h never = never h
+always_there (Some x) P Q h never = h
+
+pub there_where : {A : Type 0} (r : Option A) (P : Type 0) (Q : A → Type 0) (E : Type 0) → MatchOption r P Q → (P → ¬ E) → ((x : A) → Q x → E) → IsSome r ↔ E
+there_where None P Q E h never given = (λ s. absurd cc, λ e. absurd (never h e))
+there_where (Some x) P Q E h never given = (λ s. given x h, λ e. refl)
+
+pub is_some_map : {A B : Type 0} (f : A → B) (o : Option A) → is_some (option_map f o) ≡ is_some o
+is_some_map f None = refl
+is_some_map f (Some x) = refl

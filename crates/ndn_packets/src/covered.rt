@@ -22,14 +22,21 @@ pub struct Parts<'a> {
 }
 
 impl<'a> Data<'a> {
-    ghost use Rattle.std.specs.Prelude.{List, ℕ, MatchOption};
+    ghost use Rattle.std.specs.Prelude.{List, ℕ, MatchOption, IsSomeAnd};
     ghost use Rattle.ndn_packets.specs.Packet.{AData};
     ghost use Rattle.ndn_packets.specs.View.{plain_data};
     ghost use Rattle.ndn_packets.specs.Covered.{Covered};
 
     /// The octets that the signature covers, as they were received: those from the Name up to the
-    /// SignatureValue. The second part is empty. A Data that was read always has them.
+    /// SignatureValue. The second part is empty. A Data always has them.
     pub fn signed_parts(&self) -> Option<Parts<'a>>
+        ensures { IsSomeAnd result (λ parts. Covered
+            (AData self.now.whole.now (plain_data self.now)) parts.first.now parts.second.now) }
+    {
+        self.cut_parts()
+    }
+
+    fn cut_parts(&self) -> Option<Parts<'a>>
         ensures { MatchOption result
             ((first second : List ℕ)
             → Covered (AData self.now.whole.now (plain_data self.now)) first second → ⊥)
@@ -46,16 +53,31 @@ impl<'a> Data<'a> {
 }
 
 impl<'a> Interest<'a> {
-    ghost use Rattle.std.specs.Prelude.{List, ℕ, MatchOption};
+    ghost use Rattle.std.specs.Prelude.{◌↔◌, List, ℕ, IsSome, MatchOption};
+    ghost use Rattle.ndn_names.specs.View.{components};
     ghost use Rattle.ndn_packets.specs.Packet.{AnInterest};
     ghost use Rattle.ndn_packets.specs.View.{plain_interest};
-    ghost use Rattle.ndn_packets.specs.Covered.{Covered};
+    ghost use Rattle.ndn_packets.specs.Covered.{Covered, EndsInDigest};
 
     /// The octets that the signature covers, as they were received: those of the name's components
     /// before the digest of parameters, and those from the ApplicationParameters up to the
     /// InterestSignatureValue. `None` where the Interest is not signed, or the digest of parameters
     /// is not the last component.
     pub fn signed_parts(&self) -> Option<Parts<'a>>
+        ensures exact { MatchOption result
+            ((first second : List ℕ)
+            → Covered (AnInterest self.now.whole.now (plain_interest self.now)) first second
+            → ⊥)
+            (λ parts. Covered
+            (AnInterest self.now.whole.now
+            (plain_interest self.now)) parts.first.now parts.second.now) }
+        ensures when { IsSome result
+            ↔ (IsSome self.now.signature × EndsInDigest (components self.now.name)) }
+    {
+        self.cut_parts()
+    }
+
+    fn cut_parts(&self) -> Option<Parts<'a>>
         ensures { MatchOption result
             ((first second : List ℕ)
             → Covered (AnInterest self.now.whole.now (plain_interest self.now)) first second

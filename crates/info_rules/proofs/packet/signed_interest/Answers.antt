@@ -15,4 +15,4 @@ returns-then-is_none c =
 
 pub returns-in_default-signed_parts : goal.returns-in_default-signed_parts
 returns-in_default-signed_parts c =
-    (plain_signature c.in-Some.signature, ap (option_map plain_signature) c.in-Some.is, inr c.in_default-signed_parts.ensures)
+    (plain_signature c.in-Some.signature, ap (option_map plain_signature) c.in-Some.is, inr c.in_default-signed_parts.ensures.exact)

@@ -1,9 +1,11 @@
-use Rattle.std.proofs.Common.{◌∙◌}
-use Rattle.ndn_packets.proofs.Steps.{none_is_not_some}
-use Rattle.ndn_packets.proofs.Covers.{value_read}
+use Rattle.std.proofs.Common.{[], refl}
+use Rattle.ndn_packets.specs.View.{plain_data}
+use Rattle.ndn_packets.proofs.Covers.{data_covered, always_there}
+use Rattle.ndn_packets.proofs.Held.{data_read}
 use Rattle.ndn_packets.proofs.data.Data.signed_parts.Goals as goal
 
-pub returns-in_err-from_signature : goal.returns-in_err-from_signature
-returns-in_err-from_signature c =
-    rw c.from_residual-in_err-from_signature.ensures
-    (λ first second h. none_is_not_some h.0.from_signature (c.in_err-from_signature.ensures.exact ∙ value_read c.args.self.now.whole.now c.in_ok-value.value.now first c.in_ok-value.ensures h.0))
+pub returns : goal.returns
+returns c =
+    let d = c.args.self.now in
+    let covered = data_covered d.whole.now (plain_data d) (data_read d) in
+    always_there c.cut_parts.result _ _ c.cut_parts.ensures (λ none. none covered.0 [] (covered.1, refl))
