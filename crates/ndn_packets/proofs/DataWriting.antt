@@ -1,5 +1,5 @@
 -- The parts of a Data that is written, and their lengths.
-use Rattle.std.proofs.Common.{◌≡◌, ℕ, ◌+◌, ◌-◌, ◌^◌, ◌≤◌, min, List, [], ◌∷◌, ◌++◌, length, refl, sym, ap, subst, ◌∙◌, append_assoc, append-nil, arith, Option, None, Some}
+use Rattle.std.proofs.Common.{◌≡◌, ℕ, ◌+◌, ◌-◌, ◌^◌, ◌<◌, ◌≤◌, min, List, [], ◌∷◌, ◌++◌, length, refl, sym, ap, subst, ◌∙◌, append_assoc, append-nil, arith, Option, None, Some}
 use Rattle.std.specs.Option.{option_map}
 use Rattle.std.proofs.lemmas.List.{length-append}
 use Rattle.std.proofs.lemmas.List.Concat.{flat_map-append}
@@ -10,7 +10,7 @@ use Rattle.ndn_tlv.proofs.Integers.{length-shortest_eight}
 use Rattle.ndn_packets.specs.declared.signature.Sign.{Sign}
 use Rattle.ndn_packets.specs.Fields.{optional}
 use Rattle.ndn_packets.specs.Writing.{octets, number, info_fields, meta_of, meta_fields, data_fields, IsLength}
-use Rattle.ndn_packets.proofs.Lengths.{length-element, sum_is_long, element_put}
+use Rattle.ndn_packets.proofs.Lengths.{length-element, sum_is_long, element_put, in_memory_is_exact}
 
 -- ---- MetaInfo
 
@@ -73,3 +73,12 @@ signed_is_long signed name meta content n m value p q =
     let fields = data_fields signed name meta content in
     let joined : octets (fields ++ (23, value) ∷ []) ≡ octets fields ++ element (23, value) = flat_map-append element fields ((23, value) ∷ []) ∙ ap (λ (x : List ℕ). octets fields ++ x) (append-nil (element (23, value))) in
     subst (λ (x : List ℕ). IsLength (min (n + m) (2 ^ 64 - 1)) x) (sym joined) (sum_is_long n m (octets fields) (element (23, value)) p q)
+
+-- the parts of a Data fill its length
+pub packet_parts : (len : ℕ) (covered : List Field) (value : List ℕ) → IsLength len (octets (covered ++ (23, value) ∷ [])) → length (element (6, octets (covered ++ (23, value) ∷ []))) < 2 ^ 63
+    → length (element (6, octets (covered ++ (23, value) ∷ []))) ≡ length (spelling 6 ++ spelling len) + (length (octets covered) + length (element (23, value)))
+packet_parts len covered value long small =
+    let fields = octets (covered ++ (23, value) ∷ []) in
+    let exact : len ≡ length fields = in_memory_is_exact len fields long (omega (arith, length-element 6 fields)) in
+    let joined : fields ≡ octets covered ++ element (23, value) = flat_map-append element covered ((23, value) ∷ []) ∙ ap (λ (x : List ℕ). octets covered ++ x) (append-nil (element (23, value))) in
+    rw exact (omega (arith, length-element 6 fields, ap length joined, length-append (octets covered) (element (23, value)), length-append (spelling 6) (spelling (length fields))))

@@ -98,9 +98,12 @@ abbrev pub interest_name : InterestWriter → List Field
 interest_name w =
     name_with (sha256 (octets (later_fields w w.sign))) (components w.name) (later_fields w w.sign)
 
+abbrev pub interest_fields : InterestWriter → List Field
+interest_fields w =
+    (7, octets (interest_name w)) ∷ (early_fields w ++ later_fields w w.sign)
+
 abbrev pub interest_text : InterestWriter → List ℕ
-interest_text w =
-    element (5, octets ((7, octets (interest_name w)) ∷ (early_fields w ++ later_fields w w.sign)))
+interest_text w = element (5, octets (interest_fields w))
 
 -- the Interest that is asked for
 abbrev pub interest_asked : InterestWriter → PlainInterest
@@ -152,19 +155,25 @@ abbrev pub data_value : Sign → List Field → Option (List ℕ) → Option (Li
 data_value signed name meta content =
     value_of signed (octets (data_fields signed name meta content))
 
+abbrev pub signed_fields : Sign → List Field → Option (List ℕ) → Option (List ℕ) → List Field
+signed_fields signed name meta content =
+    data_fields signed name meta content ++ (23, data_value signed name meta content) ∷ []
+
 abbrev pub signed_data : Sign → List Field → Option (List ℕ) → Option (List ℕ) → List ℕ
-signed_data signed name meta content =
-    element (
-      6,
-      octets
-          (data_fields signed name meta content ++ (23, data_value signed name meta content) ∷ []),
-    )
+signed_data signed name meta content = element (6, octets (signed_fields signed name meta content))
 
 abbrev pub meta_asked : DataWriter → Option (List ℕ)
 meta_asked w = meta_of (meta_fields w.freshness w.last)
 
 abbrev pub content_asked : DataWriter → Option (List ℕ)
 content_asked w = option_map (λ c. c.now) w.content
+
+-- what the signature of a Data covers, and all fields of it
+abbrev pub fields_covered : DataWriter → List Field
+fields_covered w = data_fields w.sign (components w.name) (meta_asked w) (content_asked w)
+
+abbrev pub fields_asked : DataWriter → List Field
+fields_asked w = signed_fields w.sign (components w.name) (meta_asked w) (content_asked w)
 
 abbrev pub data_text : DataWriter → List ℕ
 data_text w = signed_data w.sign (components w.name) (meta_asked w) (content_asked w)

@@ -65,6 +65,7 @@ impl<'a> Data<'a> {
 
     #[tactic(auto, unfolding(crate::specs::Reading::data_at))]
     /// Reads the Data that this element is.
+    #[inline(always)]
     pub(crate) fn read(outer: Element<'a>) -> Result<Data<'a>, PacketFault>
         requires { outer.kind ≡ 6 }
         ensures exact { on_result (λ d. Ok (plain_data d)) Err result
@@ -90,6 +91,7 @@ impl<'a> Data<'a> {
 }
 
 /// The fields after the Name.
+#[inline(always)]
 fn fields_of(rest: &[u8]) -> Result<DataFields<'_>, PacketFault>
     ensures { on_result (λ f. Ok (so_far f)) Err result
         ≡ read_fields take_data_field nothing_yet

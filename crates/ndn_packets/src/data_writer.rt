@@ -49,7 +49,7 @@ impl DataWriter<'_> {
     ghost use Rattle.ndn_packets.specs.Packet.{AData};
     ghost use Rattle.ndn_packets.specs.Covered.{Covered};
     ghost use Rattle.ndn_packets.specs.Fields.{optional};
-    ghost use Rattle.ndn_packets.specs.Writing.{octets, data_fields, data_value, meta_fields, meta_asked, content_asked, data_text, data_asked, data_refusal, IsLength, IsU64, SoundData};
+    ghost use Rattle.ndn_packets.specs.Writing.{octets, fields_covered, fields_asked, meta_fields, meta_asked, data_text, data_asked, data_refusal, IsLength, IsU64, SoundData};
 
     /// Appends the Data, its fields in the standard's order and in their shortest forms, and none
     /// that is not asked for: without a FreshnessPeriod and a last segment there is no MetaInfo.
@@ -73,13 +73,13 @@ impl DataWriter<'_> {
         // The signature is of the octets that it covers.
         ensures signed { data_refusal self.now ≡ None
             → Covered (AData (data_text self.now) (data_asked self.now))
-            (octets (data_fields self.now.sign (components self.now.name) (meta_asked self.now)
-            (content_asked self.now))) [] }
+            (octets (fields_covered self.now)) [] }
     {
-        if self.packet_len() > MAX_PACKET {
+        let value_len = self.value_len();
+        if element_len(DATA, value_len) > MAX_PACKET {
             return Err(WriteFault::TooLong);
         }
-        self.put(out)?;
+        self.put(out, value_len)?;
         Ok(())
     }
 
@@ -109,9 +109,7 @@ impl DataWriter<'_> {
 
     /// The length of what the signature covers. It stops at `usize::MAX`.
     fn covered_len(&self) -> usize
-        ensures len { IsLength result
-            (octets (data_fields self.now.sign (components self.now.name) (meta_asked self.now)
-            (content_asked self.now))) }
+        ensures len { IsLength result (octets (fields_covered self.now)) }
         // The proofs that what is written is a packet need this.
         ensures sound { SoundData self.now }
     {
@@ -123,28 +121,12 @@ impl DataWriter<'_> {
 
     /// The length of the packet's value. It stops at `usize::MAX`.
     fn value_len(&self) -> usize
-        ensures len { IsLength result
-            (octets (data_fields self.now.sign (components self.now.name) (meta_asked self.now)
-            (content_asked self.now)
-            ++ (
-              23,
-              data_value self.now.sign (components self.now.name) (meta_asked self.now)
-                  (content_asked self.now),
-            ) ∷ [])) }
+        ensures len { IsLength result (octets (fields_asked self.now)) }
         // The proofs that what is written is a packet need this.
         ensures sound { SoundData self.now }
     {
         self.covered_len()
             .saturating_add(element_len(SIGNATURE_VALUE, DIGEST_LEN))
-    }
-
-    /// The length of the packet. It stops at `usize::MAX`.
-    fn packet_len(&self) -> usize
-        ensures len { IsLength result (data_text self.now) }
-        // The proofs that what is written is a packet need this.
-        ensures sound { SoundData self.now }
-    {
-        element_len(DATA, self.value_len())
     }
 
     #[tactic(auto, using(crate::proofs::DataWriting::meta_absent, crate::proofs::DataWriting::meta_put))]
@@ -171,14 +153,10 @@ impl DataWriter<'_> {
     /// Appends what the signature covers, or some octets of it.
     fn put_covered(&self, out: &mut Vec<u8>) -> Result<(), Memory>
         ensures ok { OnOk result
-            (out.new.items
-            ≡ out.old.items
-            ++ octets (data_fields self.now.sign (components self.now.name) (meta_asked self.now)
-            (content_asked self.now))) }
+            (out.new.items ≡ out.old.items ++ octets (fields_covered self.now)) }
         ensures begins { take (vec_len out.old) out.new.items ≡ out.old.items }
-        ensures room { vec_len out.old + length
-            (octets (data_fields self.now.sign (components self.now.name) (meta_asked self.now)
-            (content_asked self.now))) ≤ vec_capacity out.old → IsOk result }
+        ensures room { vec_len out.old + length (octets (fields_covered self.now))
+            ≤ vec_capacity out.old → IsOk result }
         ensures capacity { vec_capacity out.old ≤ vec_capacity out.new }
     {
         put_element(out, NAME, self.name.as_octets())?;
@@ -190,17 +168,16 @@ impl DataWriter<'_> {
 
     /// Appends the Data, or some octets of it. Its length is reserved first: where it is greater
     /// than any memory has, that is refused.
-    fn put_parts(&self, out: &mut Vec<u8>) -> Result<(), Memory>
+    fn put_parts(&self, out: &mut Vec<u8>, value_len: usize) -> Result<(), Memory>
+        requires { IsLength value_len (octets (fields_asked self.now)) }
         ensures ok { OnOk result (out.new.items ≡ out.old.items ++ data_text self.now) }
         ensures begins { take (vec_len out.old) out.new.items ≡ out.old.items }
         ensures room { vec_len out.old + length (data_text self.now) ≤ vec_capacity out.old
             → IsOk result }
         ensures capacity { vec_capacity out.old ≤ vec_capacity out.new }
-        // The proofs that what is written is a packet need this.
-        ensures sound { SoundData self.now }
     {
-        out.reserve(self.packet_len())?;
-        put_header(out, DATA, self.value_len())?;
+        out.reserve(element_len(DATA, value_len))?;
+        put_header(out, DATA, value_len)?;
         let start = out.len();
         self.put_covered(out)?;
         let value = self.sign.value(&out[start..], &[]);
@@ -209,17 +186,16 @@ impl DataWriter<'_> {
     }
 
     /// Appends the Data, of any length. Where memory is refused, nothing is appended.
-    fn put(&self, out: &mut Vec<u8>) -> Result<(), Memory>
+    fn put(&self, out: &mut Vec<u8>, value_len: usize) -> Result<(), Memory>
+        requires { IsLength value_len (octets (fields_asked self.now)) }
         ensures ok { OnOk result (out.new.items ≡ out.old.items ++ data_text self.now) }
         ensures err { OnErr result (out.new.items ≡ out.old.items) }
         ensures room { vec_len out.old + length (data_text self.now) ≤ vec_capacity out.old
             → IsOk result }
         ensures capacity { vec_capacity out.old ≤ vec_capacity out.new }
-        // The proofs that what is written is a packet need this.
-        ensures sound { SoundData self.now }
     {
         let len = out.len();
-        let done = self.put_parts(out);
+        let done = self.put_parts(out, value_len);
         if done.is_err() {
             out.truncate(len);
         }
@@ -280,7 +256,8 @@ pub fn put_reply(out: &mut Vec<u8>, name: Name<'_>, content: &[u8]) -> Result<()
         (reply_asked (components name.entry) content.now))
         (octets (data_fields sign.Digest (components name.entry) None (Some content.now))) [] }
 {
-    reply(name, content).put(out)
+    let reply = reply(name, content);
+    reply.put(out, reply.value_len())
 }
 
 /// A Data of a name and a Content, without MetaInfo, signed with DigestSha256.

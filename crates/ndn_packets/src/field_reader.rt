@@ -23,6 +23,7 @@ pub struct FieldReader<'a> {
 }
 
 impl<'a> FieldReader<'a> {
+    #[inline(always)]
     pub fn new(rules: Rules, value: &'a [u8], schema: &'a [u32]) -> FieldReader<'a>
         ensures fields { fields_left result
             ≡ fields_from (ignored_by rules) schema.entry.now (elements_of value.entry.now) }
@@ -82,6 +83,7 @@ fn rest_of_schema(schema: &[u32], kind: u32) -> Option<&[u32]>
 }
 
 /// The name that the first element has to be, and the octets after it.
+#[inline(always)]
 pub fn leading_name(value: &[u8]) -> Result<(Name<'_>, &[u8]), PacketFault>
     ensures { on_result (λ x. Ok (components x.0, elements_of x.1.now)) Err result
         ≡ leading_name_at (elements_of value.now) }
@@ -100,6 +102,7 @@ pub fn leading_name(value: &[u8]) -> Result<(Name<'_>, &[u8]), PacketFault>
 }
 
 /// The number of a value that is a NonNegativeInteger.
+#[inline(always)]
 pub fn number(value: &[u8]) -> Result<u64, PacketFault>
     ensures { result ≡ nni_value_at value.now }
 {

@@ -68,6 +68,7 @@ pub fn read_frame(octets: &[u8]) -> Result<Frame<'_>, PacketFault>
 }
 
 #[tactic(auto, unfolding(crate::specs::FrameReading::frame_at))]
+#[inline(always)]
 fn frame_of(octets: &[u8]) -> Result<Frame<'_>, PacketFault>
     ensures { on_result (λ f. Ok (plain_frame f)) Err result ≡ frame_at octets.now }
 {
@@ -82,6 +83,7 @@ fn frame_of(octets: &[u8]) -> Result<Frame<'_>, PacketFault>
 }
 
 /// The one element that the octets are.
+#[inline(always)]
 pub(crate) fn only_element(octets: &[u8]) -> Result<Element<'_>, PacketFault>
     ensures exact { on_result (λ e. Ok (e.kind, e.value.now)) Err result ≡ only_element octets.now }
     ensures whole { IfOk result (λ e. e.whole.now ≡ octets.now) }
@@ -94,6 +96,7 @@ pub(crate) fn only_element(octets: &[u8]) -> Result<Element<'_>, PacketFault>
 }
 
 /// Whether a packet of these octets is longer than one may be.
+#[inline(always)]
 pub(crate) fn is_too_long(whole: &[u8]) -> bool
     ensures exact { result ≡ nat_lt 8800 (length whole.now) }
     // That a packet in hand is one needs that octets are below 256.
@@ -103,6 +106,7 @@ pub(crate) fn is_too_long(whole: &[u8]) -> bool
 }
 
 /// The Interest or the Data that this element is.
+#[inline(always)]
 pub(crate) fn packet_of(outer: Element<'_>) -> Result<Frame<'_>, PacketFault>
     ensures { on_result (λ f. Ok (plain_frame f)) Err result
         ≡ packet_of outer.entry.whole.now (outer.entry.kind, outer.entry.value.now) }

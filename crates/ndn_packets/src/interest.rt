@@ -107,6 +107,7 @@ impl<'a> InterestFields<'a> {
     ghost use Rattle.ndn_packets.specs.SoFar.{interest_so_far};
 
     /// With the ApplicationParameters and the octets from these on.
+    #[inline(always)]
     fn with_parameters(self, value: &'a [u8], here: &'a [u8]) -> InterestFields<'a>
         ensures read { interest_so_far result
             ≡ with_parameters (interest_so_far self.entry) value.entry.now }
@@ -150,6 +151,7 @@ impl<'a> Interest<'a> {
 
     #[tactic(auto, using(crate::proofs::Rules::nil_tests), unfolding(crate::specs::Reading::interest_at))]
     /// Reads the Interest that this element is.
+    #[inline(always)]
     pub(crate) fn read(outer: Element<'a>) -> Result<Interest<'a>, PacketFault>
         requires { outer.kind ≡ 5 }
         ensures exact { on_result (λ i. Ok (plain_interest i)) Err result
@@ -185,6 +187,7 @@ impl<'a> Interest<'a> {
 }
 
 /// The digests of parameters in a name.
+#[inline(always)]
 pub fn digests_of(name: Name<'_>) -> Digests<'_>
     ensures { AreDigests result (digests_in (components name.entry)) }
 {
@@ -202,6 +205,7 @@ pub fn digests_of(name: Name<'_>) -> Digests<'_>
 
 /// What is wrong with the digests of parameters in a name, where these are the octets from the
 /// parameters on.
+#[inline(always)]
 fn digest_fault(
     name: Name<'_>,
     parameters: Option<&[u8]>,
@@ -224,6 +228,7 @@ fn digest_fault(
 }
 
 /// The signature of an Interest that has an InterestSignatureInfo and an InterestSignatureValue.
+#[inline(always)]
 fn signature_of<'a>(
     info: Option<SignatureInfo<'a>>,
     value: Option<&'a [u8]>,
@@ -239,6 +244,7 @@ fn signature_of<'a>(
 
 #[tactic(auto, using(crate::proofs::Parameters::stand_first, crate::proofs::Parameters::stand_still, crate::proofs::Parameters::stand_there))]
 /// The fields after the Name.
+#[inline(always)]
 fn fields_of(rest: &[u8]) -> Result<InterestFields<'_>, PacketFault>
     ensures walk { on_result (λ f. Ok (interest_so_far f)) Err result
         ≡ read_fields take_interest_field no_fields_yet
@@ -276,6 +282,7 @@ fn fields_of(rest: &[u8]) -> Result<InterestFields<'_>, PacketFault>
 }
 
 /// The value of a flag, which has no octets.
+#[inline(always)]
 fn is_set(value: &[u8]) -> Result<bool, PacketFault>
     ensures { result ≡ (if is_nil value.now then Ok true else Err BadField) }
 {
@@ -287,6 +294,7 @@ fn is_set(value: &[u8]) -> Result<bool, PacketFault>
 }
 
 /// The value of a Nonce.
+#[inline(always)]
 fn nonce_of(value: &[u8]) -> Result<[u8; 4], PacketFault>
     ensures { result ≡ (if length value.now == 4 then Ok value.now else Err BadField) }
 {
@@ -297,6 +305,7 @@ fn nonce_of(value: &[u8]) -> Result<[u8; 4], PacketFault>
 }
 
 /// The value of one octet.
+#[inline(always)]
 fn octet(value: &[u8]) -> Result<u8, PacketFault>
     ensures { result ≡ octet_at value.now }
 {

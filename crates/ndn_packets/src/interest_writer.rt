@@ -1,16 +1,18 @@
 ghost use Rattle.std.specs.Vec.{vec_capacity};
-ghost use Rattle.std.specs.Prelude.{◌≡◌, ◌-◌, ◌+◌, ◌<◌, ◌≤◌, ◌++◌, [], ◌∷◌, drop, length, take, vec_len, option_map, IsOk, OnOk, IfSome};
+ghost use Rattle.std.specs.Prelude.{◌≡◌, ◌-◌, ◌+◌, ◌<◌, ◌≤◌, ◌++◌, [], ◌∷◌, drop, length, take, vec_len, option_map, IsOk, OnOk, MatchOption, IfSome, true, false};
 ghost use Rattle.sha2.specs.Sha256.{sha256};
 ghost use Rattle.ndn_names.specs.View.{components};
 ghost use Rattle.ndn_packets.specs.Fields.{optional, flag};
-ghost use Rattle.ndn_packets.specs.Writing.{octets, is_bad_name, IsLength};
+ghost use Rattle.ndn_packets.specs.Packet.{digests_in};
+ghost use Rattle.ndn_packets.specs.Reading.{is_nil};
+ghost use Rattle.ndn_packets.specs.Writing.{octets, IsLength};
 
 use crate::fault::WriteFault;
 use crate::field_reader::NAME;
 use crate::frame::{INTEREST, MAX_PACKET};
 use crate::interest::{
-    APPLICATION_PARAMETERS, CAN_BE_PREFIX, Digests, HOP_LIMIT, INTEREST_LIFETIME, MUST_BE_FRESH,
-    NONCE, PARAMETERS_SHA256_DIGEST, digests_of,
+    APPLICATION_PARAMETERS, CAN_BE_PREFIX, HOP_LIMIT, INTEREST_LIFETIME, MUST_BE_FRESH, NONCE,
+    PARAMETERS_SHA256_DIGEST,
 };
 use crate::schema::{INTEREST_SIGNATURE_INFO, INTEREST_SIGNATURE_VALUE};
 use crate::signature::Sign;
@@ -45,14 +47,21 @@ pub struct InterestWriter<'a> {
     pub seq: Option<u64>,
 }
 
+/// The lengths that the headers of an Interest and of its name state, in octets.
+#[derive(Clone, Copy)]
+struct Lengths {
+    name: usize,
+    value: usize,
+}
+
 impl InterestWriter<'_> {
     ghost use Rattle.std.specs.Vec.{vec_capacity};
-    ghost use Rattle.std.specs.Prelude.{◌≡◌, ◌<◌, ◌≤◌, ◌+◌, ◌++◌, [], ◌∷◌, length, take, vec_len, IsOk, not, unwrap_or, option_map, None, OnOk, OnErr, Err, MatchOption, IfErr, IfSome, OnSome};
+    ghost use Rattle.std.specs.Prelude.{◌≡◌, ◌<◌, ◌≤◌, ◌+◌, ◌++◌, [], ◌∷◌, true, false, length, take, vec_len, IsOk, not, unwrap_or, option_map, None, OnOk, OnErr, Err, MatchOption, IfErr, IfSome, OnSome};
     ghost use Rattle.ndn_names.specs.View.{components};
     ghost use Rattle.ndn_packets.specs.Grammar.{IsInterest};
     ghost use Rattle.ndn_packets.specs.Packet.{AnInterest};
     ghost use Rattle.ndn_packets.specs.Covered.{Covered};
-    ghost use Rattle.ndn_packets.specs.Writing.{octets, early_fields, later_fields, covered_fields, interest_value, interest_name, zeroed_name, interest_text, interest_asked, interest_refusal, IsLength, AreOctets, IsU64, IsSoundSign, SoundInterest};
+    ghost use Rattle.ndn_packets.specs.Writing.{octets, is_bad_name, early_fields, later_fields, covered_fields, interest_value, interest_name, interest_fields, zeroed_name, interest_text, interest_asked, interest_refusal, IsLength, AreOctets, IsU64, IsSoundSign, SoundInterest};
     ghost use Rattle.ndn_packets.specs.Reading.{is_nil};
     ghost use Rattle.ndn_tlv.specs.Element.{element};
 
@@ -82,11 +91,12 @@ impl InterestWriter<'_> {
             (λ signed. Covered (AnInterest (interest_text self.now) (interest_asked self.now))
             (octets (components self.now.name)) (octets (covered_fields self.now signed))) }
     {
-        if let Some(fault) = self.refusal() {
+        let lengths = self.lengths();
+        if let Some(fault) = self.refusal(lengths) {
             return Err(fault);
         }
         let len = out.len();
-        let done = self.put_parts(out);
+        let done = self.put_parts(out, lengths);
         if done.is_err() {
             out.truncate(len);
         }
@@ -94,28 +104,35 @@ impl InterestWriter<'_> {
     }
 
     /// Why the Interest is not written, but for memory.
-    fn refusal(&self) -> Option<WriteFault>
-        ensures which { result ≡ interest_refusal self.now }
-        // The proofs that what is written is a packet need this.
-        ensures sound { interest_refusal self.now ≡ None → SoundInterest self.now }
+    fn refusal(&self, lengths: Lengths) -> Option<WriteFault>
+        requires { IsLength lengths.value (octets (interest_fields self.now)) }
+        ensures { result ≡ interest_refusal self.now }
     {
-        if is_bad_name(self.name) {
+        let Some(count) = self.component_count() else {
             return Some(WriteFault::BadName);
-        }
-        if self.component_count() > MAX_COMPONENTS || self.packet_len() > MAX_PACKET {
+        };
+        if count > MAX_COMPONENTS || element_len(INTEREST, lengths.value) > MAX_PACKET {
             return Some(WriteFault::TooLong);
         }
         None
     }
 
-    /// The number of components of the name, with the digest of the parameters.
-    fn component_count(&self) -> usize
-        ensures { result ≡ length (interest_name self.now) }
+    /// The number of components of the name, with the digest of the parameters, where an Interest
+    /// may be written with it.
+    fn component_count(&self) -> Option<usize>
+        ensures { MatchOption result (is_bad_name (components self.now.name) ≡ true)
+            (λ count. (is_bad_name (components self.now.name) ≡ false)
+            × (count ≡ length (interest_name self.now))) }
     {
-        self.name.len() + usize::from(self.has_digest())
+        let count = count_without_digest(self.name)?;
+        if count == 0 {
+            return None;
+        }
+        Some(count + usize::from(self.has_digest()))
     }
 
     /// Whether there are ApplicationParameters, whose digest then stands in the name.
+    #[inline(always)]
     fn has_digest(&self) -> bool
         ensures { result ≡ not (is_nil (later_fields self.now self.now.sign)) }
     {
@@ -123,6 +140,7 @@ impl InterestWriter<'_> {
     }
 
     /// The length of the name's value. It stops at `usize::MAX`.
+    #[inline(always)]
     fn name_len(&self) -> usize
         ensures len { IsLength result (octets (interest_name self.now)) }
         ensures sound { AreOctets (octets (components self.now.name)) }
@@ -137,6 +155,7 @@ impl InterestWriter<'_> {
 
     /// The length of the fields between the name and the ApplicationParameters. It stops at
     /// `usize::MAX`.
+    #[inline(always)]
     fn early_len(&self) -> usize
         ensures len { IsLength result (octets (early_fields self.now)) }
         ensures nonce { AreOctets self.now.nonce }
@@ -152,6 +171,7 @@ impl InterestWriter<'_> {
     }
 
     /// The length of the fields from the ApplicationParameters on. It stops at `usize::MAX`.
+    #[inline(always)]
     fn later_len(&self) -> usize
         ensures len { IsLength result (octets (later_fields self.now self.now.sign)) }
         ensures parameters { IfSome self.now.parameters (λ p. AreOctets p.now) }
@@ -171,6 +191,7 @@ impl InterestWriter<'_> {
     }
 
     /// The value of the ApplicationParameters, empty where none are asked for.
+    #[inline(always)]
     fn parameter_octets(&self) -> &[u8]
         ensures { result.now ≡ unwrap_or (option_map (λ p. p.now) self.now.parameters) [] }
     {
@@ -180,26 +201,19 @@ impl InterestWriter<'_> {
         }
     }
 
-    /// The length of the packet's value. It stops at `usize::MAX`.
-    fn value_len(&self) -> usize
-        ensures len { IsLength result
-            (octets ((7, octets (interest_name self.now))
-            ∷ (early_fields self.now ++ later_fields self.now self.now.sign))) }
+    /// The lengths that are written. They stop at `usize::MAX`.
+    #[inline(always)]
+    fn lengths(&self) -> Lengths
+        ensures name { IsLength result.name (octets (interest_name self.now)) }
+        ensures value { IsLength result.value (octets (interest_fields self.now)) }
         // The proofs that what is written is a packet need this.
         ensures sound { SoundInterest self.now }
     {
-        element_len(NAME, self.name_len())
+        let name = self.name_len();
+        let value = element_len(NAME, name)
             .saturating_add(self.early_len())
-            .saturating_add(self.later_len())
-    }
-
-    /// The length of the packet. It stops at `usize::MAX`.
-    fn packet_len(&self) -> usize
-        ensures len { IsLength result (interest_text self.now) }
-        // The proofs that what is written is a packet need this.
-        ensures sound { SoundInterest self.now }
-    {
-        element_len(INTEREST, self.value_len())
+            .saturating_add(self.later_len());
+        Lengths { name, value }
     }
 
     /// Appends the fields from the ApplicationParameters on, or some octets of them.
@@ -245,7 +259,8 @@ impl InterestWriter<'_> {
 
     /// Appends the name's element, or some octets of it. Where a digest of parameters stands in it,
     /// that is zeros yet.
-    fn put_name(&self, out: &mut Vec<u8>) -> Result<(), Memory>
+    fn put_name(&self, out: &mut Vec<u8>, name_len: usize) -> Result<(), Memory>
+        requires len { IsLength name_len (octets (interest_name self.now)) }
         requires short { length (octets (interest_name self.now)) ≤ 8800 }
         ensures ok { OnOk result
             (out.new.items ≡ out.old.items ++ element (7, octets (zeroed_name self.now))) }
@@ -254,7 +269,7 @@ impl InterestWriter<'_> {
             ≤ vec_capacity out.old → IsOk result }
         ensures capacity { vec_capacity out.old ≤ vec_capacity out.new }
     {
-        put_header(out, NAME, self.name_len())?;
+        put_header(out, NAME, name_len)?;
         out.extend_from_slice(self.name.as_octets())?;
         if self.has_digest() {
             put_element(out, u32::from(PARAMETERS_SHA256_DIGEST), &[0; DIGEST_LEN])?;
@@ -279,21 +294,17 @@ impl InterestWriter<'_> {
     }
 
     /// Appends the fields of the Interest, or some octets of them.
-    fn put_fields(&self, out: &mut Vec<u8>) -> Result<(), Memory>
+    fn put_fields(&self, out: &mut Vec<u8>, name_len: usize) -> Result<(), Memory>
+        requires len { IsLength name_len (octets (interest_name self.now)) }
         requires short { length (octets (interest_name self.now)) ≤ 8800 }
         ensures ok { OnOk result
-            (out.new.items
-            ≡ out.old.items
-            ++ octets ((7, octets (interest_name self.now))
-            ∷ (early_fields self.now ++ later_fields self.now self.now.sign))) }
+            (out.new.items ≡ out.old.items ++ octets (interest_fields self.now)) }
         ensures begins { take (vec_len out.old) out.new.items ≡ out.old.items }
-        ensures room { vec_len out.old + length
-            (octets ((7, octets (interest_name self.now))
-            ∷ (early_fields self.now ++ later_fields self.now self.now.sign)))
+        ensures room { vec_len out.old + length (octets (interest_fields self.now))
             ≤ vec_capacity out.old → IsOk result }
         ensures capacity { vec_capacity out.old ≤ vec_capacity out.new }
     {
-        self.put_name(out)?;
+        self.put_name(out, name_len)?;
         let digest_end = out.len();
         self.put_early(out)?;
         let start = out.len();
@@ -305,7 +316,9 @@ impl InterestWriter<'_> {
     }
 
     /// Appends the Interest, or some octets of it.
-    fn put_parts(&self, out: &mut Vec<u8>) -> Result<(), Memory>
+    fn put_parts(&self, out: &mut Vec<u8>, lengths: Lengths) -> Result<(), Memory>
+        requires name { IsLength lengths.name (octets (interest_name self.now)) }
+        requires value { IsLength lengths.value (octets (interest_fields self.now)) }
         requires short { length (interest_text self.now) ≤ 8800 }
         ensures ok { OnOk result (out.new.items ≡ out.old.items ++ interest_text self.now) }
         ensures begins { take (vec_len out.old) out.new.items ≡ out.old.items }
@@ -313,9 +326,9 @@ impl InterestWriter<'_> {
             → IsOk result }
         ensures capacity { vec_capacity out.old ≤ vec_capacity out.new }
     {
-        out.reserve(self.packet_len())?;
-        put_header(out, INTEREST, self.value_len())?;
-        self.put_fields(out)
+        out.reserve(element_len(INTEREST, lengths.value))?;
+        put_header(out, INTEREST, lengths.value)?;
+        self.put_fields(out, lengths.name)
     }
 }
 
@@ -332,14 +345,26 @@ fn put_digest(octets: &mut [u8], digest_end: usize, start: usize)
     overwrite(octets, digest_end - DIGEST_LEN, &digest);
 }
 
-/// Whether no Interest may be written with a name.
-fn is_bad_name(name: Name<'_>) -> bool
-    ensures { result ≡ is_bad_name (components name.entry) }
+/// The number of a name's components, where none is a digest of parameters.
+#[inline(always)]
+fn count_without_digest(name: Name<'_>) -> Option<usize>
+    ensures exact { MatchOption result (is_nil (digests_in (components name.entry)) ≡ false)
+        (λ count. (is_nil (digests_in (components name.entry)) ≡ true)
+        × (count ≡ length (components name.entry))) }
+    ensures small { IfSome result (λ count. count ≤ 64) }
 {
-    name.is_empty() || !matches!(digests_of(name), Digests::None)
+    let mut count = 0;
+    for component in name.iter() {
+        if component.kind == PARAMETERS_SHA256_DIGEST {
+            return None;
+        }
+        count += 1;
+    }
+    Some(count)
 }
 
 /// The length of a flag, 0 where it is not set.
+#[inline(always)]
 fn flag_len(kind: u32, set: bool) -> usize
     ensures { IsLength result (octets (flag kind set)) }
 {
@@ -347,6 +372,7 @@ fn flag_len(kind: u32, set: bool) -> usize
 }
 
 /// The length of an octet's field that may be absent.
+#[inline(always)]
 fn octet_field_len(kind: u32, octet: Option<u8>) -> usize
     ensures len { IsLength result (octets (optional kind (option_map (λ n. n ∷ []) octet))) }
     ensures sound { IfSome octet (λ n. n < 256) }
@@ -358,6 +384,7 @@ fn octet_field_len(kind: u32, octet: Option<u8>) -> usize
 }
 
 /// Appends an octet's field, where it is there, or some octets of it.
+#[inline(always)]
 fn put_octet_field(out: &mut Vec<u8>, kind: u32, octet: Option<u8>) -> Result<(), Memory>
     requires { 1 ≤ kind }
     ensures ok { OnOk result
@@ -375,6 +402,7 @@ fn put_octet_field(out: &mut Vec<u8>, kind: u32, octet: Option<u8>) -> Result<()
 }
 
 /// Appends a flag, where it is set, or some octets of it.
+#[inline(always)]
 fn put_flag(out: &mut Vec<u8>, kind: u32, set: bool) -> Result<(), Memory>
     requires { 1 ≤ kind }
     ensures ok { OnOk result (out.new.items ≡ out.old.items ++ octets (flag kind set)) }

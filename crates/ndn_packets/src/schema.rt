@@ -22,6 +22,7 @@ pub enum Rules {
 
 impl Rules {
     /// Whether an element of this type, which is no field, is ignored.
+    #[inline(always)]
     pub fn ignores(self, kind: u32) -> bool
         ensures { result ≡ ignored_by self kind }
     {
@@ -36,6 +37,7 @@ impl Rules {
 
 /// Whether a type counts only where the last field is the one before it in the schema, with ignored
 /// elements between them or without.
+#[inline(always)]
 pub fn needs_previous_field(kind: u32) -> bool
     ensures { result ≡ needs_previous_field kind }
 {

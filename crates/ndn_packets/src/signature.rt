@@ -92,6 +92,7 @@ impl<'a> SignatureInfo<'a> {
     ghost use Rattle.ndn_packets.specs.SoFar.{plain_info};
 
     /// The signature of this SignatureInfo and the value of a SignatureValue.
+    #[inline(always)]
     pub fn with_value(self, value: &'a [u8]) -> Signature<'a>
         ensures { plain_signature result ≡ record {
           info = plain_info self.entry;

@@ -24,6 +24,7 @@ const DIGEST_SHA256: u64 = 0;
 const HMAC_WITH_SHA256: u64 = 4;
 
 /// The length of octets.
+#[inline(always)]
 pub fn octets_len(octets: &[u8]) -> usize
     ensures len { IsLength result octets.now }
     // The proofs that what is written is a packet need that octets are below 256.
@@ -34,6 +35,7 @@ pub fn octets_len(octets: &[u8]) -> usize
 
 #[tactic(auto, using(crate::proofs::Lengths::header_lengths, crate::proofs::Lengths::element_is_long))]
 /// The length of an element whose value has this length. It stops at `usize::MAX`.
+#[inline(always)]
 pub fn element_len(kind: u32, value_len: usize) -> usize
     ensures { (value : List ℕ) → IsLength value_len value
         → IsLength result (element (kind, value)) }
@@ -43,6 +45,7 @@ pub fn element_len(kind: u32, value_len: usize) -> usize
 }
 
 /// The length of a field that may be absent. It stops at `usize::MAX`.
+#[inline(always)]
 pub fn optional_len(kind: u32, value: Option<&[u8]>) -> usize
     ensures len { IsLength result (octets (optional kind (option_map (λ v. v.now) value.entry))) }
     ensures sound { IfSome value.entry (λ v. AreOctets v.now) }
@@ -55,6 +58,7 @@ pub fn optional_len(kind: u32, value: Option<&[u8]>) -> usize
 
 #[tactic(auto, using(crate::proofs::Lengths::header_lengths))]
 /// The length of an element whose value is a number.
+#[inline(always)]
 pub fn nni_element_len(kind: u32, number: u64) -> usize
     ensures exact { result ≡ length (element (kind, shortest_nni number)) }
     ensures small { result ≤ 26 }
@@ -65,6 +69,7 @@ pub fn nni_element_len(kind: u32, number: u64) -> usize
 }
 
 /// The length of a number's field that may be absent.
+#[inline(always)]
 pub fn number_field_len(kind: u32, asked: Option<u64>) -> usize
     ensures exact { result ≡ length (octets (number kind asked)) }
     ensures small { result ≤ 26 }
@@ -85,6 +90,7 @@ pub fn name_element_len(name: Name<'_>) -> usize
 }
 
 /// The SignatureType.
+#[inline(always)]
 fn kind_of(sign: Sign<'_>) -> u64
     ensures { result ≡ kind_of sign.entry }
 {
@@ -121,6 +127,7 @@ pub fn info_len(sign: Sign<'_>, time: Option<u64>, seq: Option<u64>) -> usize
 }
 
 /// Appends the type of an element and the length of its value, or some octets of them.
+#[inline(always)]
 pub fn put_header(out: &mut Vec<u8>, kind: u32, value_len: usize) -> Result<(), Memory>
     ensures ok { OnOk result
         (out.new.items ≡ out.old.items ++ (spelling kind ++ spelling value_len)) }
@@ -135,6 +142,7 @@ pub fn put_header(out: &mut Vec<u8>, kind: u32, value_len: usize) -> Result<(), 
 }
 
 /// Appends an element whose value is a number, or some octets of it.
+#[inline(always)]
 pub fn put_nni_element(out: &mut Vec<u8>, kind: u32, number: u64) -> Result<(), Memory>
     ensures ok { OnOk result
         (out.new.items ≡ out.old.items ++ element (kind, shortest_nni number)) }
@@ -149,6 +157,7 @@ pub fn put_nni_element(out: &mut Vec<u8>, kind: u32, number: u64) -> Result<(), 
 }
 
 /// Appends a number's field, where it is there, or some octets of it.
+#[inline(always)]
 pub fn put_number_field(out: &mut Vec<u8>, kind: u32, asked: Option<u64>) -> Result<(), Memory>
     ensures ok { OnOk result (out.new.items ≡ out.old.items ++ octets (number kind asked)) }
     ensures begins { take (vec_len out.old) out.new.items ≡ out.old.items }
@@ -163,6 +172,7 @@ pub fn put_number_field(out: &mut Vec<u8>, kind: u32, asked: Option<u64>) -> Res
 }
 
 /// Appends a field, where it is there, or some octets of it.
+#[inline(always)]
 pub fn put_optional(out: &mut Vec<u8>, kind: u32, value: Option<&[u8]>) -> Result<(), Memory>
     requires { 1 ≤ kind }
     ensures ok { OnOk result

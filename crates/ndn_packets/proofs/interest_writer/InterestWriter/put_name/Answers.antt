@@ -14,9 +14,9 @@ returns-in_err-put_header-clause-room c =
     let writer = c.args.self.now in
     let name = components writer.name in
     let later = later_fields writer writer.sign in
-    let long = zeroed_is_long c.name_len.result name later c.name_len.ensures.len c.requires.short in
+    let long = zeroed_is_long c.args.name_len name later c.requires.len c.requires.short in
     λ room.
-    let fits = c.in_err-put_header.ensures.room (omega (arith, room, zeroed_begin name later c.name_len.result long)) in
+    let fits = c.in_err-put_header.ensures.room (omega (arith, room, zeroed_begin name later c.args.name_len long)) in
     absurd cc
 
 pub returns-in_err-extend_from_slice-clause-room : goal.returns-in_err-extend_from_slice-clause-room
@@ -24,13 +24,13 @@ returns-in_err-extend_from_slice-clause-room c =
     let writer = c.args.self.now in
     let name = components writer.name in
     let later = later_fields writer writer.sign in
-    let long = zeroed_is_long c.name_len.result name later c.name_len.ensures.len c.requires.short in
-    let header = spelling 7 ++ spelling c.name_len.result in
+    let long = zeroed_is_long c.args.name_len name later c.requires.len c.requires.short in
+    let header = spelling 7 ++ spelling c.args.name_len in
     λ room.
     let fits = c.in_err-extend_from_slice.ensures.succeeds (omega (
       arith,
       room,
-      zeroed_begin name later c.name_len.result long,
+      zeroed_begin name later c.args.name_len long,
       ap length c.as_octets.ensures.0.1,
       c.in_ok-put_header.ensures.capacity,
       ap length c.in_ok-put_header.ensures.ok,
@@ -44,11 +44,11 @@ returns-in_err-put_element-clause-room c =
     let name = components writer.name in
     let later = later_fields writer writer.sign in
     let some : not (is_nil later) ≡ true = sym c.has_digest.ensures ∙ c.if-has_digest.true in
-    let long = zeroed_is_long c.name_len.result name later c.name_len.ensures.len c.requires.short in
+    let long = zeroed_is_long c.args.name_len name later c.requires.len c.requires.short in
     let whole = element (7, octets (name_with (replicate 32 0) name later)) in
     let written : c.extend_from_slice.new.self.items ++ element (2, replicate 32 0) ≡ c.args.out.now.items ++ whole =
     rw (c.in_ok-extend_from_slice.ensures.items, c.in_ok-put_header.ensures.ok)
-    (zeroed_put c.args.out.now.items c.as_octets.result.now name later c.name_len.result some c.as_octets.ensures long) in
+    (zeroed_put c.args.out.now.items c.as_octets.result.now name later c.args.name_len some c.as_octets.ensures long) in
     λ room.
     let fits = c.in_err-put_element.ensures.room (rw c.from.ensures (omega (
       arith,
@@ -68,4 +68,4 @@ returns-in_ok-put_element-clause-ok c =
     let later = later_fields writer writer.sign in
     let some : not (is_nil later) ≡ true = sym c.has_digest.ensures ∙ c.if-has_digest.true in
     rw (c.in_ok-put_element.ensures.ok, c.in_ok-extend_from_slice.ensures.items, c.in_ok-put_header.ensures.ok, c.from.ensures)
-    (zeroed_put c.args.out.now.items c.as_octets.result.now name later c.name_len.result some c.as_octets.ensures (zeroed_is_long c.name_len.result name later c.name_len.ensures.len c.requires.short))
+    (zeroed_put c.args.out.now.items c.as_octets.result.now name later c.args.name_len some c.as_octets.ensures (zeroed_is_long c.args.name_len name later c.requires.len c.requires.short))
