@@ -13,17 +13,10 @@ use crate::packet::Signed;
 use crate::rule::{Checker, LocatorTest};
 use hmac_keys::{KeyBook, hmac_sha256, tags_equal};
 use ndn_names::Name;
-use ndn_packets::{Locator, Parts};
+use ndn_packets::{DIGEST_SHA256, HMAC_WITH_SHA256, Locator, Parts};
 use ndn_tlv::Memory;
 use sha2::{Digest, Sha256};
 use std::alloc::Global;
-
-/// The SignatureType of a DigestSha256 (NDN Packet Format 0.3, "DigestSha256").
-const DIGEST_SHA256: u64 = 0;
-
-/// The SignatureType of a SignatureHmacWithSha256 (NDN Packet Format 0.3,
-/// "SignatureHmacWithSha256").
-const HMAC_WITH_SHA256: u64 = 4;
 
 /// The checker's first reason against a packet, or `None` where the packet passes.
 pub fn check(

@@ -1,14 +1,10 @@
 -- The parts of a Nack that is written.
 use Rattle.std.proofs.Common.{◌≡◌, ℕ, ◌+◌, List, ◌++◌, length, sym, ap, ◌∙◌, append_assoc, append-nil, arith}
 use Rattle.std.proofs.lemmas.List.{length-append}
-use Rattle.ndn_tlv.specs.Number.{spelling, shortest_nni}
+use Rattle.ndn_tlv.specs.Number.{spelling}
 use Rattle.ndn_tlv.specs.Element.{element}
-use Rattle.ndn_packets.specs.Writing.{nack_text}
+use Rattle.ndn_packets.specs.Writing.{nack_field, nack_text}
 use Rattle.ndn_packets.proofs.Lengths.{length-element, element_put}
-
--- its header field
-abbrev pub nack_field : ℕ → List ℕ
-nack_field reason = element (800, element (801, shortest_nni reason))
 
 -- the value of its link packet
 abbrev pub nack_value : ℕ → List ℕ → List ℕ

@@ -5,6 +5,7 @@ use Rattle.sha2.specs.Sha256.{sha256}
 use Rattle.ndn_tlv.specs.Element.{Field, IsField, element, IsElement}
 use Rattle.ndn_tlv.specs.Reading.{on_result, element_at}
 use Rattle.ndn_packets.specs.Packet.{PlainFrame, AnInterest, AData, ANack, Idle}
+use Rattle.ndn_packets.specs.declared.types.TheConstants.{APPLICATION_PARAMETERS, DATA, INTEREST, INTEREST_SIGNATURE_INFO, INTEREST_SIGNATURE_VALUE, SIGNATURE_VALUE}
 
 -- Octets are cut in front of the first element of this type: before it stand whole elements of
 -- other types, after it anything.
@@ -32,8 +33,8 @@ from_first kind octets = from_within (length octets) kind octets
 pub record CoversData (text covered : List ℕ) : Type 0 where
   pub value : List ℕ
   pub from_signature : List ℕ
-  pub outer : IsElement text 6 value
-  pub cut : IsCut 23 value covered from_signature
+  pub outer : IsElement text DATA value
+  pub cut : IsCut SIGNATURE_VALUE value covered from_signature
 
 -- Of an Interest of this name: first the components before the digest of parameters, which is the
 -- last one, and second its octets from the ApplicationParameters up to, and without, the
@@ -50,10 +51,10 @@ pub record CoversInterest (name : List Field) (text first second : List ℕ) : T
   pub to_signature : List ℕ
   pub from_signature : List ℕ
   pub named : name ≡ components ++ (2, digest) ∷ []
-  pub outer : IsElement text 5 value
-  pub parameters : IsCut 36 value early from_parameters
-  pub info : IsCut 44 from_parameters to_info from_info
-  pub signature : IsCut 46 from_info to_signature from_signature
+  pub outer : IsElement text INTEREST value
+  pub parameters : IsCut APPLICATION_PARAMETERS value early from_parameters
+  pub info : IsCut INTEREST_SIGNATURE_INFO from_parameters to_info from_info
+  pub signature : IsCut INTEREST_SIGNATURE_VALUE from_info to_signature from_signature
   pub first_is : first ≡ flat_map element components
   pub second_is : second ≡ to_info ++ to_signature
 
@@ -76,6 +77,9 @@ pub record EndsAtSignature (name : List Field) (value text first second : List �
   pub components : List Field
   pub early : List ℕ
   pub after : List ℕ
-  pub named : name ≡ components ++ (2, sha256 (second ++ (element (46, value) ++ after))) ∷ []
+  pub named : name
+      ≡ components
+      ++ (2, sha256 (second ++ (element (INTEREST_SIGNATURE_VALUE, value) ++ after))) ∷ []
   pub first_is : first ≡ flat_map element components
-  pub outer : IsElement text 5 (early ++ (second ++ (element (46, value) ++ after)))
+  pub outer : IsElement text INTEREST
+      (early ++ (second ++ (element (INTEREST_SIGNATURE_VALUE, value) ++ after)))

@@ -9,6 +9,7 @@ use Rattle.ndn_packets.specs.declared.schema.Rules.TheVariants as rules
 use Rattle.ndn_tlv.specs.declared.element.Element.{Element}
 use Rattle.ndn_packets.specs.Fields.{is_even_high, is_ignored_in_meta_info, is_ignored_in_signature_info}
 use Rattle.ndn_packets.specs.Reading.{schema_after, parameters_on, fields_from}
+use Rattle.ndn_packets.specs.declared.types.TheConstants.{APPLICATION_PARAMETERS}
 
 abbrev pub ignored_by : Rules → ℕ → Bool
 ignored_by rules.Packet = is_even_high
@@ -23,5 +24,5 @@ fields_left f = fields_from (ignored_by f.rules) f.schema.now (elements_of f.res
 pub record StandsHere (before after : FieldReader) (e : Element) : Type 0 where
   pub here : elements_of after.here.now ≡ Ok (e.kind, e.value.now) ∷ elements_of after.rest.now
   pub schema : schema_after e.kind before.schema.now ≡ Some after.schema.now
-  pub parameters : IsSome (schema_after 36 before.schema.now)
+  pub parameters : IsSome (schema_after APPLICATION_PARAMETERS before.schema.now)
       → parameters_on (elements_of before.rest.now) ≡ parameters_on (elements_of after.here.now)

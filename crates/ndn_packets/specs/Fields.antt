@@ -4,6 +4,7 @@
 use Rattle.std.specs.Prelude.{◌≡◌, ◌≢◌, ℕ, ◌⊎◌, ◌%◌, List, [], ◌∷◌, ◌++◌, Option, None, Some, Bool, true, false, nat_le, ◌==◌, ◌&&◌, ◌||◌}
 use Rattle.std.specs.List.{AllByRecursion}
 use Rattle.ndn_tlv.specs.Element.{Field}
+use Rattle.ndn_packets.specs.declared.types.TheConstants.{APPLICATION_PARAMETERS, CAN_BE_PREFIX, CONTENT, CONTENT_TYPE, FINAL_BLOCK_ID, FORWARDING_HINT, FRESHNESS_PERIOD, HOP_LIMIT, INTEREST_LIFETIME, INTEREST_SIGNATURE_INFO, INTEREST_SIGNATURE_VALUE, KEY_LOCATOR, META_INFO, MUST_BE_FRESH, NONCE, SIGNATURE_INFO, SIGNATURE_NONCE, SIGNATURE_SEQ_NUM, SIGNATURE_TIME, SIGNATURE_TYPE, SIGNATURE_VALUE}
 
 -- the types that are ignored where an element is no field: even ones from 32 on
 abbrev pub is_even_high : ℕ → Bool
@@ -19,21 +20,24 @@ is_ignored_in_signature_info kind = is_even_high kind || kind == 253
 
 -- the fields of an Interest and of a Data after their Name, of a MetaInfo and of a SignatureInfo
 abbrev pub interest_schema : List ℕ
-interest_schema = 33 ∷ 18 ∷ 30 ∷ 10 ∷ 12 ∷ 34 ∷ 36 ∷ 44 ∷ 46 ∷ []
+interest_schema =
+    CAN_BE_PREFIX ∷ MUST_BE_FRESH ∷ FORWARDING_HINT ∷ NONCE ∷ INTEREST_LIFETIME ∷ HOP_LIMIT
+    ∷ APPLICATION_PARAMETERS ∷ INTEREST_SIGNATURE_INFO ∷ INTEREST_SIGNATURE_VALUE ∷ []
 
 abbrev pub data_schema : List ℕ
-data_schema = 20 ∷ 21 ∷ 22 ∷ 23 ∷ []
+data_schema = META_INFO ∷ CONTENT ∷ SIGNATURE_INFO ∷ SIGNATURE_VALUE ∷ []
 
 abbrev pub meta_schema : List ℕ
-meta_schema = 24 ∷ 25 ∷ 26 ∷ []
+meta_schema = CONTENT_TYPE ∷ FRESHNESS_PERIOD ∷ FINAL_BLOCK_ID ∷ []
 
 abbrev pub info_schema : List ℕ
-info_schema = 27 ∷ 28 ∷ 38 ∷ 40 ∷ 42 ∷ []
+info_schema =
+    SIGNATURE_TYPE ∷ KEY_LOCATOR ∷ SIGNATURE_NONCE ∷ SIGNATURE_TIME ∷ SIGNATURE_SEQ_NUM ∷ []
 
 -- the types that count only where the last field is the one before them in the schema, with ignored
 -- elements between them or without: InterestSignatureInfo and InterestSignatureValue
 abbrev pub needs_previous_field : ℕ → Bool
-needs_previous_field kind = kind == 44 || kind == 46
+needs_previous_field kind = kind == INTEREST_SIGNATURE_INFO || kind == INTEREST_SIGNATURE_VALUE
 
 -- the type stands in the schema where it counts, and these types stand after it
 abbrev pub Counts : ℕ → List ℕ → List ℕ → Type 0

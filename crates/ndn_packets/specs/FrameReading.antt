@@ -10,6 +10,7 @@ use Rattle.ndn_packets.specs.Packet.{PlainInterest, PlainData, PlainFrame, AnInt
 use Rattle.ndn_packets.specs.Link.{is_ignored_header, nack_schema}
 use Rattle.ndn_packets.specs.Fields.{is_even_high}
 use Rattle.ndn_packets.specs.Reading.{fields_from, read_fields, is_nil, nni_value_at, interest_at, data_at}
+use Rattle.ndn_packets.specs.declared.types.TheConstants.{DATA, FRAGMENT, FRAG_COUNT, FRAG_INDEX, INTEREST, LINK_PACKET, NACK, PIT_TOKEN, SEQUENCE}
 
 -- ---- packets
 
@@ -29,14 +30,14 @@ data_of text value = if nat_lt 8800 (length text) then Err TooLong else data_at 
 -- the packet of these octets, which are this element
 abbrev pub packet_of : List ℕ → Field → Result PlainFrame PacketFault
 packet_of text outer =
-    if outer.0 == 5 then (interest_of text outer.1 >>= λ i. Ok (AnInterest text i)) else (
-    if outer.0 == 6 then (data_of text outer.1 >>= λ d. Ok (AData text d)) else
+    if outer.0 == INTEREST then (interest_of text outer.1 >>= λ i. Ok (AnInterest text i)) else (
+    if outer.0 == DATA then (data_of text outer.1 >>= λ d. Ok (AData text d)) else
     Err BadField)
 
 -- the Interest inside a Nack
 abbrev pub nacked_of : ℕ → List ℕ → Field → Result PlainFrame PacketFault
 nacked_of reason text outer =
-    if outer.0 == 5 then (interest_of text outer.1 >>= λ i. Ok (ANack reason text i))
+    if outer.0 == INTEREST then (interest_of text outer.1 >>= λ i. Ok (ANack reason text i))
     else Err BadField
 
 -- ---- link packets
@@ -73,11 +74,11 @@ is_token value = nat_le 1 (length value) && nat_le (length value) 32
 -- octets
 abbrev pub is_refused_header : LinkSoFar → Field → Bool
 is_refused_header s h =
-    if h.0 == 81 then s.sequence else (
-    if h.0 == 82 then s.frag_index else (
-    if h.0 == 83 then s.frag_count else (
-    if h.0 == 98 then (s.pit_token || not (is_token h.1)) else (
-    if h.0 == 800 then is_some s.nack else
+    if h.0 == SEQUENCE then s.sequence else (
+    if h.0 == FRAG_INDEX then s.frag_index else (
+    if h.0 == FRAG_COUNT then s.frag_count else (
+    if h.0 == PIT_TOKEN then (s.pit_token || not (is_token h.1)) else (
+    if h.0 == NACK then is_some s.nack else
     not (is_ignored_header h.0)))))
 
 -- a number that is at most this one
@@ -87,35 +88,35 @@ at_most limit value s = nni_value_at value >>= λ n. if nat_lt limit n then Err 
 -- with a header field that may stand here
 abbrev pub with_header : LinkSoFar → Field → Result LinkSoFar PacketFault
 with_header s h =
-    if h.0 == 81 then Ok (record {
+    if h.0 == SEQUENCE then Ok (record {
       sequence = true;
       frag_index = s.frag_index;
       frag_count = s.frag_count;
       pit_token = s.pit_token;
       nack = s.nack;
     }) else (
-    if h.0 == 82 then at_most 0 h.1 (record {
+    if h.0 == FRAG_INDEX then at_most 0 h.1 (record {
       sequence = s.sequence;
       frag_index = true;
       frag_count = s.frag_count;
       pit_token = s.pit_token;
       nack = s.nack;
     }) else (
-    if h.0 == 83 then at_most 1 h.1 (record {
+    if h.0 == FRAG_COUNT then at_most 1 h.1 (record {
       sequence = s.sequence;
       frag_index = s.frag_index;
       frag_count = true;
       pit_token = s.pit_token;
       nack = s.nack;
     }) else (
-    if h.0 == 98 then Ok (record {
+    if h.0 == PIT_TOKEN then Ok (record {
       sequence = s.sequence;
       frag_index = s.frag_index;
       frag_count = s.frag_count;
       pit_token = true;
       nack = s.nack;
     }) else (
-    if h.0 == 800 then (nack_at h.1 >>= λ reason. Ok (record {
+    if h.0 == NACK then (nack_at h.1 >>= λ reason. Ok (record {
       sequence = s.sequence;
       frag_index = s.frag_index;
       frag_count = s.frag_count;
@@ -148,7 +149,7 @@ abbrev pub link_from : LinkSoFar → List (Result Field TlvFault) → Result Pla
 link_from s [] = no_fragment s.nack
 link_from s (Err f ∷ elements) = Err (Tlv f)
 link_from s (Ok e ∷ elements) =
-    if e.0 == 80 then (fragment_at s.nack e.1 >>= λ frame. last_of frame elements) else
+    if e.0 == FRAGMENT then (fragment_at s.nack e.1 >>= λ frame. last_of frame elements) else
     (take_header s e >>= λ t. link_from t elements)
 
 unfoldable pub link_at : List ℕ → Result PlainFrame PacketFault
@@ -158,7 +159,7 @@ link_at value = link_from no_headers_yet (elements_of value)
 
 -- what these octets hold, which are this element
 abbrev pub outer_of : List ℕ → Field → Result PlainFrame PacketFault
-outer_of text outer = if outer.0 == 100 then link_at outer.1 else packet_of text outer
+outer_of text outer = if outer.0 == LINK_PACKET then link_at outer.1 else packet_of text outer
 
 unfoldable pub frame_at : List ℕ → Result PlainFrame PacketFault
 frame_at text =

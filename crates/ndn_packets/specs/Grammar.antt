@@ -8,6 +8,7 @@ use Rattle.ndn_names.specs.Name.{IsNameValue}
 use Rattle.ndn_packets.specs.Packet.{digests_in}
 use Rattle.ndn_packets.specs.Fields.{Fields, optional, flag, is_even_high, is_ignored_in_meta_info, is_ignored_in_signature_info, interest_schema, data_schema, meta_schema, info_schema}
 use Rattle.ndn_packets.specs.Packet.{PlainLocator, Missing, KeyName, Digest, Other, PlainSignatureInfo, PlainSignature, PlainInterest, PlainData}
+use Rattle.ndn_packets.specs.declared.types.TheConstants.{APPLICATION_PARAMETERS, CAN_BE_PREFIX, CONTENT, CONTENT_TYPE, DATA, FINAL_BLOCK_ID, FORWARDING_HINT, FRESHNESS_PERIOD, HOP_LIMIT, INTEREST, INTEREST_LIFETIME, INTEREST_SIGNATURE_INFO, INTEREST_SIGNATURE_VALUE, KEY_DIGEST, KEY_LOCATOR, META_INFO, MUST_BE_FRESH, NAME, NONCE, SIGNATURE_INFO, SIGNATURE_NONCE, SIGNATURE_SEQ_NUM, SIGNATURE_TIME, SIGNATURE_TYPE, SIGNATURE_VALUE}
 
 -- the text is at most 8,800 octets, one element of this type, which begins with a Name; of the
 -- elements after it these are the fields of the schema, and all others are ignored
@@ -16,7 +17,7 @@ pub record IsPacket (text : List ℕ) (kind : ℕ) (ignores : ℕ → Bool) (sch
   pub value : List ℕ
   pub elements : List Field
   pub outer : IsElement text kind value
-  pub inner : IsElements value ((7, name_value) ∷ elements)
+  pub inner : IsElements value ((NAME, name_value) ∷ elements)
   pub recognised : Fields ignores schema elements fields
   pub short : length text ≤ 8800
   pub octets : (i : ℕ) → slice_index text i < 256
@@ -34,11 +35,11 @@ IsOctet (Some value) n = (k : ℕ) × (value ≡ k ∷ []) × (n ≡ Some k)
 -- the value of a KeyLocator is exactly one Name
 abbrev pub NamesKey : List ℕ → List Field → Type 0
 NamesKey value name =
-    (name_value : List ℕ) × IsElement value 7 name_value × IsNameValue name_value name
+    (name_value : List ℕ) × IsElement value NAME name_value × IsNameValue name_value name
 
 -- or exactly one KeyDigest
 abbrev pub DigestsKey : List ℕ → Type 0
-DigestsKey value = (digest : List ℕ) × IsElement value 29 digest
+DigestsKey value = (digest : List ℕ) × IsElement value KEY_DIGEST digest
 
 -- what a KeyLocator that may be absent says of the key
 abbrev pub IsLocator : Option (List ℕ) → PlainLocator → Type 0
@@ -58,7 +59,8 @@ pub record IsMetaInfo (text : List ℕ) (freshness : ℕ) : Type 0 where
   pub elements : List Field
   pub inner : IsElements text elements
   pub recognised : Fields is_ignored_in_meta_info meta_schema elements
-      (optional 24 content_type ++ (optional 25 period ++ optional 26 final_block))
+      (optional CONTENT_TYPE content_type
+      ++ (optional FRESHNESS_PERIOD period ++ optional FINAL_BLOCK_ID final_block))
   pub content_type_number : (n : Option ℕ) × IsNumber content_type n
   pub period_number : (n : Option ℕ) × IsNumber period n × (freshness ≡ unwrap_or n 0)
 
@@ -72,9 +74,10 @@ pub record IsSignatureInfo (text : List ℕ) (s : PlainSignatureInfo) : Type 0 w
   pub elements : List Field
   pub inner : IsElements text elements
   pub recognised : Fields is_ignored_in_signature_info info_schema elements
-      ((27, kind_value)
-      ∷ (optional 28 locator_value
-      ++ (optional 38 nonce ++ (optional 40 time_value ++ optional 42 seq_value))))
+      ((SIGNATURE_TYPE, kind_value)
+      ∷ (optional KEY_LOCATOR locator_value
+      ++ (optional SIGNATURE_NONCE nonce
+      ++ (optional SIGNATURE_TIME time_value ++ optional SIGNATURE_SEQ_NUM seq_value))))
   pub kind : IsNni kind_value s.kind
   pub locator : IsLocator locator_value s.locator
   pub time : IsNumber time_value s.time
@@ -84,7 +87,8 @@ pub record IsSignatureInfo (text : List ℕ) (s : PlainSignatureInfo) : Type 0 w
 -- packet's end
 abbrev pub from_parameters : List Field → List Field
 from_parameters [] = []
-from_parameters (e ∷ elements) = if e.0 == 36 then e ∷ elements else from_parameters elements
+from_parameters (e ∷ elements) =
+    if e.0 == APPLICATION_PARAMETERS then e ∷ elements else from_parameters elements
 
 -- The name of an Interest without parameters has no digest of them. That of one with parameters has
 -- exactly one, at any place: SHA-256 of the octets from them to the packet's end. The elements are
@@ -116,12 +120,16 @@ pub record IsInterest (text : List ℕ) (i : PlainInterest) : Type 0 where
   pub hop_value : Option (List ℕ)
   pub info_value : Option (List ℕ)
   pub signature_value : Option (List ℕ)
-  pub fields : IsPacket text 5 is_even_high interest_schema name_value
-      (flag 33 i.can_be_prefix
-      ++ (flag 18 i.must_be_fresh
-      ++ (optional 30 hint
-      ++ ((10, i.nonce) ∷ (optional 12 lifetime_value ++ (optional 34 hop_value
-      ++ (optional 36 i.parameters ++ (optional 44 info_value ++ optional 46 signature_value))))))))
+  pub fields : IsPacket text INTEREST is_even_high interest_schema name_value
+      (flag CAN_BE_PREFIX i.can_be_prefix
+      ++ (flag MUST_BE_FRESH i.must_be_fresh
+      ++ (optional FORWARDING_HINT hint
+      ++ ((NONCE, i.nonce)
+      ∷ (optional INTEREST_LIFETIME lifetime_value
+      ++ (optional HOP_LIMIT hop_value
+      ++ (optional APPLICATION_PARAMETERS i.parameters
+      ++ (optional INTEREST_SIGNATURE_INFO info_value
+      ++ optional INTEREST_SIGNATURE_VALUE signature_value))))))))
   pub name : IsNameValue name_value i.name
   pub named : i.name ≢ []
   pub nonce : length i.nonce ≡ 4
@@ -140,9 +148,10 @@ pub record IsData (text : List ℕ) (d : PlainData) : Type 0 where
   pub name_value : List ℕ
   pub meta_value : Option (List ℕ)
   pub info_value : List ℕ
-  pub fields : IsPacket text 6 is_even_high data_schema name_value
-      (optional 20 meta_value
-      ++ (optional 21 d.content ++ ((22, info_value) ∷ (23, d.signature.value) ∷ [])))
+  pub fields : IsPacket text DATA is_even_high data_schema name_value
+      (optional META_INFO meta_value
+      ++ (optional CONTENT d.content
+      ++ ((SIGNATURE_INFO, info_value) ∷ (SIGNATURE_VALUE, d.signature.value) ∷ [])))
   pub name : IsNameValue name_value d.name
   pub freshness : IsFreshness meta_value d.freshness
   pub info : IsSignatureInfo info_value d.signature.info

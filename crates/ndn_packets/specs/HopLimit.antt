@@ -7,6 +7,7 @@ use Rattle.ndn_packets.specs.Packet.{PlainInterest, PlainFrame, AnInterest, ADat
 use Rattle.ndn_packets.specs.Grammar.{IsInterest}
 use Rattle.ndn_packets.specs.Covered.{from_first}
 use Rattle.ndn_packets.specs.FrameReading.{frame_at}
+use Rattle.ndn_packets.specs.declared.types.TheConstants.{HOP_LIMIT}
 
 -- the text is an Interest that has this HopLimit
 abbrev pub HasHopLimit : List ℕ → ℕ → Type 0
@@ -22,7 +23,7 @@ abbrev pub place_in : List ℕ → Result PlainFrame PacketFault → ℕ
 place_in text (Ok (AnInterest whole i)) =
     if (length whole == length text) && is_some i.hop_limit
     then place_from text
-    (on_result (λ outer. from_first 34 outer.0.1) (λ _. None) (element_at text))
+    (on_result (λ outer. from_first HOP_LIMIT outer.0.1) (λ _. None) (element_at text))
     else length text
 place_in text (Ok (AData whole d)) = length text
 place_in text (Ok (ANack reason whole i)) = length text

@@ -7,35 +7,36 @@ use Rattle.ndn_tlv.specs.Element.{Field, IsElement, IsElements}
 use Rattle.ndn_packets.specs.Packet.{PlainFrame, AnInterest, AData, ANack, Idle}
 use Rattle.ndn_packets.specs.Fields.{Fields, optional, is_even_high}
 use Rattle.ndn_packets.specs.Grammar.{IsNumber, IsInterest, IsData}
+use Rattle.ndn_packets.specs.declared.types.TheConstants.{FRAGMENT, FRAG_COUNT, FRAG_INDEX, LINK_PACKET, NACK, NACK_REASON, PIT_TOKEN, SEQUENCE}
 
 -- the header fields that this profile knows: Sequence, FragIndex, FragCount, PitToken and Nack
 abbrev pub known_headers : List ℕ
-known_headers = 81 ∷ 82 ∷ 83 ∷ 98 ∷ 800 ∷ []
+known_headers = SEQUENCE ∷ FRAG_INDEX ∷ FRAG_COUNT ∷ PIT_TOKEN ∷ NACK ∷ []
 
 -- other header fields are ignored where their types are from 800 to 959 and divisible by 4
 abbrev pub is_ignored_header : ℕ → Bool
-is_ignored_header kind = nat_lt 800 kind && (nat_le kind 959 && (kind % 4 == 0))
+is_ignored_header kind = nat_lt NACK kind && (nat_le kind 959 && (kind % 4 == 0))
 
 abbrev pub nack_schema : List ℕ
-nack_schema = 801 ∷ []
+nack_schema = NACK_REASON ∷ []
 
 -- Nack = [NackReason], which is 0 where there is none
 pub record IsNack (text : List ℕ) (reason : ℕ) : Type 0 where
   pub reason_value : Option (List ℕ)
   pub elements : List Field
   pub inner : IsElements text elements
-  pub recognised : Fields is_even_high nack_schema elements (optional 801 reason_value)
+  pub recognised : Fields is_even_high nack_schema elements (optional NACK_REASON reason_value)
   pub number : (n : Option ℕ) × IsNumber reason_value n × (reason ≡ unwrap_or n 0)
 
 -- What a header field may be. The packet is one fragment of one, and a token has from 1 to 32
 -- octets.
 abbrev pub IsHeader : Field → Type 0
 IsHeader h =
-    (h.0 ≡ 81)
-    ⊎ (((h.0 ≡ 82) × IsNni h.1 0)
-    ⊎ (((h.0 ≡ 83) × ((n : ℕ) × IsNni h.1 n × (n ≤ 1)))
-    ⊎ (((h.0 ≡ 98) × (1 ≤ length h.1) × (length h.1 ≤ 32))
-    ⊎ (((h.0 ≡ 800) × ((reason : ℕ) × IsNack h.1 reason))
+    (h.0 ≡ SEQUENCE)
+    ⊎ (((h.0 ≡ FRAG_INDEX) × IsNni h.1 0)
+    ⊎ (((h.0 ≡ FRAG_COUNT) × ((n : ℕ) × IsNni h.1 n × (n ≤ 1)))
+    ⊎ (((h.0 ≡ PIT_TOKEN) × (1 ≤ length h.1) × (length h.1 ≤ 32))
+    ⊎ (((h.0 ≡ NACK) × ((reason : ℕ) × IsNack h.1 reason))
     ⊎ (is_ignored_header h.0 ≡ true)))))
 
 -- the header fields of one type
@@ -44,17 +45,17 @@ headers_of kind headers = filter (λ h. h.0 == kind) headers
 
 -- the reason of the Nack among header fields, if one is there
 abbrev pub IsNackOf : List Field → Option ℕ → Type 0
-IsNackOf headers None = headers_of 800 headers ≡ []
+IsNackOf headers None = headers_of NACK headers ≡ []
 IsNackOf headers (Some reason) =
-    (value : List ℕ) × (headers_of 800 headers ≡ (800, value) ∷ []) × IsNack value reason
+    (value : List ℕ) × (headers_of NACK headers ≡ (NACK, value) ∷ []) × IsNack value reason
 
 -- LpPacket: header fields in any order, each known one once at most, and then at most one Fragment
 pub record IsLinkPacket (text : List ℕ) (nack : Option ℕ)
     (fragment : Option (List ℕ)) : Type 0 where
   pub value : List ℕ
   pub headers : List Field
-  pub outer : IsElement text 100 value
-  pub inner : IsElements value (headers ++ optional 80 fragment)
+  pub outer : IsElement text LINK_PACKET value
+  pub inner : IsElements value (headers ++ optional FRAGMENT fragment)
   pub allowed : AllByRecursion IsHeader headers
   pub once : AllByRecursion (λ kind. length (headers_of kind headers) ≤ 1) known_headers
   pub nacked : IsNackOf headers nack

@@ -13,6 +13,7 @@ use Rattle.ndn_packets.specs.declared.fault.PacketFault.{PacketFault}
 use Rattle.ndn_packets.specs.declared.fault.PacketFault.TheVariants.{Tlv, NoName, CriticalUnknown, BadField, NoNonce, DigestMissing, DigestWrong, DigestWithout}
 use Rattle.ndn_packets.specs.Fields.{is_even_high, is_ignored_in_meta_info, is_ignored_in_signature_info, needs_previous_field, interest_schema, data_schema, meta_schema, info_schema}
 use Rattle.ndn_packets.specs.Packet.{digests_in, PlainLocator, Missing, KeyName, Digest, Other, PlainSignatureInfo, PlainSignature, PlainInterest, PlainData}
+use Rattle.ndn_packets.specs.declared.types.TheConstants.{APPLICATION_PARAMETERS, CAN_BE_PREFIX, CONTENT, CONTENT_TYPE, FRESHNESS_PERIOD, HOP_LIMIT, INTEREST_LIFETIME, INTEREST_SIGNATURE_INFO, INTEREST_SIGNATURE_VALUE, KEY_DIGEST, KEY_LOCATOR, META_INFO, MUST_BE_FRESH, NAME, NONCE, SIGNATURE_INFO, SIGNATURE_SEQ_NUM, SIGNATURE_TIME, SIGNATURE_TYPE}
 
 -- what of a schema stands after a type that counts in it
 abbrev pub schema_after : ℕ → List ℕ → Option (List ℕ)
@@ -48,7 +49,7 @@ abbrev pub name_first : List (Result Field TlvFault)
     → Result (List ℕ × List (Result Field TlvFault)) PacketFault
 name_first [] = Err NoName
 name_first (Err f ∷ elements) = Err (Tlv f)
-name_first (Ok e ∷ elements) = if e.0 == 7 then Ok (e.1, elements) else Err NoName
+name_first (Ok e ∷ elements) = if e.0 == NAME then Ok (e.1, elements) else Err NoName
 
 -- a value that is a name
 abbrev pub name_value_at : List ℕ → Result (List Field) PacketFault
@@ -78,8 +79,8 @@ found_or fault (Some x) = Ok x
 -- and 26 comes here.
 abbrev pub take_meta_field : ℕ → Field → Result ℕ PacketFault
 take_meta_field freshness f =
-    if f.0 == 24 then (nni_value_at f.1 >>= λ _. Ok freshness) else (
-    if f.0 == 25 then nni_value_at f.1 else Ok freshness)
+    if f.0 == CONTENT_TYPE then (nni_value_at f.1 >>= λ _. Ok freshness) else (
+    if f.0 == FRESHNESS_PERIOD then nni_value_at f.1 else Ok freshness)
 
 unfoldable pub meta_at : List ℕ → Result ℕ PacketFault
 meta_at value =
@@ -90,8 +91,8 @@ meta_at value =
 abbrev pub locator_of : Field → List ℕ → PlainLocator
 locator_of e rest =
     if not (is_nil rest) then Other else (
-    if e.0 == 7 then on_result (λ name. KeyName name) (λ _. Other) (name_at e.1) else (
-    if e.0 == 29 then Digest else Other))
+    if e.0 == NAME then on_result (λ name. KeyName name) (λ _. Other) (name_at e.1) else (
+    if e.0 == KEY_DIGEST then Digest else Other))
 
 unfoldable pub locator_at : List ℕ → PlainLocator
 locator_at value = on_result (λ x. locator_of x.0 x.1) (λ _. Other) (element_at value)
@@ -108,25 +109,25 @@ no_info_yet = record { kind = None; locator = Missing; time = None; seq = None }
 
 abbrev pub take_info_field : InfoSoFar → Field → Result InfoSoFar PacketFault
 take_info_field s f =
-    if f.0 == 27 then (nni_value_at f.1 >>= λ n. Ok (record {
+    if f.0 == SIGNATURE_TYPE then (nni_value_at f.1 >>= λ n. Ok (record {
       kind = Some n;
       locator = s.locator;
       time = s.time;
       seq = s.seq;
     })) else (
-    if f.0 == 28 then Ok (record {
+    if f.0 == KEY_LOCATOR then Ok (record {
       kind = s.kind;
       locator = locator_at f.1;
       time = s.time;
       seq = s.seq;
     }) else (
-    if f.0 == 40 then (nni_value_at f.1 >>= λ n. Ok (record {
+    if f.0 == SIGNATURE_TIME then (nni_value_at f.1 >>= λ n. Ok (record {
       kind = s.kind;
       locator = s.locator;
       time = Some n;
       seq = s.seq;
     })) else (
-    if f.0 == 42 then (nni_value_at f.1 >>= λ n. Ok (record {
+    if f.0 == SIGNATURE_SEQ_NUM then (nni_value_at f.1 >>= λ n. Ok (record {
       kind = s.kind;
       locator = s.locator;
       time = s.time;
@@ -269,21 +270,24 @@ with_value s value = record {
 
 abbrev pub take_interest_field : InterestSoFar → Field → Result InterestSoFar PacketFault
 take_interest_field s f =
-    if f.0 == 33 then (if is_nil f.1 then Ok (with_can_be_prefix s) else Err BadField) else (
-    if f.0 == 18 then (if is_nil f.1 then Ok (with_must_be_fresh s) else Err BadField) else (
-    if f.0 == 10 then (if length f.1 == 4 then Ok (with_nonce s f.1) else Err BadField) else (
-    if f.0 == 12 then (nni_value_at f.1 >>= λ n. Ok (with_lifetime s n)) else (
-    if f.0 == 34 then (octet_at f.1 >>= λ n. Ok (with_hop_limit s n)) else (
-    if f.0 == 36 then Ok (with_parameters s f.1) else (
-    if f.0 == 44 then (info_at f.1 >>= λ info. Ok (with_info s info)) else (
-    if f.0 == 46 then Ok (with_value s f.1) else
+    if f.0 == CAN_BE_PREFIX
+    then (if is_nil f.1 then Ok (with_can_be_prefix s) else Err BadField) else (
+    if f.0 == MUST_BE_FRESH
+    then (if is_nil f.1 then Ok (with_must_be_fresh s) else Err BadField) else (
+    if f.0 == NONCE then (if length f.1 == 4 then Ok (with_nonce s f.1) else Err BadField) else (
+    if f.0 == INTEREST_LIFETIME then (nni_value_at f.1 >>= λ n. Ok (with_lifetime s n)) else (
+    if f.0 == HOP_LIMIT then (octet_at f.1 >>= λ n. Ok (with_hop_limit s n)) else (
+    if f.0 == APPLICATION_PARAMETERS then Ok (with_parameters s f.1) else (
+    if f.0 == INTEREST_SIGNATURE_INFO then (info_at f.1 >>= λ info. Ok (with_info s info)) else (
+    if f.0 == INTEREST_SIGNATURE_VALUE then Ok (with_value s f.1) else
     Ok s)))))))
 
 -- the elements from the first of ApplicationParameters on
 abbrev pub parameters_on : List (Result Field TlvFault) → List (Result Field TlvFault)
 parameters_on [] = []
 parameters_on (Err f ∷ elements) = []
-parameters_on (Ok e ∷ elements) = if e.0 == 36 then Ok e ∷ elements else parameters_on elements
+parameters_on (Ok e ∷ elements) =
+    if e.0 == APPLICATION_PARAMETERS then Ok e ∷ elements else parameters_on elements
 
 -- the octets of the elements that can be read, as they came: a number has one spelling
 abbrev pub octets_of_read : List (Result Field TlvFault) → List ℕ
@@ -338,19 +342,19 @@ nothing_yet = record { freshness = 0; content = None; info = None; value = None 
 
 abbrev pub take_data_field : DataSoFar → Field → Result DataSoFar PacketFault
 take_data_field s f =
-    if f.0 == 20 then (meta_at f.1 >>= λ freshness. Ok (record {
+    if f.0 == META_INFO then (meta_at f.1 >>= λ freshness. Ok (record {
       freshness = freshness;
       content = s.content;
       info = s.info;
       value = s.value;
     })) else (
-    if f.0 == 21 then Ok (record {
+    if f.0 == CONTENT then Ok (record {
       freshness = s.freshness;
       content = Some f.1;
       info = s.info;
       value = s.value;
     }) else (
-    if f.0 == 22 then (info_at f.1 >>= λ info. Ok (record {
+    if f.0 == SIGNATURE_INFO then (info_at f.1 >>= λ info. Ok (record {
       freshness = s.freshness;
       content = s.content;
       info = Some info;

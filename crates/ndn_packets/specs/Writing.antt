@@ -16,6 +16,8 @@ use Rattle.ndn_packets.specs.declared.data_writer.DataWriter.{DataWriter}
 use Rattle.ndn_packets.specs.Packet.{digests_in, PlainLocator, Missing, KeyName, PlainSignatureInfo, PlainInterest, PlainData}
 use Rattle.ndn_packets.specs.Fields.{optional, flag}
 use Rattle.ndn_packets.specs.Reading.{is_nil}
+use Rattle.ndn_packets.specs.declared.data_writer.TheConstants.{SEGMENT}
+use Rattle.ndn_packets.specs.declared.types.TheConstants.{DIGEST_SHA256, HMAC_WITH_SHA256, APPLICATION_PARAMETERS, CAN_BE_PREFIX, CONTENT, DATA, FINAL_BLOCK_ID, FRAGMENT, FRESHNESS_PERIOD, HOP_LIMIT, INTEREST, INTEREST_LIFETIME, INTEREST_SIGNATURE_INFO, INTEREST_SIGNATURE_VALUE, KEY_LOCATOR, LINK_PACKET, META_INFO, MUST_BE_FRESH, NACK, NACK_REASON, NAME, NONCE, SIGNATURE_INFO, SIGNATURE_SEQ_NUM, SIGNATURE_TIME, SIGNATURE_TYPE, SIGNATURE_VALUE}
 
 abbrev pub octets : List Field → List ℕ
 octets fields = flat_map element fields
@@ -27,8 +29,8 @@ number kind n = optional kind (option_map shortest_nni n)
 
 -- the SignatureType: DigestSha256 or HmacWithSha256
 abbrev pub kind_of : Sign → ℕ
-kind_of sign.Digest = 0
-kind_of (sign.Hmac name key) = 4
+kind_of sign.Digest = DIGEST_SHA256
+kind_of (sign.Hmac name key) = HMAC_WITH_SHA256
 
 -- the KeyLocator: none, or the key's name
 abbrev pub locator_of : Sign → PlainLocator
@@ -37,13 +39,16 @@ locator_of (sign.Hmac name key) = KeyName (components name)
 
 abbrev pub locator_value : Sign → Option (List ℕ)
 locator_value sign.Digest = None
-locator_value (sign.Hmac name key) = Some (element (7, octets (components name)))
+locator_value (sign.Hmac name key) = Some (element (NAME, octets (components name)))
+
+abbrev pub locator_fields : Sign → List Field
+locator_fields signed = optional KEY_LOCATOR (locator_value signed)
 
 -- the fields of a SignatureInfo
 abbrev pub info_fields : Sign → Option ℕ → Option ℕ → List Field
 info_fields signed time seq =
-    (27, kind_of signed ∷ [])
-    ∷ (optional 28 (locator_value signed) ++ (number 40 time ++ number 42 seq))
+    (SIGNATURE_TYPE, kind_of signed ∷ [])
+    ∷ (locator_fields signed ++ (number SIGNATURE_TIME time ++ number SIGNATURE_SEQ_NUM seq))
 
 abbrev pub info_asked : Sign → Option ℕ → Option ℕ → PlainSignatureInfo
 info_asked signed time seq = record {
@@ -68,8 +73,8 @@ parameters_of (Some signed) parameters = Some (unwrap_or parameters [])
 -- what the signature of an Interest covers after its name's components
 abbrev pub covered_fields : InterestWriter → Sign → List Field
 covered_fields w signed =
-    (36, unwrap_or (option_map (λ p. p.now) w.parameters) [])
-    ∷ (44, octets (info_fields signed w.time w.seq)) ∷ []
+    (APPLICATION_PARAMETERS, unwrap_or (option_map (λ p. p.now) w.parameters) [])
+    ∷ (INTEREST_SIGNATURE_INFO, octets (info_fields signed w.time w.seq)) ∷ []
 
 abbrev pub interest_value : InterestWriter → Sign → List ℕ
 interest_value w signed =
@@ -77,16 +82,18 @@ interest_value w signed =
 
 -- the fields from the ApplicationParameters on
 abbrev pub later_fields : InterestWriter → Option Sign → List Field
-later_fields w None = optional 36 (option_map (λ p. p.now) w.parameters)
-later_fields w (Some signed) = covered_fields w signed ++ (46, interest_value w signed) ∷ []
+later_fields w None = optional APPLICATION_PARAMETERS (option_map (λ p. p.now) w.parameters)
+later_fields w (Some signed) =
+    covered_fields w signed ++ (INTEREST_SIGNATURE_VALUE, interest_value w signed) ∷ []
 
 -- the fields before them
 abbrev pub early_fields : InterestWriter → List Field
 early_fields w =
-    flag 33 w.can_be_prefix
-    ++ (flag 18 w.must_be_fresh
-    ++ ((10, w.nonce)
-    ∷ (number 12 w.lifetime ++ optional 34 (option_map (λ limit. limit ∷ []) w.hop_limit))))
+    flag CAN_BE_PREFIX w.can_be_prefix
+    ++ (flag MUST_BE_FRESH w.must_be_fresh
+    ++ ((NONCE, w.nonce)
+    ∷ (number INTEREST_LIFETIME w.lifetime
+    ++ optional HOP_LIMIT (option_map (λ limit. limit ∷ []) w.hop_limit))))
 
 -- the name, and after it a digest, where there are fields from the ApplicationParameters on
 abbrev pub name_with : List ℕ → List Field → List Field → List Field
@@ -100,10 +107,10 @@ interest_name w =
 
 abbrev pub interest_fields : InterestWriter → List Field
 interest_fields w =
-    (7, octets (interest_name w)) ∷ (early_fields w ++ later_fields w w.sign)
+    (NAME, octets (interest_name w)) ∷ (early_fields w ++ later_fields w w.sign)
 
 abbrev pub interest_text : InterestWriter → List ℕ
-interest_text w = element (5, octets (interest_fields w))
+interest_text w = element (INTEREST, octets (interest_fields w))
 
 -- the Interest that is asked for
 abbrev pub interest_asked : InterestWriter → PlainInterest
@@ -139,17 +146,22 @@ abbrev pub meta_of : List Field → Option (List ℕ)
 meta_of [] = None
 meta_of (f ∷ fields) = Some (octets (f ∷ fields))
 
--- FreshnessPeriod, and as FinalBlockId one component of type 50, a segment number
+-- as FinalBlockId one component, a segment number
+abbrev pub last_fields : Option ℕ → List Field
+last_fields last =
+    optional FINAL_BLOCK_ID (option_map (λ n. element (SEGMENT, shortest_nni n)) last)
+
+-- FreshnessPeriod and FinalBlockId
 abbrev pub meta_fields : Option ℕ → Option ℕ → List Field
 meta_fields freshness last =
-    number 25 freshness ++ optional 26 (option_map (λ n. element (50, shortest_nni n)) last)
+    number FRESHNESS_PERIOD freshness ++ last_fields last
 
 -- what the signature of a Data covers
 abbrev pub data_fields : Sign → List Field → Option (List ℕ) → Option (List ℕ) → List Field
 data_fields signed name meta content =
-    (7, octets name)
-    ∷ (optional 20 meta
-    ++ (optional 21 content ++ (22, octets (info_fields signed None None)) ∷ []))
+    (NAME, octets name)
+    ∷ (optional META_INFO meta
+    ++ (optional CONTENT content ++ (SIGNATURE_INFO, octets (info_fields signed None None)) ∷ []))
 
 abbrev pub data_value : Sign → List Field → Option (List ℕ) → Option (List ℕ) → List ℕ
 data_value signed name meta content =
@@ -157,10 +169,12 @@ data_value signed name meta content =
 
 abbrev pub signed_fields : Sign → List Field → Option (List ℕ) → Option (List ℕ) → List Field
 signed_fields signed name meta content =
-    data_fields signed name meta content ++ (23, data_value signed name meta content) ∷ []
+    data_fields signed name meta content
+    ++ (SIGNATURE_VALUE, data_value signed name meta content) ∷ []
 
 abbrev pub signed_data : Sign → List Field → Option (List ℕ) → Option (List ℕ) → List ℕ
-signed_data signed name meta content = element (6, octets (signed_fields signed name meta content))
+signed_data signed name meta content =
+    element (DATA, octets (signed_fields signed name meta content))
 
 abbrev pub meta_asked : DataWriter → Option (List ℕ)
 meta_asked w = meta_of (meta_fields w.freshness w.last)
@@ -209,10 +223,17 @@ reply_asked name content = plain_data_of sign.Digest name 0 None (Some content)
 
 -- ---- Nacks
 
+-- the header field of a Nack of this reason
+abbrev pub nack_field : ℕ → List ℕ
+nack_field reason = element (NACK, element (NACK_REASON, shortest_nni reason))
+
 -- a link packet with a Nack of this reason around octets
 abbrev pub nack_text : ℕ → List ℕ → List ℕ
 nack_text reason interest =
-    element (100, octets ((800, octets ((801, shortest_nni reason) ∷ [])) ∷ (80, interest) ∷ []))
+    element (
+      LINK_PACKET,
+      octets ((NACK, octets ((NACK_REASON, shortest_nni reason) ∷ [])) ∷ (FRAGMENT, interest) ∷ []),
+    )
 
 -- ---- lengths
 

@@ -7,10 +7,13 @@ ghost use Rattle.ndn_packets.specs.Packet.{PlainSignature, PlainInterest, PlainD
 ghost use Rattle.ndn_packets.specs.Grammar.{IsInterest, IsData};
 ghost use Rattle.ndn_packets.specs.Covered.{IsCut, from_first, Covered, EndsInDigest, EndsAtSignature};
 
-use crate::data::{Data, SIGNATURE_VALUE};
-use crate::frame::{DATA, INTEREST, only_element};
-use crate::interest::{APPLICATION_PARAMETERS, Interest, PARAMETERS_SHA256_DIGEST};
-use crate::schema::{INTEREST_SIGNATURE_INFO, INTEREST_SIGNATURE_VALUE};
+use crate::data::Data;
+use crate::frame::only_element;
+use crate::interest::{Interest, PARAMETERS_SHA256_DIGEST};
+use crate::types::{
+    APPLICATION_PARAMETERS, DATA, INTEREST, INTEREST_SIGNATURE_INFO, INTEREST_SIGNATURE_VALUE,
+    SIGNATURE_VALUE,
+};
 use ndn_names::Name;
 use ndn_tlv::first_element;
 
@@ -168,7 +171,7 @@ pub fn signed_packets_have_covered_octets()
     ensures data_ends { (text covered : List ℕ) (d : PlainData) → IsData text d
         → Covered (AData text d) covered []
         → (after : List ℕ)
-        × IsElement text 6 (covered ++ (element (23, d.signature.value) ++ after)) }
+        × IsElement text DATA (covered ++ (element (SIGNATURE_VALUE, d.signature.value) ++ after)) }
     ensures interest_ends { (text first second : List ℕ) (i : PlainInterest) (s : PlainSignature)
         → IsInterest text i → i.signature ≡ Some s
         → Covered (AnInterest text i) first second

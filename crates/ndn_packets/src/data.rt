@@ -13,6 +13,7 @@ use crate::frame::is_too_long;
 use crate::meta_info::freshness_of;
 use crate::schema::Rules;
 use crate::signature::{Signature, SignatureInfo, signature_info};
+use crate::types::{CONTENT, META_INFO, SIGNATURE_INFO, SIGNATURE_VALUE};
 use ndn_names::Name;
 use ndn_tlv::Element;
 
@@ -36,15 +37,6 @@ pub struct Data<'a> {
       signature = plain_signature signature;
     }) ∥₁ },
 }
-
-/// The types of the fields of a Data after its Name.
-pub const META_INFO: u32 = 20;
-
-pub const CONTENT: u32 = 21;
-
-pub const SIGNATURE_INFO: u32 = 22;
-
-pub const SIGNATURE_VALUE: u32 = 23;
 
 const FIELDS: [u32; 4] = [META_INFO, CONTENT, SIGNATURE_INFO, SIGNATURE_VALUE];
 

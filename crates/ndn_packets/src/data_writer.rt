@@ -8,14 +8,15 @@ ghost use Rattle.ndn_packets.specs.Grammar.{IsData};
 ghost use Rattle.ndn_packets.specs.Covered.{Covered};
 ghost use Rattle.ndn_packets.specs.Fields.{optional};
 ghost use Rattle.ndn_packets.specs.declared.signature.Sign.TheVariants as sign;
-ghost use Rattle.ndn_packets.specs.Writing.{octets, data_fields, reply_text, reply_asked, IsU64};
+ghost use Rattle.ndn_packets.specs.Writing.{octets, data_fields, last_fields, reply_text, reply_asked, IsU64};
 
-use crate::data::{CONTENT, META_INFO, SIGNATURE_INFO, SIGNATURE_VALUE};
 use crate::fault::WriteFault;
-use crate::field_reader::NAME;
-use crate::frame::{DATA, MAX_PACKET};
-use crate::meta_info::{FINAL_BLOCK_ID, FRESHNESS_PERIOD};
+use crate::frame::MAX_PACKET;
 use crate::signature::Sign;
+use crate::types::{
+    CONTENT, DATA, FINAL_BLOCK_ID, FRESHNESS_PERIOD, META_INFO, NAME, SIGNATURE_INFO,
+    SIGNATURE_VALUE,
+};
 use crate::writing::{
     DIGEST_LEN, element_len, info_len, name_element_len, nni_element_len, number_field_len,
     optional_len, put_header, put_info, put_nni_element, put_number_field, put_optional,
@@ -97,7 +98,7 @@ impl DataWriter<'_> {
     #[tactic(auto, using(crate::proofs::DataWriting::meta_absent, crate::proofs::DataWriting::meta_present))]
     /// The length of the MetaInfo, 0 where there is none.
     fn meta_field_len(&self) -> usize
-        ensures len { IsLength result (octets (optional 20 (meta_asked self.now))) }
+        ensures len { IsLength result (octets (optional META_INFO (meta_asked self.now))) }
         ensures freshness { IsU64 self.now.freshness }
         ensures last { IsU64 self.now.last }
     {
@@ -133,9 +134,9 @@ impl DataWriter<'_> {
     /// Appends the MetaInfo, where there is one, or some octets of it.
     fn put_meta(&self, out: &mut Vec<u8>) -> Result<(), Memory>
         ensures ok { OnOk result
-            (out.new.items ≡ out.old.items ++ octets (optional 20 (meta_asked self.now))) }
+            (out.new.items ≡ out.old.items ++ octets (optional META_INFO (meta_asked self.now))) }
         ensures begins { take (vec_len out.old) out.new.items ≡ out.old.items }
-        ensures room { vec_len out.old + length (octets (optional 20 (meta_asked self.now)))
+        ensures room { vec_len out.old + length (octets (optional META_INFO (meta_asked self.now)))
             ≤ vec_capacity out.old → IsOk result }
         ensures capacity { vec_capacity out.old ≤ vec_capacity out.new }
     {
@@ -206,8 +207,7 @@ impl DataWriter<'_> {
 #[tactic(auto, using(crate::proofs::DataWriting::last_is_short, crate::proofs::DataWriting::last_is_long))]
 /// The length of a FinalBlockId, 0 where there is none.
 fn last_len(last: Option<u64>) -> usize
-    ensures exact { result
-        ≡ length (octets (optional 26 (option_map (λ n. element (50, shortest_nni n)) last))) }
+    ensures exact { result ≡ length (octets (last_fields last)) }
     ensures small { result ≤ 44 }
     ensures sound { IsU64 last }
 {
@@ -219,14 +219,10 @@ fn last_len(last: Option<u64>) -> usize
 
 /// Appends a FinalBlockId, where there is one, or some octets of it.
 fn put_last(out: &mut Vec<u8>, last: Option<u64>) -> Result<(), Memory>
-    ensures ok { OnOk result
-        (out.new.items
-        ≡ out.old.items
-        ++ octets (optional 26 (option_map (λ n. element (50, shortest_nni n)) last))) }
+    ensures ok { OnOk result (out.new.items ≡ out.old.items ++ octets (last_fields last)) }
     ensures begins { take (vec_len out.old) out.new.items ≡ out.old.items }
-    ensures room { vec_len out.old + length
-        (octets (optional 26 (option_map (λ n. element (50, shortest_nni n)) last)))
-        ≤ vec_capacity out.old → IsOk result }
+    ensures room { vec_len out.old + length (octets (last_fields last)) ≤ vec_capacity out.old
+        → IsOk result }
     ensures capacity { vec_capacity out.old ≤ vec_capacity out.new }
 {
     if let Some(last) = last {

@@ -6,11 +6,9 @@ ghost use Rattle.ndn_packets.specs.FieldReader.{ignored_by, fields_left, StandsH
 
 use crate::fault::PacketFault;
 use crate::schema::{Rules, needs_previous_field};
+use crate::types::NAME;
 use ndn_names::Name;
 use ndn_tlv::{Element, first_element, nni_of};
-
-/// The type of a Name (NDN Packet Format 0.3, "Name").
-pub const NAME: u32 = 7;
 
 /// Goes over the fields of a schema among the elements of a value, in the schema's order.
 #[derive(Drop)]

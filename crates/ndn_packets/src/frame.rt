@@ -11,6 +11,7 @@ use crate::data::Data;
 use crate::fault::PacketFault;
 use crate::interest::Interest;
 use crate::link::read_link;
+use crate::types::{DATA, INTEREST, LINK_PACKET};
 use ndn_tlv::{Element, first_element};
 
 /// What octets of a link hold (NDN Packet Format 0.3, "Interest Packet" and "Data Packet"; NDNLPv2,
@@ -23,7 +24,7 @@ pub enum Frame<'a> {
     Data(Data<'a>),
     /// A link packet with a Nack.
     Nack {
-        /// The NackReason, 0 where there is none: Congestion is 50, Duplicate 100, NoRoute 150.
+        /// The NackReason, 0 where there is none: `CONGESTION`, `DUPLICATE`, `NO_ROUTE` or another.
         reason: u64,
         /// The Interest that is refused.
         interest: Interest<'a>,
@@ -33,17 +34,10 @@ pub enum Frame<'a> {
 }
 
 /// The greatest length of the octets of a link, in octets.
-const MAX_FRAME: usize = 9000;
+pub const MAX_FRAME: usize = 9000;
 
 /// The greatest length of an Interest or a Data, in octets.
 pub const MAX_PACKET: usize = 8800;
-
-/// The types of an Interest, a Data and a link packet.
-pub const INTEREST: u32 = 5;
-
-pub const DATA: u32 = 6;
-
-pub const LINK_PACKET: u32 = 100;
 
 /// Reads octets of a link (NDN Packet Format 0.3, "Interest Packet" and "Data Packet"; NDNLPv2,
 /// "Packet Format"): one Interest or one Data of this profile, or a link packet around one. Fields

@@ -8,7 +8,7 @@ ghost use Rattle.ndn_packets.specs.HopLimit.{HasHopLimit, LendsHopLimit, hop_pla
 
 use crate::covered::from_first;
 use crate::frame::{Frame, read_frame};
-use crate::interest::HOP_LIMIT;
+use crate::types::HOP_LIMIT;
 use ndn_tlv::first_element;
 
 /// The octet of the HopLimit, to change it, where the octets are one Interest that has a HopLimit.

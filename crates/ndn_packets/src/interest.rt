@@ -13,8 +13,12 @@ use crate::fault::PacketFault;
 use crate::field_reader::{FieldReader, leading_name, number};
 use crate::frame::is_too_long;
 use crate::key::Key;
-use crate::schema::{INTEREST_SIGNATURE_INFO, INTEREST_SIGNATURE_VALUE, Rules};
+use crate::schema::Rules;
 use crate::signature::{Signature, SignatureInfo, signature_info};
+use crate::types::{
+    APPLICATION_PARAMETERS, CAN_BE_PREFIX, FORWARDING_HINT, HOP_LIMIT, INTEREST_LIFETIME,
+    INTEREST_SIGNATURE_INFO, INTEREST_SIGNATURE_VALUE, MUST_BE_FRESH, NONCE,
+};
 use ndn_names::Name;
 use ndn_tlv::Element;
 use sha2::{Digest, Sha256};
@@ -52,21 +56,6 @@ pub struct Interest<'a> {
       signature = option_map plain_signature signature;
     }) ∥₁ },
 }
-
-/// The types of the fields of an Interest after its Name.
-pub const CAN_BE_PREFIX: u32 = 33;
-
-pub const MUST_BE_FRESH: u32 = 18;
-
-const FORWARDING_HINT: u32 = 30;
-
-pub const NONCE: u32 = 10;
-
-pub const INTEREST_LIFETIME: u32 = 12;
-
-pub const HOP_LIMIT: u32 = 34;
-
-pub const APPLICATION_PARAMETERS: u32 = 36;
 
 const FIELDS: [u32; 9] = [
     CAN_BE_PREFIX,

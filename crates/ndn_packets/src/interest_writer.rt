@@ -8,14 +8,13 @@ ghost use Rattle.ndn_packets.specs.Reading.{is_nil};
 ghost use Rattle.ndn_packets.specs.Writing.{octets, IsLength};
 
 use crate::fault::WriteFault;
-use crate::field_reader::NAME;
-use crate::frame::{INTEREST, MAX_PACKET};
-use crate::interest::{
-    APPLICATION_PARAMETERS, CAN_BE_PREFIX, HOP_LIMIT, INTEREST_LIFETIME, MUST_BE_FRESH, NONCE,
-    PARAMETERS_SHA256_DIGEST,
-};
-use crate::schema::{INTEREST_SIGNATURE_INFO, INTEREST_SIGNATURE_VALUE};
+use crate::frame::MAX_PACKET;
+use crate::interest::PARAMETERS_SHA256_DIGEST;
 use crate::signature::Sign;
+use crate::types::{
+    APPLICATION_PARAMETERS, CAN_BE_PREFIX, HOP_LIMIT, INTEREST, INTEREST_LIFETIME,
+    INTEREST_SIGNATURE_INFO, INTEREST_SIGNATURE_VALUE, MUST_BE_FRESH, NAME, NONCE,
+};
 use crate::writing::{
     DIGEST_LEN, element_len, info_len, number_field_len, octets_len, optional_len, overwrite,
     put_header, put_info, put_number_field, put_optional,
@@ -263,9 +262,9 @@ impl InterestWriter<'_> {
         requires len { IsLength name_len (octets (interest_name self.now)) }
         requires short { length (octets (interest_name self.now)) ≤ 8800 }
         ensures ok { OnOk result
-            (out.new.items ≡ out.old.items ++ element (7, octets (zeroed_name self.now))) }
+            (out.new.items ≡ out.old.items ++ element (NAME, octets (zeroed_name self.now))) }
         ensures begins { take (vec_len out.old) out.new.items ≡ out.old.items }
-        ensures room { vec_len out.old + length (element (7, octets (zeroed_name self.now)))
+        ensures room { vec_len out.old + length (element (NAME, octets (zeroed_name self.now)))
             ≤ vec_capacity out.old → IsOk result }
         ensures capacity { vec_capacity out.old ≤ vec_capacity out.new }
     {

@@ -17,16 +17,20 @@ mod link;
 mod meta_info;
 mod schema;
 mod signature;
+mod types;
 mod writing;
 
 pub use covered::{Parts, covered_octets_have_one_reading, signed_packets_have_covered_octets};
 pub use data::Data;
 pub use data_writer::{DataWriter, put_reply};
 pub use fault::{PacketFault, WriteFault};
-pub use frame::{Frame, frames_have_one_reading, packets_in_hand_are_read, read_frame};
+pub use frame::{
+    Frame, MAX_FRAME, MAX_PACKET, frames_have_one_reading, packets_in_hand_are_read, read_frame,
+};
 pub use hop_limit::hop_limit_mut;
 pub use interest::Interest;
 pub use interest_writer::InterestWriter;
 pub use key::{Key, interest_keys_can_be_keys};
 pub use link::put_nack;
 pub use signature::{Locator, Sign, Signature};
+pub use types::{CONGESTION, DIGEST_SHA256, DUPLICATE, HMAC_WITH_SHA256, NO_ROUTE};

@@ -10,36 +10,23 @@ ghost use Rattle.ndn_packets.specs.View.{plain_frame};
 ghost use Rattle.ndn_packets.specs.Grammar.{IsInterest};
 ghost use Rattle.ndn_packets.specs.Link.{IsFrame, is_ignored_header};
 ghost use Rattle.ndn_packets.specs.FrameReading.{LinkSoFar, at_most, nack_at, fragment_at, last_of, link_at};
-ghost use Rattle.ndn_packets.specs.Writing.{nack_text, IsLength};
+ghost use Rattle.ndn_packets.specs.Writing.{nack_field, nack_text, IsLength};
 
 use crate::fault::PacketFault;
 use crate::field_reader::{FieldReader, number};
-use crate::frame::{Frame, LINK_PACKET, nacked_of, only_element, packet_of};
+use crate::frame::{Frame, nacked_of, only_element, packet_of};
 use crate::schema::Rules;
+use crate::types::{
+    FRAG_COUNT, FRAG_INDEX, FRAGMENT, LINK_PACKET, NACK, NACK_REASON, PIT_TOKEN, SEQUENCE,
+};
 use crate::writing::{element_len, nni_element_len, put_header, put_nni_element};
 use ndn_tlv::{Element, Memory, first_element, put_element};
-
-/// The types of the elements of a link packet.
-const FRAGMENT: u32 = 80;
-
-const SEQUENCE: u32 = 81;
-
-const FRAG_INDEX: u32 = 82;
-
-const FRAG_COUNT: u32 = 83;
-
-const PIT_TOKEN: u32 = 98;
-
-const NACK: u32 = 800;
 
 /// The greatest type of a header field that is ignored.
 const MAX_IGNORED: u32 = 959;
 
 /// The greatest length of a PitToken, in octets.
 const MAX_TOKEN: usize = 32;
-
-/// The type of a NackReason, the field of a Nack.
-const NACK_REASON: u32 = 801;
 
 /// The header fields that were read so far: which of those that may stand once, and the reason of a
 /// Nack.
@@ -230,8 +217,7 @@ fn put_nack_parts(out: &mut Vec<u8>, reason: u64, interest: &[u8]) -> Result<(),
 
 /// The length of the value of a Nack's link packet. It stops at `usize::MAX`.
 fn nack_value_len(reason: u64, interest: &[u8]) -> usize
-    ensures { IsLength result
-        (element (800, element (801, shortest_nni reason)) ++ element (80, interest.now)) }
+    ensures { IsLength result (nack_field reason ++ element (FRAGMENT, interest.now)) }
 {
     let nack_len = element_len(NACK, nni_element_len(NACK_REASON, reason));
     nack_len.saturating_add(element_len(FRAGMENT, interest.len()))
@@ -240,11 +226,10 @@ fn nack_value_len(reason: u64, interest: &[u8]) -> usize
 #[tactic(auto, using(crate::proofs::Lengths::element_put))]
 /// Appends the header field of a Nack of a reason, or some octets of it.
 fn put_reason(out: &mut Vec<u8>, reason: u64) -> Result<(), Memory>
-    ensures ok { OnOk result
-        (out.new.items ≡ out.old.items ++ element (800, element (801, shortest_nni reason))) }
+    ensures ok { OnOk result (out.new.items ≡ out.old.items ++ nack_field reason) }
     ensures begins { take (vec_len out.old) out.new.items ≡ out.old.items }
-    ensures room { vec_len out.old + length (element (800, element (801, shortest_nni reason)))
-        ≤ vec_capacity out.old → IsOk result }
+    ensures room { vec_len out.old + length (nack_field reason) ≤ vec_capacity out.old
+        → IsOk result }
     ensures capacity { vec_capacity out.old ≤ vec_capacity out.new }
 {
     put_header(out, NACK, nni_element_len(NACK_REASON, reason))?;

@@ -4,13 +4,7 @@ ghost use Rattle.ndn_packets.specs.Reading.{meta_at};
 use crate::fault::PacketFault;
 use crate::field_reader::{FieldReader, number};
 use crate::schema::Rules;
-
-/// The types of a ContentType, a FreshnessPeriod and a FinalBlockId.
-const CONTENT_TYPE: u32 = 24;
-
-pub const FRESHNESS_PERIOD: u32 = 25;
-
-pub const FINAL_BLOCK_ID: u32 = 26;
+use crate::types::{CONTENT_TYPE, FINAL_BLOCK_ID, FRESHNESS_PERIOD};
 
 /// The fields of a MetaInfo (NDN Packet Format 0.3, "MetaInfo").
 const FIELDS: [u32; 3] = [CONTENT_TYPE, FRESHNESS_PERIOD, FINAL_BLOCK_ID];

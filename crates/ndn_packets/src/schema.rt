@@ -2,11 +2,7 @@ ghost use Rattle.std.specs.Prelude.{◌≡◌};
 ghost use Rattle.ndn_packets.specs.Fields.{needs_previous_field, is_even_high};
 ghost use Rattle.ndn_packets.specs.FieldReader.{ignored_by};
 
-/// The type of an InterestSignatureInfo (NDN Packet Format 0.3, "Signed Interest").
-pub const INTEREST_SIGNATURE_INFO: u32 = 44;
-
-/// The type of an InterestSignatureValue (NDN Packet Format 0.3, "Signed Interest").
-pub const INTEREST_SIGNATURE_VALUE: u32 = 46;
+use crate::types::{INTEREST_SIGNATURE_INFO, INTEREST_SIGNATURE_VALUE};
 
 /// Where fields stand: what of the elements among them is ignored (NDN Packet Format 0.3,
 /// "Considerations for Evolvability of TLV-Based Encoding").

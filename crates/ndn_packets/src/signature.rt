@@ -6,8 +6,12 @@ ghost use Rattle.ndn_packets.specs.Reading.{info_at, locator_at, no_info_yet, ta
 ghost use Rattle.ndn_packets.specs.SoFar.{plain_info, info_so_far};
 
 use crate::fault::PacketFault;
-use crate::field_reader::{FieldReader, NAME, number};
+use crate::field_reader::{FieldReader, number};
 use crate::schema::Rules;
+use crate::types::{
+    KEY_DIGEST, KEY_LOCATOR, NAME, SIGNATURE_NONCE, SIGNATURE_SEQ_NUM, SIGNATURE_TIME,
+    SIGNATURE_TYPE,
+};
 use hmac_keys::hmac_sha256;
 use ndn_names::Name;
 use ndn_tlv::first_element;
@@ -117,20 +121,6 @@ struct InfoFields<'a> {
     time: Option<u64>,
     seq: Option<u64>,
 }
-
-/// The type of a KeyDigest.
-const KEY_DIGEST: u32 = 29;
-
-/// The types of the fields of a SignatureInfo.
-pub const SIGNATURE_TYPE: u32 = 27;
-
-pub const KEY_LOCATOR: u32 = 28;
-
-const SIGNATURE_NONCE: u32 = 38;
-
-pub const SIGNATURE_TIME: u32 = 40;
-
-pub const SIGNATURE_SEQ_NUM: u32 = 42;
 
 const FIELDS: [u32; 5] = [
     SIGNATURE_TYPE,

@@ -7,21 +7,18 @@ ghost use Rattle.ndn_tlv.specs.Number.{spelling, shortest_nni};
 ghost use Rattle.ndn_tlv.specs.Element.{element};
 ghost use Rattle.ndn_names.specs.View.{components};
 ghost use Rattle.ndn_packets.specs.Fields.{optional};
-ghost use Rattle.ndn_packets.specs.Writing.{octets, number, kind_of, locator_value, info_fields, IsLength, AreOctets, IsU64, IsSoundSign};
+ghost use Rattle.ndn_packets.specs.Writing.{octets, number, kind_of, locator_fields, info_fields, IsLength, AreOctets, IsU64, IsSoundSign};
 
-use crate::field_reader::NAME;
-use crate::signature::{KEY_LOCATOR, SIGNATURE_SEQ_NUM, SIGNATURE_TIME, SIGNATURE_TYPE, Sign};
+use crate::signature::Sign;
+use crate::types::{
+    DIGEST_SHA256, HMAC_WITH_SHA256, KEY_LOCATOR, NAME, SIGNATURE_SEQ_NUM, SIGNATURE_TIME,
+    SIGNATURE_TYPE,
+};
 use ndn_names::Name;
 use ndn_tlv::{Memory, nni_len, number_len, put_element, put_nni, put_number};
 
 /// The length of a SHA-256 digest, in octets.
 pub const DIGEST_LEN: usize = 32;
-
-/// The SignatureType of DigestSha256.
-const DIGEST_SHA256: u64 = 0;
-
-/// The SignatureType of HmacWithSha256.
-const HMAC_WITH_SHA256: u64 = 4;
 
 /// The length of octets.
 #[inline(always)]
@@ -83,7 +80,7 @@ pub fn number_field_len(kind: u32, asked: Option<u64>) -> usize
 
 /// The length of an element that is a Name. It stops at `usize::MAX`.
 pub fn name_element_len(name: Name<'_>) -> usize
-    ensures len { IsLength result (element (7, octets (components name.entry))) }
+    ensures len { IsLength result (element (NAME, octets (components name.entry))) }
     ensures sound { AreOctets (octets (components name.entry)) }
 {
     element_len(NAME, octets_len(name.as_octets()))
@@ -102,7 +99,7 @@ fn kind_of(sign: Sign<'_>) -> u64
 
 /// The length of the KeyLocator, 0 where there is none. It stops at `usize::MAX`.
 fn locator_len(sign: Sign<'_>) -> usize
-    ensures len { IsLength result (octets (optional 28 (locator_value sign.entry))) }
+    ensures len { IsLength result (octets (locator_fields sign.entry)) }
     ensures sound { IsSoundSign sign.entry }
 {
     match sign {
@@ -193,9 +190,9 @@ pub fn put_optional(out: &mut Vec<u8>, kind: u32, value: Option<&[u8]>) -> Resul
 /// Appends the KeyLocator, where there is one, or some octets of it.
 fn put_locator(out: &mut Vec<u8>, sign: Sign<'_>) -> Result<(), Memory>
     ensures ok { OnOk result
-        (out.new.items ≡ out.old.items ++ octets (optional 28 (locator_value sign.entry))) }
+        (out.new.items ≡ out.old.items ++ octets (locator_fields sign.entry)) }
     ensures begins { take (vec_len out.old) out.new.items ≡ out.old.items }
-    ensures room { vec_len out.old + length (octets (optional 28 (locator_value sign.entry)))
+    ensures room { vec_len out.old + length (octets (locator_fields sign.entry))
         ≤ vec_capacity out.old → IsOk result }
     ensures capacity { vec_capacity out.old ≤ vec_capacity out.new }
 {

@@ -1,0 +1,89 @@
+//! Numbers that the standards assign: TLV-TYPEs, SignatureTypes and NackReasons.
+
+/// Packets (NDN Packet Format 0.3, "TLV-TYPE Number Assignments").
+pub const INTEREST: u32 = 5;
+
+pub const DATA: u32 = 6;
+
+/// The Name of a packet, or of a key.
+pub const NAME: u32 = 7;
+
+/// The fields of an Interest after its Name, in their order.
+pub const CAN_BE_PREFIX: u32 = 33;
+
+pub const MUST_BE_FRESH: u32 = 18;
+
+pub const FORWARDING_HINT: u32 = 30;
+
+pub const NONCE: u32 = 10;
+
+pub const INTEREST_LIFETIME: u32 = 12;
+
+pub const HOP_LIMIT: u32 = 34;
+
+pub const APPLICATION_PARAMETERS: u32 = 36;
+
+pub const INTEREST_SIGNATURE_INFO: u32 = 44;
+
+pub const INTEREST_SIGNATURE_VALUE: u32 = 46;
+
+/// The fields of a Data after its Name, in their order.
+pub const META_INFO: u32 = 20;
+
+pub const CONTENT: u32 = 21;
+
+pub const SIGNATURE_INFO: u32 = 22;
+
+pub const SIGNATURE_VALUE: u32 = 23;
+
+/// The fields of a MetaInfo, in their order.
+pub const CONTENT_TYPE: u32 = 24;
+
+pub const FRESHNESS_PERIOD: u32 = 25;
+
+pub const FINAL_BLOCK_ID: u32 = 26;
+
+/// The fields of a SignatureInfo, in their order.
+pub const SIGNATURE_TYPE: u32 = 27;
+
+pub const KEY_LOCATOR: u32 = 28;
+
+pub const SIGNATURE_NONCE: u32 = 38;
+
+pub const SIGNATURE_TIME: u32 = 40;
+
+pub const SIGNATURE_SEQ_NUM: u32 = 42;
+
+/// What a KeyLocator may be, beside a Name.
+pub const KEY_DIGEST: u32 = 29;
+
+/// A link packet and its fields (NDNLPv2, "Packet Format").
+pub const LINK_PACKET: u32 = 100;
+
+pub const FRAGMENT: u32 = 80;
+
+pub const SEQUENCE: u32 = 81;
+
+pub const FRAG_INDEX: u32 = 82;
+
+pub const FRAG_COUNT: u32 = 83;
+
+pub const PIT_TOKEN: u32 = 98;
+
+pub const NACK: u32 = 800;
+
+/// The field of a Nack (NDNLPv2, "Network Nack").
+pub const NACK_REASON: u32 = 801;
+
+/// The SignatureType of DigestSha256 (NDN Packet Format 0.3, "DigestSha256").
+pub const DIGEST_SHA256: u64 = 0;
+
+/// The SignatureType of SignatureHmacWithSha256 (NDN Packet Format 0.3, "SignatureHmacWithSha256").
+pub const HMAC_WITH_SHA256: u64 = 4;
+
+/// The NackReasons (NDNLPv2, "Network Nack").
+pub const CONGESTION: u64 = 50;
+
+pub const DUPLICATE: u64 = 100;
+
+pub const NO_ROUTE: u64 = 150;
