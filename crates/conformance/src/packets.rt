@@ -4,6 +4,7 @@
 //! SignatureInfo and an empty SignatureValue, and `050b..` the Interest of that Name and Nonce.
 
 mod covered;
+mod faults;
 mod link;
 mod reading;
 mod writers;

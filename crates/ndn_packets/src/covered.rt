@@ -18,7 +18,7 @@ use ndn_names::Name;
 use ndn_tlv::first_element;
 
 /// The covered octets, which are the first ones and then the second ones.
-#[derive(Clone, Copy, Debug)]
+#[derive(Clone, Copy, Debug, PartialEq, Eq)]
 pub struct Parts<'a> {
     pub first: &'a [u8],
     pub second: &'a [u8],

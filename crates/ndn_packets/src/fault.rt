@@ -18,42 +18,42 @@ pub enum PacketFault {
     #[error("{0}")]
     Tlv(TlvFault),
     /// A packet does not begin with a Name, or an Interest's Name is empty.
-    #[error("no name")]
+    #[error("the packet does not begin with a name, or an Interest's name is empty")]
     NoName,
     /// An element is not a field, or comes too late to be one, and its type is odd or below 32; but
     /// the types 128 to 252 in a MetaInfo, and 253 in a SignatureInfo, are ignored.
-    #[error("an unknown element that may not be ignored")]
+    #[error("an element is unknown or out of order, and may not be ignored")]
     CriticalUnknown,
     /// A field other than the Name and the Nonce is missing, or a field has a value that is not of
     /// its form; or the outer type is none of 5, 6 and 100, or octets follow the outer element; or
     /// a Fragment holds something else than one packet, or beside a Nack than one Interest, or a
     /// Nack has no Fragment.
-    #[error("a field is missing or malformed")]
+    #[error("a field is missing, or its value is malformed")]
     BadField,
     /// An Interest has no Nonce.
-    #[error("no nonce")]
+    #[error("the Interest has no Nonce")]
     NoNonce,
     /// An Interest with ApplicationParameters has no digest of them in its name.
-    #[error("no parameters digest")]
+    #[error("the name has no digest of the ApplicationParameters")]
     DigestMissing,
     /// An Interest with ApplicationParameters has more than one digest of them in its name, or one
     /// that is not SHA-256 of the octets from them on.
-    #[error("a wrong parameters digest")]
+    #[error("the name's digest is not the one of the ApplicationParameters")]
     DigestWrong,
     /// An Interest without ApplicationParameters has a digest of them in its name.
-    #[error("a parameters digest without parameters")]
+    #[error("the name has a digest of ApplicationParameters that are not there")]
     DigestWithout,
     /// A link packet is one of several fragments: its FragIndex is above 0, or its FragCount above
     /// 1.
-    #[error("a fragment of a packet")]
+    #[error("the packet is one of several fragments")]
     Fragmented,
     /// A link packet has a header field twice that this profile knows, an element after its
     /// Fragment, a PitToken that is not of 1 to 32 octets, or a header field that this profile does
     /// not know and whose type is not from 800 to 959 and divisible by 4.
-    #[error("a header field that a link packet may not have")]
+    #[error("the link packet has a header field that it may not have")]
     LpField,
     /// The octets are more than 9,000, or those of a packet more than 8,800.
-    #[error("too long")]
+    #[error("the packet is longer than 8800 octets, or the frame than 9000")]
     TooLong,
 }
 
@@ -91,10 +91,10 @@ impl PacketFault {
 pub enum WriteFault {
     /// The name of an Interest is empty, or has a digest of parameters, which only the writer
     /// knows.
-    #[error("no Interest can be written with this name")]
+    #[error("the Interest's name is empty, or has a digest of ApplicationParameters")]
     BadName,
     /// The name would have more than 64 components, or the packet more than 8,800 octets.
-    #[error("too long")]
+    #[error("the name is longer than 64 components, or the packet than 8800 octets")]
     TooLong,
     /// Memory could not be allocated.
     #[error("out of memory")]

@@ -1,0 +1,75 @@
+//! What the faults of packets say.
+
+use crate::rows::check_rows;
+use ndn_packets::*;
+use ndn_tlv::TlvFault;
+use std::alloc::Global;
+use std::test::*;
+
+const READ: [PacketFault; 15] = [
+    PacketFault::Tlv(TlvFault::Truncated),
+    PacketFault::Tlv(TlvFault::NotShortest),
+    PacketFault::Tlv(TlvFault::TypeZero),
+    PacketFault::Tlv(TlvFault::TypeTooLarge),
+    PacketFault::Tlv(TlvFault::BadInteger),
+    PacketFault::NoName,
+    PacketFault::CriticalUnknown,
+    PacketFault::BadField,
+    PacketFault::NoNonce,
+    PacketFault::DigestMissing,
+    PacketFault::DigestWrong,
+    PacketFault::DigestWithout,
+    PacketFault::Fragmented,
+    PacketFault::LpField,
+    PacketFault::TooLong,
+];
+
+const WRITTEN: [WriteFault; 3] = [WriteFault::BadName, WriteFault::TooLong, WriteFault::Memory];
+
+/// The text of the fault of this name, of those of reading.
+fn read_fault(alloc: Global, name: &str) -> Option<String> {
+    for fault in READ {
+        if fault.name() == name {
+            return format!(in alloc; "{fault}").ok();
+        }
+    }
+    None
+}
+
+/// The text of the fault of this name, of those of writing.
+fn write_fault(alloc: Global, name: &str) -> Option<String> {
+    for fault in WRITTEN {
+        if fault.name() == name {
+            return format!(in alloc; "{fault}").ok();
+        }
+    }
+    None
+}
+
+#[test]
+fn texts_of_faults(rt: HostRuntime) {
+    let rows = "
+Tlv Truncated -> octets are missing
+Tlv NotShortest -> a number is not in its shortest form
+Tlv TypeZero -> a type is 0
+Tlv TypeTooLarge -> a type is above 4294967295
+Tlv BadInteger -> an integer is not 1, 2, 4 or 8 octets long
+NoName -> the packet does not begin with a name, or an Interest's name is empty
+CriticalUnknown -> an element is unknown or out of order, and may not be ignored
+BadField -> a field is missing, or its value is malformed
+NoNonce -> the Interest has no Nonce
+DigestMissing -> the name has no digest of the ApplicationParameters
+DigestWrong -> the name's digest is not the one of the ApplicationParameters
+DigestWithout -> the name has a digest of ApplicationParameters that are not there
+Fragmented -> the packet is one of several fragments
+LpField -> the link packet has a header field that it may not have
+TooLong -> the packet is longer than 8800 octets, or the frame than 9000
+";
+    check_rows(&rt, rt.alloc(), rows, read_fault);
+    let rows = "
+BadName -> the Interest's name is empty, or has a digest of ApplicationParameters
+TooLong -> the name is longer than 64 components, or the packet than 8800 octets
+Memory -> out of memory
+";
+    check_rows(&rt, rt.alloc(), rows, write_fault);
+}
