@@ -17,10 +17,10 @@ use Rattle.ndn_packets.proofs.Steps.{bind_ok, good, err_is_not_ok, both_tests, r
 abbrev pub Lacks : ℕ → List ℕ → Type 0
 Lacks kind schema = AllByRecursion (λ k. k ≢ kind) schema
 
-abbrev IsAfterNone : ℕ → List ℕ → Type 0
+abbrev pub IsAfterNone : ℕ → List ℕ → Type 0
 IsAfterNone kind schema = (later : List ℕ) → Counts kind later schema → ⊥
 
-abbrev IsAfter : ℕ → List ℕ → Option (List ℕ) → Type 0
+abbrev pub IsAfter : ℕ → List ℕ → Option (List ℕ) → Type 0
 IsAfter kind schema None = IsAfterNone kind schema
 IsAfter kind schema (Some later) = Counts kind later schema
 
@@ -45,7 +45,7 @@ past_first kind first later schema other h = at_front h.0 h.1 h.2 h.3
         let far : needs_previous_field kind ≡ true → ⊥ = λ follows. (let none = near follows in cc) in
         ((front, (cc), lacks.1, λ follows. absurd (far follows)), no_need (needs_previous_field kind) far)
 
-after_found : (kind : ℕ) (schema : List ℕ) → IsAfter kind schema (schema_after kind schema)
+pub after_found : (kind : ℕ) (schema : List ℕ) → IsAfter kind schema (schema_after kind schema)
 after_found kind [] = in_nothing kind
 after_found kind (first ∷ schema) =
     elim (eqb first kind) as (λ b. eqb first kind ≡ b → IsAfter kind (first ∷ schema) (cond b (Some schema) (cond (needs_previous_field kind) None (schema_after kind schema)))) [
@@ -62,7 +62,7 @@ after_found kind (first ∷ schema) =
     following first other plain None h = λ later before. h later (past_first kind first later schema other before).0
     following first other plain (Some later) h = (first ∷ h.0, ap (λ (ks : List ℕ). first ∷ ks) h.1, (other, h.2), λ follows. absurd (both_tests (needs_previous_field kind) plain follows))
 
-after_again : (kind : ℕ) (schema later : List ℕ) → Counts kind later schema → schema_after kind schema ≡ Some later
+pub after_again : (kind : ℕ) (schema later : List ℕ) → Counts kind later schema → schema_after kind schema ≡ Some later
 after_again kind [] later h = absurd (in_nothing kind later h)
 after_again kind (first ∷ schema) later h =
     elim (eqb first kind) as (λ b. eqb first kind ≡ b → cond b (Some schema) (cond (needs_previous_field kind) None (schema_after kind schema)) ≡ Some later) [
@@ -80,7 +80,7 @@ after_again kind (first ∷ schema) later h =
     not_refused true r e found = absurd cc
     not_refused false r e found = found
 
-after_none : (kind : ℕ) (schema : List ℕ) → IsAfterNone kind schema → schema_after kind schema ≡ None
+pub after_none : (kind : ℕ) (schema : List ℕ) → IsAfterNone kind schema → schema_after kind schema ≡ None
 after_none kind schema none = found (schema_after kind schema) (after_found kind schema)
   where
     found : (r : Option (List ℕ)) → IsAfter kind schema r → r ≡ None

@@ -1,6 +1,7 @@
 pub mod Rules
 pub mod Steps
 pub mod FieldLists
+pub mod FirstFaults
 pub mod Numbers
 pub mod Locators
 pub mod MetaInfos

@@ -6,6 +6,7 @@ pub mod View
 pub mod Key
 pub mod Answers
 pub mod Reading
+pub mod FirstFault
 pub mod FrameReading
 pub mod Covered
 pub mod HopLimit

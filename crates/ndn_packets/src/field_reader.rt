@@ -1,7 +1,11 @@
 ghost use Rattle.std.specs.Prelude.{◌≡◌, ◌<◌, ℕ, List, [], ◌∷◌, length, Ok, Err, MatchResult, MatchOption, IfOk, IfSome, OnSome, option_map};
 ghost use Rattle.ndn_tlv.specs.Reading.{elements_of, on_result};
 ghost use Rattle.ndn_names.specs.View.{components};
-ghost use Rattle.ndn_packets.specs.Reading.{schema_after, fields_from, leading_name_at, nni_value_at};
+ghost use Rattle.ndn_packets.specs.Fields.{is_even_high, is_ignored_in_meta_info, is_ignored_in_signature_info, interest_schema, data_schema, meta_schema, info_schema};
+ghost use Rattle.ndn_packets.specs.Link.{nack_schema};
+ghost use Rattle.ndn_packets.specs.FirstFault.{TellsFirstFault};
+ghost use Rattle.ndn_packets.specs.FrameReading.{take_nack_field};
+ghost use Rattle.ndn_packets.specs.Reading.{schema_after, fields_from, leading_name_at, nni_value_at, take_interest_field, take_data_field, take_meta_field, take_info_field, no_fields_yet, nothing_yet, no_info_yet};
 ghost use Rattle.ndn_packets.specs.FieldReader.{ignored_by, fields_left, StandsHere};
 
 use crate::fault::PacketFault;
@@ -106,3 +110,15 @@ pub fn number(value: &[u8]) -> Result<u64, PacketFault>
 {
     nni_of(value).map_err(|_| PacketFault::BadField)
 }
+
+/// Law: among the fields of packets, and of the values that hold fields, the first fault is told:
+/// before it stand fields whose values have none, and elements that are ignored.
+pub fn fields_tell_the_first_fault()
+    ensures interest { TellsFirstFault take_interest_field is_even_high interest_schema
+        no_fields_yet }
+    ensures packet { TellsFirstFault take_data_field is_even_high data_schema nothing_yet }
+    ensures meta_info { TellsFirstFault take_meta_field is_ignored_in_meta_info meta_schema 0 }
+    ensures signature_info { TellsFirstFault take_info_field is_ignored_in_signature_info
+        info_schema no_info_yet }
+    ensures nack { TellsFirstFault take_nack_field is_even_high nack_schema 0 }
+{}

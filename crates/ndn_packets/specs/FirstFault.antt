@@ -1,0 +1,51 @@
+-- The first fault among elements, apart from the functions that read them (NDN Packet Format 0.3,
+-- "Considerations for Evolvability of TLV-Based Encoding").
+use Rattle.std.specs.Prelude.{◌≡◌, ◌⊎◌, ◌↔◌, ℕ, List, [], ◌∷◌, ◌++◌, map, Result, Ok, Err, Bool, true, false}
+use Rattle.ndn_tlv.specs.declared.fault.TlvFault.{TlvFault}
+use Rattle.ndn_tlv.specs.Element.{Field}
+use Rattle.ndn_packets.specs.declared.fault.PacketFault.{PacketFault}
+use Rattle.ndn_packets.specs.declared.fault.PacketFault.TheVariants.{Tlv, CriticalUnknown}
+use Rattle.ndn_packets.specs.Fields.{Counts}
+use Rattle.ndn_packets.specs.Reading.{fields_from, read_fields}
+
+-- Each of the elements is a field of the schema, whose value is taken, or is ignored. After them
+-- these types may still come, and this has been taken.
+abbrev pub Passes : {S : Type 0} → (S → Field → Result S PacketFault) → (ℕ → Bool) → List ℕ → S
+    → List Field → List ℕ → S → Type 0
+Passes take ignores schema s [] later t = (later ≡ schema) × (t ≡ s)
+Passes {S} take ignores schema s (e ∷ elements) later t =
+    ((next : List ℕ) × (taken : S) × Counts e.0 next schema × (take s e ≡ Ok taken)
+    × Passes take ignores next taken elements later t)
+    ⊎ (((next : List ℕ) → Counts e.0 next schema → ⊥) × (ignores e.0 ≡ true)
+    × Passes take ignores schema s elements later t)
+
+-- The fault of what stands next: that it cannot be read comes before that its type is neither a
+-- field's nor ignored, and this before what is wrong with its value.
+abbrev pub HasFault : {S : Type 0} → (S → Field → Result S PacketFault) → (ℕ → Bool) → List ℕ → S
+    → Result Field TlvFault → PacketFault → Type 0
+HasFault take ignores schema s (Err unreadable) fault = fault ≡ Tlv unreadable
+HasFault take ignores schema s (Ok e) fault =
+    (((next : List ℕ) → Counts e.0 next schema → ⊥) × (ignores e.0 ≡ false)
+    × (fault ≡ CriticalUnknown))
+    ⊎ ((next : List ℕ) × Counts e.0 next schema × (take s e ≡ Err fault))
+
+-- The elements before the first one with a fault are fields or ignored.
+pub record FirstFault {S : Type 0} (take : S → Field → Result S PacketFault) (ignores : ℕ → Bool)
+    (schema : List ℕ) (s : S) (elements : List (Result Field TlvFault))
+    (fault : PacketFault) : Type 0 where
+  pub before : List Field
+  pub next : Result Field TlvFault
+  pub after : List (Result Field TlvFault)
+  pub later : List ℕ
+  pub taken : S
+  pub elements_are : elements ≡ map (λ e. Ok e) before ++ next ∷ after
+  pub passes : Passes take ignores schema s before later taken
+  pub faulty : HasFault take ignores later taken next fault
+
+-- the fields of a schema are read to this fault exactly where it is the first one
+abbrev pub TellsFirstFault : {S : Type 0} → (S → Field → Result S PacketFault) → (ℕ → Bool)
+    → List ℕ → S → Type 0
+TellsFirstFault take ignores schema s =
+    (elements : List (Result Field TlvFault)) (fault : PacketFault)
+    → (read_fields take s (fields_from ignores schema elements) ≡ Err fault)
+    ↔ FirstFault take ignores schema s elements fault
