@@ -6,7 +6,7 @@ use Rattle.std.proofs.lemmas.List.{take-append-drop, take_all, take_more, append
 use Rattle.std.proofs.Math.Seq.{drop-cons}
 use Rattle.pit_fib.specs.declared.hops.Hop.{Hop}
 use Rattle.std.proofs.lemmas.List.Sums.{fold-append}
-use Rattle.pit_fib.specs.Hops.{is_before, with_hop, far_hop, in_order}
+use Rattle.pit_fib.specs.Hops.{is_before, with_hop, unmarked_hop, in_order}
 
 -- the hop stands before none of these
 abbrev pub NoneAfter : Hop → List Hop → Type 0
@@ -49,9 +49,9 @@ length-with_hop hop [] = refl
 length-with_hop hop (h ∷ hops) =
     elim (is_before hop h) as (λ b. length (cond b (hop ∷ h ∷ hops) (h ∷ with_hop hop hops)) ≡ suc (suc (length hops))) [ true ↦ refl | false ↦ ap suc (length-with_hop hop hops) ]
 
-pub ordered_more : (costs : List (ℕ × ℕ)) (i : ℕ) (d : ℕ × ℕ) → i < length costs → in_order (take (i + 1) costs) ≡ with_hop (far_hop (get_or costs i d)) (in_order (take i costs))
+pub ordered_more : (costs : List (ℕ × ℕ)) (i : ℕ) (d : ℕ × ℕ) → i < length costs → in_order (take (i + 1) costs) ≡ with_hop (unmarked_hop (get_or costs i d)) (in_order (take i costs))
 ordered_more costs i d lt =
-    ap in_order (take_more costs i d lt) ∙ fold-append (λ (hops : List Hop) (e : ℕ × ℕ). with_hop (far_hop e) hops) [] (take i costs) (get_or costs i d ∷ [])
+    ap in_order (take_more costs i d lt) ∙ fold-append (λ (hops : List Hop) (e : ℕ × ℕ). with_hop (unmarked_hop e) hops) [] (take i costs) (get_or costs i d ∷ [])
 
 pub length-ordered : (hop : Hop) (hops now : List Hop) (n : ℕ) → now ≡ with_hop hop hops → length hops ≤ n → length now ≤ n + 1
 length-ordered hop hops now n is le = omega (arith, ap length is, length-with_hop hop hops)

@@ -1,24 +1,14 @@
 -- Routes, as a map from names to costs by face (NFD Developer's Guide, "Forwarding Information
 -- Base").
-use Rattle.std.specs.Prelude.{ℕ, ◌<◌, ◌⊎◌, List, Option, None, Some, IsSome, map, length, nat_lt, nat_le, unwrap_or, ◌==◌, if◌then◌else◌}
+use Rattle.std.specs.Prelude.{ℕ, ◌<◌, ◌⊎◌, List, Option, None, Some, IsSome, map, unwrap_or, ◌==◌, if◌then◌else◌}
 use Rattle.std.specs.FinMap as map
 use Rattle.ndn_tlv.specs.Element.{Field}
 use Rattle.pit_fib.specs.declared.hops.Hop.{Hop}
-use Rattle.pit_fib.specs.declared.fault.TableFault.{TableFault}
-use Rattle.pit_fib.specs.declared.fault.TableFault.TheVariants.{TooDeep, TableFull}
 use Rattle.pit_fib.specs.Tables.{ByFace, ByName, revise, longest}
 use Rattle.pit_fib.specs.Hops.{hops_of}
 
 abbrev pub Routes : Type 0
 Routes = ByName ByFace
-
--- why a table takes no value of a name: more than 32 components, or a new name while 4,096 stand
-abbrev pub refusal : {X : Type 0} → ByName X → List Field → Option TableFault
-refusal table name =
-    if nat_lt 32 (length name) then Some TooDeep else (
-    if map.contains_key table name then None else (
-    if nat_le 4096 (map.len table) then Some TableFull else
-    None))
 
 -- the costs of a name's hops
 abbrev pub costs_at : Routes → List Field → ByFace
@@ -33,7 +23,7 @@ abbrev pub with_route : Routes → List Field → ℕ → ℕ → Routes
 with_route routes name face cost =
     map.insert routes name (map.insert (costs_at routes name) face cost)
 
--- the costs without those of a face; an entry without hops goes
+-- an entry's costs without that of one face; None where none is left
 abbrev pub without_hop : ℕ → ByFace → Option ByFace
 without_hop face costs =
     let rest = map.remove costs face in

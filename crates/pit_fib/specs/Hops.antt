@@ -14,19 +14,19 @@ abbrev pub with_hop : Hop → List Hop → List Hop
 with_hop hop [] = hop ∷ []
 with_hop hop (h ∷ hops) = if is_before hop h then hop ∷ h ∷ hops else h ∷ with_hop hop hops
 
--- a cost by face, as a hop
-abbrev pub far_hop : ℕ × ℕ → Hop
-far_hop e = record { face = e.0; cost = e.1; local = false }
+-- a cost by face, as a hop of which is not known whether it is Local
+abbrev pub unmarked_hop : ℕ × ℕ → Hop
+unmarked_hop e = record { face = e.0; cost = e.1; local = false }
 
 -- costs by face, as hops in order
 abbrev pub in_order : List (ℕ × ℕ) → List Hop
-in_order costs = fold {A = ℕ × ℕ} {B = List Hop} (λ hops e. with_hop (far_hop e) hops) [] costs
+in_order costs = fold {A = ℕ × ℕ} {B = List Hop} (λ hops e. with_hop (unmarked_hop e) hops) [] costs
 
 -- the hops of an entry, in order
 abbrev pub hops_of : ByFace → List Hop
 hops_of costs = in_order (entries costs)
 
--- the hops, those of these faces Local
+-- the hops, with `local` set on these faces
 abbrev pub marked : List ℕ → List Hop → List Hop
 marked locals hops =
     map {A = Hop} (λ h. record h { local = h.local || has_face h.face locals }) hops

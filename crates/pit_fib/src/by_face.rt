@@ -9,8 +9,8 @@ use std::cmp::Ordering;
 use std::marker::Model;
 
 /// Numbers of at most 64 faces, in rising order of the faces: the costs of an entry's hops, or when
-/// an Interest was last sent to a face, in milliseconds since 1970. They take no memory beside their
-/// own.
+/// an Interest was last sent to a face, in milliseconds since 1970. They are an array, and never
+/// allocate.
 #[derive(Drop)]
 pub struct Used {
     places: [(u64, u64); MAX_FACES],
@@ -80,7 +80,8 @@ impl Used {
         Some(*place)
     }
 
-    /// Sets the number of a face. Answers false, and changes nothing, for a new face while 64 stand.
+    /// Sets the number of a face. Answers false, and changes nothing, for a new face while 64
+    /// stand.
     pub fn insert(&mut self, face: u64, number: u64) -> bool
         ensures ok { IsTrue result → self.new ≡ map.insert self.old face number }
         ensures full { result ≡ false → (self.new ≡ self.old) × (map.get self.old face ≡ None)
@@ -139,11 +140,13 @@ fn without_face(places: &mut [(u64, u64)], len: usize, face: u64) -> usize
 fn place_of(places: &[(u64, u64)], face: u64) -> Result<usize, usize>
     requires { T (map.is_sorted nat_cmp places.now) }
     ensures found { IfOk result (λ at. (at < length places.now)
-        × ((number : ℕ) → map.put nat_cmp face number places.now ≡ slice_set places.now at (face, number))
+        × ((number : ℕ) → map.put nat_cmp face number places.now
+        ≡ slice_set places.now at (face, number))
         × ((place : ℕ × ℕ) → place ≡ slice_index_or places.now at place
         → map.find nat_cmp face places.now ≡ Some place.1)) }
     ensures absent { IfErr result (λ at. (at ≤ length places.now)
-        × ((number : ℕ) → map.put nat_cmp face number places.now ≡ insert places.now at (face, number))
+        × ((number : ℕ) → map.put nat_cmp face number places.now
+        ≡ insert places.now at (face, number))
         × (map.find nat_cmp face places.now ≡ None)) }
 {
     for (at, place) in places.iter().enumerate() {

@@ -3,7 +3,8 @@ ghost use Rattle.std.specs.FinMap as map;
 ghost use Rattle.ndn_names.specs.View.{components};
 ghost use Rattle.pit_fib.specs.declared.fault.TableFault.TheVariants as faults;
 ghost use Rattle.pit_fib.specs.Hops.{in_order};
-ghost use Rattle.pit_fib.specs.Fib.{refusal, costs_at, HasRoomFor, with_route, without_route, without_face, longest_hops, listed};
+ghost use Rattle.pit_fib.specs.NameTable.{refusal};
+ghost use Rattle.pit_fib.specs.Fib.{costs_at, HasRoomFor, with_route, without_route, without_face, longest_hops, listed};
 
 use crate::by_face::Used;
 use crate::fault::TableFault;
@@ -63,19 +64,19 @@ impl Fib {
 
     /// Adds a hop, or sets its cost. The entry has this face, or fewer than 64.
     ///
-    /// Refuses it by the first fault in the order of `TableFault`, and then changes nothing but that
-    /// no call is prepared any more. `Memory` never comes for a name that has hops.
+    /// Refuses it by the first fault in the order of `TableFault`, and then changes nothing but
+    /// that no call is prepared any more. `Memory` never comes for a name that has hops.
     pub fn add(&mut self, name: Name<'_>, face: u64, cost: u64) -> Result<(), TableFault>
         requires { HasRoomFor (costs_at self.old.table (components name)) face }
         ensures ok { OnOk result
             (self.new.table ≡ with_route self.old.table (components name.entry) face cost) }
         ensures err { OnErr result (self.new.table ≡ self.old.table) }
-        ensures used { self.new.prepared ≡ None }
+        ensures ended { self.new.prepared ≡ None }
         ensures fault { MatchOption (refusal self.old.table (components name.entry))
             (IfErr result (λ fault. fault ≡ faults.Memory)) (λ fault. result ≡ Err fault) }
         ensures known { IsSome (map.get self.old.table (components name.entry))
             → IfErr result (λ fault. fault ≢ faults.Memory) }
-        ensures prepared { self.old.prepared ≡ Some (components name.entry)
+        ensures promised { self.old.prepared ≡ Some (components name.entry)
             → IfErr result (λ fault. fault ≢ faults.Memory) }
     {
         if name.len() > MAX_DEPTH {
@@ -123,7 +124,8 @@ impl Fib {
         self.costs.close_face(face);
     }
 
-    /// The hops of the longest prefix of a name that has some, none of them Local.
+    /// The next hops of the longest prefix of a name that has an entry. `local` is false in each of
+    /// them until `Hops::mark` sets it.
     pub fn longest(&self, name: Name<'_>) -> Hops
         ensures { result ≡ longest_hops self.now.table (components name.entry) }
     {

@@ -14,8 +14,17 @@ pub struct Hop {
     pub local: bool,
 }
 
-/// At most 64 next hops, in the order of their costs, and of their faces at one cost. They take no
-/// memory beside their own.
+impl Hop {
+    /// Whether it stands before another: by cost, and by face at one cost.
+    pub fn is_before(self, other: Hop) -> bool
+        ensures { result ≡ is_hop_before self other }
+    {
+        self.cost < other.cost || (self.cost == other.cost && self.face < other.face)
+    }
+}
+
+/// At most 64 next hops, in the order of their costs, and of their faces at one cost. They are an
+/// array, and never allocate.
 #[derive(Drop)]
 pub struct Hops {
     places: [Hop; MAX_FACES],
@@ -92,20 +101,13 @@ impl Hops {
     }
 }
 
-/// Whether a hop stands before another.
-fn is_before(a: Hop, b: Hop) -> bool
-    ensures { result ≡ is_hop_before a b }
-{
-    a.cost < b.cost || (a.cost == b.cost && a.face < b.face)
-}
-
 /// Where a hop goes.
 fn place_of(hops: &[Hop], hop: Hop) -> usize
     ensures within { result ≤ length hops.now }
     ensures place { with_hop hop hops.now ≡ insert hops.now result hop }
 {
     for (at, other) in hops.iter().enumerate() {
-        if is_before(hop, *other) {
+        if hop.is_before(*other) {
             return at;
         }
     }

@@ -76,9 +76,9 @@ impl<V: Drop> NameMap<V> {
         ensures ok { OnOk result
             (self.new.table ≡ map.insert self.old.table (components name.entry) value) }
         ensures err { OnErr result (self.new.table ≡ self.old.table) }
-        ensures used { self.new.prepared ≡ None }
+        ensures ended { self.new.prepared ≡ None }
         ensures known { IsSome (map.get self.old.table (components name.entry)) → IsOk result }
-        ensures prepared { self.old.prepared ≡ Some (components name.entry) → IsOk result }
+        ensures promised { self.old.prepared ≡ Some (components name.entry) → IsOk result }
     {
         match place_of(&self.rows, name) {
             Ok(at) => {
@@ -144,7 +144,8 @@ impl<V: Drop> NameMap<V> {
 
     /// The value of the longest prefix of a name that has one.
     pub fn longest(&self, name: Name<'_>) -> Option<&V>
-        ensures { option_map (λ v. v.now) result ≡ longest_in self.now.table (components name.entry) }
+        ensures { option_map (λ v. v.now) result
+            ≡ longest_in self.now.table (components name.entry) }
     {
         let mut len = name.len();
         loop {

@@ -73,9 +73,9 @@ impl Guard {
         ensures ok { OnOk result (self.new.latest ≡ with_recorded self.old.latest
             (record { signer = signer_of signer.entry; time = time; number = seq })) }
         ensures err { OnErr result (self.new.latest ≡ self.old.latest) }
-        ensures used { self.new.prepared ≡ None }
+        ensures ended { self.new.prepared ≡ None }
         ensures known { IsSome (map.get self.old.latest (signer_of signer.entry)) → IsOk result }
-        ensures prepared { self.old.prepared ≡ Some (signer_of signer.entry) → IsOk result }
+        ensures promised { self.old.prepared ≡ Some (signer_of signer.entry) → IsOk result }
     {
         match place_of(&self.rows, signer) {
             Some(at) => {
@@ -93,8 +93,8 @@ impl Guard {
         ensures ok { OnOk result (self.new.latest ≡ map.insert self.old.latest
             (signer_of signer.entry) (record { time = time; number = seq })) }
         ensures err { OnErr result (self.new.latest ≡ self.old.latest) }
-        ensures used { self.new.prepared ≡ None }
-        ensures prepared { self.old.prepared ≡ Some (signer_of signer.entry) → IsOk result }
+        ensures ended { self.new.prepared ≡ None }
+        ensures promised { self.old.prepared ≡ Some (signer_of signer.entry) → IsOk result }
     {
         let spare = self.spare.take();
         let key = key_in(self.alloc, spare, signer)?;

@@ -1,4 +1,5 @@
--- The next hops that may get an Interest.
+-- The next hops that may get an Interest. Each counts as open, since the hops of a face that closes
+-- are removed.
 use Rattle.std.specs.Prelude.{ℕ, List, Bool, false, Option, None, Some, filter, not, ◌==◌, ◌&&◌, ◌||◌}
 use Rattle.pit_fib.specs.declared.hops.Hop.{Hop}
 use Rattle.strategies.specs.declared.strategy.Ask.{Ask}

@@ -1,12 +1,12 @@
 -- The law of each strategy: what it takes stands among the hops that it is given.
 use Rattle.std.specs.Prelude.{ℕ, List, [], ◌∷◌, Bool, true, false, Option, None, Some, All, Contains, filter, cond}
 use Rattle.std.specs.List.{list_any}
-use Rattle.std.specs.Option.{option_to_list}
+use Rattle.std.specs.Option.{option_or, option_to_list}
 use Rattle.std.specs.FinMap as map
 use Rattle.std.proofs.lemmas.List.Elements.{All-nil, All-cons, All-head, All-tail, All-filter, All-contains_itself}
 use Rattle.pit_fib.specs.declared.hops.Hop.{Hop}
 use Rattle.pit_fib.specs.Hops.{is_before}
-use Rattle.pit_fib.specs.Tables.{ByFace, or_else}
+use Rattle.pit_fib.specs.Tables.{ByFace}
 use Rattle.strategies.specs.Selection.{is_recent, is_new, is_staler, lesser, least, best_route, multicast}
 
 pub multicast_takes : (hops : List Hop) (used : ByFace) (now : ℕ)
@@ -29,7 +29,7 @@ module _ (P : Hop → Type 0) where
       (least_is before hops (All-tail P hop hops all))) (All-nil P)
 
   either_is : (a b : Option Hop) → All P (option_to_list a) → All P (option_to_list b)
-      → All P (option_to_list (or_else a b))
+      → All P (option_to_list (option_or a b))
   either_is None b p q = q
   either_is (Some hop) b p q = p
 
@@ -41,7 +41,7 @@ best_route_takes hops used now =
     let new = least is_before (filter (is_new used) hops) in
     let old = least (is_staler used) hops in
     elim (list_any (λ e. is_recent now e.1) (map.entries used)) as
-    (λ b. All P (cond b [] (option_to_list (or_else new old)))) [
+    (λ b. All P (cond b [] (option_to_list (option_or new old)))) [
       | true ↦ All-nil P
       | false ↦ either_is P new old
           (least_is P is_before (filter (is_new used) hops) (All-filter (is_new used) P hops all))

@@ -2,13 +2,13 @@
 -- "Strategies": best-route and multicast). Moments are in milliseconds.
 use Rattle.std.specs.Prelude.{ℕ, ◌+◌, List, [], ◌∷◌, Bool, false, Option, None, Some, filter, not, nat_lt, unwrap_or, ◌==◌, ◌&&◌, ◌||◌, if◌then◌else◌}
 use Rattle.std.specs.List.{list_any}
-use Rattle.std.specs.Option.{option_to_list}
+use Rattle.std.specs.Option.{option_or, option_to_list}
 use Rattle.std.specs.FinMap as map
 use Rattle.pit_fib.specs.declared.hops.Hop.{Hop}
 use Rattle.pit_fib.specs.Hops.{is_before}
-use Rattle.pit_fib.specs.Tables.{ByFace, or_else}
+use Rattle.pit_fib.specs.Tables.{ByFace}
 
--- the hops taken, of the eligible ones, when each face was last asked, and now
+-- from the eligible hops, the moments at which faces were last asked, and now: the hops to send to
 abbrev pub Selection : Type 0
 Selection = List Hop → ByFace → ℕ → List Hop
 
@@ -19,7 +19,8 @@ is_recent now time = nat_lt now (time + 10)
 abbrev pub is_new : ByFace → Hop → Bool
 is_new asked hop = not (map.contains_key asked hop.face)
 
--- asked longer ago, or at the same moment and before it by cost, then by face
+-- asked longer ago, or at the same moment and before it by cost, then by face; of hops that were
+-- asked
 abbrev pub is_staler : ByFace → Hop → Hop → Bool
 is_staler asked a b =
     let s = unwrap_or (map.get asked a.face) 0 in
@@ -40,7 +41,7 @@ least before (hop ∷ hops) = Some (lesser before hop (least before hops))
 abbrev pub best_route : Selection
 best_route hops asked now =
     if list_any (λ e. is_recent now e.1) (map.entries asked) then [] else
-    option_to_list (or_else (least is_before (filter (is_new asked) hops))
+    option_to_list (option_or (least is_before (filter (is_new asked) hops))
     (least (is_staler asked) hops))
 
 abbrev pub was_recent : ℕ → Option ℕ → Bool

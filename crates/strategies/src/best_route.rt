@@ -89,7 +89,7 @@ fn lesser(hop: Hop, first: Option<Hop>) -> Hop
     ensures { result ≡ lesser_by is_hop_before hop first }
 {
     match first {
-        Some(other) if is_before(other, hop) => other,
+        Some(other) if other.is_before(hop) => other,
         _ => hop,
     }
 }
@@ -103,18 +103,11 @@ fn staler(used: &Used, hop: Hop, first: Option<Hop>) -> Hop
     }
 }
 
-/// Whether a hop stands before another, by cost and then by face.
-fn is_before(a: Hop, b: Hop) -> bool
-    ensures { result ≡ is_hop_before a b }
-{
-    a.cost < b.cost || (a.cost == b.cost && a.face < b.face)
-}
-
 /// Whether a hop was asked longer ago than another, or at the same moment and stands before it.
 fn is_staler(used: &Used, a: Hop, b: Hop) -> bool
     ensures { result ≡ is_hop_staler used.now a b }
 {
     let s = used.get(a.face).unwrap_or(0);
     let t = used.get(b.face).unwrap_or(0);
-    s < t || (s == t && is_before(a, b))
+    s < t || (s == t && a.is_before(b))
 }

@@ -2,6 +2,7 @@ ghost use Rattle.std.specs.Prelude.{◌≡◌, ℕ, List, All, Contains};
 ghost use Rattle.pit_fib.specs.declared.hops.Hop.{Hop};
 ghost use Rattle.pit_fib.specs.Tables.{ByFace};
 ghost use Rattle.strategies.specs.Choice.{chosen};
+ghost use Rattle.strategies.specs.Selection.{Selection};
 
 use pit_fib::{Faces, Hops, Used};
 
@@ -29,11 +30,13 @@ pub enum Choice {
 
 /// Chooses where an Interest goes (NFD Developer's Guide, "Strategies").
 pub trait Strategy {
-    /// The hops taken, of the eligible ones, when each face was last asked, and now.
-    ghost selection: { List Hop → ByFace → ℕ → List Hop };
+    /// From the eligible hops, the moments at which faces were last asked, and now: the hops to
+    /// send to.
+    ghost selection: { Selection };
 
-    /// Chooses among next hops, with the moments, in milliseconds since 1970, at which faces were
-    /// last asked for the same.
+    /// Chooses among next hops, of which `Hops::mark` has set the Local ones, with the moments, in
+    /// milliseconds since 1970, at which an Interest of this entry was last sent to each face. Each
+    /// hop counts as open: `Fib::close_face` removes those of a closed face.
     fn choose(&self, hops: &Hops, used: &Used, ask: Ask) -> Choice
         ensures { result ≡ chosen selection hops.now used.now ask };
 

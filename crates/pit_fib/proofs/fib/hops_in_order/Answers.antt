@@ -1,6 +1,6 @@
 use Rattle.std.proofs.Common.{◌<◌, ◌≤◌, get_or, length, ap, sym, ◌∙◌, arith}
 use Rattle.std.proofs.lemmas.List.{take_all}
-use Rattle.pit_fib.specs.Hops.{in_order, with_hop, far_hop}
+use Rattle.pit_fib.specs.Hops.{in_order, with_hop, unmarked_hop}
 use Rattle.pit_fib.proofs.OrderedHops.{ordered_more, length-ordered}
 use Rattle.pit_fib.proofs.fib.hops_in_order.Goals as goal
 
@@ -16,7 +16,7 @@ loop-place-init c = (c.new-hops.ensures, omega (arith, ap length c.new-hops.ensu
 
 pub loop-place-preserved : goal.loop-place-preserved
 loop-place-preserved c = (
-  c.insert.ensures ∙ ap (with_hop (far_hop (get_or c.args.costs.now c.loop-place.place-index (0, 0)))) c.loop-place.invariant.0
+  c.insert.ensures ∙ ap (with_hop (unmarked_hop (get_or c.args.costs.now c.loop-place.place-index (0, 0)))) c.loop-place.invariant.0
       ∙ sym (ordered_more c.args.costs.now c.loop-place.place-index (0, 0) c.loop-place-test.true),
   length-ordered _ c.loop-place.hops c.insert.new.self c.loop-place.place-index c.insert.ensures c.loop-place.invariant.1,
 )
