@@ -6,3 +6,6 @@ pub mod Updates
 pub mod Revised
 pub mod Names
 pub mod FaceTests
+pub mod LongestPrefix
+pub mod Refusals
+pub mod RootChoice

@@ -3,3 +3,4 @@ pub mod Tables
 pub mod Hops
 pub mod NameTable
 pub mod Fib
+pub mod StrategyTable

@@ -7,10 +7,14 @@ mod faces;
 mod fault;
 mod fib;
 mod hops;
+mod law;
 mod name_map;
+mod strategy_table;
 
 pub use by_face::Used;
 pub use faces::Faces;
 pub use fault::TableFault;
 pub use fib::{Fib, MAX_DEPTH, MAX_ENTRIES};
 pub use hops::{Hop, Hops};
+pub use law::longest_is_the_longest_prefix;
+pub use strategy_table::{StrategyId, StrategyTable};

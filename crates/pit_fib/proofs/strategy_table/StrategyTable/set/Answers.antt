@@ -1,0 +1,35 @@
+use Rattle.std.proofs.Common.{◌≡◌, [], sym, ap, subst, ◌∙◌}
+use Rattle.std.specs.Prelude.{IsSome}
+use Rattle.std.specs.FinMap.{get, insert}
+use Rattle.ndn_names.specs.View.{components}
+use Rattle.pit_fib.proofs.RootChoice.{known_apart, root_set, other_set, set_apart}
+use Rattle.pit_fib.proofs.strategy_table.StrategyTable.set.Goals as goal
+use Rattle.pit_fib.proofs.strategy_table.StrategyTable.set.Goals.{After-put}
+
+named : (c : After-put) → components c.args.name ≡ [] → ⊥
+named c e = let empty = c.is_empty.ensures.1 e in let some = c.if-is_empty.false in cc
+
+pub invariant_of-self-in-Continue-1 : goal.invariant_of-self-in-Continue-1
+invariant_of-self-in-Continue-1 c =
+    ap (λ t. get t []) c.in_ok-put.ensures.ok
+    ∙ set_apart c.self.inside.others.table c.self.inside.root c.args.strategy (components c.args.name) (named (goal.at.invariant_of-self-in-Continue-1 c).After-put) c.self.invariant
+
+pub returns-in_err-put-clause-known : goal.returns-in_err-put-clause-known
+returns-in_err-put-clause-known c = λ some.
+    let name = components c.args.name in
+    let apart = known_apart c.self.inside.others.table c.self.inside.root name (named (goal.at.returns-in_err-put-clause-known c).After-put) in
+    let never = c.in_err-put.ensures.known (subst IsSome (sym (ap (λ t. get t.table name) c.self.view_is) ∙ apart) some) in cc
+
+pub returns-then-is_empty-clause-ok : goal.returns-then-is_empty-clause-ok
+returns-then-is_empty-clause-ok c =
+    ap (λ t. insert t [] c.args.strategy) c.forget_prepared-then-is_empty.ensures.table
+    ∙ root_set c.self.inside.others.table c.self.inside.root c.args.strategy
+    ∙ ap (λ t. insert t.table [] c.args.strategy) c.self.view_is
+    ∙ ap (λ n. insert c.args.self.now.table n c.args.strategy) (sym (c.is_empty.ensures.0 c.if-is_empty.true))
+
+pub returns-in_ok-put-clause-ok : goal.returns-in_ok-put-clause-ok
+returns-in_ok-put-clause-ok c =
+    let name = components c.args.name in
+    ap (λ t. insert t [] c.self.inside.root) c.in_ok-put.ensures.ok
+    ∙ other_set c.self.inside.others.table c.self.inside.root c.args.strategy name (named (goal.at.returns-in_ok-put-clause-ok c).After-put)
+    ∙ ap (λ t. insert t.table name c.args.strategy) c.self.view_is

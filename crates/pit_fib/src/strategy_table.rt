@@ -1,0 +1,154 @@
+ghost use Rattle.std.specs.Prelude.{◌≡◌, ◌≢◌, Err, None, Some, IsSome, IfErr, IfOk, MatchOption, OnErr, OnOk};
+ghost use Rattle.std.specs.FinMap as map;
+ghost use Rattle.ndn_names.specs.View.{components};
+ghost use Rattle.pit_fib.specs.declared.fault.TableFault.TheVariants as faults;
+ghost use Rattle.pit_fib.specs.Tables.{longest as longest_in};
+ghost use Rattle.pit_fib.specs.NameTable.{refusal};
+ghost use Rattle.pit_fib.specs.StrategyTable.{only_best_route, without_choice};
+
+use crate::fault::TableFault;
+use crate::fib::{MAX_DEPTH, MAX_ENTRIES};
+use crate::name_map::NameMap;
+use ndn_names::{Name, NameBuf};
+use ndn_tlv::Memory;
+use std::alloc::Global;
+use std::marker::Model;
+
+/// A forwarding strategy (NFD Developer's Guide, "Forwarding Strategy").
+#[derive(Clone, Copy, Debug, PartialEq, Eq)]
+pub enum StrategyId {
+    /// `/localhost/nfd/strategy/best-route`
+    BestRoute,
+    /// `/localhost/nfd/strategy/multicast`
+    Multicast,
+}
+
+/// Which strategy chooses next hops: one by name (NFD Developer's Guide, "Strategy Choice Table").
+/// It has at most 4,096 names of at most 32 components. One of them is always `/`.
+#[derive(Drop)]
+pub struct StrategyTable {
+    // The strategy of `/`, apart, since it stands without memory.
+    root: StrategyId,
+    others: NameMap<StrategyId>,
+}
+
+impl Model for StrategyTable {
+    ghost use Rattle.std.specs.Prelude.{◌≡◌, None, []};
+    ghost use Rattle.std.specs.FinMap as map;
+    ghost use Rattle.pit_fib.specs.NameTable.{NameTable, name_table_code};
+    ghost use Rattle.pit_fib.specs.declared.strategy_table.StrategyId.{StrategyId};
+    ghost use Rattle.pit_fib.specs.StrategyTable.{strategy_code};
+
+    ghost Value = { NameTable StrategyId };
+
+    ghost coded = { name_table_code strategy_code };
+
+    ghost view = { λ s. record {
+      table = map.insert s.others.table [] s.root;
+      prepared = s.others.prepared;
+    } };
+
+    ghost invariant = { λ s. map.get s.others.table [] ≡ None };
+}
+
+impl StrategyTable {
+    /// Best-route for all names.
+    pub fn new(alloc: Global) -> StrategyTable
+        ensures table { result.table ≡ only_best_route }
+        ensures prepared { result.prepared ≡ None }
+    {
+        StrategyTable {
+            root: StrategyId::BestRoute,
+            others: NameMap::new(alloc),
+        }
+    }
+
+    /// Sets the strategy of a name.
+    ///
+    /// Refuses it by the first fault in the order of `TableFault`, and then changes nothing but
+    /// that no call is prepared any more. `Memory` never comes for a name that has a strategy, as
+    /// `/` does.
+    pub fn set(&mut self, name: Name<'_>, strategy: StrategyId) -> Result<(), TableFault>
+        ensures ok { OnOk result
+            (self.new.table ≡ map.insert self.old.table (components name.entry) strategy) }
+        ensures err { OnErr result (self.new.table ≡ self.old.table) }
+        ensures ended { self.new.prepared ≡ None }
+        ensures fault { MatchOption (refusal self.old.table (components name.entry))
+            (IfErr result (λ fault. fault ≡ faults.Memory)) (λ fault. result ≡ Err fault) }
+        ensures known { IsSome (map.get self.old.table (components name.entry))
+            → IfErr result (λ fault. fault ≢ faults.Memory) }
+        ensures promised { self.old.prepared ≡ Some (components name.entry)
+            → IfErr result (λ fault. fault ≢ faults.Memory) }
+    {
+        if let Some(fault) = self.refusal_of(name) {
+            self.others.forget_prepared();
+            return Err(fault);
+        }
+        if name.is_empty() {
+            self.others.forget_prepared();
+            self.root = strategy;
+        } else {
+            self.others.put(name, strategy)?;
+        }
+        Ok(())
+    }
+
+    /// Why the name takes no strategy.
+    fn refusal_of(&self, name: Name<'_>) -> Option<TableFault>
+        ensures { result ≡ refusal self.now.table (components name.entry) }
+    {
+        if name.len() > MAX_DEPTH {
+            return Some(TableFault::TooDeep);
+        }
+        if self.others.len() < MAX_ENTRIES - 1 {
+            return None;
+        }
+        if name.is_empty() {
+            return None;
+        }
+        if self.others.get(name).is_some() {
+            return None;
+        }
+        Some(TableFault::TableFull)
+    }
+
+    /// Prepares one `set` of this name, which is then not refused memory.
+    pub fn prepare(&mut self, name: Name<'_>) -> Result<(), Memory>
+        ensures table { self.new.table ≡ self.old.table }
+        ensures ok { OnOk result (self.new.prepared ≡ Some (components name.entry)) }
+        ensures err { OnErr result (self.new.prepared ≡ None) }
+    {
+        self.others.prepare(name)
+    }
+
+    /// Removes the strategy of a name, if it has one. That of `/` stays.
+    pub fn unset(&mut self, name: Name<'_>)
+        ensures table { self.new.table ≡ without_choice self.old.table (components name.entry) }
+        ensures prepared { self.new.prepared ≡ self.old.prepared }
+    {
+        self.others.remove(name);
+    }
+
+    /// The strategy of the longest prefix of a name that has one.
+    pub fn longest(&self, name: Name<'_>) -> StrategyId
+        ensures { Some result ≡ longest_in self.now.table (components name.entry) }
+    {
+        match self.others.longest(name) {
+            Some(strategy) => *strategy,
+            None => self.root,
+        }
+    }
+
+    /// All names in canonical order, each with its strategy.
+    pub fn list(&self, alloc: Global) -> Result<Vec<(NameBuf, StrategyId)>, Memory>
+        ensures { IfOk result (λ list. list.items ≡ map.entries self.now.table) }
+    {
+        let mut list = Vec::new(alloc);
+        list.push((NameBuf::new(alloc), self.root))?;
+        for row in self.others.rows() {
+            let name = NameBuf::from_name(alloc, row.0.view())?;
+            list.push((name, row.1))?;
+        }
+        Ok(list)
+    }
+}
