@@ -4,8 +4,9 @@ ghost use Rattle.std.specs.Prelude.{Contains, take};
 ghost use Rattle.std.proofs.lemmas.List.Elements.{All-take, All-contains_itself};
 
 use crate::rows::check_rows;
+use crate::tables::routes_in;
 use ndn_names::NameBuf;
-use pit_fib::{Faces, Fib, Hops, Used};
+use pit_fib::{Faces, Hops, Used};
 use std::alloc::Global;
 use strategies::*;
 
@@ -39,19 +40,10 @@ fn number_at(text: &str) -> Option<(u64, u64)> {
     Some((face.parse().ok()?, number.parse().ok()?))
 }
 
-/// No next hop, or those of two faces and costs. Face 2 is Local.
-fn hops_in(alloc: Global, text: &str) -> Option<Hops> {
-    let root = NameBuf::from_uri(alloc, "/").ok()?;
-    let name = root.view();
-    let mut fib = Fib::new(alloc);
-    if let Some((first, second)) = text.split_once(' ') {
-        let (first, second) = (number_at(first)?, number_at(second)?);
-        let Ok(()) = fib.add(name, first.0, first.1) else {
-            return None;
-        };
-        fib.add(name, second.0, second.1).ok()?;
-    }
-    let mut hops = fib.longest(name);
+/// The hops of routes of the name `/`. Face 2 is Local.
+fn hops_in(alloc: Global, routes: &str) -> Option<Hops> {
+    let root = NameBuf::new(alloc);
+    let mut hops = routes_in(alloc, routes)?.longest(root.view());
     let mut locals = Faces::new();
     locals.insert(2);
     hops.mark(&locals);
@@ -112,48 +104,48 @@ fn choice(alloc: Global, row: &str) -> Option<String> {
 fn strategy_choices(rt: HostRuntime) {
     let rows = "
 # A new entry; only Local faces; not the asker.
-best: 2@5 3@0; - - 1000; -> send 3
-best: 2@5 3@0; - zero 1000; -> send 2
-best: 2@5 3@0; - localhost 1000; -> send 2
-best: 2@5 3@0; 3 - 1000; -> send 2
-all: 2@5 3@0; - - 1000; -> send 2 3
-all: 2@5 3@0; - zero 1000; -> send 2
-all: 2@5 3@0; - localhost 1000; -> send 2
-all: 2@5 3@0; 3 - 1000; -> send 2
+best: / 2 5, / 3 0; - - 1000; -> send 3
+best: / 2 5, / 3 0; - zero 1000; -> send 2
+best: / 2 5, / 3 0; - localhost 1000; -> send 2
+best: / 2 5, / 3 0; 3 - 1000; -> send 2
+all: / 2 5, / 3 0; - - 1000; -> send 2 3
+all: / 2 5, / 3 0; - zero 1000; -> send 2
+all: / 2 5, / 3 0; - localhost 1000; -> send 2
+all: / 2 5, / 3 0; 3 - 1000; -> send 2
 # 10 milliseconds after a face was asked, and before.
-best: 2@5 3@0; - - 1009; 3@1000 -> send
-best: 2@5 3@0; - - 1010; 3@1000 -> send 2
-best: 2@5 3@0; - - 1020; 2@1010 3@1000 -> send 3
-all: 2@5 3@0; - - 1015; 2@1010 3@1000 -> send 3
-all: 2@5 3@0; - - 1009; 3@1000 -> send 2
-all: 2@5 3@0; - - 1010; 3@1000 -> send 2 3
-all: 2@5 3@0; - - 1009; 2@1000 3@1000 -> send
+best: / 2 5, / 3 0; - - 1009; 3@1000 -> send
+best: / 2 5, / 3 0; - - 1010; 3@1000 -> send 2
+best: / 2 5, / 3 0; - - 1020; 2@1010 3@1000 -> send 3
+all: / 2 5, / 3 0; - - 1015; 2@1010 3@1000 -> send 3
+all: / 2 5, / 3 0; - - 1009; 3@1000 -> send 2
+all: / 2 5, / 3 0; - - 1010; 3@1000 -> send 2 3
+all: / 2 5, / 3 0; - - 1009; 2@1000 3@1000 -> send
 # best-route waits for any face that was asked, but not where it has no route.
-best: 2@5 3@0; - - 1009; 7@1000 -> send
-best: 2@5 3@0; 2 zero 1009; 7@1000 -> no route
-all: 2@5 3@0; - - 1009; 7@1000 -> send 2 3
+best: / 2 5, / 3 0; - - 1009; 7@1000 -> send
+best: / 2 5, / 3 0; 2 zero 1009; 7@1000 -> no route
+all: / 2 5, / 3 0; - - 1009; 7@1000 -> send 2 3
 # No hop, and none that is eligible.
 best: ; - - 1000; -> no route
 all: ; - - 1000; -> no route
-all: 2@5 3@0; 2 localhost 1000; -> no route
+all: / 2 5, / 3 0; 2 localhost 1000; -> no route
 # Of equal costs the lesser face; of equal moments the lesser cost, then the lesser face.
-best: 4@7 3@7; - - 0; -> send 3
-best: 4@7 3@7; - - 20; 3@5 4@5 -> send 3
-best: 4@7 3@7; - - 20; 3@6 4@5 -> send 4
-best: 4@1 3@7; - - 20; 3@5 4@5 -> send 4
+best: / 4 7, / 3 7; - - 0; -> send 3
+best: / 4 7, / 3 7; - - 20; 3@5 4@5 -> send 3
+best: / 4 7, / 3 7; - - 20; 3@6 4@5 -> send 4
+best: / 4 1, / 3 7; - - 20; 3@5 4@5 -> send 4
 # The ends of faces, costs and moments.
-best: 2@18446744073709551615 18446744073709551615@18446744073709551615; - - 0; -> send 2
-best: 2@5 18446744073709551615@0; 18446744073709551615 - 0; -> send 2
-best: 2@5 3@0; - - 18446744073709551615; 3@18446744073709551606 -> send
-best: 2@5 3@0; - - 18446744073709551615; 3@18446744073709551605 -> send 2
-best: 2@5 3@0; - - 18446744073709551615; 3@18446744073709551615 -> send
-all: 2@5 3@0; - - 18446744073709551615; 3@0 -> send 2 3
+best: / 2 18446744073709551615, / 18446744073709551615 18446744073709551615; - - 0; -> send 2
+best: / 2 5, / 18446744073709551615 0; 18446744073709551615 - 0; -> send 2
+best: / 2 5, / 3 0; - - 18446744073709551615; 3@18446744073709551606 -> send
+best: / 2 5, / 3 0; - - 18446744073709551615; 3@18446744073709551605 -> send 2
+best: / 2 5, / 3 0; - - 18446744073709551615; 3@18446744073709551615 -> send
+all: / 2 5, / 3 0; - - 18446744073709551615; 3@0 -> send 2 3
 # A moment still to come.
-best: 2@5 3@0; - - 0; 3@18446744073709551615 -> send
-all: 2@5 3@0; - - 0; 3@18446744073709551615 -> send 2
+best: / 2 5, / 3 0; - - 0; 3@18446744073709551615 -> send
+all: / 2 5, / 3 0; - - 0; 3@18446744073709551615 -> send 2
 # The third strategy.
-first: 2@5 3@0; - - 1000; 3@1000 -> send 3
-first: 2@5 3@0; 3 - 1000; -> send 2
+first: / 2 5, / 3 0; - - 1000; 3@1000 -> send 3
+first: / 2 5, / 3 0; 3 - 1000; -> send 2
 first: ; - - 1000; -> no route
 ";
     check_rows(&rt, rt.alloc(), rows, choice);

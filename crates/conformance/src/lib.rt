@@ -20,4 +20,6 @@ mod rows;
 #[cfg(test)]
 mod rules;
 #[cfg(test)]
+mod tables;
+#[cfg(test)]
 mod tlv;
