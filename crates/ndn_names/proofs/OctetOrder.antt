@@ -194,7 +194,7 @@ element_first f x =
     (p.0, p.1, append_assoc (spelling f.0) (spelling (length f.1) ++ f.1) x ∙ p.2)
 
 -- the octets of two names compare as the names do
-octets_cmp : (a b : List Field) → AllByRecursion IsField a → AllByRecursion IsField b → slice_cmp nat_cmp (octets_of a) (octets_of b) ≡ name_cmp a b
+pub octets_cmp : (a b : List Field) → AllByRecursion IsField a → AllByRecursion IsField b → slice_cmp nat_cmp (octets_of a) (octets_of b) ≡ name_cmp a b
 octets_cmp [] [] p q = refl
 octets_cmp [] (g ∷ b) p q = ap (slice_cmp nat_cmp []) (element_first g (octets_of b)).2
 octets_cmp (f ∷ a) [] p q = ap (λ (t : List ℕ). slice_cmp nat_cmp t []) (element_first f (octets_of a)).2

@@ -55,7 +55,7 @@ prefix_shown octets rest n i h g left le ge =
     (f.0, shown.0, shown.1)
 
 -- a name whose octets begin with another's begins with it
-begins_with : (cs ds : List Field) (rest : List ℕ) → AllByRecursion IsField cs → AllByRecursion IsField ds → octets_of ds ≡ octets_of cs ++ rest → IsPrefix cs ds
+pub begins_with : (cs ds : List Field) (rest : List ℕ) → AllByRecursion IsField cs → AllByRecursion IsField ds → octets_of ds ≡ octets_of cs ++ rest → IsPrefix cs ds
 begins_with [] ds rest h g e = (ds, refl)
 begins_with (c ∷ cs) [] rest h g e =
     let first = element_first c (octets_of cs ++ rest) in
