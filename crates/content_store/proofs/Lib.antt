@@ -1,0 +1,4 @@
+pub mod FullNames
+pub mod Places
+pub mod Lists
+pub mod Taken

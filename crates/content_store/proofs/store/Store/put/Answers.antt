@@ -1,0 +1,26 @@
+use Rattle.std.proofs.Common.{◌-◌, subst}
+use Rattle.std.specs.List.{All, Contains}
+use Rattle.std.proofs.lemmas.List.Elements.{All-contains_itself}
+use Rattle.content_store.specs.Store.{StoreState, IsStore}
+use Rattle.content_store.proofs.Lists.{put_store, refused_held}
+use Rattle.content_store.proofs.store.Store.put.Goals as goal
+use Rattle.content_store.proofs.store.Store.put.Goals.{After-put_first}
+
+store : (c : After-put_first) → IsStore (record { cached = c.put_first.new.entries.items; capacity = c.self.inside.capacity })
+store c =
+    put_store (record { cached = c.self.inside.entries.items; capacity = c.self.inside.capacity }) c.in-Ok.entry c.put_first.new.entries.items c.put_first.result c.self.invariant
+    c.put_first.ensures.ok c.put_first.ensures.refused
+
+pub returns-in_default-clause-refused : goal.returns-in_default-clause-refused
+returns-in_default-clause-refused c = λ _. All-contains_itself c.args.self.now.cached
+
+pub invariant_of-self : goal.invariant_of-self
+invariant_of-self c = store c
+
+pub returns-clause-refused : goal.returns-clause-refused
+returns-clause-refused c =
+    λ refused. subst (λ (s : StoreState). All (λ d. Contains s.cached d) c.put_first.new.entries.items) c.self.view_is
+    (refused_held c.self.inside.entries.items (c.self.inside.capacity - 1) c.in-Ok.entry c.put_first.new.entries.items (c.put_first.ensures.refused refused))
+
+pub returns-clause-store : goal.returns-clause-store
+returns-clause-store c = store c

@@ -1,0 +1,4 @@
+pub mod Store
+pub mod Entry
+pub mod Places
+pub mod Find

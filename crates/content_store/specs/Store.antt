@@ -1,0 +1,128 @@
+-- What a content store holds and gives (NFD Developer's Guide, "Content Store"; NDN Packet Format
+-- 0.3, "Name", "Implicit Digest Component", and "Data Packet", FreshnessPeriod).
+use Rattle.std.specs.Prelude.{◌≡◌, ◌≢◌, ◌⊎◌, ℕ, ◌+◌, ◌-◌, ◌<◌, ◌≤◌, ◌^◌, min, List, [], ◌∷◌, length, take, filter, not, Bool, true, false, Option, None, Some, IfSome, refl}
+use Rattle.std.specs.List.{All, AllByRecursion, Contains}
+use Rattle.std.specs.Coded.{Coded, code_by, coded×, coded_list, coded_ℕ}
+use Rattle.std.specs.Ordering.{eq_by_cmp}
+use Rattle.sha2.specs.Sha256.{sha256}
+use Rattle.ndn_tlv.specs.Element.{Field}
+use Rattle.ndn_names.specs.Name.{IsPrefix}
+use Rattle.ndn_names.specs.Order.{Less, name_cmp}
+use Rattle.ndn_names.specs.View.{components}
+use Rattle.ndn_packets.specs.Answers.{full_name, Answers}
+use Rattle.ndn_packets.specs.declared.data.Data.{Data}
+use Rattle.ndn_packets.specs.Key.{PlainKey}
+
+-- A Data that is held: its name and its implicit digest, its octets, its FreshnessPeriod in
+-- milliseconds and the moment of its arrival, in milliseconds since 1970.
+pub record CachedData : Type 0 where
+  pub name : List Field
+  pub digest : List ℕ
+  pub octets : List ℕ
+  pub freshness : ℕ
+  pub arrival : ℕ
+
+-- a Data as it is held from its arrival on
+abbrev pub cached_at : Data → ℕ → CachedData
+cached_at d arrival = record {
+  name = components d.name;
+  digest = sha256 d.whole.now;
+  octets = d.whole.now;
+  freshness = d.freshness;
+  arrival = arrival;
+}
+
+abbrev pub full_name_of : CachedData → List Field
+full_name_of c = full_name c.name c.digest
+
+-- what is held, the most recently used first, and how many may be
+pub record StoreState : Type 0 where
+  pub cached : List CachedData
+  pub capacity : ℕ
+
+-- no two have one full name
+abbrev pub EachOnce : List CachedData → Type 0
+EachOnce [] = Unit {0}
+EachOnce (c ∷ cs) = AllByRecursion (λ d. full_name_of c ≢ full_name_of d) cs × EachOnce cs
+
+-- what is true of every store
+pub record IsStore (s : StoreState) : Type 0 where
+  pub not_none : 1 ≤ s.capacity
+  pub at_most_65536 : s.capacity ≤ 65536
+  pub within_capacity : length s.cached ≤ s.capacity
+  pub each_once : EachOnce s.cached
+
+-- fresh before its arrival and its FreshnessPeriod, a sum that stops at the greatest moment
+abbrev pub IsFresh : CachedData → ℕ → Type 0
+IsFresh c now = now < min (c.arrival + c.freshness) (2 ^ 64 - 1)
+
+-- it answers the Interest of this key, and is fresh where that has MustBeFresh
+abbrev pub CanServe : PlainKey → ℕ → CachedData → Type 0
+CanServe key now c =
+    Answers c.name c.digest key.name key.can_be_prefix
+    × (key.must_be_fresh ≡ true → IsFresh c now)
+
+-- of what is held and has P, it has the least full name in canonical order
+pub record IsLeast (P : CachedData → Type 0) (cs : List CachedData) (c : CachedData) : Type 0 where
+  pub is_cached : Contains cs c
+  pub has : P c
+  pub none_less : All (λ d. P d → ¬ Less (full_name_of d) (full_name_of c)) cs
+
+-- without the one of this full name
+abbrev pub without : List Field → List CachedData → List CachedData
+without name cached = filter (λ c. not (eq_by_cmp name_cmp (full_name_of c) name)) cached
+
+-- with one more, which takes the place of what has its full name; of the others as many as fit
+abbrev pub with_cached : StoreState → CachedData → StoreState
+with_cached s c = record s {
+  cached = take s.capacity (c ∷ without (full_name_of c) s.cached);
+}
+
+-- with this one as the most recently used
+abbrev pub with_used : StoreState → CachedData → StoreState
+with_used s c = record s { cached = c ∷ without (full_name_of c) s.cached }
+
+-- What a store gives for a key: nothing where nothing can serve it, and else the octets of the
+-- least full name that can, which is then the most recently used.
+abbrev pub Finds : PlainKey → ℕ → StoreState → Option (List ℕ) → StoreState → Type 0
+Finds key now before None after =
+    All (λ c. ¬ CanServe key now c) before.cached × (after ≡ before)
+Finds key now before (Some octets) after =
+    (c : CachedData) × IsLeast (CanServe key now) before.cached c × (octets ≡ c.octets)
+    × (after ≡ with_used before c)
+
+-- Some of what was held is gone: what is left, of which `stays` is true, is in its order. What is
+-- gone is under the name, and has a lesser full name than each under the name that is left.
+pub record TakesLeast (name : List Field) (before after : List CachedData) (gone : ℕ) : Type 0 where
+  pub stays : CachedData → Bool
+  pub left : after ≡ filter stays before
+  pub counted : length after + gone ≡ length before
+  pub under : All (λ c. stays c ≡ false → IsPrefix name (full_name_of c)) before
+  pub least : All (λ c. stays c ≡ false → All (λ d. IsPrefix name (full_name_of d)
+      → Less (full_name_of c) (full_name_of d)) after) before
+
+-- What an erase does: at most `count` go, and fewer only where none under the name is left.
+abbrev pub Erases : List Field → Option ℕ → List CachedData → List CachedData → ℕ → Type 0
+Erases name count before after gone =
+    TakesLeast name before after gone × IfSome count (λ n. gone ≤ n)
+    × ((count ≡ Some gone) ⊎ All (λ d. ¬ IsPrefix name (full_name_of d)) after)
+
+abbrev pub cached_code : Coded CachedData
+cached_code =
+    code_by (List Field × (List ℕ × (List ℕ × (ℕ × ℕ))))
+    (coded× (coded_list (coded× coded_ℕ (coded_list coded_ℕ))) (coded× (coded_list coded_ℕ)
+    (coded× (coded_list coded_ℕ) (coded× coded_ℕ coded_ℕ))))
+    (λ c. (c.name, (c.digest, (c.octets, (c.freshness, c.arrival)))))
+    (λ p. record {
+      name = p.0;
+      digest = p.1.0;
+      octets = p.1.1.0;
+      freshness = p.1.1.1.0;
+      arrival = p.1.1.1.1;
+    })
+    (λ _. refl)
+
+abbrev pub state_code : Coded StoreState
+state_code =
+    code_by (List CachedData × ℕ) (coded× (coded_list cached_code) coded_ℕ)
+    (λ s. (s.cached, s.capacity)) (λ p. record { cached = p.0; capacity = p.1 }) (λ _. refl)

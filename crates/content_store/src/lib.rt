@@ -1,0 +1,9 @@
+//! The Data that a forwarder keeps to answer later Interests.
+#![tactic(auto)]
+
+mod entry;
+mod fault;
+mod store;
+
+pub use fault::StoreFault;
+pub use store::Store;
