@@ -166,3 +166,25 @@ fn cache_kept(rt: HostRuntime) {
 ";
     check_rows(&rt, rt.alloc(), rows, answers);
 }
+
+/// Whether a Data is found exactly where it was kept, which a refusal of memory prevents.
+fn is_found_where_kept(alloc: Global) -> Option<bool> {
+    let name = NameBuf::from_uri(alloc, "/A").ok()?;
+    let packet = data_of(alloc, "/A", "01", "0")?;
+    let Frame::Data(data) = read_frame(&packet).ok()? else {
+        return None;
+    };
+    let mut store = Store::new(alloc, 2).ok()?;
+    let was_kept = store.put(&data, 0);
+    let key = Key {
+        name: name.view(),
+        can_be_prefix: false,
+        must_be_fresh: false,
+    };
+    Some(store.find(key, 0).is_some() == was_kept)
+}
+
+#[test]
+fn put_with_refused_memory(rt: HostRuntime) {
+    assert!(rt; is_found_where_kept(rt.alloc()) != Some(false));
+}
