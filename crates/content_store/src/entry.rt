@@ -7,14 +7,12 @@ ghost use Rattle.ndn_packets.specs.Key.{plain_key};
 ghost use Rattle.content_store.specs.Store.{cached_at, full_name_of, IsFresh, CanServe};
 
 use ndn_names::Name;
+use ndn_names::component_type::IMPLICIT_SHA256_DIGEST;
 use ndn_packets::{Data, Key};
 use ndn_tlv::{Memory, put_element};
 use std::alloc::Global;
 use std::cmp::Ordering;
 use std::marker::Model;
-
-/// The type of a component that is the implicit digest of a Data.
-const IMPLICIT_SHA256_DIGEST: u32 = 1;
 
 /// The octets of such a component: its type, its length and a digest of 32 octets.
 const DIGEST_COMPONENT_LEN: usize = 34;
@@ -48,7 +46,11 @@ impl Entry {
         ensures { IfOk result (λ e. e ≡ cached_at packet.now arrival) }
     {
         let mut full_name = Vec::from_slice(alloc, packet.name.as_octets())?;
-        put_element(&mut full_name, IMPLICIT_SHA256_DIGEST, &packet.digest())?;
+        put_element(
+            &mut full_name,
+            u32::from(IMPLICIT_SHA256_DIGEST),
+            &packet.digest(),
+        )?;
         let octets = Vec::from_slice(alloc, packet.whole)?;
         Ok(Entry {
             full_name,

@@ -7,10 +7,8 @@ ghost use Rattle.ndn_packets.specs.Answers.{full_name, Answers};
 
 use crate::data::Data;
 use ndn_names::Name;
+use ndn_names::component_type::IMPLICIT_SHA256_DIGEST;
 use sha2::{Digest, Sha256};
-
-/// The type of a component that is the implicit digest of a Data.
-const IMPLICIT_SHA256_DIGEST: u16 = 1;
 
 impl Data<'_> {
     ghost use Rattle.ndn_packets.specs.View.{IsReadData};

@@ -9,12 +9,13 @@ ghost use Rattle.ndn_packets.specs.Covered.{IsCut, from_first, Covered, EndsInDi
 
 use crate::data::Data;
 use crate::frame::only_element;
-use crate::interest::{Interest, PARAMETERS_SHA256_DIGEST};
+use crate::interest::Interest;
 use crate::types::{
     APPLICATION_PARAMETERS, DATA, INTEREST, INTEREST_SIGNATURE_INFO, INTEREST_SIGNATURE_VALUE,
     SIGNATURE_VALUE,
 };
 use ndn_names::Name;
+use ndn_names::component_type::PARAMETERS_SHA256_DIGEST;
 use ndn_tlv::first_element;
 
 /// The covered octets, which are the first ones and then the second ones.

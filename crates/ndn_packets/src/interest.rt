@@ -20,6 +20,7 @@ use crate::types::{
     INTEREST_SIGNATURE_INFO, INTEREST_SIGNATURE_VALUE, MUST_BE_FRESH, NONCE,
 };
 use ndn_names::Name;
+use ndn_names::component_type::PARAMETERS_SHA256_DIGEST;
 use ndn_tlv::Element;
 use sha2::{Digest, Sha256};
 
@@ -71,9 +72,6 @@ const FIELDS: [u32; 9] = [
 
 /// The InterestLifetime of an Interest that has none, in milliseconds.
 const DEFAULT_LIFETIME: u64 = 4000;
-
-/// The type of a component that is the digest of ApplicationParameters.
-pub const PARAMETERS_SHA256_DIGEST: u16 = 2;
 
 /// The fields of an Interest that were read so far.
 #[derive(Clone, Copy)]

@@ -9,7 +9,6 @@ ghost use Rattle.ndn_packets.specs.Writing.{octets, IsLength};
 
 use crate::fault::WriteFault;
 use crate::frame::MAX_PACKET;
-use crate::interest::PARAMETERS_SHA256_DIGEST;
 use crate::signature::Sign;
 use crate::types::{
     APPLICATION_PARAMETERS, CAN_BE_PREFIX, HOP_LIMIT, INTEREST, INTEREST_LIFETIME,
@@ -19,6 +18,7 @@ use crate::writing::{
     DIGEST_LEN, element_len, info_len, number_field_len, octets_len, optional_len, overwrite,
     put_header, put_info, put_number_field, put_optional,
 };
+use ndn_names::component_type::PARAMETERS_SHA256_DIGEST;
 use ndn_names::{MAX_COMPONENTS, Name};
 use ndn_tlv::{Memory, put_element};
 use sha2::{Digest, Sha256};

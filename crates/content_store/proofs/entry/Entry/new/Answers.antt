@@ -13,7 +13,8 @@ whole c =
     let name = components c.args.packet.now.name in
     let long : length c.digest.result ≡ 32 = search rules in
     let full : c.put_element.new.out.items ≡ c.as_octets.result.now ++ element (1, c.digest.result) =
-    c.in_ok-put_element.ensures.ok ∙ ap (λ (t : List ℕ). t ++ element (1, c.digest.result)) c.in_ok-full_name.ensures.items in
+    c.in_ok-put_element.ensures.ok ∙ ap (λ (kind : ℕ). c.in_ok-full_name.full_name.items ++ element (kind, c.digest.result)) c.from.ensures
+    ∙ ap (λ (t : List ℕ). t ++ element (1, c.digest.result)) c.in_ok-full_name.ensures.items in
     made c.as_octets.result.now c.digest.result c.put_element.new.out.items name c.as_octets.ensures (components_of-is _ name c.as_octets.ensures) long full
 
 pub invariant_of-result : goal.invariant_of-result
