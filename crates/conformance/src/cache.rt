@@ -2,7 +2,7 @@
 
 use crate::rows::{check_rows, octets};
 use content_store::*;
-use ndn_names::NameBuf;
+use ndn_names::{Name, NameBuf};
 use ndn_packets::*;
 use std::alloc::Global;
 
@@ -10,11 +10,20 @@ use std::alloc::Global;
 fn data_of(alloc: Global, name: &str, content: &str, freshness: &str) -> Option<Vec<u8>> {
     let name = NameBuf::from_uri(alloc, name).ok()?;
     let content = octets(alloc, content)?;
+    written(alloc, name.view(), &content, freshness.parse().ok()?)
+}
+
+fn written<'a>(
+    alloc: Global,
+    name: Name<'a>,
+    content: &'a [u8],
+    freshness: u64,
+) -> Option<Vec<u8>> {
     let writer = DataWriter {
-        name: name.view(),
-        freshness: Some(freshness.parse().ok()?),
+        name,
+        freshness: Some(freshness),
         last: None,
-        content: Some(content.as_slice()),
+        content: Some(content),
         sign: Sign::Digest,
     };
     let mut out = Vec::new(alloc);
