@@ -6,12 +6,8 @@ use ndn_tlv::TlvFault;
 use std::alloc::Global;
 use std::test::*;
 
-const READ: [PacketFault; 15] = [
+const READ: [PacketFault; 11] = [
     PacketFault::Tlv(TlvFault::Truncated),
-    PacketFault::Tlv(TlvFault::NotShortest),
-    PacketFault::Tlv(TlvFault::TypeZero),
-    PacketFault::Tlv(TlvFault::TypeTooLarge),
-    PacketFault::Tlv(TlvFault::BadInteger),
     PacketFault::NoName,
     PacketFault::CriticalUnknown,
     PacketFault::BadField,
@@ -49,11 +45,7 @@ fn write_fault(alloc: Global, name: &str) -> Option<String> {
 #[test]
 fn texts_of_faults(rt: HostRuntime) {
     let rows = "
-Tlv Truncated -> octets are missing
-Tlv NotShortest -> a number is not in its shortest form
-Tlv TypeZero -> a type is 0
-Tlv TypeTooLarge -> a type is above 4294967295
-Tlv BadInteger -> an integer is not 1, 2, 4 or 8 octets long
+Tlv Truncated -> the octets end inside a number or an element
 NoName -> the packet does not begin with a name, or an Interest's name is empty
 CriticalUnknown -> an element is unknown or out of order, and may not be ignored
 BadField -> a field is missing, or its value is malformed
