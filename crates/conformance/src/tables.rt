@@ -240,11 +240,7 @@ fn holds_4096_routes(alloc: Global) -> Option<bool> {
     let further = fib.add(numbered(alloc, 4096)?.view(), 1, 0);
     let deep = fib.add(deep_name(alloc, 33)?.view(), 1, 0);
     let known = fib.add(numbered(alloc, 7)?.view(), 1, 9);
-    Some(
-        further == Err(TableFault::TableFull)
-            && deep == Err(TableFault::TooDeep)
-            && known.is_ok(),
-    )
+    Some(further == Err(TableFault::TableFull) && deep == Err(TableFault::TooDeep) && known.is_ok())
 }
 
 /// The same of strategies, where one name is `/`.
