@@ -1,5 +1,7 @@
 //! Data that are kept to answer Interests.
 
+mod random_sequences;
+
 use crate::rows::{check_rows, octets};
 use content_store::*;
 use ndn_names::{Name, NameBuf};
