@@ -317,6 +317,18 @@ fn sets_what_is_prepared(alloc: Global) -> Option<bool> {
     Some(is_set && table.longest(name.view()) == StrategyId::Multicast)
 }
 
+/// Whether a call of each table is prepared.
+fn are_prepared(alloc: Global) -> Option<bool> {
+    let name = numbered(alloc, 1)?;
+    let (mut fib, mut strategies) = (Fib::new(alloc), StrategyTable::new(alloc));
+    Some(fib.prepare(name.view()).is_ok() && strategies.prepare(name.view()).is_ok())
+}
+
+#[test]
+fn prepared_calls(rt: HostRuntime) {
+    assert!(rt; are_prepared(rt.alloc()) == Some(true));
+}
+
 #[test]
 fn refused_memory_for_tables(rt: HostRuntime) {
     assert!(rt; adds_what_is_prepared(rt.alloc()) != Some(false));
