@@ -52,7 +52,8 @@ pub record IsStore (s : StoreState) : Type 0 where
   pub within_capacity : length s.cached ≤ s.capacity
   pub each_once : EachOnce s.cached
 
--- fresh before its arrival and its FreshnessPeriod, a sum that stops at the greatest moment
+-- fresh while now is less than its arrival plus its FreshnessPeriod; the sum stops at the greatest
+-- moment
 abbrev pub IsFresh : CachedData → ℕ → Type 0
 IsFresh c now = now < min (c.arrival + c.freshness) (2 ^ 64 - 1)
 
@@ -83,7 +84,13 @@ abbrev pub with_used : StoreState → CachedData → StoreState
 with_used s c = record s { cached = c ∷ without (full_name_of c) s.cached }
 
 -- What a store gives for a key: nothing where nothing can serve it, and else the octets of the
--- least full name that can, which is then the most recently used.
+-- least full name that can.
+abbrev pub Gives : PlainKey → ℕ → List CachedData → Option (List ℕ) → Type 0
+Gives key now cached None = All (λ c. ¬ CanServe key now c) cached
+Gives key now cached (Some octets) =
+    (c : CachedData) × IsLeast (CanServe key now) cached c × (octets ≡ c.octets)
+
+-- The same, and what the store is then: what it gave is the most recently used.
 abbrev pub Finds : PlainKey → ℕ → StoreState → Option (List ℕ) → StoreState → Type 0
 Finds key now before None after =
     All (λ c. ¬ CanServe key now c) before.cached × (after ≡ before)
@@ -91,8 +98,8 @@ Finds key now before (Some octets) after =
     (c : CachedData) × IsLeast (CanServe key now) before.cached c × (octets ≡ c.octets)
     × (after ≡ with_used before c)
 
--- Some of what was held is gone: what is left, of which `stays` is true, is in its order. What is
--- gone is under the name, and has a lesser full name than each under the name that is left.
+-- `stays` says what is left, in its order. All else was under the name, and is less than each under
+-- it that is left.
 pub record TakesLeast (name : List Field) (before after : List CachedData) (gone : ℕ) : Type 0 where
   pub stays : CachedData → Bool
   pub left : after ≡ filter stays before

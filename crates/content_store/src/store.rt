@@ -1,9 +1,9 @@
-ghost use Rattle.std.specs.Prelude.{◌≡◌, ◌↔◌, ◌⊎◌, ◌+◌, ◌-◌, ◌∷◌, ◌<◌, ◌≤◌, [], length, take, slice_index_or, None, Some, Err, IsTrue, false, IfOk, IsErrOf};
+ghost use Rattle.std.specs.Prelude.{◌≡◌, ◌↔◌, ◌⊎◌, ◌+◌, ◌-◌, ◌∷◌, ◌<◌, ◌≤◌, [], length, take, slice_index_or, None, Some, Err, IsTrue, false, IfOk};
 ghost use Rattle.std.specs.Option.{option_map};
 ghost use Rattle.std.specs.List.{All, Contains, remove};
 ghost use Rattle.ndn_names.specs.View.{components};
 ghost use Rattle.ndn_packets.specs.Key.{plain_key};
-ghost use Rattle.content_store.specs.Store.{CachedData, IsStore, CanServe, Finds, Erases, cached_at, with_cached, without, full_name_of, EachOnce};
+ghost use Rattle.content_store.specs.Store.{CachedData, IsStore, CanServe, Gives, Finds, Erases, cached_at, with_cached, without, full_name_of, EachOnce};
 ghost use Rattle.content_store.specs.Places.{LeastSoFar, MovesLeast};
 ghost use Rattle.content_store.specs.declared.fault.StoreFault.TheVariants as faults;
 
@@ -45,12 +45,11 @@ impl Store {
     ghost use Rattle.content_store.specs.Find.{EndsWith};
 
     /// An empty store that holds at most `capacity` Data, from 1 to 65,536: `BadCapacity` for any
-    /// other. It takes no memory.
+    /// other, and else `Memory` where there is too little of it.
     pub fn new(alloc: Global, capacity: usize) -> Result<Store, StoreFault>
         ensures ok { IfOk result (λ s. s ≡ record { cached = []; capacity = capacity }) }
         ensures store { IfOk result IsStore }
         ensures bad { (result ≡ Err faults.BadCapacity) ↔ ((capacity ≡ 0) ⊎ (65536 < capacity)) }
-        ensures takes_no_memory { ¬ IsErrOf result StoreFault.Memory }
     {
         if capacity == 0 || capacity > MAX_CAPACITY {
             return Err(StoreFault::BadCapacity);
@@ -85,8 +84,8 @@ impl Store {
     }
 
     /// Keeps a Data that arrived at this moment, in milliseconds since 1970, in place of one of the
-    /// same full name, and as the most recently used. Where the store is full, the least recently
-    /// used goes. Answers false for want of memory, and may then have forgotten some.
+    /// same full name, and as the most recently used. Where there was none and the store is full, the
+    /// least recently used goes. Answers false for want of memory, and may then have forgotten some.
     pub fn put(&mut self, packet: &Data<'_>, arrival: u64) -> bool
         ensures ok { IsTrue result
             → self.new ≡ with_cached self.old (cached_at packet.now arrival) }
@@ -105,7 +104,9 @@ impl Store {
     /// since 1970: the least full name that answers and, with MustBeFresh, whose period since its
     /// arrival is not over. It is then the most recently used.
     pub fn find(&mut self, key: Key<'_>, now: u64) -> Option<&[u8]>
-        ensures* { sem 𝓛 (EndsWith self.entry (λ after. IsStore after
+        ensures found { Gives (plain_key key.entry) now self.old.cached
+            (option_map (λ o. o.now) result) }
+        ensures* used { sem 𝓛 (EndsWith self.entry (λ after. IsStore after
             × Finds (plain_key key.entry) now self.old (option_map (λ o. o.now) result) after)) }
     {
         if !move_least_first(&mut self.entries, key, now) {

@@ -22,16 +22,14 @@ pub returns : goal.returns
 returns c =
     let before = (goal.at.returns c).Else-not-move_least_first in
     let m = moved before in
-    let octets : c.octets.result.now ≡ m.0.octets = c.octets.ensures ∙ ap (λ (d : CachedData). d.octets) (c.index.ensures ∙ ap (λ (cs : List CachedData). get_or cs 0 c.index.result.now) m.2) in (
+    let octets : c.octets.result.now ≡ m.0.octets = c.octets.ensures ∙ ap (λ (d : CachedData). d.octets) (c.index.ensures ∙ ap (λ (cs : List CachedData). get_or cs 0 c.index.result.now) m.2) in
+    let found = subst (λ (s : StoreState). (x : CachedData) × IsLeast (CanServe (plain_key c.args.key) c.args.now) s.cached x × (c.octets.result.now ≡ x.octets)
+        × (record { cached = c.move_least_first.new.entries.items; capacity = c.self.inside.capacity } ≡ with_used s x)) c.self.view_is
+        (m.0, m.1, octets, λ k. record { cached = m.2 k; capacity = c.self.inside.capacity }) in (
       (
         refl,
         λ _. tt,
-        (
-          store before,
-          subst (λ (s : StoreState). (x : CachedData) × IsLeast (CanServe (plain_key c.args.key) c.args.now) s.cached x × (c.octets.result.now ≡ x.octets)
-              × (record { cached = c.move_least_first.new.entries.items; capacity = c.self.inside.capacity } ≡ with_used s x)) c.self.view_is
-              (m.0, m.1, octets, λ k. record { cached = m.2 k; capacity = c.self.inside.capacity }),
-        ),
+        (store before, found),
       ),
-      tt,
+      record { found = (found.0, found.1, found.2); used = tt },
     )
