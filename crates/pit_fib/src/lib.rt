@@ -1,4 +1,4 @@
-//! Where Interests go: next hops by name, and lists of faces.
+//! Where Interests go: next hops and strategies by name, and lists of faces.
 #![tactic(auto)]
 
 mod array_list;
