@@ -24,8 +24,8 @@ returns c =
     let m = moved before in
     let octets : c.octets.result.now ≡ m.0.octets = c.octets.ensures ∙ ap (λ (d : CachedData). d.octets) (c.index.ensures ∙ ap (λ (cs : List CachedData). get_or cs 0 c.index.result.now) m.2) in
     let found = subst (λ (s : StoreState). (x : CachedData) × IsLeast (CanServe (plain_key c.args.key) c.args.now) s.cached x × (c.octets.result.now ≡ x.octets)
-        × (record { cached = c.move_least_first.new.entries.items; capacity = c.self.inside.capacity } ≡ with_used s x)) c.self.view_is
-        (m.0, m.1, octets, λ k. record { cached = m.2 k; capacity = c.self.inside.capacity }) in (
+    × (record { cached = c.move_least_first.new.entries.items; capacity = c.self.inside.capacity } ≡ with_used s x)) c.self.view_is
+    (m.0, m.1, octets, λ k. record { cached = m.2 k; capacity = c.self.inside.capacity }) in (
       (
         refl,
         λ _. tt,
