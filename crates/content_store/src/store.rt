@@ -84,8 +84,9 @@ impl Store {
     }
 
     /// Keeps a Data that arrived at this moment, in milliseconds since 1970, in place of one of the
-    /// same full name, and as the most recently used. Where there was none and the store is full, the
-    /// least recently used goes. Answers false for want of memory, and may then have forgotten some.
+    /// same full name, and as the most recently used. Where there was none and the store is full,
+    /// the least recently used goes. Answers false for want of memory, and may then have forgotten
+    /// some.
     pub fn put(&mut self, packet: &Data<'_>, arrival: u64) -> bool
         ensures ok { IsTrue result
             → self.new ≡ with_cached self.old (cached_at packet.now arrival) }
