@@ -1,10 +1,18 @@
 -- Names that a Data answers.
-use Rattle.std.proofs.Common.{◌≡◌, ℕ, ◌+◌, List, [], ◌∷◌, ◌++◌, length, Some, None, refl, sym, ap, ◌∙◌, ◌⊎◌, inl, inr, arith}
-use Rattle.std.specs.Prelude.{◌↔◌, slice_get, Bool, IsTrue}
+use Rattle.std.proofs.Common.{◌≡◌, ℕ, ◌+◌, List, [], ◌∷◌, ◌++◌, length, Some, refl, sym, ap, subst, ◌∙◌, ◌⊎◌, inl, inr, arith, append_assoc}
+use Rattle.std.specs.Prelude.{◌↔◌, slice_get, Bool, ◌&&◌, ◌||◌, IsTrue}
+use Rattle.std.specs.Bool.{Decides}
+use Rattle.std.specs.declared.cmp.Ordering.TheVariants.{Equal}
+use Rattle.std.specs.Cmp.{Equal-is}
+use Rattle.std.specs.Ordering.{eq_by_cmp}
+use Rattle.std.proofs.lemmas.Bool.Decides.{same_from_decides, Decides-like, Decides-and, Decides-or}
+use Rattle.std.proofs.lemmas.Cmp.{tied_itself}
 use Rattle.std.proofs.lemmas.List.{length-append, append_cancel_left, append-nil}
 use Rattle.ndn_tlv.specs.Element.{Field}
+use Rattle.ndn_names.specs.Key.{component_cmp-total, component_cmp-antisymmetric, name_cmp-total, name_cmp-antisymmetric}
 use Rattle.ndn_names.specs.Name.{IsPrefix}
-use Rattle.ndn_packets.specs.Answers.{full_name, Answers}
+use Rattle.ndn_names.specs.Order.{component_cmp, name_cmp}
+use Rattle.ndn_packets.specs.Answers.{full_name, Answers, AnswersByName, begins_with, answers}
 
 get_last : (name : List Field) (x : Field) → slice_get (name ++ x ∷ []) (length name) ≡ Some x
 get_last [] x = refl
@@ -36,12 +44,6 @@ full_name_is name asked digest value kind len p longer place last =
     first_is : (x y : Field) → x ∷ [] ≡ y ∷ [] → x ≡ y
     first_is x y e = cc
 
-pub full_name_there : (name asked : List Field) (len : ℕ) → IsPrefix name asked → length asked ≡ length name + 1 → len ≡ length name → None ≡ slice_get asked len → ⊥
-full_name_there name asked len p longer place none =
-    let m = one_more name asked p longer in
-    let at : slice_get asked len ≡ Some m.0 = (λ k. slice_get (m.1 k) (place k)) ∙ get_last name m.0 in
-    let no : None ≡ Some m.0 = none ∙ at in cc
-
 -- a prefix of a full name is the full name, or a prefix of the name
 prefix_of_full : (asked name : List Field) (x : Field) → IsPrefix asked (name ++ x ∷ []) → IsPrefix asked name ⊎ (asked ≡ name ++ x ∷ [])
 prefix_of_full [] name x p = inl (name, refl)
@@ -64,19 +66,109 @@ prefix_of_full (c ∷ asked) (d ∷ name) x p =
       | inr same ↦ inr (λ k. sym first k ∷ same k)
     ]
 
--- a name that is no prefix of the Data's is answered where it is the full name
-pub answers_full : (name asked : List Field) (digest : List ℕ) (flag r : Bool) → (IsPrefix asked name → ⊥) → IsTrue r ↔ (asked ≡ full_name name digest) → IsTrue r ↔ Answers name digest asked flag
-answers_full name asked digest flag r other is = (
-  λ t. inr (inl (is.0 t)),
+-- a name that asks for a digest is answered by that digest
+pub answers_by_digest : (name asked : List Field) (digest value : List ℕ) (flag r : Bool) → asked ≡ full_name name value → IsTrue r ↔ (value ≡ digest) → IsTrue r ↔ Answers name digest asked flag
+answers_by_digest name asked digest value flag r is same = (
+  λ t. inr (inl (is ∙ ap (λ (d : List ℕ). full_name name d) (same.0 t))),
   λ h. elim h [
-    | inl same ↦ absurd (other ([], sym same ∙ sym (append-nil asked)))
-    | inr (inl full) ↦ is.1 full
+    | inl e ↦ absurd (no_prefix ([], sym e ∙ sym (append-nil asked)))
+    | inr (inl e) ↦ same.1 (value_is e)
     | inr (inr p) ↦ elim p.1 [
-      | inl q ↦ absurd (other q)
+      | inl q ↦ absurd (no_prefix q)
       | inr q ↦ elim (prefix_of_full asked name (1, digest) q) [
-        | inl q ↦ absurd (other q)
-        | inr full ↦ is.1 full
+        | inl q ↦ absurd (no_prefix q)
+        | inr e ↦ same.1 (value_is e)
       ]
     ]
   ],
 )
+  where
+    no_prefix : IsPrefix asked name → ⊥
+    no_prefix q = omega (arith, ap length q.1, ap length is, length-append asked q.0, length-append name ((1, value) ∷ []))
+
+    first_is : (x y : Field) → x ∷ [] ≡ y ∷ [] → x ≡ y
+    first_is x y e = cc
+
+    value_is : asked ≡ full_name name digest → value ≡ digest
+    value_is e = ap (λ (f : Field). f.1) (first_is (1, value) (1, digest) (append_cancel_left name ((1, value) ∷ []) ((1, digest) ∷ []) (sym is ∙ e)))
+
+-- any other is answered by name
+by_name : (name asked : List Field) (digest : List ℕ) (flag : Bool) → ((d : List ℕ) → asked ≡ full_name name d → ⊥) → Answers name digest asked flag → AnswersByName name asked flag
+by_name name asked digest flag other (inl e) = inl e
+by_name name asked digest flag other (inr (inl e)) = absurd (other digest e)
+by_name name asked digest flag other (inr (inr (f, inl q))) = inr (f, q)
+by_name name asked digest flag other (inr (inr (f, inr q))) =
+    elim (prefix_of_full asked name (1, digest) q) [
+      | inl q ↦ inr (f, q)
+      | inr e ↦ absurd (other digest e)
+    ]
+
+with_digest : (name asked : List Field) (digest : List ℕ) (flag : Bool) → AnswersByName name asked flag → Answers name digest asked flag
+with_digest name asked digest flag (inl e) = inl e
+with_digest name asked digest flag (inr (f, q)) = inr (inr (f, inl q))
+
+pub answers_by_name : (name asked : List Field) (digest : List ℕ) (flag r : Bool) → ((d : List ℕ) → asked ≡ full_name name d → ⊥) → IsTrue r ↔ AnswersByName name asked flag → IsTrue r ↔ Answers name digest asked flag
+answers_by_name name asked digest flag r other = Decides-like r (with_digest name asked digest flag) (by_name name asked digest flag other)
+
+-- ---- tests
+
+name_is : (a b : List Field) → Decides (eq_by_cmp name_cmp a b) (a ≡ b)
+name_is a b =
+    Decides-like (eq_by_cmp name_cmp a b) (name_cmp-antisymmetric a b)
+    (λ e. subst (λ (n : List Field). name_cmp a n ≡ Equal) e (tied_itself name_cmp-total a)) (Equal-is (name_cmp a b))
+
+component_is : (a b : Field) → Decides (eq_by_cmp component_cmp a b) (a ≡ b)
+component_is a b =
+    Decides-like (eq_by_cmp component_cmp a b) (component_cmp-antisymmetric a b)
+    (λ e. subst (λ (n : Field). component_cmp a n ≡ Equal) e (tied_itself component_cmp-total a)) (Equal-is (component_cmp a b))
+
+pub prefix_is : (a b : List Field) → IsTrue (begins_with a b) ↔ IsPrefix a b
+prefix_is [] b = (λ _. (b, refl), λ _. refl)
+prefix_is (c ∷ a) [] = (λ e. absurd cc, λ p. (let e = p.1 in absurd cc))
+prefix_is (c ∷ a) (d ∷ b) =
+    Decides-like (eq_by_cmp component_cmp c d && begins_with a b)
+    (λ h. (h.1.0, λ k. sym h.0 k ∷ h.1.1 k))
+    (λ p. (first p.0 p.1, (p.0, after p.0 p.1)))
+    (Decides-and (eq_by_cmp component_cmp c d) (begins_with a b) (component_is c d) (prefix_is a b))
+  where
+    first : (rest : List Field) → d ∷ b ≡ (c ∷ a) ++ rest → c ≡ d
+    first rest e = cc
+
+    after : (rest : List Field) → d ∷ b ≡ (c ∷ a) ++ rest → b ≡ a ++ rest
+    after rest e = cc
+
+pub answers_is : (name asked : List Field) (digest : List ℕ) (flag : Bool) → IsTrue (answers name digest asked flag) ↔ Answers name digest asked flag
+unfolding answers
+answers_is name asked digest flag =
+    Decides-like (answers name digest asked flag)
+    (λ h. elim h [
+      | inl e ↦ inl e
+      | inr (inl e) ↦ inr (inl e)
+      | inr (inr p) ↦ inr (inr (p.0, inr p.1))
+    ])
+    (λ h. elim h [
+      | inl e ↦ inl e
+      | inr (inl e) ↦ inr (inl e)
+      | inr (inr p) ↦ inr (inr (
+        p.0,
+        elim p.1 [
+          | inl q ↦ (q.0 ++ (1, digest) ∷ [], ap (λ (n : List Field). full_name n digest) q.1 ∙ append_assoc asked q.0 ((1, digest) ∷ []))
+          | inr q ↦ q
+        ],
+      ))
+    ])
+    (Decides-or (eq_by_cmp name_cmp asked name) (eq_by_cmp name_cmp asked (full_name name digest) || (flag && begins_with asked (full_name name digest)))
+    (name_is asked name)
+    (Decides-or (eq_by_cmp name_cmp asked (full_name name digest)) (flag && begins_with asked (full_name name digest)) (name_is asked (full_name name digest))
+    (Decides-and flag (begins_with asked (full_name name digest)) (λ e. e, λ e. e) (prefix_is asked (full_name name digest)))))
+
+-- a test that decides it is that one
+pub is_answers : (name asked : List Field) (digest : List ℕ) (flag r : Bool) → IsTrue r ↔ Answers name digest asked flag → r ≡ answers name digest asked flag
+is_answers name asked digest flag r is = same_from_decides r (answers name digest asked flag) is (answers_is name asked digest flag)
+
+pub any_digest : (name asked : List Field) (digest other : List ℕ) (flag : Bool) → ((d : List ℕ) → asked ≡ full_name name d → ⊥) → answers name digest asked flag ≡ answers name other asked flag
+any_digest name asked digest other flag none =
+    same_from_decides (answers name digest asked flag) (answers name other asked flag)
+    (Decides-like (answers name digest asked flag) (λ h. with_digest name asked other flag (by_name name asked digest flag none h)) (λ h. with_digest name asked digest flag (by_name name asked other flag none h))
+    (answers_is name asked digest flag))
+    (answers_is name asked other flag)

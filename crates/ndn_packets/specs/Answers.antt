@@ -1,12 +1,15 @@
 -- Which Data answers an Interest (NDN Packet Format 0.3, "Name", "Implicit Digest Component";
 -- "Interest Packet", "CanBePrefix").
-use Rattle.std.specs.Prelude.{◌≡◌, ◌⊎◌, ℕ, List, [], ◌∷◌, ◌++◌, Bool, true}
+use Rattle.std.specs.Prelude.{◌≡◌, ◌⊎◌, ℕ, List, [], ◌∷◌, ◌++◌, Bool, true, false, ◌&&◌, ◌||◌}
+use Rattle.std.specs.Ordering.{eq_by_cmp}
 use Rattle.ndn_tlv.specs.Element.{Field}
 use Rattle.ndn_names.specs.Name.{IsPrefix}
+use Rattle.ndn_names.specs.Order.{component_cmp, name_cmp}
+use Rattle.ndn_names.specs.declared.component_type.TheConstants.{IMPLICIT_SHA256_DIGEST}
 
 -- a name with the implicit digest of its Data after it
 abbrev pub full_name : List Field → List ℕ → List Field
-full_name name digest = name ++ (1, digest) ∷ []
+full_name name digest = name ++ (IMPLICIT_SHA256_DIGEST, digest) ∷ []
 
 -- The Interest's name is the Data's name or its full name or, where the Interest has CanBePrefix, a
 -- prefix of either.
@@ -14,3 +17,21 @@ abbrev pub Answers : List Field → List ℕ → List Field → Bool → Type 0
 Answers name digest asked can_be_prefix =
     (asked ≡ name) ⊎ ((asked ≡ full_name name digest)
     ⊎ ((can_be_prefix ≡ true) × (IsPrefix asked name ⊎ IsPrefix asked (full_name name digest))))
+
+-- what of this needs no digest
+abbrev pub AnswersByName : List Field → List Field → Bool → Type 0
+AnswersByName name asked can_be_prefix =
+    (asked ≡ name) ⊎ ((can_be_prefix ≡ true) × IsPrefix asked name)
+
+-- `IsPrefix` as a test: whether the second name begins with the first
+abbrev pub begins_with : List Field → List Field → Bool
+begins_with [] b = true
+begins_with (c ∷ a) [] = false
+begins_with (c ∷ a) (d ∷ b) = eq_by_cmp component_cmp c d && begins_with a b
+
+-- `Answers` as a test
+unfoldable pub answers : List Field → List ℕ → List Field → Bool → Bool
+answers name digest asked can_be_prefix =
+    eq_by_cmp name_cmp asked name
+    || (eq_by_cmp name_cmp asked (full_name name digest)
+    || (can_be_prefix && begins_with asked (full_name name digest)))

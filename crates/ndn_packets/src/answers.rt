@@ -1,9 +1,11 @@
 //! Which Data answers an Interest (NDN Packet Format 0.3, "Name", "Implicit Digest Component").
 
-ghost use Rattle.std.specs.Prelude.{◌≡◌, ◌↔◌, IsTrue};
+ghost use Rattle.std.specs.Prelude.{◌≡◌, ◌↔◌, ℕ, Bool, List, IsTrue, MatchOption};
 ghost use Rattle.sha2.specs.Sha256.{sha256};
+ghost use Rattle.ndn_tlv.specs.Element.{Field};
+ghost use Rattle.ndn_names.specs.Name.{IsPrefix};
 ghost use Rattle.ndn_names.specs.View.{components};
-ghost use Rattle.ndn_packets.specs.Answers.{full_name, Answers};
+ghost use Rattle.ndn_packets.specs.Answers.{full_name, Answers, AnswersByName, answers, begins_with};
 
 use crate::data::Data;
 use ndn_names::Name;
@@ -29,29 +31,74 @@ impl Data<'_> {
         ensures exact { IsTrue result
             ↔ Answers (components self.now.name) (sha256 self.now.whole.now)
             (components asked.entry) can_be_prefix }
+        ensures test { result
+            ≡ answers (components self.now.name) (sha256 self.now.whole.now)
+            (components asked.entry) can_be_prefix }
         // The name and the digest are those of one Data.
         ensures packet { IsReadData self.now }
     {
-        if asked.is_prefix_of(self.name) {
-            return can_be_prefix || self.name.is_prefix_of(asked);
+        match self.asked_digest(asked) {
+            Some(digest) => digest == self.digest().as_slice(),
+            None => self.answers_by_name(asked, can_be_prefix),
         }
-        self.is_full_name(asked)
     }
 
-    /// Whether this is the full name.
-    fn is_full_name(&self, asked: Name<'_>) -> bool
-        ensures { IsTrue result
-            ↔ (components asked.entry
-            ≡ full_name (components self.now.name) (sha256 self.now.whole.now)) }
+    /// As `answers`, where this is the implicit digest: for one that looks at many Interests, and
+    /// computes it once. Where `asked_digest` answers `None` for all of them, any 32 octets serve.
+    pub fn answers_with(&self, digest: &[u8; 32], asked: Name<'_>, can_be_prefix: bool) -> bool
+        ensures exact { IsTrue result
+            ↔ Answers (components self.now.name) digest.now (components asked.entry)
+            can_be_prefix }
+        ensures test { result
+            ≡ answers (components self.now.name) digest.now (components asked.entry)
+            can_be_prefix }
     {
-        let len = self.name.len();
-        if asked.len() != len + 1 || !self.name.is_prefix_of(asked) {
-            return false;
-        }
-        match asked.component(len) {
-            Some(last) => last.kind == IMPLICIT_SHA256_DIGEST
-                && last.value == self.digest().as_slice(),
-            None => false,
+        match self.asked_digest(asked) {
+            Some(wanted) => wanted == digest.as_slice(),
+            None => self.answers_by_name(asked, can_be_prefix),
         }
     }
+
+    /// The implicit digest that this name asks for, where it is the Data's name and a digest after
+    /// it, right or wrong. For no other name does an answer depend on the digest.
+    pub fn asked_digest<'n>(&self, asked: Name<'n>) -> Option<&'n [u8]>
+        ensures { MatchOption result
+            ((digest : List ℕ)
+            → components asked.entry ≡ full_name (components self.now.name) digest → ⊥)
+            (λ digest. components asked.entry
+            ≡ full_name (components self.now.name) digest.now) }
+    {
+        if !self.name.is_prefix_of(asked) {
+            return None;
+        }
+        let len = self.name.len();
+        if asked.len() != len + 1 {
+            return None;
+        }
+        let last = asked.component(len)?;
+        if last.kind != IMPLICIT_SHA256_DIGEST {
+            return None;
+        }
+        Some(last.value)
+    }
+
+    /// Whether the name is the Interest's or, with CanBePrefix, begins with it.
+    fn answers_by_name(&self, asked: Name<'_>, can_be_prefix: bool) -> bool
+        ensures { IsTrue result
+            ↔ AnswersByName (components self.now.name) (components asked.entry) can_be_prefix }
+    {
+        asked.is_prefix_of(self.name) && (can_be_prefix || self.name.is_prefix_of(asked))
+    }
 }
+
+/// Law: what the tests `answers` and `begins_with` say. A name that is not the Data's with a digest
+/// after it is answered whatever the digest is.
+pub fn answers_can_be_tested()
+    ensures answers { (name asked : List Field) (digest : List ℕ) (can_be_prefix : Bool)
+        → IsTrue (answers name digest asked can_be_prefix)
+        ↔ Answers name digest asked can_be_prefix }
+    ensures prefix { (a b : List Field) → IsTrue (begins_with a b) ↔ IsPrefix a b }
+    ensures digest { (name asked : List Field) (digest other : List ℕ) (can_be_prefix : Bool)
+        → ((d : List ℕ) → asked ≡ full_name name d → ⊥)
+        → answers name digest asked can_be_prefix ≡ answers name other asked can_be_prefix }
+{}

@@ -20,6 +20,7 @@ mod signature;
 mod types;
 mod writing;
 
+pub use answers::answers_can_be_tested;
 pub use covered::{Parts, covered_octets_have_one_reading, signed_packets_have_covered_octets};
 pub use data::Data;
 pub use data_writer::{DataWriter, put_reply};

@@ -92,7 +92,8 @@ fn hop_limits_in_place(rt: HostRuntime) {
 /// A Data: its Name /A, its Content "x", a SignatureInfo of SignatureType 0, an empty signature.
 const DATA: &str = "060f0703080141150178 16031b0100 1700";
 
-/// Whether the Data answers an Interest of a name without CanBePrefix, and with it.
+/// Whether the Data answers an Interest of a name without CanBePrefix, and with it; whether it does
+/// the same where its digest is given; and what the name asks for.
 fn answers(alloc: Global, input: &str) -> Option<String> {
     let asked = NameBuf::from_uri(alloc, input).ok()?;
     let octets = octets(alloc, DATA)?;
@@ -103,7 +104,14 @@ fn answers(alloc: Global, input: &str) -> Option<String> {
         data.answers(asked.view(), false),
         data.answers(asked.view(), true),
     );
-    format!(in alloc; "{exactly} {as_prefix}").ok()
+    let digest = data.digest();
+    let same = data.answers_with(&digest, asked.view(), false) == exactly
+        && data.answers_with(&digest, asked.view(), true) == as_prefix;
+    let wanted = match data.asked_digest(asked.view()) {
+        Some(_) => "digest",
+        None => "name",
+    };
+    format!(in alloc; "{exactly} {as_prefix} {same} {wanted}").ok()
 }
 
 /// The implicit digest of a Data.
@@ -123,15 +131,15 @@ fn data_answers(rt: HostRuntime) {
     check_rows(&rt, rt.alloc(), rows, digest);
     let rows = "
 # The empty name, the name, another name, a longer name, the full name, another component.
-/ -> false true
-/A -> true true
-/B -> false false
-/A/A -> false false
-/A/sha256digest=561abdfddbd70e7224b440f9b482af5e1abb750a267ccfd77b4d23a0d1d41649 -> true true
-/... -> false false
+/ -> false true true name
+/A -> true true true name
+/B -> false false true name
+/A/A -> false false true name
+/A/sha256digest=561abdfddbd70e7224b440f9b482af5e1abb750a267ccfd77b4d23a0d1d41649 -> true true true digest
+/... -> false false true name
 # Another digest, and the digest under another type.
-/A/sha256digest=561abdfddbd70e7224b440f9b482af5e1abb750a267ccfd77b4d23a0d1d41648 -> false false
-/A/params-sha256=561abdfddbd70e7224b440f9b482af5e1abb750a267ccfd77b4d23a0d1d41649 -> false false
+/A/sha256digest=561abdfddbd70e7224b440f9b482af5e1abb750a267ccfd77b4d23a0d1d41648 -> false false true digest
+/A/params-sha256=561abdfddbd70e7224b440f9b482af5e1abb750a267ccfd77b4d23a0d1d41649 -> false false true name
 ";
     check_rows(&rt, rt.alloc(), rows, answers);
 }

@@ -1,18 +1,35 @@
+use Rattle.std.proofs.Common.{sym, ◌∙◌}
+use Rattle.std.specs.Prelude.{◌↔◌, IsTrue}
+use Rattle.std.proofs.lemmas.Slice.Eq.{bytes_eq-Decides}
 use Rattle.sha2.specs.Sha256.{sha256}
 use Rattle.ndn_names.specs.View.{components}
+use Rattle.ndn_packets.specs.Answers.{Answers}
+use Rattle.ndn_packets.proofs.Answering.{answers_by_digest, answers_by_name, is_answers}
 use Rattle.ndn_packets.proofs.Held.{data_read}
-use Rattle.ndn_packets.proofs.Answering.{answers_full}
 use Rattle.ndn_packets.proofs.data.Data.answers.Goals as goal
+use Rattle.ndn_packets.proofs.data.Data.answers.Goals.{After-eq, After-answers_by_name}
 
-pub returns-then-can_be_prefix-clause-packet : goal.returns-then-can_be_prefix-clause-packet
-returns-then-can_be_prefix-clause-packet c = data_read c.args.self.now
+by_digest : (c : After-eq) → IsTrue c.eq.result ↔ Answers (components c.args.self.now.name) (sha256 c.args.self.now.whole.now) (components c.args.asked) c.args.can_be_prefix
+by_digest c =
+    let right = c.as_slice.ensures ∙ c.digest.ensures.exact in
+    let same = bytes_eq-Decides c.in-Some.digest.now c.as_slice.result.now in
+    answers_by_digest (components c.args.self.now.name) (components c.args.asked) (sha256 c.args.self.now.whole.now) c.in-Some.digest.now c.args.can_be_prefix c.eq.result c.in-Some.ensures
+    (λ t. same.0 (sym c.eq.ensures ∙ t) ∙ right, λ e. c.eq.ensures ∙ same.1 (e ∙ sym right))
 
-pub returns-else-can_be_prefix-clause-packet : goal.returns-else-can_be_prefix-clause-packet
-returns-else-can_be_prefix-clause-packet c = data_read c.args.self.now
+by_name : (c : After-answers_by_name) → IsTrue c.answers_by_name.result ↔ Answers (components c.args.self.now.name) (sha256 c.args.self.now.whole.now) (components c.args.asked) c.args.can_be_prefix
+by_name c = answers_by_name (components c.args.self.now.name) (components c.args.asked) (sha256 c.args.self.now.whole.now) c.args.can_be_prefix c.answers_by_name.result c.in-None.ensures c.answers_by_name.ensures
 
-pub returns-clause-packet : goal.returns-clause-packet
-returns-clause-packet c = data_read c.args.self.now
+pub returns-in-Some-clause-exact : goal.returns-in-Some-clause-exact
+returns-in-Some-clause-exact c = by_digest c
 
-pub returns-clause-exact : goal.returns-clause-exact
-returns-clause-exact c =
-    answers_full (components c.args.self.now.name) (components c.args.asked) (sha256 c.args.self.now.whole.now) c.args.can_be_prefix c.is_full_name.result (λ p. cc (c.if-is_prefix_of.ensures.1 p)) c.is_full_name.ensures
+pub returns-in-Some-clause-test : goal.returns-in-Some-clause-test
+returns-in-Some-clause-test c = is_answers _ _ _ _ _ (by_digest c)
+
+pub returns-in-None-clause-exact : goal.returns-in-None-clause-exact
+returns-in-None-clause-exact c = by_name c
+
+pub returns-in-None-clause-test : goal.returns-in-None-clause-test
+returns-in-None-clause-test c = is_answers _ _ _ _ _ (by_name c)
+
+pub returns-in-None-clause-packet : goal.returns-in-None-clause-packet
+returns-in-None-clause-packet c = data_read c.args.self.now
