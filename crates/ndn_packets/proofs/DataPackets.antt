@@ -13,7 +13,8 @@ use Rattle.ndn_packets.specs.Packet.{PlainSignatureInfo, PlainData}
 use Rattle.ndn_packets.specs.Fields.{Fields, optional, is_even_high, data_schema}
 use Rattle.ndn_packets.specs.Grammar.{IsFreshness, IsSignatureInfo}
 use Rattle.ndn_packets.specs.Reading.{fields_from, read_fields, leading_name_at, meta_at, info_at, DataSoFar, nothing_yet, take_data_field, found_or, data_at}
-use Rattle.ndn_packets.proofs.Steps.{bind_ok, good, ok_is, found_some, some_is, none_is_not_some, read, IsBytes-fields, Leads, lead}
+use Rattle.ndn_packets.specs.PacketFaults.{Leads}
+use Rattle.ndn_packets.proofs.Steps.{bind_ok, good, ok_is, found_some, some_is, none_is_not_some, read, IsBytes-fields, lead}
 use Rattle.ndn_packets.proofs.FieldLists.{FieldsRead, fields_found, fields_again, fields_in, fields_keep, Took, took_first, MayBeBytes, AreBytes, bytes_first}
 use Rattle.ndn_packets.proofs.MetaInfos.{meta_found, meta_again}
 use Rattle.ndn_packets.proofs.SignatureInfos.{info_found, info_again}

@@ -10,13 +10,13 @@ use Rattle.ndn_packets.specs.FirstFault.{Passes, HasFault, FirstFault, TellsFirs
 use Rattle.ndn_packets.proofs.Steps.{good, read}
 use Rattle.ndn_packets.proofs.FieldLists.{IsAfter, after_found, after_again, after_none}
 
-ok_is_not_err : {A : Type 0} (y : A) (d : PacketFault) → good y ≡ Err d → ⊥
+pub ok_is_not_err : {A : Type 0} (y : A) (d : PacketFault) → good y ≡ Err d → ⊥
 ok_is_not_err y d e = cc
 
-abbrev bad : (A : Type 0) → PacketFault → Result A PacketFault
+abbrev pub bad : (A : Type 0) → PacketFault → Result A PacketFault
 bad A d = Err d
 
-err_is : (A : Type 0) (d f : PacketFault) → bad A d ≡ bad A f → f ≡ d
+pub err_is : (A : Type 0) (d f : PacketFault) → bad A d ≡ bad A f → f ≡ d
 err_is A d f e = cc
 
 -- the fault is that of the first element, or comes after it

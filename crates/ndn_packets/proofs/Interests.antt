@@ -17,7 +17,8 @@ use Rattle.ndn_packets.specs.Fields.{Fields, optional, flag, is_even_high, inter
 use Rattle.ndn_packets.specs.Grammar.{IsNumber, IsOctet, IsSignatureInfo, IsDigested, IsSigned, IsInterest}
 use Rattle.ndn_packets.specs.Reading.{fields_from, read_fields, leading_name_at, nni_value_at, octet_at, parameters_on, octets_of_read, digest_fault, signature_of, on_option, info_at, InterestSoFar, no_fields_yet, take_interest_field, interest_made, is_nil, found_or, interest_at}
 use Rattle.ndn_packets.proofs.Rules.{is_nil-false}
-use Rattle.ndn_packets.proofs.Steps.{bind_ok, good, err_is_not_ok, unless_ok, ok_is, found_some, not_nil, read, IsBytes-fields, Leads, lead}
+use Rattle.ndn_packets.specs.PacketFaults.{Leads}
+use Rattle.ndn_packets.proofs.Steps.{bind_ok, good, err_is_not_ok, unless_ok, ok_is, found_some, not_nil, read, IsBytes-fields, lead}
 use Rattle.ndn_packets.proofs.FieldLists.{FieldsRead, fields_found, fields_again, fields_in, fields_keep, Took, took_first, took_again, MayBeBytes, AreBytes, bytes_first}
 use Rattle.ndn_packets.proofs.Numbers.{number_found, number_again}
 use Rattle.ndn_packets.proofs.SignatureInfos.{info_found, info_again}

@@ -11,6 +11,7 @@ pub mod SignatureInfos
 pub mod DataPackets
 pub mod Parameters
 pub mod Digests
+pub mod PacketFaults
 pub mod Interests
 pub mod Packets
 pub mod Held

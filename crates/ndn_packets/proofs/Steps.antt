@@ -12,6 +12,7 @@ use Rattle.ndn_names.specs.Reading.{name_at}
 use Rattle.ndn_packets.specs.declared.fault.PacketFault.{PacketFault}
 use Rattle.ndn_packets.specs.declared.fault.PacketFault.TheVariants.{NoName, BadField}
 use Rattle.ndn_packets.specs.Reading.{name_value_at, leading_name_at, is_nil, found_or}
+use Rattle.ndn_packets.specs.PacketFaults.{Leads}
 use Rattle.ndn_packets.proofs.Rules.{is_nil-true}
 
 -- ---- steps that may fail
@@ -73,11 +74,6 @@ IsBytes-fields (f ∷ fields) h = (IsBytes-value f (flat_map element fields) h, 
 pub value_ok : {A F : Type 0} (r : Result A F) (y : A) → on_result (λ x. good x) (λ _. Err BadField) r ≡ Ok y → r ≡ Ok y
 value_ok (Ok x) y e = ap (λ z. Ok z) (ok_is x y e)
 value_ok (Err d) y e = absurd cc
-
-pub record Leads (elements : List (Result Field TlvFault)) (name : List Field) (later : List (Result Field TlvFault)) : Type 0 where
-  pub value : List ℕ
-  pub front : elements ≡ read (7, value) ∷ later
-  pub name_is : name_at value ≡ Ok name
 
 pub lead : (elements : List (Result Field TlvFault)) (x : List Field × List (Result Field TlvFault)) → leading_name_at elements ≡ Ok x → Leads elements x.0 x.1
 lead [] x e = absurd (err_is_not_ok _ x e)

@@ -19,6 +19,12 @@ Passes {S} take ignores schema s (e ∷ elements) later t =
     ⊎ (((next : List ℕ) → Counts e.0 next schema → ⊥) × (ignores e.0 ≡ true)
     × Passes take ignores schema s elements later t)
 
+-- All of the elements can be read and pass, and this has been taken.
+abbrev pub AllPass : {S : Type 0} → (S → Field → Result S PacketFault) → (ℕ → Bool) → List ℕ → S
+    → List (Result Field TlvFault) → List Field → S → Type 0
+AllPass {S} take ignores schema s elements plain t =
+    (elements ≡ map (λ e. Ok e) plain) × ((later : List ℕ) × Passes take ignores schema s plain later t)
+
 -- The fault of what stands next: that it cannot be read comes before that its type is neither a
 -- field's nor ignored, and this before what is wrong with its value.
 abbrev pub HasFault : {S : Type 0} → (S → Field → Result S PacketFault) → (ℕ → Bool) → List ℕ → S

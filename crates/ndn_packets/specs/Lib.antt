@@ -7,6 +7,7 @@ pub mod Key
 pub mod Answers
 pub mod Reading
 pub mod FirstFault
+pub mod PacketFaults
 pub mod FrameReading
 pub mod Covered
 pub mod HopLimit

@@ -1,11 +1,13 @@
-ghost use Rattle.std.specs.Prelude.{◌≡◌, ◌<◌, ℕ, List, [], ◌∷◌, length, Ok, Err, MatchResult, MatchOption, IfOk, IfSome, OnSome, option_map};
+ghost use Rattle.std.specs.Prelude.{◌≡◌, ◌↔◌, ◌<◌, ℕ, List, [], ◌∷◌, length, Ok, Err, MatchResult, MatchOption, IfOk, IfSome, OnSome, option_map};
 ghost use Rattle.ndn_tlv.specs.Reading.{elements_of, on_result};
 ghost use Rattle.ndn_names.specs.View.{components};
 ghost use Rattle.ndn_packets.specs.Fields.{is_even_high, is_ignored_in_meta_info, is_ignored_in_signature_info, interest_schema, data_schema, meta_schema, info_schema};
 ghost use Rattle.ndn_packets.specs.Link.{nack_schema};
+ghost use Rattle.ndn_packets.specs.declared.fault.PacketFault.{PacketFault};
 ghost use Rattle.ndn_packets.specs.FirstFault.{TellsFirstFault};
+ghost use Rattle.ndn_packets.specs.PacketFaults.{InfoFault, InterestFault, DataFault};
 ghost use Rattle.ndn_packets.specs.FrameReading.{take_nack_field};
-ghost use Rattle.ndn_packets.specs.Reading.{schema_after, fields_from, leading_name_at, nni_value_at, take_interest_field, take_data_field, take_meta_field, take_info_field, no_fields_yet, nothing_yet, no_info_yet};
+ghost use Rattle.ndn_packets.specs.Reading.{schema_after, fields_from, leading_name_at, nni_value_at, interest_at, data_at, info_at, take_interest_field, take_data_field, take_meta_field, take_info_field, no_fields_yet, nothing_yet, no_info_yet};
 ghost use Rattle.ndn_packets.specs.FieldReader.{ignored_by, fields_left, StandsHere};
 
 use crate::fault::PacketFault;
@@ -121,4 +123,16 @@ pub fn fields_tell_the_first_fault()
     ensures signature_info { TellsFirstFault take_info_field is_ignored_in_signature_info
         info_schema no_info_yet }
     ensures nack { TellsFirstFault take_nack_field is_even_high nack_schema 0 }
+{}
+
+/// Law: of the value of a packet or of a SignatureInfo the first fault is told: of an Interest and a
+/// Data that of the Name, then the first one among the fields, then a field that is missing, and of
+/// an Interest last the digest of its parameters.
+pub fn packets_tell_the_first_fault()
+    ensures interest { (value : List ℕ) (fault : PacketFault) → (interest_at value ≡ Err fault)
+        ↔ InterestFault (elements_of value) fault }
+    ensures packet { (value : List ℕ) (fault : PacketFault) → (data_at value ≡ Err fault)
+        ↔ DataFault (elements_of value) fault }
+    ensures signature_info { (value : List ℕ) (fault : PacketFault) → (info_at value ≡ Err fault)
+        ↔ InfoFault (elements_of value) fault }
 {}

@@ -25,7 +25,7 @@ pub use covered::{Parts, covered_octets_have_one_reading, signed_packets_have_co
 pub use data::Data;
 pub use data_writer::{DataWriter, put_reply};
 pub use fault::{PacketFault, WriteFault};
-pub use field_reader::fields_tell_the_first_fault;
+pub use field_reader::{fields_tell_the_first_fault, packets_tell_the_first_fault};
 pub use frame::{
     Frame, MAX_FRAME, MAX_PACKET, frames_have_one_reading, packets_in_hand_are_read, read_frame,
 };

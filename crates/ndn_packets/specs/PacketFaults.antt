@@ -1,0 +1,95 @@
+-- The first fault of a packet and of a SignatureInfo, by the elements that stand there, apart from
+-- the functions that read them (NDN Packet Format 0.3, "Interest Packet" and "Data Packet").
+use Rattle.std.specs.Prelude.{◌≡◌, ◌≢◌, ◌⊎◌, ℕ, List, [], ◌∷◌, Option, None, Some, Result, Ok, Err, IsErr}
+use Rattle.ndn_tlv.specs.declared.fault.TlvFault.{TlvFault}
+use Rattle.ndn_tlv.specs.Element.{Field}
+use Rattle.ndn_names.specs.Reading.{name_at}
+use Rattle.ndn_packets.specs.declared.fault.PacketFault.{PacketFault}
+use Rattle.ndn_packets.specs.declared.fault.PacketFault.TheVariants.{Tlv, NoName, BadField, NoNonce, DigestMissing, DigestWrong, DigestWithout}
+use Rattle.ndn_packets.specs.Packet.{digests_in}
+use Rattle.ndn_packets.specs.Fields.{is_even_high, is_ignored_in_signature_info, interest_schema, data_schema, info_schema}
+use Rattle.ndn_packets.specs.Grammar.{IsDigested}
+use Rattle.ndn_packets.specs.Reading.{take_info_field, no_info_yet, InfoSoFar, take_interest_field, no_fields_yet, InterestSoFar, take_data_field, nothing_yet, DataSoFar}
+use Rattle.ndn_packets.specs.FirstFault.{FirstFault, AllPass}
+use Rattle.ndn_packets.specs.declared.types.TheConstants.{NAME}
+
+-- All elements of a SignatureInfo pass, and none is a SignatureType.
+pub record InfoEndsWrong (elements : List (Result Field TlvFault)) (fault : PacketFault) : Type 0 where
+  pub plain : List Field
+  pub taken : InfoSoFar
+  pub pass : AllPass take_info_field is_ignored_in_signature_info info_schema no_info_yet elements
+      plain taken
+  pub missing : taken.kind ≡ None
+  pub told : fault ≡ BadField
+
+abbrev pub InfoFault : List (Result Field TlvFault) → PacketFault → Type 0
+InfoFault elements fault =
+    FirstFault take_info_field is_ignored_in_signature_info info_schema no_info_yet elements fault
+    ⊎ InfoEndsWrong elements fault
+
+-- The elements begin with a Name of these components, and these follow it.
+pub record Leads (elements : List (Result Field TlvFault)) (name : List Field)
+    (later : List (Result Field TlvFault)) : Type 0 where
+  pub value : List ℕ
+  pub front : elements ≡ Ok (NAME, value) ∷ later
+  pub name_is : name_at value ≡ Ok name
+
+-- They do not: there is none, the first cannot be read, is no Name, or its value is not a name's.
+abbrev pub NameFault : List (Result Field TlvFault) → PacketFault → Type 0
+NameFault [] fault = fault ≡ NoName
+NameFault (Err unreadable ∷ later) fault = fault ≡ Tlv unreadable
+NameFault (Ok e ∷ later) fault =
+    ((e.0 ≢ NAME) × (fault ≡ NoName))
+    ⊎ ((e.0 ≡ NAME) × IsErr (name_at e.1) × (fault ≡ BadField))
+
+-- what is wrong with the digests of parameters in a name, where these elements follow it
+abbrev pub DigestFault : List Field → List Field → Option (List ℕ) → PacketFault → Type 0
+DigestFault name elements None fault = (digests_in name ≢ []) × (fault ≡ DigestWithout)
+DigestFault name elements (Some parameters) fault =
+    ((digests_in name ≡ []) × (fault ≡ DigestMissing))
+    ⊎ ((digests_in name ≢ []) × (IsDigested name elements (Some parameters) → ⊥)
+    × (fault ≡ DigestWrong))
+
+-- All elements after the Name pass. That none is a Nonce comes before what is wrong with the
+-- digests.
+pub record InterestEndsWrong (name : List Field) (later : List (Result Field TlvFault))
+    (fault : PacketFault) : Type 0 where
+  pub plain : List Field
+  pub taken : InterestSoFar
+  pub pass : AllPass take_interest_field is_even_high interest_schema no_fields_yet later plain
+      taken
+  pub faulty : ((taken.nonce ≡ None) × (fault ≡ NoNonce))
+      ⊎ ((taken.nonce ≢ None) × DigestFault name plain taken.parameters fault)
+
+-- What is wrong after the Name of an Interest, which may not be empty.
+abbrev pub AfterInterestName : List Field → List (Result Field TlvFault) → PacketFault → Type 0
+AfterInterestName name later fault =
+    ((name ≡ []) × (fault ≡ NoName))
+    ⊎ ((name ≢ [])
+    × (FirstFault take_interest_field is_even_high interest_schema no_fields_yet later fault
+    ⊎ InterestEndsWrong name later fault))
+
+abbrev pub InterestFault : List (Result Field TlvFault) → PacketFault → Type 0
+InterestFault elements fault =
+    NameFault elements fault
+    ⊎ ((name : List Field) × (later : List (Result Field TlvFault)) × Leads elements name later
+    × AfterInterestName name later fault)
+
+-- All elements after the Name pass, and none is a SignatureInfo or none a SignatureValue.
+pub record DataEndsWrong (later : List (Result Field TlvFault)) (fault : PacketFault) : Type 0 where
+  pub plain : List Field
+  pub taken : DataSoFar
+  pub pass : AllPass take_data_field is_even_high data_schema nothing_yet later plain taken
+  pub missing : (taken.info ≡ None) ⊎ (taken.value ≡ None)
+  pub told : fault ≡ BadField
+
+abbrev pub AfterDataName : List (Result Field TlvFault) → PacketFault → Type 0
+AfterDataName later fault =
+    FirstFault take_data_field is_even_high data_schema nothing_yet later fault
+    ⊎ DataEndsWrong later fault
+
+abbrev pub DataFault : List (Result Field TlvFault) → PacketFault → Type 0
+DataFault elements fault =
+    NameFault elements fault
+    ⊎ ((name : List Field) × (later : List (Result Field TlvFault)) × Leads elements name later
+    × AfterDataName later fault)
