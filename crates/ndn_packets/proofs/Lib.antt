@@ -14,6 +14,7 @@ pub mod Digests
 pub mod PacketFaults
 pub mod Interests
 pub mod Packets
+pub mod FrameFaults
 pub mod Held
 pub mod KeyOrder
 pub mod Wholes

@@ -24,22 +24,22 @@ use Rattle.ndn_packets.proofs.Nacks.{nack_found, nack_again}
 -- ---- the header fields that a state leaves room for
 
 -- how many header fields of a type may still come, where one has been met or not
-abbrev room : Bool → ℕ
+abbrev pub room : Bool → ℕ
 room true = 0
 room false = 1
 
 -- the Nacks still to come, where one of a reason has been met or none, and the reason of the link packet's Nack
-abbrev NackAmong : Option ℕ → List Field → Option ℕ → Type 0
+abbrev pub NackAmong : Option ℕ → List Field → Option ℕ → Type 0
 NackAmong None nacks None = nacks ≡ []
 NackAmong None nacks (Some reason) = (value : List ℕ) × (nacks ≡ (800, value) ∷ []) × IsNack value reason
 NackAmong (Some met) nacks nack = (nacks ≡ []) × (nack ≡ Some met)
 
-record Room (s : LinkSoFar) (headers : List Field) (nack : Option ℕ) : Type 0 where
-  sequence : length (headers_of 81 headers) ≤ room s.sequence
-  frag_index : length (headers_of 82 headers) ≤ room s.frag_index
-  frag_count : length (headers_of 83 headers) ≤ room s.frag_count
-  pit_token : length (headers_of 98 headers) ≤ room s.pit_token
-  nacks : NackAmong s.nack (headers_of 800 headers) nack
+pub record Room (s : LinkSoFar) (headers : List Field) (nack : Option ℕ) : Type 0 where
+  pub sequence : length (headers_of 81 headers) ≤ room s.sequence
+  pub frag_index : length (headers_of 82 headers) ≤ room s.frag_index
+  pub frag_count : length (headers_of 83 headers) ≤ room s.frag_count
+  pub pit_token : length (headers_of 98 headers) ≤ room s.pit_token
+  pub nacks : NackAmong s.nack (headers_of 800 headers) nack
 
 one_more : (met : Bool) (n : ℕ) → met ≡ false → n ≤ 0 → suc n ≤ room met
 one_more met n free h = rw free (omega arith)
@@ -50,9 +50,9 @@ one_less false n h = (refl, omega arith)
 
 -- ---- one header field that is read
 
-record Taken (s : LinkSoFar) (e : Field) (t : LinkSoFar) : Type 0 where
-  is_header : IsHeader e
-  leaves : (headers : List Field) (nack : Option ℕ) → Room t headers nack → Room s (e ∷ headers) nack
+pub record Taken (s : LinkSoFar) (e : Field) (t : LinkSoFar) : Type 0 where
+  pub is_header : IsHeader e
+  pub leaves : (headers : List Field) (nack : Option ℕ) → Room t headers nack → Room s (e ∷ headers) nack
 
 at_most_found : (limit : ℕ) (v : List ℕ) (u t : LinkSoFar) → IsBytes v → at_most limit v u ≡ Ok t → (n : ℕ) × IsNni v n × (n ≤ limit) × (u ≡ t)
 at_most_found limit v u t fits e =
@@ -124,10 +124,10 @@ ignored_found s e is =
       };
     }
 
-abbrev TakenAt : LinkSoFar → LinkSoFar → List ℕ → ℕ → Type 0
+abbrev pub TakenAt : LinkSoFar → LinkSoFar → List ℕ → ℕ → Type 0
 TakenAt s t v kind = is_refused_header s (kind, v) ≡ false → with_header s (kind, v) ≡ Ok t → Taken s (kind, v) t
 
-header_found : (s t : LinkSoFar) (e : Field) → IsBytes e.1 → TakenAt s t e.1 e.0
+pub header_found : (s t : LinkSoFar) (e : Field) → IsBytes e.1 → TakenAt s t e.1 e.0
 header_found s t e fits =
     elim (cases_eq e.0 81) [
       | inl is ↦ subst (TakenAt s t e.1) (sym is) (sequence_found s t e.1)
@@ -149,11 +149,11 @@ header_found s t e fits =
 
 -- ---- one header field that is in the grammar
 
-record Again (s : LinkSoFar) (e : Field) (headers : List Field) (nack : Option ℕ) : Type 0 where
-  after : LinkSoFar
-  no_fragment : eqb e.0 80 ≡ false
-  taken : take_header s e ≡ Ok after
-  left : Room after headers nack
+pub record Again (s : LinkSoFar) (e : Field) (headers : List Field) (nack : Option ℕ) : Type 0 where
+  pub after : LinkSoFar
+  pub no_fragment : eqb e.0 80 ≡ false
+  pub taken : take_header s e ≡ Ok after
+  pub left : Room after headers nack
 
 abbrev AgainAt : LinkSoFar → List Field → Option ℕ → List ℕ → ℕ → Type 0
 AgainAt s headers nack v kind = Room s ((kind, v) ∷ headers) nack → Again s (kind, v) headers nack
@@ -240,7 +240,7 @@ ignored_again s e headers nack is r =
       };
     }
 
-header_again : (s : LinkSoFar) (e : Field) (headers : List Field) (nack : Option ℕ) → IsHeader e → Room s (e ∷ headers) nack → Again s e headers nack
+pub header_again : (s : LinkSoFar) (e : Field) (headers : List Field) (nack : Option ℕ) → IsHeader e → Room s (e ∷ headers) nack → Again s e headers nack
 header_again s e headers nack (inl is) = subst (AgainAt s headers nack e.1) (sym is) (sequence_again s e.1 headers nack)
 header_again s e headers nack (inr (inl h)) = subst (AgainAt s headers nack e.1) (sym h.0) (frag_index_again s e.1 headers nack h.1)
 header_again s e headers nack (inr (inr (inl h))) = subst (AgainAt s headers nack e.1) (sym h.0) (frag_count_again s e.1 headers nack h.1.0 h.1.1 h.1.2)
@@ -267,7 +267,7 @@ nothing_left : (nack : Option ℕ) → NackAmong nack [] nack
 nothing_left None = refl
 nothing_left (Some reason) = (refl, refl)
 
-no_more : (s : LinkSoFar) → Room s [] s.nack
+pub no_more : (s : LinkSoFar) → Room s [] s.nack
 no_more s = record { sequence = omega arith; frag_index = omega arith; frag_count = omega arith; pit_token = omega arith; nacks = nothing_left s.nack }
 
 last_found : (elements : List (Result Field TlvFault)) (f frame : PlainFrame) → last_of f elements ≡ Ok frame → (elements ≡ []) × (f ≡ frame)
@@ -308,7 +308,7 @@ parts_found s (Ok x ∷ elements) frame e =
           }
     ] refl e
 
-nack_is : (met nack : Option ℕ) → NackAmong met [] nack → met ≡ nack
+pub nack_is : (met nack : Option ℕ) → NackAmong met [] nack → met ≡ nack
 nack_is None None h = refl
 nack_is None (Some n) h = absurd (let no = h.1 in cc)
 nack_is (Some m) nack h = sym h.1
@@ -334,11 +334,11 @@ pub record LinkValue (value : List ℕ) (frame : PlainFrame) : Type 0 where
   pub fits : MayBeBytes fragment
   pub holds : held nack fragment ≡ Ok frame
 
-nack_of : (headers : List Field) (nack : Option ℕ) → NackAmong None (headers_of 800 headers) nack → IsNackOf headers nack × (length (headers_of 800 headers) ≤ 1)
+pub nack_of : (headers : List Field) (nack : Option ℕ) → NackAmong None (headers_of 800 headers) nack → IsNackOf headers nack × (length (headers_of 800 headers) ≤ 1)
 nack_of headers None h = (h, omega (arith, ap length h))
 nack_of headers (Some reason) h = (h, omega (arith, ap length h.1))
 
-nack_among : (headers : List Field) (nack : Option ℕ) → IsNackOf headers nack → NackAmong None (headers_of 800 headers) nack
+pub nack_among : (headers : List Field) (nack : Option ℕ) → IsNackOf headers nack → NackAmong None (headers_of 800 headers) nack
 nack_among headers None h = h
 nack_among headers (Some reason) h = h
 

@@ -55,10 +55,10 @@ is_nil_is : {A : Type 0} (xs : List A) → is_nil xs ≡ true → xs ≡ []
 is_nil_is [] e = refl
 is_nil_is (x ∷ xs) e = absurd cc
 
-IsBytes-inside : (text value : List ℕ) (kind : ℕ) → IsBytes text → IsElement text kind value → IsBytes value
+pub IsBytes-inside : (text value : List ℕ) (kind : ℕ) → IsBytes text → IsElement text kind value → IsBytes value
 IsBytes-inside text value kind fits outer = IsBytes-back (spelling (length value)) value (IsBytes-back (spelling kind) (spelling (length value) ++ value) (subst IsBytes outer.1 fits))
 
-one_element : (r : Result (Field × List ℕ) TlvFault) (outer : Field) → on_result (λ x. cond (is_nil x.1) (good x.0) (Err BadField)) (λ f. Err (Tlv f)) r ≡ Ok outer → r ≡ seen outer.0 outer.1 []
+pub one_element : (r : Result (Field × List ℕ) TlvFault) (outer : Field) → on_result (λ x. cond (is_nil x.1) (good x.0) (Err BadField)) (λ f. Err (Tlv f)) r ≡ Ok outer → r ≡ seen outer.0 outer.1 []
 one_element (Err f) outer e = absurd (err_is_not_ok _ outer e)
 one_element (Ok (f, [])) outer e = ap (λ (g : Field). seen g.0 g.1 []) (ok_is f outer e)
 one_element (Ok (f, o ∷ rest)) outer e = absurd (err_is_not_ok _ outer e)

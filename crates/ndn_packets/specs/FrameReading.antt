@@ -1,6 +1,6 @@
 -- Reading octets of a link from left to right, with the first fault that is met (NDNLPv2, "Packet
 -- Format", "Fragmentation", "Network Nack", "PIT Token").
-use Rattle.std.specs.Prelude.{◌≡◌, ℕ, List, [], ◌∷◌, length, Option, None, Some, Result, Ok, Err, Bool, true, false, is_some, nat_lt, nat_le, ◌==◌, ◌&&◌, ◌||◌, not, if◌then◌else◌}
+use Rattle.std.specs.Prelude.{ℕ, List, [], ◌∷◌, length, Option, None, Some, Result, Ok, Err, Bool, true, false, is_some, nat_lt, nat_le, ◌==◌, ◌&&◌, ◌||◌, not, if◌then◌else◌}
 use Rattle.ndn_tlv.specs.declared.fault.TlvFault.{TlvFault}
 use Rattle.ndn_tlv.specs.Element.{Field}
 use Rattle.ndn_tlv.specs.Reading.{◌>>=◌, on_result, element_at, elements_of}
@@ -164,7 +164,3 @@ outer_of text outer = if outer.0 == LINK_PACKET then link_at outer.1 else packet
 unfoldable pub frame_at : List ℕ → Result PlainFrame PacketFault
 frame_at text =
     if nat_lt 9000 (length text) then Err TooLong else (only_element text >>= outer_of text)
-
--- the first fault of a text that is no frame
-abbrev pub FaultOf : List ℕ → PacketFault → Type 0
-FaultOf text fault = frame_at text ≡ Err fault

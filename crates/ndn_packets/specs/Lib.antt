@@ -9,6 +9,7 @@ pub mod Reading
 pub mod FirstFault
 pub mod PacketFaults
 pub mod FrameReading
+pub mod FrameFaults
 pub mod Covered
 pub mod HopLimit
 pub mod Writing

@@ -5,7 +5,9 @@ ghost use Rattle.ndn_packets.specs.View.{plain_frame, IsReadInterest, IsReadData
 ghost use Rattle.ndn_packets.specs.declared.interest.Interest.{Interest};
 ghost use Rattle.ndn_packets.specs.declared.data.Data.{Data};
 ghost use Rattle.ndn_packets.specs.Link.{IsFrame};
-ghost use Rattle.ndn_packets.specs.FrameReading.{only_element, packet_of, nacked_of, frame_at, FaultOf};
+ghost use Rattle.ndn_packets.specs.FrameReading.{only_element, packet_of, nacked_of, frame_at};
+ghost use Rattle.ndn_packets.specs.FrameFaults.{FaultOf};
+ghost use Rattle.ndn_packets.specs.declared.fault.PacketFault.{PacketFault};
 
 use crate::data::Data;
 use crate::fault::PacketFault;
@@ -129,6 +131,13 @@ pub fn frames_have_one_reading()
     ensures one { (text : List ℕ) (a b : PlainFrame) → IsFrame text a → IsFrame text b → a ≡ b }
     ensures exact { (text : List ℕ) (frame : PlainFrame) → ((i : ℕ) → slice_index text i < 256)
         → ((frame_at text ≡ Ok frame) ↔ IsFrame text frame) }
+{}
+
+/// Law: of octets that are no frame the first fault is told: that they are too long, then that of
+/// the outer element, and then the first one of the packet or of the link packet.
+pub fn frames_tell_the_first_fault()
+    ensures { (text : List ℕ) (fault : PacketFault) → ((i : ℕ) → slice_index text i < 256)
+        → ((frame_at text ≡ Err fault) ↔ FaultOf text fault) }
 {}
 
 /// Law: the received octets of every Interest and every Data in hand are that packet, also where it

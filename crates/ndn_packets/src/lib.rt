@@ -27,7 +27,8 @@ pub use data_writer::{DataWriter, put_reply};
 pub use fault::{PacketFault, WriteFault};
 pub use field_reader::{fields_tell_the_first_fault, packets_tell_the_first_fault};
 pub use frame::{
-    Frame, MAX_FRAME, MAX_PACKET, frames_have_one_reading, packets_in_hand_are_read, read_frame,
+    Frame, MAX_FRAME, MAX_PACKET, frames_have_one_reading, frames_tell_the_first_fault,
+    packets_in_hand_are_read, read_frame,
 };
 pub use hop_limit::hop_limit_mut;
 pub use interest::Interest;

@@ -12,7 +12,7 @@ use Rattle.ndn_packets.specs.declared.interest_writer.InterestWriter.{InterestWr
 use Rattle.ndn_packets.specs.declared.data_writer.DataWriter.{DataWriter}
 use Rattle.ndn_packets.specs.Packet.{PlainFrame}
 use Rattle.ndn_packets.specs.Link.{IsFrame}
-use Rattle.ndn_packets.specs.FrameReading.{FaultOf}
+use Rattle.ndn_packets.specs.FrameFaults.{FaultOf}
 use Rattle.ndn_packets.specs.Writing.{interest_text, interest_refusal, data_text, data_refusal}
 use Rattle.ndn_tool.specs.declared.job.InterestJob.{InterestJob}
 use Rattle.ndn_tool.specs.declared.job.DataJob.{DataJob}

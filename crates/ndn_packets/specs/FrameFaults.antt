@@ -1,0 +1,131 @@
+-- The first fault of octets of a link, by the elements that stand there, apart from the functions
+-- that read them (NDNLPv2, "Packet Format", "Fragmentation", "Network Nack", "PIT Token").
+use Rattle.std.specs.Prelude.{◌≡◌, ◌≢◌, ◌⊎◌, ℕ, ◌<◌, ◌≤◌, List, [], ◌∷◌, ◌++◌, length, map, Option, None, Some, IsSome, Result, Ok, Err, IsErr, false}
+use Rattle.std.specs.List.{AllByRecursion}
+use Rattle.ndn_tlv.specs.declared.fault.TlvFault.{TlvFault}
+use Rattle.ndn_tlv.specs.Element.{Field}
+use Rattle.ndn_tlv.specs.Reading.{element_at, elements_of, nni_at}
+use Rattle.ndn_packets.specs.declared.fault.PacketFault.{PacketFault}
+use Rattle.ndn_packets.specs.declared.fault.PacketFault.TheVariants.{Tlv, BadField, Fragmented, LpField, TooLong}
+use Rattle.ndn_packets.specs.Fields.{is_even_high}
+use Rattle.ndn_packets.specs.Link.{known_headers, is_ignored_header, nack_schema, IsHeader, headers_of, IsNackOf}
+use Rattle.ndn_packets.specs.FirstFault.{FirstFault}
+use Rattle.ndn_packets.specs.PacketFaults.{InterestFault, DataFault}
+use Rattle.ndn_packets.specs.FrameReading.{take_nack_field}
+use Rattle.ndn_packets.specs.declared.types.TheConstants.{DATA, FRAGMENT, FRAG_COUNT, FRAG_INDEX, INTEREST, LINK_PACKET, NACK, PIT_TOKEN, SEQUENCE}
+
+-- ---- packets
+
+-- The octets are not one element: it cannot be read, or octets follow it.
+abbrev pub OuterFault : List ℕ → PacketFault → Type 0
+OuterFault text fault =
+    ((unreadable : TlvFault) × (element_at text ≡ Err unreadable) × (fault ≡ Tlv unreadable))
+    ⊎ ((e : Field) × (rest : List ℕ) × (element_at text ≡ Ok (e, rest)) × (rest ≢ [])
+    × (fault ≡ BadField))
+
+-- they are this one
+abbrev pub IsAlone : List ℕ → Field → Type 0
+IsAlone text e = element_at text ≡ Ok (e, [])
+
+-- That a packet is too long comes before the fault of its value.
+abbrev pub LongOr : List ℕ → PacketFault → Type 0 → Type 0
+LongOr text fault Otherwise =
+    ((8800 < length text) × (fault ≡ TooLong)) ⊎ ((length text ≤ 8800) × Otherwise)
+
+abbrev pub NoInterest : List ℕ → Field → PacketFault → Type 0
+NoInterest text e fault = LongOr text fault (InterestFault (elements_of e.1) fault)
+
+abbrev pub NoData : List ℕ → Field → PacketFault → Type 0
+NoData text e fault = LongOr text fault (DataFault (elements_of e.1) fault)
+
+-- the octets, which are this element, are neither an Interest nor a Data
+abbrev pub NoPacket : List ℕ → Field → PacketFault → Type 0
+NoPacket text e fault =
+    ((e.0 ≡ INTEREST) × NoInterest text e fault)
+    ⊎ (((e.0 ≡ DATA) × NoData text e fault)
+    ⊎ ((e.0 ≢ INTEREST) × (e.0 ≢ DATA) × (fault ≡ BadField)))
+
+-- ---- link packets
+
+-- what a Fragment holds beside a Nack, which has to be an Interest, or without one
+abbrev pub NoneInside : Option ℕ → List ℕ → Field → PacketFault → Type 0
+NoneInside None text e fault = NoPacket text e fault
+NoneInside (Some reason) text e fault =
+    ((e.0 ≡ INTEREST) × NoInterest text e fault) ⊎ ((e.0 ≢ INTEREST) × (fault ≡ BadField))
+
+abbrev pub FragmentFault : Option ℕ → List ℕ → PacketFault → Type 0
+FragmentFault nack text fault =
+    OuterFault text fault ⊎ ((e : Field) × IsAlone text e × NoneInside nack text e fault)
+
+abbrev pub IsKnown : ℕ → Type 0
+IsKnown kind =
+    (kind ≡ SEQUENCE)
+    ⊎ ((kind ≡ FRAG_INDEX) ⊎ ((kind ≡ FRAG_COUNT) ⊎ ((kind ≡ PIT_TOKEN) ⊎ (kind ≡ NACK))))
+
+-- A header field may not stand after these: it is a known one that stands among them, a PitToken
+-- not of 1 to 32 octets, or an unknown one that is not ignored.
+abbrev pub IsRefused : List Field → Field → Type 0
+IsRefused before h =
+    (IsKnown h.0 × (headers_of h.0 before ≢ []))
+    ⊎ (((h.0 ≡ PIT_TOKEN) × ((length h.1 < 1) ⊎ (32 < length h.1)))
+    ⊎ ((IsKnown h.0 → ⊥) × (is_ignored_header h.0 ≡ false)))
+
+-- the value is no number, or one above the limit
+abbrev pub IsAbove : ℕ → List ℕ → PacketFault → Type 0
+IsAbove limit value fault =
+    (IsErr (nni_at value) × (fault ≡ BadField))
+    ⊎ ((n : ℕ) × (nni_at value ≡ Ok n) × (limit < n) × (fault ≡ Fragmented))
+
+abbrev pub HeaderValueFault : Field → PacketFault → Type 0
+HeaderValueFault h fault =
+    ((h.0 ≡ FRAG_INDEX) × IsAbove 0 h.1 fault)
+    ⊎ (((h.0 ≡ FRAG_COUNT) × IsAbove 1 h.1 fault)
+    ⊎ ((h.0 ≡ NACK)
+    × FirstFault take_nack_field is_even_high nack_schema 0 (elements_of h.1) fault))
+
+-- That it may not stand there comes before what is wrong with its value.
+abbrev pub HeaderFault : List Field → Field → PacketFault → Type 0
+HeaderFault before h fault =
+    (IsRefused before h × (fault ≡ LpField))
+    ⊎ ((IsRefused before h → ⊥) × HeaderValueFault h fault)
+
+-- nothing may follow a Fragment
+abbrev pub FollowerFault : List (Result Field TlvFault) → PacketFault → Type 0
+FollowerFault [] fault = ⊥
+FollowerFault (Err unreadable ∷ after) fault = fault ≡ Tlv unreadable
+FollowerFault (Ok e ∷ after) fault = fault ≡ LpField
+
+-- The fault of what follows header fields that have none, where these have a Nack of this reason or
+-- none: a Nack needs a Fragment, and what a Fragment holds comes before what follows it.
+abbrev pub AfterHeaders : List Field → Option ℕ → List (Result Field TlvFault) → PacketFault
+    → Type 0
+AfterHeaders headers nack [] fault = IsSome nack × (fault ≡ BadField)
+AfterHeaders headers nack (Err unreadable ∷ after) fault = fault ≡ Tlv unreadable
+AfterHeaders headers nack (Ok e ∷ after) fault =
+    ((e.0 ≢ FRAGMENT) × HeaderFault headers e fault)
+    ⊎ ((e.0 ≡ FRAGMENT)
+    × (FragmentFault nack e.1 fault
+    ⊎ (((other : PacketFault) → FragmentFault nack e.1 other → ⊥) × FollowerFault after fault)))
+
+-- The first fault of a link packet, by the elements of its value.
+pub record LinkFault (elements : List (Result Field TlvFault)) (fault : PacketFault) : Type 0 where
+  pub headers : List Field
+  pub nack : Option ℕ
+  pub rest : List (Result Field TlvFault)
+  pub elements_are : elements ≡ map (λ h. Ok h) headers ++ rest
+  pub allowed : AllByRecursion IsHeader headers
+  pub once : AllByRecursion (λ kind. length (headers_of kind headers) ≤ 1) known_headers
+  pub nacked : IsNackOf headers nack
+  pub faulty : AfterHeaders headers nack rest fault
+
+-- ---- frames
+
+-- The first fault of octets that are no frame.
+abbrev pub FaultOf : List ℕ → PacketFault → Type 0
+FaultOf text fault =
+    ((9000 < length text) × (fault ≡ TooLong))
+    ⊎ ((length text ≤ 9000)
+    × (OuterFault text fault
+    ⊎ ((e : Field) × IsAlone text e
+    × (((e.0 ≡ LINK_PACKET) × LinkFault (elements_of e.1) fault)
+    ⊎ ((e.0 ≢ LINK_PACKET) × NoPacket text e fault)))))
