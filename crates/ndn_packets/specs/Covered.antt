@@ -4,6 +4,7 @@ use Rattle.std.specs.List.{AllByRecursion}
 use Rattle.sha2.specs.Sha256.{sha256}
 use Rattle.ndn_tlv.specs.Element.{Field, IsField, element, IsElement}
 use Rattle.ndn_tlv.specs.Reading.{on_result, element_at}
+use Rattle.ndn_names.specs.declared.component_type.TheConstants.{PARAMETERS_SHA256_DIGEST}
 use Rattle.ndn_packets.specs.Packet.{PlainFrame, AnInterest, AData, ANack, Idle}
 use Rattle.ndn_packets.specs.declared.types.TheConstants.{APPLICATION_PARAMETERS, DATA, INTEREST, INTEREST_SIGNATURE_INFO, INTEREST_SIGNATURE_VALUE, SIGNATURE_VALUE}
 
@@ -50,7 +51,7 @@ pub record CoversInterest (name : List Field) (text first second : List ℕ) : T
   pub from_info : List ℕ
   pub to_signature : List ℕ
   pub from_signature : List ℕ
-  pub named : name ≡ components ++ (2, digest) ∷ []
+  pub named : name ≡ components ++ (PARAMETERS_SHA256_DIGEST, digest) ∷ []
   pub outer : IsElement text INTEREST value
   pub parameters : IsCut APPLICATION_PARAMETERS value early from_parameters
   pub info : IsCut INTEREST_SIGNATURE_INFO from_parameters to_info from_info
@@ -68,7 +69,8 @@ Covered Idle first second = ⊥
 
 -- the last component is a digest of parameters
 abbrev pub EndsInDigest : List Field → Type 0
-EndsInDigest name = (front : List Field) × (digest : List ℕ) × (name ≡ front ++ (2, digest) ∷ [])
+EndsInDigest name =
+    (front : List Field) × (digest : List ℕ) × (name ≡ front ++ (PARAMETERS_SHA256_DIGEST, digest) ∷ [])
 
 -- The octets end where the element of a signature's value begins, in an Interest of this name: the
 -- first ones are all components before the digest of parameters, and the second ones begin where
@@ -79,7 +81,10 @@ pub record EndsAtSignature (name : List Field) (value text first second : List �
   pub after : List ℕ
   pub named : name
       ≡ components
-      ++ (2, sha256 (second ++ (element (INTEREST_SIGNATURE_VALUE, value) ++ after))) ∷ []
+      ++ (
+        PARAMETERS_SHA256_DIGEST,
+        sha256 (second ++ (element (INTEREST_SIGNATURE_VALUE, value) ++ after)),
+      ) ∷ []
   pub first_is : first ≡ flat_map element components
   pub outer : IsElement text INTEREST
       (early ++ (second ++ (element (INTEREST_SIGNATURE_VALUE, value) ++ after)))

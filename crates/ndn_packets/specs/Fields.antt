@@ -4,7 +4,7 @@
 use Rattle.std.specs.Prelude.{◌≡◌, ◌≢◌, ℕ, ◌⊎◌, ◌%◌, List, [], ◌∷◌, ◌++◌, Option, None, Some, Bool, true, false, nat_le, ◌==◌, ◌&&◌, ◌||◌}
 use Rattle.std.specs.List.{AllByRecursion}
 use Rattle.ndn_tlv.specs.Element.{Field}
-use Rattle.ndn_packets.specs.declared.types.TheConstants.{APPLICATION_PARAMETERS, CAN_BE_PREFIX, CONTENT, CONTENT_TYPE, FINAL_BLOCK_ID, FORWARDING_HINT, FRESHNESS_PERIOD, HOP_LIMIT, INTEREST_LIFETIME, INTEREST_SIGNATURE_INFO, INTEREST_SIGNATURE_VALUE, KEY_LOCATOR, META_INFO, MUST_BE_FRESH, NONCE, SIGNATURE_INFO, SIGNATURE_NONCE, SIGNATURE_SEQ_NUM, SIGNATURE_TIME, SIGNATURE_TYPE, SIGNATURE_VALUE}
+use Rattle.ndn_packets.specs.declared.types.TheConstants.{APPLICATION_PARAMETERS, CAN_BE_PREFIX, CONTENT, CONTENT_TYPE, FINAL_BLOCK_ID, FORWARDING_HINT, FRESHNESS_PERIOD, HOP_LIMIT, INTEREST_LIFETIME, INTEREST_SIGNATURE_INFO, INTEREST_SIGNATURE_VALUE, KEY_LOCATOR, META_INFO, MUST_BE_FRESH, NONCE, SIGNATURE_INFO, SIGNATURE_NONCE, SIGNATURE_SEQ_NUM, SIGNATURE_TIME, SIGNATURE_TYPE, SIGNATURE_VALUE, VALIDITY_PERIOD}
 
 -- the types that are ignored where an element is no field: even ones from 32 on
 abbrev pub is_even_high : ℕ → Bool
@@ -14,9 +14,9 @@ is_even_high kind = nat_le 32 kind && (kind % 2 == 0)
 abbrev pub is_ignored_in_meta_info : ℕ → Bool
 is_ignored_in_meta_info kind = is_even_high kind || (nat_le 128 kind && nat_le kind 252)
 
--- in a SignatureInfo also those of the type 253
+-- in a SignatureInfo also a ValidityPeriod
 abbrev pub is_ignored_in_signature_info : ℕ → Bool
-is_ignored_in_signature_info kind = is_even_high kind || kind == 253
+is_ignored_in_signature_info kind = is_even_high kind || kind == VALIDITY_PERIOD
 
 -- the fields of an Interest and of a Data after their Name, of a MetaInfo and of a SignatureInfo
 abbrev pub interest_schema : List ℕ

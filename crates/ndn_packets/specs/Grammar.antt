@@ -4,6 +4,7 @@ use Rattle.std.specs.Prelude.{◌≡◌, ◌≢◌, ℕ, ◌<◌, ◌≤◌, Lis
 use Rattle.ndn_tlv.specs.Number.{IsNni}
 use Rattle.sha2.specs.Sha256.{sha256}
 use Rattle.ndn_tlv.specs.Element.{Field, element, IsElement, IsElements}
+use Rattle.ndn_names.specs.declared.component_type.TheConstants.{PARAMETERS_SHA256_DIGEST}
 use Rattle.ndn_names.specs.Name.{IsNameValue}
 use Rattle.ndn_packets.specs.Packet.{digests_in}
 use Rattle.ndn_packets.specs.Fields.{Fields, optional, flag, is_even_high, is_ignored_in_meta_info, is_ignored_in_signature_info, interest_schema, data_schema, meta_schema, info_schema}
@@ -96,7 +97,8 @@ from_parameters (e ∷ elements) =
 abbrev pub IsDigested : List Field → List Field → Option (List ℕ) → Type 0
 IsDigested name elements None = digests_in name ≡ []
 IsDigested name elements (Some parameters) =
-    digests_in name ≡ (2, sha256 (flat_map element (from_parameters elements))) ∷ []
+    digests_in name
+    ≡ (PARAMETERS_SHA256_DIGEST, sha256 (flat_map element (from_parameters elements))) ∷ []
 
 -- An Interest is signed where it has both an InterestSignatureInfo and an InterestSignatureValue.
 -- The first alone has to be right too.

@@ -1,6 +1,7 @@
 -- Packets as plain data, without where they lie in memory.
 use Rattle.std.specs.Prelude.{ℕ, List, Option, Bool, filter, ◌==◌}
 use Rattle.ndn_tlv.specs.Element.{Field}
+use Rattle.ndn_names.specs.declared.component_type.TheConstants.{PARAMETERS_SHA256_DIGEST}
 use Rattle.ndn_names.specs.View.{components}
 use Rattle.ndn_packets.specs.declared.signature.Locator.{Locator}
 use Rattle.ndn_packets.specs.declared.signature.Locator.TheVariants as locators
@@ -48,7 +49,7 @@ pub data PlainFrame : Type 0 where
 
 -- the components of a name that are digests of parameters
 abbrev pub digests_in : List Field → List Field
-digests_in name = filter (λ c. c.0 == 2) name
+digests_in name = filter (λ c. c.0 == PARAMETERS_SHA256_DIGEST) name
 
 abbrev pub plain_locator : Locator → PlainLocator
 plain_locator locators.Missing = Missing

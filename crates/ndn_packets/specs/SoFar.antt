@@ -1,6 +1,7 @@
 -- What readers have found so far, without where it lies in memory.
 use Rattle.std.specs.Prelude.{◌≡◌, List, [], ◌∷◌}
 use Rattle.std.specs.Option.{option_map}
+use Rattle.ndn_names.specs.declared.component_type.TheConstants.{PARAMETERS_SHA256_DIGEST}
 use Rattle.ndn_packets.specs.declared.data.DataFields.{DataFields}
 use Rattle.ndn_tlv.specs.Element.{Field}
 use Rattle.ndn_packets.specs.declared.interest.Digests.{Digests}
@@ -61,5 +62,5 @@ interest_so_far f = record {
 -- the digests of parameters in a name
 abbrev pub AreDigests : Digests → List Field → Type 0
 AreDigests digests.None all = all ≡ []
-AreDigests (digests.One digest) all = all ≡ (2, digest.now) ∷ []
+AreDigests (digests.One digest) all = all ≡ (PARAMETERS_SHA256_DIGEST, digest.now) ∷ []
 AreDigests digests.Many all = (d e : Field) × (others : List Field) × (all ≡ d ∷ e ∷ others)

@@ -6,6 +6,7 @@ use Rattle.sha2.specs.Sha256.{sha256}
 use Rattle.ndn_tlv.specs.Number.{shortest_nni}
 use Rattle.ndn_tlv.specs.Element.{Field, element}
 use Rattle.ndn_names.specs.View.{components}
+use Rattle.ndn_names.specs.declared.component_type.TheConstants.{PARAMETERS_SHA256_DIGEST}
 use Rattle.ndn_packets.specs.declared.fault.WriteFault.{WriteFault}
 use Rattle.ndn_packets.specs.declared.fault.WriteFault.TheVariants.{BadName, TooLong}
 use Rattle.hmac_keys.specs.Mac.{Mac}
@@ -98,7 +99,7 @@ early_fields w =
 -- the name, and after it a digest, where there are fields from the ApplicationParameters on
 abbrev pub name_with : List ℕ → List Field → List Field → List Field
 name_with digest name [] = name
-name_with digest name (f ∷ fields) = name ++ (2, digest) ∷ []
+name_with digest name (f ∷ fields) = name ++ (PARAMETERS_SHA256_DIGEST, digest) ∷ []
 
 -- the digest is that of their octets
 abbrev pub interest_name : InterestWriter → List Field

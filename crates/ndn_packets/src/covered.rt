@@ -107,7 +107,7 @@ fn before_digest(name: Name<'_>) -> Option<&[u8]>
     ensures { MatchOption result
         (EndsInDigest (components name.entry) → ⊥)
         (λ octets. (front : List Field) × (digest : List ℕ)
-        × (components name.entry ≡ front ++ (2, digest) ∷ [])
+        × (components name.entry ≡ front ++ (PARAMETERS_SHA256_DIGEST, digest) ∷ [])
         × (octets.now ≡ flat_map element front)) }
 {
     let count = name.len().checked_sub(1)?;

@@ -54,12 +54,13 @@ impl<'a> Data<'a> {
     ghost use Rattle.ndn_tlv.specs.Reading.{on_result};
     ghost use Rattle.ndn_packets.specs.View.{plain_data};
     ghost use Rattle.ndn_packets.specs.FrameReading.{data_of};
+    ghost use Rattle.ndn_packets.specs.declared.types.TheConstants.{DATA};
 
     #[tactic(auto, unfolding(crate::specs::Reading::data_at))]
     /// Reads the Data that this element is.
     #[inline(always)]
     pub(crate) fn read(outer: Element<'a>) -> Result<Data<'a>, PacketFault>
-        requires { outer.kind ≡ 6 }
+        requires { outer.kind ≡ DATA }
         ensures exact { on_result (λ d. Ok (plain_data d)) Err result
             ≡ data_of outer.entry.whole.now outer.entry.value.now }
         ensures whole { IfOk result (λ d. d.whole.now ≡ outer.entry.whole.now) }

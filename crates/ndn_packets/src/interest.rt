@@ -124,6 +124,7 @@ impl<'a> Interest<'a> {
     ghost use Rattle.ndn_tlv.specs.Reading.{on_result};
     ghost use Rattle.ndn_packets.specs.View.{plain_interest};
     ghost use Rattle.ndn_packets.specs.FrameReading.{interest_of};
+    ghost use Rattle.ndn_packets.specs.declared.types.TheConstants.{INTEREST};
 
     /// The key of the Interest.
     pub fn key(&self) -> Key<'a>
@@ -140,7 +141,7 @@ impl<'a> Interest<'a> {
     /// Reads the Interest that this element is.
     #[inline(always)]
     pub(crate) fn read(outer: Element<'a>) -> Result<Interest<'a>, PacketFault>
-        requires { outer.kind ≡ 5 }
+        requires { outer.kind ≡ INTEREST }
         ensures exact { on_result (λ i. Ok (plain_interest i)) Err result
             ≡ interest_of outer.entry.whole.now outer.entry.value.now }
         ensures whole { IfOk result (λ i. i.whole.now ≡ outer.entry.whole.now) }

@@ -2,7 +2,7 @@ ghost use Rattle.std.specs.Prelude.{◌≡◌};
 ghost use Rattle.ndn_packets.specs.Fields.{needs_previous_field, is_even_high};
 ghost use Rattle.ndn_packets.specs.FieldReader.{ignored_by};
 
-use crate::types::{INTEREST_SIGNATURE_INFO, INTEREST_SIGNATURE_VALUE};
+use crate::types::{INTEREST_SIGNATURE_INFO, INTEREST_SIGNATURE_VALUE, VALIDITY_PERIOD};
 
 /// Where fields stand: what of the elements among them is ignored (NDN Packet Format 0.3,
 /// "Considerations for Evolvability of TLV-Based Encoding").
@@ -12,7 +12,7 @@ pub enum Rules {
     Packet,
     /// In a MetaInfo, where the types 128 to 252 are ignored too.
     MetaInfo,
-    /// In a SignatureInfo, where the type 253 is ignored too.
+    /// In a SignatureInfo, where a ValidityPeriod is ignored too.
     SignatureInfo,
 }
 
@@ -26,7 +26,7 @@ impl Rules {
         match self {
             Rules::Packet => is_even_high,
             Rules::MetaInfo => is_even_high || (128..=252).contains(&kind),
-            Rules::SignatureInfo => is_even_high || kind == 253,
+            Rules::SignatureInfo => is_even_high || kind == VALIDITY_PERIOD,
         }
     }
 }

@@ -54,6 +54,10 @@ pub const SIGNATURE_TIME: u32 = 40;
 
 pub const SIGNATURE_SEQ_NUM: u32 = 42;
 
+/// What a SignatureInfo may hold beside its fields (NDN Certificate Format 2.0, "ValidityPeriod"),
+/// and is ignored.
+pub const VALIDITY_PERIOD: u32 = 253;
+
 /// What a KeyLocator may be, beside a Name.
 pub const KEY_DIGEST: u32 = 29;
 
