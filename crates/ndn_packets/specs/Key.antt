@@ -1,10 +1,16 @@
 -- The keys of Interests: by them tables hold pending Interests (NFD Developer's Guide, "Pending
 -- Interest Table").
-use Rattle.std.specs.Prelude.{Bool, List, refl}
+use Rattle.std.specs.Prelude.{◌≡◌, Bool, true, false, List, ◌++◌, refl}
+use mathlib.Core.Path.{ap}
 use Rattle.std.specs.Coded.{Coded, code_by, coded×, coded_list, coded_ℕ, coded_bool}
 use Rattle.std.specs.declared.cmp.Ordering.{Ordering}
-use Rattle.std.specs.Ordering.{on, then_cmp, bool_cmp}
+use Rattle.std.specs.declared.cmp.Ordering.TheVariants.{Less, Equal, Greater}
+use Rattle.std.specs.Cmp.{IsTotalOrder, on_total, then_total, bool_cmp_total, Equal-is}
+use Rattle.std.specs.FinMap.{IsAntisymmetric}
+use Rattle.std.specs.Hash.{HashWrites, bool}
+use Rattle.std.specs.Ordering.{ordering_then, on, then_cmp, bool_cmp, eq_by_cmp}
 use Rattle.ndn_tlv.specs.Element.{Field}
+use Rattle.ndn_names.specs.Key.{name_cmp-total, name_cmp-antisymmetric, name_writes}
 use Rattle.ndn_names.specs.View.{components}
 use Rattle.ndn_names.specs.Order.{name_cmp}
 use Rattle.ndn_packets.specs.declared.key.Key.{Key}
@@ -29,7 +35,7 @@ key_of i = record {
   must_be_fresh = i.must_be_fresh;
 }
 
--- by name in canonical order, then by CanBePrefix, then by MustBeFresh, of which an absent one is
+-- by name in canonical order, then by CanBePrefix, then by MustBeFresh; a flag that is not set comes
 -- first
 abbrev pub key_cmp : PlainKey → PlainKey → Ordering
 key_cmp =
@@ -43,3 +49,50 @@ key_code =
     (coded× (coded_list (coded× coded_ℕ (coded_list coded_ℕ))) (coded× coded_bool coded_bool))
     (λ k. (k.name, (k.can_be_prefix, k.must_be_fresh)))
     (λ p. record { name = p.0; can_be_prefix = p.1.0; must_be_fresh = p.1.1 }) (λ _. refl)
+
+pub key_cmp-total : IsTotalOrder key_cmp
+key_cmp-total =
+    then_total (on_total (λ (k : PlainKey). k.name) name_cmp-total)
+    (then_total (on_total (λ (k : PlainKey). k.can_be_prefix) bool_cmp_total)
+    (on_total (λ (k : PlainKey). k.must_be_fresh) bool_cmp_total))
+
+-- both of two orders tie
+both_tie : (o p : Ordering) → ordering_then o p ≡ Equal → (o ≡ Equal) × (p ≡ Equal)
+both_tie Less p e = absurd cc
+both_tie Equal p e = (refl, e)
+both_tie Greater p e = absurd cc
+
+bool_tie : (a b : Bool) → bool_cmp a b ≡ Equal → a ≡ b
+bool_tie true true e = refl
+bool_tie true false e = absurd cc
+bool_tie false true e = absurd cc
+bool_tie false false e = refl
+
+pub key_cmp-antisymmetric : IsAntisymmetric key_cmp
+key_cmp-antisymmetric x y e =
+    let a = both_tie _ _ e in
+    let b = both_tie _ _ a.1 in
+    let names : x.name ≡ y.name = name_cmp-antisymmetric x.name y.name a.0 in
+    let prefixes : x.can_be_prefix ≡ y.can_be_prefix = bool_tie _ _ b.0 in
+    let fresh : x.must_be_fresh ≡ y.must_be_fresh = bool_tie _ _ b.1 in
+    λ i. record { name = names i; can_be_prefix = prefixes i; must_be_fresh = fresh i }
+
+-- views of keys compare, and are hashed, as what they show
+abbrev pub key_view_cmp : Key → Key → Ordering
+key_view_cmp = on plain_key key_cmp
+
+pub key_view_cmp-total : IsTotalOrder key_view_cmp
+key_view_cmp-total = on_total plain_key key_cmp-total
+
+-- what a key feeds to a hash: its name and its flags
+abbrev pub key_writes : PlainKey → HashWrites
+key_writes k = name_writes k.name ++ (bool k.can_be_prefix ++ bool k.must_be_fresh)
+
+abbrev pub key_view_writes : Key → HashWrites
+key_view_writes k = key_writes (plain_key k)
+
+pub key_view_writes-alike : (a b : Key) → eq_by_cmp key_view_cmp a b ≡ true
+    → key_view_writes a ≡ key_view_writes b
+key_view_writes-alike a b e =
+    ap key_writes
+    (key_cmp-antisymmetric (plain_key a) (plain_key b) ((Equal-is (key_view_cmp a b)).0 e))

@@ -18,7 +18,7 @@ use ndn_names::Name;
 use ndn_tlv::Element;
 
 /// A Data, a view of the octets that it was read from (NDN Packet Format 0.3, "Data Packet").
-#[derive(Clone, Copy, Debug)]
+#[derive(Clone, Copy, Debug, PartialEq, Eq)]
 pub struct Data<'a> {
     /// The name, which may be empty.
     pub name: Name<'a>,

@@ -18,7 +18,7 @@ use ndn_tlv::{Element, first_element};
 
 /// What octets of a link hold (NDN Packet Format 0.3, "Interest Packet" and "Data Packet"; NDNLPv2,
 /// "Network Nack"): a view of those octets, which takes no memory.
-#[derive(Clone, Copy, Debug)]
+#[derive(Clone, Copy, Debug, PartialEq, Eq)]
 pub enum Frame<'a> {
     /// An element of type 5.
     Interest(Interest<'a>),

@@ -26,7 +26,7 @@ use sha2::{Digest, Sha256};
 
 /// An Interest, a view of the octets that it was read from (NDN Packet Format 0.3, "Interest
 /// Packet").
-#[derive(Clone, Copy, Debug)]
+#[derive(Clone, Copy, Debug, PartialEq, Eq)]
 pub struct Interest<'a> {
     /// The name, which is not empty.
     pub name: Name<'a>,

@@ -1,11 +1,13 @@
-ghost use Rattle.std.specs.Prelude.{◌≡◌, ◌↔◌};
+ghost use Rattle.std.specs.Prelude.{◌≡◌, ◌↔◌, refl};
 ghost use Rattle.std.specs.declared.cmp.Ordering.TheVariants as answers;
-ghost use Rattle.std.specs.Cmp.{IsTotalOrder};
+ghost use Rattle.std.specs.Cmp.{IsTotalOrder, partial_equiv_from_equiv, partial_order_from_total, eq_by_cmp_equiv};
 ghost use Rattle.std.specs.FinMap.{IsAntisymmetric};
-ghost use Rattle.ndn_packets.specs.Key.{PlainKey, key_cmp};
+ghost use Rattle.std.specs.Ordering.{eq_by_cmp, as_partial_cmp};
+ghost use Rattle.ndn_packets.specs.Key.{PlainKey, key_cmp, key_view_cmp, key_view_cmp-total, key_view_writes, key_view_writes-alike};
 
 use ndn_names::Name;
 use std::cmp::Ordering;
+use std::hash::{Hash, Hasher};
 
 /// The key of an Interest: Interests of one key ask for the same Data (NFD Developer's Guide,
 /// "Pending Interest Table").
@@ -33,6 +35,56 @@ impl Key<'_> {
             .cmp(&other.can_be_prefix)
             .then(self.must_be_fresh.cmp(&other.must_be_fresh));
         self.name.compare(other.name).then(flags)
+    }
+}
+
+impl PartialEq for Key<'_> {
+    ghost eq = { eq_by_cmp key_view_cmp };
+
+    ghost laws = { partial_equiv_from_equiv (eq_by_cmp_equiv key_view_cmp-total) };
+
+    fn eq(&self, other: &Self) -> bool {
+        self.cmp(other).is_eq()
+    }
+}
+
+impl Eq for Key<'_> {
+    ghost laws = { eq_by_cmp_equiv key_view_cmp-total };
+}
+
+impl PartialOrd for Key<'_> {
+    ghost partial_cmp = { as_partial_cmp key_view_cmp };
+
+    ghost laws = { partial_order_from_total key_view_cmp-total };
+
+    fn partial_cmp(&self, other: &Self) -> Option<Ordering> {
+        Some(self.cmp(other))
+    }
+}
+
+impl Ord for Key<'_> {
+    ghost cmp = { key_view_cmp };
+
+    ghost total = { key_view_cmp-total };
+
+    ghost matches_partial_cmp = { λ _ _. refl };
+
+    ghost matches_eq = { λ _ _. refl };
+
+    fn cmp(&self, other: &Self) -> Ordering {
+        self.compare(*other)
+    }
+}
+
+impl Hash for Key<'_> {
+    ghost hash_input = { key_view_writes };
+
+    ghost respects_eq = { key_view_writes-alike };
+
+    fn hash<H: Hasher>(&self, state: &mut H) {
+        self.name.hash(state);
+        self.can_be_prefix.hash(state);
+        self.must_be_fresh.hash(state);
     }
 }
 

@@ -18,7 +18,7 @@ use ndn_tlv::first_element;
 use sha2::{Digest, Sha256};
 
 /// What a SignatureInfo says of the key (NDN Packet Format 0.3, "KeyLocator").
-#[derive(Clone, Copy, Debug)]
+#[derive(Clone, Copy, Debug, PartialEq, Eq)]
 pub enum Locator<'a> {
     /// There is no KeyLocator.
     Missing,
@@ -31,7 +31,7 @@ pub enum Locator<'a> {
 }
 
 /// A signature as it stands in a packet (NDN Packet Format 0.3, "Signature").
-#[derive(Clone, Copy, Debug)]
+#[derive(Clone, Copy, Debug, PartialEq, Eq)]
 pub struct Signature<'a> {
     /// The SignatureType, any number below 2^64: none is refused as unknown.
     pub kind: u64,

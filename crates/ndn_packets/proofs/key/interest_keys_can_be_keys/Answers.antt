@@ -1,4 +1,5 @@
-use Rattle.ndn_packets.proofs.KeyOrder.{key_cmp-total, key_cmp-antisymmetric, key_cmp-equal}
+use Rattle.ndn_packets.specs.Key.{key_cmp-total, key_cmp-antisymmetric}
+use Rattle.ndn_packets.proofs.KeyOrder.{key_cmp-equal}
 use Rattle.ndn_packets.proofs.key.interest_keys_can_be_keys.Goals as goal
 
 pub returns : goal.returns
