@@ -1,14 +1,19 @@
 -- The digest of parameters that a name has to have.
-use Rattle.std.proofs.Common.{◌≡◌, ℕ, true, false, cond, eqb, List, [], ◌∷◌, ◌++◌, map, Option, Some, None, refl, sym, ap, subst, ◌∙◌, eq-eqb}
+use Rattle.std.proofs.Common.{◌≡◌, ◌≢◌, ℕ, true, false, cond, eqb, List, [], ◌∷◌, ◌++◌, map, Option, Some, None, Result, Err, refl, sym, ap, subst, ◌∙◌, eq-eqb, append_assoc}
 use Rattle.std.specs.List.{AllByRecursion, flat_map}
 use Rattle.std.specs.Str.{bytes_eq}
-use Rattle.std.proofs.lemmas.Bool.{eqb-true}
+use Rattle.std.proofs.lemmas.Bool.{eqb-true, ne_eqb}
+use Rattle.std.proofs.lemmas.List.{append-nil}
 use Rattle.ndn_packets.specs.declared.interest.Digests.{Digests}
 use Rattle.ndn_packets.specs.declared.interest.Digests.TheVariants as digests
 use Rattle.ndn_packets.specs.SoFar.{AreDigests}
 use Rattle.std.proofs.lemmas.Slice.Eq.{bytes_eq-Decides}
 use Rattle.sha2.specs.Sha256.{sha256}
+use Rattle.ndn_tlv.specs.declared.fault.TlvFault.{TlvFault}
 use Rattle.ndn_tlv.specs.Element.{Field, element}
+use Rattle.ndn_tlv.specs.Reading.{elements_of}
+use Rattle.ndn_tlv.proofs.Fields.{elements_exact, elements_of-nil}
+use Rattle.ndn_names.specs.Name.{IsNameValue}
 use Rattle.ndn_packets.specs.declared.fault.PacketFault.{PacketFault}
 use Rattle.ndn_packets.specs.declared.fault.PacketFault.TheVariants.{DigestWrong}
 use Rattle.ndn_packets.specs.Packet.{digests_in}
@@ -74,16 +79,87 @@ digest_again name elements parameters h =
 
 -- ---- digests one after the other
 
-digests_grow : {X : Type 0} (field : X → Field) (front : List X) (last : X) → (field last).0 ≡ 2 → digests_in (map field (front ++ last ∷ [])) ≡ digests_in (map field front) ++ field last ∷ []
-digests_grow field [] last is = rw (eq-eqb (field last).0 2 is) refl
-digests_grow field (x ∷ front) last is =
-    elim (eqb (field x).0 2) as (λ b. cond b (field x ∷ digests_in (map field (front ++ last ∷ []))) (digests_in (map field (front ++ last ∷ []))) ≡ cond b (field x ∷ digests_in (map field front)) (digests_in (map field front)) ++ field last ∷ []) [
-      | true ↦ ap (λ (ds : List Field). field x ∷ ds) (digests_grow field front last is)
-      | false ↦ digests_grow field front last is
+one_more : (name : List Field) (c : Field) → c.0 ≡ 2 → digests_in (name ++ c ∷ []) ≡ digests_in name ++ c ∷ []
+one_more [] c is = rw (eq-eqb c.0 2 is) refl
+one_more (d ∷ name) c is =
+    elim (eqb d.0 2) as (λ b. cond b (d ∷ digests_in (name ++ c ∷ [])) (digests_in (name ++ c ∷ [])) ≡ cond b (d ∷ digests_in name) (digests_in name) ++ c ∷ []) [
+      | true ↦ ap (λ (ds : List Field). d ∷ ds) (one_more name c is)
+      | false ↦ one_more name c is
     ]
 
-pub many_digests : {X : Type 0} (field : X → Field) (front : List X) (last : X) (found : Digests) → (found ≡ digests.None → ⊥) → AreDigests found (digests_in (map field front)) → (field last).0 ≡ 2
-    → AreDigests digests.Many (digests_in (map field (front ++ last ∷ [])))
-many_digests field front last digests.None some h is = absurd (some refl)
-many_digests field front last (digests.One digest) some h is = ((2, digest.now), field last, [], digests_grow field front last is ∙ ap (λ (ds : List Field). ds ++ field last ∷ []) h)
-many_digests field front last digests.Many some h is = (h.0, h.1, h.2 ++ field last ∷ [], digests_grow field front last is ∙ ap (λ (ds : List Field). ds ++ field last ∷ []) h.3)
+none_more : (name : List Field) (c : Field) → c.0 ≢ 2 → digests_in (name ++ c ∷ []) ≡ digests_in name
+none_more [] c other = rw (ne_eqb c.0 2 other) refl
+none_more (d ∷ name) c other =
+    elim (eqb d.0 2) as (λ b. cond b (d ∷ digests_in (name ++ c ∷ [])) (digests_in (name ++ c ∷ [])) ≡ cond b (d ∷ digests_in name) (digests_in name)) [
+      | true ↦ ap (λ (ds : List Field). d ∷ ds) (none_more name c other)
+      | false ↦ none_more name c other
+    ]
+
+pub first_digest : (all : List Field) (x : Field) → all ≡ [] → all ++ x ∷ [] ≡ x ∷ []
+first_digest all x none = ap (λ (ds : List Field). ds ++ x ∷ []) none
+
+pub further_digest : (found : Digests) (all : List Field) (x : Field) → (found ≡ digests.None → ⊥) → AreDigests found all → AreDigests digests.Many (all ++ x ∷ [])
+further_digest digests.None all x some h = absurd (some refl)
+further_digest (digests.One digest) all x some h = ((2, digest.now), x, [], first_two all h)
+  where
+    first_two : (all : List Field) → all ≡ (2, digest.now) ∷ [] → all ++ x ∷ [] ≡ (2, digest.now) ∷ x ∷ []
+    first_two all is = ap (λ (ds : List Field). ds ++ x ∷ []) is
+further_digest digests.Many all x some h = (h.0, h.1, h.2 ++ x ∷ [], ap (λ (ds : List Field). ds ++ x ∷ []) h.3)
+
+-- the components before the octets that are left have these digests
+pub record Walked (name : List Field) (rest : List ℕ) (found : Digests) : Type 0 where
+  pub front : List Field
+  pub back : List Field
+  pub all : name ≡ front ++ back
+  pub left : elements_of rest ≡ map read back
+  pub digests_are : AreDigests found (digests_in front)
+
+pub walk_begins : (octets : List ℕ) (name : List Field) → IsNameValue octets name → Walked name octets digests.None
+walk_begins octets name h = record { front = []; back = name; all = refl; left = elements_exact octets name h.0; digests_are = refl }
+
+step : (back : List Field) (c : Field) (later : List (Result Field TlvFault)) → map read back ≡ read c ∷ later → (after : List Field) × (back ≡ c ∷ after) × (later ≡ map read after)
+step [] c later e = absurd cc
+step (d ∷ back) c later e = (back, first d back e, last d back e)
+  where
+    first : (d : Field) (back : List Field) → map read (d ∷ back) ≡ read c ∷ later → d ∷ back ≡ c ∷ back
+    first d back e = cc
+
+    last : (d : Field) (back : List Field) → map read (d ∷ back) ≡ read c ∷ later → later ≡ map read back
+    last d back e = cc
+
+-- one component on, of which the digest is the right one
+walk : (name : List Field) (rest after : List ℕ) (found more : Digests) (c : Field) → elements_of rest ≡ read c ∷ elements_of after → (h : Walked name rest found) → AreDigests more (digests_in (h.front ++ c ∷ [])) → Walked name after more
+walk name rest after found more c next h are =
+    let s = step h.back c (elements_of after) (sym h.left ∙ next) in
+    record {
+      front = h.front ++ c ∷ [];
+      back = s.0;
+      all = h.all ∙ ap (λ (fs : List Field). h.front ++ fs) s.1 ∙ sym (append_assoc h.front (c ∷ []) s.0);
+      left = s.2;
+      digests_are = are;
+    }
+
+pub walk_past : (name : List Field) (rest after : List ℕ) (found : Digests) (c : Field) → elements_of rest ≡ read c ∷ elements_of after → c.0 ≢ 2 → Walked name rest found → Walked name after found
+walk_past name rest after found c next other h = walk name rest after found found c next h (subst (AreDigests found) (sym (none_more h.front c other)) h.digests_are)
+
+pub walk_over : (name : List Field) (rest after : List ℕ) (found more : Digests) (c : Field) → elements_of rest ≡ read c ∷ elements_of after → c.0 ≡ 2 → ((all : List Field) → AreDigests found all → AreDigests more (all ++ (2, c.1) ∷ [])) → Walked name rest found → Walked name after more
+walk_over name rest after found more c next is grows h =
+    walk name rest after found more c next h
+    (subst (AreDigests more) (ap (λ (k : ℕ). digests_in h.front ++ (k, c.1) ∷ []) (sym is) ∙ sym (one_more h.front c is)) (grows (digests_in h.front) h.digests_are))
+
+pub walk_ends : (name : List Field) (rest : List ℕ) (found : Digests) (fault : TlvFault) → (rest ≢ [] → elements_of rest ≡ Err fault ∷ []) → Walked name rest found → AreDigests found (digests_in name)
+walk_ends name rest found fault none h =
+    subst (λ (cs : List Field). AreDigests found (digests_in cs)) (sym (h.all ∙ ap (λ (fs : List Field). h.front ++ fs) (nothing h.back h.left) ∙ append-nil h.front)) h.digests_are
+  where
+    nothing : (back : List Field) → elements_of rest ≡ map read back → back ≡ []
+    nothing [] e = refl
+    nothing (c ∷ back) e = absurd (refused (none some))
+      where
+        empty : [] ≡ read c ∷ map read back → ⊥
+        empty is = cc
+
+        some : rest ≢ []
+        some is = empty (sym elements_of-nil ∙ ap elements_of (sym is) ∙ e)
+
+        refused : elements_of rest ≡ Err fault ∷ [] → ⊥
+        refused is = (let both = sym is ∙ e in cc)

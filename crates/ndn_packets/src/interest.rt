@@ -21,7 +21,7 @@ use crate::types::{
 };
 use ndn_names::Name;
 use ndn_names::component_type::PARAMETERS_SHA256_DIGEST;
-use ndn_tlv::Element;
+use ndn_tlv::{Element, first_element};
 use sha2::{Digest, Sha256};
 
 /// An Interest, a view of the octets that it was read from (NDN Packet Format 0.3, "Interest
@@ -118,6 +118,24 @@ pub enum Digests<'a> {
     Many,
 }
 
+impl<'a> Digests<'a> {
+    ghost use Rattle.std.specs.Prelude.{List, [], ◌∷◌, ◌++◌};
+    ghost use Rattle.ndn_tlv.specs.Element.{Field};
+    ghost use Rattle.ndn_packets.specs.SoFar.{AreDigests};
+
+    /// These and one more.
+    #[inline(always)]
+    fn and(self, digest: &'a [u8]) -> Digests<'a>
+        ensures { (all : List Field) → AreDigests self.entry all
+            → AreDigests result (all ++ (PARAMETERS_SHA256_DIGEST, digest.entry.now) ∷ []) }
+    {
+        match self {
+            Digests::None => Digests::One(digest),
+            _ => Digests::Many,
+        }
+    }
+}
+
 impl<'a> Interest<'a> {
     ghost use Rattle.std.specs.Prelude.{◌≡◌, IfOk, Ok, Err};
     ghost use Rattle.ndn_packets.specs.Key.{plain_key, key_of};
@@ -180,13 +198,13 @@ pub fn digests_of(name: Name<'_>) -> Digests<'_>
     ensures { AreDigests result (digests_in (components name.entry)) }
 {
     let mut found = Digests::None;
-    for component in name.iter() {
-        if component.kind == PARAMETERS_SHA256_DIGEST {
-            found = match found {
-                Digests::None => Digests::One(component.value),
-                _ => Digests::Many,
-            };
+    let mut rest = name.as_octets();
+    // By elements, since `Name::iter` tests each component once more.
+    while let Ok((component, after)) = first_element(rest) {
+        if component.kind == u32::from(PARAMETERS_SHA256_DIGEST) {
+            found = found.and(component.value);
         }
+        rest = after;
     }
     found
 }

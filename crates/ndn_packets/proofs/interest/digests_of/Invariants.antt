@@ -1,9 +1,10 @@
-use Rattle.std.proofs.Common.{◌≡◌, ◌++◌, map}
-use Rattle.ndn_names.specs.View.{field_of, components, components_left}
-use Rattle.ndn_packets.specs.Packet.{digests_in}
-use Rattle.ndn_packets.specs.SoFar.{AreDigests}
+use Rattle.std.proofs.Common.{length}
+use Rattle.ndn_names.specs.View.{components}
+use Rattle.ndn_packets.proofs.Digests.{Walked}
 use Rattle.ndn_packets.proofs.interest.digests_of.Given as goal
 
 abbrev pub invariant-loop-component : goal.invariant-loop-component
-invariant-loop-component l =
-    (map field_of l.yielded ++ components_left l.component-iterator ≡ components l.fn.name) × AreDigests l.found (digests_in (map field_of l.yielded))
+invariant-loop-component l = Walked (components l.fn.name) l.rest l.found
+
+abbrev pub decreases-loop-component : goal.decreases-loop-component
+decreases-loop-component l = length l.rest
