@@ -70,7 +70,8 @@ Covered Idle first second = ⊥
 -- the last component is a digest of parameters
 abbrev pub EndsInDigest : List Field → Type 0
 EndsInDigest name =
-    (front : List Field) × (digest : List ℕ) × (name ≡ front ++ (PARAMETERS_SHA256_DIGEST, digest) ∷ [])
+    (front : List Field) × (digest : List ℕ)
+    × (name ≡ front ++ (PARAMETERS_SHA256_DIGEST, digest) ∷ [])
 
 -- The octets end where the element of a signature's value begins, in an Interest of this name: the
 -- first ones are all components before the digest of parameters, and the second ones begin where

@@ -23,7 +23,8 @@ Passes {S} take ignores schema s (e ∷ elements) later t =
 abbrev pub AllPass : {S : Type 0} → (S → Field → Result S PacketFault) → (ℕ → Bool) → List ℕ → S
     → List (Result Field TlvFault) → List Field → S → Type 0
 AllPass {S} take ignores schema s elements plain t =
-    (elements ≡ map (λ e. Ok e) plain) × ((later : List ℕ) × Passes take ignores schema s plain later t)
+    (elements ≡ map (λ e. Ok e) plain)
+    × ((later : List ℕ) × Passes take ignores schema s plain later t)
 
 -- The fault of what stands next: that it cannot be read comes before that its type is neither a
 -- field's nor ignored, and this before what is wrong with its value.

@@ -88,41 +88,11 @@ at_most limit value s = nni_value_at value >>= λ n. if nat_lt limit n then Err 
 -- with a header field that may stand here
 abbrev pub with_header : LinkSoFar → Field → Result LinkSoFar PacketFault
 with_header s h =
-    if h.0 == SEQUENCE then Ok (record {
-      sequence = true;
-      frag_index = s.frag_index;
-      frag_count = s.frag_count;
-      pit_token = s.pit_token;
-      nack = s.nack;
-    }) else (
-    if h.0 == FRAG_INDEX then at_most 0 h.1 (record {
-      sequence = s.sequence;
-      frag_index = true;
-      frag_count = s.frag_count;
-      pit_token = s.pit_token;
-      nack = s.nack;
-    }) else (
-    if h.0 == FRAG_COUNT then at_most 1 h.1 (record {
-      sequence = s.sequence;
-      frag_index = s.frag_index;
-      frag_count = true;
-      pit_token = s.pit_token;
-      nack = s.nack;
-    }) else (
-    if h.0 == PIT_TOKEN then Ok (record {
-      sequence = s.sequence;
-      frag_index = s.frag_index;
-      frag_count = s.frag_count;
-      pit_token = true;
-      nack = s.nack;
-    }) else (
-    if h.0 == NACK then (nack_at h.1 >>= λ reason. Ok (record {
-      sequence = s.sequence;
-      frag_index = s.frag_index;
-      frag_count = s.frag_count;
-      pit_token = s.pit_token;
-      nack = Some reason;
-    })) else
+    if h.0 == SEQUENCE then Ok (record s { sequence = true }) else (
+    if h.0 == FRAG_INDEX then at_most 0 h.1 (record s { frag_index = true }) else (
+    if h.0 == FRAG_COUNT then at_most 1 h.1 (record s { frag_count = true }) else (
+    if h.0 == PIT_TOKEN then Ok (record s { pit_token = true }) else (
+    if h.0 == NACK then (nack_at h.1 >>= λ reason. Ok (record s { nack = Some reason })) else
     Ok s))))
 
 abbrev pub take_header : LinkSoFar → Field → Result LinkSoFar PacketFault

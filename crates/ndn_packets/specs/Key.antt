@@ -35,8 +35,8 @@ key_of i = record {
   must_be_fresh = i.must_be_fresh;
 }
 
--- by name in canonical order, then by CanBePrefix, then by MustBeFresh; a flag that is not set comes
--- first
+-- by name in canonical order, then by CanBePrefix, then by MustBeFresh; a flag that is not set
+-- comes first
 abbrev pub key_cmp : PlainKey → PlainKey → Ordering
 key_cmp =
     then_cmp (on (λ k. k.name) name_cmp)

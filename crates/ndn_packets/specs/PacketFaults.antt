@@ -14,7 +14,8 @@ use Rattle.ndn_packets.specs.FirstFault.{FirstFault, AllPass}
 use Rattle.ndn_packets.specs.declared.types.TheConstants.{NAME}
 
 -- All elements of a SignatureInfo pass, and none is a SignatureType.
-pub record InfoEndsWrong (elements : List (Result Field TlvFault)) (fault : PacketFault) : Type 0 where
+pub record InfoEndsWrong (elements : List (Result Field TlvFault))
+    (fault : PacketFault) : Type 0 where
   pub plain : List Field
   pub taken : InfoSoFar
   pub pass : AllPass take_info_field is_ignored_in_signature_info info_schema no_info_yet elements

@@ -109,30 +109,10 @@ no_info_yet = record { kind = None; locator = Missing; time = None; seq = None }
 
 abbrev pub take_info_field : InfoSoFar → Field → Result InfoSoFar PacketFault
 take_info_field s f =
-    if f.0 == SIGNATURE_TYPE then (nni_value_at f.1 >>= λ n. Ok (record {
-      kind = Some n;
-      locator = s.locator;
-      time = s.time;
-      seq = s.seq;
-    })) else (
-    if f.0 == KEY_LOCATOR then Ok (record {
-      kind = s.kind;
-      locator = locator_at f.1;
-      time = s.time;
-      seq = s.seq;
-    }) else (
-    if f.0 == SIGNATURE_TIME then (nni_value_at f.1 >>= λ n. Ok (record {
-      kind = s.kind;
-      locator = s.locator;
-      time = Some n;
-      seq = s.seq;
-    })) else (
-    if f.0 == SIGNATURE_SEQ_NUM then (nni_value_at f.1 >>= λ n. Ok (record {
-      kind = s.kind;
-      locator = s.locator;
-      time = s.time;
-      seq = Some n;
-    })) else
+    if f.0 == SIGNATURE_TYPE then (nni_value_at f.1 >>= λ n. Ok (record s { kind = Some n })) else (
+    if f.0 == KEY_LOCATOR then Ok (record s { locator = locator_at f.1 }) else (
+    if f.0 == SIGNATURE_TIME then (nni_value_at f.1 >>= λ n. Ok (record s { time = Some n })) else (
+    if f.0 == SIGNATURE_SEQ_NUM then (nni_value_at f.1 >>= λ n. Ok (record s { seq = Some n })) else
     Ok s)))
 
 unfoldable pub info_at : List ℕ → Result PlainSignatureInfo PacketFault
@@ -172,114 +152,24 @@ octet_at [] = Err BadField
 octet_at (k ∷ []) = Ok k
 octet_at (k ∷ l ∷ value) = Err BadField
 
-abbrev pub with_can_be_prefix : InterestSoFar → InterestSoFar
-with_can_be_prefix s = record {
-  can_be_prefix = true;
-  must_be_fresh = s.must_be_fresh;
-  nonce = s.nonce;
-  lifetime = s.lifetime;
-  hop_limit = s.hop_limit;
-  parameters = s.parameters;
-  info = s.info;
-  value = s.value;
-}
-
-abbrev pub with_must_be_fresh : InterestSoFar → InterestSoFar
-with_must_be_fresh s = record {
-  can_be_prefix = s.can_be_prefix;
-  must_be_fresh = true;
-  nonce = s.nonce;
-  lifetime = s.lifetime;
-  hop_limit = s.hop_limit;
-  parameters = s.parameters;
-  info = s.info;
-  value = s.value;
-}
-
-abbrev pub with_nonce : InterestSoFar → List ℕ → InterestSoFar
-with_nonce s nonce = record {
-  can_be_prefix = s.can_be_prefix;
-  must_be_fresh = s.must_be_fresh;
-  nonce = Some nonce;
-  lifetime = s.lifetime;
-  hop_limit = s.hop_limit;
-  parameters = s.parameters;
-  info = s.info;
-  value = s.value;
-}
-
-abbrev pub with_lifetime : InterestSoFar → ℕ → InterestSoFar
-with_lifetime s lifetime = record {
-  can_be_prefix = s.can_be_prefix;
-  must_be_fresh = s.must_be_fresh;
-  nonce = s.nonce;
-  lifetime = lifetime;
-  hop_limit = s.hop_limit;
-  parameters = s.parameters;
-  info = s.info;
-  value = s.value;
-}
-
-abbrev pub with_hop_limit : InterestSoFar → ℕ → InterestSoFar
-with_hop_limit s limit = record {
-  can_be_prefix = s.can_be_prefix;
-  must_be_fresh = s.must_be_fresh;
-  nonce = s.nonce;
-  lifetime = s.lifetime;
-  hop_limit = Some limit;
-  parameters = s.parameters;
-  info = s.info;
-  value = s.value;
-}
-
 abbrev pub with_parameters : InterestSoFar → List ℕ → InterestSoFar
-with_parameters s parameters = record {
-  can_be_prefix = s.can_be_prefix;
-  must_be_fresh = s.must_be_fresh;
-  nonce = s.nonce;
-  lifetime = s.lifetime;
-  hop_limit = s.hop_limit;
-  parameters = Some parameters;
-  info = s.info;
-  value = s.value;
-}
-
-abbrev pub with_info : InterestSoFar → PlainSignatureInfo → InterestSoFar
-with_info s info = record {
-  can_be_prefix = s.can_be_prefix;
-  must_be_fresh = s.must_be_fresh;
-  nonce = s.nonce;
-  lifetime = s.lifetime;
-  hop_limit = s.hop_limit;
-  parameters = s.parameters;
-  info = Some info;
-  value = s.value;
-}
-
-abbrev pub with_value : InterestSoFar → List ℕ → InterestSoFar
-with_value s value = record {
-  can_be_prefix = s.can_be_prefix;
-  must_be_fresh = s.must_be_fresh;
-  nonce = s.nonce;
-  lifetime = s.lifetime;
-  hop_limit = s.hop_limit;
-  parameters = s.parameters;
-  info = s.info;
-  value = Some value;
-}
+with_parameters s parameters = record s { parameters = Some parameters }
 
 abbrev pub take_interest_field : InterestSoFar → Field → Result InterestSoFar PacketFault
 take_interest_field s f =
     if f.0 == CAN_BE_PREFIX
-    then (if is_nil f.1 then Ok (with_can_be_prefix s) else Err BadField) else (
+    then (if is_nil f.1 then Ok (record s { can_be_prefix = true }) else Err BadField) else (
     if f.0 == MUST_BE_FRESH
-    then (if is_nil f.1 then Ok (with_must_be_fresh s) else Err BadField) else (
-    if f.0 == NONCE then (if length f.1 == 4 then Ok (with_nonce s f.1) else Err BadField) else (
-    if f.0 == INTEREST_LIFETIME then (nni_value_at f.1 >>= λ n. Ok (with_lifetime s n)) else (
-    if f.0 == HOP_LIMIT then (octet_at f.1 >>= λ n. Ok (with_hop_limit s n)) else (
+    then (if is_nil f.1 then Ok (record s { must_be_fresh = true }) else Err BadField) else (
+    if f.0 == NONCE
+    then (if length f.1 == 4 then Ok (record s { nonce = Some f.1 }) else Err BadField) else (
+    if f.0 == INTEREST_LIFETIME
+    then (nni_value_at f.1 >>= λ n. Ok (record s { lifetime = n })) else (
+    if f.0 == HOP_LIMIT then (octet_at f.1 >>= λ n. Ok (record s { hop_limit = Some n })) else (
     if f.0 == APPLICATION_PARAMETERS then Ok (with_parameters s f.1) else (
-    if f.0 == INTEREST_SIGNATURE_INFO then (info_at f.1 >>= λ info. Ok (with_info s info)) else (
-    if f.0 == INTEREST_SIGNATURE_VALUE then Ok (with_value s f.1) else
+    if f.0 == INTEREST_SIGNATURE_INFO
+    then (info_at f.1 >>= λ info. Ok (record s { info = Some info })) else (
+    if f.0 == INTEREST_SIGNATURE_VALUE then Ok (record s { value = Some f.1 }) else
     Ok s)))))))
 
 -- the elements from the first of ApplicationParameters on
@@ -342,25 +232,11 @@ nothing_yet = record { freshness = 0; content = None; info = None; value = None 
 
 abbrev pub take_data_field : DataSoFar → Field → Result DataSoFar PacketFault
 take_data_field s f =
-    if f.0 == META_INFO then (meta_at f.1 >>= λ freshness. Ok (record {
-      freshness = freshness;
-      content = s.content;
-      info = s.info;
-      value = s.value;
-    })) else (
-    if f.0 == CONTENT then Ok (record {
-      freshness = s.freshness;
-      content = Some f.1;
-      info = s.info;
-      value = s.value;
-    }) else (
-    if f.0 == SIGNATURE_INFO then (info_at f.1 >>= λ info. Ok (record {
-      freshness = s.freshness;
-      content = s.content;
-      info = Some info;
-      value = s.value;
-    })) else
-    Ok (record { freshness = s.freshness; content = s.content; info = s.info; value = Some f.1 })))
+    if f.0 == META_INFO
+    then (meta_at f.1 >>= λ freshness. Ok (record s { freshness = freshness })) else (
+    if f.0 == CONTENT then Ok (record s { content = Some f.1 }) else (
+    if f.0 == SIGNATURE_INFO then (info_at f.1 >>= λ info. Ok (record s { info = Some info })) else
+    Ok (record s { value = Some f.1 })))
 
 unfoldable pub data_at : List ℕ → Result PlainData PacketFault
 data_at value = do

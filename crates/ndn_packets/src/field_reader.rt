@@ -125,9 +125,9 @@ pub fn fields_tell_the_first_fault()
     ensures nack { TellsFirstFault take_nack_field is_even_high nack_schema 0 }
 {}
 
-/// Law: of the value of a packet or of a SignatureInfo the first fault is told: of an Interest and a
-/// Data that of the Name, then the first one among the fields, then a field that is missing, and of
-/// an Interest last the digest of its parameters.
+/// Law: of the value of a packet or of a SignatureInfo the first fault is told: of an Interest and
+/// a Data that of the Name, then the first one among the fields, then a field that is missing, and
+/// of an Interest last the digest of its parameters.
 pub fn packets_tell_the_first_fault()
     ensures interest { (value : List ℕ) (fault : PacketFault) → (interest_at value ≡ Err fault)
         ↔ InterestFault (elements_of value) fault }
