@@ -1,34 +1,22 @@
 -- A Data that is read is in the grammar, and one in the grammar is read.
 use Rattle.std.proofs.Common.{◌≡◌, ℕ, List, [], ◌∷◌, ◌++◌, map, Option, Some, None, Result, Ok, refl, sym, ap, subst, ◌∙◌}
 use Rattle.ndn_tlv.specs.declared.fault.TlvFault.{TlvFault}
-use Rattle.ndn_tlv.specs.Element.{Field, IsElements}
+use Rattle.ndn_tlv.specs.Element.{Field}
 use Rattle.ndn_tlv.specs.Reading.{◌>>=◌, elements_of}
 use Rattle.ndn_tlv.proofs.Numbers.{IsBytes}
 use Rattle.ndn_tlv.proofs.Fields.{elements_exact, elements_read}
-use Rattle.ndn_names.specs.Name.{IsNameValue}
 use Rattle.ndn_names.specs.Reading.{name_at}
 use Rattle.ndn_names.proofs.Names.{name_found, name_again}
 use Rattle.ndn_packets.specs.declared.fault.PacketFault.TheVariants.{BadField}
 use Rattle.ndn_packets.specs.Packet.{PlainSignatureInfo, PlainData}
 use Rattle.ndn_packets.specs.Fields.{Fields, optional, is_even_high, data_schema}
-use Rattle.ndn_packets.specs.Grammar.{IsFreshness, IsSignatureInfo}
+use Rattle.ndn_packets.specs.Grammar.{IsFreshness, IsData}
 use Rattle.ndn_packets.specs.Reading.{fields_from, read_fields, leading_name_at, meta_at, info_at, DataSoFar, nothing_yet, take_data_field, found_or, data_at}
 use Rattle.ndn_packets.specs.PacketFaults.{Leads}
-use Rattle.ndn_packets.proofs.Steps.{bind_ok, good, ok_is, found_some, some_is, none_is_not_some, read, IsBytes-fields, lead}
+use Rattle.ndn_packets.proofs.Steps.{bind_ok, good, ok_is, found_some, some_is, none_is_not_some, read, IsBytes-fields, IsBytes-inside, IsOne, IsBytes-of_one, lead}
 use Rattle.ndn_packets.proofs.FieldLists.{FieldsRead, fields_found, fields_again, fields_in, fields_keep, Took, took_first, MayBeBytes, AreBytes, bytes_first}
 use Rattle.ndn_packets.proofs.MetaInfos.{meta_found, meta_again}
 use Rattle.ndn_packets.proofs.SignatureInfos.{info_found, info_again}
-
-pub record DataValue (value : List ℕ) (d : PlainData) : Type 0 where
-  pub name_value : List ℕ
-  pub meta_value : Option (List ℕ)
-  pub info_value : List ℕ
-  pub elements : List Field
-  pub inner : IsElements value ((7, name_value) ∷ elements)
-  pub recognised : Fields is_even_high data_schema elements (optional 20 meta_value ++ (optional 21 d.content ++ ((22, info_value) ∷ (23, d.signature.value) ∷ [])))
-  pub name_is : IsNameValue name_value d.name
-  pub freshness_is : IsFreshness meta_value d.freshness
-  pub info_is : IsSignatureInfo info_value d.signature.info
 
 -- ---- what each field leaves
 
@@ -130,46 +118,53 @@ fields_bytes meta content info signature h =
     let second = bytes_first 21 content _ ((22, info) ∷ (23, signature) ∷ []) refl first.1 in
     (first.0, second.1.0)
 
-joined : (value : List ℕ) (name : List Field) (later : List (Result Field TlvFault)) (t : DataSoFar) (info : PlainSignatureInfo) (signature : List ℕ) → IsBytes value → Leads (elements_of value) name later
-    → FieldsRead take_data_field is_even_high data_schema later nothing_yet t → t.info ≡ Some info → t.value ≡ Some signature → DataValue value (data_of name t.freshness t.content info signature)
-joined value name later t info signature fits l r info_is value_is =
+joined : (text value : List ℕ) (name : List Field) (later : List (Result Field TlvFault)) (t : DataSoFar) (info : PlainSignatureInfo) (signature : List ℕ) → IsOne text 6 value → Leads (elements_of value) name later
+    → FieldsRead take_data_field is_even_high data_schema later nothing_yet t → t.info ≡ Some info → t.value ≡ Some signature → IsData text (data_of name t.freshness t.content info signature)
+joined text value name later t info signature one l r info_is value_is =
+    let octets = IsBytes-of_one text value 6 one in
     let f = data_fields r.plain r.fields t r.recognised r.taken in
     let i = info_there f.info f.said info f.info_is (sym (ap (λ (u : DataSoFar). u.info) f.made) ∙ info_is) in
     let v : f.value ≡ Some signature = sym (ap (λ (u : DataSoFar). u.value) f.made) ∙ value_is in
     let fields : r.fields ≡ fields_with f.meta f.content i.0 signature = f.all ∙ (λ k. optional 20 f.meta ++ (optional 21 f.content ++ (optional 22 (i.1 k) ++ (optional 23 (v k) ++ [])))) in
-    let inner = elements_read value ((7, l.value) ∷ r.plain) fits (l.front ∙ (λ k. read (7, l.value) ∷ r.all k)) in
-    let bytes = IsBytes-fields ((7, l.value) ∷ r.plain) (subst IsBytes inner.1 fits) in
+    let inner = elements_read value ((7, l.value) ∷ r.plain) octets (l.front ∙ (λ k. read (7, l.value) ∷ r.all k)) in
+    let bytes = IsBytes-fields ((7, l.value) ∷ r.plain) (subst IsBytes inner.1 octets) in
     let kept = subst AreBytes fields (fields_keep (λ f. IsBytes f.1) is_even_high data_schema r.plain r.fields r.recognised bytes.1) in
-    let parts : DataValue value (data_of name f.freshness f.content info signature) = record {
+    let parts : IsData text (data_of name f.freshness f.content info signature) = record {
       name_value = l.value;
       meta_value = f.meta;
       info_value = i.0;
-      elements = r.plain;
-      inner = inner;
-      recognised = subst (Fields is_even_high data_schema r.plain) fields r.recognised;
-      name_is = name_found l.value name bytes.0 l.name_is;
-      freshness_is = freshness_found f.meta f.freshness (fields_bytes f.meta f.content i.0 signature kept).0 f.meta_is;
-      info_is = info_found i.0 info (fields_bytes f.meta f.content i.0 signature kept).1 i.2;
+      fields = record {
+        value = value;
+        elements = r.plain;
+        outer = one.outer;
+        inner = inner;
+        recognised = subst (Fields is_even_high data_schema r.plain) fields r.recognised;
+        short = one.short;
+        octets = one.octets;
+      };
+      name = name_found l.value name bytes.0 l.name_is;
+      freshness = freshness_found f.meta f.freshness (fields_bytes f.meta f.content i.0 signature kept).0 f.meta_is;
+      info = info_found i.0 info (fields_bytes f.meta f.content i.0 signature kept).1 i.2;
     } in
-    subst (λ (u : DataSoFar). DataValue value (data_of name u.freshness u.content info signature)) (sym f.made) parts
+    subst (λ (u : DataSoFar). IsData text (data_of name u.freshness u.content info signature)) (sym f.made) parts
 
-after_fields : (value : List ℕ) (first : List Field × List (Result Field TlvFault)) (t : DataSoFar) (d : PlainData) → IsBytes value → leading_name_at (elements_of value) ≡ Ok first → read_fields take_data_field nothing_yet (fields_from is_even_high data_schema first.1) ≡ Ok t
-    → (found_or BadField t.info >>= λ info. found_or BadField t.value >>= λ signature. good (data_of first.0 t.freshness t.content info signature)) ≡ Ok d → DataValue value d
-after_fields value first t d fits name_is fields_are e =
+after_fields : (text value : List ℕ) (first : List Field × List (Result Field TlvFault)) (t : DataSoFar) (d : PlainData) → IsOne text 6 value → leading_name_at (elements_of value) ≡ Ok first → read_fields take_data_field nothing_yet (fields_from is_even_high data_schema first.1) ≡ Ok t
+    → (found_or BadField t.info >>= λ info. found_or BadField t.value >>= λ signature. good (data_of first.0 t.freshness t.content info signature)) ≡ Ok d → IsData text d
+after_fields text value first t d one name_is fields_are e =
     let i = bind_ok (found_or BadField t.info) (λ info. found_or BadField t.value >>= λ signature. good (data_of first.0 t.freshness t.content info signature)) d e in
     let v = bind_ok (found_or BadField t.value) (λ signature. good (data_of first.0 t.freshness t.content i.0 signature)) d i.2 in
-    subst (DataValue value) (ok_is (data_of first.0 t.freshness t.content i.0 v.0) d v.2)
-    (joined value first.0 first.1 t i.0 v.0 fits (lead (elements_of value) first name_is) (fields_found take_data_field is_even_high data_schema first.1 nothing_yet t fields_are)
+    subst (IsData text) (ok_is (data_of first.0 t.freshness t.content i.0 v.0) d v.2)
+    (joined text value first.0 first.1 t i.0 v.0 one (lead (elements_of value) first name_is) (fields_found take_data_field is_even_high data_schema first.1 nothing_yet t fields_are)
     (found_some BadField t.info i.0 i.1) (found_some BadField t.value v.0 v.1))
 
-pub data_found : (value : List ℕ) (d : PlainData) → IsBytes value → data_at value ≡ Ok d → DataValue value d
+pub data_found : (text value : List ℕ) (d : PlainData) → IsOne text 6 value → data_at value ≡ Ok d → IsData text d
 unfolding data_at
-data_found value d fits e =
+data_found text value d one e =
     let a = bind_ok (leading_name_at (elements_of value))
     (λ first. read_fields take_data_field nothing_yet (fields_from is_even_high data_schema first.1) >>= λ t. found_or BadField t.info >>= λ info. found_or BadField t.value >>= λ signature. good (data_of first.0 t.freshness t.content info signature)) d e in
     let b = bind_ok (read_fields take_data_field nothing_yet (fields_from is_even_high data_schema a.0.1))
     (λ t. found_or BadField t.info >>= λ info. found_or BadField t.value >>= λ signature. good (data_of a.0.0 t.freshness t.content info signature)) d a.2 in
-    after_fields value a.0 b.0 d fits a.1 b.1 b.2
+    after_fields text value a.0 b.0 d one a.1 b.1 b.2
 
 -- ---- what is in the grammar is read
 
@@ -186,10 +181,13 @@ reads_freshness : (meta : Option (List ℕ)) (freshness : ℕ) → IsFreshness m
 reads_freshness None freshness h = h
 reads_freshness (Some v) freshness h = meta_again v freshness h
 
-pub data_again : (value : List ℕ) (d : PlainData) → IsBytes value → DataValue value d → data_at value ≡ Ok d
-data_again value d fits h =
-    let bytes = IsBytes-fields ((7, h.name_value) ∷ h.elements) (subst IsBytes h.inner.1 fits) in
-    let kept = fields_keep (λ f. IsBytes f.1) is_even_high data_schema h.elements (fields_with h.meta_value d.content h.info_value d.signature.value) h.recognised bytes.1 in
-    data_computes value h.name_value h.elements h.meta_value d.content h.info_value d.name d.freshness d.signature.info d.signature.value (elements_exact value ((7, h.name_value) ∷ h.elements) h.inner)
-    (name_again h.name_value d.name h.name_is) (fields_again is_even_high data_schema h.elements _ h.recognised) (reads_freshness h.meta_value d.freshness h.freshness_is)
-    (info_again h.info_value d.signature.info (fields_bytes h.meta_value d.content h.info_value d.signature.value kept).1 h.info_is)
+pub data_again : (text : List ℕ) (d : PlainData) (h : IsData text d) → data_at h.fields.value ≡ Ok d
+data_again text d h =
+    let value = h.fields.value in
+    let elements = h.fields.elements in
+    let fits = IsBytes-inside text value 6 h.fields.octets h.fields.outer in
+    let bytes = IsBytes-fields ((7, h.name_value) ∷ elements) (subst IsBytes h.fields.inner.1 fits) in
+    let kept = fields_keep (λ f. IsBytes f.1) is_even_high data_schema elements (fields_with h.meta_value d.content h.info_value d.signature.value) h.fields.recognised bytes.1 in
+    data_computes value h.name_value elements h.meta_value d.content h.info_value d.name d.freshness d.signature.info d.signature.value (elements_exact value ((7, h.name_value) ∷ elements) h.fields.inner)
+    (name_again h.name_value d.name h.name) (fields_again is_even_high data_schema elements _ h.fields.recognised) (reads_freshness h.meta_value d.freshness h.freshness)
+    (info_again h.info_value d.signature.info (fields_bytes h.meta_value d.content h.info_value d.signature.value kept).1 h.info)

@@ -20,12 +20,12 @@ use Rattle.ndn_packets.specs.FirstFault.{FirstFault}
 use Rattle.ndn_packets.specs.PacketFaults.{InterestFault, DataFault}
 use Rattle.ndn_packets.specs.FrameReading.{only_element, interest_of, data_of, packet_of, nacked_of, take_nack_field, nack_at, LinkSoFar, no_headers_yet, is_token, is_refused_header, at_most, with_header, take_header, fragment_at, last_of, no_fragment, link_from, link_at, outer_of, frame_at}
 use Rattle.ndn_packets.specs.FrameFaults.{OuterFault, IsAlone, LongOr, NoInterest, NoData, NoPacket, NoneInside, FragmentFault, IsKnown, IsRefused, IsAbove, HeaderValueFault, HeaderFault, FollowerFault, AfterHeaders, LinkFault, FaultOf}
-use Rattle.ndn_packets.proofs.Steps.{bind_ok, guard_ok, good, read, ok_is, both_tests, IsBytes-value}
+use Rattle.ndn_packets.proofs.Steps.{bind_ok, guard_ok, good, read, ok_is, both_tests, IsBytes-value, IsBytes-inside}
 use Rattle.ndn_packets.proofs.FieldLists.{AreBytes}
 use Rattle.ndn_packets.proofs.FirstFaults.{bad, err_is, ok_is_not_err, tells_first_fault}
 use Rattle.ndn_packets.proofs.PacketFaults.{bind_err, told, interest_tells, data_tells}
 use Rattle.ndn_packets.proofs.Links.{Room, no_more, nack_is, nack_of, nack_among, header_found, header_again}
-use Rattle.ndn_packets.proofs.Packets.{only_found, one_element, IsBytes-inside}
+use Rattle.ndn_packets.proofs.Packets.{only_found, one_element}
 
 -- ---- one element
 

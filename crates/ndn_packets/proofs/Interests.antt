@@ -1,10 +1,10 @@
 -- An Interest that is read is in the grammar, and one in the grammar is read.
-use Rattle.std.proofs.Common.{◌≡◌, ◌≢◌, ℕ, ◌≤◌, Bool, true, false, cond, eqb, List, [], ◌∷◌, ◌++◌, length, map, Option, Some, None, Result, Ok, Err, refl, sym, ap, subst, ◌∙◌, eq-eqb}
+use Rattle.std.proofs.Common.{◌≡◌, ◌≢◌, ℕ, Bool, true, false, cond, eqb, List, [], ◌∷◌, ◌++◌, length, map, Option, Some, None, Result, Ok, Err, refl, sym, ap, subst, ◌∙◌, eq-eqb}
 use Rattle.std.specs.Prelude.{unwrap_or}
 use Rattle.std.proofs.lemmas.Bool.{eqb-true}
 use Rattle.std.proofs.lemmas.List.{append-nil}
 use Rattle.ndn_tlv.specs.declared.fault.TlvFault.{TlvFault}
-use Rattle.ndn_tlv.specs.Element.{Field, IsElement, IsElements}
+use Rattle.ndn_tlv.specs.Element.{Field, IsElements}
 use Rattle.ndn_tlv.specs.Reading.{◌>>=◌, elements_of}
 use Rattle.ndn_tlv.proofs.Numbers.{IsBytes}
 use Rattle.ndn_tlv.proofs.Fields.{elements_exact, elements_read}
@@ -14,11 +14,11 @@ use Rattle.ndn_packets.specs.declared.fault.PacketFault.{PacketFault}
 use Rattle.ndn_packets.specs.declared.fault.PacketFault.TheVariants.{NoName, BadField, NoNonce}
 use Rattle.ndn_packets.specs.Packet.{PlainSignatureInfo, PlainSignature, PlainInterest, digests_in}
 use Rattle.ndn_packets.specs.Fields.{Fields, optional, flag, is_even_high, interest_schema}
-use Rattle.ndn_packets.specs.Grammar.{IsNumber, IsOctet, IsSignatureInfo, IsDigested, IsSigned, IsInterest}
+use Rattle.ndn_packets.specs.Grammar.{IsNumber, IsOctet, IsSignatureInfo, IsSigned, IsInterest}
 use Rattle.ndn_packets.specs.Reading.{fields_from, read_fields, leading_name_at, nni_value_at, octet_at, parameters_on, octets_of_read, digest_fault, signature_of, on_option, info_at, InterestSoFar, no_fields_yet, take_interest_field, interest_made, is_nil, found_or, interest_at}
 use Rattle.ndn_packets.proofs.Rules.{is_nil-false}
 use Rattle.ndn_packets.specs.PacketFaults.{Leads}
-use Rattle.ndn_packets.proofs.Steps.{bind_ok, good, err_is_not_ok, unless_ok, ok_is, found_some, not_nil, read, IsBytes-fields, lead}
+use Rattle.ndn_packets.proofs.Steps.{bind_ok, good, err_is_not_ok, unless_ok, ok_is, found_some, not_nil, read, IsBytes-fields, IsBytes-inside, IsOne, IsBytes-of_one, lead}
 use Rattle.ndn_packets.proofs.FieldLists.{FieldsRead, fields_found, fields_again, fields_in, fields_keep, Took, took_first, took_again, MayBeBytes, AreBytes, bytes_first}
 use Rattle.ndn_packets.proofs.Numbers.{number_found, number_again}
 use Rattle.ndn_packets.proofs.SignatureInfos.{info_found, info_again}
@@ -28,24 +28,6 @@ use Rattle.sha2.specs.Sha256.{sha256}
 abbrev fields_with : Bool → Bool → Option (List ℕ) → List ℕ → Option (List ℕ) → Option (List ℕ) → Option (List ℕ) → Option (List ℕ) → Option (List ℕ) → List Field
 fields_with prefix fresh hint nonce lifetime hop parameters info value =
     flag 33 prefix ++ (flag 18 fresh ++ (optional 30 hint ++ ((10, nonce) ∷ (optional 12 lifetime ++ (optional 34 hop ++ (optional 36 parameters ++ (optional 44 info ++ optional 46 value)))))))
-
-pub record InterestValue (value : List ℕ) (i : PlainInterest) : Type 0 where
-  pub name_value : List ℕ
-  pub hint : Option (List ℕ)
-  pub lifetime_value : Option (List ℕ)
-  pub hop_value : Option (List ℕ)
-  pub info_value : Option (List ℕ)
-  pub signature_value : Option (List ℕ)
-  pub elements : List Field
-  pub inner : IsElements value ((7, name_value) ∷ elements)
-  pub recognised : Fields is_even_high interest_schema elements (fields_with i.can_be_prefix i.must_be_fresh hint i.nonce lifetime_value hop_value i.parameters info_value signature_value)
-  pub name_is : IsNameValue name_value i.name
-  pub named : i.name ≢ []
-  pub nonce_is : length i.nonce ≡ 4
-  pub lifetime_is : (n : Option ℕ) × IsNumber lifetime_value n × (i.lifetime ≡ unwrap_or n 4000)
-  pub hop_is : IsOctet hop_value i.hop_limit
-  pub digested : IsDigested i.name elements i.parameters
-  pub signed : IsSigned info_value signature_value i.signature
 
 -- ---- what each field leaves
 
@@ -254,49 +236,56 @@ no_fault : {A : Type 0} (fault : Option PacketFault) (x y : A) → on_option (λ
 no_fault None x y e = (refl, ok_is x y e)
 no_fault (Some f) x y e = absurd (err_is_not_ok f y e)
 
-joined : (value : List ℕ) (name : List Field) (later : List (Result Field TlvFault)) (t : InterestSoFar) (nonce : List ℕ) → IsBytes value → Leads (elements_of value) name later → name ≢ []
+joined : (text value : List ℕ) (name : List Field) (later : List (Result Field TlvFault)) (t : InterestSoFar) (nonce : List ℕ) → IsOne text 5 value → Leads (elements_of value) name later → name ≢ []
     → digest_fault t.parameters (digests_in name) (right_digest later) ≡ None → FieldsRead take_interest_field is_even_high interest_schema later no_fields_yet t → t.nonce ≡ Some nonce
-    → InterestValue value (interest_made name t nonce)
-joined value name later t nonce fits l named right r nonce_is =
+    → IsInterest text (interest_made name t nonce)
+joined text value name later t nonce one l named right r nonce_is =
+    let fits = IsBytes-of_one text value 5 one in
     let inner = elements_read value ((7, l.value) ∷ r.plain) fits (l.front ∙ (λ k. read (7, l.value) ∷ r.all k)) in
     let bytes = IsBytes-fields ((7, l.value) ∷ r.plain) (subst IsBytes inner.1 fits) in
     let f = interest_fields r.plain r.fields t (fields_keep (λ f. IsBytes f.1) is_even_high interest_schema r.plain r.fields r.recognised bytes.1) r.recognised r.taken in
     let there : f.nonce ≡ Some nonce = sym (ap (λ (u : InterestSoFar). u.nonce) f.made) ∙ nonce_is in
     let fields : r.fields ≡ fields_with f.prefix f.fresh f.hint nonce f.lifetime f.hop f.parameters f.info f.value =
     f.all ∙ (λ k. flag 33 f.prefix ++ (flag 18 f.fresh ++ (optional 30 f.hint ++ (optional 10 (there k) ++ (optional 12 f.lifetime ++ (optional 34 f.hop ++ (optional 36 f.parameters ++ (optional 44 f.info ++ optional 46 f.value)))))))) in
-    let parts : InterestValue value (interest_made name (signed_so_far (so_far f.prefix f.fresh f.nonce (unwrap_or f.number 4000) f.limit) f.parameters f.said f.value) nonce) = record {
+    let parts : IsInterest text (interest_made name (signed_so_far (so_far f.prefix f.fresh f.nonce (unwrap_or f.number 4000) f.limit) f.parameters f.said f.value) nonce) = record {
       name_value = l.value;
       hint = f.hint;
       lifetime_value = f.lifetime;
       hop_value = f.hop;
       info_value = f.info;
       signature_value = f.value;
-      elements = r.plain;
-      inner = inner;
-      recognised = subst (Fields is_even_high interest_schema r.plain) fields r.recognised;
-      name_is = name_found l.value name bytes.0 l.name_is;
+      fields = record {
+        value = value;
+        elements = r.plain;
+        outer = one.outer;
+        inner = inner;
+        recognised = subst (Fields is_even_high interest_schema r.plain) fields r.recognised;
+        short = one.short;
+        octets = one.octets;
+      };
+      name = name_found l.value name bytes.0 l.name_is;
       named = named;
-      nonce_is = nonce_there f.nonce nonce there f.four;
-      lifetime_is = (f.number, f.number_is, refl);
-      hop_is = f.limit_is;
+      nonce = nonce_there f.nonce nonce there f.four;
+      lifetime = (f.number, f.number_is, refl);
+      hop_limit = f.limit_is;
       digested = digest_found name r.plain f.parameters ((λ k. digest_fault (sym f.made k).parameters (digests_in name) (right_digest (sym r.all k))) ∙ right);
-      signed = signature_found f.info f.value f.said f.info_is;
+      signature = signature_found f.info f.value f.said f.info_is;
     } in
-    subst (λ (u : InterestSoFar). InterestValue value (interest_made name u nonce)) (sym f.made) parts
+    subst (λ (u : InterestSoFar). IsInterest text (interest_made name u nonce)) (sym f.made) parts
 
-after_name : (value : List ℕ) (first : List Field × List (Result Field TlvFault)) (t : InterestSoFar) (i : PlainInterest) → IsBytes value → leading_name_at (elements_of value) ≡ Ok first → first.0 ≢ []
+after_name : (text value : List ℕ) (first : List Field × List (Result Field TlvFault)) (t : InterestSoFar) (i : PlainInterest) → IsOne text 5 value → leading_name_at (elements_of value) ≡ Ok first → first.0 ≢ []
     → read_fields take_interest_field no_fields_yet (fields_from is_even_high interest_schema first.1) ≡ Ok t
-    → (found_or NoNonce t.nonce >>= λ nonce. unless_digest first.0 first.1 t nonce) ≡ Ok i → InterestValue value i
-after_name value first t i fits name_is named fields_are e =
+    → (found_or NoNonce t.nonce >>= λ nonce. unless_digest first.0 first.1 t nonce) ≡ Ok i → IsInterest text i
+after_name text value first t i one name_is named fields_are e =
     let n = bind_ok (found_or NoNonce t.nonce) (λ nonce. unless_digest first.0 first.1 t nonce) i e in
     let g = no_fault (digest_fault t.parameters (digests_in first.0) (right_digest first.1)) (interest_made first.0 t n.0) i n.2 in
-    subst (InterestValue value) g.1
-    (joined value first.0 first.1 t n.0 fits (lead (elements_of value) first name_is) named g.0
+    subst (IsInterest text) g.1
+    (joined text value first.0 first.1 t n.0 one (lead (elements_of value) first name_is) named g.0
     (fields_found take_interest_field is_even_high interest_schema first.1 no_fields_yet t fields_are) (found_some NoNonce t.nonce n.0 n.1))
 
-pub interest_found : (value : List ℕ) (i : PlainInterest) → IsBytes value → interest_at value ≡ Ok i → InterestValue value i
+pub interest_found : (text value : List ℕ) (i : PlainInterest) → IsOne text 5 value → interest_at value ≡ Ok i → IsInterest text i
 unfolding interest_at
-interest_found value i fits e =
+interest_found text value i one e =
     let a = bind_ok (leading_name_at (elements_of value))
     (λ first. cond (is_nil first.0) (Err NoName) (good first.0) >>= λ name. read_fields take_interest_field no_fields_yet (fields_from is_even_high interest_schema first.1)
     >>= λ t. found_or NoNonce t.nonce >>= λ nonce. unless_digest name first.1 t nonce) i e in
@@ -305,7 +294,7 @@ interest_found value i fits e =
     >>= λ t. found_or NoNonce t.nonce >>= λ nonce. unless_digest name a.0.1 t nonce) i a.2 in
     let b = bind_ok (read_fields take_interest_field no_fields_yet (fields_from is_even_high interest_schema a.0.1))
     (λ t. found_or NoNonce t.nonce >>= λ nonce. unless_digest a.0.0 a.0.1 t nonce) i g.1 in
-    after_name value a.0 b.0 i fits a.1 (not_nil a.0.0 g.0) b.1 b.2
+    after_name text value a.0 b.0 i one a.1 (not_nil a.0.0 g.0) b.1 b.2
 
 -- ---- what is in the grammar is read
 
@@ -424,54 +413,17 @@ info_bytes prefix fresh hint nonce lifetime hop parameters info value fit =
     let b36 = bytes_first 36 parameters _ from44 refl b34.1 in
     (bytes_first 44 info _ from46 refl b36.1).0
 
-pub interest_again : (value : List ℕ) (i : PlainInterest) → IsBytes value → InterestValue value i → interest_at value ≡ Ok i
-interest_again value i fits h =
-    let s = signature_again h.info_value h.signature_value i.signature h.signed in
-    let t = signed_so_far (so_far i.can_be_prefix i.must_be_fresh (Some i.nonce) (unwrap_or h.lifetime_is.0 4000) i.hop_limit) i.parameters s.0 h.signature_value in
+pub interest_again : (text : List ℕ) (i : PlainInterest) (h : IsInterest text i) → interest_at h.fields.value ≡ Ok i
+interest_again text i h =
+    let value = h.fields.value in
+    let elements = h.fields.elements in
+    let s = signature_again h.info_value h.signature_value i.signature h.signature in
+    let t = signed_so_far (so_far i.can_be_prefix i.must_be_fresh (Some i.nonce) (unwrap_or h.lifetime.0 4000) i.hop_limit) i.parameters s.0 h.signature_value in
     let fields = fields_with i.can_be_prefix i.must_be_fresh h.hint i.nonce h.lifetime_value h.hop_value i.parameters h.info_value h.signature_value in
-    let bytes = IsBytes-fields ((7, h.name_value) ∷ h.elements) (subst IsBytes h.inner.1 fits) in
-    let kept = fields_keep (λ f. IsBytes f.1) is_even_high interest_schema h.elements fields h.recognised bytes.1 in
+    let fits = IsBytes-inside text value 5 h.fields.octets h.fields.outer in
+    let bytes = IsBytes-fields ((7, h.name_value) ∷ elements) (subst IsBytes h.fields.inner.1 fits) in
+    let kept = fields_keep (λ f. IsBytes f.1) is_even_high interest_schema elements fields h.fields.recognised bytes.1 in
     let info_fits = info_bytes i.can_be_prefix i.must_be_fresh h.hint i.nonce h.lifetime_value h.hop_value i.parameters h.info_value h.signature_value kept in
-    interest_computes value h.name_value h.elements fields i.name t i.nonce h.inner h.name_is h.named (digest_again i.name h.elements i.parameters h.digested) (fields_again is_even_high interest_schema h.elements fields h.recognised)
-    (fields_computed i.can_be_prefix i.must_be_fresh h.hint i.nonce h.lifetime_value h.hop_value i.parameters h.info_value h.signature_value h.lifetime_is.0 i.hop_limit s.0 h.nonce_is h.lifetime_is.1 h.hop_is info_fits s.1) refl
-    ∙ (λ k. good (record { name = i.name; can_be_prefix = i.can_be_prefix; must_be_fresh = i.must_be_fresh; nonce = i.nonce; lifetime = sym h.lifetime_is.2 k; hop_limit = i.hop_limit; parameters = i.parameters; signature = s.2 k }))
-
--- ---- the whole packet
-
-pub is_interest : (text value : List ℕ) (i : PlainInterest) → IsElement text 5 value → length text ≤ 8800 → IsBytes text → InterestValue value i → IsInterest text i
-is_interest text value i outer short fits h = record {
-  name_value = h.name_value;
-  hint = h.hint;
-  lifetime_value = h.lifetime_value;
-  hop_value = h.hop_value;
-  info_value = h.info_value;
-  signature_value = h.signature_value;
-  fields = record { value = value; elements = h.elements; outer = outer; inner = h.inner; recognised = h.recognised; short = short; octets = fits };
-  name = h.name_is;
-  named = h.named;
-  nonce = h.nonce_is;
-  lifetime = h.lifetime_is;
-  hop_limit = h.hop_is;
-  digested = h.digested;
-  signature = h.signed;
-}
-
-pub interest_value : (text : List ℕ) (i : PlainInterest) (h : IsInterest text i) → InterestValue h.fields.value i
-interest_value text i h = record {
-  name_value = h.name_value;
-  hint = h.hint;
-  lifetime_value = h.lifetime_value;
-  hop_value = h.hop_value;
-  info_value = h.info_value;
-  signature_value = h.signature_value;
-  elements = h.fields.elements;
-  inner = h.fields.inner;
-  recognised = h.fields.recognised;
-  name_is = h.name;
-  named = h.named;
-  nonce_is = h.nonce;
-  lifetime_is = h.lifetime;
-  hop_is = h.hop_limit;
-  digested = h.digested;
-  signed = h.signature;
-}
+    interest_computes value h.name_value elements fields i.name t i.nonce h.fields.inner h.name h.named (digest_again i.name elements i.parameters h.digested) (fields_again is_even_high interest_schema elements fields h.fields.recognised)
+    (fields_computed i.can_be_prefix i.must_be_fresh h.hint i.nonce h.lifetime_value h.hop_value i.parameters h.info_value h.signature_value h.lifetime.0 i.hop_limit s.0 h.nonce h.lifetime.1 h.hop_limit info_fits s.1) refl
+    ∙ (λ k. good (record { name = i.name; can_be_prefix = i.can_be_prefix; must_be_fresh = i.must_be_fresh; nonce = i.nonce; lifetime = sym h.lifetime.2 k; hop_limit = i.hop_limit; parameters = i.parameters; signature = s.2 k }))

@@ -1,13 +1,12 @@
 -- The two laws: what is read is in the grammar, and what is in the grammar is read.
-use Rattle.std.proofs.Common.{◌≡◌, ℕ, ◌≤◌, ◌⊎◌, true, cond, ltb, List, [], ◌∷◌, ◌++◌, length, Option, Some, None, Result, Ok, Err, refl, sym, ap, subst, ◌∙◌, arith, inl, inr}
+use Rattle.std.proofs.Common.{◌≡◌, ℕ, ◌≤◌, ◌⊎◌, true, cond, ltb, List, [], ◌∷◌, length, Option, Some, None, Result, Ok, Err, refl, sym, ap, subst, ◌∙◌, arith, inl, inr}
 use Rattle.std.specs.Prelude.{IfOk}
 use Rattle.std.proofs.lemmas.Bool.{ltb-false, le-ltb, ne_eqb, cases_eq}
 use Rattle.std.proofs.lemmas.List.{append-nil}
 use Rattle.ndn_tlv.specs.declared.fault.TlvFault.{TlvFault}
-use Rattle.ndn_tlv.specs.Number.{spelling}
 use Rattle.ndn_tlv.specs.Element.{Field, element, IsElement}
 use Rattle.ndn_tlv.specs.Reading.{◌>>=◌, on_result, element_at}
-use Rattle.ndn_tlv.proofs.Numbers.{IsBytes, IsBytes-back}
+use Rattle.ndn_tlv.proofs.Numbers.{IsBytes}
 use Rattle.ndn_tlv.proofs.Fields.{element_found, seen}
 use Rattle.ndn_packets.specs.declared.fault.PacketFault.{PacketFault}
 use Rattle.ndn_packets.specs.declared.fault.PacketFault.TheVariants.{Tlv, BadField, TooLong}
@@ -16,47 +15,18 @@ use Rattle.ndn_packets.specs.Grammar.{IsInterest, IsData}
 use Rattle.ndn_packets.specs.Link.{IsLinkPacket, IsFrame}
 use Rattle.ndn_packets.specs.Reading.{is_nil, interest_at, data_at}
 use Rattle.ndn_packets.specs.FrameReading.{only_element, interest_of, data_of, packet_of, nacked_of, outer_of, frame_at}
-use Rattle.ndn_packets.proofs.Steps.{bind_ok, guard_ok, good, err_is_not_ok, ok_is}
+use Rattle.ndn_packets.proofs.Steps.{bind_ok, guard_ok, good, err_is_not_ok, ok_is, IsBytes-inside}
 use Rattle.ndn_packets.proofs.FieldLists.{MayBeBytes}
 use Rattle.ndn_packets.proofs.Locators.{element_alone}
-use Rattle.ndn_packets.proofs.Interests.{interest_found, interest_again, is_interest, interest_value}
-use Rattle.ndn_packets.proofs.DataPackets.{DataValue, data_found, data_again}
+use Rattle.ndn_packets.proofs.Interests.{interest_found, interest_again}
+use Rattle.ndn_packets.proofs.DataPackets.{data_found, data_again}
 use Rattle.ndn_packets.proofs.Links.{held, LinkValue, link_found, link_again}
-
--- ---- a Data, by the value of its element
-
-is_data : (text value : List ℕ) (d : PlainData) → IsElement text 6 value → length text ≤ 8800 → IsBytes text → DataValue value d → IsData text d
-is_data text value d outer short fits h = record {
-  name_value = h.name_value;
-  meta_value = h.meta_value;
-  info_value = h.info_value;
-  fields = record { value = value; elements = h.elements; outer = outer; inner = h.inner; recognised = h.recognised; short = short; octets = fits };
-  name = h.name_is;
-  freshness = h.freshness_is;
-  info = h.info_is;
-}
-
-data_value : (text : List ℕ) (d : PlainData) (h : IsData text d) → DataValue h.fields.value d
-data_value text d h = record {
-  name_value = h.name_value;
-  meta_value = h.meta_value;
-  info_value = h.info_value;
-  elements = h.fields.elements;
-  inner = h.fields.inner;
-  recognised = h.fields.recognised;
-  name_is = h.name;
-  freshness_is = h.freshness;
-  info_is = h.info;
-}
 
 -- ---- one element
 
 is_nil_is : {A : Type 0} (xs : List A) → is_nil xs ≡ true → xs ≡ []
 is_nil_is [] e = refl
 is_nil_is (x ∷ xs) e = absurd cc
-
-pub IsBytes-inside : (text value : List ℕ) (kind : ℕ) → IsBytes text → IsElement text kind value → IsBytes value
-IsBytes-inside text value kind fits outer = IsBytes-back (spelling (length value)) value (IsBytes-back (spelling kind) (spelling (length value) ++ value) (subst IsBytes outer.1 fits))
 
 pub one_element : (r : Result (Field × List ℕ) TlvFault) (outer : Field) → on_result (λ x. cond (is_nil x.1) (good x.0) (Err BadField)) (λ f. Err (Tlv f)) r ≡ Ok outer → r ≡ seen outer.0 outer.1 []
 one_element (Err f) outer e = absurd (err_is_not_ok _ outer e)
@@ -76,12 +46,12 @@ only_again text value kind outer = rw (element_alone text value kind outer) refl
 pub interest_of_found : (text value : List ℕ) (i : PlainInterest) → IsBytes text → IsElement text 5 value → interest_of text value ≡ Ok i → IsInterest text i
 interest_of_found text value i fits outer e =
     let g = guard_ok (ltb 8800 (length text)) TooLong (interest_at value) i e in
-    is_interest text value i outer (ltb-false _ _ g.0) fits (interest_found value i (IsBytes-inside text value 5 fits outer) g.1)
+    interest_found text value i (record { outer = outer; short = ltb-false _ _ g.0; octets = fits }) g.1
 
 pub data_of_found : (text value : List ℕ) (d : PlainData) → IsBytes text → IsElement text 6 value → data_of text value ≡ Ok d → IsData text d
 data_of_found text value d fits outer e =
     let g = guard_ok (ltb 8800 (length text)) TooLong (data_at value) d e in
-    is_data text value d outer (ltb-false _ _ g.0) fits (data_found value d (IsBytes-inside text value 6 fits outer) g.1)
+    data_found text value d (record { outer = outer; short = ltb-false _ _ g.0; octets = fits }) g.1
 
 -- an Interest or a Data of this text
 abbrev IsPacketOf : List ℕ → PlainFrame → Type 0
@@ -111,12 +81,10 @@ nacked_found reason text outer f fits own e =
     ]
 
 interest_of_again : (text : List ℕ) (i : PlainInterest) (h : IsInterest text i) → interest_of text h.fields.value ≡ Ok i
-interest_of_again text i h =
-    rw (le-ltb 8800 (length text) h.fields.short) (interest_again h.fields.value i (IsBytes-inside text h.fields.value 5 h.fields.octets h.fields.outer) (interest_value text i h))
+interest_of_again text i h = rw (le-ltb 8800 (length text) h.fields.short) (interest_again text i h)
 
 data_of_again : (text : List ℕ) (d : PlainData) (h : IsData text d) → data_of text h.fields.value ≡ Ok d
-data_of_again text d h =
-    rw (le-ltb 8800 (length text) h.fields.short) (data_again h.fields.value d (IsBytes-inside text h.fields.value 6 h.fields.octets h.fields.outer) (data_value text d h))
+data_of_again text d h = rw (le-ltb 8800 (length text) h.fields.short) (data_again text d h)
 
 -- ---- frames
 

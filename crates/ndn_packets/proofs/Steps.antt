@@ -1,11 +1,11 @@
 -- Readers step by step: what each step that succeeded has found.
-use Rattle.std.proofs.Common.{◌≡◌, ◌≢◌, ℕ, Bool, true, false, cond, eqb, List, [], ◌∷◌, ◌++◌, length, Option, Some, None, Result, Ok, Err, refl, ap, subst, ◌∙◌}
+use Rattle.std.proofs.Common.{◌≡◌, ◌≢◌, ℕ, ◌≤◌, Bool, true, false, cond, eqb, List, [], ◌∷◌, ◌++◌, length, Option, Some, None, Result, Ok, Err, refl, ap, subst, ◌∙◌}
 use Rattle.std.specs.List.{AllByRecursion, flat_map}
 use Rattle.std.proofs.lemmas.Bool.{eqb-true}
 use Rattle.std.proofs.lemmas.List.{take_at}
 use Rattle.ndn_tlv.specs.declared.fault.TlvFault.{TlvFault}
 use Rattle.ndn_tlv.specs.Number.{spelling}
-use Rattle.ndn_tlv.specs.Element.{Field, element}
+use Rattle.ndn_tlv.specs.Element.{Field, element, IsElement}
 use Rattle.ndn_tlv.specs.Reading.{◌>>=◌, on_result}
 use Rattle.ndn_tlv.proofs.Numbers.{IsBytes, IsBytes-take, IsBytes-back}
 use Rattle.ndn_names.specs.Reading.{name_at}
@@ -64,6 +64,18 @@ IsBytes-front xs ys h = subst IsBytes (take_at xs ys (length xs) refl) (IsBytes-
 
 pub IsBytes-value : (f : Field) (rest : List ℕ) → IsBytes (element f ++ rest) → IsBytes f.1
 IsBytes-value f rest h = IsBytes-back (spelling (length f.1)) f.1 (IsBytes-back (spelling f.0) (spelling (length f.1) ++ f.1) (IsBytes-front (element f) rest h))
+
+pub IsBytes-inside : (text value : List ℕ) (kind : ℕ) → IsBytes text → IsElement text kind value → IsBytes value
+IsBytes-inside text value kind fits outer = IsBytes-back (spelling (length value)) value (IsBytes-back (spelling kind) (spelling (length value) ++ value) (subst IsBytes outer.1 fits))
+
+-- octets that are one element, of at most the length of a packet
+pub record IsOne (text : List ℕ) (kind : ℕ) (value : List ℕ) : Type 0 where
+  pub outer : IsElement text kind value
+  pub short : length text ≤ 8800
+  pub octets : IsBytes text
+
+pub IsBytes-of_one : (text value : List ℕ) (kind : ℕ) → IsOne text kind value → IsBytes value
+IsBytes-of_one text value kind one = IsBytes-inside text value kind one.octets one.outer
 
 pub IsBytes-fields : (fields : List Field) → IsBytes (flat_map element fields) → AllByRecursion (λ f. IsBytes f.1) fields
 IsBytes-fields [] h = tt
