@@ -1,6 +1,6 @@
 -- Which packets have octets that a signature covers, and which octets these are.
 use Rattle.std.proofs.Common.{◌≡◌, ◌≢◌, ℕ, ◌-◌, ◌⊎◌, Bool, eqb, List, [], ◌∷◌, ◌++◌, length, take, Option, None, Some, refl, sym, ap, subst, ◌∙◌, append_assoc, arith, inl, inr}
-use Rattle.std.specs.Prelude.{◌↔◌, IsSome, IsSomeAnd, MatchOption, is_some, option_map}
+use Rattle.std.specs.Prelude.{◌↔◌, IsSome, IsSomeAnd, is_some, option_map}
 use Rattle.std.specs.List.{flat_map, AllByRecursion}
 use Rattle.std.proofs.lemmas.Bool.{eqb-false, ne_eqb}
 use Rattle.std.proofs.lemmas.List.{length-append, take_at, append_cancel_right}
@@ -8,10 +8,11 @@ use Rattle.std.proofs.lemmas.List.Concat.{flat_map-cons}
 use Rattle.std.proofs.lemmas.List.Elements.{filter-append}
 use Rattle.sha2.specs.Sha256.{sha256}
 use Rattle.ndn_tlv.specs.Element.{Field, IsField, element, IsElement, IsElements}
+use Rattle.ndn_packets.specs.declared.covered.Parts.{Parts}
 use Rattle.ndn_packets.specs.Packet.{PlainSignature, PlainInterest, PlainData, PlainFrame, AnInterest, AData, ANack, Idle, digests_in}
 use Rattle.ndn_packets.specs.Fields.{Fields, optional, flag, is_even_high, interest_schema}
 use Rattle.ndn_packets.specs.Grammar.{IsSigned, IsDigested, from_parameters, IsInterest, IsData}
-use Rattle.ndn_packets.specs.Covered.{IsCut, from_first, CoversData, CoversInterest, Covered, EndsInDigest, EndsAtSignature}
+use Rattle.ndn_packets.specs.Covered.{IsCut, from_first, CoversData, CoversInterest, Covered, AreParts, EndsInDigest, EndsAtSignature}
 use Rattle.ndn_packets.proofs.Steps.{ok_is, some_is, none_is_not_some}
 use Rattle.ndn_packets.proofs.Packets.{only_again}
 use Rattle.ndn_packets.proofs.Cuts.{cut_read, cut_is, never_cut, never_in, all_front, cut_among}
@@ -488,13 +489,13 @@ one_covered Idle first second other_first other_second c d = absurd c
 
 -- ---- where there is something covered
 
-pub always_there : {A : Type 0} (r : Option A) (P : Type 0) (Q : A → Type 0) → MatchOption r P Q → ¬ P → IsSomeAnd r Q
-always_there None P Q h never = never h
-always_there (Some x) P Q h never = h
+pub always_there : (packet : PlainFrame) (r : Option Parts) (first second : List ℕ) → AreParts packet r → Covered packet first second → IsSomeAnd r (λ parts. Covered packet parts.first.now parts.second.now)
+always_there packet None first second h covers = absurd (h first second covers)
+always_there packet (Some parts) first second h covers = h
 
-pub there_where : {A : Type 0} (r : Option A) (P : Type 0) (Q : A → Type 0) (E : Type 0) → MatchOption r P Q → (P → ¬ E) → ((x : A) → Q x → E) → IsSome r ↔ E
-there_where None P Q E h never given = (λ s. absurd cc, λ e. absurd (never h e))
-there_where (Some x) P Q E h never given = (λ s. given x h, λ e. refl)
+pub there_where : (packet : PlainFrame) (r : Option Parts) (E : Type 0) → AreParts packet r → (((first second : List ℕ) → Covered packet first second → ⊥) → ¬ E) → ((parts : Parts) → Covered packet parts.first.now parts.second.now → E) → IsSome r ↔ E
+there_where packet None E h never given = (λ s. absurd cc, λ e. absurd (never h e))
+there_where packet (Some parts) E h never given = (λ s. given parts h, λ e. refl)
 
 pub is_some_map : {A B : Type 0} (f : A → B) (o : Option A) → is_some (option_map f o) ≡ is_some o
 is_some_map f None = refl

@@ -1,6 +1,6 @@
 -- Which Data answers an Interest (NDN Packet Format 0.3, "Name", "Implicit Digest Component";
 -- "Interest Packet", "CanBePrefix").
-use Rattle.std.specs.Prelude.{◌≡◌, ◌⊎◌, ℕ, List, [], ◌∷◌, ◌++◌, Bool, true, false, ◌&&◌, ◌||◌}
+use Rattle.std.specs.Prelude.{◌≡◌, ◌⊎◌, ℕ, List, [], ◌∷◌, ◌++◌, Option, None, Some, Bool, true, false, ◌&&◌, ◌||◌}
 use Rattle.std.specs.Ordering.{eq_by_cmp}
 use Rattle.ndn_tlv.specs.Element.{Field}
 use Rattle.ndn_names.specs.Name.{IsPrefix}
@@ -22,6 +22,11 @@ Answers name digest asked can_be_prefix =
 abbrev pub AnswersByName : List Field → List Field → Bool → Type 0
 AnswersByName name asked can_be_prefix =
     (asked ≡ name) ⊎ ((can_be_prefix ≡ true) × IsPrefix asked name)
+
+-- the digest that a name asks for, where it is the Data's name and a digest after it
+abbrev pub AsksFor : List Field → List Field → Option (List ℕ) → Type 0
+AsksFor name asked None = (digest : List ℕ) → asked ≡ full_name name digest → ⊥
+AsksFor name asked (Some digest) = asked ≡ full_name name digest
 
 -- `IsPrefix` as a test: whether the second name begins with the first
 abbrev pub begins_with : List Field → List Field → Bool

@@ -5,6 +5,7 @@ use Rattle.sha2.specs.Sha256.{sha256}
 use Rattle.ndn_tlv.specs.Element.{Field, IsField, element, IsElement}
 use Rattle.ndn_tlv.specs.Reading.{on_result, element_at}
 use Rattle.ndn_names.specs.declared.component_type.TheConstants.{PARAMETERS_SHA256_DIGEST}
+use Rattle.ndn_packets.specs.declared.covered.Parts.{Parts}
 use Rattle.ndn_packets.specs.Packet.{PlainFrame, AnInterest, AData, ANack, Idle}
 use Rattle.ndn_packets.specs.declared.types.TheConstants.{APPLICATION_PARAMETERS, DATA, INTEREST, INTEREST_SIGNATURE_INFO, INTEREST_SIGNATURE_VALUE, SIGNATURE_VALUE}
 
@@ -67,11 +68,28 @@ Covered (AData whole d) first second = CoversData whole first × (second ≡ [])
 Covered (ANack reason whole i) first second = ⊥
 Covered Idle first second = ⊥
 
+-- the two parts are what the signature of a packet covers, or there is no such
+abbrev pub AreParts : PlainFrame → Option Parts → Type 0
+AreParts packet None = (first second : List ℕ) → Covered packet first second → ⊥
+AreParts packet (Some parts) = Covered packet parts.first.now parts.second.now
+
 -- the last component is a digest of parameters
 abbrev pub EndsInDigest : List Field → Type 0
 EndsInDigest name =
     (front : List Field) × (digest : List ℕ)
     × (name ≡ front ++ (PARAMETERS_SHA256_DIGEST, digest) ∷ [])
+
+-- the octets are those of the components before such a one
+abbrev pub IsBeforeDigest : List Field → Option (List ℕ) → Type 0
+IsBeforeDigest name None = EndsInDigest name → ⊥
+IsBeforeDigest name (Some octets) =
+    (front : List Field) × (digest : List ℕ)
+    × (name ≡ front ++ (PARAMETERS_SHA256_DIGEST, digest) ∷ []) × (octets ≡ flat_map element front)
+
+-- The octets are those of a Data up to the element of its signature's value.
+abbrev pub EndsBeforeValue : List ℕ → List ℕ → List ℕ → Type 0
+EndsBeforeValue value text covered =
+    (after : List ℕ) × IsElement text DATA (covered ++ (element (SIGNATURE_VALUE, value) ++ after))
 
 -- The octets end where the element of a signature's value begins, in an Interest of this name: the
 -- first ones are all components before the digest of parameters, and the second ones begin where

@@ -1,5 +1,5 @@
 -- What a reader of fields has left.
-use Rattle.std.specs.Prelude.{◌≡◌, ◌∷◌, ℕ, Bool, List, Result, Ok, Some, IsSome}
+use Rattle.std.specs.Prelude.{◌≡◌, [], ◌∷◌, ℕ, Bool, List, Result, Ok, Err, Option, None, Some, IsSome}
 use Rattle.ndn_tlv.specs.Element.{Field}
 use Rattle.ndn_tlv.specs.Reading.{elements_of}
 use Rattle.ndn_packets.specs.declared.fault.PacketFault.{PacketFault}
@@ -18,6 +18,13 @@ ignored_by rules.SignatureInfo = is_ignored_in_signature_info
 
 abbrev pub fields_left : FieldReader → List (Result Field PacketFault)
 fields_left f = fields_from (ignored_by f.rules) f.schema.now (elements_of f.rest.now)
+
+-- what a step gives is what was left first: a field, the end or a fault
+abbrev pub Gives : FieldReader → FieldReader → Result (Option Element) PacketFault → Type 0
+Gives before after (Ok None) = fields_left before ≡ []
+Gives before after (Ok (Some e)) =
+    fields_left before ≡ Ok (e.kind, e.value.now) ∷ fields_left after
+Gives before after (Err fault) = fields_left before ≡ Err fault ∷ []
 
 -- where the field e stands that a reader just gave: its octets and those after it; nothing before
 -- it is ApplicationParameters, where these could still come

@@ -1,11 +1,11 @@
 //! Which Data answers an Interest (NDN Packet Format 0.3, "Name", "Implicit Digest Component").
 
-ghost use Rattle.std.specs.Prelude.{◌≡◌, ◌↔◌, ℕ, Bool, List, IsTrue, MatchOption};
+ghost use Rattle.std.specs.Prelude.{◌≡◌, ◌↔◌, ℕ, Bool, List, IsTrue, option_map};
 ghost use Rattle.sha2.specs.Sha256.{sha256};
 ghost use Rattle.ndn_tlv.specs.Element.{Field};
 ghost use Rattle.ndn_names.specs.Name.{IsPrefix};
 ghost use Rattle.ndn_names.specs.View.{components};
-ghost use Rattle.ndn_packets.specs.Answers.{full_name, Answers, AnswersByName, answers, begins_with};
+ghost use Rattle.ndn_packets.specs.Answers.{full_name, Answers, AnswersByName, AsksFor, answers, begins_with};
 
 use crate::data::Data;
 use ndn_names::Name;
@@ -62,11 +62,8 @@ impl Data<'_> {
     /// The implicit digest that this name asks for, where it is the Data's name and a digest after
     /// it, right or wrong. For no other name does an answer depend on the digest.
     pub fn asked_digest<'n>(&self, asked: Name<'n>) -> Option<&'n [u8]>
-        ensures { MatchOption result
-            ((digest : List ℕ)
-            → components asked.entry ≡ full_name (components self.now.name) digest → ⊥)
-            (λ digest. components asked.entry
-            ≡ full_name (components self.now.name) digest.now) }
+        ensures { AsksFor (components self.now.name) (components asked.entry)
+            (option_map (λ digest. digest.now) result) }
     {
         if !self.name.is_prefix_of(asked) {
             return None;

@@ -5,7 +5,7 @@ ghost use Rattle.ndn_tlv.specs.Element.{Field, element, IsElement};
 ghost use Rattle.ndn_names.specs.View.{components};
 ghost use Rattle.ndn_packets.specs.Packet.{PlainSignature, PlainInterest, PlainData, PlainFrame, AnInterest, AData};
 ghost use Rattle.ndn_packets.specs.Grammar.{IsInterest, IsData};
-ghost use Rattle.ndn_packets.specs.Covered.{IsCut, from_first, Covered, EndsInDigest, EndsAtSignature};
+ghost use Rattle.ndn_packets.specs.Covered.{IsCut, from_first, Covered, EndsInDigest, IsBeforeDigest, EndsBeforeValue, EndsAtSignature};
 
 use crate::data::Data;
 use crate::frame::only_element;
@@ -26,10 +26,10 @@ pub struct Parts<'a> {
 }
 
 impl<'a> Data<'a> {
-    ghost use Rattle.std.specs.Prelude.{List, ℕ, MatchOption, IsSomeAnd};
+    ghost use Rattle.std.specs.Prelude.{IsSomeAnd};
     ghost use Rattle.ndn_packets.specs.Packet.{AData};
     ghost use Rattle.ndn_packets.specs.View.{plain_data};
-    ghost use Rattle.ndn_packets.specs.Covered.{Covered};
+    ghost use Rattle.ndn_packets.specs.Covered.{Covered, AreParts};
 
     /// The octets that the signature covers, as they were received: those from the Name up to the
     /// SignatureValue. The second part is empty. A Data always has them.
@@ -41,11 +41,7 @@ impl<'a> Data<'a> {
     }
 
     fn cut_parts(&self) -> Option<Parts<'a>>
-        ensures { MatchOption result
-            ((first second : List ℕ)
-            → Covered (AData self.now.whole.now (plain_data self.now)) first second → ⊥)
-            (λ parts. Covered
-            (AData self.now.whole.now (plain_data self.now)) parts.first.now parts.second.now) }
+        ensures { AreParts (AData self.now.whole.now (plain_data self.now)) result }
     {
         let value = value_of(self.whole, DATA)?;
         let from_signature = from_first(value, SIGNATURE_VALUE)?;
@@ -57,24 +53,18 @@ impl<'a> Data<'a> {
 }
 
 impl<'a> Interest<'a> {
-    ghost use Rattle.std.specs.Prelude.{◌↔◌, List, ℕ, IsSome, MatchOption};
+    ghost use Rattle.std.specs.Prelude.{◌↔◌, IsSome};
     ghost use Rattle.ndn_names.specs.View.{components};
     ghost use Rattle.ndn_packets.specs.Packet.{AnInterest};
     ghost use Rattle.ndn_packets.specs.View.{plain_interest};
-    ghost use Rattle.ndn_packets.specs.Covered.{Covered, EndsInDigest};
+    ghost use Rattle.ndn_packets.specs.Covered.{AreParts, EndsInDigest};
 
     /// The octets that the signature covers, as they were received: those of the name's components
     /// before the digest of parameters, and those from the ApplicationParameters up to the
     /// InterestSignatureValue. `None` where the Interest is not signed, or the digest of parameters
     /// is not the last component.
     pub fn signed_parts(&self) -> Option<Parts<'a>>
-        ensures exact { MatchOption result
-            ((first second : List ℕ)
-            → Covered (AnInterest self.now.whole.now (plain_interest self.now)) first second
-            → ⊥)
-            (λ parts. Covered
-            (AnInterest self.now.whole.now
-            (plain_interest self.now)) parts.first.now parts.second.now) }
+        ensures exact { AreParts (AnInterest self.now.whole.now (plain_interest self.now)) result }
         ensures when { IsSome result
             ↔ (IsSome self.now.signature × EndsInDigest (components self.now.name)) }
     {
@@ -82,13 +72,7 @@ impl<'a> Interest<'a> {
     }
 
     fn cut_parts(&self) -> Option<Parts<'a>>
-        ensures { MatchOption result
-            ((first second : List ℕ)
-            → Covered (AnInterest self.now.whole.now (plain_interest self.now)) first second
-            → ⊥)
-            (λ parts. Covered
-            (AnInterest self.now.whole.now
-            (plain_interest self.now)) parts.first.now parts.second.now) }
+        ensures { AreParts (AnInterest self.now.whole.now (plain_interest self.now)) result }
     {
         let first = before_digest(self.name)?;
         let value = value_of(self.whole, INTEREST)?;
@@ -104,11 +88,7 @@ impl<'a> Interest<'a> {
 
 /// The octets of the components before the last one, where that is a digest of parameters.
 fn before_digest(name: Name<'_>) -> Option<&[u8]>
-    ensures { MatchOption result
-        (EndsInDigest (components name.entry) → ⊥)
-        (λ octets. (front : List Field) × (digest : List ℕ)
-        × (components name.entry ≡ front ++ (PARAMETERS_SHA256_DIGEST, digest) ∷ [])
-        × (octets.now ≡ flat_map element front)) }
+    ensures { IsBeforeDigest (components name.entry) (option_map (λ octets. octets.now) result) }
 {
     let count = name.len().checked_sub(1)?;
     let last = name.component(count)?;
@@ -170,12 +150,9 @@ pub fn signed_packets_have_covered_octets()
         → (((first second : List ℕ) × Covered (AnInterest text i) first second)
         ↔ (IsSome i.signature × EndsInDigest i.name)) }
     ensures data_ends { (text covered : List ℕ) (d : PlainData) → IsData text d
-        → Covered (AData text d) covered []
-        → (after : List ℕ)
-        × IsElement text DATA (covered ++ (element (SIGNATURE_VALUE, d.signature.value) ++ after)) }
+        → Covered (AData text d) covered [] → EndsBeforeValue d.signature.value text covered }
     ensures interest_ends { (text first second : List ℕ) (i : PlainInterest) (s : PlainSignature)
-        → IsInterest text i → i.signature ≡ Some s
-        → Covered (AnInterest text i) first second
+        → IsInterest text i → i.signature ≡ Some s → Covered (AnInterest text i) first second
         → EndsAtSignature i.name s.value text first second }
 {}
 

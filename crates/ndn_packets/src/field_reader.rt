@@ -8,7 +8,7 @@ ghost use Rattle.ndn_packets.specs.FirstFault.{TellsFirstFault};
 ghost use Rattle.ndn_packets.specs.PacketFaults.{InfoFault, InterestFault, DataFault};
 ghost use Rattle.ndn_packets.specs.FrameReading.{take_nack_field};
 ghost use Rattle.ndn_packets.specs.Reading.{schema_after, fields_from, leading_name_at, nni_value_at, interest_at, data_at, info_at, take_interest_field, take_data_field, take_meta_field, take_info_field, no_fields_yet, nothing_yet, no_info_yet};
-ghost use Rattle.ndn_packets.specs.FieldReader.{ignored_by, fields_left, StandsHere};
+ghost use Rattle.ndn_packets.specs.FieldReader.{ignored_by, fields_left, Gives, StandsHere};
 
 use crate::fault::PacketFault;
 use crate::schema::{Rules, needs_previous_field};
@@ -45,11 +45,7 @@ impl<'a> FieldReader<'a> {
     /// The next field. Elements that are none are ignored or refused.
     #[inline(always)]
     pub fn next(&mut self) -> Result<Option<Element<'a>>, PacketFault>
-        ensures walk { MatchResult result
-            (λ next. MatchOption next
-            (fields_left self.old ≡ [])
-            (λ e. fields_left self.old ≡ Ok (e.kind, e.value.now) ∷ fields_left self.new))
-            (λ fault. fields_left self.old ≡ Err fault ∷ []) }
+        ensures walk { Gives self.old self.new result }
         ensures place { IfOk result (λ next. IfSome next (λ e. StandsHere self.old self.new e)) }
         ensures progress { IfOk result
             (λ next. OnSome next (length self.new.rest.now < length self.old.rest.now)) }

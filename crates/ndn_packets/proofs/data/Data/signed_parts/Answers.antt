@@ -1,4 +1,5 @@
 use Rattle.std.proofs.Common.{[], refl}
+use Rattle.ndn_packets.specs.Packet.{AData}
 use Rattle.ndn_packets.specs.View.{plain_data}
 use Rattle.ndn_packets.proofs.Covers.{data_covered, always_there}
 use Rattle.ndn_packets.proofs.Held.{data_read}
@@ -8,4 +9,4 @@ pub returns : goal.returns
 returns c =
     let d = c.args.self.now in
     let covered = data_covered d.whole.now (plain_data d) (data_read d) in
-    always_there c.cut_parts.result _ _ c.cut_parts.ensures (λ none. none covered.0 [] (covered.1, refl))
+    always_there (AData d.whole.now (plain_data d)) c.cut_parts.result covered.0 [] c.cut_parts.ensures (covered.1, refl)
