@@ -9,3 +9,10 @@ pub mod FaceTests
 pub mod LongestPrefix
 pub mod Refusals
 pub mod RootChoice
+pub mod PendingTables
+pub mod PendingPlaces
+pub mod PendingPast
+pub mod PendingFaces
+pub mod Moments
+pub mod Askers
+pub mod Satisfied

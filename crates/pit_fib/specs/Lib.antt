@@ -4,3 +4,8 @@ pub mod Hops
 pub mod NameTable
 pub mod Fib
 pub mod StrategyTable
+pub mod Records
+pub mod Cause
+pub mod Pit
+pub mod Past
+pub mod Entries

@@ -137,16 +137,16 @@ fn without_face(places: &mut [(u64, u64)], len: usize, face: u64) -> usize
 }
 
 /// Where the face is, or where it would go.
-fn place_of(places: &[(u64, u64)], face: u64) -> Result<usize, usize>
+pub fn place_of<V>(places: &[(u64, V)], face: u64) -> Result<usize, usize>
     requires { T (map.is_sorted nat_cmp places.now) }
     ensures found { IfOk result (λ at. (at < length places.now)
-        × ((number : ℕ) → map.put nat_cmp face number places.now
-        ≡ slice_set places.now at (face, number))
-        × ((place : ℕ × ℕ) → place ≡ slice_index_or places.now at place
+        × ((value : V) → map.put nat_cmp face value places.now
+        ≡ slice_set places.now at (face, value))
+        × ((place : ℕ × V) → place ≡ slice_index_or places.now at place
         → map.find nat_cmp face places.now ≡ Some place.1)) }
     ensures absent { IfErr result (λ at. (at ≤ length places.now)
-        × ((number : ℕ) → map.put nat_cmp face number places.now
-        ≡ insert places.now at (face, number))
+        × ((value : V) → map.put nat_cmp face value places.now
+        ≡ insert places.now at (face, value))
         × (map.find nat_cmp face places.now ≡ None)) }
 {
     for (at, place) in places.iter().enumerate() {

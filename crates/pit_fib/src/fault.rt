@@ -1,4 +1,5 @@
 ghost use Rattle.std.specs.Prelude.{◌≡◌};
+ghost use Rattle.pit_fib.specs.declared.fault.PitFault.TheVariants as pit_faults;
 ghost use Rattle.pit_fib.specs.declared.fault.TableFault.TheVariants as faults;
 
 use ndn_tlv::Memory as NoMemory;
@@ -24,5 +25,24 @@ impl From<NoMemory> for TableFault {
 
     fn from(_error: NoMemory) -> TableFault {
         TableFault::Memory
+    }
+}
+
+/// Why the pending Interest table takes no Interest.
+#[derive(Clone, Copy, Debug, PartialEq, Eq, Error)]
+pub enum PitFault {
+    /// The key is new, and Interests wait under 4,096 others.
+    #[error("Interests wait under 4096 keys")]
+    PitFull,
+    /// A growth of memory was refused.
+    #[error("out of memory")]
+    Memory,
+}
+
+impl From<NoMemory> for PitFault {
+    ghost from_gives = { λ _ e. e ≡ pit_faults.Memory };
+
+    fn from(_error: NoMemory) -> PitFault {
+        PitFault::Memory
     }
 }

@@ -1,20 +1,33 @@
-//! Where Interests go: next hops and strategies by name, and lists of faces.
+//! Where Interests go and who waits for Data: next hops and strategies by name, pending Interests by
+//! key, and lists of faces.
 #![tactic(auto)]
 
+mod answering;
 mod array_list;
 mod by_face;
+mod entry;
+mod face_map;
 mod faces;
 mod fault;
 mod fib;
 mod hops;
+mod key_buf;
 mod law;
+mod nacked;
 mod name_map;
+mod pit;
+mod spare;
 mod strategy_table;
 
 pub use by_face::Used;
 pub use faces::Faces;
-pub use fault::TableFault;
+pub use fault::{PitFault, TableFault};
 pub use fib::{Fib, MAX_DEPTH, MAX_ENTRIES};
 pub use hops::{Hop, Hops};
-pub use law::longest_is_the_longest_prefix;
+pub use law::{
+    expiry_may_come_twice, longest_is_the_longest_prefix, records_are_the_past,
+    records_tell_the_table,
+};
+pub use nacked::Nacked;
+pub use pit::{MAX_PENDING, Pit};
 pub use strategy_table::{StrategyId, StrategyTable};

@@ -1,0 +1,8 @@
+use Rattle.std.proofs.Common.{ap, ◌∙◌}
+use Rattle.std.specs.Ordering.{nat_cmp}
+use Rattle.std.specs.FinMap.{from_sorted}
+use Rattle.pit_fib.proofs.Rows.{from_none}
+use Rattle.pit_fib.proofs.face_map.FaceMap.new.Goals as goal
+
+pub returns : goal.returns
+returns g c = ap (λ es. from_sorted {R = nat_cmp} es) c.in_ok-rows.ensures.items ∙ from_none nat_cmp

@@ -1,0 +1,28 @@
+use Rattle.std.proofs.Common.{◌≡◌, List, ap, sym, ◌∙◌, ℕ, false, not, eqb}
+use Rattle.std.specs.Prelude.{Option, ◌&&◌, ◌||◌}
+use Rattle.std.specs.List.{list_any}
+use Rattle.std.specs.Ordering.{nat_cmp}
+use Rattle.std.specs.FinMap.{get-empty, empty, entries}
+use Rattle.ndn_packets.specs.Key.{plain_key}
+use Rattle.pit_fib.specs.Records.{Ask, Sent, no_records, same_nonce}
+use Rattle.pit_fib.specs.Pit.{PitState, loops, asks_with}
+use Rattle.pit_fib.proofs.PendingPlaces.{seen_here, seen_nothing}
+use Rattle.pit_fib.proofs.Rows.{no_entries}
+use Rattle.pit_fib.proofs.pit.Pit.loops.Goals as goal
+
+loops_nowhere : (face : ℕ) (nonce : List ℕ) → loops no_records face nonce ≡ false
+loops_nowhere face nonce =
+    let others = λ (e : ℕ × Ask). not (eqb e.0 face) && same_nonce e.1.nonce nonce in
+    let asked = λ (e : ℕ × Sent). same_nonce e.1.nonce nonce in
+    ap (λ (o : Option Ask). not (asks_with o nonce) && (list_any others (entries (empty {R = nat_cmp})) || list_any asked (entries (empty {R = nat_cmp})))) (get-empty nat_cmp face)
+    ∙ ap (λ l. list_any others l || list_any asked (entries (empty {R = nat_cmp}))) (no_entries nat_cmp) ∙ ap (λ l. list_any asked l) (no_entries nat_cmp)
+
+pub returns-in-Some : goal.returns-in-Some
+returns-in-Some c =
+    c.loops.ensures
+    ∙ ap (λ r. loops r c.args.face c.args.nonce) (sym (seen_here (plain_key c.args.key) c.self.inside.entries.items c.deref.result.now c.args.self.now.pending c.in-Some.at c.index.result.now (ap (λ (s : PitState). s.pending) c.self.view_is) c.deref.ensures.value c.in-Some.ensures c.index.ensures c.self.invariant.1))
+
+pub returns-in-None : goal.returns-in-None
+returns-in-None c =
+    sym (loops_nowhere c.args.face c.args.nonce)
+    ∙ ap (λ r. loops r c.args.face c.args.nonce) (sym (seen_nothing (plain_key c.args.key) c.self.inside.entries.items c.deref.result.now c.args.self.now.pending (ap (λ (s : PitState). s.pending) c.self.view_is) c.deref.ensures.value c.in-None.ensures))

@@ -1,0 +1,31 @@
+use Rattle.std.proofs.Common.{rules, ◌≡◌, refl, ap, subst, sym}
+use Rattle.std.specs.FinMap.{from_entries}
+use Rattle.ndn_packets.specs.Key.{plain_key}
+use Rattle.pit_fib.specs.Records.{Pending}
+use Rattle.pit_fib.specs.Cause.{Withdrawn, changed, Follows}
+use Rattle.pit_fib.specs.Entries.{AllLive, AreApart}
+use Rattle.pit_fib.specs.Pit.{PitState}
+use Rattle.pit_fib.proofs.PendingTables.{living_after, retained, live_after, apart_after, each_follows, spare_kept, dead_after_withdrawal}
+use Rattle.pit_fib.proofs.PendingFaces.{stays_few}
+use Rattle.pit_fib.proofs.pit.Pit.withdraw.Goals as goal
+use Rattle.pit_fib.proofs.pit.Pit.withdraw.Goals.{After-retain_mut}
+
+left : (c : After-retain_mut) → c.retain_mut.new.self.items ≡ living_after (changed (Withdrawn (plain_key c.args.key) c.args.face)) c.self.inside.entries.items
+left c =
+    retained (changed (Withdrawn (plain_key c.args.key) c.args.face)) _ _ (λ x b t y k. search rules) _ _ c.retain_mut.ensures.filtered
+
+follows : (c : After-retain_mut) → Follows (Withdrawn (plain_key c.args.key) c.args.face) (from_entries c.self.inside.entries.items) (from_entries c.retain_mut.new.self.items)
+follows c = each_follows (Withdrawn (plain_key c.args.key) c.args.face) (dead_after_withdrawal (plain_key c.args.key) c.args.face) _ _ _ c.self.invariant.1 refl (left c)
+
+pub invariant_of-self : goal.invariant_of-self
+invariant_of-self c =
+    let g = changed (Withdrawn (plain_key c.args.key) c.args.face) in
+    let es = c.self.inside.entries.items in (
+      subst AllLive (sym (left c)) (live_after g es),
+      subst AreApart (sym (left c)) (apart_after g es c.self.invariant.1),
+      stays_few (Withdrawn (plain_key c.args.key) c.args.face) (from_entries es) (from_entries c.retain_mut.new.self.items) (λ f adds. adds) (follows c) c.self.invariant.2,
+      spare_kept _ _ _ _ c.self.inside.spare c.retain_mut.ensures.bound c.retain_mut.ensures.capacity c.self.invariant.3,
+    )
+
+pub returns-clause-pending : goal.returns-clause-pending
+returns-clause-pending c = subst (λ (old : Pending). Follows (Withdrawn (plain_key c.args.key) c.args.face) old (from_entries c.retain_mut.new.self.items)) (ap (λ (s : PitState). s.pending) c.self.view_is) (follows c)

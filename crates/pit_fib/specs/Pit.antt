@@ -1,0 +1,89 @@
+-- The pending Interest table: what it answers, what it can take, and the call that may be prepared
+-- (NFD Developer's Guide, "Pending Interest Table", "Incoming Interest Pipeline", "Incoming Nack
+-- Pipeline").
+use Rattle.std.specs.Prelude.{◌≡◌, ◌⊎◌, ℕ, ◌≤◌, List, [], ◌∷◌, length, min, Bool, Option, None, Some, IsSome, IsTrue, false, option_and_then, ◌==◌, ◌&&◌, ◌||◌, not, refl, if◌then◌else◌}
+use Rattle.std.specs.Coded.{Coded, code_by, coded×, coded_option, coded_ℕ}
+use Rattle.std.specs.List.{AllByRecursion, list_any}
+use Rattle.std.specs.FinMap as map
+use Rattle.ndn_tlv.specs.Element.{Field}
+use Rattle.ndn_packets.specs.Answers.{answers}
+use Rattle.ndn_packets.specs.Key.{PlainKey, key_code}
+use Rattle.pit_fib.specs.declared.nacked.Nacked.{Nacked}
+use Rattle.pit_fib.specs.declared.nacked.Nacked.TheVariants.{NoPending, Waiting, All}
+use Rattle.pit_fib.specs.Faces.{IsRising}
+use Rattle.pit_fib.specs.Tables.{ByFace, revise}
+use Rattle.pit_fib.specs.Records.{Ask, Sent, Asked, Records, Pending, records_at, records_code, same_nonce}
+use Rattle.pit_fib.specs.Cause.{with_reason}
+
+pub record PitState : Type 0 where
+  pub pending : Pending
+  -- the key of the `arrive` that is prepared, and the greatest number of octets of its Interest
+  pub prepared : Option (PlainKey × ℕ)
+
+abbrev pub pit_code : Coded PitState
+pit_code =
+    code_by (Pending × Option (PlainKey × ℕ))
+    (coded× (map.code key_code records_code) (coded_option (coded× key_code coded_ℕ)))
+    (λ s. (s.pending, s.prepared)) (λ p. record { pending = p.0; prepared = p.1 }) (λ _. refl)
+
+-- ---- the faces of a table
+
+-- a face asks or was asked, under some key
+abbrev pub HasRecord : Pending → ℕ → Type 0
+HasRecord pending face =
+    (key : PlainKey) × (IsSome (map.get (records_at pending key).asks face)
+    ⊎ IsSome (map.get (records_at pending key).asked face))
+
+-- of the faces with this, no more than 64 are different
+abbrev pub AtMost64 : (ℕ → Type 0) → Type 0
+AtMost64 P = (faces : List ℕ) → IsRising faces → AllByRecursion P faces → length faces ≤ 64
+
+-- the faces that have a record, and this one, are at most 64
+abbrev pub HasRoomFor : Pending → ℕ → Type 0
+HasRoomFor pending face = AtMost64 (λ f. HasRecord pending f ⊎ (f ≡ face))
+
+-- ---- answers
+
+-- a face asks for Data of this name and implicit digest
+abbrev pub AsksFor : Pending → List Field → List ℕ → ℕ → Type 0
+AsksFor pending name digest face =
+    (key : PlainKey) × IsTrue (answers name digest key.name key.can_be_prefix)
+    × IsSome (map.get (records_at pending key).asks face)
+
+-- whether the last sending to a face had this Nonce
+abbrev pub was_sent : Option Sent → List ℕ → Bool
+was_sent None nonce = false
+was_sent (Some sent) nonce = same_nonce sent.nonce nonce
+
+abbrev pub asks_with : Option Ask → List ℕ → Bool
+asks_with None nonce = false
+asks_with (Some ask) nonce = same_nonce ask.nonce nonce
+
+-- An Interest loops where another asker or a face asked has its Nonce, and its own face did not ask
+-- with it.
+abbrev pub loops : Records → ℕ → List ℕ → Bool
+loops r face nonce =
+    not (asks_with (map.get r.asks face) nonce)
+    && (list_any (λ e. not (e.0 == face) && same_nonce e.1.nonce nonce) (map.entries r.asks)
+    || list_any (λ e. same_nonce e.1.nonce nonce) (map.entries r.asked))
+
+-- when each face was last sent an Interest of the key
+abbrev pub moments : Asked → ByFace
+moments asked = revise (λ sent. Some sent.moment) asked
+
+-- the least of the reasons and this one, or None where some face asked has no reason
+abbrev pub least_reason : ℕ → List (ℕ × Sent) → Option ℕ
+least_reason least [] = Some least
+least_reason least (e ∷ es) =
+    option_and_then (λ reason. least_reason (min least reason) es) e.1.reason
+
+abbrev pub all_nacked : Option ℕ → Nacked
+all_nacked None = Waiting
+all_nacked (Some reason) = All reason
+
+-- what a Nack of this Nonce and reason from a face comes to
+abbrev pub nacked_answer : Records → ℕ → List ℕ → ℕ → Nacked
+nacked_answer r face nonce reason =
+    if was_sent (map.get r.asked face) nonce then all_nacked (least_reason reason
+    (map.entries (with_reason face nonce reason r.asked (map.get r.asked face))))
+    else NoPending
