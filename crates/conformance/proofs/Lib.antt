@@ -1,1 +1,2 @@
 pub mod RouteRoom
+pub mod PendingRoom

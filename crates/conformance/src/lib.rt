@@ -18,6 +18,8 @@ mod packets;
 #[cfg(test)]
 mod patterns;
 #[cfg(test)]
+mod pending;
+#[cfg(test)]
 mod rows;
 #[cfg(test)]
 mod rules;

@@ -1,0 +1,368 @@
+//! Pending Interests: tables of faces below 64, of which each call so has room.
+
+mod random_sequences;
+
+ghost use Rattle.std.specs.Prelude.{◌≡◌, ℕ, IfSome, IsSome, length};
+
+use crate::rows::check_rows;
+use ndn_names::NameBuf;
+use ndn_packets::*;
+use pit_fib::*;
+use std::alloc::Global;
+use std::marker::Model;
+
+/// A table whose records are of faces below 64.
+#[derive(Drop)]
+struct Table {
+    pit: Pit,
+}
+
+impl Model for Table {
+    ghost use Rattle.std.specs.Prelude.{ℕ, ◌<◌};
+    ghost use Rattle.pit_fib.specs.Pit.{PitState, pit_code, HasRecord};
+
+    ghost Value = { PitState };
+
+    ghost coded = { pit_code };
+
+    ghost view = { λ t. t.pit };
+
+    ghost invariant = { λ t. (face : ℕ) → HasRecord t.pit.pending face → face < 64 };
+}
+
+/// A key that owns its name.
+#[derive(Drop)]
+struct OwnedKey {
+    name: NameBuf,
+    can_be_prefix: bool,
+    must_be_fresh: bool,
+}
+
+impl OwnedKey {
+    /// A URI, with `+p` after it for CanBePrefix, `+f` for MustBeFresh, or `+pf` for both.
+    fn read(alloc: Global, text: &str) -> Option<OwnedKey> {
+        let (name, flags) = text.split_once('+').unwrap_or((text, ""));
+        Some(OwnedKey {
+            name: NameBuf::from_uri(alloc, name).ok()?,
+            can_be_prefix: flags.contains('p'),
+            must_be_fresh: flags.contains('f'),
+        })
+    }
+
+    fn view(&self) -> Key<'_> {
+        Key {
+            name: self.name.view(),
+            can_be_prefix: self.can_be_prefix,
+            must_be_fresh: self.must_be_fresh,
+        }
+    }
+}
+
+impl Table {
+    fn new(alloc: Global) -> Table {
+        Table {
+            pit: Pit::new(alloc),
+        }
+    }
+
+    /// Keeps an Interest whose octets are its Nonce.
+    fn ask(&mut self, key: Key<'_>, face: u64, nonce: [u8; 4], deadline: u64) -> Option<PitFault> {
+        self.pit
+            .arrive(key, face % 64, nonce, &nonce, deadline)
+            .err()
+    }
+
+    /// Keeps a sending, where this face asks.
+    fn sent(&mut self, key: Key<'_>, asker: u64, face: u64, nonce: [u8; 4], now: u64) -> bool {
+        if self.pit.interest_of(key, asker).is_none() {
+            return false;
+        }
+        self.pit.sent(key, face % 64, nonce, now).is_ok()
+    }
+
+    fn prepare(&mut self, key: Key<'_>, octets: usize) -> bool {
+        self.pit.prepare(key, octets).is_ok()
+    }
+
+    fn satisfy(&mut self, packet: &Data<'_>) -> Faces {
+        self.pit.satisfy(packet)
+    }
+
+    fn nacked(&mut self, key: Key<'_>, face: u64, nonce: [u8; 4], reason: u64) -> Nacked {
+        self.pit.nacked(key, face, nonce, reason)
+    }
+
+    fn withdraw(&mut self, key: Key<'_>, face: u64) {
+        self.pit.withdraw(key, face);
+    }
+
+    fn remove(&mut self, key: Key<'_>) {
+        self.pit.remove(key);
+    }
+
+    fn expire(&mut self, now: u64) {
+        self.pit.expire(now);
+    }
+
+    fn close_face(&mut self, face: u64) {
+        self.pit.close_face(face);
+    }
+}
+
+fn nonce_of(text: &str) -> Option<[u8; 4]> {
+    Some(text.parse::<u32>().ok()?.to_be_bytes())
+}
+
+fn faces_shown(alloc: Global, faces: &Faces) -> Option<String> {
+    let mut text = format!(in alloc; "faces").ok()?;
+    for i in 0..faces.len() {
+        let face = faces.get(i)?;
+        text.push_str(&format!(in alloc; " {face}").ok()?).ok()?;
+    }
+    Some(text)
+}
+
+fn used_shown(alloc: Global, used: &Used) -> Option<String> {
+    let mut text = format!(in alloc; "used").ok()?;
+    for i in 0..used.len() {
+        let (face, moment) = used.at(i)?;
+        text.push_str(&format!(in alloc; " {face}@{moment}").ok()?)
+            .ok()?;
+    }
+    Some(text)
+}
+
+/// Data of this name, with empty Content.
+fn satisfied(alloc: Global, table: &mut Table, uri: &str) -> Option<String> {
+    let name = NameBuf::from_uri(alloc, uri).ok()?;
+    let mut packet = Vec::new(alloc);
+    put_reply(&mut packet, name.view(), &[]).ok()?;
+    let Frame::Data(data) = read_frame(&packet).ok()? else {
+        return None;
+    };
+    faces_shown(alloc, &table.satisfy(&data))
+}
+
+/// A call that names a key: `ask KEY FACE NONCE DEADLINE`, `sent KEY ASKER FACE NONCE NOW`,
+/// `loops KEY FACE NONCE`, `nack KEY FACE NONCE REASON`, `of KEY FACE`, `used KEY`,
+/// `withdraw KEY FACE`, `remove KEY`.
+fn keyed(alloc: Global, table: &mut Table, call: &str, key: Key<'_>, rest: &str) -> Option<String> {
+    let (face, rest) = rest.split_once(' ').unwrap_or((rest, "0"));
+    let (first, last) = rest.split_once(' ').unwrap_or((rest, "0"));
+    let face = face.parse().ok()?;
+    match call {
+        "ask" => match table.ask(key, face, nonce_of(first)?, last.parse().ok()?) {
+            None => format!(in alloc; "ok").ok(),
+            Some(fault) => format!(in alloc; "{fault}").ok(),
+        },
+        "sent" => {
+            let (nonce, now) = last.split_once(' ')?;
+            let nonce = nonce_of(nonce)?;
+            let sent = table.sent(key, face, first.parse().ok()?, nonce, now.parse().ok()?);
+            format!(in alloc; "{sent}").ok()
+        }
+        "loops" => {
+            let loops = table.pit.loops(key, face, nonce_of(first)?);
+            format!(in alloc; "{loops}").ok()
+        }
+        "nack" => match table.nacked(key, face, nonce_of(first)?, last.parse().ok()?) {
+            Nacked::NoPending => format!(in alloc; "no pending").ok(),
+            Nacked::Waiting => format!(in alloc; "waiting").ok(),
+            Nacked::All(reason) => format!(in alloc; "all {reason}").ok(),
+        },
+        "of" => match table.pit.interest_of(key, face) {
+            Some(interest) => hex::encode(alloc, interest).ok(),
+            None => format!(in alloc; "none").ok(),
+        },
+        "used" => used_shown(alloc, &table.pit.used(key)),
+        "withdraw" => {
+            table.withdraw(key, face);
+            format!(in alloc; "-").ok()
+        }
+        "remove" => {
+            table.remove(key);
+            format!(in alloc; "-").ok()
+        }
+        _ => None,
+    }
+}
+
+/// The answer to a call: those above, `data NAME`, `expire NOW`, `close FACE` or `len`.
+fn answer(alloc: Global, table: &mut Table, text: &str) -> Option<String> {
+    let (call, rest) = text.split_once(' ').unwrap_or((text, ""));
+    match call {
+        "data" => satisfied(alloc, table, rest),
+        "expire" => {
+            table.expire(rest.parse().ok()?);
+            format!(in alloc; "-").ok()
+        }
+        "close" => {
+            table.close_face(rest.parse().ok()?);
+            format!(in alloc; "-").ok()
+        }
+        "len" => {
+            let (len, is_empty) = (table.pit.len(), table.pit.is_empty());
+            format!(in alloc; "{len} {is_empty}").ok()
+        }
+        _ => {
+            let (key, rest) = rest.split_once(' ').unwrap_or((rest, ""));
+            let key = OwnedKey::read(alloc, key)?;
+            keyed(alloc, table, call, key.view(), rest)
+        }
+    }
+}
+
+/// The answers to calls that `, ` parts.
+fn answers(alloc: Global, row: &str) -> Option<String> {
+    let mut table = Table::new(alloc);
+    let mut text = String::new(alloc);
+    for call in row.split(", ") {
+        if !text.is_empty() {
+            text.push_str("; ").ok()?;
+        }
+        text.push_str(&answer(alloc, &mut table, call)?).ok()?;
+    }
+    Some(text)
+}
+
+const ROWS: &str = "\
+# an Interest of lifetime 100 at 1000 waits at 1099, and not at 1100
+ask /A 1 7 1100, expire 1099, data /A -> ok; -; faces 1
+ask /A 1 7 1100, expire 1100, data /A -> ok; -; faces
+# lifetime 0, and the greatest deadline
+ask /A 1 7 1000, len, expire 1000, len -> ok; 1 false; -; 0 true
+ask /A 1 7 18446744073709551615, expire 18446744073709551614, len, expire 18446744073709551615, len -> ok; -; 1 false; -; 0 true
+# faces 1 (CanBePrefix) and 2 (without) ask for the same name
+ask /A/B+p 1 7 9, ask /A/B 2 8 9, data /A/B/C, len, data /A/B, len -> ok; ok; faces 1; 1 false; faces 2; 0 true
+ask /A/B 3 7 9, ask /A/B+p 1 8 9, ask /A+p 2 9 9, data /A/B -> ok; ok; ok; faces 1 2 3
+ask / 1 7 9, ask /+p 2 7 9, ask /A/B/C 3 7 9, ask /AA+p 4 7 9, data /A/B -> ok; ok; ok; ok; faces 2
+# MustBeFresh is another key, and is not looked at
+ask /A 1 7 9, ask /A+f 2 8 9, len, data /A, len -> ok; ok; 2 false; faces 1 2; 0 true
+# full names
+ask /A/sha256digest=2d92a383706a615fe67c9a585b00f29c5c06d2abdaec456e9cdc026679eb2479 1 7 9, data /A -> ok; faces 1
+ask /A/sha256digest=6b50b2f9e1b4b6cb6b9a7a4a4c4a2b52f2e4a1f1d8a3a7bd1a2a3b4c5d6e7f80 1 7 9, ask /A 2 8 9, data /A, len -> ok; ok; faces 2; 1 false
+# a repeated Interest, a loop, and a retry
+ask /A 1 7 5000, sent /A 1 2 7 1000, loops /A 2 7, loops /A 1 7, loops /A 3 7, loops /A 3 8, used /A -> ok; true; true; false; true; false; used 2@1000
+ask /A 1 7 5000, sent /A 1 2 7 1000, ask /A 1 8 5000, loops /A 1 7, loops /A 2 7, loops /A 3 7, loops /A 3 8 -> ok; true; ok; true; true; true; true
+ask /A 1 7 5000, loops /A 2 7, loops /A+p 2 7, loops /B 2 7 -> ok; true; false; false
+ask /A 1 7 5000, sent /A 1 2 7 1000, sent /A 1 2 8 1010, sent /A 1 1 8 1010, used /A, used /B -> ok; true; true; true; used 1@1010 2@1010; used
+# Nacks
+ask /A 1 7 5000, sent /A 1 2 7 1000, nack /A 2 7 150, remove /A, nack /A 2 7 150 -> ok; true; all 150; -; no pending
+ask /A 1 7 5000, sent /A 1 2 7 0, sent /A 1 3 7 0, nack /A 3 7 150, nack /A 2 8 50, nack /A 2 7 100 -> ok; true; true; waiting; no pending; all 100
+ask /A 1 7 5000, sent /A 1 2 7 0, sent /A 1 3 7 0, nack /A 3 7 50, nack /A 3 7 0, nack /A 2 7 100 -> ok; true; true; waiting; waiting; all 0
+ask /A 1 7 5000, sent /A 1 2 7 0, sent /A 1 3 7 0, nack /A 3 7 50, sent /A 1 3 8 9, nack /A 2 7 100, nack /A 3 7 50, nack /A 3 8 150 -> ok; true; true; waiting; true; waiting; no pending; all 100
+ask /A 1 7 5000, nack /A 1 7 50, nack /A+f 1 7 50 -> ok; no pending; no pending
+# what a face asked last
+ask /A 1 7 5, ask /A 1 8 4, of /A 1, of /A 2, of /A+p 1, expire 4, len -> ok; ok; 00000008; none; none; -; 0 true
+ask /A 1 7 5, ask /A 2 8 4, withdraw /A 1, of /A 1, of /A 2, withdraw /A 2, len -> ok; ok; -; none; 00000008; -; 0 true
+ask /A 1 7 5, withdraw /A 2, withdraw /B 1, remove /A+p, len -> ok; -; -; -; 1 false
+# without an asker the faces asked are forgotten
+ask /A 1 7 5, sent /A 1 2 7 1, withdraw /A 1, ask /A 3 9 5, used /A, loops /A 4 7 -> ok; true; -; ok; used; false
+ask /A 1 7 5, ask /A 3 9 6, sent /A 1 2 7 1, expire 5, used /A, expire 6, ask /A 1 7 9, used /A -> ok; ok; true; -; used 2@1; -; ok; used
+# a face that closes
+ask /A 1 7 5, ask /B 1 8 5, ask /B 2 9 5, sent /B 2 1 9 1, close 1, len, used /B, data /B -> ok; ok; ok; true; -; 1 false; used; faces 2
+ask /A 1 7 5, sent /A 1 2 7 1, sent /A 1 3 7 1, nack /A 3 7 50, close 2, len, used /A, nack /A 3 7 50 -> ok; true; true; waiting; -; 1 false; used 3@1; all 50
+";
+
+#[test]
+fn pending_records(rt: HostRuntime) {
+    check_rows(&rt, rt.alloc(), ROWS, answers);
+}
+
+/// The name `/` and a number in two octets.
+fn numbered(alloc: Global, number: u16) -> Option<NameBuf> {
+    let mut name = NameBuf::new(alloc);
+    name.append(8, &number.to_be_bytes()).ok()?;
+    Some(name)
+}
+
+fn exact_key(name: &NameBuf) -> Key<'_> {
+    Key {
+        name: name.view(),
+        can_be_prefix: false,
+        must_be_fresh: false,
+    }
+}
+
+/// Interests under 4,096 keys, one more, and one under a key that stands.
+fn fills(alloc: Global) -> Option<bool> {
+    let mut table = Table::new(alloc);
+    for number in 0..4096 {
+        let name = numbered(alloc, number)?;
+        if table.ask(exact_key(&name), 1, [0; 4], 9).is_some() {
+            return Some(false);
+        }
+    }
+    let (known, new) = (numbered(alloc, 4095)?, numbered(alloc, 4096)?);
+    let is_full = table.ask(exact_key(&new), 1, [0; 4], 9) == Some(PitFault::PitFull);
+    Some(is_full && table.ask(exact_key(&known), 2, [0; 4], 9).is_none() && table.pit.len() == 4096)
+}
+
+/// Interests of 64 faces, all sent to 64 faces, and Data for all.
+fn holds_64_faces(alloc: Global) -> Option<bool> {
+    let mut table = Table::new(alloc);
+    let key = OwnedKey::read(alloc, "/A")?;
+    for face in 0..64 {
+        table.ask(key.view(), face, [0; 4], 9);
+    }
+    for face in 0..64 {
+        if !table.sent(key.view(), 0, face, [0; 4], 9) {
+            return Some(false);
+        }
+    }
+    let used = table.pit.used(key.view()).len();
+    let mut packet = Vec::new(alloc);
+    put_reply(&mut packet, key.name.view(), &[]).ok()?;
+    let Frame::Data(data) = read_frame(&packet).ok()? else {
+        return None;
+    };
+    Some(used == 64 && table.satisfy(&data).len() == 64)
+}
+
+#[test]
+fn full_tables(rt: HostRuntime) {
+    assert!(rt; fills(rt.alloc()) == Some(true));
+    assert!(rt; holds_64_faces(rt.alloc()) == Some(true));
+}
+
+/// Whether an Interest that is prepared is kept, removals between, and is sent on; and whether a
+/// preparation that is refused leaves the records.
+fn keeps_what_is_prepared(alloc: Global) -> Option<bool> {
+    let mut table = Table::new(alloc);
+    let (key, other) = (OwnedKey::read(alloc, "/A")?, OwnedKey::read(alloc, "/B")?);
+    if table.ask(other.view(), 1, [1; 4], 5).is_some() {
+        return None;
+    }
+    if !table.prepare(key.view(), 4) {
+        return Some(table.pit.len() == 1 && table.pit.interest_of(other.view(), 1).is_some());
+    }
+    table.expire(5);
+    let is_kept = table.ask(key.view(), 1, [2; 4], 9).is_none();
+    Some(is_kept && table.sent(key.view(), 1, 2, [2; 4], 6) && table.pit.len() == 1)
+}
+
+/// Whether an Interest that is refused memory leaves the older one.
+fn leaves_the_older_one(alloc: Global) -> Option<bool> {
+    let mut table = Table::new(alloc);
+    let key = OwnedKey::read(alloc, "/A")?;
+    if table.ask(key.view(), 1, [1; 4], 5).is_some() {
+        return None;
+    }
+    let nonce = match table.ask(key.view(), 1, [2; 4], 5) {
+        None => [2; 4],
+        Some(_) => [1; 4],
+    };
+    Some(table.pit.interest_of(key.view(), 1) == Some(nonce.as_slice()))
+}
+
+#[test]
+fn prepared_records(rt: HostRuntime) {
+    assert!(rt; keeps_what_is_prepared(rt.alloc()) == Some(true));
+    assert!(rt; leaves_the_older_one(rt.alloc()) == Some(true));
+}
+
+#[test]
+fn refused_memory_for_records(rt: HostRuntime) {
+    assert!(rt; keeps_what_is_prepared(rt.alloc()) != Some(false));
+    assert!(rt; leaves_the_older_one(rt.alloc()) != Some(false));
+}
