@@ -205,7 +205,7 @@ fn answer(alloc: Global, table: &mut Table, text: &str) -> Option<String> {
             format!(in alloc; "{len} {is_empty}").ok()
         }
         _ => {
-            let (key, rest) = rest.split_once(' ').unwrap_or((rest, ""));
+            let (key, rest) = rest.split_once(' ').unwrap_or((rest, "0"));
             let key = OwnedKey::read(alloc, key)?;
             keyed(alloc, table, call, key.view(), rest)
         }

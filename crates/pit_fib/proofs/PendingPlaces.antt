@@ -13,7 +13,7 @@ use Rattle.ndn_packets.specs.Key.{PlainKey, key_cmp}
 use Rattle.pit_fib.specs.Records.{Ask, Sent, Records, Pending, HoldsTheLiving, no_records, is_alive, records_at}
 use Rattle.pit_fib.specs.Cause.{Cause, Arrives, SentTo, Nacked, changed, settled, same_key, sent_at, with_reason, Follows}
 use Rattle.pit_fib.specs.Entries.{AllLive, AreApart}
-use Rattle.ndn_packets.proofs.KeyOrder.{key_cmp-total, key_cmp-antisymmetric}
+use Rattle.ndn_packets.specs.Key.{key_cmp-total, key_cmp-antisymmetric}
 use Rattle.pit_fib.proofs.PendingTables.{one_key, same_self, dead_none, records_at-entries}
 
 -- ---- looking for a key

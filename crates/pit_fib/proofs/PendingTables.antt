@@ -16,7 +16,7 @@ use Rattle.pit_fib.specs.Cause.{Cause, Expires, Satisfied, Withdrawn, Removed, C
 use Rattle.pit_fib.specs.declared.spare.Spare.{Spare}
 use Rattle.pit_fib.specs.Entries.{AllLive, AreApart, HasRoom}
 use Rattle.pit_fib.proofs.Revised.{revise-empty}
-use Rattle.ndn_packets.proofs.KeyOrder.{key_cmp-total, key_cmp-antisymmetric}
+use Rattle.ndn_packets.specs.Key.{key_cmp-total, key_cmp-antisymmetric}
 
 -- ---- keys
 

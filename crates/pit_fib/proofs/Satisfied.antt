@@ -11,7 +11,7 @@ use Rattle.ndn_packets.specs.Key.{PlainKey, key_cmp}
 use Rattle.pit_fib.specs.Records.{Records, no_records, is_alive, records_at}
 use Rattle.pit_fib.specs.Cause.{Satisfied, changed, same_key}
 use Rattle.pit_fib.specs.Entries.{AreApart, without_asks}
-use Rattle.pit_fib.specs.Pit.{AsksFor, HasRecord}
+use Rattle.pit_fib.specs.Pit.{WaitsFor, HasRecord}
 use Rattle.pit_fib.proofs.PendingTables.{dead_none, living_after, one_key, records_at-entries}
 use Rattle.pit_fib.proofs.PendingPlaces.{find_at}
 
@@ -114,7 +114,7 @@ module _ (name : List Field) (digest : List ℕ) where
         or_true true b e = refl
         or_true false b e = e
 
-    pub asked_exactly : (f : ℕ) → IsTrue (list_any (asks f) es) ↔ AsksFor (from_entries es) name digest f
+    pub asked_exactly : (f : ℕ) → IsTrue (list_any (asks f) es) ↔ WaitsFor (from_entries es) name digest f
     asked_exactly f = (
       λ e.
           let item = some_item (asks f) es e in

@@ -44,9 +44,9 @@ HasRoomFor pending face = AtMost64 (λ f. HasRecord pending f ⊎ (f ≡ face))
 
 -- ---- answers
 
--- a face asks for Data of this name and implicit digest
-abbrev pub AsksFor : Pending → List Field → List ℕ → ℕ → Type 0
-AsksFor pending name digest face =
+-- a face waits for Data of this name and implicit digest
+abbrev pub WaitsFor : Pending → List Field → List ℕ → ℕ → Type 0
+WaitsFor pending name digest face =
     (key : PlainKey) × IsTrue (answers name digest key.name key.can_be_prefix)
     × IsSome (map.get (records_at pending key).asks face)
 

@@ -9,7 +9,7 @@ ghost use Rattle.pit_fib.specs.declared.fault.PitFault.TheVariants as faults;
 ghost use Rattle.pit_fib.specs.Faces.{IsRising, has_face};
 ghost use Rattle.pit_fib.specs.Records.{Records, HoldsTheLiving, is_alive, records_at};
 ghost use Rattle.pit_fib.specs.Cause.{Expires, Arrives, SentTo, Satisfied, Nacked as NackCame, Withdrawn, Removed, Closed, Follows};
-ghost use Rattle.pit_fib.specs.Pit.{AtMost64, HasRecord, HasRoomFor, AsksFor, loops as loops_in, moments, nacked_answer};
+ghost use Rattle.pit_fib.specs.Pit.{AtMost64, HasRecord, HasRoomFor, WaitsFor, loops as loops_in, moments, nacked_answer};
 
 use crate::answering::Answering;
 use crate::by_face::Used;
@@ -238,7 +238,7 @@ impl Pit {
         ensures prepared { self.new.prepared ≡ self.old.prepared }
         ensures rising { IsRising result }
         ensures faces { (face : ℕ) → IsTrue (has_face face result)
-            ↔ AsksFor self.old.pending (components packet.now.name)
+            ↔ WaitsFor self.old.pending (components packet.now.name)
             (sha256 packet.now.whole.now) face }
     {
         let mut packet = Answering::new(packet);

@@ -13,7 +13,7 @@ use Rattle.pit_fib.specs.Faces.{IsRising, has_face}
 use Rattle.pit_fib.specs.Records.{Records, Pending, is_alive}
 use Rattle.pit_fib.specs.Cause.{Satisfied, changed, Follows}
 use Rattle.pit_fib.specs.Entries.{AllLive, AreApart, without_asks}
-use Rattle.pit_fib.specs.Pit.{PitState, AsksFor, AtMost64, HasRecord}
+use Rattle.pit_fib.specs.Pit.{PitState, WaitsFor, AtMost64, HasRecord}
 use Rattle.pit_fib.proofs.Updates.{item_here, update_more, update_all, take_front}
 use Rattle.pit_fib.proofs.PendingTables.{living_after, live_after, apart_after, each_follows, spare_kept, dead_after_data}
 use Rattle.pit_fib.proofs.PendingFaces.{at_most, stays_few}
@@ -127,5 +127,5 @@ returns-clause-faces c = λ f.
     c.loop-entry.invariant.2 f ∙ ap (λ l. list_any (asks name digest f) l) (take_all c.loop-entry.entry-index es c.loop-entry-test.false) in
     let old : from_entries es ≡ c.args.self.now.pending =
     ap (λ (l : List (PlainKey × Records)). from_entries l) c.deref_mut.ensures.value ∙ ap (λ (s : PitState). s.pending) c.self.view_is in
-    subst (λ (p : Pending). IsTrue (has_face f c.loop-entry.faces) ↔ AsksFor p name digest f) old
-    (subst (λ b. IsTrue b ↔ AsksFor (from_entries es) name digest f) (sym all) (asked_exactly name digest es apart f))
+    subst (λ (p : Pending). IsTrue (has_face f c.loop-entry.faces) ↔ WaitsFor p name digest f) old
+    (subst (λ b. IsTrue b ↔ WaitsFor (from_entries es) name digest f) (sym all) (asked_exactly name digest es apart f))
