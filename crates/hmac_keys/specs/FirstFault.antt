@@ -5,7 +5,8 @@ use Rattle.hmac_keys.specs.declared.fault.KeyFault.TheVariants.{BadLine, TwiceNa
 use Rattle.hmac_keys.specs.KeyFile.{NamedKey, AreApart, AreKeysOf, IsAmong, IsKeyLine, is_skipped, lines_of}
 
 -- line n of these lines is not skipped, and all lines before it are read, as these keys
-pub record IsReached (lines : List (List ℕ)) (n : ℕ) (line : List ℕ) (keys : List NamedKey) : Type 0 where
+pub record IsReached
+    (lines : List (List ℕ)) (n : ℕ) (line : List ℕ) (keys : List NamedKey) : Type 0 where
   pub before : List (List ℕ)
   pub after : List (List ℕ)
   pub whole : lines ≡ before ++ line ∷ after

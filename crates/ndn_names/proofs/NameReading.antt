@@ -11,7 +11,7 @@ use Rattle.ndn_tlv.specs.Element.{Field, IsField, element}
 use Rattle.ndn_tlv.specs.Reading.{◌>>=◌}
 use Rattle.ndn_names.specs.declared.fault.NameFault.{NameFault}
 use Rattle.ndn_names.specs.declared.fault.NameFault.TheVariants.{TooManyComponents, BadUri, Memory}
-use Rattle.ndn_names.specs.UriReading.{component_in, components_in, pieces_of, without_scheme, name_after_slash, name_in_path, name_in, piece_in, IsFaultOf, IsFaultFirst}
+use Rattle.ndn_names.specs.UriReading.{component_in, components_in, pieces_of, without_scheme, name_after_slash, name_in_path, name_in, piece_in, IsFaultOf, IsFaultBeforeMemory}
 use Rattle.ndn_names.specs.Name.{IsComponent, IsNameValue, octets_of, components_of}
 use Rattle.ndn_names.specs.ReadsAs.{ReadsAs, ReadsComponent}
 use Rattle.ndn_names.proofs.Names.{done_is, is_shown}
@@ -90,13 +90,13 @@ slash_first text rest e other = ap name_in_path e ∙ rw (false_from_ne_true (by
 
 -- a fault of the text stands before Memory
 abbrev IsFirst : {A : Type 0} → Result A NameFault → Result A NameFault → Type 0
-IsFirst {A} read r = MatchResult r (λ x. read ≡ Ok x) (IsFaultFirst read)
+IsFirst {A} read r = MatchResult r (λ x. read ≡ Ok x) (IsFaultBeforeMemory read)
 
-fault_weak : {A : Type 0} (read : Result A NameFault) (fault : NameFault) → IsFaultFirst read fault → IsFaultOf read fault
+fault_weak : {A : Type 0} (read : Result A NameFault) (fault : NameFault) → IsFaultBeforeMemory read fault → IsFaultOf read fault
 fault_weak read fault (inl e) = inl e
 fault_weak read fault (inr memory) = inr memory.0
 
-memory_last : {A : Type 0} (read : Result A NameFault) (fault : NameFault) → (read ≡ Err Memory → ⊥) → IsFaultFirst read fault → fault ≡ Memory → (x : A) × (read ≡ Ok x)
+memory_last : {A : Type 0} (read : Result A NameFault) (fault : NameFault) → (read ≡ Err Memory → ⊥) → IsFaultBeforeMemory read fault → fault ≡ Memory → (x : A) × (read ≡ Ok x)
 memory_last read fault never (inl e) is = absurd (never (e ∙ ap (λ (f : NameFault). Err f) is))
 memory_last read fault never (inr memory) is = memory.1
 
@@ -120,7 +120,7 @@ whole_memory text (Err fault) h = λ is. let read = memory_last (name_in text) f
 -- ---- what a reading of one component says
 
 abbrev IsFirstPart : {X : Type 0} → (X → List ℕ) → List ℕ → Result (ℕ × X) NameFault → Type 0
-IsFirstPart items text r = MatchResult r (λ c. piece_in text ≡ Ok (c.0, items c.1)) (IsFaultFirst (piece_in text))
+IsFirstPart items text r = MatchResult r (λ c. piece_in text ≡ Ok (c.0, items c.1)) (IsFaultBeforeMemory (piece_in text))
 
 pub part_exact : {X : Type 0} (items : X → List ℕ) (text : List ℕ) (r : Result (ℕ × X) NameFault) → IsFirstPart items text r → MatchResult r (λ c. piece_in text ≡ Ok (c.0, items c.1)) (IsFaultOf (piece_in text))
 part_exact items text (Ok c) h = h

@@ -7,8 +7,8 @@ use Rattle.ndn_tlv.specs.Element.{Field, IsField, element, IsElements}
 use Rattle.ndn_tlv.specs.Reading.{elements_of}
 use Rattle.ndn_names.specs.declared.component_type.TheConstants.{PARAMETERS_SHA256_DIGEST}
 
--- a component is its type and its octets: types up to 65535, and 32 octets in the two digests, which
--- have the least types
+-- a component is its type and its octets: types up to 65535, and 32 octets in the two digests,
+-- which have the least types
 abbrev pub IsComponent : Field → Type 0
 IsComponent c = (1 ≤ c.0) × (c.0 < 65536) × (c.0 ≤ PARAMETERS_SHA256_DIGEST → length c.1 ≡ 32)
 
@@ -32,6 +32,10 @@ IsPrefix a b = (rest : List Field) × (b ≡ a ++ rest)
 unfoldable pub components_of : List ℕ → List Field
 components_of value = filter_map result_ok (elements_of value)
 
+-- the octets are a name's TLV-VALUE
+abbrev pub IsNameOctets : List ℕ → Type 0
+IsNameOctets value = IsNameValue value (components_of value)
+
 -- there is one way for octets to be a name's value
 IsField-prop : (f : Field) → IsProp (IsField f)
 IsField-prop f p q = λ i. (le_prop p.0 q.0 i, le_prop p.1 q.1 i, le_prop p.2 q.2 i)
@@ -44,8 +48,9 @@ IsComponent-prop c p q =
       →_prop (Coded-set coded_ℕ (length c.1) 32) p.2 q.2 i,
     )
 
-pub IsNameValue-prop : (value : List ℕ) (cs : List Field) → IsProp (IsNameValue value cs)
-IsNameValue-prop value cs =
+pub IsNameOctets-prop : (value : List ℕ) → IsProp (IsNameOctets value)
+IsNameOctets-prop value =
+    let cs = components_of value in
     ×_prop
     (×_prop (AllByRecursion-prop IsField IsField-prop cs)
     (Coded-set (coded_list coded_ℕ) value (octets_of cs)))

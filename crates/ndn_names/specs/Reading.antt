@@ -12,7 +12,8 @@ use Rattle.ndn_names.specs.declared.fault.NameFault.TheVariants.{BadComponent, B
 abbrev pub component_of : Field → Result Field NameFault
 component_of c =
     if (c.0 == 0) || nat_lt 65535 c.0 then Err BadComponent else (
-    if nat_le c.0 PARAMETERS_SHA256_DIGEST && not (length c.1 == 32) then Err BadDigestLength else Ok c)
+    if nat_le c.0 PARAMETERS_SHA256_DIGEST && not (length c.1 == 32) then Err BadDigestLength
+    else Ok c)
 
 -- an element, or what stands in its place, as a component
 abbrev pub component_at : Result Field TlvFault → Result Field NameFault

@@ -31,7 +31,8 @@ value_text value = flat_map escaped (padded value)
 
 -- a component as text, where its type has no name: that of a GenericNameComponent is left out
 abbrev pub plain_text : Field → List ℕ
-plain_text c = if c.0 == GENERIC then value_text c.1 else decimal c.0 ++ (codes "=" ++ value_text c.1)
+plain_text c =
+    if c.0 == GENERIC then value_text c.1 else decimal c.0 ++ (codes "=" ++ value_text c.1)
 
 -- where its type has a name and its values are numbers: the number is given where the value is its
 -- shortest NonNegativeInteger
@@ -43,7 +44,8 @@ number_text type_name c None = plain_text c
 abbrev pub text_by_type_name : Field → Option (List ℕ) → List ℕ
 text_by_type_name c None = plain_text c
 text_by_type_name c (Some type_name) =
-    if nat_le c.0 PARAMETERS_SHA256_DIGEST then type_name ++ (codes "=" ++ flat_map (hexadecimal false) c.1)
+    if nat_le c.0 PARAMETERS_SHA256_DIGEST
+    then type_name ++ (codes "=" ++ flat_map (hexadecimal false) c.1)
     else number_text type_name c (shortest_number c.1)
 
 abbrev pub component_text : Field → List ℕ

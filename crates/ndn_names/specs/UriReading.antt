@@ -147,8 +147,8 @@ unfoldable pub name_in : List ℕ → Result (List Field) NameFault
 name_in text = name_in_path (without_scheme text)
 
 -- the fault of a reading, or Memory, where there is none
-abbrev pub IsFaultFirst : {A : Type 0} → Result A NameFault → NameFault → Type 0
-IsFaultFirst {A} read fault =
+abbrev pub IsFaultBeforeMemory : {A : Type 0} → Result A NameFault → NameFault → Type 0
+IsFaultBeforeMemory {A} read fault =
     (read ≡ Err fault) ⊎ ((fault ≡ Memory) × ((x : A) × (read ≡ Ok x)))
 
 -- the fault of a reading, or Memory, which has no cause in the text

@@ -27,21 +27,21 @@ pub view_writes-alike : (a b : Name) → eq_by_cmp view_cmp a b ≡ true
 view_writes-alike a b e = name_writes-alike (components a) (components b) e
 
 -- components, by type, then length, then octets
-abbrev pub part_cmp : Component → Component → Ordering
-part_cmp = on field_of component_cmp
+abbrev pub component_view_cmp : Component → Component → Ordering
+component_view_cmp = on field_of component_cmp
 
-pub part_cmp-total : IsTotalOrder part_cmp
-part_cmp-total = on_total field_of component_cmp-total
+pub component_view_cmp-total : IsTotalOrder component_view_cmp
+component_view_cmp-total = on_total field_of component_cmp-total
 
 -- what a component feeds to a hash: its type and its octets
 abbrev pub component_writes : Field → HashWrites
 component_writes c = u16 c.0 ++ slice u8 c.1
 
-abbrev pub part_writes : Component → HashWrites
-part_writes c = component_writes (field_of c)
+abbrev pub component_view_writes : Component → HashWrites
+component_view_writes c = component_writes (field_of c)
 
-pub part_writes-alike : (a b : Component) → eq_by_cmp part_cmp a b ≡ true
-    → part_writes a ≡ part_writes b
-part_writes-alike a b e =
-    ap component_writes
-    (component_cmp-antisymmetric (field_of a) (field_of b) ((Equal-is (part_cmp a b)).0 e))
+pub component_view_writes-alike : (a b : Component) → eq_by_cmp component_view_cmp a b ≡ true
+    → component_view_writes a ≡ component_view_writes b
+component_view_writes-alike a b e =
+    let tie = (Equal-is (component_view_cmp a b)).0 e in
+    ap component_writes (component_cmp-antisymmetric (field_of a) (field_of b) tie)

@@ -1,4 +1,4 @@
-ghost use Rattle.ndn_names.specs.Name.{IsNameValue, IsNameValue-prop, components_of};
+ghost use Rattle.ndn_names.specs.Name.{IsNameOctets, IsNameOctets-prop};
 
 use crate::component::{Component, first_component};
 use std::alloc::AllocError;
@@ -7,7 +7,7 @@ use std::alloc::AllocError;
 #[derive(Debug, Drop)]
 pub struct Components<'a> {
     pub(crate) rest: &'a [u8],
-    ghost spelled: { IsNameValue rest.now (components_of rest.now) } by { IsNameValue-prop rest.now (components_of rest.now) },
+    ghost spelled: { IsNameOctets rest.now } by { IsNameOctets-prop rest.now },
 }
 
 impl Clone for Components<'_> {

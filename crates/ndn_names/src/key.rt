@@ -6,7 +6,7 @@ ghost use Rattle.std.specs.Ordering.{eq_by_cmp, as_partial_cmp};
 ghost use Rattle.std.specs.Cmp.{partial_equiv_from_equiv, partial_order_from_total, eq_by_cmp_equiv};
 ghost use Rattle.ndn_names.specs.Order.{name_cmp};
 ghost use Rattle.ndn_names.specs.Key.{name_cmp-total, name_writes, name_writes-alike};
-ghost use Rattle.ndn_names.specs.ViewKey.{view_cmp, view_cmp-total, view_writes, view_writes-alike, part_cmp, part_cmp-total, part_writes, part_writes-alike};
+ghost use Rattle.ndn_names.specs.ViewKey.{view_cmp, view_cmp-total, view_writes, view_writes-alike, component_view_cmp, component_view_cmp-total, component_view_writes, component_view_writes-alike};
 
 use crate::component::Component;
 use crate::name::Name;
@@ -112,9 +112,9 @@ impl Hash for Name<'_> {
 }
 
 impl PartialEq for Component<'_> {
-    ghost eq = { eq_by_cmp part_cmp };
+    ghost eq = { eq_by_cmp component_view_cmp };
 
-    ghost laws = { partial_equiv_from_equiv (eq_by_cmp_equiv part_cmp-total) };
+    ghost laws = { partial_equiv_from_equiv (eq_by_cmp_equiv component_view_cmp-total) };
 
     fn eq(&self, other: &Self) -> bool {
         self.cmp(other).is_eq()
@@ -122,13 +122,13 @@ impl PartialEq for Component<'_> {
 }
 
 impl Eq for Component<'_> {
-    ghost laws = { eq_by_cmp_equiv part_cmp-total };
+    ghost laws = { eq_by_cmp_equiv component_view_cmp-total };
 }
 
 impl PartialOrd for Component<'_> {
-    ghost partial_cmp = { as_partial_cmp part_cmp };
+    ghost partial_cmp = { as_partial_cmp component_view_cmp };
 
-    ghost laws = { partial_order_from_total part_cmp-total };
+    ghost laws = { partial_order_from_total component_view_cmp-total };
 
     fn partial_cmp(&self, other: &Self) -> Option<Ordering> {
         Some(self.cmp(other))
@@ -136,9 +136,9 @@ impl PartialOrd for Component<'_> {
 }
 
 impl Ord for Component<'_> {
-    ghost cmp = { part_cmp };
+    ghost cmp = { component_view_cmp };
 
-    ghost total = { part_cmp-total };
+    ghost total = { component_view_cmp-total };
 
     ghost matches_partial_cmp = { λ _ _. refl };
 
@@ -154,9 +154,9 @@ impl Ord for Component<'_> {
 }
 
 impl Hash for Component<'_> {
-    ghost hash_input = { part_writes };
+    ghost hash_input = { component_view_writes };
 
-    ghost respects_eq = { part_writes-alike };
+    ghost respects_eq = { component_view_writes-alike };
 
     fn hash<H: Hasher>(&self, state: &mut H) {
         self.kind.hash(state);

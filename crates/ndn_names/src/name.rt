@@ -1,7 +1,7 @@
 ghost use Rattle.std.specs.Prelude.{◌≡◌, ◌↔◌, ◌<◌, ◌≤◌, ℕ, List, [], ◌++◌, ◌+◌, length, take, drop, Result, Ok, Err, MatchResult, IsTrue, IfOk, IfSome, IsOkAnd, IsErrOf, slice_get, slice_index};
 ghost use Rattle.ndn_tlv.specs.Element.{Field};
 ghost use Rattle.ndn_names.specs.Reading.{name_at};
-ghost use Rattle.ndn_names.specs.Name.{IsNameValue, IsNameValue-prop, components_of};
+ghost use Rattle.ndn_names.specs.Name.{IsNameValue, IsNameOctets, IsNameOctets-prop, components_of};
 
 use crate::component::{Component, first_component};
 use crate::components::Components;
@@ -16,7 +16,7 @@ pub const MAX_COMPONENTS: usize = 64;
 #[derive(Clone, Copy, Debug)]
 pub struct Name<'a> {
     pub(crate) octets: &'a [u8],
-    ghost spelled: { IsNameValue octets.now (components_of octets.now) } by { IsNameValue-prop octets.now (components_of octets.now) },
+    ghost spelled: { IsNameOctets octets.now } by { IsNameOctets-prop octets.now },
 }
 
 /// Refuses octets that are not a name's.

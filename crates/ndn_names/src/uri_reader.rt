@@ -38,7 +38,7 @@ pub fn component_from_uri(alloc: Global, text: &str) -> Result<(u16, Vec<u8>), N
 
 fn read_component(alloc: Global, text: &str) -> Result<(u16, Vec<u8>), NameFault>
     ensures { MatchResult result (λ c. read.piece_in text.now ≡ Ok (c.0, c.1.items))
-        (read.IsFaultFirst (read.piece_in text.now)) }
+        (read.IsFaultBeforeMemory (read.piece_in text.now)) }
 {
     if text.as_bytes().contains(&b'/') {
         return Err(NameFault::BadUri);
@@ -144,7 +144,7 @@ fn pieces_text(text: &str) -> Result<&str, NameFault>
 /// The text is checked before memory is asked for, once and for all of the name.
 fn read_name(alloc: Global, text: &str) -> Result<NameBuf, NameFault>
     ensures { MatchResult result (λ name. read.name_in text.now ≡ Ok name)
-        (read.IsFaultFirst (read.name_in text.now)) }
+        (read.IsFaultBeforeMemory (read.name_in text.now)) }
 {
     let pieces = pieces_text(text)?;
     let len = check_pieces(pieces)?;
