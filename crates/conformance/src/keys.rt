@@ -244,7 +244,7 @@ fn texts_of_faults(rt: HostRuntime) {
     let rows = "
 BadLine 7 -> BadLine 7: line 7 is not a name and the octets of a key, as /ops/KEY/1 6b6579
 TwiceNamed 8 -> TwiceNamed 8: line 8 has the name of an earlier key, and each needs its own
-TooMany -> TooMany 0: the file has more than 256 keys, the most
+TooMany -> TooMany 0: a file has at most 256 keys
 Memory -> Memory 0: out of memory
 ";
     check_rows(&rt, rt.alloc(), rows, fault_text);

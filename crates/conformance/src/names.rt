@@ -555,7 +555,7 @@ fn texts_of_faults(rt: HostRuntime) {
     let rows = "
 BadComponent -> a component has to be a whole element of a type from 1 to 65535
 BadDigestLength -> a digest, a component of type 1 or 2, has to be 32 octets long
-TooManyComponents -> a name has more than 64 components, the most
+TooManyComponents -> a name has at most 64 components
 BadUri -> the text is not a name such as /A/seg=5
 Memory -> out of memory
 ";

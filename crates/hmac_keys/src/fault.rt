@@ -16,7 +16,7 @@ pub enum KeyFault {
     #[error("line {0} has the name of an earlier key, and each needs its own")]
     TwiceNamed(u64),
     /// A line has the 257th key.
-    #[error("the file has more than 256 keys, the most")]
+    #[error("a file has at most 256 keys")]
     TooMany,
     /// Memory could not be allocated.
     #[error("out of memory")]

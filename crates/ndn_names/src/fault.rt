@@ -18,7 +18,7 @@ pub enum NameFault {
     #[error("a digest, a component of type 1 or 2, has to be 32 octets long")]
     BadDigestLength,
     /// A name has more than 64 components.
-    #[error("a name has more than 64 components, the most")]
+    #[error("a name has at most 64 components")]
     TooManyComponents,
     /// A text is not the URI of a name.
     #[error("the text is not a name such as /A/seg=5")]
