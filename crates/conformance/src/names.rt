@@ -228,9 +228,19 @@ fn words_of_numbers(rt: HostRuntime) {
     check_rows(&rt, rt.alloc(), rows, octets_of);
 }
 
-/// The octets of the name that a URI text spells, or the fault.
+/// The octets of the name that a URI text spells, or the fault. Read without memory, the text has as
+/// many components, or the same fault.
 fn octets_of(alloc: Global, input: &str) -> Option<String> {
-    match NameBuf::from_uri(alloc, input) {
+    let read = NameBuf::from_uri(alloc, input);
+    if uri_len(input)
+        != read
+            .as_ref()
+            .map(|name| name.view().len())
+            .map_err(|fault| *fault)
+    {
+        return None;
+    }
+    match read {
         Ok(name) => hex::encode(alloc, name.view().as_octets()).ok(),
         Err(fault) => fault_text(alloc, fault),
     }

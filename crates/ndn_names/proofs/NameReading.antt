@@ -143,3 +143,20 @@ part_memory items text (Ok c) h = tt
 part_memory items text (Err fault) h =
     λ is. let read = memory_last (piece_in text) fault (piece_in-caused text) h is in
     let found = alone_found text read.0 read.1 in (read.0, found.0, found.1)
+
+-- ---- what counting the components of a text says
+
+pub unread : (text : List ℕ) (fault : NameFault) (cs : List Field) → name_in text ≡ Err fault → ReadsAs text cs → ⊥
+unread text fault cs e reads = let both : Err fault ≡ Ok cs = sym e ∙ text_again text cs reads in absurd cc
+
+abbrev HasCounted : List ℕ → Result ℕ NameFault → Type 0
+HasCounted path r =
+    MatchResult r (λ n. (cs : List Field) × (components_in 0 (pieces_of path) ≡ Ok cs) × (n ≡ length cs)) (λ fault. components_in 0 (pieces_of path) ≡ Err fault)
+
+pub counted : (text path : List ℕ) (r : Result ℕ NameFault) → name_in text ≡ components_in 0 (pieces_of path) → HasCounted path r → IfOk r (λ n. (cs : List Field) × ReadsAs text cs × (n ≡ length cs))
+counted text path (Ok n) e h = (h.0, text_found text h.0 (e ∙ h.1), h.2)
+counted text path (Err fault) e h = tt
+
+pub counted_again : (text path : List ℕ) (r : Result ℕ NameFault) → name_in text ≡ components_in 0 (pieces_of path) → HasCounted path r → (cs : List Field) → ReadsAs text cs → r ≡ Ok (length cs)
+counted_again text path (Ok n) e h cs reads = ap (λ (n : ℕ). Ok n) (h.2 ∙ ap length (done_is h.0 cs (sym (e ∙ h.1) ∙ text_again text cs reads)))
+counted_again text path (Err fault) e h cs reads = absurd (unread text fault cs (e ∙ h) reads)

@@ -24,4 +24,4 @@ pub use order::{
     octets_are_in_canonical_order,
 };
 pub use uri::names_read_back;
-pub use uri_reader::{component_from_uri, texts_have_one_reading};
+pub use uri_reader::{component_from_uri, texts_have_one_reading, uri_len};

@@ -10,8 +10,12 @@ use crate::component_text::{component_text, put_value};
 use crate::fault::NameFault;
 use crate::name::MAX_COMPONENTS;
 use crate::name_buf::NameBuf;
-use ndn_tlv::{number_len, put_number};
+use ndn_tlv::put_number;
 use std::alloc::Global;
+
+/// Room for the octets that a name has beside those of its text: a component has two, its type and
+/// its length, where the text has a slash.
+const SPARE: usize = 16;
 
 /// Reads the URI text of one component, as `A` or `seg=5`: its type and its octets.
 ///
@@ -57,7 +61,7 @@ fn without_scheme(text: &str) -> &str
 }
 
 /// The first piece, and the text after its slash.
-fn first_piece(text: &str) -> (&str, &str)
+pub(crate) fn first_piece(text: &str) -> (&str, &str)
     requires { text.now ≢ [] }
     ensures pieces { read.pieces_of text.now ≡ result.0.now ∷ read.pieces_of result.1.now }
     ensures shorter { length result.1.now < length text.now }
@@ -68,29 +72,25 @@ fn first_piece(text: &str) -> (&str, &str)
     }
 }
 
-/// Refuses pieces between slashes that are not a name's. Otherwise gives the length of the name's
-/// TLV-VALUE, in octets.
-fn check_pieces(text: &str) -> Result<usize, NameFault>
+/// Refuses pieces between slashes that are not a name's. Otherwise gives the number of the name's
+/// components.
+fn count_pieces(text: &str) -> Result<usize, NameFault>
     ensures { let name_in = read.components_in 0 (read.pieces_of text.now) in
-        MatchResult result (λ _. (cs : List Field) × (name_in ≡ Ok cs))
+        MatchResult result (λ n. (cs : List Field) × (name_in ≡ Ok cs) × (n ≡ length cs))
         (λ fault. name_in ≡ Err fault) }
 {
     let mut rest = text;
     let mut count = 0;
-    let mut len: usize = 0;
     while !rest.is_empty() {
         if count == MAX_COMPONENTS {
             return Err(NameFault::TooManyComponents);
         }
         let (piece, after) = first_piece(rest);
-        let component = component_text(piece)?;
-        len = len.saturating_add(number_len(u64::from(component.kind)));
-        len = len.saturating_add(number_len(component.len as u64));
-        len = len.saturating_add(component.len);
+        component_text(piece)?;
         rest = after;
         count += 1;
     }
-    Ok(len)
+    Ok(count)
 }
 
 /// Appends the TLV-VALUE of the name of the pieces between slashes.
@@ -129,7 +129,7 @@ fn put_component(out: &mut Vec<u8>, piece: &str) -> Result<(), NameFault>
 }
 
 /// The pieces after the first slash, without a slash that is all of them.
-fn pieces_text(text: &str) -> Result<&str, NameFault>
+pub(crate) fn pieces_text(text: &str) -> Result<&str, NameFault>
     ensures { MatchResult result
         (λ rest. read.name_in text.now ≡ read.components_in 0 (read.pieces_of rest.now))
         (λ fault. read.name_in text.now ≡ Err fault) }
@@ -141,16 +141,46 @@ fn pieces_text(text: &str) -> Result<&str, NameFault>
     }
 }
 
-/// The text is checked before memory is asked for, once and for all of the name.
+/// The name of the text, or its first fault, unless memory is refused before.
+fn put_name(alloc: Global, text: &str) -> Result<NameBuf, NameFault>
+    ensures { MatchResult result (λ name. read.name_in text.now ≡ Ok name)
+        (read.IsFaultOf (read.name_in text.now)) }
+{
+    let pieces = pieces_text(text)?;
+    let mut octets = Vec::with_capacity(alloc, pieces.len().saturating_add(SPARE))?;
+    put_pieces(&mut octets, pieces)?;
+    Ok(NameBuf::from_octets(octets))
+}
+
+/// Where memory is refused, the text is read once more without it, so that its fault comes first.
 fn read_name(alloc: Global, text: &str) -> Result<NameBuf, NameFault>
     ensures { MatchResult result (λ name. read.name_in text.now ≡ Ok name)
         (read.IsFaultBeforeMemory (read.name_in text.now)) }
 {
+    match put_name(alloc, text) {
+        Ok(name) => Ok(name),
+        Err(NameFault::Memory) => {
+            uri_len(text)?;
+            Err(NameFault::Memory)
+        }
+        Err(fault) => Err(fault),
+    }
+}
+
+/// The number of components of the name that URI text reads as. It takes no memory.
+///
+/// Refuses the text with the first fault, as `NameBuf::from_uri`.
+pub fn uri_len(text: &str) -> Result<usize, NameFault>
+    // What is read is the name that the text reads as.
+    ensures found { IfOk result
+        (λ n. (cs : List Field) × ReadsAs text.now cs × (n ≡ length cs)) }
+    // What reads as a name is read.
+    ensures only { (cs : List Field) → ReadsAs text.now cs → result ≡ Ok (length cs) }
+    // Which fault it is.
+    ensures fault { IfErr result (λ fault. read.name_in text.now ≡ Err fault) }
+{
     let pieces = pieces_text(text)?;
-    let len = check_pieces(pieces)?;
-    let mut octets = Vec::with_capacity(alloc, len)?;
-    put_pieces(&mut octets, pieces)?;
-    Ok(NameBuf::from_octets(octets))
+    count_pieces(pieces)
 }
 
 impl NameBuf {

@@ -1,20 +1,7 @@
-use Rattle.std.proofs.Common.{◌++◌, List, ℕ, Ok, sym, ap, ◌∙◌, arith}
-use Rattle.ndn_tlv.specs.Element.{Field}
-use Rattle.ndn_names.specs.Name.{octets_of}
-use Rattle.ndn_names.proofs.NameReading.{value_shown}
+use Rattle.std.proofs.Common.{refl, inr}
+use Rattle.ndn_names.proofs.PathReading.{text_again}
 use Rattle.ndn_names.proofs.uri_reader.read_name.Goals as goal
 
-pub from_octets-requires : goal.from_octets-requires
-from_octets-requires c =
-    let put = c.in_ok-put_pieces.ensures in
-    let out = c.put_pieces.new.out in
-    (value_shown c.args.text.now out.items put.0 (c.in_ok-pieces.ensures ∙ put.1) (put.2 ∙ ap (λ (t : List ℕ). t ++ octets_of put.0) c.in_ok-octets.ensures.items)
-    (omega (arith, out.ok.0, out.ok.1, out.small))).1
-
-pub returns : goal.returns
-returns c =
-    let put = c.in_ok-put_pieces.ensures in
-    let out = c.put_pieces.new.out in
-    let shown = value_shown c.args.text.now out.items put.0 (c.in_ok-pieces.ensures ∙ put.1) (put.2 ∙ ap (λ (t : List ℕ). t ++ octets_of put.0) c.in_ok-octets.ensures.items)
-    (omega (arith, out.ok.0, out.ok.1, out.small)) in
-    c.in_ok-pieces.ensures ∙ put.1 ∙ ap (λ (cs : List Field). Ok cs) (sym (c.from_octets.ensures ∙ shown.0))
+pub returns-in_ok-uri_len-in-Err-Memory : goal.returns-in_ok-uri_len-in-Err-Memory
+returns-in_ok-uri_len-in-Err-Memory c =
+    let found = c.in_ok-uri_len-in-Err-Memory.ensures.found in inr (refl, (found.0, text_again c.args.text.now found.0 found.1))

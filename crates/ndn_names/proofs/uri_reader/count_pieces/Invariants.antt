@@ -2,7 +2,7 @@ use Rattle.std.proofs.Common.{length, List}
 use Rattle.std.specs.Prelude.{IsUtf8}
 use Rattle.ndn_tlv.specs.Element.{Field}
 use Rattle.ndn_names.proofs.NameReading.{HasNamed}
-use Rattle.ndn_names.proofs.uri_reader.check_pieces.Given as goal
+use Rattle.ndn_names.proofs.uri_reader.count_pieces.Given as goal
 
 abbrev pub invariant-loop-rest : goal.invariant-loop-rest
 invariant-loop-rest l = ((cs : List Field) × HasNamed l.count cs l.text l.rest) × IsUtf8 l.rest
