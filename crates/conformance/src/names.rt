@@ -246,6 +246,49 @@ fn octets_of(alloc: Global, input: &str) -> Option<String> {
     }
 }
 
+/// Whether two URI texts read as one name, in either order.
+fn are_equal(alloc: Global, input: &str) -> Option<String> {
+    let (a, b) = input.split_once(' ')?;
+    let equal = uris_are_equal(a, b);
+    if equal != uris_are_equal(b, a) {
+        return None;
+    }
+    equal.to_string(alloc).ok()
+}
+
+#[test]
+fn equal_uris(rt: HostRuntime) {
+    let rows = "
+/A /A -> true
+/A ndn:/%41/ -> true
+/A/B /8=A/B -> true
+/ ndn:// -> true
+/... /%2e.%2E -> true
+/seg=5 /50=%05 -> true
+/seg=256 /50=%01%00 -> true
+/v=65536 /54=%00%01%00%00 -> true
+/t=4294967296 /56=%00%00%00%01%00%00%00%00 -> true
+/seq=18446744073709551615 /58=%ff%ff%ff%ff%ff%ff%ff%ff -> true
+/seg=5 /seg=0005 -> true
+/sha256digest=6162636465666768696A6b6c6d6e6f707172737475767778797a303132333435 /1=abcdefghijklmnopqrstuvwxyz01234%35 -> true
+/A /B -> false
+/A /a -> false
+/A /A/B -> false
+/A/B /A/C -> false
+/A /AA -> false
+/A /9=A -> false
+/seg=5 /seg=6 -> false
+/seg=5 /off=5 -> false
+/seg=5 /50=%00%05 -> false
+/seg=256 /50=%01%01 -> false
+# A text that reads as no name.
+/% /% -> false
+/A/% /A/% -> false
+A A -> false
+";
+    check_rows(&rt, rt.alloc(), rows, are_equal);
+}
+
 #[test]
 fn digests(rt: HostRuntime) {
     let rows = "

@@ -75,7 +75,7 @@ pub plain_said : (kind found len : ℕ) (text octets : List ℕ) (value : Result
 plain_said kind found len text octets value read cut is component e = ((found, take len octets), rw (read, cut, component) refl, (refl, is, e))
 
 -- no octet takes less of the text than itself, and escapes take more
-before_found : (octet : ℕ) (r : Result (List ℕ) NameFault) (octets : List ℕ) → before octet r ≡ Ok octets → (rest : List ℕ) × (r ≡ Ok rest) × (octets ≡ octet ∷ rest)
+pub before_found : (octet : ℕ) (r : Result (List ℕ) NameFault) (octets : List ℕ) → before octet r ≡ Ok octets → (rest : List ℕ) × (r ≡ Ok rest) × (octets ≡ octet ∷ rest)
 before_found octet (Ok rest) octets e = (rest, refl, cc)
 before_found octet (Err fault) octets e = absurd cc
 

@@ -14,3 +14,4 @@ pub mod Cuts
 pub mod ReadBack
 pub mod UriCaused
 pub mod NameReading
+pub mod TextEquality

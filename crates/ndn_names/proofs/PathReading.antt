@@ -18,7 +18,7 @@ use Rattle.ndn_names.proofs.PieceReading.{piece_found, piece_again, piece_shape}
 
 -- ---- lists of pieces
 
-counted_found : (n : ℕ) (r : Result Field NameFault) (c : Field) → cond (ltb n 64) r (Err TooManyComponents) ≡ Ok c → (n < 64) × (r ≡ Ok c)
+pub counted_found : (n : ℕ) (r : Result Field NameFault) (c : Field) → cond (ltb n 64) r (Err TooManyComponents) ≡ Ok c → (n < 64) × (r ≡ Ok c)
 counted_found n r c e =
     elim (cases_lt n 64) [
       | inl lt ↦ (lt, rw (lt-ltb n 64 lt) at e)

@@ -1,5 +1,5 @@
 -- Components in text that are not decoded yet.
-use Rattle.std.specs.Prelude.{◌≡◌, ℕ, List, length, take, Result, Ok}
+use Rattle.std.specs.Prelude.{◌≡◌, ℕ, List, length, take, Result, Ok, Err, ⊤}
 use Rattle.ndn_tlv.specs.Element.{Field}
 use Rattle.ndn_tlv.specs.Number.{shortest_nni}
 use Rattle.ndn_tlv.specs.Reading.{◌>>=◌}
@@ -7,6 +7,7 @@ use Rattle.ndn_names.specs.declared.component_text.ComponentText.{ComponentText}
 use Rattle.ndn_names.specs.declared.component_text.ValueText.{ValueText}
 use Rattle.ndn_names.specs.declared.component_text.ValueText.TheVariants.{Plain, Escaped, Hexadecimal, Number}
 use Rattle.ndn_names.specs.declared.fault.NameFault.{NameFault}
+use Rattle.ndn_names.specs.declared.fault.NameFault.TheVariants.{BadUri}
 use Rattle.ndn_names.specs.UriReading.{octets_in, hex_in}
 
 -- the value of so many octets that a text says
@@ -22,3 +23,22 @@ value_in len (Number n) = Ok (shortest_nni n)
 abbrev pub IsTextOf : Field → ComponentText → Type 0
 IsTextOf c text =
     (text.kind ≡ c.0) × (text.len ≡ length c.1) × (value_in text.len text.value ≡ Ok c.1)
+
+-- the octets that stand in a text one after the other; those of a number do not
+abbrev pub octets_said : ValueText → Result (List ℕ) NameFault
+octets_said (Plain octets) = Ok octets.now
+octets_said (Escaped text) = octets_in text.now
+octets_said (Hexadecimal text) = hex_in text.now
+octets_said (Number n) = Err BadUri
+
+-- the text says these octets first, and then any others
+abbrev pub SaysFirst : ValueText → List ℕ → Type 0
+SaysFirst value octets =
+    (said : List ℕ) × (octets_said value ≡ Ok said) × (take (length octets) said ≡ octets)
+
+-- the octets of a number stand in front of these
+abbrev pub IsNumberIn : List ℕ → ValueText → Type 0
+IsNumberIn octets (Number n) = take (length (shortest_nni n)) octets ≡ shortest_nni n
+IsNumberIn octets (Plain text) = ⊤
+IsNumberIn octets (Escaped text) = ⊤
+IsNumberIn octets (Hexadecimal text) = ⊤

@@ -35,7 +35,7 @@ pub struct ComponentText<'a> {
 }
 
 /// The octet of two hexadecimal digits.
-fn octet_of(high: u8, low: u8) -> Result<u8, NameFault>
+pub fn octet_of(high: u8, low: u8) -> Result<u8, NameFault>
     ensures { result ≡ read.pair_in high low }
 {
     match ((high as char).to_digit(16), (low as char).to_digit(16)) {
@@ -46,7 +46,7 @@ fn octet_of(high: u8, low: u8) -> Result<u8, NameFault>
 
 /// The octet that stands at the front, and the text after it.
 #[inline(always)]
-fn first_octet<'a>(first: u8, after: &'a [u8]) -> Result<(u8, &'a [u8]), NameFault>
+pub fn first_octet<'a>(first: u8, after: &'a [u8]) -> Result<(u8, &'a [u8]), NameFault>
     ensures read { MatchResult result
         (λ x. read.octets_in (first ∷ after.now) ≡ read.before x.0 (read.octets_in x.1.now))
         (λ fault. read.octets_in (first ∷ after.now) ≡ Err fault) }

@@ -10,6 +10,7 @@ mod key;
 mod name;
 mod name_buf;
 mod order;
+mod text_equality;
 mod type_name;
 mod uri;
 mod uri_reader;
@@ -23,5 +24,6 @@ pub use order::{
     canonical_order_is_total, comparison_tells_the_order, names_can_be_keys,
     octets_are_in_canonical_order,
 };
+pub use text_equality::uris_are_equal;
 pub use uri::names_read_back;
 pub use uri_reader::{component_from_uri, texts_have_one_reading, uri_len};
