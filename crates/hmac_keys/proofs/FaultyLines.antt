@@ -1,16 +1,17 @@
 -- What stands in a key file that is refused.
 use Rattle.std.proofs.Common.{◌≡◌, ◌≢◌, ℕ, ◌+◌, ◌≤◌, true, false, List, [], ◌∷◌, ◌++◌, length, Result, Err, refl, sym, ap, subst, ◌∙◌, append_assoc, arith, inl, inr}
 use Rattle.std.specs.Prelude.{Option, Some, None}
-use Rattle.std.proofs.lemmas.Bool.{cases_Bool, cases_eq}
+use Rattle.std.proofs.lemmas.Bool.{cases_Bool, cases_eq, false_from_ne_true}
 use Rattle.std.proofs.lemmas.List.{length-append}
 use Rattle.ndn_tlv.specs.Reading.{on_result}
 use Rattle.hmac_keys.specs.declared.fault.KeyFault.{KeyFault}
-use Rattle.hmac_keys.specs.declared.fault.KeyFault.TheVariants.{BadLine, TwiceNamed, TooMany}
+use Rattle.hmac_keys.specs.declared.fault.KeyFault.TheVariants.{BadLine, TwiceNamed, TooMany, Memory}
 use Rattle.hmac_keys.specs.KeyFile.{NamedKey, AreApart, AreKeysOf, IsKeyLine, is_skipped, lines_of}
 use Rattle.hmac_keys.specs.FirstFault.{IsReached, FaultIn, FirstFault}
-use Rattle.hmac_keys.specs.KeyReading.{has_name, key_in, with_key, on_option, keys_from, keys_in}
+use Rattle.hmac_keys.specs.KeyReading.{has_name, key_in, with_key, after_line, on_option, keys_from, keys_in}
 use Rattle.hmac_keys.proofs.Keys.{key_found, key_again}
-use Rattle.hmac_keys.proofs.Books.{none_among, among_from_has, named_twice, one_too_many, key_added, apart_more}
+use Rattle.hmac_keys.proofs.Files.{keys_through}
+use Rattle.hmac_keys.proofs.Books.{none_among, among_from_has, has_from_among, named_twice, one_too_many, key_added, apart_more}
 
 -- one line more
 skipped_after : (before : List (List ℕ)) (keys : List NamedKey) (line : List ℕ) → AreKeysOf before keys → is_skipped line ≡ true → AreKeysOf (before ++ line ∷ []) keys
@@ -70,3 +71,33 @@ faulty n before (line ∷ lines) keys fault number are apart few e =
 
 pub first_fault : (text : List ℕ) (fault : KeyFault) → keys_in text ≡ Err fault → FirstFault text fault
 first_fault text fault e = faulty 1 [] (lines_of text) [] fault refl refl tt (omega arith) e
+
+-- ---- and the other way
+
+told_at : (lines : List (List ℕ)) (n : ℕ) (line : List ℕ) (keys : List NamedKey) (fault : KeyFault) → IsReached lines n line keys → after_line n keys line ≡ Err fault → keys_from 1 [] lines ≡ Err fault
+unfolding keys_from
+told_at lines n line keys fault h e =
+    let at : 1 + length h.before ≡ n = omega (arith, h.number) in
+    ap (keys_from 1 []) h.whole ∙ keys_through 1 h.before (line ∷ h.after) [] keys h.are h.apart h.few ∙ ap (λ (m : ℕ). keys_from m keys (line ∷ h.after)) at ∙ rw e refl
+
+after_key : (n : ℕ) (keys : List NamedKey) (line : List ℕ) (key : NamedKey) → is_skipped line ≡ false → IsKeyLine line key → after_line n keys line ≡ with_key n keys key
+after_key n keys line key kept is = rw (kept, key_again line key is) refl
+
+no_key : (line : List ℕ) → ((key : NamedKey) → IsKeyLine line key → ⊥) → key_in line ≡ None
+no_key line none = from_key (key_in line) refl
+  where
+    from_key : (r : Option NamedKey) → key_in line ≡ r → key_in line ≡ None
+    from_key None e = e
+    from_key (Some key) e = absurd (none key (key_found line key e))
+
+again_in : (lines : List (List ℕ)) (fault : KeyFault) → FaultIn lines fault → keys_from 1 [] lines ≡ Err fault
+again_in lines (BadLine n) (line, keys, h, none) = told_at lines n line keys (BadLine n) h (rw (h.kept, no_key line none) refl)
+again_in lines (TwiceNamed n) (line, keys, h, (key, is, (octets, among))) =
+    told_at lines n line keys (TwiceNamed n) h (after_key n keys line key h.kept is ∙ named_twice n keys key (has_from_among key.0 keys octets among))
+again_in lines TooMany (n, line, keys, h, full, (key, is, none)) =
+    let other = false_from_ne_true (has_name key.0 keys) (λ t. let some = among_from_has key.0 keys t in none some.0 some.1) in
+    told_at lines n line keys TooMany h (after_key n keys line key h.kept is ∙ one_too_many n keys key other full)
+again_in lines Memory none = absurd none
+
+pub again_fault : (text : List ℕ) (fault : KeyFault) → FirstFault text fault → keys_in text ≡ Err fault
+again_fault text fault h = again_in (lines_of text) fault h

@@ -29,11 +29,14 @@ unfolding keys_from
 line_read n keys more rest line after (inl e) read = ap (keys_from n keys) e ∙ rw read refl
 line_read n keys more rest line after (inr e) read = ap (keys_from n keys) e.0 ∙ rw read (sym (no_line (n + 1) more after e.1))
 
-pub line_failed : (n : ℕ) (keys : List NamedKey) (rest line after : List ℕ) (fault : KeyFault) → BeginsWith rest line after → IsFaultOf (after_line n keys line) fault → IsFaultOf (keys_from n keys (lines_of rest)) fault
+pub line_told : (n : ℕ) (keys : List NamedKey) (rest line after : List ℕ) (fault : KeyFault) → BeginsWith rest line after → after_line n keys line ≡ Err fault → keys_from n keys (lines_of rest) ≡ Err fault
 unfolding keys_from
+line_told n keys rest line after fault (inl e) failed = ap (keys_from n keys) e ∙ rw failed refl
+line_told n keys rest line after fault (inr e) failed = ap (keys_from n keys) e.0 ∙ rw failed refl
+
+pub line_failed : (n : ℕ) (keys : List NamedKey) (rest line after : List ℕ) (fault : KeyFault) → BeginsWith rest line after → IsFaultOf (after_line n keys line) fault → IsFaultOf (keys_from n keys (lines_of rest)) fault
 line_failed n keys rest line after fault begins (inr memory) = inr memory
-line_failed n keys rest line after fault (inl e) (inl failed) = inl (ap (keys_from n keys) e ∙ rw failed refl)
-line_failed n keys rest line after fault (inr e) (inl failed) = inl (ap (keys_from n keys) e.0 ∙ rw failed refl)
+line_failed n keys rest line after fault begins (inl failed) = inl (line_told n keys rest line after fault begins failed)
 
 -- ---- the keys of the lines
 
@@ -51,14 +54,14 @@ record AreRead (lines : List (List ℕ)) (keys all : List NamedKey) : Type 0 whe
   few : length all ≤ 256
 
 -- the key that a line adds
-record IsAdded (n : ℕ) (keys : List NamedKey) (line : List ℕ) (more : List NamedKey) : Type 0 where
-  key : NamedKey
-  read : key_in line ≡ Some key
-  other : has_name key.0 keys ≡ false
-  room : length keys ≢ 256
-  grown : more ≡ keys ++ key ∷ []
+pub record IsAdded (n : ℕ) (keys : List NamedKey) (line : List ℕ) (more : List NamedKey) : Type 0 where
+  pub key : NamedKey
+  pub read : key_in line ≡ Some key
+  pub other : has_name key.0 keys ≡ false
+  pub room : length keys ≢ 256
+  pub grown : more ≡ keys ++ key ∷ []
 
-key_is_added : (n : ℕ) (keys more : List NamedKey) (line : List ℕ) → is_skipped line ≡ false → after_line n keys line ≡ Ok more → IsAdded n keys line more
+pub key_is_added : (n : ℕ) (keys more : List NamedKey) (line : List ℕ) → is_skipped line ≡ false → after_line n keys line ≡ Ok more → IsAdded n keys line more
 key_is_added n keys more line kept e = from_key (key_in line) refl (sym (rw kept refl) ∙ e)
   where
     from_key : (r : Option NamedKey) → key_in line ≡ r → on_option (with_key n keys) (Err (BadLine n)) r ≡ Ok more → IsAdded n keys line more
@@ -72,7 +75,7 @@ key_is_added n keys more line kept e = from_key (key_in line) refl (sym (rw kept
       ]
     ]
 
-line_skipped : (n : ℕ) (keys : List NamedKey) (line : List ℕ) → is_skipped line ≡ true → after_line n keys line ≡ Ok keys
+pub line_skipped : (n : ℕ) (keys : List NamedKey) (line : List ℕ) → is_skipped line ≡ true → after_line n keys line ≡ Ok keys
 line_skipped n keys line skipped = rw skipped refl
 
 -- the lines with one more in front, which is skipped or has a key
@@ -121,18 +124,26 @@ apart_lacks (first ∷ keys) key others h =
     (false_from_ne_true (is_eq (name_cmp first.0 key.0)) (λ t. all_at (λ other. other.0 ≢ first.0) keys key others h.0 (sym (one_name first.0 key.0 t))))
     (apart_lacks keys key others h.1)
 
-keys_again : (n : ℕ) (lines : List (List ℕ)) (keys new : List NamedKey) → AreKeysOf lines new → AreApart (keys ++ new) → length (keys ++ new) ≤ 256 → keys_from n keys lines ≡ Ok (keys ++ new)
+pub keys_through : (n : ℕ) (lines rest : List (List ℕ)) (keys new : List NamedKey) → AreKeysOf lines new → AreApart (keys ++ new) → length (keys ++ new) ≤ 256
+    → keys_from n keys (lines ++ rest) ≡ keys_from (n + length lines) (keys ++ new) rest
 unfolding keys_from
-keys_again n [] keys new h apart few = ap (λ (k : List NamedKey). Ok k) (sym (ap (λ (k : List NamedKey). keys ++ k) h ∙ append-nil keys))
-keys_again n (line ∷ lines) keys new (inl h) apart few = rw h.0 (keys_again (n + 1) lines keys new h.1 apart few)
-keys_again n (line ∷ lines) keys new (inr h) apart few =
+keys_through n [] rest keys new h apart few =
+    let none : keys ≡ keys ++ new = sym (ap (λ (k : List NamedKey). keys ++ k) h ∙ append-nil keys) in
+    let at : n ≡ n + length {A = List ℕ} [] = omega arith in
+    ap (λ (k : List NamedKey). keys_from n k rest) none ∙ ap (λ (m : ℕ). keys_from m (keys ++ new) rest) at
+keys_through n (line ∷ lines) rest keys new (inl h) apart few =
+    let at : n + 1 + length lines ≡ n + length (line ∷ lines) = omega arith in
+    rw h.0 (keys_through (n + 1) lines rest keys new h.1 apart few ∙ ap (λ (m : ℕ). keys_from m (keys ++ new) rest) at)
+keys_through n (line ∷ lines) rest keys new (inr h) apart few =
     let key = h.1.0 in
     let others = h.1.1 in
+    let at : n + 1 + length lines ≡ n + length (line ∷ lines) = omega arith in
     let whole : keys ++ new ≡ (keys ++ key ∷ []) ++ others = ap (λ (k : List NamedKey). keys ++ k) h.1.2 ∙ sym (append_assoc keys (key ∷ []) others) in
     let lacks = apart_lacks keys key others (subst (λ (k : List NamedKey). AreApart (keys ++ k)) h.1.2 apart) in
     let room : length keys ≢ 256 = λ full. omega (arith, length-append keys new, ap length h.1.2) in
-    let rest = keys_again (n + 1) lines (keys ++ key ∷ []) others h.1.4 (subst AreApart whole apart) (subst (λ (k : List NamedKey). length k ≤ 256) whole few) in
-    rw (h.0, key_again line key h.1.3, key_added n keys key lacks room) (rest ∙ ap (λ (k : List NamedKey). Ok k) (sym whole))
+    let tail = keys_through (n + 1) lines rest (keys ++ key ∷ []) others h.1.4 (subst AreApart whole apart) (subst (λ (k : List NamedKey). length k ≤ 256) whole few) in
+    rw (h.0, key_again line key h.1.3, key_added n keys key lacks room)
+    (tail ∙ ap (λ (k : List NamedKey). keys_from (n + 1 + length lines) k rest) (sym whole) ∙ ap (λ (m : ℕ). keys_from m (keys ++ new) rest) at)
 
 -- ---- a whole text
 
@@ -142,7 +153,9 @@ found text keys e =
     (subst (AreKeysOf (lines_of text)) (sym read.whole) read.are, read.apart, read.few)
 
 pub again : (text : List ℕ) (keys : List NamedKey) → KeysOf text keys → keys_in text ≡ Ok keys
-again text keys h = keys_again 1 (lines_of text) [] keys h.0 h.1 h.2
+unfolding keys_from
+again text keys h =
+    ap (λ (lines : List (List ℕ)). keys_from 1 [] lines) (sym (append-nil (lines_of text))) ∙ keys_through 1 (lines_of text) [] [] keys h.0 h.1 h.2
 
 pub read_found : (text : List ℕ) (r : Result (List NamedKey) KeyFault) → MatchResult r (λ keys. keys_in text ≡ Ok keys) (IsFaultOf (keys_in text)) → IfOk r (KeysOf text)
 read_found text (Ok keys) h = found text keys h

@@ -162,12 +162,12 @@ impl KeyBook {
     }
 }
 
-/// Law: a text spells the keys of one book at most, which `keys_in` reads, and a text that it
-/// refuses has the fault on its first faulty line.
+/// Law: a text spells the keys of one book at most, which `keys_in` reads, and it refuses a text for
+/// a fault exactly where that stands on the first faulty line.
 pub fn key_files_have_one_reading()
     ensures exact { (text : List ℕ) (keys : List NamedKey) → (keys_in text ≡ Ok keys)
         ↔ KeysOf text keys }
     ensures one { (text : List ℕ) (a b : List NamedKey) → KeysOf text a → KeysOf text b → a ≡ b }
-    ensures fault { (text : List ℕ) (fault : KeyFault) → keys_in text ≡ Err fault
-        → FirstFault text fault }
+    ensures fault { (text : List ℕ) (fault : KeyFault) → (keys_in text ≡ Err fault)
+        ↔ FirstFault text fault }
 {}

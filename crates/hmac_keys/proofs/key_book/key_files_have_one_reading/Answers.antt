@@ -1,11 +1,11 @@
 use Rattle.std.proofs.Common.{Ok, ◌≡◌, sym, ◌∙◌}
 use Rattle.hmac_keys.proofs.Files.{found, again}
-use Rattle.hmac_keys.proofs.FaultyLines.{first_fault}
+use Rattle.hmac_keys.proofs.FaultyLines.{first_fault, again_fault}
 use Rattle.hmac_keys.proofs.key_book.key_files_have_one_reading.Goals as goal
 
 pub returns : goal.returns
 returns c = record {
   exact = λ text keys. (found text keys, again text keys);
   one = λ text a b p q. (let both : Ok a ≡ Ok b = sym (again text a p) ∙ again text b q in cc);
-  fault = first_fault;
+  fault = λ text fault. (first_fault text fault, again_fault text fault);
 }
