@@ -160,6 +160,7 @@ A 00 -> BadLine(1)
 /1=00 00 -> BadLine(1)
 /A 00↵/%41 01 -> TwiceNamed(2)
 /A 00↵↵;↵/8=A/ 00↵ -> TwiceNamed(4)
+/seg=256 00↵/50=%01%00 00 -> TwiceNamed(2)
 # Of two faulty lines the first is reported.
 /A 00↵/A 01↵/B -> TwiceNamed(2)
 /A 00↵/B↵/A 01 -> BadLine(2)
@@ -250,16 +251,30 @@ Memory -> Memory 0: out of memory
     check_rows(&rt, rt.alloc(), rows, fault_text);
 }
 
-/// Whether a file has this number of keys, or this fault, unless memory is refused.
-fn reads_or_memory(alloc: Global, file: &str, expected: Result<usize, KeyFault>) -> bool {
-    let read = KeyBook::read(alloc, file).map(|book| book.len());
-    read == expected || read == Err(KeyFault::Memory)
+/// Whether a file has this number of keys, unless memory is refused.
+fn reads_or_memory(alloc: Global, file: &str, len: usize) -> bool {
+    match KeyBook::read(alloc, file) {
+        Ok(book) => book.len() == len,
+        Err(fault) => fault == KeyFault::Memory,
+    }
 }
 
 #[test]
 fn refused_memory(rt: HostRuntime) {
     let file = "/A/KEY/1 6b6579\n; another\n\n/A/KEY/a%20name%20of%20a%20key 00\n/B ff";
-    assert!(rt; reads_or_memory(rt.alloc(), file, Ok(3)));
-    assert!(rt; reads_or_memory(rt.alloc(), "/A 00\n/A/B 0", Err(KeyFault::BadLine(2))));
-    assert!(rt; reads_or_memory(rt.alloc(), "/A 00\n/%41 00", Err(KeyFault::TwiceNamed(2))));
+    assert!(rt; reads_or_memory(rt.alloc(), file, 3));
+}
+
+/// Whether a file is refused for this cause, whether there is memory or not.
+fn is_refused(alloc: Global, file: &str, fault: KeyFault) -> bool {
+    KeyBook::read(alloc, file).err() == Some(fault)
+}
+
+/// Memory is asked for only where the whole file is right.
+#[test]
+fn faults_come_before_memory(rt: HostRuntime) {
+    let file = "/A 00\n/seg=5 00\n; another\n/50=%05 00";
+    assert!(rt; is_refused(rt.alloc(), file, KeyFault::TwiceNamed(4)));
+    assert!(rt; is_refused(rt.alloc(), "/A 00\n/A/B 0", KeyFault::BadLine(2)));
+    assert!(rt; is_refused(rt.alloc(), "/A 00\n/A/B", KeyFault::BadLine(2)));
 }

@@ -1,5 +1,5 @@
 -- The keys of a book, by their names.
-use Rattle.std.proofs.Common.{◌≡◌, ◌≢◌, ℕ, zero, suc, ◌+◌, ◌<◌, ◌≤◌, true, false, List, [], ◌∷◌, ◌++◌, length, get_or, take, refl, sym, ap, ◌∙◌, arith, inl, inr, Bor}
+use Rattle.std.proofs.Common.{◌≡◌, ◌≢◌, ℕ, zero, suc, ◌+◌, ◌<◌, ◌≤◌, Bool, true, false, ◌||◌, List, [], ◌∷◌, ◌++◌, length, get_or, take, refl, sym, ap, ◌∙◌, arith, inl, inr, Bor}
 use Rattle.std.specs.Prelude.{Option, Some, None, is_some, Ok, Err, MatchOption}
 use Rattle.std.specs.List.{AllByRecursion}
 use Rattle.std.proofs.lemmas.Bool.{or_parts, or_from, or_cases, or_left, or_right, false_from_ne_true, eq-eqb, ne_eqb}
@@ -19,7 +19,7 @@ use Rattle.hmac_keys.specs.Shown.{named_keys}
 
 -- ---- looking for a name
 
-same_name : (a b : List Field) → a ≡ b → is_eq (name_cmp a b) ≡ true
+pub same_name : (a b : List Field) → a ≡ b → is_eq (name_cmp a b) ≡ true
 same_name a b e = ap is_eq (name_cmp-equal a b e)
 
 pub none_among : (name : List Field) (keys : List NamedKey) → has_name name keys ≡ false → (octets : List ℕ) → IsAmong (name, octets) keys → ⊥
@@ -64,6 +64,19 @@ among_at name (first ∷ keys) zero key lt is e =
 among_at name (first ∷ keys) (suc i) key lt is e = inr (among_at name keys i key (omega arith) is e)
 
 -- ---- a further key
+
+pub has_name_more : (name : List Field) (keys : List NamedKey) (key : NamedKey) → has_name name (keys ++ key ∷ []) ≡ (has_name name keys || is_eq (name_cmp key.0 name))
+has_name_more name [] key = or_nothing (is_eq (name_cmp key.0 name))
+  where
+    or_nothing : (b : Bool) → (b || false) ≡ b
+    or_nothing true = refl
+    or_nothing false = refl
+has_name_more name (first ∷ keys) key =
+    ap (λ (b : Bool). is_eq (name_cmp first.0 name) || b) (has_name_more name keys key) ∙ regrouped (is_eq (name_cmp first.0 name)) (has_name name keys) (is_eq (name_cmp key.0 name))
+  where
+    regrouped : (a b c : Bool) → (a || (b || c)) ≡ ((a || b) || c)
+    regrouped true b c = refl
+    regrouped false b c = refl
 
 pub has_from_among : (name : List Field) (keys : List NamedKey) (octets : List ℕ) → IsAmong (name, octets) keys → has_name name keys ≡ true
 has_from_among name [] octets a = absurd a

@@ -36,7 +36,7 @@ key_parts line uri digits name octets e named spelled = rw (e, named, spelled) r
 
 -- ---- what a line reads as
 
-name_found : (uri : List ℕ) (name : List Field) → name_of uri ≡ Some name → ReadsAs uri name × (name ≢ [])
+pub name_found : (uri : List ℕ) (name : List Field) → name_of uri ≡ Some name → ReadsAs uri name × (name ≢ [])
 name_found uri name e = found (name_in uri) (text_found uri) e
   where
     found : (r : Result (List Field) NameFault) → ((cs : List Field) → r ≡ Ok cs → ReadsAs uri cs) → on_result not_empty (λ _. None) r ≡ Some name → ReadsAs uri name × (name ≢ [])
@@ -44,7 +44,7 @@ name_found uri name e = found (name_in uri) (text_found uri) e
     found (Ok []) h e = absurd cc
     found (Ok (c ∷ cs)) h e = let same : c ∷ cs ≡ name = cc in subst (λ (n : List Field). ReadsAs uri n × (n ≢ [])) same (h (c ∷ cs) refl, λ none. cc)
 
-name_again : (uri : List ℕ) (name : List Field) → ReadsAs uri name → name ≢ [] → name_of uri ≡ Some name
+pub name_again : (uri : List ℕ) (name : List Field) → ReadsAs uri name → name ≢ [] → name_of uri ≡ Some name
 name_again uri name h some = ap (on_result not_empty (λ _. None)) (text_again uri name h) ∙ kept name some
   where
     kept : (cs : List Field) → cs ≢ [] → not_empty cs ≡ Some cs
@@ -52,12 +52,12 @@ name_again uri name h some = ap (on_result not_empty (λ _. None)) (text_again u
     kept (c ∷ cs) some = refl
 
 -- what is read of digits
-record AreOctets (digits octets : List ℕ) : Type 0 where
-  hex : IsHex digits octets
-  some : 1 ≤ length octets
-  few : length octets ≤ 256
+pub record AreOctets (digits octets : List ℕ) : Type 0 where
+  pub hex : IsHex digits octets
+  pub some : 1 ≤ length octets
+  pub few : length octets ≤ 256
 
-octets_found : (digits octets : List ℕ) → octets_of digits ≡ Some octets → AreOctets digits octets
+pub octets_found : (digits octets : List ℕ) → octets_of digits ≡ Some octets → AreOctets digits octets
 octets_found digits octets e = found (decode_of digits) (decode_found digits) e
   where
     sized : (b : Bool) (read : List ℕ) → cond b (Some read) None ≡ Some octets → (b ≡ true) × (read ≡ octets)
@@ -84,7 +84,7 @@ digits_lack_space digits (o ∷ octets) h = subst (Lacks 32) (sym h.3) (no_digit
     no_digit digit lt is = let h : digit_value 32 < 16 = subst (λ (d : ℕ). digit_value d < 16) is lt in omega arith
 
 -- what an answer out of an option's value was made of
-some_of : {A B : Type 0} (r : Option A) (f : A → Option B) (y : B) → on_option f None r ≡ Some y → (x : A) × (r ≡ Some x) × (f x ≡ Some y)
+pub some_of : {A B : Type 0} (r : Option A) (f : A → Option B) (y : B) → on_option f None r ≡ Some y → (x : A) × (r ≡ Some x) × (f x ≡ Some y)
 some_of None f y e = absurd cc
 some_of (Some x) f y e = (x, refl, e)
 

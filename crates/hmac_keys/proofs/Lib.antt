@@ -5,3 +5,4 @@ pub mod Keys
 pub mod Books
 pub mod Files
 pub mod FaultyLines
+pub mod KeyChecks

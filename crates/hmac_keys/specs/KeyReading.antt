@@ -73,3 +73,8 @@ keys_in text = keys_from 1 [] (lines_of text)
 -- the fault of a reading, or Memory, which has no cause in the text
 abbrev pub IsFaultOf : Result (List NamedKey) KeyFault → KeyFault → Type 0
 IsFaultOf read fault = (read ≡ Err fault) ⊎ (fault ≡ Memory)
+
+-- the fault of a reading, or Memory, where there is none
+abbrev pub IsFaultBeforeMemory : Result (List NamedKey) KeyFault → KeyFault → Type 0
+IsFaultBeforeMemory read fault =
+    (read ≡ Err fault) ⊎ ((fault ≡ Memory) × ((keys : List NamedKey) × (read ≡ Ok keys)))

@@ -1,6 +1,7 @@
 pub mod Mac
 pub mod KeyFile
 pub mod KeyReading
+pub mod KeyCheck
 pub mod FirstFault
 pub mod LineFault
 pub mod FaultName

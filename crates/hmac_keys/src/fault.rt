@@ -5,8 +5,8 @@ use std::alloc::AllocFailed;
 use thiserror::Error;
 
 /// Why a key file is refused: its first faulty line, by number. All lines are counted from 1,
-/// skipped ones included. Of several faults of one line the first in this order is reported,
-/// but `Memory` may come in place of any.
+/// skipped ones included. Of several faults of one line the first in this order is reported.
+/// `Memory` comes only where the file has no fault.
 #[derive(Clone, Copy, Debug, PartialEq, Eq, Error)]
 pub enum KeyFault {
     /// A line is not the URI of a nonempty name, a space, and 1 to 256 octets in hexadecimal.

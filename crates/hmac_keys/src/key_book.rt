@@ -1,19 +1,20 @@
 //! Books of named keys.
 
-ghost use Rattle.std.specs.Prelude.{◌≡◌, ◌↔◌, ℕ, List, Ok, Err};
+ghost use Rattle.std.specs.Prelude.{◌≡◌, ◌↔◌, ℕ, List, Ok, Err, MatchResult};
 ghost use Rattle.hmac_keys.specs.declared.fault.KeyFault.{KeyFault};
 ghost use Rattle.hmac_keys.specs.FirstFault.{FirstFault};
 ghost use Rattle.hmac_keys.specs.KeyFile.{NamedKey, KeysOf};
-ghost use Rattle.hmac_keys.specs.KeyReading.{keys_in};
+ghost use Rattle.hmac_keys.specs.KeyReading.{keys_in, IsFaultBeforeMemory};
 
 use crate::fault::KeyFault;
+use crate::key_check::check_keys;
 use crate::key_line::{first_line, is_skipped, name_of, octets_of};
 use ndn_names::{Name, NameBuf};
 use std::alloc::Global;
 use std::marker::Model;
 
 /// The greatest number of keys in a book.
-const MAX_KEYS: usize = 256;
+pub(crate) const MAX_KEYS: usize = 256;
 
 /// A key and its name.
 #[derive(Drop)]
@@ -84,7 +85,8 @@ impl KeyBook {
     /// and those that begin with `;`, are skipped, but are counted.
     ///
     /// Refuses it by its first faulty line, and then reads no key: see `KeyFault`. Two names are
-    /// one if their components are, however the URIs spell them. `Memory` may come at any text.
+    /// one if their components are, however the URIs spell them. `Memory` comes only where the
+    /// text has no fault.
     pub fn read(alloc: Global, text: &str) -> Result<KeyBook, KeyFault>
         // What is read, the text spells.
         ensures found { IfOk result (KeysOf text.now) }
@@ -93,6 +95,17 @@ impl KeyBook {
             → (result ≡ Ok keys) ⊎ IsErrOf result KeyFault.Memory }
         // Which fault it is.
         ensures fault { IfErr result (IsFaultOf (keys_in text.now)) }
+        // Memory is refused only where all of the text is right.
+        ensures memory { IfErr result (λ fault. fault ≡ KeyFault.Memory
+            → (keys : List NamedKey) × KeysOf text.now keys) }
+    {
+        read_keys(alloc, text)
+    }
+
+    /// The keys of the lines, or the first fault, unless memory is refused before.
+    fn read_lines(alloc: Global, text: &str) -> Result<KeyBook, KeyFault>
+        ensures { MatchResult result (λ book. keys_in text.now ≡ Ok book)
+            (IsFaultOf (keys_in text.now)) }
     {
         let mut book = KeyBook::new(alloc);
         let mut rest = text;
@@ -159,6 +172,22 @@ impl KeyBook {
         ensures { IsTrue result ↔ (self.now ≡ []) }
     {
         self.keys.is_empty()
+    }
+}
+
+/// Where memory is refused, the lines are looked at once more without it, so that their fault comes
+/// first.
+fn read_keys(alloc: Global, text: &str) -> Result<KeyBook, KeyFault>
+    ensures { MatchResult result (λ book. keys_in text.now ≡ Ok book)
+        (IsFaultBeforeMemory (keys_in text.now)) }
+{
+    match KeyBook::read_lines(alloc, text) {
+        Ok(book) => Ok(book),
+        Err(KeyFault::Memory) => {
+            check_keys(text)?;
+            Err(KeyFault::Memory)
+        }
+        Err(fault) => Err(fault),
     }
 }
 

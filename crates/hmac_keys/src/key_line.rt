@@ -11,7 +11,7 @@ use ndn_names::{NameBuf, NameFault};
 use std::alloc::Global;
 
 /// The greatest length of a key, in octets.
-const MAX_KEY_LEN: usize = 256;
+pub(crate) const MAX_KEY_LEN: usize = 256;
 
 /// The first line, and the text after its LF; all of the text and nothing, where it has no LF.
 pub(crate) fn first_line(text: &str) -> (&str, &str)

@@ -4,6 +4,7 @@
 mod fault;
 mod hmac;
 mod key_book;
+mod key_check;
 mod key_line;
 
 pub use fault::KeyFault;

@@ -1,0 +1,247 @@
+-- Looking for the first fault of a key file, line by line.
+use Rattle.std.proofs.Common.{◌≡◌, ◌≢◌, ℕ, zero, suc, ◌+◌, ◌-◌, ◌/◌, ◌<◌, ◌≤◌, Bool, true, false, ltb, ◌||◌, List, [], ◌∷◌, ◌++◌, length, take, drop, Result, Ok, Err, refl, sym, ap, subst, ◌∙◌, arith, inl, inr}
+use Rattle.std.specs.Prelude.{◌↔◌, ◌⊎◌, Option, Some, None, is_some, IsTrue, IfErr, MatchResult}
+use Rattle.std.specs.Ordering.{is_eq}
+use Rattle.std.proofs.lemmas.Bool.{cases_Bool, lt-ltb, false_from_ne_true}
+use Rattle.std.proofs.lemmas.List.Folds.{list_any-append}
+use Rattle.ndn_tlv.specs.Element.{Field}
+use Rattle.ndn_tlv.specs.Reading.{on_result}
+use Rattle.ndn_names.specs.Order.{name_cmp}
+use Rattle.ndn_names.specs.ReadsAs.{ReadsAs}
+use Rattle.ndn_names.proofs.TextReading.{hex_length}
+use Rattle.ndn_names.proofs.PathReading.{text_again}
+use Rattle.hmac_keys.specs.declared.fault.KeyFault.{KeyFault}
+use Rattle.hmac_keys.specs.declared.fault.KeyFault.TheVariants.{BadLine, TwiceNamed, TooMany, Memory}
+use Rattle.hmac_keys.specs.KeyFile.{NamedKey, KeysOf, is_skipped, lines_of}
+use Rattle.hmac_keys.specs.KeyCheck.{line_has_name, lines_have_name, HaveNames}
+use Rattle.hmac_keys.specs.KeyReading.{on_option, at_last_space, not_empty, name_of, octets_of, key_in, has_name, with_key, after_line, keys_from, keys_in, IsFaultOf, IsFaultBeforeMemory}
+use Rattle.hmac_keys.proofs.Keys.{octets_found, name_found, name_again, key_parts, some_of}
+use Rattle.hmac_keys.proofs.Books.{has_name_more, same_name, one_name, named_twice, one_too_many, key_added}
+use Rattle.hmac_keys.proofs.Files.{BeginsWith, no_line, line_read, found, key_is_added, line_skipped}
+use Rattle.hmac_keys.proofs.FaultyLines.{first_fault}
+
+-- ---- the parts of a line
+
+some_is : {A : Type 0} (o : Option A) → is_some o ≡ true → (x : A) × (o ≡ Some x)
+some_is (Some x) e = (x, refl)
+some_is None e = absurd cc
+
+none_is : {A : Type 0} (o : Option A) → is_some o ≡ false → o ≡ None
+none_is (Some x) e = absurd cc
+none_is None e = refl
+
+-- a text reads as a name that is not empty
+pub name_test : (uri : List ℕ) (n : ℕ) → (cs : List Field) × ReadsAs uri cs × (n ≡ length cs) → ltb 0 n ≡ is_some (name_of uri)
+name_test uri n h = ap (ltb 0) h.2 ∙ counted h.0 ∙ sym (ap (λ r. is_some (on_result not_empty (λ _. None) r)) (text_again uri h.0 h.1))
+  where
+    counted : (cs : List Field) → ltb 0 (length cs) ≡ is_some (not_empty cs)
+    counted [] = refl
+    counted (c ∷ cs) = lt-ltb 0 (length (c ∷ cs)) (omega arith)
+
+pub no_octets : (digits : List ℕ) → (length digits / 2 ≡ 0) ⊎ (256 < length digits / 2) → is_some (octets_of digits) ≡ false
+no_octets digits h = false_from_ne_true (is_some (octets_of digits)) (λ t. let some = some_is (octets_of digits) t in none some.0 some.1)
+  where
+    none : (octets : List ℕ) → octets_of digits ≡ Some octets → ⊥
+    none octets e =
+        let are = octets_found digits octets e in
+        let long = hex_length digits octets are.hex in
+        elim h [ inl short ↦ omega (arith, are.some, are.few) | inr large ↦ omega (arith, are.some, are.few) ]
+
+pub no_space : (line : List ℕ) → at_last_space line ≡ None → key_in line ≡ None
+no_space line e = rw e refl
+
+pub no_name : (line uri digits : List ℕ) → at_last_space line ≡ Some (uri, digits) → is_some (name_of uri) ≡ false → key_in line ≡ None
+no_name line uri digits e none = rw (e, none_is (name_of uri) none) refl
+
+pub no_key : (line uri digits : List ℕ) → at_last_space line ≡ Some (uri, digits) → is_some (name_of uri) ≡ true → is_some (octets_of digits) ≡ false → key_in line ≡ None
+no_key line uri digits e named none = let name = some_is (name_of uri) named in rw (e, name.1, none_is (octets_of digits) none) refl
+
+pub some_key : (line uri digits : List ℕ) → at_last_space line ≡ Some (uri, digits) → is_some (name_of uri) ≡ true → is_some (octets_of digits) ≡ true → (key : NamedKey) × (key_in line ≡ Some key) × (name_of uri ≡ Some key.0)
+some_key line uri digits e named spelled =
+    let name = some_is (name_of uri) named in
+    let octets = some_is (octets_of digits) spelled in
+    ((name.0, octets.0), key_parts line uri digits name.0 octets.0 e name.1 octets.1, name.1)
+
+-- ---- lines with a name
+
+-- two texts read as one name
+abbrev AreOne : List ℕ → List ℕ → Type 0
+AreOne a b = (cs : List Field) × ReadsAs a cs × ReadsAs b cs
+
+named_alike : (r : Bool) (other uri : List ℕ) (name : List Field) → (IsTrue r ↔ AreOne other uri) → name_of uri ≡ Some name → r ≡ on_option (λ o. is_eq (name_cmp o name)) false (name_of other)
+named_alike true other uri name h e =
+    let is = name_found uri name e in
+    let one = h.0 refl in
+    let both : Ok one.0 ≡ Ok name = sym (text_again uri one.0 one.2) ∙ text_again uri name is.0 in
+    let same : one.0 ≡ name = cc in
+    let reads = subst (ReadsAs other) same one.1 in
+    rw (name_again other name reads is.1) (sym (same_name name name refl))
+named_alike false other uri name h e = unlike (name_of other) refl
+  where
+    is : ReadsAs uri name × (name ≢ [])
+    is = name_found uri name e
+
+    unlike : (r : Option (List Field)) → name_of other ≡ r → false ≡ on_option (λ o. is_eq (name_cmp o name)) false r
+    unlike None found = refl
+    unlike (Some o) found =
+        sym (false_from_ne_true (is_eq (name_cmp o name)) (λ t.
+        let no : false ≡ true = h.1 (name, subst (ReadsAs other) (one_name o name t) (name_found other o found).0, is.0) in
+        absurd cc))
+
+pub split_has_name : (r : Bool) (line other digits uri : List ℕ) (name : List Field) → is_skipped line ≡ false → at_last_space line ≡ Some (other, digits) → (IsTrue r ↔ AreOne other uri) → name_of uri ≡ Some name
+    → r ≡ line_has_name name line
+split_has_name r line other digits uri name kept e h named = rw (kept, e) (named_alike r other uri name h named)
+
+pub whole_has_none : (line : List ℕ) (name : List Field) → is_skipped line ≡ false → at_last_space line ≡ None → false ≡ line_has_name name line
+whole_has_none line name kept e = rw (kept, e) refl
+
+pub skipped_has_none : (line : List ℕ) (name : List Field) → is_skipped line ≡ true → false ≡ line_has_name name line
+skipped_has_none line name skipped = rw skipped refl
+
+-- the first lines of a text, and the first of them
+pub have_first : (name : List Field) (left : ℕ) (rest line after : List ℕ) → BeginsWith rest line after → 0 < left
+    → lines_have_name name (take left (lines_of rest)) ≡ (line_has_name name line || lines_have_name name (take (left - 1) (lines_of after)))
+unfolding lines_of
+have_first name zero rest line after begins some = absurd (omega arith)
+have_first name (suc left) rest line after begins some = first begins
+  where
+    less : suc left - 1 ≡ left
+    less = omega arith
+
+    nothing : (k : ℕ) → lines_have_name name (take k (lines_of [])) ≡ false
+    nothing zero = refl
+    nothing (suc zero) = refl
+    nothing (suc (suc k)) = refl
+
+    first : BeginsWith rest line after → lines_have_name name (take (suc left) (lines_of rest)) ≡ (line_has_name name line || lines_have_name name (take (suc left - 1) (lines_of after)))
+    first (inl e) = rw (e, less) refl
+    first (inr e) = rw (e.0, e.1, nothing (suc left - 1)) (rest_none left)
+      where
+        rest_none : (k : ℕ) → lines_have_name name (take (suc k) (line ∷ [])) ≡ (line_has_name name line || false)
+        rest_none zero = refl
+        rest_none (suc k) = refl
+
+pub have_none : (name : List Field) (left : ℕ) (rest : List ℕ) → rest ≡ [] → lines_have_name name (take left (lines_of rest)) ≡ false
+unfolding lines_of
+have_none name zero rest e = refl
+have_none name (suc left) rest e = rw e (nothing left)
+  where
+    nothing : (k : ℕ) → lines_have_name name (take (suc k) ([] ∷ [])) ≡ false
+    nothing zero = refl
+    nothing (suc k) = refl
+
+-- ---- one line more
+
+after_key : (n : ℕ) (all : List NamedKey) (line : List ℕ) (key : NamedKey) → is_skipped line ≡ false → key_in line ≡ Some key → after_line n all line ≡ with_key n all key
+after_key n all line key kept e = rw (kept, e) refl
+
+pub bad_line : (n : ℕ) (all : List NamedKey) (line : List ℕ) → is_skipped line ≡ false → key_in line ≡ None → after_line n all line ≡ Err (BadLine n)
+bad_line n all line kept e = rw (kept, e) refl
+
+pub twice_named : (n : ℕ) (all : List NamedKey) (line : List ℕ) (key : NamedKey) (b : Bool) → is_skipped line ≡ false → key_in line ≡ Some key → b ≡ has_name key.0 all → b ≡ true → after_line n all line ≡ Err (TwiceNamed n)
+twice_named n all line key b kept e is t = after_key n all line key kept e ∙ named_twice n all key (sym is ∙ t)
+
+pub too_many : (n : ℕ) (all : List NamedKey) (line : List ℕ) (key : NamedKey) (b : Bool) → is_skipped line ≡ false → key_in line ≡ Some key → b ≡ has_name key.0 all → b ≡ false → length all ≡ 256 → after_line n all line ≡ Err TooMany
+too_many n all line key b kept e is f full = after_key n all line key kept e ∙ one_too_many n all key (sym is ∙ f) full
+
+pub one_more : (n : ℕ) (all : List NamedKey) (line : List ℕ) (key : NamedKey) (b : Bool) → is_skipped line ≡ false → key_in line ≡ Some key → b ≡ has_name key.0 all → b ≡ false → length all ≢ 256
+    → after_line n all line ≡ Ok (all ++ key ∷ [])
+one_more n all line key b kept e is f room = after_key n all line key kept e ∙ key_added n all key (sym is ∙ f) room
+
+-- ---- all lines
+
+-- so many lines of the text were read as so many keys, and the rest follows them
+pub record HasChecked (before keys : ℕ) (text rest : List ℕ) : Type 0 where
+  pub all : List NamedKey
+  pub count : keys ≡ length all
+  pub few : keys ≤ 256
+  pub read : keys_in text ≡ keys_from (before + 1) all (lines_of rest)
+  pub names : HaveNames (take before (lines_of text)) all
+  pub lines : (drop before (lines_of text) ≡ lines_of rest) ⊎ (rest ≡ [])
+
+pub checked_nothing : (text : List ℕ) → HasChecked 0 0 text text
+checked_nothing text = record { all = []; count = refl; few = omega arith; read = refl; names = λ name. refl; lines = inl refl }
+
+cut_here : (n : ℕ) (lines : List (List ℕ)) (line : List ℕ) (others : List (List ℕ)) → drop n lines ≡ line ∷ others → (take (suc n) lines ≡ take n lines ++ line ∷ []) × (drop (suc n) lines ≡ others)
+cut_here zero [] line others e = absurd cc
+cut_here zero (first ∷ lines) line others e =
+    let first_is : first ≡ line = cc in
+    let others_are : lines ≡ others = cc in
+    (ap (λ (l : List ℕ). l ∷ []) first_is, others_are)
+cut_here (suc n) [] line others e = absurd cc
+cut_here (suc n) (first ∷ lines) line others e =
+    let here = cut_here n lines line others e in (ap (λ (ls : List (List ℕ)). first ∷ ls) here.0, here.1)
+
+-- the name of a line is that of the key that it adds
+line_name : (n : ℕ) (all more : List NamedKey) (line : List ℕ) → after_line n all line ≡ Ok more → (name : List Field) → has_name name more ≡ (has_name name all || line_has_name name line)
+line_name n all more line e name = elim (cases_Bool (is_skipped line)) [
+  | inl skipped ↦
+      let both : Ok all ≡ Ok more = sym (line_skipped n all line skipped) ∙ e in
+      let same : all ≡ more = cc in
+      rw (← same, skipped) (sym (or_nothing (has_name name all)))
+  | inr kept ↦
+      let added = key_is_added n all more line kept e in
+      ap (has_name name) added.grown ∙ has_name_more name all added.key ∙ ap (λ (b : Bool). has_name name all || b) (sym (key_name line added.key kept added.read))
+]
+  where
+    or_nothing : (b : Bool) → (b || false) ≡ b
+    or_nothing true = refl
+    or_nothing false = refl
+
+    key_name : (line : List ℕ) (key : NamedKey) → is_skipped line ≡ false → key_in line ≡ Some key → line_has_name name line ≡ is_eq (name_cmp key.0 name)
+    key_name line key kept read =
+        let split = some_of (at_last_space line) _ key read in
+        let found = some_of (name_of split.0.0) _ key split.2 in
+        let octets = some_of (octets_of split.0.1) _ key found.2 in
+        let same : (found.0, octets.0) ≡ key = cc octets.2 in
+        rw (kept, split.1, found.1) (ap (λ (k : NamedKey). is_eq (name_cmp k.0 name)) same)
+
+pub checked_line : (before keys count : ℕ) (text rest line after : List ℕ) → (h : HasChecked before keys text rest) → BeginsWith rest line after → rest ≢ []
+    → (more : List NamedKey) × (after_line (before + 1) h.all line ≡ Ok more) × (count ≡ length more) → count ≤ 256 → HasChecked (before + 1) count text after
+checked_line before keys count text rest line after h begins some read few = further h.lines begins
+  where
+    step : keys_in text ≡ keys_from (before + 1 + 1) read.0 (lines_of after)
+    step = h.read ∙ line_read (before + 1) h.all read.0 rest line after begins read.1
+
+    next : before + 1 ≡ suc before
+    next = omega arith
+
+    named : (others : List (List ℕ)) → drop before (lines_of text) ≡ line ∷ others → HaveNames (take (before + 1) (lines_of text)) read.0
+    named others e = λ name.
+        ap (λ (k : ℕ). lines_have_name name (take k (lines_of text))) next ∙ ap (lines_have_name name) (cut_here before (lines_of text) line others e).0
+        ∙ list_any-append (line_has_name name) (take before (lines_of text)) (line ∷ []) ∙ ap (λ (b : Bool). b || lines_have_name name (line ∷ [])) (h.names name)
+        ∙ ap (λ (b : Bool). has_name name h.all || b) (or_nothing (line_has_name name line)) ∙ sym (line_name (before + 1) h.all read.0 line read.1 name)
+      where
+        or_nothing : (b : Bool) → (b || false) ≡ b
+        or_nothing true = refl
+        or_nothing false = refl
+
+    further : (drop before (lines_of text) ≡ lines_of rest) ⊎ (rest ≡ []) → BeginsWith rest line after → HasChecked (before + 1) count text after
+    further (inr none) begins = absurd (some none)
+    further (inl e) (inl b) =
+        record {
+          all = read.0;
+          count = read.2;
+          few = few;
+          read = step;
+          names = named (lines_of after) (e ∙ b);
+          lines = inl (ap (λ (k : ℕ). drop k (lines_of text)) next ∙ (cut_here before (lines_of text) line (lines_of after) (e ∙ b)).1);
+        }
+    further (inl e) (inr b) =
+        record { all = read.0; count = read.2; few = few; read = step; names = named [] (e ∙ b.0); lines = inr b.1 }
+
+pub checked_all : (before keys : ℕ) (text rest : List ℕ) → HasChecked before keys text rest → rest ≡ [] → (all : List NamedKey) × (keys_in text ≡ Ok all)
+checked_all before keys text rest h none = (h.all, h.read ∙ no_line (before + 1) h.all rest none)
+
+-- ---- a whole text
+
+pub weak : (text : List ℕ) (r : Result (List NamedKey) KeyFault) → MatchResult r (λ keys. keys_in text ≡ Ok keys) (IsFaultBeforeMemory (keys_in text)) → MatchResult r (λ keys. keys_in text ≡ Ok keys) (IsFaultOf (keys_in text))
+weak text (Ok keys) h = h
+weak text (Err fault) (inl e) = inl e
+weak text (Err fault) (inr memory) = inr memory.0
+
+pub read_memory : (text : List ℕ) (r : Result (List NamedKey) KeyFault) → MatchResult r (λ keys. keys_in text ≡ Ok keys) (IsFaultBeforeMemory (keys_in text))
+    → IfErr r (λ fault. fault ≡ Memory → (keys : List NamedKey) × KeysOf text keys)
+read_memory text (Ok keys) h = tt
+read_memory text (Err fault) (inl e) = λ is. absurd (first_fault text Memory (e ∙ ap (λ (f : KeyFault). Err f) is))
+read_memory text (Err fault) (inr memory) = λ is. (memory.1.0, found text memory.1.0 memory.1.1)

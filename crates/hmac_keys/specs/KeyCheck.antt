@@ -1,0 +1,22 @@
+-- Lines of key files that have a name.
+use Rattle.std.specs.Prelude.{◌≡◌, ℕ, List, None, Bool, false, if◌then◌else◌}
+use Rattle.std.specs.List.{list_any}
+use Rattle.std.specs.Ordering.{is_eq}
+use Rattle.ndn_tlv.specs.Element.{Field}
+use Rattle.ndn_names.specs.Order.{name_cmp}
+use Rattle.hmac_keys.specs.KeyFile.{NamedKey, is_skipped}
+use Rattle.hmac_keys.specs.KeyReading.{on_option, at_last_space, name_of, has_name}
+
+-- the line is not skipped, and has this name before its last space
+abbrev pub line_has_name : List Field → List ℕ → Bool
+line_has_name name line =
+    if is_skipped line then false else
+    on_option (λ other. is_eq (name_cmp other name)) false
+    (on_option (λ parts. name_of parts.0) None (at_last_space line))
+
+abbrev pub lines_have_name : List Field → List (List ℕ) → Bool
+lines_have_name name lines = list_any (line_has_name name) lines
+
+-- the names in these lines are those of the keys
+abbrev pub HaveNames : List (List ℕ) → List NamedKey → Type 0
+HaveNames lines keys = (name : List Field) → lines_have_name name lines ≡ has_name name keys

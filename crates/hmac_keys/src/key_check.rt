@@ -1,0 +1,130 @@
+//! Looking for the first fault of a key file without memory.
+
+ghost use Rattle.std.specs.Prelude.{◌≡◌, ◌+◌, ◌<◌, ◌≤◌, List, Some, None, Ok, Err, IfOk, MatchResult, is_some, length, take};
+ghost use Rattle.ndn_tlv.specs.Element.{Field};
+ghost use Rattle.hmac_keys.specs.KeyFile.{NamedKey, lines_of};
+ghost use Rattle.hmac_keys.specs.KeyCheck.{line_has_name, lines_have_name, HaveNames};
+ghost use Rattle.hmac_keys.specs.KeyReading.{key_in, keys_in, after_line, name_of, octets_of};
+
+use crate::fault::KeyFault;
+use crate::key_book::MAX_KEYS;
+use crate::key_line::{MAX_KEY_LEN, first_line, is_skipped};
+use ndn_names::{uri_len, uris_are_equal};
+
+/// Whether the text is the URI of a name that is not empty.
+fn is_name(uri: &str) -> bool
+    ensures { result ≡ is_some (name_of uri.now) }
+{
+    match uri_len(uri) {
+        Ok(len) => len > 0,
+        Err(_) => false,
+    }
+}
+
+/// Whether the text is the hexadecimal digits of 1 to 256 octets.
+fn is_key(digits: &str) -> bool
+    ensures { result ≡ is_some (octets_of digits.now) }
+{
+    let len = digits.len() / 2;
+    if len == 0 || len > MAX_KEY_LEN {
+        return false;
+    }
+    let mut octets = [0; MAX_KEY_LEN];
+    hex::decode_to_slice(digits.as_bytes(), &mut octets[..len]).is_ok()
+}
+
+/// The URI in a line of this number, which is not skipped.
+fn key_uri(number: u64, line: &str) -> Result<&str, KeyFault>
+    ensures { MatchResult result
+        (λ uri. (key : NamedKey) × (key_in line.now ≡ Some key) × (name_of uri.now ≡ Some key.0))
+        (λ fault. (key_in line.now ≡ None) × (fault ≡ KeyFault.BadLine number)) }
+{
+    let Some((uri, digits)) = line.rsplit_once(' ') else {
+        return Err(KeyFault::BadLine(number));
+    };
+    if !is_name(uri) {
+        return Err(KeyFault::BadLine(number));
+    }
+    if !is_key(digits) {
+        return Err(KeyFault::BadLine(number));
+    }
+    Ok(uri)
+}
+
+/// Whether a line has the name of this URI.
+fn has_name(line: &str, uri: &str) -> bool
+    ensures { (name : List Field) → name_of uri.now ≡ Some name
+        → result ≡ line_has_name name line.now }
+{
+    if is_skipped(line) {
+        return false;
+    }
+    match line.rsplit_once(' ') {
+        Some(parts) => uris_are_equal(parts.0, uri),
+        None => false,
+    }
+}
+
+/// Whether one of the first lines of a text has the name of this URI.
+fn have_name(text: &str, lines: u64, uri: &str) -> bool
+    ensures { (name : List Field) → name_of uri.now ≡ Some name
+        → result ≡ lines_have_name name (take lines (lines_of text.now)) }
+{
+    let mut rest = text;
+    let mut left = lines;
+    while left > 0 {
+        if rest.is_empty() {
+            return false;
+        }
+        let (line, after) = first_line(rest);
+        if has_name(line, uri) {
+            return true;
+        }
+        rest = after;
+        left -= 1;
+    }
+    false
+}
+
+/// The number of keys after a line of a text, where so many lines and keys stand before it.
+fn check_line(text: &str, before: u64, keys: usize, line: &str) -> Result<usize, KeyFault>
+    requires short { before < length text.now }
+    requires few { keys ≤ 256 }
+    ensures keys { (all : List NamedKey) → keys ≡ length all
+        → HaveNames (take before (lines_of text.now)) all
+        → let read = after_line (before + 1) all line.now in
+        MatchResult result (λ n. (more : List NamedKey) × (read ≡ Ok more) × (n ≡ length more))
+        (λ fault. read ≡ Err fault) }
+    ensures few { IfOk result (λ n. n ≤ 256) }
+{
+    if is_skipped(line) {
+        return Ok(keys);
+    }
+    let number = before + 1;
+    let uri = key_uri(number, line)?;
+    if have_name(text, before, uri) {
+        return Err(KeyFault::TwiceNamed(number));
+    }
+    if keys == MAX_KEYS {
+        return Err(KeyFault::TooMany);
+    }
+    Ok(keys + 1)
+}
+
+/// Refuses a key file with its first fault. No name is kept: each line of a key is compared with
+/// the lines before it, of which 256 at most have a key.
+pub(crate) fn check_keys(text: &str) -> Result<(), KeyFault>
+    ensures { MatchResult result (λ _. (keys : List NamedKey) × (keys_in text.now ≡ Ok keys))
+        (λ fault. keys_in text.now ≡ Err fault) }
+{
+    let mut rest = text;
+    let mut before = 0;
+    let mut keys = 0;
+    while !rest.is_empty() {
+        let (line, after) = first_line(rest);
+        keys = check_line(text, before, keys, line)?;
+        rest = after;
+        before += 1;
+    }
+    Ok(())
+}
