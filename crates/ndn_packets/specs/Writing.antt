@@ -5,6 +5,7 @@ use Rattle.std.specs.Option.{option_map}
 use Rattle.sha2.specs.Sha256.{sha256}
 use Rattle.ndn_tlv.specs.Number.{shortest_nni}
 use Rattle.ndn_tlv.specs.Element.{Field, element}
+use Rattle.ndn_names.specs.declared.component_type.TheConstants.{SEGMENT}
 use Rattle.ndn_names.specs.View.{components}
 use Rattle.ndn_names.specs.declared.component_type.TheConstants.{PARAMETERS_SHA256_DIGEST}
 use Rattle.ndn_packets.specs.declared.fault.WriteFault.{WriteFault}
@@ -17,7 +18,6 @@ use Rattle.ndn_packets.specs.declared.data_writer.DataWriter.{DataWriter}
 use Rattle.ndn_packets.specs.Packet.{digests_in, PlainLocator, Missing, KeyName, PlainSignatureInfo, PlainInterest, PlainData}
 use Rattle.ndn_packets.specs.Fields.{optional, flag}
 use Rattle.ndn_packets.specs.Reading.{is_nil}
-use Rattle.ndn_packets.specs.declared.data_writer.TheConstants.{SEGMENT}
 use Rattle.ndn_packets.specs.declared.types.TheConstants.{DIGEST_SHA256, HMAC_WITH_SHA256, APPLICATION_PARAMETERS, CAN_BE_PREFIX, CONTENT, DATA, FINAL_BLOCK_ID, FRAGMENT, FRESHNESS_PERIOD, HOP_LIMIT, INTEREST, INTEREST_LIFETIME, INTEREST_SIGNATURE_INFO, INTEREST_SIGNATURE_VALUE, KEY_LOCATOR, LINK_PACKET, META_INFO, MUST_BE_FRESH, NACK, NACK_REASON, NAME, NONCE, SIGNATURE_INFO, SIGNATURE_SEQ_NUM, SIGNATURE_TIME, SIGNATURE_TYPE, SIGNATURE_VALUE}
 
 abbrev pub octets : List Field → List ℕ

@@ -22,10 +22,8 @@ use crate::writing::{
     optional_len, put_header, put_info, put_nni_element, put_number_field, put_optional,
 };
 use ndn_names::Name;
+use ndn_names::component_type::SEGMENT;
 use ndn_tlv::{Memory, put_element};
-
-/// The type of a component that is a segment number (NDN Naming Conventions, "Segmentation").
-const SEGMENT: u32 = 50;
 
 /// A Data to write (NDN Packet Format 0.3, "Data Packet").
 #[derive(Clone, Copy, Debug)]
@@ -213,7 +211,7 @@ fn last_len(last: Option<u64>) -> usize
 {
     match last {
         None => 0,
-        Some(last) => element_len(FINAL_BLOCK_ID, nni_element_len(SEGMENT, last)),
+        Some(last) => element_len(FINAL_BLOCK_ID, nni_element_len(u32::from(SEGMENT), last)),
     }
 }
 
@@ -226,8 +224,9 @@ fn put_last(out: &mut Vec<u8>, last: Option<u64>) -> Result<(), Memory>
     ensures capacity { vec_capacity out.old ≤ vec_capacity out.new }
 {
     if let Some(last) = last {
-        put_header(out, FINAL_BLOCK_ID, nni_element_len(SEGMENT, last))?;
-        put_nni_element(out, SEGMENT, last)?;
+        let kind = u32::from(SEGMENT);
+        put_header(out, FINAL_BLOCK_ID, nni_element_len(kind, last))?;
+        put_nni_element(out, kind, last)?;
     }
     Ok(())
 }
