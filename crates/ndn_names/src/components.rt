@@ -33,6 +33,7 @@ impl<'a> Iterator for Components<'a> {
 
     ghost remaining = { item_count components_left };
 
+    #[inline(always)]
     fn next(&mut self) -> Option<Component<'a>> {
         match first_component(self.rest) {
             Ok((component, rest)) => {

@@ -103,6 +103,7 @@ impl InterestWriter<'_> {
     }
 
     /// Why the Interest is not written, but for memory.
+    #[inline(always)]
     fn refusal(&self, lengths: Lengths) -> Option<WriteFault>
         requires { IsLength lengths.value (octets (interest_fields self.now)) }
         ensures { result ≡ interest_refusal self.now }
@@ -118,6 +119,7 @@ impl InterestWriter<'_> {
 
     /// The number of components of the name, with the digest of the parameters, where an Interest
     /// may be written with it.
+    #[inline(always)]
     fn component_count(&self) -> Option<usize>
         ensures { MatchOption result (is_bad_name (components self.now.name) ≡ true)
             (λ count. (is_bad_name (components self.now.name) ≡ false)
@@ -216,6 +218,7 @@ impl InterestWriter<'_> {
     }
 
     /// Appends the fields from the ApplicationParameters on, or some octets of them.
+    #[inline(always)]
     fn put_later(&self, out: &mut Vec<u8>) -> Result<(), Memory>
         ensures ok { OnOk result
             (out.new.items ≡ out.old.items ++ octets (later_fields self.now self.now.sign)) }
@@ -258,6 +261,7 @@ impl InterestWriter<'_> {
 
     /// Appends the name's element, or some octets of it. Where a digest of parameters stands in it,
     /// that is zeros yet.
+    #[inline(always)]
     fn put_name(&self, out: &mut Vec<u8>, name_len: usize) -> Result<(), Memory>
         requires len { IsLength name_len (octets (interest_name self.now)) }
         requires short { length (octets (interest_name self.now)) ≤ 8800 }
@@ -277,6 +281,7 @@ impl InterestWriter<'_> {
     }
 
     /// Appends the fields between the name and the ApplicationParameters, or some octets of them.
+    #[inline(always)]
     fn put_early(&self, out: &mut Vec<u8>) -> Result<(), Memory>
         ensures ok { OnOk result (out.new.items ≡ out.old.items ++ octets (early_fields self.now)) }
         ensures begins { take (vec_len out.old) out.new.items ≡ out.old.items }
@@ -293,6 +298,7 @@ impl InterestWriter<'_> {
     }
 
     /// Appends the fields of the Interest, or some octets of them.
+    #[inline(always)]
     fn put_fields(&self, out: &mut Vec<u8>, name_len: usize) -> Result<(), Memory>
         requires len { IsLength name_len (octets (interest_name self.now)) }
         requires short { length (octets (interest_name self.now)) ≤ 8800 }
@@ -315,6 +321,7 @@ impl InterestWriter<'_> {
     }
 
     /// Appends the Interest, or some octets of it.
+    #[inline(always)]
     fn put_parts(&self, out: &mut Vec<u8>, lengths: Lengths) -> Result<(), Memory>
         requires name { IsLength lengths.name (octets (interest_name self.now)) }
         requires value { IsLength lengths.value (octets (interest_fields self.now)) }
@@ -396,7 +403,11 @@ fn put_octet_field(out: &mut Vec<u8>, kind: u32, octet: Option<u8>) -> Result<()
 {
     match octet {
         None => Ok(()),
-        Some(octet) => put_element(out, kind, &[octet]),
+        Some(octet) => {
+            put_header(out, kind, 1)?;
+            out.push(octet)?;
+            Ok(())
+        }
     }
 }
 
@@ -411,7 +422,7 @@ fn put_flag(out: &mut Vec<u8>, kind: u32, set: bool) -> Result<(), Memory>
     ensures capacity { vec_capacity out.old ≤ vec_capacity out.new }
 {
     if set {
-        return put_element(out, kind, &[]);
+        return put_header(out, kind, 0);
     }
     Ok(())
 }

@@ -79,6 +79,7 @@ pub fn first_element<'a>(octets: &'a [u8]) -> Result<(Element<'a>, &'a [u8]), Tl
 }
 
 /// Appends an element, or leaves what was there and some octets of it.
+#[inline(always)]
 fn put_parts(out: &mut Vec<u8>, kind: u32, value: &[u8]) -> Result<(), Memory>
     ensures ok { OnOk result (out.new.items ≡ out.old.items ++ element (kind, value.now)) }
     ensures begins { take (vec_len out.old) out.new.items ≡ out.old.items }
@@ -95,6 +96,7 @@ fn put_parts(out: &mut Vec<u8>, kind: u32, value: &[u8]) -> Result<(), Memory>
 /// Appends an element: the shortest forms of its type and of its value's length, and its value
 /// (NDN Packet Format 0.3, "Type-Length-Value (TLV) Encoding"). Where memory is refused, nothing
 /// is appended.
+#[inline(always)]
 pub fn put_element(out: &mut Vec<u8>, kind: u32, value: &[u8]) -> Result<(), Memory>
     requires { 1 ≤ kind }
     ensures ok { OnOk result (out.new.items ≡ out.old.items ++ element (kind, value.now)) }

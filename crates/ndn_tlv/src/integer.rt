@@ -34,6 +34,7 @@ pub fn nni_of(value: &[u8]) -> Result<u64, TlvFault>
 /// Appends the shortest NonNegativeInteger of a number (NDN Packet Format 0.3, "Non-Negative
 /// Integer Encoding"): 1, 2, 4 or 8 octets. Where memory is refused, nothing is appended.
 #[tactic(auto, unfolding(crate::specs::Number::shortest_nni))]
+#[inline(always)]
 pub fn put_nni(out: &mut Vec<u8>, number: u64) -> Result<(), Memory>
     ensures ok { OnOk result (out.new.items ≡ out.old.items ++ shortest_nni number) }
     ensures err { OnErr result (out.new.items ≡ out.old.items) }
@@ -59,6 +60,7 @@ pub fn put_nni(out: &mut Vec<u8>, number: u64) -> Result<(), Memory>
 /// The length of the shortest NonNegativeInteger of a number, in octets: 1, 2, 4 or 8 (NDN Packet
 /// Format 0.3, "Non-Negative Integer Encoding").
 #[tactic(auto, unfolding(crate::specs::Number::shortest_nni))]
+#[inline(always)]
 pub fn nni_len(number: u64) -> usize
     ensures { result ≡ length (shortest_nni number) }
 {

@@ -139,6 +139,7 @@ pub fn put_number(out: &mut Vec<u8>, number: u64) -> Result<(), Memory>
 /// The length of the shortest VAR-NUMBER of a number, in octets: 1, 3, 5 or 9 (NDN Packet Format
 /// 0.3, "Type-Length-Value (TLV) Encoding").
 #[tactic(auto, unfolding(crate::specs::Number::spelling))]
+#[inline(always)]
 pub fn number_len(number: u64) -> usize
     ensures { result ≡ length (spelling number) }
 {
