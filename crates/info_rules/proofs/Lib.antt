@@ -4,6 +4,7 @@ pub mod Firsts
 pub mod Hierarchies
 pub mod KeyNames
 pub mod Least
+pub mod Limits
 pub mod Lists
 pub mod Matches
 pub mod NoFaults
@@ -17,6 +18,7 @@ pub mod Relations
 pub mod Reports
 pub mod Scanning
 pub mod Shapes
+pub mod Signers
 pub mod TreeFinding
 pub mod TreeSpelling
 pub mod TreeSteps

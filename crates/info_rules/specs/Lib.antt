@@ -5,6 +5,7 @@ pub mod TreeReading
 pub mod TreeGrammar
 pub mod Shown
 pub mod Faults
+pub mod Names
 pub mod Keys
 pub mod ValueWords
 pub mod Values
@@ -23,3 +24,5 @@ pub mod Seen
 pub mod Locator
 pub mod Checks
 pub mod Decides
+pub mod Signer
+pub mod Limits

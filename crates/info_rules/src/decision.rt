@@ -6,6 +6,7 @@ ghost use Rattle.ndn_packets.specs.Packet.{PlainFrame};
 ghost use Rattle.info_rules.specs.Rule.{PlainRule};
 ghost use Rattle.info_rules.specs.Decides.{IsGreater, IsPassed, IsGreatest, Allow, Deny, Expands, Decides};
 ghost use Rattle.info_rules.specs.Shown.{seen_of, signed_of};
+ghost use Rattle.info_rules.specs.Signer.{NamesItsSigner};
 
 use crate::checks::check;
 use crate::matching::applies;
@@ -16,26 +17,34 @@ use hmac_keys::KeyBook;
 use ndn_names::Name;
 use ndn_tlv::Memory;
 use std::alloc::Global;
+use thiserror::Error;
 
 /// Why a packet is denied. Of several reasons that checkers give the last in this order is
-/// reported.
-#[derive(Clone, Copy, Debug, PartialEq, Eq)]
+/// reported. It prints what was wrong, and what the signer or the operator can do.
+#[derive(Clone, Copy, Debug, PartialEq, Eq, Error)]
 pub enum Reason {
     /// An Interest is not signed.
+    #[error("NotSigned: the Interest has no signature; sign it, as each command is")]
     NotSigned,
     /// An Interest's digest of parameters is not the last component of its name, or its signature
     /// has no SignatureTime.
+    #[error("Shape: no SignatureTime, or the digest is not last in the name; sign with a time, digest last")]
     Shape,
     /// The signature is of another type.
+    #[error("SigType: no checker takes this type of signature; sign with the rule's sig-type")]
     SigType,
     /// The KeyLocator is not the name of a key that is asked for, or the rule has no checker.
+    #[error("KeyLocator: not a key that the rule asks for; sign with one, or widen its key-locator")]
     KeyLocator,
     /// The key is not in the book.
+    #[error("KeyUnknown: the key file lacks this key; add its line")]
     KeyUnknown,
     /// The signature's value is not that of the covered octets.
+    #[error("Tag: the octets were changed, or the key's differ; compare the key's on both sides")]
     Tag,
     /// A signed Interest is not newer than others of its signer, which rules do not see: they never
     /// give this reason.
+    #[error("Replay: not newer than an allowed command, or the clocks differ; sign it again now")]
     Replay,
 }
 
@@ -50,7 +59,23 @@ pub enum Decision {
 
 impl Reason {
     ghost use Rattle.std.specs.Prelude.{◌≡◌};
+    ghost use Rattle.info_rules.specs.Names.{reason_name};
     ghost use Rattle.info_rules.specs.Decides.{reason_number};
+
+    /// The name of the reason, as it is printed.
+    pub fn name(self) -> &'static str
+        ensures { result.now ≡ reason_name self }
+    {
+        match self {
+            Reason::NotSigned => "NotSigned",
+            Reason::Shape => "Shape",
+            Reason::SigType => "SigType",
+            Reason::KeyLocator => "KeyLocator",
+            Reason::KeyUnknown => "KeyUnknown",
+            Reason::Tag => "Tag",
+            Reason::Replay => "Replay",
+        }
+    }
 
     /// Its number, from 1 on in the order above.
     fn number(self) -> u8
@@ -167,4 +192,11 @@ pub fn decisions_are_unique()
     ensures { (rules : List PlainRule) (keys : List NamedKey) (packet : PlainFrame) (a b : Decision)
         → AreApart keys
         → Decides rules keys packet a → Decides rules keys packet b → a ≡ b }
+{}
+
+/// Law: an allowed packet says who signed it: anybody, by DigestSha256, or the owner of a key of the
+/// book, by HMAC and the key's name. An Interest also says when.
+pub fn allowed_packets_name_their_signer()
+    ensures { (rules : List PlainRule) (keys : List NamedKey) (packet : PlainFrame) (rule : RuleNo)
+        → Decides rules keys packet (Decision.Allowed rule) → NamesItsSigner keys packet }
 {}

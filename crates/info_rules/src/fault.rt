@@ -44,6 +44,28 @@ pub enum RulesFaultKind {
     Memory,
 }
 
+impl RulesFaultKind {
+    ghost use Rattle.info_rules.specs.Names.{fault_name};
+
+    /// The name of the fault, as it is printed.
+    pub fn name(self) -> &'static str
+        ensures { result.now ≡ fault_name self }
+    {
+        match self {
+            RulesFaultKind::Syntax => "Syntax",
+            RulesFaultKind::TooDeep => "TooDeep",
+            RulesFaultKind::TooLarge => "TooLarge",
+            RulesFaultKind::UnknownKey => "UnknownKey",
+            RulesFaultKind::Missing => "Missing",
+            RulesFaultKind::BadValue => "BadValue",
+            RulesFaultKind::TwiceNamed => "TwiceNamed",
+            RulesFaultKind::Pattern => "Pattern",
+            RulesFaultKind::AnyAnchor => "AnyAnchor",
+            RulesFaultKind::Memory => "Memory",
+        }
+    }
+}
+
 /// Why a text is no rule file: a line, counted from 1, and what is wrong there. `TooLarge` and
 /// `Memory` are reported at line 0.
 #[derive(Clone, Copy, Debug, PartialEq, Eq, Error)]
@@ -51,6 +73,15 @@ pub enum RulesFaultKind {
 pub struct RulesFault {
     pub line: u32,
     pub kind: RulesFaultKind,
+}
+
+impl RulesFault {
+    /// The line that is to blame, counted from 1, or 0 where none is.
+    pub fn line(self) -> u32
+        ensures { result ≡ self.line }
+    {
+        self.line
+    }
 }
 
 /// A refusal of memory, which has no place in the text. Where a block is read, it is reported too

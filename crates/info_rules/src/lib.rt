@@ -30,9 +30,9 @@ mod value_kind;
 mod value_words;
 mod words;
 
-pub use decision::{Decision, Reason, decisions_are_unique};
+pub use decision::{Decision, Reason, allowed_packets_name_their_signer, decisions_are_unique};
 pub use fault::{RulesFault, RulesFaultKind};
-pub use locator::hierarchical_keys_match_a_pattern;
+pub use locator::{hierarchical_keys_match_a_pattern, hierarchical_text_spells_its_pattern};
 pub use packet::{Packet, read_packets_have_a_shape};
 pub use report::the_least_is_reported;
 pub use rule::Kind;

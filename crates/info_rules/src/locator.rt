@@ -1,6 +1,7 @@
 //! Which keys may sign which packets, by their names.
 
-ghost use Rattle.std.specs.Prelude.{◌≡◌, ◌≤◌, ◌↔◌, ℕ, List, Some, length, option_map, IsTrue, MatchOption, MatchResult, IfOk};
+ghost use Rattle.std.specs.Prelude.{◌≡◌, ◌≤◌, ◌↔◌, ℕ, List, Some, length, option_map, IsTrue, MatchOption, MatchResult, IfOk, codes};
+ghost use Rattle.name_patterns.specs.Grammar.{IsPattern};
 ghost use Rattle.ndn_tlv.specs.Element.{Field};
 ghost use Rattle.ndn_names.specs.View.{components, field_of};
 ghost use Rattle.ndn_names.specs.Name.{IsPrefix};
@@ -133,4 +134,9 @@ pub fn hierarchical_keys_match_a_pattern()
     ensures { (key packet : List Field) → IsHierarchical key packet
         ↔ ((places : List (ℕ × ℕ)) × Match hierarchical_pattern key places
         × IsPrefix (part_of places key (OfGroup 1)) packet) }
+{}
+
+/// Law: the text `^(<>*)<KEY><>{1,3}$` spells that pattern.
+pub fn hierarchical_text_spells_its_pattern()
+    ensures { IsPattern (codes "^(<>*)<KEY><>{1,3}$") hierarchical_pattern }
 {}

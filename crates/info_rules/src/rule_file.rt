@@ -11,6 +11,8 @@ ghost use Rattle.std.specs.Prelude.{[]};
 ghost use Rattle.std.specs.Option.{IsSome};
 ghost use Rattle.info_rules.specs.Tree.{Block};
 ghost use Rattle.info_rules.specs.Shown.{rule_of};
+ghost use Rattle.std.specs.Prelude.{IfOk};
+ghost use Rattle.info_rules.specs.Limits.{AreWithinLimits};
 ghost use Rattle.info_rules.specs.Keys.{value_of};
 ghost use Rattle.info_rules.specs.RuleFile.{id_key, same_id_faults, repeated_faults, id_faults, top_key_faults, file_faults, all_rules, rules_in};
 
@@ -153,27 +155,37 @@ fn read_rules(alloc: Global, keys: Keys<'_>) -> Result<Vec<Rule>, RulesFault>
     Ok(read)
 }
 
+/// The rules of these entries.
+#[tactic(auto, unfolding(crate::specs::RuleFile::rules_in))]
+fn read_file(alloc: Global, tree: &InfoTree) -> Result<Rules, RulesFault>
+    ensures { MatchResult result (λ rules. rules_in tree.now ≡ Ok rules)
+        (λ fault. (rules_in tree.now ≡ Err fault) ⊎ (fault ≡ memory_fault)) }
+{
+    let keys = Keys {
+        depth: 0,
+        entries: &tree.entries,
+    };
+    let mut report = Report::new();
+    judge_file(alloc, keys, &mut report)?;
+    if let Some(fault) = report.first() {
+        return Err(fault);
+    }
+    let rules = read_rules(alloc, keys)?;
+    Ok(Rules { rules })
+}
+
 impl Rules {
     /// Reads the rules of a file, at most 256, in the order of its text.
     ///
     /// Refuses the file by the fault on the least line, and on one line by that of the least kind:
     /// see `RulesFault`. `Memory` may come at any file.
-    #[tactic(auto, unfolding(crate::specs::RuleFile::rules_in))]
     pub fn read(alloc: Global, tree: &InfoTree) -> Result<Rules, RulesFault>
-        ensures { MatchResult result (λ rules. rules_in tree.now ≡ Ok rules)
+        ensures exact { MatchResult result (λ rules. rules_in tree.now ≡ Ok rules)
             (λ fault. (rules_in tree.now ≡ Err fault) ⊎ (fault ≡ memory_fault)) }
+        // At most 256, no two of which have one id.
+        ensures limits { IfOk result AreWithinLimits }
     {
-        let keys = Keys {
-            depth: 0,
-            entries: &tree.entries,
-        };
-        let mut report = Report::new();
-        judge_file(alloc, keys, &mut report)?;
-        if let Some(fault) = report.first() {
-            return Err(fault);
-        }
-        let rules = read_rules(alloc, keys)?;
-        Ok(Rules { rules })
+        read_file(alloc, tree)
     }
 }
 

@@ -1,7 +1,7 @@
 //! Which texts are rule files, and which faults the others have.
 
-use crate::rows::{assert_right, first_wrong, typed};
-use info_rules::{InfoTree, Rules, RulesFault, RulesFaultKind};
+use crate::rows::{assert_right, check_rows, first_wrong, typed};
+use info_rules::{InfoTree, Reason, Rules, RulesFault, RulesFaultKind};
 use std::alloc::Global;
 
 /// The rules of a text.
@@ -356,4 +356,77 @@ fn is_read_unless_memory(alloc: Global) -> bool {
 #[test]
 fn rules_with_refused_memory(rt: HostRuntime) {
     assert!(rt; is_read_unless_memory(rt.alloc()));
+}
+
+/// The kind of fault of a name.
+fn fault_of(name: &str) -> Option<RulesFaultKind> {
+    Some(match name {
+        "Syntax" => RulesFaultKind::Syntax,
+        "TooDeep" => RulesFaultKind::TooDeep,
+        "TooLarge" => RulesFaultKind::TooLarge,
+        "UnknownKey" => RulesFaultKind::UnknownKey,
+        "Missing" => RulesFaultKind::Missing,
+        "BadValue" => RulesFaultKind::BadValue,
+        "TwiceNamed" => RulesFaultKind::TwiceNamed,
+        "Pattern" => RulesFaultKind::Pattern,
+        "AnyAnchor" => RulesFaultKind::AnyAnchor,
+        "Memory" => RulesFaultKind::Memory,
+        _ => return None,
+    })
+}
+
+/// The text of a fault of this kind on line 8.
+fn fault_text(alloc: Global, name: &str) -> Option<String> {
+    let kind = fault_of(name)?;
+    let fault = RulesFault { line: 8, kind };
+    format!(in alloc; "{fault}").ok()
+}
+
+const FAULT_TEXTS: &str = "
+Syntax -> line 8: Syntax: unexpected word or brace, or a quote or block that is not closed
+TooDeep -> line 8: TooDeep: blocks nest more than 8 deep
+TooLarge -> line 8: TooLarge: more than 65536 octets, 256 rules, or 16 filters or checkers in a rule
+UnknownKey -> line 8: UnknownKey: this key is not known in this block
+Missing -> line 8: Missing: this block lacks a key that it needs
+BadValue -> line 8: BadValue: wrong or missing value or block, or a key that cannot stand with the others
+TwiceNamed -> line 8: TwiceNamed: this key or id was given before
+Pattern -> line 8: Pattern: not a valid pattern, or not a valid template for its pattern
+AnyAnchor -> line 8: AnyAnchor: a trust anchor of type any would allow packets without a rule
+Memory -> line 8: Memory: out of memory
+";
+
+#[test]
+fn texts_of_faults(rt: HostRuntime) {
+    check_rows(&rt, rt.alloc(), FAULT_TEXTS, fault_text);
+}
+
+/// The text of the reason of a name.
+fn reason_text(alloc: Global, name: &str) -> Option<String> {
+    let reason = match name {
+        "NotSigned" => Reason::NotSigned,
+        "Shape" => Reason::Shape,
+        "SigType" => Reason::SigType,
+        "KeyLocator" => Reason::KeyLocator,
+        "KeyUnknown" => Reason::KeyUnknown,
+        "Tag" => Reason::Tag,
+        "Replay" => Reason::Replay,
+        _ => return None,
+    };
+    format!(in alloc; "{reason}").ok()
+}
+
+const REASON_TEXTS: &str = "
+NotSigned -> NotSigned: the Interest has no signature; sign it, as each command is
+Shape -> Shape: no SignatureTime, or the digest is not last in the name; sign with a time, digest last
+SigType -> SigType: no checker takes this type of signature; sign with the rule's sig-type
+KeyLocator -> KeyLocator: not a key that the rule asks for; sign with one, or widen its key-locator
+KeyUnknown -> KeyUnknown: the key file lacks this key; add its line
+Tag -> Tag: the octets were changed, or the key's differ; compare the key's on both sides
+Replay -> Replay: not newer than an allowed command, or the clocks differ; sign it again now
+";
+
+/// What a denial tells an operator.
+#[test]
+fn texts_of_reasons(rt: HostRuntime) {
+    check_rows(&rt, rt.alloc(), REASON_TEXTS, reason_text);
 }

@@ -1,0 +1,26 @@
+-- Who signed a packet, by what it says itself.
+use Rattle.std.specs.Prelude.{◌≡◌, ◌⊎◌, ℕ, List, Some, IsSome}
+use Rattle.ndn_tlv.specs.Element.{Field}
+use Rattle.hmac_keys.specs.KeyFile.{NamedKey, IsAmong}
+use Rattle.ndn_packets.specs.Packet.{KeyName, PlainSignature, PlainFrame, AnInterest, AData, ANack, Idle}
+
+-- the KeyLocator is the name of a key of the book
+abbrev pub NamesKey : List NamedKey → PlainSignature → Type 0
+NamesKey keys signature =
+    (name : List Field) × (key : List ℕ) × (signature.info.locator ≡ KeyName name)
+    × IsAmong (name, key) keys
+
+-- DigestSha256, which is anybody's, or HmacWithSha256 under a key of the book, which is named (NDN
+-- Packet Format 0.3, "Signature")
+abbrev pub NamesSigner : List NamedKey → PlainSignature → Type 0
+NamesSigner keys signature =
+    (signature.info.kind ≡ 0) ⊎ ((signature.info.kind ≡ 4) × NamesKey keys signature)
+
+-- an Interest also says when it was signed
+abbrev pub NamesItsSigner : List NamedKey → PlainFrame → Type 0
+NamesItsSigner keys (AnInterest whole i) =
+    (signature : PlainSignature) × (i.signature ≡ Some signature) × IsSome signature.info.time
+    × NamesSigner keys signature
+NamesItsSigner keys (AData whole d) = NamesSigner keys d.signature
+NamesItsSigner keys (ANack reason whole i) = ⊥
+NamesItsSigner keys Idle = ⊥
