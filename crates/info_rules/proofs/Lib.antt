@@ -1,14 +1,13 @@
-pub mod AllOf
 pub mod Escapes
 pub mod Firsts
+pub mod FoundParts
+pub mod Gathering
 pub mod Hierarchies
 pub mod KeyNames
 pub mod Least
 pub mod Limits
 pub mod Lists
 pub mod Matches
-pub mod NoFaults
-pub mod NoneDropped
 pub mod OneCheck
 pub mod OneDecision
 pub mod Outcomes

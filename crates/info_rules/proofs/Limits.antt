@@ -6,68 +6,124 @@ use Rattle.std.proofs.lemmas.Bool.Decides.{nat_tests}
 use Rattle.std.proofs.lemmas.Slice.Eq.{bytes_eq-Decides}
 use Rattle.info_rules.specs.declared.fault.RulesFault.{RulesFault}
 use Rattle.info_rules.specs.declared.fault.RulesFaultKind.TheVariants as kinds
+use Rattle.info_rules.specs.declared.table.Block.TheVariants as blocks
 use Rattle.info_rules.specs.Tree.{PlainEntry, Block, blocks_of}
 use Rattle.info_rules.specs.Rule.{PlainRule}
 use Rattle.info_rules.specs.Faults.{after, memory_fault, IsAmong, NoneIsSooner}
-use Rattle.info_rules.specs.Keys.{on_option, first_of, is_word, named, value_of, first_value, fault_at, many_faults}
-use Rattle.info_rules.specs.Values.{◌>>=◌}
-use Rattle.info_rules.specs.ValueWords.{kind_in}
+use Rattle.info_rules.specs.Found.{Found, both, beside, needed, shown, followed, each, AreRead}
+use Rattle.info_rules.specs.Keys.{on_option, is_word, named, value_of, fault_at, many_faults, shape_fault, block_in}
+use Rattle.info_rules.specs.Values.{◌>>=◌, id_in, value_in}
+use Rattle.info_rules.specs.ValueWords.{kind_in, is_id}
+use Rattle.info_rules.specs.Table.{table}
+use Rattle.info_rules.specs.Walk.{unknown_faults, times_faults, walk_faults}
 use Rattle.info_rules.specs.FilterBlock.{filter_in}
 use Rattle.info_rules.specs.CheckerBlock.{checker_in}
-use Rattle.info_rules.specs.RuleBlock.{all_of, rule_of_keys, rule_in}
-use Rattle.info_rules.specs.RuleFile.{id_key, same_id_faults, repeated_faults, id_faults, top_key_faults, file_faults, all_rules, rules_in}
+use Rattle.info_rules.specs.AnchorBlock.{anchor_in}
+use Rattle.info_rules.specs.RuleBlock.{head_in, rule_with, rule_parts, rule_of_keys, rule_in}
+use Rattle.info_rules.specs.RuleFile.{id_key, same_id_faults, repeated_faults, id_faults, shared_faults, rules_of_keys, rules_in}
 use Rattle.info_rules.specs.Limits.{HaveOwnIds, AreWithinLimits}
 use Rattle.info_rules.proofs.Least.{least_of}
-use Rattle.info_rules.proofs.NoFaults.{none_of_both}
+use Rattle.info_rules.proofs.FoundParts.{both_ok, beside_ok, shown_ok, needed_ok, value_ok}
 
--- ---- options in turn
-
--- what a step gave, and what the rest made of it
-then_gave : {A B : Type 0} (o : Option A) (f : A → Option B) (y : B) → (o >>= f) ≡ Some y → (x : A) × (o ≡ Some x) × (f x ≡ Some y)
-then_gave None f y e = absurd cc
-then_gave (Some x) f y e = (x, refl, e)
+none_of_both : (xs ys : List RulesFault) → xs ++ ys ≡ [] → (xs ≡ []) × (ys ≡ [])
+none_of_both [] ys e = (refl, e)
+none_of_both (x ∷ xs) ys e = absurd cc
 
 some_one : {A : Type 0} (x y : A) → Some x ≡ Some y → x ≡ y
 some_one x y e = cc
 
-all_of_length : {A B : Type 0} (f : A → Option B) (xs : List A) (ys : List B) → all_of f xs ≡ Some ys → length ys ≡ length xs
-all_of_length f [] ys e = ap length (sym (some_one [] ys e))
-all_of_length f (x ∷ xs) ys e =
-    let first = then_gave (f x) (λ y. all_of f xs >>= λ others. Some (y ∷ others)) ys e in
-    let rest = then_gave (all_of f xs) (λ others. Some (first.0 ∷ others)) ys first.2 in
-    let len = all_of_length f xs rest.0 rest.1 in
-    ap length (sym (some_one (first.0 ∷ rest.0) ys rest.2)) ∙ ap (λ n. suc n) len
+ok_one : {A : Type 0} (x y : Found A) (a b : A) → x ≡ Ok a → y ≡ Ok b → x ≡ y → a ≡ b
+ok_one x y a b p q e = cc
+
+-- what the first key and the others gave
+head_gave : {A : Type 0} (f : Block → Found A) (key : Block) (keys : List Block) (all : List A) → each f (key ∷ keys) ≡ Ok all
+    → (one : A) × (others : List A) × (f key ≡ Ok one) × (each f keys ≡ Ok others) × (one ∷ others ≡ all)
+unfolding each
+head_gave {A = A} f key keys all e = by_parts (f key) (each f keys) refl refl e
+  where
+    by_parts : (g : Found A) (h : Found (List A)) → f key ≡ g → each f keys ≡ h → followed g h ≡ Ok all → (one : A) × (others : List A) × (f key ≡ Ok one) × (each f keys ≡ Ok others) × (one ∷ others ≡ all)
+    by_parts (Ok a) (Ok others) p q e = let same : a ∷ others ≡ all = cc in (a, others, p, q, same)
+    by_parts (Ok a) (Err d) p q e = absurd cc
+    by_parts (Err d) (Ok others) p q e = absurd cc
+    by_parts (Err d) (Err g) p q e = absurd cc
+
+no_key : {A : Type 0} (f : Block → Found A) (all : List A) → each f [] ≡ Ok all → [] ≡ all
+unfolding each
+no_key f all e = ok_one (each f []) (Ok all) [] all refl refl e
+
+each_length : {A : Type 0} (f : Block → Found A) (keys : List Block) (all : List A) → each f keys ≡ Ok all → length all ≡ length keys
+each_length f [] all e = ap length (sym (no_key f all e))
+each_length f (key ∷ keys) all e =
+    let gave = head_gave f key keys all e in
+    let len = each_length f keys gave.1 gave.3 in
+    ap length (sym gave.4) ∙ ap (λ n. suc n) len
+
+pub all_read : {A : Type 0} (f : Block → Found A) (keys : List Block) (all : List A) → each f keys ≡ Ok all → AreRead f keys all
+all_read f [] all e = subst (AreRead f []) (no_key f all e) tt
+all_read f (key ∷ keys) all e = let gave = head_gave f key keys all e in subst (AreRead f (key ∷ keys)) gave.4 (gave.2, all_read f keys gave.1 gave.3)
 
 -- ---- how many
 
-few_of : (word : List ℕ) (keys : List Block) → many_faults 256 word keys ≡ [] → length (named word keys) ≤ 256
+few_of : (word : List ℕ) (keys : List Block) → many_faults 256 word keys ≡ [] → nat_lt 256 (length (named word keys)) ≡ false
 few_of word keys e = by_test (nat_lt 256 (length (named word keys))) refl e
   where
-    by_test : (t : Bool) → nat_lt 256 (length (named word keys)) ≡ t → cond {A = List RulesFault} t (record { line = 0; kind = kinds.TooLarge } ∷ []) [] ≡ [] → length (named word keys) ≤ 256
+    by_test : (t : Bool) → nat_lt 256 (length (named word keys)) ≡ t → cond {A = List RulesFault} t (record { line = 0; kind = kinds.TooLarge } ∷ []) [] ≡ [] → nat_lt 256 (length (named word keys)) ≡ false
     by_test true is e = absurd cc
-    by_test false is e = grind (arith, nat_tests)
+    by_test false is e = is
+
+at_most : (n : ℕ) → nat_lt 256 n ≡ false → n ≤ 256
+at_most n e = grind (arith, nat_tests)
+
+-- no fault of a file's keys is one of too many rules
+no_more : (keys : List Block) → walk_faults blocks.File keys ≡ [] → many_faults 256 (codes "rule") keys ≡ []
+unfolding walk_faults table times_faults
+no_more keys e =
+    let times = (none_of_both (flat_map (unknown_faults (table blocks.File)) keys) _ e).1 in
+    (none_of_both (many_faults 256 (codes "rule") keys) _ times).0
 
 -- ---- different ids
 
--- a rule's id is the value of the first key `id` of its block
-id_of : (key : Block) (rule : PlainRule) → is_word (codes "rule") key ≡ true → rule_in key ≡ Some rule → (id_key key >>= value_of) ≡ Some rule.id
-unfolding rule_in id_key
-id_of key rule is e =
-    let keys = blocks_of 1 key.1 in
-    let id = then_gave (first_value (codes "id") keys) _ rule e in
-    let word = then_gave (first_value (codes "for") keys) _ rule id.2 in
-    let kind = then_gave (kind_in word.0) _ rule word.2 in
-    let filters = then_gave (all_of filter_in (named (codes "filter") keys)) _ rule kind.2 in
-    let checkers = then_gave (all_of checker_in (named (codes "checker") keys)) _ rule filters.2 in
-    let same : id.0 ≡ rule.id = ap (λ (r : PlainRule). r.id) (some_one _ rule checkers.2) in
-    rw is (by_first (first_of (named (codes "id") keys)) (id.1 ∙ ap Some same))
+in_block : {A : Type 0} (depth : ℕ) (f : ℕ → List Block → Found A) (key : Block) (x : A) → block_in depth f key ≡ Ok x → f key.0.line (blocks_of depth key.1) ≡ Ok x
+in_block depth f key x e = by_block key.0.has_block e
   where
-    by_first : (o : Option Block) → on_option value_of None o ≡ Some rule.id → (o >>= value_of) ≡ Some rule.id
-    by_first None e = e
-    by_first (Some k) e = e
+    by_block : (t : Bool) → cond t (beside (shape_fault key) (f key.0.line (blocks_of depth key.1))) (Err (fault_at kinds.BadValue key)) ≡ Ok x → f key.0.line (blocks_of depth key.1) ≡ Ok x
+    by_block true e = (beside_ok (shape_fault key) _ x e).1
+    by_block false e = absurd cc
+
+is_text : (text id : List ℕ) → id_in text ≡ Some id → text ≡ id
+is_text text id e = by_test (is_id text) e
+  where
+    by_test : (t : Bool) → cond t (Some text) None ≡ Some id → text ≡ id
+    by_test true e = some_one text id e
+    by_test false e = absurd cc
+
+-- the filters and the checkers of a rule
+pub tests_of : (key : Block) (rule : PlainRule) → rule_in key ≡ Ok rule
+    → (each filter_in (named (codes "filter") (blocks_of 1 key.1)) ≡ Ok rule.filters) × (each checker_in (named (codes "checker") (blocks_of 1 key.1)) ≡ Ok rule.checkers)
+unfolding rule_in rule_of_keys rule_parts
+tests_of key rule e =
+    let line = key.0.line in
+    let keys = blocks_of 1 key.1 in
+    let read = shown_ok rule_with (rule_parts line keys) rule (beside_ok (after None (walk_faults blocks.Rule keys)) _ rule (in_block 1 rule_of_keys key rule e)).1 in
+    let parts = both_ok (head_in line keys) (both (each filter_in (named (codes "filter") keys)) (each checker_in (named (codes "checker") keys))) read.0 read.1 in
+    let tests = both_ok (each filter_in (named (codes "filter") keys)) (each checker_in (named (codes "checker") keys)) read.0.1 parts.1 in
+    (tests.0 ∙ ap (λ (r : PlainRule). Ok r.filters) read.2, tests.1 ∙ ap (λ (r : PlainRule). Ok r.checkers) read.2)
+
+-- a rule's id is the value of the first key `id` of its block
+id_of : (key : Block) (rule : PlainRule) → is_word (codes "rule") key ≡ true → rule_in key ≡ Ok rule → (id_key key >>= value_of) ≡ Some rule.id
+unfolding rule_in rule_of_keys rule_parts id_key
+id_of key rule is e =
+    let line = key.0.line in
+    let keys = blocks_of 1 key.1 in
+    let read = shown_ok rule_with (rule_parts line keys) rule (beside_ok (after None (walk_faults blocks.Rule keys)) _ rule (in_block 1 rule_of_keys key rule e)).1 in
+    let parts = both_ok (head_in line keys) (both (each filter_in (named (codes "filter") keys)) (each checker_in (named (codes "checker") keys))) read.0 read.1 in
+    let head = both_ok (needed line (value_in kinds.BadValue id_in (codes "id") keys)) (needed line (value_in kinds.BadValue kind_in (codes "for") keys)) read.0.0 parts.0 in
+    let given = value_ok kinds.BadValue id_in (codes "id") keys read.0.0.0 (needed_ok line (value_in kinds.BadValue id_in (codes "id") keys) read.0.0.0 head.0) in
+    let same : given.text ≡ rule.id = is_text given.text read.0.0.0 given.means ∙ ap (λ (r : PlainRule). r.id) read.2 in
+    rw (is, given.is_first, given.value) (ap Some same)
 
 -- a rule that is not told has another id
-other_id : (id : List ℕ) (key : Block) (rule : PlainRule) → is_word (codes "rule") key ≡ true → rule_in key ≡ Some rule → same_id_faults id key ≡ [] → rule.id ≢ id
+other_id : (id : List ℕ) (key : Block) (rule : PlainRule) → is_word (codes "rule") key ≡ true → rule_in key ≡ Ok rule → same_id_faults id key ≡ [] → rule.id ≢ id
 unfolding same_id_faults
 other_id id key rule is e none same = by_key (id_key key) (id_of key rule is e) none
   where
@@ -81,73 +137,72 @@ other_id id key rule is e none same = by_key (id_key key) (id_of key rule is e) 
     by_key None e none = absurd cc
     by_key (Some later) e none = by_text later (value_of later) e none
 
--- what all of a first key and others gave
-head_gave : (key : Block) (keys : List Block) (rules : List PlainRule) → all_of rule_in (key ∷ keys) ≡ Some rules
-    → (rule : PlainRule) × (others : List PlainRule) × (rule_in key ≡ Some rule) × (all_of rule_in keys ≡ Some others) × (rule ∷ others ≡ rules)
-head_gave key keys rules e =
-    let first = then_gave (rule_in key) (λ y. all_of rule_in keys >>= λ others. Some (y ∷ others)) rules e in
-    let rest = then_gave (all_of rule_in keys) (λ others. Some (first.0 ∷ others)) rules first.2 in
-    (first.0, rest.0, first.1, rest.1, some_one (first.0 ∷ rest.0) rules rest.2)
-
-none_has : (id : List ℕ) (keys : List Block) (rules : List PlainRule) → flat_map (same_id_faults id) keys ≡ [] → all_of rule_in (named (codes "rule") keys) ≡ Some rules
+none_has : (id : List ℕ) (keys : List Block) (rules : List PlainRule) → flat_map (same_id_faults id) keys ≡ [] → each rule_in (named (codes "rule") keys) ≡ Ok rules
     → AllByRecursion (λ (other : PlainRule). other.id ≢ id) rules
-none_has id [] rules none e = subst (AllByRecursion (λ (other : PlainRule). other.id ≢ id)) (some_one [] rules e) tt
+none_has id [] rules none e = subst (AllByRecursion (λ (other : PlainRule). other.id ≢ id)) (no_key rule_in rules e) tt
 none_has id (key ∷ keys) rules none e =
     let parts = none_of_both (same_id_faults id key) (flat_map (same_id_faults id) keys) none in
-    by_test parts.0 (λ (others : List PlainRule) (f : all_of rule_in (named (codes "rule") keys) ≡ Some others). none_has id keys others parts.1 f) (is_word (codes "rule") key) refl e
+    by_test parts.0 (λ (others : List PlainRule) (f : each rule_in (named (codes "rule") keys) ≡ Ok others). none_has id keys others parts.1 f) (is_word (codes "rule") key) refl e
   where
-    by_test : same_id_faults id key ≡ [] → ((others : List PlainRule) → all_of rule_in (named (codes "rule") keys) ≡ Some others → AllByRecursion (λ (other : PlainRule). other.id ≢ id) others) → (t : Bool) → is_word (codes "rule") key ≡ t
-        → all_of rule_in (cond t (key ∷ named (codes "rule") keys) (named (codes "rule") keys)) ≡ Some rules → AllByRecursion (λ (other : PlainRule). other.id ≢ id) rules
+    by_test : same_id_faults id key ≡ [] → ((others : List PlainRule) → each rule_in (named (codes "rule") keys) ≡ Ok others → AllByRecursion (λ (other : PlainRule). other.id ≢ id) others) → (t : Bool) → is_word (codes "rule") key ≡ t
+        → each rule_in (cond t (key ∷ named (codes "rule") keys) (named (codes "rule") keys)) ≡ Ok rules → AllByRecursion (λ (other : PlainRule). other.id ≢ id) rules
     by_test one further false is e = further rules e
     by_test one further true is e =
-        let gave = head_gave key (named (codes "rule") keys) rules e in
+        let gave = head_gave rule_in key (named (codes "rule") keys) rules e in
         subst (AllByRecursion (λ (other : PlainRule). other.id ≢ id)) gave.4 (other_id id key gave.0 is gave.2 one, further gave.1 gave.3)
 
 repeated_none : (key : Block) (keys : List Block) (id : List ℕ) → (id_key key >>= value_of) ≡ Some id → repeated_faults key keys ≡ [] → flat_map (same_id_faults id) keys ≡ []
 unfolding repeated_faults
 repeated_none key keys id e none = rw e at none
 
-own_ids : (keys : List Block) (rules : List PlainRule) → id_faults keys ≡ [] → all_of rule_in (named (codes "rule") keys) ≡ Some rules → HaveOwnIds rules
+own_ids : (keys : List Block) (rules : List PlainRule) → id_faults keys ≡ [] → each rule_in (named (codes "rule") keys) ≡ Ok rules → HaveOwnIds rules
 unfolding id_faults
-own_ids [] rules none e = subst HaveOwnIds (some_one [] rules e) tt
+own_ids [] rules none e = subst HaveOwnIds (no_key rule_in rules e) tt
 own_ids (key ∷ keys) rules none e =
     let parts = none_of_both (repeated_faults key keys) (id_faults keys) none in
-    by_test parts.0 (λ (others : List PlainRule) (f : all_of rule_in (named (codes "rule") keys) ≡ Some others). own_ids keys others parts.1 f) (is_word (codes "rule") key) refl e
+    by_test parts.0 (λ (others : List PlainRule) (f : each rule_in (named (codes "rule") keys) ≡ Ok others). own_ids keys others parts.1 f) (is_word (codes "rule") key) refl e
   where
-    by_test : repeated_faults key keys ≡ [] → ((others : List PlainRule) → all_of rule_in (named (codes "rule") keys) ≡ Some others → HaveOwnIds others) → (t : Bool) → is_word (codes "rule") key ≡ t
-        → all_of rule_in (cond t (key ∷ named (codes "rule") keys) (named (codes "rule") keys)) ≡ Some rules → HaveOwnIds rules
+    by_test : repeated_faults key keys ≡ [] → ((others : List PlainRule) → each rule_in (named (codes "rule") keys) ≡ Ok others → HaveOwnIds others) → (t : Bool) → is_word (codes "rule") key ≡ t
+        → each rule_in (cond t (key ∷ named (codes "rule") keys) (named (codes "rule") keys)) ≡ Ok rules → HaveOwnIds rules
     by_test one further false is e = further rules e
     by_test one further true is e =
-        let gave = head_gave key (named (codes "rule") keys) rules e in
+        let gave = head_gave rule_in key (named (codes "rule") keys) rules e in
         let none_more = repeated_none key keys gave.0.id (id_of key gave.0 is gave.2) one in
         subst HaveOwnIds gave.4 (none_has gave.0.id keys gave.1 none_more gave.3, further gave.1 gave.3)
 
 -- ---- files
 
--- rules are read only of a file without faults
-no_fault : (keys : List Block) (rules : List PlainRule) → on_option Err (on_option Ok (Err memory_fault) (all_rules keys)) (after None (file_faults keys)) ≡ Ok rules
-    → (file_faults keys ≡ []) × (all_rules keys ≡ Some rules)
-no_fault keys rules e = by_fault (after None (file_faults keys)) (least_of (file_faults keys)) e
+no_fault : (faults : List RulesFault) → after None faults ≡ None → faults ≡ []
+no_fault faults e = by_fault (after None faults) (least_of faults) e
   where
-    by_rules : (o : Option (List PlainRule)) → on_option Ok (Err memory_fault) o ≡ Ok rules → o ≡ Some rules
-    by_rules None e = absurd cc
-    by_rules (Some read) e = let same : read ≡ rules = cc in ap Some same
-
-    by_fault : (o : Option RulesFault) → MatchOption o (file_faults keys ≡ []) (λ told. IsAmong told (file_faults keys) × NoneIsSooner told (file_faults keys))
-        → on_option Err (on_option Ok (Err memory_fault) (all_rules keys)) o ≡ Ok rules → (file_faults keys ≡ []) × (all_rules keys ≡ Some rules)
-    by_fault None least e = (least, by_rules (all_rules keys) e)
+    by_fault : (o : Option RulesFault) → MatchOption o (faults ≡ []) (λ told. IsAmong told faults × NoneIsSooner told faults) → o ≡ None → faults ≡ []
+    by_fault None least e = least
     by_fault (Some fault) least e = absurd cc
 
-within : (keys : List Block) (rules : List PlainRule) → file_faults keys ≡ [] → all_rules keys ≡ Some rules → AreWithinLimits rules
-unfolding file_faults all_rules
-within keys rules none e =
-    let both = none_of_both (flat_map top_key_faults keys ++ many_faults 256 (codes "rule") keys) (id_faults keys) none in
-    let few = none_of_both (flat_map top_key_faults keys) (many_faults 256 (codes "rule") keys) both.0 in
-    (omega (arith, few_of (codes "rule") keys few.1, all_of_length rule_in (named (codes "rule") keys) rules e), own_ids keys rules both.1 e)
+-- the rules of keys without a fault
+rules_read : (keys : List Block) (rules : List PlainRule) → rules_of_keys keys ≡ Ok rules → (walk_faults blocks.File keys ++ shared_faults keys ≡ []) × (each rule_in (named (codes "rule") keys) ≡ Ok rules)
+unfolding rules_of_keys
+rules_read keys rules e =
+    let all = beside_ok (after None (walk_faults blocks.File keys ++ shared_faults keys)) (shown (λ read. read.0) (both (each rule_in (named (codes "rule") keys)) (each anchor_in (named (codes "trust-anchor") keys)))) rules e in
+    let read = shown_ok (λ (read : List PlainRule × List (Unit {0})). read.0) (both (each rule_in (named (codes "rule") keys)) (each anchor_in (named (codes "trust-anchor") keys))) rules all.1 in
+    let parts = both_ok (each rule_in (named (codes "rule") keys)) (each anchor_in (named (codes "trust-anchor") keys)) read.0 read.1 in
+    (no_fault _ all.0, parts.0 ∙ ap Ok read.2)
+
+within : (keys : List Block) (rules : List PlainRule) → rules_of_keys keys ≡ Ok rules → AreWithinLimits rules
+within keys rules e =
+    let read = rules_read keys rules e in
+    let none = none_of_both (walk_faults blocks.File keys) (shared_faults keys) read.0 in
+    let few = few_of (codes "rule") keys (no_more keys none.0) in
+    let own : id_faults keys ≡ [] = rw few at none.1 in
+    (omega (arith, at_most (length (named (codes "rule") keys)) few, each_length rule_in (named (codes "rule") keys) rules read.1), own_ids keys rules own read.1)
+
+pub each_rule : (entries : List PlainEntry) (rules : List PlainRule) → rules_in entries ≡ Ok rules → each rule_in (named (codes "rule") (blocks_of 0 entries)) ≡ Ok rules
+unfolding rules_in
+each_rule entries rules e = (rules_read (blocks_of 0 entries) rules e).1
 
 pub within_limits : (entries : List PlainEntry) (rules : List PlainRule) → rules_in entries ≡ Ok rules → AreWithinLimits rules
 unfolding rules_in
-within_limits entries rules e = let read = no_fault (blocks_of 0 entries) rules e in within (blocks_of 0 entries) rules read.0 read.1
+within_limits entries rules e = within (blocks_of 0 entries) rules e
 
 pub read_within : (entries : List PlainEntry) (read : Result (List PlainRule) RulesFault) → MatchResult read (λ rules. rules_in entries ≡ Ok rules) (λ fault. (rules_in entries ≡ Err fault) ⊎ (fault ≡ memory_fault))
     → IfOk read AreWithinLimits

@@ -1,10 +1,8 @@
 -- Allowed packets name their signer.
-use Rattle.std.proofs.Common.{◌≡◌, ℕ, List, refl, subst, inl, inr}
-use Rattle.std.specs.Prelude.{Option, Some, None, ◌⊎◌}
+use Rattle.std.proofs.Common.{◌≡◌, List, refl, subst, inl, inr}
+use Rattle.std.specs.Prelude.{Some, None}
 use Rattle.hmac_keys.specs.KeyFile.{NamedKey}
-use Rattle.ndn_packets.specs.Packet.{PlainLocator, Missing, KeyName, Digest, Other, PlainSignature, PlainFrame, AnInterest, AData, ANack, Idle}
-use Rattle.sha2.specs.Sha256.{sha256}
-use Rattle.ndn_tlv.specs.Element.{Field}
+use Rattle.ndn_packets.specs.Packet.{PlainLocator, Missing, KeyName, Digest, Other, PlainFrame, AnInterest, AData, ANack, Idle}
 use Rattle.info_rules.specs.declared.rule.LocatorTest.{LocatorTest}
 use Rattle.info_rules.specs.declared.rule.Checker.{Checker}
 use Rattle.info_rules.specs.declared.rule.Checker.TheVariants as checkers
@@ -14,7 +12,7 @@ use Rattle.info_rules.specs.declared.decision.Reason.TheVariants as reasons
 use Rattle.info_rules.specs.declared.decision.Decision.TheVariants as decisions
 use Rattle.info_rules.specs.Rule.{PlainRule}
 use Rattle.info_rules.specs.Seen.{PlainSigned}
-use Rattle.info_rules.specs.Checks.{Unless, ChecksTag, ChecksKey, ChecksLocator, Checks}
+use Rattle.info_rules.specs.Checks.{Unless, ChecksKey, ChecksLocator, Checks}
 use Rattle.info_rules.specs.Decides.{Decides}
 use Rattle.info_rules.specs.Signer.{NamesKey, NamesSigner, NamesItsSigner}
 

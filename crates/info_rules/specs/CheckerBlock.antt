@@ -1,90 +1,95 @@
 -- Blocks of checkers.
-use Rattle.std.specs.Prelude.{ℕ, List, [], ◌∷◌, ◌++◌, Option, None, Some, Bool, true, false, not, codes, ◌&&◌, if◌then◌else◌}
-use Rattle.std.specs.List.{flat_map}
-use Rattle.std.specs.Option.{option_map}
-use Rattle.info_rules.specs.declared.fault.RulesFault.{RulesFault}
-use Rattle.info_rules.specs.declared.fault.RulesFaultKind.TheVariants.{UnknownKey}
-use Rattle.info_rules.specs.declared.value_kind.ValueKind.TheVariants as values
+use Rattle.std.specs.Prelude.{ℕ, List, [], Option, None, Some, Ok, Err, Bool, true, false, not, codes, ◌&&◌, ◌||◌, if◌then◌else◌}
+use Rattle.info_rules.specs.declared.fault.RulesFaultKind.TheVariants.{BadValue, Missing}
 use Rattle.info_rules.specs.declared.rule.Checker.{Checker}
 use Rattle.info_rules.specs.declared.rule.Checker.TheVariants as checkers
 use Rattle.info_rules.specs.declared.rule.LocatorTest.{LocatorTest}
 use Rattle.info_rules.specs.declared.rule.LocatorTest.TheVariants as locators
+use Rattle.info_rules.specs.declared.table.Block.{Block as BlockKind}
+use Rattle.info_rules.specs.declared.table.Block.TheVariants as blocks
 use Rattle.info_rules.specs.declared.value_words.CheckerType.{CheckerType}
 use Rattle.info_rules.specs.declared.value_words.CheckerType.TheVariants.{Customized, Hierarchical}
 use Rattle.info_rules.specs.declared.value_words.SignatureType.{SignatureType}
 use Rattle.info_rules.specs.declared.value_words.SignatureType.TheVariants.{HmacSha256, Sha256, Asymmetric}
-use Rattle.info_rules.specs.Tree.{Block, blocks_of}
-use Rattle.info_rules.specs.Keys.{on_option, first_of, is_word, named, first_value, fault_at, twice_faults, missing_faults, once_faults, block_faults}
+use Rattle.info_rules.specs.Tree.{Block}
+use Rattle.info_rules.specs.Faults.{after}
+use Rattle.info_rules.specs.Found.{Found, both, beside, needed, then_made, each}
+use Rattle.info_rules.specs.Keys.{first_of, named, is_there, missing_unless, block_in}
 use Rattle.info_rules.specs.ValueWords.{checker_type_in, signature_type_in}
-use Rattle.info_rules.specs.Values.{◌>>=◌, value_faults}
-use Rattle.info_rules.specs.LocatorBlock.{locator_faults, locator_in}
+use Rattle.info_rules.specs.Values.{value_in}
+use Rattle.info_rules.specs.Walk.{walk_faults}
+use Rattle.info_rules.specs.LocatorBlock.{locator_in}
 
--- the type of a checker, where it is right
-unfoldable pub checker_type_of : List Block → Option CheckerType
-checker_type_of keys = first_value (codes "type") keys >>= checker_type_in
+abbrev pub is_hierarchical : Found (Option CheckerType) → Bool
+is_hierarchical (Ok (Some Hierarchical)) = true
+is_hierarchical (Ok (Some Customized)) = false
+is_hierarchical (Ok None) = false
+is_hierarchical (Err fault) = false
 
--- the word for the type of signatures, where it is right: HMAC with SHA-256, where no key gives it
-unfoldable pub signature_type_of : List Block → Option SignatureType
-signature_type_of keys =
-    on_option (λ key. first_value (codes "sig-type") keys >>= signature_type_in) (Some HmacSha256)
-    (first_of (named (codes "sig-type") keys))
+abbrev pub is_customized : Found (Option CheckerType) → Bool
+is_customized (Ok (Some Customized)) = true
+is_customized (Ok (Some Hierarchical)) = false
+is_customized (Ok None) = false
+is_customized (Err fault) = false
 
-abbrev pub is_hierarchical : Option CheckerType → Bool
-is_hierarchical None = false
-is_hierarchical (Some Customized) = false
-is_hierarchical (Some Hierarchical) = true
+abbrev pub is_digest : Found (Option SignatureType) → Bool
+is_digest (Ok (Some Sha256)) = true
+is_digest (Ok (Some HmacSha256)) = false
+is_digest (Ok (Some Asymmetric)) = false
+is_digest (Ok None) = false
+is_digest (Err fault) = false
+
+-- the keys of a checker: a hierarchical one has no key locator
+abbrev pub block_of : Bool → BlockKind
+block_of hierarchical = if hierarchical then blocks.Hierarchical else blocks.Customized
 
 -- a customized checker has a key locator, but for signatures without a key
-abbrev pub needs_locator : Option CheckerType → Option SignatureType → Bool
-needs_locator None signature_type = false
-needs_locator (Some Hierarchical) signature_type = false
-needs_locator (Some Customized) None = true
-needs_locator (Some Customized) (Some HmacSha256) = true
-needs_locator (Some Customized) (Some Sha256) = false
-needs_locator (Some Customized) (Some Asymmetric) = true
+abbrev pub needs_locator : Found (Option CheckerType) → Found (Option SignatureType) → Bool
+needs_locator type signature = is_customized type && not (is_digest signature)
 
--- a key of a checker; a hierarchical one has no key locator
-unfoldable pub checker_key_faults : Bool → Block → List RulesFault
-checker_key_faults hierarchical key =
-    if is_word (codes "type") key then value_faults values.CheckerType key else (
-    if is_word (codes "sig-type") key then value_faults values.SignatureType key else (
-    if not hierarchical && is_word (codes "key-locator") key then locator_faults key else
-    fault_at UnknownKey key ∷ []))
+abbrev pub has_locator : List Block → Found (Option CheckerType) → Found (Option SignatureType)
+    → Bool
+has_locator keys type signature =
+    not (needs_locator type signature) || is_there (codes "key-locator") keys
 
--- how often the key locator is there; a hierarchical checker has none, whose keys are faults by
--- themselves
-unfoldable pub locator_count_faults : ℕ → List Block → List RulesFault
-locator_count_faults line keys =
-    if is_hierarchical (checker_type_of keys) then [] else
-    twice_faults (codes "key-locator") keys
-    ++ (if needs_locator (checker_type_of keys) (signature_type_of keys)
-    then missing_faults line (codes "key-locator") keys else [])
+abbrev pub locators_of : Bool → List Block → Found (List LocatorTest)
+locators_of hierarchical keys =
+    if hierarchical then Ok [] else each locator_in (named (codes "key-locator") keys)
 
-unfoldable pub checker_block_faults : ℕ → List Block → List RulesFault
-checker_block_faults line keys =
-    flat_map (checker_key_faults (is_hierarchical (checker_type_of keys))) keys
-    ++ once_faults line (codes "type") keys ++ twice_faults
-    (codes "sig-type") keys ++ locator_count_faults line keys
+abbrev pub customized_with : ℕ → Option LocatorTest → Found Checker
+customized_with line None = Err (record { line = line; kind = Missing })
+customized_with line (Some test) = Ok (checkers.HmacSha256 test)
 
--- what is wrong with a `checker`
-unfoldable pub checker_faults : Block → List RulesFault
-checker_faults key = block_faults 2 checker_block_faults key
+-- what is asked of a signature by HMAC with SHA-256
+abbrev pub keyed_with : ℕ → CheckerType → Option LocatorTest → Found Checker
+keyed_with line Hierarchical test = Ok (checkers.HmacSha256 locators.Hierarchical)
+keyed_with line Customized test = customized_with line test
 
--- what these keys of a block ask of a key's name
-abbrev pub locator_by_type : List Block → CheckerType → Option LocatorTest
-locator_by_type keys Hierarchical = Some locators.Hierarchical
-locator_by_type keys Customized = first_of (named (codes "key-locator") keys) >>= locator_in
+-- HMAC with SHA-256 is meant where no type of signature is given
+abbrev pub checker_with : ℕ → CheckerType → Option SignatureType → Option LocatorTest
+    → Found Checker
+checker_with line type None test = keyed_with line type test
+checker_with line type (Some HmacSha256) test = keyed_with line type test
+checker_with line type (Some Sha256) test = Ok checkers.Sha256
+checker_with line type (Some Asymmetric) test = Ok checkers.Unsupported
 
--- what they ask of a signature of this type
-abbrev pub checker_by_type : List Block → SignatureType → Option Checker
-checker_by_type keys Sha256 = Some checkers.Sha256
-checker_by_type keys Asymmetric = Some checkers.Unsupported
-checker_by_type keys HmacSha256 =
-    option_map checkers.HmacSha256 (checker_type_of keys >>= locator_by_type keys)
+abbrev pub checker_made : ℕ → (CheckerType × Option SignatureType) × List LocatorTest
+    → Found Checker
+checker_made line read = checker_with line read.0.0 read.0.1 (first_of read.1)
 
-abbrev pub checker_of_keys : List Block → Option Checker
-checker_of_keys keys = signature_type_of keys >>= checker_by_type keys
+abbrev pub checker_by : ℕ → List Block → Found (Option CheckerType) → Found (Option SignatureType)
+    → Found Checker
+checker_by line keys type signature = beside
+    (after None (walk_faults (block_of (is_hierarchical type)) keys))
+    (beside (missing_unless (has_locator keys type signature) line)
+    (then_made (checker_made line) (both (both (needed line type) signature)
+    (locators_of (is_hierarchical type) keys))))
+
+unfoldable pub checker_of : ℕ → List Block → Found Checker
+checker_of line keys = checker_by line keys
+    (value_in BadValue checker_type_in (codes "type") keys)
+    (value_in BadValue signature_type_in (codes "sig-type") keys)
 
 -- what a `checker` asks of a signature
-unfoldable pub checker_in : Block → Option Checker
-checker_in key = checker_of_keys (blocks_of 2 key.1)
+unfoldable pub checker_in : Block → Found Checker
+checker_in key = block_in 2 checker_of key

@@ -1,20 +1,19 @@
 -- Blocks of filters.
-use Rattle.std.specs.Prelude.{ℕ, List, ◌++◌, Option}
-use Rattle.std.specs.List.{flat_map}
-use Rattle.info_rules.specs.declared.fault.RulesFault.{RulesFault}
+use Rattle.std.specs.Prelude.{ℕ, List, None}
 use Rattle.info_rules.specs.declared.rule.NameTest.{NameTest}
 use Rattle.info_rules.specs.declared.form.Tested.TheVariants.{PacketName}
-use Rattle.info_rules.specs.Tree.{Block, blocks_of}
-use Rattle.info_rules.specs.Keys.{block_faults}
-use Rattle.info_rules.specs.NameTest.{test_key_faults, test_faults, test_in}
+use Rattle.info_rules.specs.declared.table.Block.TheVariants.{Filter}
+use Rattle.info_rules.specs.Tree.{Block}
+use Rattle.info_rules.specs.Faults.{after}
+use Rattle.info_rules.specs.Found.{Found, beside, then_made}
+use Rattle.info_rules.specs.Keys.{block_in}
+use Rattle.info_rules.specs.Walk.{walk_faults}
+use Rattle.info_rules.specs.NameTest.{asked_in, test_of}
 
-unfoldable pub filter_block_faults : ℕ → List Block → List RulesFault
-filter_block_faults line keys = flat_map test_key_faults keys ++ test_faults PacketName line keys
-
--- what is wrong with a `filter`
-unfoldable pub filter_faults : Block → List RulesFault
-filter_faults key = block_faults 2 filter_block_faults key
+unfoldable pub filter_of : ℕ → List Block → Found NameTest
+filter_of line keys = beside (after None (walk_faults Filter keys))
+    (then_made (test_of line) (asked_in PacketName line keys))
 
 -- what a `filter` asks of a packet's name
-unfoldable pub filter_in : Block → Option NameTest
-filter_in key = test_in (blocks_of 2 key.1)
+unfoldable pub filter_in : Block → Found NameTest
+filter_in key = block_in 2 filter_of key

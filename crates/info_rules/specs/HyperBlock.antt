@@ -1,66 +1,85 @@
 -- Blocks of hyper-relations.
-use Rattle.std.specs.Prelude.{Bool, ℕ, List, [], ◌∷◌, ◌++◌, length, Option, Some, codes, if◌then◌else◌}
-use Rattle.std.specs.List.{flat_map}
+use Rattle.std.specs.Prelude.{ℕ, List, length, Option, None, Some, IfSome, Ok, Err, Bool, codes, ◌&&◌, not, ◌||◌}
 use Rattle.name_patterns.specs.Pattern.{PlainPattern}
-use Rattle.name_patterns.specs.Template.{PlainPart}
+use Rattle.name_patterns.specs.Template.{PlainPart, NeedAtMost}
 use Rattle.name_patterns.specs.PatternReading.{pattern_in}
 use Rattle.name_patterns.specs.TemplateReading.{template_in}
-use Rattle.info_rules.specs.declared.fault.RulesFault.{RulesFault}
-use Rattle.info_rules.specs.declared.fault.RulesFaultKind.TheVariants.{UnknownKey}
-use Rattle.info_rules.specs.declared.value_kind.ValueKind.TheVariants.{Relation, Pattern, Template}
+use Rattle.info_rules.specs.declared.fault.RulesFaultKind.TheVariants.{BadValue, Pattern}
+use Rattle.info_rules.specs.declared.rule.Relation.{Relation}
+use Rattle.info_rules.specs.declared.table.Block.TheVariants as blocks
 use Rattle.info_rules.specs.Hyper.{PlainHyper}
-use Rattle.info_rules.specs.Tree.{Block, blocks_of}
-use Rattle.info_rules.specs.Keys.{is_word, first_value, fault_at, number_faults, block_faults}
+use Rattle.info_rules.specs.Tree.{Block}
+use Rattle.info_rules.specs.Faults.{after}
+use Rattle.info_rules.specs.Found.{Found, both, beside, then_made}
+use Rattle.info_rules.specs.Keys.{is_there, missing_unless, block_in}
 use Rattle.info_rules.specs.ValueWords.{relation_in}
-use Rattle.info_rules.specs.Values.{◌>>=◌, ok_of, value_faults, groups_in}
+use Rattle.info_rules.specs.Values.{ok_of, value_in}
+use Rattle.info_rules.specs.Walk.{walk_faults}
 
--- a key of a hyper-relation, by the groups of the key's pattern and of the packet's
-unfoldable pub hyper_key_faults : ℕ → ℕ → Block → List RulesFault
-hyper_key_faults key_groups packet_groups key =
-    if is_word (codes "k-regex") key then value_faults Pattern key else (
-    if is_word (codes "k-expand") key then value_faults (Template key_groups) key else (
-    if is_word (codes "h-relation") key then value_faults Relation key else (
-    if is_word (codes "p-regex") key then value_faults Pattern key else (
-    if is_word (codes "p-expand") key then value_faults (Template packet_groups) key else
-    fault_at UnknownKey key ∷ []))))
+abbrev pub Half : Type 0
+Half = Option PlainPattern × Option (List PlainPart)
 
--- what is wrong in a block, whose keys are needed unless another form stands beside it
-unfoldable pub hyper_block_faults : Bool → ℕ → List Block → List RulesFault
-hyper_block_faults needed line keys =
-    flat_map (hyper_key_faults (groups_in (first_value (codes "k-regex") keys))
-    (groups_in (first_value (codes "p-regex") keys))) keys
-    ++ number_faults needed line (codes "k-regex") keys ++ number_faults needed line
-    (codes "k-expand") keys ++ number_faults needed line (codes "h-relation") keys
-    ++ number_faults needed line (codes "p-regex") keys ++ number_faults needed line
-    (codes "p-expand") keys
+-- the template needs no group that the pattern does not have, where both are there
+abbrev pub HasGroups : Half → Type 0
+HasGroups half =
+    IfSome half.0 (λ pattern. IfSome half.1 (λ template. NeedAtMost (length pattern.groups) template))
 
--- what is wrong with a `hyper-relation`
-unfoldable pub hyper_faults : Bool → Block → List RulesFault
-hyper_faults needed key = block_faults 4 (hyper_block_faults needed) key
+abbrev pub HaveGroups : (Half × Option Relation) × Half → Type 0
+HaveGroups parts = HasGroups parts.0.0 × HasGroups parts.1
+
+-- the groups of a pattern; as many as a pattern can have, where there is none
+abbrev pub groups_of : Found (Option PlainPattern) → ℕ
+groups_of (Ok (Some pattern)) = length pattern.groups
+groups_of (Ok None) = 9
+groups_of (Err fault) = 9
+
+abbrev pub half_with : List ℕ → List Block → Found (Option PlainPattern) → Found Half
+half_with template_word keys pattern =
+    both pattern (value_in Pattern (λ text. ok_of (template_in (groups_of pattern) text)) template_word keys)
 
 -- a pattern, and a template for its groups, by their words
-unfoldable pub half_in : List ℕ → List ℕ → List Block → Option (PlainPattern × List PlainPart)
-half_in pattern_word template_word keys = do
-  text ← first_value pattern_word keys
-  pattern ← ok_of (pattern_in text)
-  parts ← first_value template_word keys
-  template ← ok_of (template_in (length pattern.groups) parts)
-  Some (pattern, template)
+unfoldable pub half_in : List ℕ → List ℕ → List Block → Found Half
+half_in pattern_word template_word keys = half_with template_word keys
+    (value_in Pattern (λ text. ok_of (pattern_in text)) pattern_word keys)
 
--- the hyper-relation that these keys of a block give
-abbrev pub hyper_of_keys : List Block → Option PlainHyper
-hyper_of_keys keys = do
-  key_half ← half_in (codes "k-regex") (codes "k-expand") keys
-  word ← first_value (codes "h-relation") keys
-  relation ← relation_in word
-  packet_half ← half_in (codes "p-regex") (codes "p-expand") keys
-  Some (record {
-    key_pattern = key_half.0;
-    key_template = key_half.1;
-    relation = relation;
-    packet_pattern = packet_half.0;
-    packet_template = packet_half.1;
-  })
+-- all five keys are there
+abbrev pub is_whole : List Block → Bool
+is_whole keys =
+    is_there (codes "k-regex") keys && is_there (codes "k-expand") keys
+    && is_there (codes "h-relation") keys && is_there (codes "p-regex") keys
+    && is_there (codes "p-expand") keys
 
-unfoldable pub hyper_in : Block → Option PlainHyper
-hyper_in key = hyper_of_keys (blocks_of 4 key.1)
+abbrev pub hyper_with : Option PlainPattern → Option (List PlainPart) → Option Relation
+    → Option PlainPattern → Option (List PlainPart) → Option PlainHyper
+hyper_with None b c d e = None
+hyper_with (Some a) None c d e = None
+hyper_with (Some a) (Some b) None d e = None
+hyper_with (Some a) (Some b) (Some c) None e = None
+hyper_with (Some a) (Some b) (Some c) (Some d) None = None
+hyper_with (Some a) (Some b) (Some c) (Some d) (Some e) = Some (record {
+  key_pattern = a;
+  key_template = b;
+  relation = c;
+  packet_pattern = d;
+  packet_template = e;
+})
+
+-- the relation, where its parts are there
+abbrev pub hyper_made : (Half × Option Relation) × Half → Found (Option PlainHyper)
+hyper_made parts = Ok (hyper_with parts.0.0.0 parts.0.0.1 parts.0.1 parts.1.0 parts.1.1)
+
+unfoldable pub parts_in : List Block → Found ((Half × Option Relation) × Half)
+parts_in keys = both
+    (both (half_in (codes "k-regex") (codes "k-expand") keys)
+    (value_in BadValue relation_in (codes "h-relation") keys))
+    (half_in (codes "p-regex") (codes "p-expand") keys)
+
+-- the keys of a block, which are needed unless another form stands beside it
+unfoldable pub hyper_of : Bool → ℕ → List Block → Found (Option PlainHyper)
+hyper_of needed line keys = beside (after None (walk_faults blocks.Hyper keys))
+    (beside (missing_unless (not needed || is_whole keys) line)
+    (then_made hyper_made (parts_in keys)))
+
+-- a `hyper-relation`
+unfoldable pub hyper_in : Bool → Block → Found (Option PlainHyper)
+hyper_in needed key = block_in 4 (hyper_of needed) key

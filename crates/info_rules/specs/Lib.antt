@@ -6,9 +6,12 @@ pub mod TreeGrammar
 pub mod Shown
 pub mod Faults
 pub mod Names
+pub mod Found
 pub mod Keys
 pub mod ValueWords
 pub mod Values
+pub mod Table
+pub mod Walk
 pub mod NameTest
 pub mod FilterBlock
 pub mod HyperBlock

@@ -1,12 +1,13 @@
 -- What the blocks of filters and key locators ask of a name, in one of several forms.
-use Rattle.std.specs.Prelude.{ℕ, List, [], ◌∷◌, ◌++◌, Option, None, Some, Bool, true, false, not, codes, ◌||◌, ◌&&◌, if◌then◌else◌}
+use Rattle.std.specs.Prelude.{ℕ, List, Option, None, Some, Ok, Err, Bool, true, false, not, codes, ◌||◌, ◌&&◌, if◌then◌else◌}
 use Rattle.std.specs.List.{filter_map}
-use Rattle.std.specs.Option.{option_map}
 use Rattle.ndn_names.specs.UriReading.{name_in}
 use Rattle.name_patterns.specs.PatternReading.{pattern_in}
 use Rattle.info_rules.specs.declared.fault.RulesFault.{RulesFault}
-use Rattle.info_rules.specs.declared.fault.RulesFaultKind.TheVariants.{UnknownKey, Missing, BadValue}
-use Rattle.info_rules.specs.declared.value_kind.ValueKind.TheVariants.{NameWord, Uri, Relation, Pattern}
+use Rattle.info_rules.specs.declared.fault.RulesFaultKind.TheVariants.{Missing, BadValue, Pattern}
+use Rattle.ndn_tlv.specs.Element.{Field}
+use Rattle.name_patterns.specs.Pattern.{PlainPattern}
+use Rattle.info_rules.specs.declared.rule.Relation.{Relation}
 use Rattle.info_rules.specs.declared.rule.NameTest.{NameTest}
 use Rattle.info_rules.specs.declared.rule.NameTest.TheVariants.{Related, Matching}
 use Rattle.info_rules.specs.declared.form.Form.{Form}
@@ -14,9 +15,10 @@ use Rattle.info_rules.specs.declared.form.Form.TheVariants as forms
 use Rattle.info_rules.specs.declared.form.Tested.{Tested}
 use Rattle.info_rules.specs.declared.form.Tested.TheVariants.{PacketName, KeyName}
 use Rattle.info_rules.specs.Tree.{Block}
-use Rattle.info_rules.specs.Keys.{on_option, first_of, is_word, first_value, fault_at, twice_faults, missing_faults, once_faults}
+use Rattle.info_rules.specs.Found.{Found, both, beside, needed, shown}
+use Rattle.info_rules.specs.Keys.{on_option, first_of, is_word, is_there, missing_unless}
 use Rattle.info_rules.specs.ValueWords.{relation_in}
-use Rattle.info_rules.specs.Values.{◌>>=◌, ok_of, value_faults}
+use Rattle.info_rules.specs.Values.{ok_of, value_in, name_word_in}
 
 -- a filter tests a packet's name, a key locator a key's
 abbrev pub tests_key : Tested → Bool
@@ -57,54 +59,49 @@ abbrev pub first_other : Tested → Option Form → List Block → Option (Form 
 first_other tested other keys = first_of (filter_map (other_form_of tested other) keys)
 
 -- a name needs a relation, and a relation a name
-abbrev pub half_faults : ℕ → List Block → Form → List RulesFault
-half_faults line keys forms.Related =
-    missing_faults line (codes "name") keys ++ missing_faults line (codes "relation") keys
-half_faults line keys forms.Matching = []
-half_faults line keys forms.Hyper = []
+abbrev pub half_fault : ℕ → List Block → Form → Option RulesFault
+half_fault line keys forms.Related =
+    missing_unless (is_there (codes "name") keys && is_there (codes "relation") keys) line
+half_fault line keys forms.Matching = None
+half_fault line keys forms.Hyper = None
 
 -- a key of a second form, or else what the form lacks
-abbrev pub second_faults : Tested → ℕ → List Block → Form → List RulesFault
-second_faults tested line keys form =
-    on_option (λ second. record { line = second.1; kind = BadValue } ∷ [])
-    (half_faults line keys form) (first_other tested (Some form) keys)
+abbrev pub second_fault : Tested → ℕ → List Block → Form → Option RulesFault
+second_fault tested line keys form =
+    on_option (λ second. Some (record { line = second.1; kind = BadValue }))
+    (half_fault line keys form) (first_other tested (Some form) keys)
 
 -- what is wrong with the forms in the block of a key on this line: one is needed
-unfoldable pub form_faults : Tested → ℕ → List Block → List RulesFault
-form_faults tested line keys =
-    on_option (λ first. second_faults tested line keys first.0)
-    (record { line = line; kind = Missing } ∷ []) (first_other tested None keys)
-
--- a key of a filter
-unfoldable pub test_key_faults : Block → List RulesFault
-test_key_faults key =
-    if is_word (codes "type") key then value_faults NameWord key else (
-    if is_word (codes "name") key then value_faults Uri key else (
-    if is_word (codes "relation") key then value_faults Relation key else (
-    if is_word (codes "regex") key then value_faults Pattern key else
-    fault_at UnknownKey key ∷ [])))
-
--- keys that stand together as they may not
-unfoldable pub test_faults : Tested → ℕ → List Block → List RulesFault
-test_faults tested line keys =
-    once_faults line (codes "type") keys ++ twice_faults (codes "name") keys ++ twice_faults
-    (codes "relation") keys ++ twice_faults (codes "regex") keys
-    ++ form_faults tested line keys
+unfoldable pub form_fault : Tested → ℕ → List Block → Option RulesFault
+form_fault tested line keys = on_option (λ first. second_fault tested line keys first.0)
+    (Some (record { line = line; kind = Missing })) (first_other tested None keys)
 
 -- ---- the meaning
 
-abbrev pub matching_in : List ℕ → Option NameTest
-matching_in text = option_map Matching (ok_of (pattern_in text))
+abbrev pub Names : Type 0
+Names = (Option (List Field) × Option Relation) × Option PlainPattern
 
--- a name, and how it stands to the other
-abbrev pub related_in : List Block → Option NameTest
-related_in keys = do
-  word ← first_value (codes "relation") keys
-  relation ← relation_in word
-  uri ← first_value (codes "name") keys
-  name ← ok_of (name_in uri)
-  Some (Related relation name)
+-- a name, a relation and a pattern, so far as they are there
+unfoldable pub names_in : List Block → Found Names
+names_in keys = both
+    (both (value_in BadValue (λ text. ok_of (name_in text)) (codes "name") keys)
+    (value_in BadValue relation_in (codes "relation") keys))
+    (value_in Pattern (λ text. ok_of (pattern_in text)) (codes "regex") keys)
 
--- what a block without faults asks of a name
-unfoldable pub test_in : List Block → Option NameTest
-test_in keys = on_option matching_in (related_in keys) (first_value (codes "regex") keys)
+-- what is asked of a name, in one form
+unfoldable pub asked_in : Tested → ℕ → List Block → Found Names
+asked_in tested line keys = beside (form_fault tested line keys) (shown (λ read. read.1) (both
+    (needed line (value_in BadValue name_word_in (codes "type") keys)) (names_in keys)))
+
+abbrev pub related_of : ℕ → Option (List Field) → Option Relation → Found NameTest
+related_of line (Some name) (Some relation) = Ok (Related relation name)
+related_of line (Some name) None = Err (record { line = line; kind = Missing })
+related_of line None relation = Err (record { line = line; kind = Missing })
+
+abbrev pub test_with : ℕ → Option (List Field) × Option Relation → Option PlainPattern
+    → Found NameTest
+test_with line related (Some pattern) = Ok (Matching pattern)
+test_with line related None = related_of line related.0 related.1
+
+abbrev pub test_of : ℕ → Names → Found NameTest
+test_of line names = test_with line names.0 names.1

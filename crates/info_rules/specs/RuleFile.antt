@@ -1,15 +1,18 @@
 -- Rule files: their faults, and their rules.
-use Rattle.std.specs.Prelude.{ℕ, List, [], ◌∷◌, ◌++◌, Option, None, Result, Ok, Err, bytes_eq, codes, if◌then◌else◌}
+use Rattle.std.specs.Prelude.{ℕ, List, [], ◌∷◌, ◌++◌, length, Option, None, nat_lt, bytes_eq, codes, if◌then◌else◌}
 use Rattle.std.specs.List.{flat_map}
 use Rattle.info_rules.specs.declared.fault.RulesFault.{RulesFault}
-use Rattle.info_rules.specs.declared.fault.RulesFaultKind.TheVariants.{UnknownKey, TwiceNamed}
+use Rattle.info_rules.specs.declared.fault.RulesFaultKind.TheVariants.{TwiceNamed}
+use Rattle.info_rules.specs.declared.table.Block.TheVariants.{File}
 use Rattle.info_rules.specs.Tree.{PlainEntry, Block, blocks_of}
 use Rattle.info_rules.specs.Rule.{PlainRule}
-use Rattle.info_rules.specs.Faults.{after, memory_fault}
-use Rattle.info_rules.specs.Keys.{on_option, first_of, is_word, named, value_of, fault_at, many_faults}
+use Rattle.info_rules.specs.Faults.{after}
+use Rattle.info_rules.specs.Found.{Found, both, beside, shown, each}
+use Rattle.info_rules.specs.Keys.{on_option, first_of, is_word, named, value_of, fault_at}
 use Rattle.info_rules.specs.Values.{◌>>=◌}
-use Rattle.info_rules.specs.AnchorBlock.{anchor_faults}
-use Rattle.info_rules.specs.RuleBlock.{rule_faults, all_of, rule_in}
+use Rattle.info_rules.specs.Walk.{walk_faults}
+use Rattle.info_rules.specs.AnchorBlock.{anchor_in}
+use Rattle.info_rules.specs.RuleBlock.{rule_in}
 
 -- ---- ids that rules share
 
@@ -35,26 +38,18 @@ unfoldable pub id_faults : List Block → List RulesFault
 id_faults [] = []
 id_faults (key ∷ keys) = repeated_faults key keys ++ id_faults keys
 
+-- more than 256 rules are a fault in front of any of these
+abbrev pub shared_faults : List Block → List RulesFault
+shared_faults keys = if nat_lt 256 (length (named (codes "rule") keys)) then [] else id_faults keys
+
 -- ---- the file
 
--- a key in no block
-unfoldable pub top_key_faults : Block → List RulesFault
-top_key_faults key =
-    if is_word (codes "rule") key then rule_faults key else (
-    if is_word (codes "trust-anchor") key then anchor_faults key else
-    fault_at UnknownKey key ∷ [])
-
--- all that is wrong with a file, by its keys that are in no block
-unfoldable pub file_faults : List Block → List RulesFault
-file_faults keys =
-    flat_map top_key_faults keys ++ many_faults 256 (codes "rule") keys ++ id_faults keys
-
--- the rules that these keys give, one for each `rule`
-unfoldable pub all_rules : List Block → Option (List PlainRule)
-all_rules keys = all_of rule_in (named (codes "rule") keys)
+-- the rules of these keys, one for each `rule`
+unfoldable pub rules_of_keys : List Block → Found (List PlainRule)
+rules_of_keys keys = beside (after None (walk_faults File keys ++ shared_faults keys))
+    (shown (λ read. read.0) (both (each rule_in (named (codes "rule") keys))
+    (each anchor_in (named (codes "trust-anchor") keys))))
 
 -- the rules of a file, or the fault to report
-unfoldable pub rules_in : List PlainEntry → Result (List PlainRule) RulesFault
-rules_in entries =
-    on_option Err (on_option Ok (Err memory_fault) (all_rules (blocks_of 0 entries)))
-    (after None (file_faults (blocks_of 0 entries)))
+unfoldable pub rules_in : List PlainEntry → Found (List PlainRule)
+rules_in entries = rules_of_keys (blocks_of 0 entries)

@@ -9,6 +9,8 @@ use Rattle.info_rules.specs.Tree.{PlainEntry, Block, blocks_of}
 use Rattle.info_rules.specs.Words.{Token, Word, Open, Close, Broken}
 use Rattle.info_rules.specs.TreeReading.{PlainDraft}
 use Rattle.info_rules.specs.Rule.{PlainRule}
+use Rattle.info_rules.specs.declared.table.Form.{Form}
+use Rattle.info_rules.specs.Table.{PlainForm}
 use Rattle.info_rules.specs.declared.keys.Key.{Key}
 use Rattle.info_rules.specs.declared.keys.Keys.{Keys}
 use Rattle.info_rules.specs.declared.packet.Packet.{Packet}
@@ -57,6 +59,9 @@ key_of key = (entry_of key.own.now, map entry_of key.inner.now)
 
 abbrev pub keys_of : Keys → List Block
 keys_of keys = blocks_of keys.depth (map entry_of keys.entries.now)
+
+abbrev pub form_of : Form → PlainForm
+form_of form = record { word = form.0.now; takes = form.1; times = form.2 }
 
 abbrev pub frame_of : Packet → PlainFrame
 frame_of (packets.Interest i) = AnInterest i.now.whole.now (plain_interest i.now)

@@ -1,17 +1,14 @@
 -- What the values of keys have to be.
-use Rattle.std.specs.Prelude.{ℕ, List, [], ◌∷◌, length, Option, None, Some, is_some, Result, Ok, Err, Bool, true, false, bytes_eq, codes, if◌then◌else◌}
+use Rattle.std.specs.Prelude.{ℕ, List, Option, None, Some, is_some, Result, Ok, Err, Bool, true, bytes_eq, codes, ◌||◌, if◌then◌else◌}
 use Rattle.ndn_names.specs.UriReading.{name_in}
-use Rattle.name_patterns.specs.PatternReading.{pattern_in}
-use Rattle.name_patterns.specs.TemplateReading.{template_in}
-use Rattle.info_rules.specs.declared.fault.RulesFault.{RulesFault}
 use Rattle.info_rules.specs.declared.fault.RulesFaultKind.{RulesFaultKind}
 use Rattle.info_rules.specs.declared.fault.RulesFaultKind.TheVariants.{BadValue, AnyAnchor}
-use Rattle.info_rules.specs.declared.fault.RulesFaultKind.TheVariants as kinds
 use Rattle.info_rules.specs.declared.value_kind.ValueKind.{ValueKind}
 use Rattle.info_rules.specs.declared.value_kind.ValueKind.TheVariants.{Id, PacketKind, NameWord, Uri, Relation, Pattern, Template, CheckerType, SignatureType, AnchorType}
 use Rattle.info_rules.specs.Tree.{Block}
-use Rattle.info_rules.specs.Keys.{on_option, fault_at, value_of}
+use Rattle.info_rules.specs.Keys.{on_option, first_of, named, value_of}
 use Rattle.info_rules.specs.ValueWords.{is_id, kind_in, relation_in, checker_type_in, signature_type_in, is_anchor_type}
+use Rattle.info_rules.specs.Found.{Found}
 
 abbrev pub ok_of : {A E : Type 0} → Result A E → Option A
 ok_of (Ok x) = Some x
@@ -22,33 +19,53 @@ abbrev pub ◌>>=◌ : {A B : Type 0} → Option A → (A → Option B) → Opti
 None >>= f = None
 (Some x) >>= f = f x
 
-abbrev pub unless : RulesFaultKind → Bool → Option RulesFaultKind
-unless kind true = None
-unless kind false = Some kind
+-- the text is a value of this kind, so far as that is a bad value where it is not
+unfoldable pub is_value : ValueKind → List ℕ → Bool
+is_value Id text = is_id text
+is_value PacketKind text = is_some (kind_in text)
+is_value NameWord text = bytes_eq text (codes "name")
+is_value Uri text = is_some (ok_of (name_in text))
+is_value Relation text = is_some (relation_in text)
+is_value Pattern text = true
+is_value Template text = true
+is_value CheckerType text = is_some (checker_type_in text)
+is_value SignatureType text = is_some (signature_type_in text)
+is_value AnchorType text = bytes_eq text (codes "any") || is_anchor_type text
 
--- what is wrong with a text as a value of this kind, if anything is
-unfoldable pub text_fault : ValueKind → List ℕ → Option RulesFaultKind
-text_fault Id text = unless BadValue (is_id text)
-text_fault PacketKind text = unless BadValue (is_some (kind_in text))
-text_fault NameWord text = unless BadValue (bytes_eq text (codes "name"))
-text_fault Uri text = unless BadValue (is_some (ok_of (name_in text)))
-text_fault Relation text = unless BadValue (is_some (relation_in text))
-text_fault Pattern text = unless kinds.Pattern (is_some (ok_of (pattern_in text)))
-text_fault (Template groups) text = unless kinds.Pattern (is_some (ok_of (template_in groups text)))
-text_fault CheckerType text = unless BadValue (is_some (checker_type_in text))
-text_fault SignatureType text = unless BadValue (is_some (signature_type_in text))
-text_fault AnchorType text =
-    if bytes_eq text (codes "any") then Some AnyAnchor else unless BadValue (is_anchor_type text)
+-- a value that is read, or this fault on this line
+abbrev pub read_at : {A : Type 0} → RulesFaultKind → ℕ → Option A → Found (Option A)
+read_at kind line None = Err (record { line = line; kind = kind })
+read_at kind line (Some value) = Ok (Some value)
 
--- what is wrong with a key that needs a value of this kind
-abbrev pub value_fault : ValueKind → Block → Option RulesFaultKind
-value_fault value_kind key = on_option (text_fault value_kind) (Some BadValue) (value_of key)
+-- the value of a key
+abbrev pub given_in : {A : Type 0} → RulesFaultKind → (List ℕ → Option A) → ℕ → Option (List ℕ)
+    → Found (Option A)
+given_in kind read line None = Err (record { line = line; kind = BadValue })
+given_in kind read line (Some text) = read_at kind line (read text)
 
-unfoldable pub value_faults : ValueKind → Block → List RulesFault
-value_faults value_kind key =
-    on_option (λ kind. fault_at kind key ∷ []) [] (value_fault value_kind key)
+-- the value of the first key of this word, if there is one
+unfoldable pub value_in : {A : Type 0} → RulesFaultKind → (List ℕ → Option A) → List ℕ → List Block
+    → Found (Option A)
+value_in kind read word keys = on_option (λ key. given_in kind read key.0.line (value_of key))
+    (Ok None) (first_of (named word keys))
 
--- the groups of the pattern that a text spells, where it spells one; else as many as a pattern can
--- have
-unfoldable pub groups_in : Option (List ℕ) → ℕ
-groups_in text = on_option (λ pattern. length pattern.groups) 9 (text >>= λ t. ok_of (pattern_in t))
+abbrev pub id_in : List ℕ → Option (List ℕ)
+id_in text = if is_id text then Some text else None
+
+-- the word `name`
+abbrev pub name_word_in : List ℕ → Option (Unit {0})
+name_word_in text = if bytes_eq text (codes "name") then Some tt else None
+
+-- the type of a trust anchor, which may be anything but `any`
+abbrev pub anchor_type_in : ℕ → List ℕ → Found (Option (Unit {0}))
+anchor_type_in line text =
+    if bytes_eq text (codes "any") then Err (record { line = line; kind = AnyAnchor }) else (
+    if is_anchor_type text then Ok (Some tt) else Err (record { line = line; kind = BadValue }))
+
+abbrev pub anchor_given_in : ℕ → Option (List ℕ) → Found (Option (Unit {0}))
+anchor_given_in line None = Err (record { line = line; kind = BadValue })
+anchor_given_in line (Some text) = anchor_type_in line text
+
+unfoldable pub anchor_value_in : List Block → Found (Option (Unit {0}))
+anchor_value_in keys = on_option (λ key. anchor_given_in key.0.line (value_of key)) (Ok None)
+    (first_of (named (codes "type") keys))

@@ -1,75 +1,55 @@
-//! Blocks of trust anchors, of which only the type is checked.
+//! Blocks of trust anchors, of which only the type is looked at.
 
-ghost use Rattle.std.specs.Prelude.{◌≡◌, Some, MatchResult};
-ghost use Rattle.std.specs.List.{flat_map};
+ghost use Rattle.std.specs.Prelude.{◌≡◌, IfOk, codes};
+ghost use Rattle.info_rules.specs.Found.{each, shown};
+ghost use Rattle.info_rules.specs.Keys.{named};
 ghost use Rattle.info_rules.specs.Shown.{key_of, keys_of};
-ghost use Rattle.info_rules.specs.Faults.{after, memory_fault};
-ghost use Rattle.info_rules.specs.AnchorBlock.{anchor_key_faults, anchor_block_faults, anchor_faults};
+ghost use Rattle.info_rules.specs.AnchorBlock.{anchor_of, anchor_in};
 
-use crate::fault::RulesFault;
+use crate::fault::RulesFaultKind;
+use crate::found::{Read, add, beside, gathered, needed};
 use crate::keys::{Key, Keys};
-use crate::report::Report;
-use crate::value_kind::{ValueKind, judge_value};
+use crate::readers::read_anchor_type;
+use crate::table::Block;
+use crate::walk::walk;
 use std::alloc::Global;
 
 /// How many blocks the keys of a trust anchor are in.
 const DEPTH: usize = 1;
 
-/// Notes what is wrong with a key of a trust anchor. Only memory is refused.
-#[tactic(auto, using(crate::proofs::Reports::after_none), unfolding(crate::specs::AnchorBlock::anchor_key_faults))]
-fn judge_key(alloc: Global, key: Key<'_>, report: &mut Report) -> Result<(), RulesFault>
-    ensures { MatchResult result
-        (λ _. report.new ≡ after report.old (anchor_key_faults (key_of key.entry)))
-        (λ fault. fault ≡ memory_fault) }
+#[tactic(auto, unfolding(crate::specs::AnchorBlock::anchor_of))]
+fn read_keys(alloc: Global, line: u32, keys: Keys<'_>) -> Read<()>
+    ensures { IfOk result (λ found. found ≡ anchor_of line (keys_of keys.entry)) }
 {
-    if key.is("type") {
-        return judge_value(alloc, ValueKind::AnchorType, key, report);
-    }
-    Ok(())
+    let fault = walk(alloc, Block::Anchor, keys)?.first();
+    Ok(beside(fault, needed(line, read_anchor_type(keys))))
 }
 
-/// Notes what is wrong with each key of a trust anchor. Only memory is refused.
-#[tactic(auto, using(crate::proofs::Reports::after_first, crate::proofs::Reports::after_no))]
-fn judge_keys(alloc: Global, keys: Keys<'_>, report: &mut Report) -> Result<(), RulesFault>
-    ensures { MatchResult result
-        (λ _. report.new ≡ after report.old (flat_map anchor_key_faults (keys_of keys.entry)))
-        (λ fault. fault ≡ memory_fault) }
+/// A trust anchor.
+#[tactic(auto, unfolding(crate::specs::AnchorBlock::anchor_in))]
+fn read_anchor(alloc: Global, key: Key<'_>) -> Read<()>
+    ensures { IfOk result (λ found. found ≡ anchor_in (key_of key.entry)) }
 {
+    if !key.has_block() {
+        return Ok(Err(key.fault(RulesFaultKind::BadValue)));
+    }
+    let anchor = read_keys(alloc, key.line(), key.keys(DEPTH))?;
+    Ok(beside(key.shape_fault(), anchor))
+}
+
+/// Each trust anchor.
+pub fn read_anchors(alloc: Global, keys: Keys<'_>) -> Read<Vec<()>>
+    ensures { IfOk result (λ found. shown (λ all. all.items) found
+        ≡ each anchor_in (named (codes "trust-anchor") (keys_of keys.entry))) }
+{
+    let mut all = Vec::new(alloc);
+    let mut fault = None;
     let mut left = keys;
     while let Some((key, others)) = left.split_first() {
-        judge_key(alloc, key, report)?;
+        if key.is("trust-anchor") {
+            add(&mut all, &mut fault, read_anchor(alloc, key)?)?;
+        }
         left = others;
     }
-    Ok(())
-}
-
-/// Notes what is wrong in the block of a trust anchor on this line. Only memory is refused.
-#[tactic(auto, using(crate::proofs::Reports::after_append, crate::proofs::Reports::after_none), unfolding(crate::specs::AnchorBlock::anchor_block_faults))]
-fn judge_block(
-    alloc: Global,
-    line: u32,
-    keys: Keys<'_>,
-    report: &mut Report,
-) -> Result<(), RulesFault>
-    ensures { MatchResult result
-        (λ _. report.new ≡ after report.old (anchor_block_faults line (keys_of keys.entry)))
-        (λ fault. fault ≡ memory_fault) }
-{
-    judge_keys(alloc, keys, report)?;
-    keys.judge_once(line, "type", report);
-    Ok(())
-}
-
-/// Notes what is wrong with a trust anchor. Only memory is refused.
-#[tactic(auto, using(crate::proofs::Reports::after_append, crate::proofs::Reports::after_none), unfolding(crate::specs::AnchorBlock::anchor_faults))]
-pub fn judge_anchor(alloc: Global, key: Key<'_>, report: &mut Report) -> Result<(), RulesFault>
-    ensures { MatchResult result
-        (λ _. report.new ≡ after report.old (anchor_faults (key_of key.entry)))
-        (λ fault. fault ≡ memory_fault) }
-{
-    key.judge_shape(report);
-    if key.has_block() {
-        return judge_block(alloc, key.line(), key.keys(DEPTH), report);
-    }
-    Ok(())
+    Ok(gathered(all, fault))
 }

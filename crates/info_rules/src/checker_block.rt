@@ -1,210 +1,179 @@
 //! Blocks of checkers.
 
-ghost use Rattle.std.specs.Prelude.{◌≡◌, Some, MatchResult};
-ghost use Rattle.std.specs.List.{flat_map};
+ghost use Rattle.std.specs.Prelude.{◌≡◌, IfOk, codes};
+ghost use Rattle.info_rules.specs.Found.{each, shown, then_made, both as spec_both};
+ghost use Rattle.info_rules.specs.Keys.{first_of, named};
 ghost use Rattle.info_rules.specs.Shown.{key_of, keys_of};
-ghost use Rattle.info_rules.specs.Faults.{after, memory_fault};
-ghost use Rattle.std.specs.Prelude.{[], codes, if◌then◌else◌};
-ghost use Rattle.info_rules.specs.Keys.{missing_faults};
-ghost use Rattle.info_rules.specs.CheckerBlock.{checker_type_of, signature_type_of, is_hierarchical, needs_locator, checker_key_faults, locator_count_faults, checker_block_faults, checker_faults, locator_by_type, checker_by_type, checker_of_keys, checker_in};
+ghost use Rattle.info_rules.specs.CheckerBlock as spec;
+ghost use Rattle.info_rules.specs.CheckerBlock.{block_of, locators_of, checker_of, checker_in};
 
-use crate::fault::{MEMORY, RulesFault, RulesFaultKind};
+use crate::fault::RulesFaultKind;
+use crate::found::{Found, Read, add, beside, both, gathered, missing_unless, needed};
 use crate::keys::{Key, Keys};
-use crate::locator_block::{judge_locator, read_locator};
-use crate::report::Report;
+use crate::locator_block::read_locators;
+use crate::readers::{read_checker_type, read_signature_type};
 use crate::rule::{Checker, LocatorTest};
-use crate::value_kind::{ValueKind, judge_value};
-use crate::value_words::{self, CheckerType, SignatureType};
+use crate::table::Block;
+use crate::value_words::{CheckerType, SignatureType};
+use crate::walk::walk;
 use std::alloc::Global;
 
 /// How many blocks the keys of a checker are in.
 const DEPTH: usize = 2;
 
-/// The type of a checker, where it is right.
-#[tactic(auto, unfolding(crate::specs::CheckerBlock::checker_type_of))]
-fn checker_type_of(keys: Keys<'_>) -> Option<CheckerType>
-    ensures { result ≡ checker_type_of (keys_of keys.entry) }
-{
-    value_words::checker_type_of(keys.first_value("type")?)
-}
+/// What a block gives as the type of a checker.
+type FoundType = Found<Option<CheckerType>>;
 
-/// The type of signatures that a checker takes, where it is right.
-#[tactic(auto, unfolding(crate::specs::CheckerBlock::signature_type_of))]
-fn signature_type_of(keys: Keys<'_>) -> Option<SignatureType>
-    ensures { result ≡ signature_type_of (keys_of keys.entry) }
-{
-    if keys.first_named("sig-type").is_none() {
-        return Some(SignatureType::HmacSha256);
-    }
-    value_words::signature_type_of(keys.first_value("sig-type")?)
-}
+/// What a block gives as the type of the signatures that a checker takes.
+type FoundSignature = Found<Option<SignatureType>>;
 
-/// Whether a checker of this type has no key locator.
-fn is_hierarchical(checker_type: Option<CheckerType>) -> bool
-    ensures { result ≡ is_hierarchical checker_type }
+fn is_hierarchical(checker_type: FoundType) -> bool
+    ensures { result ≡ spec.is_hierarchical checker_type }
 {
-    matches!(checker_type, Some(CheckerType::Hierarchical))
+    matches!(checker_type, Ok(Some(CheckerType::Hierarchical)))
 }
 
 /// Whether a checker of these types needs a key locator.
-fn needs_locator(checker_type: Option<CheckerType>, signature_type: Option<SignatureType>) -> bool
-    ensures { result ≡ needs_locator checker_type signature_type }
+fn needs_locator(checker_type: FoundType, signature: FoundSignature) -> bool
+    ensures { result ≡ spec.needs_locator checker_type signature }
 {
-    matches!(checker_type, Some(CheckerType::Customized))
-        && !matches!(signature_type, Some(SignatureType::Sha256))
+    matches!(checker_type, Ok(Some(CheckerType::Customized)))
+        && !matches!(signature, Ok(Some(SignatureType::Sha256)))
 }
 
-/// Notes what is wrong with a key of a checker. Only memory is refused.
-#[tactic(auto, unfolding(crate::specs::CheckerBlock::checker_key_faults))]
-fn judge_key(
-    alloc: Global,
-    hierarchical: bool,
-    key: Key<'_>,
-    report: &mut Report,
-) -> Result<(), RulesFault>
-    ensures { MatchResult result
-        (λ _. report.new ≡ after report.old (checker_key_faults hierarchical (key_of key.entry)))
-        (λ fault. fault ≡ memory_fault) }
+/// What a checker of this type asks of a signature by HMAC with SHA-256.
+fn keyed_with(line: u32, checker_type: CheckerType, test: Option<LocatorTest>) -> Found<Checker>
+    ensures { result ≡ spec.keyed_with line checker_type test }
 {
-    if key.is("type") {
-        return judge_value(alloc, ValueKind::CheckerType, key, report);
-    }
-    if key.is("sig-type") {
-        return judge_value(alloc, ValueKind::SignatureType, key, report);
-    }
-    if !hierarchical && key.is("key-locator") {
-        return judge_locator(alloc, key, report);
-    }
-    report.note(key.line(), RulesFaultKind::UnknownKey);
-    Ok(())
-}
-
-/// Notes what is wrong with each key of a checker. Only memory is refused.
-#[tactic(auto, using(crate::proofs::Reports::after_first, crate::proofs::Reports::after_no))]
-fn judge_keys(
-    alloc: Global,
-    hierarchical: bool,
-    keys: Keys<'_>,
-    report: &mut Report,
-) -> Result<(), RulesFault>
-    ensures { MatchResult result
-        (λ _. report.new ≡ after report.old
-        (flat_map (checker_key_faults hierarchical) (keys_of keys.entry)))
-        (λ fault. fault ≡ memory_fault) }
-{
-    let mut left = keys;
-    while let Some((key, others)) = left.split_first() {
-        judge_key(alloc, hierarchical, key, report)?;
-        left = others;
-    }
-    Ok(())
-}
-
-#[tactic(auto, using(crate::proofs::Reports::after_none))]
-/// Notes that the block of a checker on this line lacks the key locator that it needs, if so.
-fn judge_locator_missing(line: u32, keys: Keys<'_>, report: &mut Report)
-    ensures { report.new ≡ after report.old
-        (if needs_locator (checker_type_of (keys_of keys.entry))
-        (signature_type_of (keys_of keys.entry))
-        then missing_faults line (codes "key-locator") (keys_of keys.entry) else []) }
-{
-    if needs_locator(checker_type_of(keys), signature_type_of(keys)) {
-        keys.judge_missing(line, "key-locator", report);
+    match checker_type {
+        CheckerType::Hierarchical => Ok(Checker::HmacSha256(LocatorTest::Hierarchical)),
+        CheckerType::Customized => Ok(Checker::HmacSha256(needed(line, Ok(test))?)),
     }
 }
 
-/// Notes the key locators after the first, and that the one is missing that the block of a checker
-/// on this line needs. A hierarchical checker has none, whose keys are faults by themselves.
-#[tactic(auto, using(crate::proofs::Reports::after_append, crate::proofs::Reports::after_none), unfolding(crate::specs::CheckerBlock::locator_count_faults))]
-fn judge_locator_count(line: u32, keys: Keys<'_>, report: &mut Report)
-    ensures { report.new ≡ after report.old (locator_count_faults line (keys_of keys.entry)) }
+/// What a checker asks of a signature: of one by HMAC, where no type of signature is given.
+fn checker_with(
+    line: u32,
+    checker_type: CheckerType,
+    signature: Option<SignatureType>,
+    test: Option<LocatorTest>,
+) -> Found<Checker>
+    ensures { result ≡ spec.checker_with line checker_type signature test }
 {
-    if is_hierarchical(checker_type_of(keys)) {
-        return;
+    match signature {
+        Some(SignatureType::Sha256) => Ok(Checker::Sha256),
+        Some(SignatureType::Asymmetric) => Ok(Checker::Unsupported),
+        Some(SignatureType::HmacSha256) | None => keyed_with(line, checker_type, test),
     }
-    keys.judge_twice("key-locator", report);
-    judge_locator_missing(line, keys, report);
 }
 
-/// Notes what is wrong in the block of a checker on this line. Only memory is refused.
-#[tactic(auto, using(crate::proofs::Reports::after_append, crate::proofs::Reports::after_none), unfolding(crate::specs::CheckerBlock::checker_block_faults))]
-fn judge_block(
+/// The key locators of a checker: a hierarchical one has none.
+fn locators_of(alloc: Global, hierarchical: bool, keys: Keys<'_>) -> Read<Vec<LocatorTest>>
+    ensures { IfOk result (λ found. shown (λ all. all.items) found
+        ≡ locators_of hierarchical (keys_of keys.entry)) }
+{
+    if hierarchical {
+        return Ok(Ok(Vec::new(alloc)));
+    }
+    read_locators(alloc, keys)
+}
+
+/// The keys of a checker: a hierarchical one has no key locator.
+fn block_of(hierarchical: bool) -> Block
+    ensures { result ≡ block_of hierarchical }
+{
+    if hierarchical {
+        Block::Hierarchical
+    } else {
+        Block::Customized
+    }
+}
+
+/// What a checker with these key locators, of which the first counts, asks of a signature.
+fn checker_by(
+    line: u32,
+    checker_type: CheckerType,
+    signature: Option<SignatureType>,
+    tests: Vec<LocatorTest>,
+) -> Found<Checker>
+    ensures { result ≡ spec.checker_with line checker_type signature (first_of tests.items) }
+{
+    let test = tests.into_iter().next();
+    checker_with(line, checker_type, signature, test)
+}
+
+/// Whether the key locator is there, or none is needed.
+fn has_locator(keys: Keys<'_>, checker_type: FoundType, signature: FoundSignature) -> bool
+    ensures { result ≡ spec.has_locator (keys_of keys.entry) checker_type signature }
+{
+    !needs_locator(checker_type, signature) || keys.has("key-locator")
+}
+
+/// The checker of these parts.
+fn made_of(
+    line: u32,
+    types: Found<(CheckerType, Option<SignatureType>)>,
+    tests: Found<Vec<LocatorTest>>,
+) -> Found<Checker>
+    ensures { result ≡ then_made (spec.checker_made line)
+        (spec_both types (shown (λ all. all.items) tests)) }
+{
+    let ((checker_type, signature), tests) = both(types, tests)?;
+    checker_by(line, checker_type, signature, tests)
+}
+
+fn read_by(
     alloc: Global,
     line: u32,
     keys: Keys<'_>,
-    report: &mut Report,
-) -> Result<(), RulesFault>
-    ensures { MatchResult result
-        (λ _. report.new ≡ after report.old (checker_block_faults line (keys_of keys.entry)))
-        (λ fault. fault ≡ memory_fault) }
+    checker_type: FoundType,
+    signature: FoundSignature,
+) -> Read<Checker>
+    ensures { IfOk result
+        (λ found. found ≡ spec.checker_by line (keys_of keys.entry) checker_type signature) }
 {
-    judge_keys(alloc, is_hierarchical(checker_type_of(keys)), keys, report)?;
-    keys.judge_once(line, "type", report);
-    keys.judge_twice("sig-type", report);
-    judge_locator_count(line, keys, report);
-    Ok(())
+    let hierarchical = is_hierarchical(checker_type);
+    let fault = walk(alloc, block_of(hierarchical), keys)?.first();
+    let missing = missing_unless(has_locator(keys, checker_type, signature), line);
+    let types = both(needed(line, checker_type), signature);
+    let checker = made_of(line, types, locators_of(alloc, hierarchical, keys)?);
+    Ok(beside(fault, beside(missing, checker)))
 }
 
-/// Notes what is wrong with a checker. Only memory is refused.
-#[tactic(auto, using(crate::proofs::Reports::after_append, crate::proofs::Reports::after_none), unfolding(crate::specs::CheckerBlock::checker_faults))]
-pub fn judge_checker(alloc: Global, key: Key<'_>, report: &mut Report) -> Result<(), RulesFault>
-    ensures { MatchResult result
-        (λ _. report.new ≡ after report.old (checker_faults (key_of key.entry)))
-        (λ fault. fault ≡ memory_fault) }
+#[tactic(auto, unfolding(crate::specs::CheckerBlock::checker_of))]
+fn read_keys(alloc: Global, line: u32, keys: Keys<'_>) -> Read<Checker>
+    ensures { IfOk result (λ found. found ≡ checker_of line (keys_of keys.entry)) }
 {
-    key.judge_shape(report);
-    if key.has_block() {
-        return judge_block(alloc, key.line(), key.keys(DEPTH), report);
-    }
-    Ok(())
+    let checker_type = read_checker_type(keys, "type");
+    let signature = read_signature_type(keys, "sig-type");
+    read_by(alloc, line, keys, checker_type, signature)
 }
 
-/// What a checker of this type without faults asks of a key's name.
-fn read_locator_test(
-    alloc: Global,
-    keys: Keys<'_>,
-    checker_type: CheckerType,
-) -> Result<LocatorTest, RulesFault>
-    ensures { MatchResult result
-        (λ test. locator_by_type (keys_of keys.entry) checker_type ≡ Some test)
-        (λ fault. fault ≡ memory_fault) }
-{
-    match checker_type {
-        CheckerType::Hierarchical => Ok(LocatorTest::Hierarchical),
-        CheckerType::Customized => {
-            let key = keys.first_named("key-locator").ok_or(MEMORY)?;
-            read_locator(alloc, key)
-        }
-    }
-}
-
-/// What a checker without faults asks of a signature by HMAC with SHA-256.
-fn read_hmac(alloc: Global, keys: Keys<'_>) -> Result<Checker, RulesFault>
-    ensures { MatchResult result
-        (λ checker. checker_by_type (keys_of keys.entry) SignatureType.HmacSha256 ≡ Some checker)
-        (λ fault. fault ≡ memory_fault) }
-{
-    let checker_type = checker_type_of(keys).ok_or(MEMORY)?;
-    Ok(Checker::HmacSha256(read_locator_test(alloc, keys, checker_type)?))
-}
-
-/// What these keys of a block without faults ask of a signature.
-fn read_keys(alloc: Global, keys: Keys<'_>) -> Result<Checker, RulesFault>
-    ensures { MatchResult result (λ checker. checker_of_keys (keys_of keys.entry) ≡ Some checker)
-        (λ fault. fault ≡ memory_fault) }
-{
-    match signature_type_of(keys).ok_or(MEMORY)? {
-        SignatureType::Sha256 => Ok(Checker::Sha256),
-        SignatureType::Asymmetric => Ok(Checker::Unsupported),
-        SignatureType::HmacSha256 => read_hmac(alloc, keys),
-    }
-}
-
-/// What a checker without faults asks of a signature.
+/// What a checker asks of a signature.
 #[tactic(auto, unfolding(crate::specs::CheckerBlock::checker_in))]
-pub fn read_checker(alloc: Global, key: Key<'_>) -> Result<Checker, RulesFault>
-    ensures { MatchResult result (λ checker. checker_in (key_of key.entry) ≡ Some checker)
-        (λ fault. fault ≡ memory_fault) }
+fn read_checker(alloc: Global, key: Key<'_>) -> Read<Checker>
+    ensures { IfOk result (λ found. found ≡ checker_in (key_of key.entry)) }
 {
-    read_keys(alloc, key.keys(DEPTH))
+    if !key.has_block() {
+        return Ok(Err(key.fault(RulesFaultKind::BadValue)));
+    }
+    let checker = read_keys(alloc, key.line(), key.keys(DEPTH))?;
+    Ok(beside(key.shape_fault(), checker))
+}
+
+/// What each checker asks of a signature.
+pub fn read_checkers(alloc: Global, keys: Keys<'_>) -> Read<Vec<Checker>>
+    ensures { IfOk result (λ found. shown (λ all. all.items) found
+        ≡ each checker_in (named (codes "checker") (keys_of keys.entry))) }
+{
+    let mut all = Vec::new(alloc);
+    let mut fault = None;
+    let mut left = keys;
+    while let Some((key, others)) = left.split_first() {
+        if key.is("checker") {
+            add(&mut all, &mut fault, read_checker(alloc, key)?)?;
+        }
+        left = others;
+    }
+    Ok(gathered(all, fault))
 }

@@ -1,74 +1,61 @@
 //! Blocks of filters.
 
-ghost use Rattle.std.specs.Prelude.{◌≡◌, Some, MatchResult};
-ghost use Rattle.std.specs.List.{flat_map};
+ghost use Rattle.std.specs.Prelude.{◌≡◌, IfOk, codes};
+ghost use Rattle.info_rules.specs.Found.{each, gathered, shown};
+ghost use Rattle.info_rules.specs.Keys.{named};
 ghost use Rattle.info_rules.specs.Shown.{key_of, keys_of};
-ghost use Rattle.info_rules.specs.Faults.{after, memory_fault};
-ghost use Rattle.info_rules.specs.NameTest.{test_key_faults};
-ghost use Rattle.info_rules.specs.FilterBlock.{filter_block_faults, filter_faults, filter_in};
+ghost use Rattle.info_rules.specs.FilterBlock.{filter_of, filter_in};
 
-use crate::fault::RulesFault;
+use crate::fault::RulesFaultKind;
 use crate::form::Tested;
+use crate::found::{Read, add, beside, gathered};
 use crate::keys::{Key, Keys};
-use crate::name_test::{judge_test, judge_test_key, read_test};
-use crate::report::Report;
+use crate::name_test::{read_asked, test_of};
 use crate::rule::NameTest;
+use crate::table::Block;
+use crate::walk::walk;
 use std::alloc::Global;
 
 /// How many blocks the keys of a filter are in.
 const DEPTH: usize = 2;
 
-/// Notes what is wrong with each key of a filter. Only memory is refused.
-#[tactic(auto, using(crate::proofs::Reports::after_first, crate::proofs::Reports::after_no))]
-fn judge_keys(alloc: Global, keys: Keys<'_>, report: &mut Report) -> Result<(), RulesFault>
-    ensures { MatchResult result
-        (λ _. report.new ≡ after report.old (flat_map test_key_faults (keys_of keys.entry)))
-        (λ fault. fault ≡ memory_fault) }
+#[tactic(auto, unfolding(crate::specs::FilterBlock::filter_of))]
+fn read_keys(alloc: Global, line: u32, keys: Keys<'_>) -> Read<NameTest>
+    ensures { IfOk result (λ found. found ≡ filter_of line (keys_of keys.entry)) }
 {
+    let fault = walk(alloc, Block::Filter, keys)?.first();
+    let test = match read_asked(alloc, Tested::PacketName, line, keys)? {
+        Ok(names) => test_of(line, names),
+        Err(fault) => Err(fault),
+    };
+    Ok(beside(fault, test))
+}
+
+/// What a filter asks of a packet's name.
+#[tactic(auto, unfolding(crate::specs::FilterBlock::filter_in))]
+fn read_filter(alloc: Global, key: Key<'_>) -> Read<NameTest>
+    ensures { IfOk result (λ found. found ≡ filter_in (key_of key.entry)) }
+{
+    if !key.has_block() {
+        return Ok(Err(key.fault(RulesFaultKind::BadValue)));
+    }
+    let test = read_keys(alloc, key.line(), key.keys(DEPTH))?;
+    Ok(beside(key.shape_fault(), test))
+}
+
+/// What each filter asks of a packet's name.
+pub fn read_filters(alloc: Global, keys: Keys<'_>) -> Read<Vec<NameTest>>
+    ensures { IfOk result (λ found. shown (λ all. all.items) found
+        ≡ each filter_in (named (codes "filter") (keys_of keys.entry))) }
+{
+    let mut all = Vec::new(alloc);
+    let mut fault = None;
     let mut left = keys;
     while let Some((key, others)) = left.split_first() {
-        judge_test_key(alloc, key, report)?;
+        if key.is("filter") {
+            add(&mut all, &mut fault, read_filter(alloc, key)?)?;
+        }
         left = others;
     }
-    Ok(())
-}
-
-/// Notes what is wrong in the block of a filter on this line. Only memory is refused.
-#[tactic(auto, using(crate::proofs::Reports::after_append, crate::proofs::Reports::after_none), unfolding(crate::specs::FilterBlock::filter_block_faults))]
-fn judge_block(
-    alloc: Global,
-    line: u32,
-    keys: Keys<'_>,
-    report: &mut Report,
-) -> Result<(), RulesFault>
-    ensures { MatchResult result
-        (λ _. report.new ≡ after report.old (filter_block_faults line (keys_of keys.entry)))
-        (λ fault. fault ≡ memory_fault) }
-{
-    judge_keys(alloc, keys, report)?;
-    judge_test(Tested::PacketName, line, keys, report);
-    Ok(())
-}
-
-/// Notes what is wrong with a filter. Only memory is refused.
-#[tactic(auto, using(crate::proofs::Reports::after_append, crate::proofs::Reports::after_none), unfolding(crate::specs::FilterBlock::filter_faults))]
-pub fn judge_filter(alloc: Global, key: Key<'_>, report: &mut Report) -> Result<(), RulesFault>
-    ensures { MatchResult result
-        (λ _. report.new ≡ after report.old (filter_faults (key_of key.entry)))
-        (λ fault. fault ≡ memory_fault) }
-{
-    key.judge_shape(report);
-    if key.has_block() {
-        return judge_block(alloc, key.line(), key.keys(DEPTH), report);
-    }
-    Ok(())
-}
-
-/// What a filter without faults asks of a packet's name.
-#[tactic(auto, unfolding(crate::specs::FilterBlock::filter_in))]
-pub fn read_filter(alloc: Global, key: Key<'_>) -> Result<NameTest, RulesFault>
-    ensures { MatchResult result (λ test. filter_in (key_of key.entry) ≡ Some test)
-        (λ fault. fault ≡ memory_fault) }
-{
-    read_test(alloc, key.keys(DEPTH))
+    Ok(gathered(all, fault))
 }

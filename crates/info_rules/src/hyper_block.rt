@@ -1,162 +1,147 @@
 //! Blocks of hyper-relations.
 
-ghost use Rattle.std.specs.Prelude.{◌≡◌, Some, MatchResult, IfOk, length, ◌++◌};
+ghost use Rattle.std.specs.Prelude.{◌≡◌, IfOk, IfSome, MatchOption, Some, length, codes};
 ghost use Rattle.name_patterns.specs.Template.{NeedAtMost};
-ghost use Rattle.std.specs.List.{flat_map};
+ghost use Rattle.info_rules.specs.Found.{each, shown, then_made};
+ghost use Rattle.info_rules.specs.Keys.{named};
 ghost use Rattle.info_rules.specs.Shown.{key_of, keys_of};
-ghost use Rattle.info_rules.specs.Faults.{after, memory_fault};
-ghost use Rattle.info_rules.specs.HyperBlock.{hyper_key_faults, hyper_block_faults, hyper_faults, half_in, hyper_in};
+ghost use Rattle.info_rules.specs.HyperBlock as spec;
+ghost use Rattle.info_rules.specs.HyperBlock.{groups_of, half_in, is_whole, hyper_of, hyper_in};
 
-use crate::fault::{MEMORY, RulesFault, RulesFaultKind};
+use crate::fault::RulesFaultKind;
+use crate::found::{Found, Read, add, beside, both, gathered, missing_unless};
 use crate::keys::{Key, Keys};
-use crate::readers::{groups_of, pattern_of, template_of};
-use crate::report::Report;
-use crate::rule::HyperRelation;
-use crate::value_kind::{ValueKind, judge_value};
-use crate::value_words::relation_of;
+use crate::readers::{read_pattern, read_relation, read_template};
+use crate::rule::{HyperRelation, Relation};
+use crate::table::Block;
+use crate::walk::walk;
 use name_patterns::{Pattern, Template};
 use std::alloc::Global;
 
 /// How many blocks the keys of a hyper-relation are in.
 const DEPTH: usize = 4;
 
-/// Notes what is wrong with a key of a hyper-relation, by the groups of the key's pattern and of
-/// the packet's. Only memory is refused.
-#[tactic(auto, unfolding(crate::specs::HyperBlock::hyper_key_faults))]
-fn judge_key(
-    alloc: Global,
-    key_groups: u8,
-    packet_groups: u8,
-    key: Key<'_>,
-    report: &mut Report,
-) -> Result<(), RulesFault>
-    ensures { MatchResult result
-        (λ _. report.new ≡ after report.old
-        (hyper_key_faults key_groups packet_groups (key_of key.entry)))
-        (λ fault. fault ≡ memory_fault) }
+/// The greatest number of groups of a pattern.
+const MAX_GROUPS: u8 = 9;
+
+/// A pattern, and a template for its groups, so far as they are there.
+type Half = (Option<Pattern>, Option<Template>);
+
+/// The groups of a pattern; as many as a pattern can have, where there is none.
+fn groups_of(pattern: &Found<Option<Pattern>>) -> u8
+    ensures { result ≡ groups_of pattern.now }
 {
-    if key.is("k-regex") {
-        return judge_value(alloc, ValueKind::Pattern, key, report);
+    match pattern {
+        Ok(Some(pattern)) => pattern.groups(),
+        _ => MAX_GROUPS,
     }
-    if key.is("k-expand") {
-        return judge_value(alloc, ValueKind::Template(key_groups), key, report);
-    }
-    if key.is("h-relation") {
-        return judge_value(alloc, ValueKind::Relation, key, report);
-    }
-    if key.is("p-regex") {
-        return judge_value(alloc, ValueKind::Pattern, key, report);
-    }
-    if key.is("p-expand") {
-        return judge_value(alloc, ValueKind::Template(packet_groups), key, report);
-    }
-    report.note(key.line(), RulesFaultKind::UnknownKey);
-    Ok(())
 }
 
-/// Notes what is wrong with each key of a hyper-relation. Only memory is refused.
-#[tactic(auto, using(crate::proofs::Reports::after_first, crate::proofs::Reports::after_no))]
-fn judge_keys(
-    alloc: Global,
-    key_groups: u8,
-    packet_groups: u8,
-    keys: Keys<'_>,
-    report: &mut Report,
-) -> Result<(), RulesFault>
-    ensures { MatchResult result
-        (λ _. report.new ≡ after report.old
-        (flat_map (hyper_key_faults key_groups packet_groups) (keys_of keys.entry)))
-        (λ fault. fault ≡ memory_fault) }
-{
-    let mut left = keys;
-    while let Some((key, others)) = left.split_first() {
-        judge_key(alloc, key_groups, packet_groups, key, report)?;
-        left = others;
-    }
-    Ok(())
-}
-
-/// Notes what is wrong in the block of a hyper-relation on this line, whose keys may be needed.
-/// Only memory is refused.
-#[tactic(auto, using(crate::proofs::Reports::after_append, crate::proofs::Reports::after_none), unfolding(crate::specs::HyperBlock::hyper_block_faults))]
-fn judge_block(
-    alloc: Global,
-    needed: bool,
-    line: u32,
-    keys: Keys<'_>,
-    report: &mut Report,
-) -> Result<(), RulesFault>
-    ensures { MatchResult result
-        (λ _. report.new ≡ after report.old (hyper_block_faults needed line (keys_of keys.entry)))
-        (λ fault. fault ≡ memory_fault) }
-{
-    let key_groups = groups_of(alloc, keys.first_value("k-regex"))?;
-    let packet_groups = groups_of(alloc, keys.first_value("p-regex"))?;
-    judge_keys(alloc, key_groups, packet_groups, keys, report)?;
-    keys.judge_number(needed, line, "k-regex", report);
-    keys.judge_number(needed, line, "k-expand", report);
-    keys.judge_number(needed, line, "h-relation", report);
-    keys.judge_number(needed, line, "p-regex", report);
-    keys.judge_number(needed, line, "p-expand", report);
-    Ok(())
-}
-
-/// Notes what is wrong with a hyper-relation, whose own keys may be needed. Only memory is refused.
-#[tactic(auto, using(crate::proofs::Reports::after_append, crate::proofs::Reports::after_none), unfolding(crate::specs::HyperBlock::hyper_faults))]
-pub fn judge_hyper(
-    alloc: Global,
-    needed: bool,
-    key: Key<'_>,
-    report: &mut Report,
-) -> Result<(), RulesFault>
-    ensures { MatchResult result
-        (λ _. report.new ≡ after report.old (hyper_faults needed (key_of key.entry)))
-        (λ fault. fault ≡ memory_fault) }
-{
-    key.judge_shape(report);
-    if key.has_block() {
-        return judge_block(alloc, needed, key.line(), key.keys(DEPTH), report);
-    }
-    Ok(())
-}
-
-#[tactic(auto, unfolding(crate::specs::HyperBlock::half_in))]
 /// A pattern, and a template for its groups, of these keys.
-fn read_half(
-    alloc: Global,
-    keys: Keys<'_>,
-    pattern_word: &str,
-    template_word: &str,
-) -> Result<(Pattern, Template), RulesFault>
-    ensures read { MatchResult result
-        (λ half. half_in pattern_word.now template_word.now (keys_of keys.entry) ≡ Some half)
-        (λ fault. fault ≡ memory_fault) }
+#[tactic(auto, unfolding(crate::specs::HyperBlock::half_in))]
+fn read_half(alloc: Global, keys: Keys<'_>, pattern_word: &str, template_word: &str) -> Read<Half>
+    ensures read { IfOk result
+        (λ found. found ≡ half_in pattern_word.now template_word.now (keys_of keys.entry)) }
     // The template needs none but the pattern's groups.
-    ensures groups { IfOk result (λ half. NeedAtMost (length half.0.groups) half.1) }
+    ensures groups { IfOk result (λ found. IfOk found spec.HasGroups) }
 {
-    let text = keys.first_value(pattern_word).ok_or(MEMORY)?;
-    let pattern = pattern_of(alloc, text)?.ok_or(MEMORY)?;
-    let parts = keys.first_value(template_word).ok_or(MEMORY)?;
-    let template = template_of(alloc, parts, pattern.groups())?.ok_or(MEMORY)?;
-    Ok((pattern, template))
+    let pattern = read_pattern(alloc, keys, pattern_word)?;
+    let template = read_template(alloc, keys, template_word, groups_of(&pattern))?;
+    Ok(both(pattern, template))
 }
 
-/// The hyper-relation that a block without faults gives.
-#[tactic(auto, unfolding(crate::specs::HyperBlock::hyper_in))]
-pub fn read_hyper(alloc: Global, key: Key<'_>) -> Result<HyperRelation, RulesFault>
-    ensures { MatchResult result (λ hyper. hyper_in (key_of key.entry) ≡ Some hyper)
-        (λ fault. fault ≡ memory_fault) }
+/// Whether all keys are there.
+fn is_whole(keys: Keys<'_>) -> bool
+    ensures { result ≡ is_whole (keys_of keys.entry) }
 {
-    let keys = key.keys(DEPTH);
-    let (key_pattern, key_template) = read_half(alloc, keys, "k-regex", "k-expand")?;
-    let word = keys.first_value("h-relation").ok_or(MEMORY)?;
-    let relation = relation_of(word).ok_or(MEMORY)?;
-    let (packet_pattern, packet_template) = read_half(alloc, keys, "p-regex", "p-expand")?;
-    Ok(HyperRelation::new(
+    keys.has("k-regex")
+        && keys.has("k-expand")
+        && keys.has("h-relation")
+        && keys.has("p-regex")
+        && keys.has("p-expand")
+}
+
+/// The relation of these parts, where they are there.
+fn hyper_with(key: Half, relation: Option<Relation>, packet: Half) -> Option<HyperRelation>
+    requires key { spec.HasGroups key }
+    requires packet { spec.HasGroups packet }
+    ensures { result ≡ spec.hyper_with key.0 key.1 relation packet.0 packet.1 }
+{
+    let (key_pattern, key_template) = key;
+    let (packet_pattern, packet_template) = packet;
+    let key_pattern = key_pattern?;
+    let key_template = key_template?;
+    let relation = relation?;
+    let packet_pattern = packet_pattern?;
+    let packet_template = packet_template?;
+    Some(HyperRelation::new(
         key_pattern,
         key_template,
         relation,
         packet_pattern,
         packet_template,
     ))
+}
+
+/// The parts of a relation, so far as they are there.
+type Parts = ((Half, Option<Relation>), Half);
+
+/// The parts that these keys give.
+#[tactic(auto, unfolding(crate::specs::HyperBlock::parts_in))]
+fn read_parts(alloc: Global, keys: Keys<'_>) -> Read<Parts>
+    ensures read { IfOk result (λ found. found ≡ spec.parts_in (keys_of keys.entry)) }
+    ensures groups { IfOk result (λ found. IfOk found spec.HaveGroups) }
+{
+    let key = read_half(alloc, keys, "k-regex", "k-expand")?;
+    let relation = read_relation(keys, "h-relation");
+    let packet = read_half(alloc, keys, "p-regex", "p-expand")?;
+    Ok(both(both(key, relation), packet))
+}
+
+/// The relation of these parts.
+fn made_of(parts: Found<Parts>) -> Found<Option<HyperRelation>>
+    requires { IfOk parts spec.HaveGroups }
+    ensures { result ≡ then_made spec.hyper_made parts }
+{
+    let ((key, relation), packet) = parts?;
+    Ok(hyper_with(key, relation, packet))
+}
+
+#[tactic(auto, unfolding(crate::specs::HyperBlock::hyper_of))]
+fn read_keys(alloc: Global, needed: bool, line: u32, keys: Keys<'_>) -> Read<Option<HyperRelation>>
+    ensures { IfOk result (λ found. found ≡ hyper_of needed line (keys_of keys.entry)) }
+{
+    let fault = walk(alloc, Block::Hyper, keys)?.first();
+    let hyper = made_of(read_parts(alloc, keys)?);
+    let missing = missing_unless(!needed || is_whole(keys), line);
+    Ok(beside(fault, beside(missing, hyper)))
+}
+
+/// A hyper-relation, whose own keys may be needed.
+#[tactic(auto, unfolding(crate::specs::HyperBlock::hyper_in))]
+fn read_hyper(alloc: Global, needed: bool, key: Key<'_>) -> Read<Option<HyperRelation>>
+    ensures { IfOk result (λ found. found ≡ hyper_in needed (key_of key.entry)) }
+{
+    if !key.has_block() {
+        return Ok(Err(key.fault(RulesFaultKind::BadValue)));
+    }
+    let hyper = read_keys(alloc, needed, key.line(), key.keys(DEPTH))?;
+    Ok(beside(key.shape_fault(), hyper))
+}
+
+/// Each hyper-relation, whose own keys may be needed.
+pub fn read_hypers(alloc: Global, needed: bool, keys: Keys<'_>) -> Read<Vec<Option<HyperRelation>>>
+    ensures { IfOk result (λ found. shown (λ all. all.items) found
+        ≡ each (hyper_in needed) (named (codes "hyper-relation") (keys_of keys.entry))) }
+{
+    let mut all = Vec::new(alloc);
+    let mut fault = None;
+    let mut left = keys;
+    while let Some((key, others)) = left.split_first() {
+        if key.is("hyper-relation") {
+            add(&mut all, &mut fault, read_hyper(alloc, needed, key)?)?;
+        }
+        left = others;
+    }
+    Ok(gathered(all, fault))
 }

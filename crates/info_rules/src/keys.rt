@@ -1,7 +1,7 @@
 //! The keys of blocks.
 
 use crate::entry::Entry;
-use crate::fault::RulesFaultKind;
+use crate::fault::{RulesFault, RulesFaultKind};
 use crate::report::Report;
 
 /// A key, and the entries of its block.
@@ -15,8 +15,7 @@ impl<'a> Key<'a> {
     ghost use Rattle.std.specs.Prelude.{◌≡◌};
     ghost use Rattle.std.specs.Option.{option_map};
     ghost use Rattle.info_rules.specs.Tree.{blocks_of};
-    ghost use Rattle.info_rules.specs.Faults.{after};
-    ghost use Rattle.info_rules.specs.Keys.{is_word, value_of, shape_faults};
+    ghost use Rattle.info_rules.specs.Keys.{is_word, value_of, fault_at, shape_fault};
     ghost use Rattle.info_rules.specs.Shown.{key_of, keys_of};
 
     /// Its line, counted from 1.
@@ -60,14 +59,24 @@ impl<'a> Key<'a> {
         }
     }
 
-    #[tactic(auto, unfolding(crate::specs::Faults::after))]
-    /// Notes a key that needs a block, and has a value or no block.
-    pub fn judge_shape(self, report: &mut Report)
-        ensures { report.new ≡ after report.old (shape_faults (key_of self.entry)) }
+    /// A fault of this key.
+    pub fn fault(self, kind: RulesFaultKind) -> RulesFault
+        ensures { result ≡ fault_at kind (key_of self.entry) }
+    {
+        RulesFault {
+            line: self.own.line,
+            kind,
+        }
+    }
+
+    /// What is wrong with a key that needs a block, and has a value or no block.
+    pub fn shape_fault(self) -> Option<RulesFault>
+        ensures { result ≡ shape_fault (key_of self.entry) }
     {
         if self.own.value.is_some() || !self.own.has_block {
-            report.note(self.own.line, RulesFaultKind::BadValue);
+            return Some(self.fault(RulesFaultKind::BadValue));
         }
+        None
     }
 }
 
@@ -83,7 +92,7 @@ impl<'a> Keys<'a> {
     ghost use Rattle.std.specs.Option.{option_map};
     ghost use Rattle.info_rules.specs.Tree.{parted};
     ghost use Rattle.info_rules.specs.Faults.{after};
-    ghost use Rattle.info_rules.specs.Keys.{first_of, named, first_value, twice_faults, missing_faults, once_faults, number_faults, many_faults};
+    ghost use Rattle.info_rules.specs.Keys.{first_of, others_of, named, is_there, many_faults};
     ghost use Rattle.info_rules.specs.Shown.{entry_of, key_of, keys_of};
 
     /// The entries in front of the first key, and the keys.
@@ -132,15 +141,29 @@ impl<'a> Keys<'a> {
         None
     }
 
-    /// The value of the first key that is this word, if it has one and no block.
-    pub fn first_value(self, word: &str) -> Option<&'a str>
-        ensures { option_map (λ text. text.now) result ≡ first_value word.now (keys_of self.entry) }
+    /// Those after the first key of this word.
+    pub fn after_first(self, word: &str) -> Keys<'a>
+        ensures { named word.now (keys_of result) ≡ others_of (named word.now (keys_of self.entry)) }
     {
-        self.first_named(word)?.value()
+        let mut keys = self;
+        while let Some((key, others)) = keys.split_first() {
+            keys = others;
+            if key.is(word) {
+                return keys;
+            }
+        }
+        keys
+    }
+
+    /// Whether a key is this word.
+    pub fn has(self, word: &str) -> bool
+        ensures { result ≡ is_there word.now (keys_of self.entry) }
+    {
+        self.first_named(word).is_some()
     }
 
     /// The number of keys that are this word.
-    fn count(self, word: &str) -> usize
+    pub fn count(self, word: &str) -> usize
         ensures { result ≡ length (named word.now (keys_of self.entry)) }
     {
         let mut keys = self;
@@ -152,56 +175,6 @@ impl<'a> Keys<'a> {
             keys = others;
         }
         count
-    }
-
-    /// Notes each key after the first that is this word.
-    #[tactic(auto, unfolding(crate::specs::Faults::after))]
-    pub fn judge_twice(self, word: &str, report: &mut Report)
-        ensures { report.new ≡ after report.old (twice_faults word.now (keys_of self.entry)) }
-    {
-        let mut keys = self;
-        let mut is_there = false;
-        while let Some((key, others)) = keys.split_first() {
-            if key.is(word) {
-                if is_there {
-                    report.note(key.line(), RulesFaultKind::TwiceNamed);
-                }
-                is_there = true;
-            }
-            keys = others;
-        }
-    }
-
-    /// Notes that no key is this word, if so. It stands at the line of the key of their block.
-    #[tactic(auto, unfolding(crate::specs::Faults::after))]
-    pub fn judge_missing(self, line: u32, word: &str, report: &mut Report)
-        ensures { report.new
-            ≡ after report.old (missing_faults line word.now (keys_of self.entry)) }
-    {
-        if self.first_named(word).is_none() {
-            report.note(line, RulesFaultKind::Missing);
-        }
-    }
-
-    /// Notes what is wrong if not just one key is this word, in the block of a key on this line.
-    #[tactic(auto, using(crate::proofs::Reports::after_append))]
-    pub fn judge_once(self, line: u32, word: &str, report: &mut Report)
-        ensures { report.new ≡ after report.old (once_faults line word.now (keys_of self.entry)) }
-    {
-        self.judge_twice(word, report);
-        self.judge_missing(line, word, report);
-    }
-
-    /// Notes more than one key that is this word or, where one is needed, that there is none.
-    #[tactic(auto, using(crate::proofs::Reports::after_append, crate::proofs::Reports::after_none))]
-    pub fn judge_number(self, needed: bool, line: u32, word: &str, report: &mut Report)
-        ensures { report.new
-            ≡ after report.old (number_faults needed line word.now (keys_of self.entry)) }
-    {
-        self.judge_twice(word, report);
-        if needed {
-            self.judge_missing(line, word, report);
-        }
     }
 
     /// Notes more keys than so many that are this word.

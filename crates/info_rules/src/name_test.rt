@@ -1,116 +1,93 @@
 //! What the blocks of filters and key locators ask of a name.
 
-ghost use Rattle.std.specs.Prelude.{◌≡◌, Some, MatchResult};
-ghost use Rattle.std.specs.Option.{option_map};
-ghost use Rattle.std.specs.List.{flat_map};
-ghost use Rattle.info_rules.specs.Shown.{key_of, keys_of};
-ghost use Rattle.info_rules.specs.Faults.{after, memory_fault};
-ghost use Rattle.info_rules.specs.NameTest.{half_faults, second_faults, form_faults, test_key_faults, test_faults, matching_in, related_in, test_in};
+ghost use Rattle.std.specs.Prelude.{◌≡◌, IfOk};
+ghost use Rattle.info_rules.specs.Shown.{keys_of};
+ghost use Rattle.info_rules.specs.NameTest as spec;
 
-use crate::fault::{MEMORY, RulesFault, RulesFaultKind};
+use crate::fault::{RulesFault, RulesFaultKind};
 use crate::form::{Form, Tested, first_other};
-use crate::keys::{Key, Keys};
-use crate::readers::{name_of, pattern_of};
-use crate::report::Report;
-use crate::rule::NameTest;
-use crate::value_kind::{ValueKind, judge_value};
-use crate::value_words::relation_of;
+use crate::found::{Found, Read, beside, both, missing_unless, needed, second};
+use crate::keys::Keys;
+use crate::readers::{read_name, read_name_word, read_pattern, read_relation};
+use crate::rule::{NameTest, Relation};
+use name_patterns::Pattern;
+use ndn_names::NameBuf;
 use std::alloc::Global;
 
-/// Notes what a block lacks that has keys of this form alone.
-#[tactic(auto, using(crate::proofs::Reports::after_append, crate::proofs::Reports::after_none))]
-fn judge_half(line: u32, keys: Keys<'_>, form: Form, report: &mut Report)
-    ensures { report.new ≡ after report.old (half_faults line (keys_of keys.entry) form) }
+/// A name, a relation and a pattern, so far as they are there.
+pub type Names = ((Option<NameBuf>, Option<Relation>), Option<Pattern>);
+
+/// What a block lacks that has keys of this form alone.
+fn half_fault(line: u32, keys: Keys<'_>, form: Form) -> Option<RulesFault>
+    ensures { result ≡ spec.half_fault line (keys_of keys.entry) form }
 {
     match form {
-        Form::Related => {
-            keys.judge_missing(line, "name", report);
-            keys.judge_missing(line, "relation", report);
-        }
-        Form::Matching | Form::Hyper => {}
+        Form::Related => missing_unless(keys.has("name") && keys.has("relation"), line),
+        Form::Matching | Form::Hyper => None,
     }
 }
 
-/// Notes the first key of a second form, or else what the first form lacks.
-fn judge_second(tested: Tested, line: u32, keys: Keys<'_>, form: Form, report: &mut Report)
-    ensures { report.new ≡ after report.old (second_faults tested line (keys_of keys.entry) form) }
+/// The fault of the first key of a second form, or else of what the first form lacks.
+fn second_fault(tested: Tested, line: u32, keys: Keys<'_>, form: Form) -> Option<RulesFault>
+    ensures { result ≡ spec.second_fault tested line (keys_of keys.entry) form }
 {
     match first_other(tested, Some(form), keys) {
-        Some((_, second)) => report.note(second, RulesFaultKind::BadValue),
-        None => judge_half(line, keys, form, report),
+        Some((_, second)) => Some(RulesFault {
+            line: second,
+            kind: RulesFaultKind::BadValue,
+        }),
+        None => half_fault(line, keys, form),
     }
 }
 
-/// Notes what is wrong with the forms in the block of a key on this line: it needs one.
-#[tactic(auto, unfolding(crate::specs::NameTest::form_faults))]
-fn judge_forms(tested: Tested, line: u32, keys: Keys<'_>, report: &mut Report)
-    ensures { report.new ≡ after report.old (form_faults tested line (keys_of keys.entry)) }
+/// What is wrong with the forms in the block of a key on this line: it needs one.
+#[tactic(auto, unfolding(crate::specs::NameTest::form_fault))]
+fn form_fault(tested: Tested, line: u32, keys: Keys<'_>) -> Option<RulesFault>
+    ensures { result ≡ spec.form_fault tested line (keys_of keys.entry) }
 {
     match first_other(tested, None, keys) {
-        Some((form, _)) => judge_second(tested, line, keys, form, report),
-        None => report.note(line, RulesFaultKind::Missing),
+        Some((form, _)) => second_fault(tested, line, keys, form),
+        None => missing_unless(false, line),
     }
 }
 
-/// Notes what is wrong with a key of a filter. Only memory is refused.
-#[tactic(auto, unfolding(crate::specs::NameTest::test_key_faults))]
-pub fn judge_test_key(alloc: Global, key: Key<'_>, report: &mut Report) -> Result<(), RulesFault>
-    ensures { MatchResult result (λ _. report.new ≡ after report.old (test_key_faults (key_of key.entry))) (λ fault. fault ≡ memory_fault) }
+#[tactic(auto, unfolding(crate::specs::NameTest::names_in))]
+fn read_names(alloc: Global, keys: Keys<'_>) -> Read<Names>
+    ensures { IfOk result (λ found. found ≡ spec.names_in (keys_of keys.entry)) }
 {
-    if key.is("type") {
-        return judge_value(alloc, ValueKind::NameWord, key, report);
-    }
-    if key.is("name") {
-        return judge_value(alloc, ValueKind::Uri, key, report);
-    }
-    if key.is("relation") {
-        return judge_value(alloc, ValueKind::Relation, key, report);
-    }
-    if key.is("regex") {
-        return judge_value(alloc, ValueKind::Pattern, key, report);
-    }
-    report.note(key.line(), RulesFaultKind::UnknownKey);
-    Ok(())
+    let name = read_name(alloc, keys, "name")?;
+    let relation = read_relation(keys, "relation");
+    let pattern = read_pattern(alloc, keys, "regex")?;
+    Ok(both(both(name, relation), pattern))
 }
 
-/// Notes keys that stand together as they may not, in the block of a key on this line.
-#[tactic(auto, using(crate::proofs::Reports::after_append, crate::proofs::Reports::after_none), unfolding(crate::specs::NameTest::test_faults))]
-pub fn judge_test(tested: Tested, line: u32, keys: Keys<'_>, report: &mut Report)
-    ensures { report.new ≡ after report.old (test_faults tested line (keys_of keys.entry)) }
+/// What the keys in the block of a key on this line ask of a name, in one form.
+#[tactic(auto, unfolding(crate::specs::NameTest::asked_in))]
+pub fn read_asked(alloc: Global, tested: Tested, line: u32, keys: Keys<'_>) -> Read<Names>
+    ensures { IfOk result (λ found. found ≡ spec.asked_in tested line (keys_of keys.entry)) }
 {
-    keys.judge_once(line, "type", report);
-    keys.judge_twice("name", report);
-    keys.judge_twice("relation", report);
-    keys.judge_twice("regex", report);
-    judge_forms(tested, line, keys, report);
-}
-
-/// The test by a pattern. Refuses memory, and a text that is no pattern.
-fn read_matching(alloc: Global, text: &str) -> Result<NameTest, RulesFault>
-    ensures { MatchResult result (λ test. matching_in text.now ≡ Some test) (λ fault. fault ≡ memory_fault) }
-{
-    let pattern = pattern_of(alloc, text)?.ok_or(MEMORY)?;
-    Ok(NameTest::Matching(pattern))
+    let word = needed(line, read_name_word(keys, "type"));
+    let names = read_names(alloc, keys)?;
+    let asked = second(both(word, names));
+    Ok(beside(form_fault(tested, line, keys), asked))
 }
 
 /// The test by a name and a relation.
-fn read_related(alloc: Global, keys: Keys<'_>) -> Result<NameTest, RulesFault>
-    ensures { MatchResult result (λ test. related_in (keys_of keys.entry) ≡ Some test) (λ fault. fault ≡ memory_fault) }
+fn related_of(line: u32, name: Option<NameBuf>, relation: Option<Relation>) -> Found<NameTest>
+    ensures { result ≡ spec.related_of line name relation }
 {
-    let word = keys.first_value("relation").ok_or(MEMORY)?;
-    let relation = relation_of(word).ok_or(MEMORY)?;
-    let uri = keys.first_value("name").ok_or(MEMORY)?;
-    let name = name_of(alloc, uri)?.ok_or(MEMORY)?;
+    let name = needed(line, Ok(name))?;
+    let relation = needed(line, Ok(relation))?;
     Ok(NameTest::Related(relation, name))
 }
 
-/// What a block without faults asks of a name.
-#[tactic(auto, unfolding(crate::specs::NameTest::test_in))]
-pub fn read_test(alloc: Global, keys: Keys<'_>) -> Result<NameTest, RulesFault>
-    ensures { MatchResult result (λ test. test_in (keys_of keys.entry) ≡ Some test) (λ fault. fault ≡ memory_fault) }
+/// The test of a name: one form, where no fault was met beside it.
+pub fn test_of(line: u32, names: Names) -> Found<NameTest>
+    ensures { result ≡ spec.test_of line names }
 {
-    match keys.first_value("regex") {
-        Some(text) => read_matching(alloc, text),
-        None => read_related(alloc, keys),
+    let ((name, relation), pattern) = names;
+    match pattern {
+        Some(pattern) => Ok(NameTest::Matching(pattern)),
+        None => related_of(line, name, relation),
     }
 }

@@ -1,72 +1,236 @@
 //! Names, patterns and templates in values.
 
-ghost use Rattle.std.specs.Prelude.{◌≡◌, MatchResult, IfOk, IfSome};
+ghost use Rattle.std.specs.Prelude.{◌≡◌, IfOk, IfSome, Ok};
 ghost use Rattle.name_patterns.specs.Template.{NeedAtMost};
 ghost use Rattle.ndn_names.specs.UriReading.{name_in};
 ghost use Rattle.name_patterns.specs.PatternReading.{pattern_in};
 ghost use Rattle.name_patterns.specs.TemplateReading.{template_in};
-ghost use Rattle.info_rules.specs.Faults.{memory_fault};
+ghost use Rattle.info_rules.specs.declared.fault.RulesFaultKind.TheVariants.{BadValue, Pattern as PatternFaultKind};
+ghost use Rattle.info_rules.specs.ValueWords.{kind_in, relation_in, checker_type_in, signature_type_in};
+ghost use Rattle.info_rules.specs.Values.{ok_of, read_at, value_in, name_word_in, id_in, anchor_value_in};
 ghost use Rattle.std.specs.Option.{option_map};
-ghost use Rattle.info_rules.specs.Values.{ok_of, groups_in};
+ghost use Rattle.std.specs.Prelude.{codes};
+ghost use Rattle.info_rules.specs.Found.{shown};
+ghost use Rattle.info_rules.specs.Shown.{keys_of};
 
-use crate::fault::{MEMORY, RulesFault};
+use crate::fault::{RulesFault, RulesFaultKind};
+use crate::found::{Found, Read};
+use crate::keys::Keys;
+use crate::rule::{Kind, Relation};
+use crate::value_words::{
+    CheckerType, SignatureType, checker_type_of, is_anchor_type, is_id, kind_of, relation_of,
+    signature_type_of,
+};
 use name_patterns::{Pattern, PatternFault, Template};
 use ndn_names::{NameBuf, NameFault};
+use ndn_tlv::Memory;
 use std::alloc::Global;
 
-/// The greatest number of groups of a pattern.
-const MAX_GROUPS: u8 = 9;
-
 /// The name of a URI, if it is one. Only memory is refused.
-pub fn name_of(alloc: Global, uri: &str) -> Result<Option<NameBuf>, RulesFault>
-    ensures { MatchResult result (λ name. name ≡ ok_of (name_in uri.now))
-        (λ fault. fault ≡ memory_fault) }
+pub fn name_of(alloc: Global, uri: &str) -> Result<Option<NameBuf>, Memory>
+    ensures { IfOk result (λ name. name ≡ ok_of (name_in uri.now)) }
 {
     match NameBuf::from_uri(alloc, uri) {
         Ok(name) => Ok(Some(name)),
-        Err(NameFault::Memory) => Err(MEMORY),
+        Err(NameFault::Memory) => Err(Memory),
         Err(_) => Ok(None),
     }
 }
 
 /// The pattern of a text, if it is one. Only memory is refused.
-pub fn pattern_of(alloc: Global, text: &str) -> Result<Option<Pattern>, RulesFault>
-    ensures { MatchResult result (λ pattern. pattern ≡ ok_of (pattern_in text.now))
-        (λ fault. fault ≡ memory_fault) }
+pub fn pattern_of(alloc: Global, text: &str) -> Result<Option<Pattern>, Memory>
+    ensures { IfOk result (λ pattern. pattern ≡ ok_of (pattern_in text.now)) }
 {
     match Pattern::read(alloc, text) {
         Ok(pattern) => Ok(Some(pattern)),
-        Err(PatternFault::Memory) => Err(MEMORY),
+        Err(PatternFault::Memory) => Err(Memory),
         Err(_) => Ok(None),
     }
 }
 
 /// The template of a text for a pattern of so many groups, if it is one. Only memory is refused.
-pub fn template_of(alloc: Global, text: &str, groups: u8) -> Result<Option<Template>, RulesFault>
-    ensures read { MatchResult result (λ template. template ≡ ok_of (template_in groups text.now))
-        (λ fault. fault ≡ memory_fault) }
+pub fn template_of(alloc: Global, text: &str, groups: u8) -> Result<Option<Template>, Memory>
+    ensures read { IfOk result (λ template. template ≡ ok_of (template_in groups text.now)) }
     // It needs none but these groups.
     ensures groups { IfOk result (λ template. IfSome template (NeedAtMost groups)) }
 {
     match Template::read(alloc, text, groups) {
         Ok(template) => Ok(Some(template)),
-        Err(PatternFault::Memory) => Err(MEMORY),
+        Err(PatternFault::Memory) => Err(Memory),
         Err(_) => Ok(None),
     }
 }
 
-/// The number of groups of the pattern that a text spells, or the greatest number that a pattern
-/// can have, where there is no text or it spells none. Only memory is refused.
-#[tactic(auto, unfolding(crate::specs::Values::groups_in))]
-pub fn groups_of(alloc: Global, text: Option<&str>) -> Result<u8, RulesFault>
-    ensures { MatchResult result (λ groups. groups ≡ groups_in (option_map (λ t. t.now) text.entry))
-        (λ fault. fault ≡ memory_fault) }
+/// A value that was read on a line, or else this fault.
+fn read_at<A: Drop>(kind: RulesFaultKind, line: u32, read: Option<A>) -> Found<Option<A>>
+    ensures { result ≡ read_at kind line read }
 {
-    let Some(text) = text else {
-        return Ok(MAX_GROUPS);
+    match read {
+        Some(value) => Ok(Some(value)),
+        None => Err(RulesFault { line, kind }),
+    }
+}
+
+/// The kind of packet that the first key of this word gives, if there is one.
+#[tactic(auto, unfolding(crate::specs::Values::value_in))]
+pub fn read_kind(keys: Keys<'_>, word: &str) -> Found<Option<Kind>>
+    ensures { result ≡ value_in BadValue kind_in word.now (keys_of keys.entry) }
+{
+    let Some(key) = keys.first_named(word) else {
+        return Ok(None);
     };
-    match pattern_of(alloc, text)? {
-        Some(pattern) => Ok(pattern.groups()),
-        None => Ok(MAX_GROUPS),
+    match key.value() {
+        Some(text) => read_at(RulesFaultKind::BadValue, key.line(), kind_of(text)),
+        None => Err(key.fault(RulesFaultKind::BadValue)),
+    }
+}
+
+/// The relation that the first key of this word gives, if there is one.
+#[tactic(auto, unfolding(crate::specs::Values::value_in))]
+pub fn read_relation(keys: Keys<'_>, word: &str) -> Found<Option<Relation>>
+    ensures { result ≡ value_in BadValue relation_in word.now (keys_of keys.entry) }
+{
+    let Some(key) = keys.first_named(word) else {
+        return Ok(None);
+    };
+    match key.value() {
+        Some(text) => read_at(RulesFaultKind::BadValue, key.line(), relation_of(text)),
+        None => Err(key.fault(RulesFaultKind::BadValue)),
+    }
+}
+
+/// The type of a checker that the first key of this word gives, if there is one.
+#[tactic(auto, unfolding(crate::specs::Values::value_in))]
+pub fn read_checker_type(keys: Keys<'_>, word: &str) -> Found<Option<CheckerType>>
+    ensures { result ≡ value_in BadValue checker_type_in word.now (keys_of keys.entry) }
+{
+    let Some(key) = keys.first_named(word) else {
+        return Ok(None);
+    };
+    match key.value() {
+        Some(text) => read_at(RulesFaultKind::BadValue, key.line(), checker_type_of(text)),
+        None => Err(key.fault(RulesFaultKind::BadValue)),
+    }
+}
+
+/// The type of signatures that the first key of this word gives, if there is one.
+#[tactic(auto, unfolding(crate::specs::Values::value_in))]
+pub fn read_signature_type(keys: Keys<'_>, word: &str) -> Found<Option<SignatureType>>
+    ensures { result ≡ value_in BadValue signature_type_in word.now (keys_of keys.entry) }
+{
+    let Some(key) = keys.first_named(word) else {
+        return Ok(None);
+    };
+    match key.value() {
+        Some(text) => read_at(
+            RulesFaultKind::BadValue,
+            key.line(),
+            signature_type_of(text),
+        ),
+        None => Err(key.fault(RulesFaultKind::BadValue)),
+    }
+}
+
+/// The name that the first key of this word gives, if there is one.
+#[tactic(auto, unfolding(crate::specs::Values::value_in))]
+pub fn read_name(alloc: Global, keys: Keys<'_>, word: &str) -> Read<Option<NameBuf>>
+    ensures { IfOk result
+        (λ found. found ≡ value_in BadValue (λ text. ok_of (name_in text)) word.now (keys_of keys.entry)) }
+{
+    let Some(key) = keys.first_named(word) else {
+        return Ok(Ok(None));
+    };
+    Ok(match key.value() {
+        Some(text) => read_at(RulesFaultKind::BadValue, key.line(), name_of(alloc, text)?),
+        None => Err(key.fault(RulesFaultKind::BadValue)),
+    })
+}
+
+/// The pattern that the first key of this word gives, if there is one.
+#[tactic(auto, unfolding(crate::specs::Values::value_in))]
+pub fn read_pattern(alloc: Global, keys: Keys<'_>, word: &str) -> Read<Option<Pattern>>
+    ensures { IfOk result
+        (λ found. found ≡ value_in PatternFaultKind (λ text. ok_of (pattern_in text)) word.now (keys_of keys.entry)) }
+{
+    let Some(key) = keys.first_named(word) else {
+        return Ok(Ok(None));
+    };
+    Ok(match key.value() {
+        Some(text) => read_at(
+            RulesFaultKind::Pattern,
+            key.line(),
+            pattern_of(alloc, text)?,
+        ),
+        None => Err(key.fault(RulesFaultKind::BadValue)),
+    })
+}
+
+/// The template for so many groups that the first key of this word gives, if there is one.
+#[tactic(auto, unfolding(crate::specs::Values::value_in))]
+pub fn read_template(
+    alloc: Global,
+    keys: Keys<'_>,
+    word: &str,
+    groups: u8,
+) -> Read<Option<Template>>
+    ensures read { IfOk result
+        (λ found. found ≡ value_in PatternFaultKind (λ text. ok_of (template_in groups text)) word.now (keys_of keys.entry)) }
+    // It needs none but these groups.
+    ensures groups { IfOk result (λ found. IfOk found (λ template. IfSome template (NeedAtMost groups))) }
+{
+    let Some(key) = keys.first_named(word) else {
+        return Ok(Ok(None));
+    };
+    Ok(match key.value() {
+        Some(text) => read_at(
+            RulesFaultKind::Pattern,
+            key.line(),
+            template_of(alloc, text, groups)?,
+        ),
+        None => Err(key.fault(RulesFaultKind::BadValue)),
+    })
+}
+
+/// The word `name` that the first key of this word has to have, if there is one.
+#[tactic(auto, unfolding(crate::specs::Values::value_in))]
+pub fn read_name_word(keys: Keys<'_>, word: &str) -> Found<Option<()>>
+    ensures { result ≡ value_in BadValue name_word_in word.now (keys_of keys.entry) }
+{
+    let Some(key) = keys.first_named(word) else {
+        return Ok(None);
+    };
+    if key.value() == Some("name") {
+        return Ok(Some(()));
+    }
+    Err(key.fault(RulesFaultKind::BadValue))
+}
+
+/// The type of a trust anchor, if there is one.
+#[tactic(auto, unfolding(crate::specs::Values::anchor_value_in))]
+pub fn read_anchor_type(keys: Keys<'_>) -> Found<Option<()>>
+    ensures { result ≡ anchor_value_in (keys_of keys.entry) }
+{
+    let Some(key) = keys.first_named("type") else {
+        return Ok(None);
+    };
+    match key.value() {
+        Some("any") => Err(key.fault(RulesFaultKind::AnyAnchor)),
+        Some(text) if is_anchor_type(text) => Ok(Some(())),
+        _ => Err(key.fault(RulesFaultKind::BadValue)),
+    }
+}
+
+/// The id that the first key `id` gives, if there is one.
+#[tactic(auto, unfolding(crate::specs::Values::value_in))]
+pub fn read_id<'a>(keys: Keys<'a>) -> Found<Option<&'a str>>
+    ensures { shown (option_map (λ text. text.now)) result
+        ≡ value_in BadValue id_in (codes "id") (keys_of keys.entry) }
+{
+    let Some(key) = keys.first_named("id") else {
+        return Ok(None);
+    };
+    match key.value() {
+        Some(text) if is_id(text) => Ok(Some(text)),
+        _ => Err(key.fault(RulesFaultKind::BadValue)),
     }
 }

@@ -21,48 +21,12 @@ impl Model for Report {
     ghost view = { λ report. report.first };
 }
 
-impl RulesFaultKind {
-    ghost use Rattle.std.specs.Prelude.{◌≡◌};
-    ghost use Rattle.info_rules.specs.Faults.{kind_number};
-
-    /// Its place among the kinds of one line.
-    fn number(self) -> u8
-        ensures { result ≡ kind_number self }
-    {
-        match self {
-            RulesFaultKind::Syntax => 1,
-            RulesFaultKind::TooDeep => 2,
-            RulesFaultKind::TooLarge => 3,
-            RulesFaultKind::UnknownKey => 4,
-            RulesFaultKind::Missing => 5,
-            RulesFaultKind::BadValue => 6,
-            RulesFaultKind::TwiceNamed => 7,
-            RulesFaultKind::Pattern => 8,
-            RulesFaultKind::AnyAnchor => 9,
-            RulesFaultKind::Memory => 10,
-        }
-    }
-}
-
-impl RulesFault {
-    ghost use Rattle.std.specs.Prelude.{◌≡◌};
-    ghost use Rattle.info_rules.specs.Faults.{sooner};
-
-    /// Whether it is reported before the other fault.
-    fn is_sooner(self, other: RulesFault) -> bool
-        ensures { result ≡ sooner self other }
-    {
-        self.line < other.line
-            || self.line == other.line && self.kind.number() < other.kind.number()
-    }
-}
-
 /// The fault to report, when one more is met.
 fn told_of(first: Option<RulesFault>, fault: RulesFault) -> RulesFault
     ensures { noted first fault ≡ Some result }
 {
     match first {
-        Some(told) => { if fault.is_sooner(told) { fault } else { told } }
+        Some(told) => told.sooner_of(fault),
         None => fault,
     }
 }

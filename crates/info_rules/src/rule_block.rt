@@ -1,148 +1,37 @@
 //! Blocks of rules.
 
-ghost use Rattle.std.specs.Prelude.{◌≡◌, Some, MatchResult};
-ghost use Rattle.std.specs.List.{flat_map};
-ghost use Rattle.info_rules.specs.Shown.{key_of, keys_of};
-ghost use Rattle.info_rules.specs.Faults.{after, memory_fault};
-ghost use Rattle.std.specs.Prelude.{codes};
-ghost use Rattle.info_rules.specs.Shown.{rule_of};
+ghost use Rattle.std.specs.Prelude.{◌≡◌, IfOk, codes, map};
+ghost use Rattle.info_rules.specs.Found.{each, shown, both as spec_both};
 ghost use Rattle.info_rules.specs.Keys.{named};
-ghost use Rattle.info_rules.specs.FilterBlock.{filter_in};
-ghost use Rattle.info_rules.specs.CheckerBlock.{checker_in};
-ghost use Rattle.info_rules.specs.RuleBlock.{rule_key_faults, rule_block_faults, rule_faults, all_of, rule_of_keys, rule_in};
+ghost use Rattle.info_rules.specs.Shown.{key_of, keys_of, rule_of};
+ghost use Rattle.info_rules.specs.RuleBlock.{head_in, rule_with, rule_parts, rule_of_keys, rule_in};
 
-use crate::checker_block::{judge_checker, read_checker};
-use crate::fault::{MEMORY, RulesFault, RulesFaultKind};
-use crate::filter_block::{judge_filter, read_filter};
+use crate::checker_block::read_checkers;
+use crate::fault::RulesFaultKind;
+use crate::filter_block::read_filters;
+use crate::found::{Found, Read, add, beside, both, gathered, needed};
 use crate::keys::{Key, Keys};
-use crate::report::Report;
-use crate::rule::{Checker, NameTest, Rule};
-use crate::value_kind::{ValueKind, judge_value};
-use crate::value_words::kind_of;
+use crate::readers::{read_id, read_kind};
+use crate::rule::{Checker, Kind, NameTest, Rule};
+use crate::table::Block;
+use crate::walk::walk;
+use ndn_tlv::Memory;
 use std::alloc::Global;
 
 /// How many blocks the keys of a rule are in.
 pub const DEPTH: usize = 1;
 
-/// The greatest number of filters of a rule, and of checkers.
-const MAX_TESTS: usize = 16;
-
-/// Notes what is wrong with a key of a rule. Only memory is refused.
-#[tactic(auto, unfolding(crate::specs::RuleBlock::rule_key_faults))]
-fn judge_key(alloc: Global, key: Key<'_>, report: &mut Report) -> Result<(), RulesFault>
-    ensures { MatchResult result
-        (λ _. report.new ≡ after report.old (rule_key_faults (key_of key.entry)))
-        (λ fault. fault ≡ memory_fault) }
-{
-    if key.is("id") {
-        return judge_value(alloc, ValueKind::Id, key, report);
-    }
-    if key.is("for") {
-        return judge_value(alloc, ValueKind::PacketKind, key, report);
-    }
-    if key.is("filter") {
-        return judge_filter(alloc, key, report);
-    }
-    if key.is("checker") {
-        return judge_checker(alloc, key, report);
-    }
-    report.note(key.line(), RulesFaultKind::UnknownKey);
-    Ok(())
-}
-
-/// Notes what is wrong with each key of a rule. Only memory is refused.
-#[tactic(auto, using(crate::proofs::Reports::after_first, crate::proofs::Reports::after_no))]
-fn judge_keys(alloc: Global, keys: Keys<'_>, report: &mut Report) -> Result<(), RulesFault>
-    ensures { MatchResult result
-        (λ _. report.new ≡ after report.old (flat_map rule_key_faults (keys_of keys.entry)))
-        (λ fault. fault ≡ memory_fault) }
-{
-    let mut left = keys;
-    while let Some((key, others)) = left.split_first() {
-        judge_key(alloc, key, report)?;
-        left = others;
-    }
-    Ok(())
-}
-
-/// Notes what is wrong in the block of a rule on this line. Only memory is refused.
-#[tactic(auto, using(crate::proofs::Reports::after_append, crate::proofs::Reports::after_none), unfolding(crate::specs::RuleBlock::rule_block_faults))]
-fn judge_block(
+/// The rule of these parts.
+fn rule_with(
     alloc: Global,
-    line: u32,
-    keys: Keys<'_>,
-    report: &mut Report,
-) -> Result<(), RulesFault>
-    ensures { MatchResult result
-        (λ _. report.new ≡ after report.old (rule_block_faults line (keys_of keys.entry)))
-        (λ fault. fault ≡ memory_fault) }
+    id: &str,
+    kind: Kind,
+    filters: Vec<NameTest>,
+    checkers: Vec<Checker>,
+) -> Result<Rule, Memory>
+    ensures { IfOk result
+        (λ rule. rule_of rule ≡ rule_with ((id.now, kind), (filters.items, checkers.items))) }
 {
-    judge_keys(alloc, keys, report)?;
-    keys.judge_once(line, "id", report);
-    keys.judge_once(line, "for", report);
-    keys.judge_many(MAX_TESTS, "filter", report);
-    keys.judge_many(MAX_TESTS, "checker", report);
-    Ok(())
-}
-
-/// Notes what is wrong with a rule by itself. Only memory is refused.
-#[tactic(auto, using(crate::proofs::Reports::after_append, crate::proofs::Reports::after_none), unfolding(crate::specs::RuleBlock::rule_faults))]
-pub fn judge_rule(alloc: Global, key: Key<'_>, report: &mut Report) -> Result<(), RulesFault>
-    ensures { MatchResult result
-        (λ _. report.new ≡ after report.old (rule_faults (key_of key.entry)))
-        (λ fault. fault ≡ memory_fault) }
-{
-    key.judge_shape(report);
-    if key.has_block() {
-        return judge_block(alloc, key.line(), key.keys(DEPTH), report);
-    }
-    Ok(())
-}
-
-/// The filters that these keys of a block without faults give.
-fn read_filters(alloc: Global, keys: Keys<'_>) -> Result<Vec<NameTest>, RulesFault>
-    ensures { MatchResult result
-        (λ read. all_of filter_in (named (codes "filter") (keys_of keys.entry)) ≡ Some read.items)
-        (λ fault. fault ≡ memory_fault) }
-{
-    let mut read = Vec::new(alloc);
-    let mut left = keys;
-    while let Some((key, others)) = left.split_first() {
-        if key.is("filter") {
-            read.push(read_filter(alloc, key)?)?;
-        }
-        left = others;
-    }
-    Ok(read)
-}
-
-/// The checkers that these keys of a block without faults give.
-fn read_checkers(alloc: Global, keys: Keys<'_>) -> Result<Vec<Checker>, RulesFault>
-    ensures { MatchResult result
-        (λ read. all_of checker_in (named (codes "checker") (keys_of keys.entry)) ≡ Some read.items)
-        (λ fault. fault ≡ memory_fault) }
-{
-    let mut read = Vec::new(alloc);
-    let mut left = keys;
-    while let Some((key, others)) = left.split_first() {
-        if key.is("checker") {
-            read.push(read_checker(alloc, key)?)?;
-        }
-        left = others;
-    }
-    Ok(read)
-}
-
-/// The rule that these keys of a block without faults give.
-fn read_keys(alloc: Global, keys: Keys<'_>) -> Result<Rule, RulesFault>
-    ensures { MatchResult result (λ rule. rule_of_keys (keys_of keys.entry) ≡ Some (rule_of rule))
-        (λ fault. fault ≡ memory_fault) }
-{
-    let id = keys.first_value("id").ok_or(MEMORY)?;
-    let word = keys.first_value("for").ok_or(MEMORY)?;
-    let kind = kind_of(word).ok_or(MEMORY)?;
-    let filters = read_filters(alloc, keys)?;
-    let checkers = read_checkers(alloc, keys)?;
     Ok(Rule {
         id: String::from_str(alloc, id)?,
         kind,
@@ -151,11 +40,80 @@ fn read_keys(alloc: Global, keys: Keys<'_>) -> Result<Rule, RulesFault>
     })
 }
 
-/// The rule that a key without faults gives.
-#[tactic(auto, unfolding(crate::specs::RuleBlock::rule_in))]
-pub fn read_rule(alloc: Global, key: Key<'_>) -> Result<Rule, RulesFault>
-    ensures { MatchResult result (λ rule. rule_in (key_of key.entry) ≡ Some (rule_of rule))
-        (λ fault. fault ≡ memory_fault) }
+/// The rule of what was found.
+fn made_of(
+    alloc: Global,
+    head: Found<(&str, Kind)>,
+    filters: Found<Vec<NameTest>>,
+    checkers: Found<Vec<Checker>>,
+) -> Read<Rule>
+    ensures { IfOk result (λ found. shown rule_of found ≡ shown rule_with
+        (spec_both (shown (λ head. (head.0.now, head.1)) head.entry)
+        (spec_both (shown (λ all. all.items) filters) (shown (λ all. all.items) checkers)))) }
 {
-    read_keys(alloc, key.keys(DEPTH))
+    match both(head, both(filters, checkers)) {
+        Ok(((id, kind), (filters, checkers))) => {
+            Ok(Ok(rule_with(alloc, id, kind, filters, checkers)?))
+        }
+        Err(fault) => Ok(Err(fault)),
+    }
+}
+
+/// The id and the kind of a rule whose block is on this line.
+fn read_head<'a>(line: u32, keys: Keys<'a>) -> Found<(&'a str, Kind)>
+    ensures { shown (λ head. (head.0.now, head.1)) result ≡ head_in line (keys_of keys.entry) }
+{
+    both(
+        needed(line, read_id(keys)),
+        needed(line, read_kind(keys, "for")),
+    )
+}
+
+/// The rule of these keys of a block on a line, but for keys that are unknown or there too often.
+#[tactic(auto, unfolding(crate::specs::RuleBlock::rule_parts))]
+fn read_parts(alloc: Global, line: u32, keys: Keys<'_>) -> Read<Rule>
+    ensures { IfOk result (λ found. shown rule_of found
+        ≡ shown rule_with (rule_parts line (keys_of keys.entry))) }
+{
+    let filters = read_filters(alloc, keys)?;
+    let checkers = read_checkers(alloc, keys)?;
+    made_of(alloc, read_head(line, keys), filters, checkers)
+}
+
+#[tactic(auto, unfolding(crate::specs::RuleBlock::rule_of_keys))]
+fn read_keys(alloc: Global, line: u32, keys: Keys<'_>) -> Read<Rule>
+    ensures { IfOk result
+        (λ found. shown rule_of found ≡ rule_of_keys line (keys_of keys.entry)) }
+{
+    let fault = walk(alloc, Block::Rule, keys)?.first();
+    let rule = read_parts(alloc, line, keys)?;
+    Ok(beside(fault, rule))
+}
+
+#[tactic(auto, unfolding(crate::specs::RuleBlock::rule_in))]
+fn read_rule(alloc: Global, key: Key<'_>) -> Read<Rule>
+    ensures { IfOk result (λ found. shown rule_of found ≡ rule_in (key_of key.entry)) }
+{
+    if !key.has_block() {
+        return Ok(Err(key.fault(RulesFaultKind::BadValue)));
+    }
+    let rule = read_keys(alloc, key.line(), key.keys(DEPTH))?;
+    Ok(beside(key.shape_fault(), rule))
+}
+
+/// Each rule.
+pub fn read_rules(alloc: Global, keys: Keys<'_>) -> Read<Vec<Rule>>
+    ensures { IfOk result (λ found. shown (λ all. map rule_of all.items) found
+        ≡ each rule_in (named (codes "rule") (keys_of keys.entry))) }
+{
+    let mut all = Vec::new(alloc);
+    let mut fault = None;
+    let mut left = keys;
+    while let Some((key, others)) = left.split_first() {
+        if key.is("rule") {
+            add(&mut all, &mut fault, read_rule(alloc, key)?)?;
+        }
+        left = others;
+    }
+    Ok(gathered(all, fault))
 }

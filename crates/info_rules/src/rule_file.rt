@@ -1,29 +1,36 @@
 //! Rule files: their faults, and their rules. A file is judged as a whole first, and read only
 //where ! nothing is wrong with it.
 
-ghost use Rattle.std.specs.Prelude.{◌≡◌, Some, MatchResult};
+ghost use Rattle.std.specs.Prelude.{◌≡◌, ◌⊎◌, ◌++◌, None, Ok, Err, IfOk, MatchResult, map};
 ghost use Rattle.std.specs.List.{flat_map};
-ghost use Rattle.info_rules.specs.Shown.{key_of, keys_of};
-ghost use Rattle.info_rules.specs.Faults.{after, memory_fault};
-ghost use Rattle.std.specs.Prelude.{List, ℕ, map, codes, Ok, Err, ◌⊎◌};
 ghost use Rattle.std.specs.Option.{option_map};
-ghost use Rattle.std.specs.Prelude.{[]};
-ghost use Rattle.std.specs.Option.{IsSome};
-ghost use Rattle.info_rules.specs.Tree.{Block};
-ghost use Rattle.info_rules.specs.Shown.{rule_of};
-ghost use Rattle.std.specs.Prelude.{IfOk};
+ghost use Rattle.info_rules.specs.Shown.{key_of, keys_of, rule_of};
+ghost use Rattle.info_rules.specs.Faults.{after, memory_fault};
+ghost use Rattle.info_rules.specs.Found.{shown};
+ghost use Rattle.std.specs.Prelude.{List, codes};
+ghost use Rattle.info_rules.specs.Tree.{PlainEntry, Block as Keyed, blocks_of};
+ghost use Rattle.info_rules.specs.Rule.{PlainRule};
+ghost use Rattle.info_rules.specs.Keys.{named};
+ghost use Rattle.info_rules.specs.FilterBlock.{filter_in};
+ghost use Rattle.info_rules.specs.CheckerBlock.{checker_in};
+ghost use Rattle.info_rules.specs.RuleBlock.{rule_in};
+ghost use Rattle.info_rules.specs.Found.{AreRead};
 ghost use Rattle.info_rules.specs.Limits.{AreWithinLimits};
-ghost use Rattle.info_rules.specs.Keys.{value_of};
-ghost use Rattle.info_rules.specs.RuleFile.{id_key, same_id_faults, repeated_faults, id_faults, top_key_faults, file_faults, all_rules, rules_in};
+ghost use Rattle.info_rules.specs.Walk.{walk_faults};
+ghost use Rattle.info_rules.specs.RuleFile.{id_key, same_id_faults, repeated_faults, id_faults, shared_faults, rules_of_keys, rules_in};
 
-use crate::anchor_block::judge_anchor;
-use crate::fault::{RulesFault, RulesFaultKind};
+use crate::anchor_block::read_anchors;
+use crate::fault::{MEMORY, RulesFault, RulesFaultKind};
+use crate::found::{Read, beside, both, first};
 use crate::keys::{Key, Keys};
 use crate::report::Report;
 use crate::rule::Rule;
-use crate::rule_block::{self, judge_rule, read_rule};
+use crate::rule_block::{self, read_rules};
 use crate::rules::Rules;
+use crate::table::Block;
 use crate::tree::InfoTree;
+use crate::walk::walk;
+use ndn_tlv::Memory;
 use std::alloc::Global;
 
 /// The greatest number of rules.
@@ -92,67 +99,29 @@ fn judge_ids(keys: Keys<'_>, report: &mut Report)
     }
 }
 
-/// Notes what is wrong with a key in no block. Only memory is refused.
-#[tactic(auto, unfolding(crate::specs::RuleFile::top_key_faults))]
-fn judge_key(alloc: Global, key: Key<'_>, report: &mut Report) -> Result<(), RulesFault>
-    ensures { MatchResult result
-        (λ _. report.new ≡ after report.old (top_key_faults (key_of key.entry)))
-        (λ fault. fault ≡ memory_fault) }
+/// The fault to report of the keys of a file: those that are unknown, more than 256 rules, and ids
+/// that two of them have.
+#[tactic(auto, using(crate::proofs::Reports::after_append, crate::proofs::Reports::after_none))]
+fn judge_file(alloc: Global, keys: Keys<'_>) -> Result<Option<RulesFault>, Memory>
+    ensures { IfOk result (λ fault. fault ≡ after None
+        (walk_faults Block.File (keys_of keys.entry) ++ shared_faults (keys_of keys.entry))) }
 {
-    if key.is("rule") {
-        return judge_rule(alloc, key, report);
+    let mut report = walk(alloc, Block::File, keys)?;
+    if keys.count("rule") <= MAX_RULES {
+        judge_ids(keys, &mut report);
     }
-    if key.is("trust-anchor") {
-        return judge_anchor(alloc, key, report);
-    }
-    report.note(key.line(), RulesFaultKind::UnknownKey);
-    Ok(())
+    Ok(report.first())
 }
 
-/// Notes what is wrong with each key in no block. Only memory is refused.
-#[tactic(auto, using(crate::proofs::Reports::after_first, crate::proofs::Reports::after_no))]
-fn judge_keys(alloc: Global, keys: Keys<'_>, report: &mut Report) -> Result<(), RulesFault>
-    ensures { MatchResult result
-        (λ _. report.new ≡ after report.old (flat_map top_key_faults (keys_of keys.entry)))
-        (λ fault. fault ≡ memory_fault) }
+#[tactic(auto, unfolding(crate::specs::RuleFile::rules_of_keys))]
+fn read_keys(alloc: Global, keys: Keys<'_>) -> Read<Vec<Rule>>
+    ensures { IfOk result (λ found. shown (λ all. map rule_of all.items) found
+        ≡ rules_of_keys (keys_of keys.entry)) }
 {
-    let mut left = keys;
-    while let Some((key, others)) = left.split_first() {
-        judge_key(alloc, key, report)?;
-        left = others;
-    }
-    Ok(())
-}
-
-/// Notes all that is wrong with a file. Only memory is refused.
-#[tactic(auto, using(crate::proofs::Reports::after_append, crate::proofs::Reports::after_none), unfolding(crate::specs::RuleFile::file_faults))]
-fn judge_file(alloc: Global, keys: Keys<'_>, report: &mut Report) -> Result<(), RulesFault>
-    ensures { MatchResult result
-        (λ _. report.new ≡ after report.old (file_faults (keys_of keys.entry)))
-        (λ fault. fault ≡ memory_fault) }
-{
-    judge_keys(alloc, keys, report)?;
-    keys.judge_many(MAX_RULES, "rule", report);
-    judge_ids(keys, report);
-    Ok(())
-}
-
-/// The rules of a file without faults.
-#[tactic(auto, unfolding(crate::specs::RuleFile::all_rules))]
-fn read_rules(alloc: Global, keys: Keys<'_>) -> Result<Vec<Rule>, RulesFault>
-    ensures { MatchResult result
-        (λ rules. all_rules (keys_of keys.entry) ≡ Some (map rule_of rules.items))
-        (λ fault. fault ≡ memory_fault) }
-{
-    let mut read = Vec::new(alloc);
-    let mut left = keys;
-    while let Some((key, others)) = left.split_first() {
-        if key.is("rule") {
-            read.push(read_rule(alloc, key)?)?;
-        }
-        left = others;
-    }
-    Ok(read)
+    let fault = judge_file(alloc, keys)?;
+    let rules = read_rules(alloc, keys)?;
+    let anchors = read_anchors(alloc, keys)?;
+    Ok(beside(fault, first(both(rules, anchors))))
 }
 
 /// The rules of these entries.
@@ -165,13 +134,11 @@ fn read_file(alloc: Global, tree: &InfoTree) -> Result<Rules, RulesFault>
         depth: 0,
         entries: &tree.entries,
     };
-    let mut report = Report::new();
-    judge_file(alloc, keys, &mut report)?;
-    if let Some(fault) = report.first() {
-        return Err(fault);
+    match read_keys(alloc, keys) {
+        Ok(Ok(rules)) => Ok(Rules { rules }),
+        Ok(Err(fault)) => Err(fault),
+        Err(Memory) => Err(MEMORY),
     }
-    let rules = read_rules(alloc, keys)?;
-    Ok(Rules { rules })
 }
 
 impl Rules {
@@ -189,7 +156,13 @@ impl Rules {
     }
 }
 
-/// Law: a file without faults gives each of its rules, with each filter and each checker.
+/// Law: each rule of a file is there, in the order of the text, and each filter and each checker of a
+/// rule.
 pub fn no_rule_is_dropped()
-    ensures { (keys : List Block) → file_faults keys ≡ [] → IsSome (all_rules keys) }
+    ensures rules { (entries : List PlainEntry) (rules : List PlainRule) → rules_in entries ≡ Ok rules
+        → AreRead rule_in (named (codes "rule") (blocks_of 0 entries)) rules }
+    ensures filters { (key : Keyed) (rule : PlainRule) → rule_in key ≡ Ok rule
+        → AreRead filter_in (named (codes "filter") (blocks_of 1 key.1)) rule.filters }
+    ensures checkers { (key : Keyed) (rule : PlainRule) → rule_in key ≡ Ok rule
+        → AreRead checker_in (named (codes "checker") (blocks_of 1 key.1)) rule.checkers }
 {}

@@ -1,0 +1,90 @@
+-- Parts that are gathered one after the other.
+use Rattle.std.proofs.Common.{◌≡◌, ℕ, Bool, true, false, cond, eqb, ltb, List, [], ◌∷◌, map, refl, sym, ap, ◌∙◌, append_assoc, arith}
+use Rattle.std.specs.Prelude.{Option, Some, None, Ok, Err, ◌&&◌, ◌||◌}
+use Rattle.std.proofs.lemmas.List.{append-nil, map-append}
+use Rattle.std.proofs.lemmas.Bool.Decides.{nat_tests}
+use Rattle.info_rules.specs.declared.fault.RulesFault.{RulesFault}
+use Rattle.info_rules.specs.Tree.{Block}
+use Rattle.info_rules.specs.Faults.{kind_number, sooner}
+use Rattle.info_rules.specs.Keys.{is_word, named}
+use Rattle.info_rules.specs.Found.{Found, sooner_of, followed, each, gathered, and_one, joined, shown}
+
+-- which of three is told does not hang on the order of the two choices
+abbrev less : ℕ → ℕ → ℕ → ℕ → Bool
+less a b c d = ltb a c || (eqb a c && ltb b d)
+
+along : (a b c d e f : ℕ) → less a b c d ≡ true → less e f c d ≡ false → less a b e f ≡ true
+along a b c d e f p q = grind (arith, nat_tests)
+
+backed : (a b c d e f : ℕ) → less a b c d ≡ false → less e f a b ≡ false → less e f c d ≡ false
+backed a b c d e f p q = grind (arith, nat_tests)
+
+further : (a b c d e f : ℕ) → less a b c d ≡ true → less e f a b ≡ true → less e f c d ≡ true
+further a b c d e f p q = grind (arith, nat_tests)
+
+sooner_chain : (x y z : RulesFault) → sooner_of (sooner_of x y) z ≡ sooner_of x (sooner_of y z)
+sooner_chain x y z = by_tests (sooner y x) (sooner z y) refl refl
+  where
+    by_tests : (s t : Bool) → sooner y x ≡ s → sooner z y ≡ t → cond (sooner z (cond s y x)) z (cond s y x) ≡ cond (sooner (cond t z y) x) (cond t z y) x
+    by_tests true true p q =
+        let r : sooner z x ≡ true = further y.line (kind_number y.kind) x.line (kind_number x.kind) z.line (kind_number z.kind) p q in
+        rw (q, r) refl
+    by_tests true false p q = rw (q, p) refl
+    by_tests false true p q = refl
+    by_tests false false p q =
+        let r : sooner z x ≡ false = backed y.line (kind_number y.kind) x.line (kind_number x.kind) z.line (kind_number z.kind) p q in
+        rw (r, p) refl
+
+joined_more : {A : Type 0} (g : Found (List A)) (one : Found A) (rest : Found (List A)) → joined (and_one g one) rest ≡ joined g (followed one rest)
+joined_more (Ok parts) (Ok part) (Ok others) = ap Ok (append_assoc parts (part ∷ []) others)
+joined_more (Ok parts) (Ok part) (Err f) = refl
+joined_more (Ok parts) (Err e) (Ok others) = refl
+joined_more (Ok parts) (Err e) (Err f) = refl
+joined_more (Err d) (Ok part) (Ok others) = refl
+joined_more (Err d) (Ok part) (Err f) = refl
+joined_more (Err d) (Err e) (Ok others) = refl
+joined_more (Err d) (Err e) (Err f) = ap Err (sooner_chain d e f)
+
+-- one more key of the word
+pub loop_step : {A : Type 0} (f : Block → Found A) (word : List ℕ) (keys others all : List Block) (key : Block) (before after : Found (List A)) (one : Found A) → keys ≡ key ∷ others → is_word word key ≡ true
+    → one ≡ f key → after ≡ and_one before one → joined before (each f (named word keys)) ≡ each f (named word all) → joined after (each f (named word others)) ≡ each f (named word all)
+unfolding each
+loop_step f word keys others all key before after one keys_are is one_is after_is h =
+    let now : each f (named word keys) ≡ followed (f key) (each f (named word others)) = rw (keys_are, is) refl in
+    rw (after_is, one_is) (joined_more before (f key) (each f (named word others)) ∙ (ap (λ g. joined before g) (sym now) ∙ h))
+
+done : {A : Type 0} (g : Found (List A)) → joined g (Ok []) ≡ g
+done (Ok parts) = ap Ok (append-nil parts)
+done (Err e) = refl
+
+-- no key is left
+pub loop_done : {A : Type 0} (f : Block → Found A) (word : List ℕ) (keys all : List Block) (before read : Found (List A)) → keys ≡ [] → read ≡ before
+    → joined before (each f (named word keys)) ≡ each f (named word all) → read ≡ each f (named word all)
+unfolding each
+loop_done f word keys all before read none is h =
+    let empty : each f (named word keys) ≡ Ok [] = rw none refl in
+    is ∙ (sym (done before) ∙ (ap (λ g. joined before g) (sym empty) ∙ h))
+
+-- parts as they are shown
+gathered_shown : {A B : Type 0} (r : A → B) (parts : List A) (fault : Option RulesFault) → gathered (map r parts) fault ≡ shown (map r) (gathered parts fault)
+gathered_shown r parts None = refl
+gathered_shown r parts (Some fault) = refl
+
+and_one_shown : {A B : Type 0} (r : A → B) (g : Found (List A)) (one : Found A) → shown (map r) (and_one g one) ≡ and_one (shown (map r) g) (shown r one)
+and_one_shown r (Ok parts) (Ok part) = ap Ok (map-append r parts (part ∷ []))
+and_one_shown r (Ok parts) (Err e) = refl
+and_one_shown r (Err e) (Ok part) = refl
+and_one_shown r (Err e) (Err f) = refl
+
+pub step_shown : {A B : Type 0} (r : A → B) (parts more : List A) (fault next : Option RulesFault) (one : Found A) → gathered more next ≡ and_one (gathered parts fault) one
+    → gathered (map r more) next ≡ and_one (gathered (map r parts) fault) (shown r one)
+step_shown r parts more fault next one e =
+    gathered_shown r more next ∙ (ap (shown (map r)) e ∙ (and_one_shown r (gathered parts fault) one ∙ ap (λ g. and_one g (shown r one)) (sym (gathered_shown r parts fault))))
+
+pub all_shown : {A B C : Type 0} (r : A → B) (items : C → List A) (parts : List A) (fault : Option RulesFault) (read : Found C) → shown items read ≡ gathered parts fault
+    → shown (λ all. map r (items all)) read ≡ gathered (map r parts) fault
+all_shown {C = C} r items parts fault read e = within read ∙ (ap (shown (map r)) e ∙ sym (gathered_shown r parts fault))
+  where
+    within : (x : Found C) → shown (λ all. map r (items all)) x ≡ shown (map r) (shown items x)
+    within (Ok all) = refl
+    within (Err fault) = refl

@@ -1,0 +1,83 @@
+-- What is read, or else the fault to report of all that were met.
+use Rattle.std.specs.Prelude.{◌≡◌, ⊤, ℕ, List, [], ◌∷◌, ◌++◌, Option, None, Some, Result, Ok, Err, if◌then◌else◌}
+use Rattle.info_rules.specs.declared.fault.RulesFault.{RulesFault}
+use Rattle.info_rules.specs.declared.fault.RulesFaultKind.TheVariants.{Missing}
+use Rattle.info_rules.specs.Faults.{sooner}
+use Rattle.info_rules.specs.Tree.{Block}
+
+abbrev pub Found : Type 0 → Type 0
+Found A = Result A RulesFault
+
+-- of two faults the one that is reported
+abbrev pub sooner_of : RulesFault → RulesFault → RulesFault
+sooner_of a b = if sooner b a then b else a
+
+-- two parts, or the fault to report of both
+abbrev pub both : {A B : Type 0} → Found A → Found B → Found (A × B)
+both (Ok a) (Ok b) = Ok (a, b)
+both (Ok a) (Err f) = Err f
+both (Err e) (Ok b) = Err e
+both (Err e) (Err f) = Err (sooner_of e f)
+
+-- a part, where a fault may have been met beside it
+abbrev pub beside : {A : Type 0} → Option RulesFault → Found A → Found A
+beside None found = found
+beside (Some e) (Ok a) = Err e
+beside (Some e) (Err f) = Err (sooner_of e f)
+
+-- what a part shows
+abbrev pub shown : {A B : Type 0} → (A → B) → Found A → Found B
+shown f (Ok a) = Ok (f a)
+shown f (Err e) = Err e
+
+-- what is made of a part
+abbrev pub then_made : {A B : Type 0} → (A → Found B) → Found A → Found B
+then_made f (Ok a) = f a
+then_made f (Err e) = Err e
+
+-- a part that is needed in the block of a key on this line
+abbrev pub needed_one : {A : Type 0} → ℕ → Option A → Found A
+needed_one line None = Err (record { line = line; kind = Missing })
+needed_one line (Some a) = Ok a
+
+abbrev pub needed : {A : Type 0} → ℕ → Found (Option A) → Found A
+needed line found = then_made (needed_one line) found
+
+-- one part after others
+abbrev pub followed : {A : Type 0} → Found A → Found (List A) → Found (List A)
+followed (Ok a) (Ok others) = Ok (a ∷ others)
+followed (Ok a) (Err f) = Err f
+followed (Err e) (Ok others) = Err e
+followed (Err e) (Err f) = Err (sooner_of e f)
+
+-- what each of these keys gives
+unfoldable pub each : {A : Type 0} → (Block → Found A) → List Block → Found (List A)
+each f [] = Ok []
+each f (key ∷ keys) = followed (f key) (each f keys)
+
+-- ---- one after the other
+
+-- parts, of which one or more may be faulty
+abbrev pub gathered : {A : Type 0} → List A → Option RulesFault → Found (List A)
+gathered parts None = Ok parts
+gathered parts (Some fault) = Err fault
+
+-- one more part after these
+abbrev pub and_one : {A : Type 0} → Found (List A) → Found A → Found (List A)
+and_one (Ok parts) (Ok part) = Ok (parts ++ part ∷ [])
+and_one (Ok parts) (Err f) = Err f
+and_one (Err e) (Ok part) = Err e
+and_one (Err e) (Err f) = Err (sooner_of e f)
+
+abbrev pub joined : {A : Type 0} → Found (List A) → Found (List A) → Found (List A)
+joined (Ok parts) (Ok others) = Ok (parts ++ others)
+joined (Ok parts) (Err f) = Err f
+joined (Err e) (Ok others) = Err e
+joined (Err e) (Err f) = Err (sooner_of e f)
+
+-- each of these keys gives one of these, in turn
+abbrev pub AreRead : {A : Type 0} → (Block → Found A) → List Block → List A → Type 0
+AreRead f [] [] = ⊤
+AreRead f [] (part ∷ parts) = ⊥
+AreRead f (key ∷ keys) [] = ⊥
+AreRead f (key ∷ keys) (part ∷ parts) = (f key ≡ Ok part) × AreRead f keys parts

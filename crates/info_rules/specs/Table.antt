@@ -1,0 +1,55 @@
+-- The table of the blocks of a rule file: which keys each has.
+use Rattle.std.specs.Prelude.{ℕ, List, [], ◌∷◌, Bool, true, false, codes}
+use Rattle.info_rules.specs.declared.table.Block.{Block}
+use Rattle.info_rules.specs.declared.table.Block.TheVariants as blocks
+use Rattle.info_rules.specs.declared.table.Times.{Times}
+use Rattle.info_rules.specs.declared.table.Times.TheVariants.{Once, UpTo, AnyNumber}
+use Rattle.info_rules.specs.declared.table.Takes.{Takes}
+use Rattle.info_rules.specs.declared.table.Takes.TheVariants.{Value, Inner}
+use Rattle.info_rules.specs.declared.value_kind.ValueKind.TheVariants.{Id, PacketKind, NameWord, Uri, Relation, Pattern, Template, CheckerType, SignatureType, AnchorType}
+
+-- a key by its word, with what it takes, and how often it may stand in its block
+pub record PlainForm : Type 0 where
+  pub word : List ℕ
+  pub takes : Takes
+  pub times : Times
+
+abbrev pub form : List ℕ → Takes → Times → PlainForm
+form word takes times = record { word = word; takes = takes; times = times }
+
+-- the keys of each block
+unfoldable pub table : Block → List PlainForm
+table blocks.File =
+    form (codes "rule") Inner (UpTo 256) ∷ form (codes "trust-anchor") Inner AnyNumber ∷ []
+table blocks.Anchor = form (codes "type") (Value AnchorType) Once ∷ []
+table blocks.Rule =
+    form (codes "id") (Value Id) Once ∷ form (codes "for") (Value PacketKind) Once
+    ∷ form (codes "filter") Inner (UpTo 16) ∷ form (codes "checker") Inner (UpTo 16) ∷ []
+table blocks.Filter =
+    form (codes "type") (Value NameWord) Once ∷ form (codes "name") (Value Uri) Once
+    ∷ form (codes "relation") (Value Relation) Once ∷ form (codes "regex") (Value Pattern) Once ∷ []
+table blocks.Customized =
+    form (codes "type") (Value CheckerType) Once ∷ form (codes "sig-type") (Value SignatureType)
+    Once ∷ form (codes "key-locator") Inner Once ∷ []
+table blocks.Hierarchical =
+    form (codes "type") (Value CheckerType) Once ∷ form (codes "sig-type") (Value SignatureType)
+    Once ∷ []
+table blocks.Locator =
+    form (codes "type") (Value NameWord) Once ∷ form (codes "name") (Value Uri) Once
+    ∷ form (codes "relation") (Value Relation) Once ∷ form (codes "regex") (Value Pattern) Once
+    ∷ form (codes "hyper-relation") Inner Once ∷ []
+table blocks.Hyper =
+    form (codes "k-regex") (Value Pattern) Once ∷ form (codes "k-expand") (Value Template) Once
+    ∷ form (codes "h-relation") (Value Relation) Once ∷ form (codes "p-regex") (Value Pattern) Once
+    ∷ form (codes "p-expand") (Value Template) Once ∷ []
+
+-- a trust anchor's other keys are not looked at
+abbrev pub is_closed : Block → Bool
+is_closed blocks.File = true
+is_closed blocks.Anchor = false
+is_closed blocks.Rule = true
+is_closed blocks.Filter = true
+is_closed blocks.Customized = true
+is_closed blocks.Hierarchical = true
+is_closed blocks.Locator = true
+is_closed blocks.Hyper = true

@@ -1,0 +1,44 @@
+-- What is wrong with the keys of a block, by the table: keys that are not in it, and keys that stand
+-- there too often. The first key of each word is left to those who read it.
+use Rattle.std.specs.Prelude.{List, [], ◌∷◌, ◌++◌, Bool, false, if◌then◌else◌}
+use Rattle.std.specs.List.{flat_map, list_any}
+use Rattle.info_rules.specs.declared.fault.RulesFault.{RulesFault}
+use Rattle.info_rules.specs.declared.fault.RulesFaultKind.TheVariants.{UnknownKey, BadValue, TwiceNamed}
+use Rattle.info_rules.specs.declared.table.Block.{Block as BlockKind}
+use Rattle.info_rules.specs.declared.table.Times.{Times}
+use Rattle.info_rules.specs.declared.table.Times.TheVariants.{Once, UpTo, AnyNumber}
+use Rattle.info_rules.specs.declared.table.Takes.{Takes}
+use Rattle.info_rules.specs.declared.table.Takes.TheVariants.{Value, Inner}
+use Rattle.info_rules.specs.Tree.{Block}
+use Rattle.info_rules.specs.Table.{PlainForm, table, is_closed}
+use Rattle.info_rules.specs.Keys.{on_option, is_word, named, others_of, value_of, fault_at, many_faults}
+use Rattle.info_rules.specs.Values.{is_value}
+
+abbrev pub unknown_faults : List PlainForm → Block → List RulesFault
+unknown_faults forms key =
+    if list_any (λ form. is_word form.word key) forms then [] else fault_at UnknownKey key ∷ []
+
+abbrev pub value_faults : Bool → Block → List RulesFault
+value_faults right key = if right then [] else fault_at BadValue key ∷ []
+
+-- what else is wrong with a second key
+abbrev pub again_wrong : Takes → Block → List RulesFault
+again_wrong (Value kind) key = value_faults (on_option (is_value kind) false (value_of key)) key
+again_wrong Inner key = []
+
+abbrev pub again_faults : Takes → Block → List RulesFault
+again_faults takes key = again_wrong takes key ++ fault_at TwiceNamed key ∷ []
+
+-- the keys of one word that stand there too often
+unfoldable pub times_faults : List Block → PlainForm → List RulesFault
+times_faults keys form = by_times form.times
+  where
+    by_times : Times → List RulesFault
+    by_times Once = flat_map (again_faults form.takes) (others_of (named form.word keys))
+    by_times (UpTo most) = many_faults most form.word keys
+    by_times AnyNumber = []
+
+unfoldable pub walk_faults : BlockKind → List Block → List RulesFault
+walk_faults block keys =
+    (if is_closed block then flat_map (unknown_faults (table block)) keys else [])
+    ++ flat_map (times_faults keys) (table block)

@@ -1,0 +1,150 @@
+//! What is read, or else the fault to report of all that were met.
+
+ghost use Rattle.std.specs.Prelude.{◌≡◌, OnOk};
+ghost use Rattle.info_rules.specs.Found as found;
+ghost use Rattle.info_rules.specs.Found.{sooner_of, shown};
+ghost use Rattle.info_rules.specs.Keys.{missing_unless};
+
+use crate::fault::{RulesFault, RulesFaultKind};
+use ndn_tlv::Memory;
+
+/// A part of a file that was read, or the fault to report.
+pub type Found<A> = Result<A, RulesFault>;
+
+/// What is read, unless memory is refused.
+pub type Read<A> = Result<Found<A>, Memory>;
+
+impl RulesFaultKind {
+    ghost use Rattle.std.specs.Prelude.{◌≡◌};
+    ghost use Rattle.info_rules.specs.Faults.{kind_number};
+
+    /// Its place among the kinds of one line.
+    fn number(self) -> u8
+        ensures { result ≡ kind_number self }
+    {
+        match self {
+            RulesFaultKind::Syntax => 1,
+            RulesFaultKind::TooDeep => 2,
+            RulesFaultKind::TooLarge => 3,
+            RulesFaultKind::UnknownKey => 4,
+            RulesFaultKind::Missing => 5,
+            RulesFaultKind::BadValue => 6,
+            RulesFaultKind::TwiceNamed => 7,
+            RulesFaultKind::Pattern => 8,
+            RulesFaultKind::AnyAnchor => 9,
+            RulesFaultKind::Memory => 10,
+        }
+    }
+}
+
+impl RulesFault {
+    ghost use Rattle.std.specs.Prelude.{◌≡◌};
+    ghost use Rattle.info_rules.specs.Faults.{sooner};
+    ghost use Rattle.info_rules.specs.Found.{sooner_of};
+
+    /// Whether it is reported before the other fault.
+    pub fn is_sooner(self, other: RulesFault) -> bool
+        ensures { result ≡ sooner self other }
+    {
+        self.line < other.line
+            || self.line == other.line && self.kind.number() < other.kind.number()
+    }
+
+    /// The one of both that is reported.
+    pub fn sooner_of(self, other: RulesFault) -> RulesFault
+        ensures { result ≡ sooner_of self other }
+    {
+        if other.is_sooner(self) { other } else { self }
+    }
+}
+
+/// Two parts, or the fault to report of both.
+pub fn both<A: Drop, B: Drop>(first: Found<A>, second: Found<B>) -> Found<(A, B)>
+    ensures { result ≡ found.both first second }
+{
+    match (first, second) {
+        (Ok(a), Ok(b)) => Ok((a, b)),
+        (Ok(_), Err(fault)) | (Err(fault), Ok(_)) => Err(fault),
+        (Err(fault), Err(other)) => Err(fault.sooner_of(other)),
+    }
+}
+
+/// A part, where a fault may have been met beside it.
+pub fn beside<A: Drop>(fault: Option<RulesFault>, read: Found<A>) -> Found<A>
+    ensures { result ≡ found.beside fault read }
+{
+    match (fault, read) {
+        (None, read) => read,
+        (Some(fault), Ok(_)) => Err(fault),
+        (Some(fault), Err(other)) => Err(fault.sooner_of(other)),
+    }
+}
+
+/// The first of two parts.
+pub fn first<A: Drop, B: Drop>(read: Found<(A, B)>) -> Found<A>
+    ensures { result ≡ found.shown (λ both. both.0) read }
+{
+    match read {
+        Ok((part, _)) => Ok(part),
+        Err(fault) => Err(fault),
+    }
+}
+
+/// The second of two parts.
+pub fn second<A: Drop, B: Drop>(read: Found<(A, B)>) -> Found<B>
+    ensures { result ≡ found.shown (λ both. both.1) read }
+{
+    match read {
+        Ok((_, part)) => Ok(part),
+        Err(fault) => Err(fault),
+    }
+}
+
+/// A part that is needed in the block of a key on this line.
+pub fn needed<A: Drop>(line: u32, read: Found<Option<A>>) -> Found<A>
+    ensures { result ≡ found.needed line read }
+{
+    read?.ok_or(RulesFault {
+        line,
+        kind: RulesFaultKind::Missing,
+    })
+}
+
+/// Adds one more part to others.
+pub fn add<A: Drop>(
+    all: &mut Vec<A>,
+    fault: &mut Option<RulesFault>,
+    read: Found<A>,
+) -> Result<(), Memory>
+    ensures { OnOk result (found.gathered all.new.items fault.new
+        ≡ found.and_one (found.gathered all.old.items fault.old) read) }
+{
+    match read {
+        Ok(part) => all.push(part)?,
+        Err(other) => *fault = Some(fault.map_or(other, |fault| fault.sooner_of(other))),
+    }
+    Ok(())
+}
+
+/// The parts, or the fault that was met.
+pub fn gathered<A: Drop>(all: Vec<A>, fault: Option<RulesFault>) -> Found<Vec<A>>
+    ensures { shown (λ parts. parts.items) result ≡ found.gathered all.items fault }
+{
+    match fault {
+        Some(fault) => Err(fault),
+        None => Ok(all),
+    }
+}
+
+/// The fault of a block on this line without a key that it needs, unless all are there.
+pub fn missing_unless(there: bool, line: u32) -> Option<RulesFault>
+    ensures { result ≡ missing_unless there line }
+{
+    if there {
+        return None;
+    }
+    Some(RulesFault {
+        line,
+        kind: RulesFaultKind::Missing,
+    })
+}

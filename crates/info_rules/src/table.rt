@@ -1,0 +1,121 @@
+//! The table of the blocks of a rule file: which keys each has.
+
+use crate::table::Takes::{Inner, Value};
+use crate::table::Times::{AnyNumber, Once, UpTo};
+use crate::value_kind::ValueKind::{
+    self, AnchorType, CheckerType, Id, NameWord, PacketKind, Pattern, Relation, SignatureType,
+    Template, Uri,
+};
+
+/// What a key takes.
+#[derive(Clone, Copy)]
+pub enum Takes {
+    Value(ValueKind),
+    /// A block.
+    Inner,
+}
+
+/// How often a key may stand in its block.
+#[derive(Clone, Copy)]
+pub enum Times {
+    Once,
+    UpTo(usize),
+    AnyNumber,
+}
+
+/// A key of a block: its word, what it takes, and how often it may stand.
+#[derive(Clone, Copy)]
+pub struct Form(pub &'static str, pub Takes, pub Times);
+
+/// A block of a rule file.
+#[derive(Clone, Copy)]
+pub enum Block {
+    /// The file itself.
+    File,
+    Anchor,
+    Rule,
+    Filter,
+    /// A checker that has a key locator.
+    Customized,
+    Hierarchical,
+    Locator,
+    Hyper,
+}
+
+const FILE: [Form; 2] = [
+    Form("rule", Inner, UpTo(256)),
+    Form("trust-anchor", Inner, AnyNumber),
+];
+
+const ANCHOR: [Form; 1] = [Form("type", Value(AnchorType), Once)];
+
+const RULE: [Form; 4] = [
+    Form("id", Value(Id), Once),
+    Form("for", Value(PacketKind), Once),
+    Form("filter", Inner, UpTo(16)),
+    Form("checker", Inner, UpTo(16)),
+];
+
+const FILTER: [Form; 4] = [
+    Form("type", Value(NameWord), Once),
+    Form("name", Value(Uri), Once),
+    Form("relation", Value(Relation), Once),
+    Form("regex", Value(Pattern), Once),
+];
+
+const CUSTOMIZED: [Form; 3] = [
+    Form("type", Value(CheckerType), Once),
+    Form("sig-type", Value(SignatureType), Once),
+    Form("key-locator", Inner, Once),
+];
+
+const HIERARCHICAL: [Form; 2] = [
+    Form("type", Value(CheckerType), Once),
+    Form("sig-type", Value(SignatureType), Once),
+];
+
+const LOCATOR: [Form; 5] = [
+    Form("type", Value(NameWord), Once),
+    Form("name", Value(Uri), Once),
+    Form("relation", Value(Relation), Once),
+    Form("regex", Value(Pattern), Once),
+    Form("hyper-relation", Inner, Once),
+];
+
+const HYPER: [Form; 5] = [
+    Form("k-regex", Value(Pattern), Once),
+    Form("k-expand", Value(Template), Once),
+    Form("h-relation", Value(Relation), Once),
+    Form("p-regex", Value(Pattern), Once),
+    Form("p-expand", Value(Template), Once),
+];
+
+impl Block {
+    ghost use Rattle.std.specs.Prelude.{◌≡◌, map};
+    ghost use Rattle.info_rules.specs.Table.{table, is_closed};
+    ghost use Rattle.info_rules.specs.Shown.{form_of};
+
+    /// Its keys.
+    #[tactic(auto, unfolding(crate::specs::Table::table))]
+    pub fn forms(self) -> &'static [Form]
+        ensures { map form_of result.now ≡ table self }
+    {
+        match self {
+            Block::File => &FILE,
+            Block::Anchor => &ANCHOR,
+            Block::Rule => &RULE,
+            Block::Filter => &FILTER,
+            Block::Customized => &CUSTOMIZED,
+            Block::Hierarchical => &HIERARCHICAL,
+            Block::Locator => &LOCATOR,
+            Block::Hyper => &HYPER,
+        }
+    }
+
+    /// Whether it has no other keys.
+    pub fn is_closed(self) -> bool
+        ensures { result ≡ is_closed self }
+    {
+        !matches!(self, Block::Anchor)
+    }
+}

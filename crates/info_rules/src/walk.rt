@@ -1,0 +1,146 @@
+//! What is wrong with the keys of a block, by the table.
+
+ghost use Rattle.std.specs.Prelude.{◌≡◌, OnOk, IfOk, None, map};
+ghost use Rattle.std.specs.List.{flat_map, list_any};
+ghost use Rattle.info_rules.specs.Faults.{after};
+ghost use Rattle.info_rules.specs.Table.{table};
+ghost use Rattle.info_rules.specs.Keys.{is_word, named, others_of};
+ghost use Rattle.info_rules.specs.Walk.{unknown_faults, value_faults, again_wrong, again_faults, times_faults, walk_faults};
+ghost use Rattle.info_rules.specs.Shown.{key_of, keys_of, form_of};
+
+use crate::fault::RulesFaultKind;
+use crate::keys::{Key, Keys};
+use crate::report::Report;
+use crate::table::{Block, Form, Takes, Times};
+use ndn_tlv::Memory;
+use std::alloc::Global;
+
+/// Whether a key is in the table.
+fn is_known(forms: &[Form], key: Key<'_>) -> bool
+    ensures { result ≡ list_any (λ form. is_word form.word (key_of key.entry)) (map form_of forms.now) }
+{
+    let mut left = forms;
+    while let Some((form, others)) = left.split_first() {
+        if key.is(form.0) {
+            return true;
+        }
+        left = others;
+    }
+    false
+}
+
+/// Notes keys that are not in the table.
+#[tactic(auto, using(crate::proofs::Reports::after_first, crate::proofs::Reports::after_no), unfolding(crate::specs::Faults::after))]
+fn judge_unknown(forms: &[Form], keys: Keys<'_>, report: &mut Report)
+    ensures { report.new ≡ after report.old
+        (flat_map (unknown_faults (map form_of forms.now)) (keys_of keys.entry)) }
+{
+    let mut left = keys;
+    while let Some((key, others)) = left.split_first() {
+        if !is_known(forms, key) {
+            report.note(key.line(), RulesFaultKind::UnknownKey);
+        }
+        left = others;
+    }
+}
+
+/// Whether a second key is wrong by itself.
+fn is_right(alloc: Global, takes: Takes, key: Key<'_>) -> Result<bool, Memory>
+    ensures { IfOk result (λ right. again_wrong takes (key_of key.entry) ≡ value_faults right (key_of key.entry)) }
+{
+    match takes {
+        Takes::Value(kind) => match key.value() {
+            Some(text) => kind.is_value(alloc, text),
+            None => Ok(false),
+        },
+        // Those who read blocks read each.
+        Takes::Inner => Ok(true),
+    }
+}
+
+/// Notes a second key.
+#[tactic(auto, using(crate::proofs::Reports::after_append, crate::proofs::Reports::after_none), unfolding(crate::specs::Faults::after))]
+fn judge_again(alloc: Global, takes: Takes, key: Key<'_>, report: &mut Report) -> Result<(), Memory>
+    ensures { OnOk result (report.new ≡ after report.old (again_faults takes (key_of key.entry))) }
+{
+    if !is_right(alloc, takes, key)? {
+        report.note(key.line(), RulesFaultKind::BadValue);
+    }
+    report.note(key.line(), RulesFaultKind::TwiceNamed);
+    Ok(())
+}
+
+/// Notes the keys of a word after the first.
+#[tactic(auto, using(crate::proofs::Reports::after_append, crate::proofs::Reports::after_none))]
+fn judge_second(
+    alloc: Global,
+    form: &Form,
+    keys: Keys<'_>,
+    report: &mut Report,
+) -> Result<(), Memory>
+    ensures { OnOk result (report.new ≡ after report.old
+        (flat_map (again_faults form.now.1) (others_of (named form.now.0.now (keys_of keys.entry))))) }
+{
+    let mut left = keys.after_first(form.0);
+    while let Some((key, others)) = left.split_first() {
+        if key.is(form.0) {
+            judge_again(alloc, form.1, key, report)?;
+        }
+        left = others;
+    }
+    Ok(())
+}
+
+/// Notes the keys of a word that stand there too often.
+#[tactic(auto, using(crate::proofs::Reports::after_none), unfolding(crate::specs::Walk::times_faults))]
+fn judge_times(
+    alloc: Global,
+    form: &Form,
+    keys: Keys<'_>,
+    report: &mut Report,
+) -> Result<(), Memory>
+    ensures { OnOk result
+        (report.new ≡ after report.old (times_faults (keys_of keys.entry) (form_of form.now))) }
+{
+    match form.2 {
+        Times::Once => judge_second(alloc, form, keys, report),
+        Times::UpTo(most) => {
+            keys.judge_many(most, form.0, report);
+            Ok(())
+        }
+        Times::AnyNumber => Ok(()),
+    }
+}
+
+/// Notes the keys that stand there too often.
+#[tactic(auto, using(crate::proofs::Reports::after_first, crate::proofs::Reports::after_no))]
+fn judge_all_times(
+    alloc: Global,
+    forms: &[Form],
+    keys: Keys<'_>,
+    report: &mut Report,
+) -> Result<(), Memory>
+    ensures { OnOk result (report.new ≡ after report.old
+        (flat_map (times_faults (keys_of keys.entry)) (map form_of forms.now))) }
+{
+    let mut left = forms;
+    while let Some((form, others)) = left.split_first() {
+        judge_times(alloc, form, keys, report)?;
+        left = others;
+    }
+    Ok(())
+}
+
+/// What is wrong with the keys of a block, but for the first of each word.
+#[tactic(auto, using(crate::proofs::Reports::after_append, crate::proofs::Reports::after_none), unfolding(crate::specs::Walk::walk_faults))]
+pub fn walk(alloc: Global, block: Block, keys: Keys<'_>) -> Result<Report, Memory>
+    ensures { IfOk result
+        (λ report. report ≡ after None (walk_faults block (keys_of keys.entry))) }
+{
+    let mut report = Report::new();
+    if block.is_closed() {
+        judge_unknown(block.forms(), keys, &mut report);
+    }
+    judge_all_times(alloc, block.forms(), keys, &mut report)?;
+    Ok(report)
+}
