@@ -5,6 +5,7 @@ ghost use Rattle.hmac_keys.specs.KeyFile.{NamedKey, AreApart};
 ghost use Rattle.ndn_packets.specs.Packet.{PlainFrame};
 ghost use Rattle.info_rules.specs.Rule.{PlainRule};
 ghost use Rattle.info_rules.specs.Decides.{IsGreater, IsPassed, IsGreatest, Allow, Deny, Expands, Decides};
+ghost use Rattle.ndn_names.specs.View.{components};
 ghost use Rattle.info_rules.specs.Shown.{seen_of, signed_of};
 ghost use Rattle.info_rules.specs.Signer.{NamesItsSigner};
 
@@ -136,10 +137,11 @@ impl Rules {
         ensures { MatchResult result (Decides self.now keys.now (frame_of packet.entry))
             (λ _. MayRefuse self.now (frame_of packet.entry)) }
     {
-        let Some(rule) = self.first_match(packet.kind(), packet.name()) else {
+        let name = packet.name();
+        let Some(rule) = self.first_match(packet.kind(), name) else {
             return Ok(Decision::NoRule);
         };
-        let reason = reason_against(alloc, keys, &self.rules[rule.0].checkers, packet)?;
+        let reason = reason_against(alloc, keys, &self.rules[rule.0].checkers, packet, name)?;
         Ok(match reason {
             None => Decision::Allowed(rule),
             Some(reason) => Decision::Denied(rule, reason),
@@ -147,19 +149,21 @@ impl Rules {
     }
 }
 
-/// Why checkers deny a packet, or `None` where they allow it.
+/// Why checkers deny a packet of this name as rules see it, or `None` where they allow it.
 fn reason_against(
     alloc: Global,
     keys: &KeyBook,
     checkers: &[Checker],
     packet: Packet<'_>,
+    name: Name<'_>,
 ) -> Result<Option<Reason>, Memory>
+    requires { components name ≡ (seen_of packet).name }
     ensures { MatchResult result
         (λ reason. MatchOption reason (Allow keys.now checkers.now (seen_of packet.entry))
         (Deny keys.now checkers.now (seen_of packet.entry)))
         (λ _. Any Expands checkers.now) }
 {
-    match packet.signed() {
+    match packet.signed(name) {
         Ok(signed) => greatest_reason(alloc, keys, checkers, signed),
         Err(reason) => Ok(Some(reason)),
     }

@@ -53,14 +53,15 @@ impl<'a> Packet<'a> {
         }
     }
 
-    /// What checkers see, or why none has to look.
-    pub(crate) fn signed(self) -> Result<Signed<'a>, Reason>
+    /// What checkers see, or why none has to look, by the name that rules see.
+    pub(crate) fn signed(self, name: Name<'a>) -> Result<Signed<'a>, Reason>
+        requires { components name ≡ (seen_of self).name }
         ensures { MatchResult result (λ signed. IsSigned (seen_of self.entry) (signed_of signed))
             (IsUnfit (seen_of self.entry)) }
     {
         match self {
-            Packet::Interest(interest) => signed_interest(interest),
-            Packet::Data(packet) => signed_data(packet),
+            Packet::Interest(interest) => signed_interest(interest, name),
+            Packet::Data(packet) => signed_data(packet, name),
         }
     }
 }
@@ -78,7 +79,8 @@ fn without_digest(name: Name<'_>) -> Name<'_>
     }
 }
 
-fn signed_interest<'a>(interest: &'a Interest<'a>) -> Result<Signed<'a>, Reason>
+fn signed_interest<'a>(interest: &'a Interest<'a>, name: Name<'a>) -> Result<Signed<'a>, Reason>
+    requires { components name ≡ without_digest (components interest.now.name) }
     ensures { let seen = seen_interest interest.entry.now.whole.now
         (plain_interest interest.entry.now) in
         MatchResult result (λ signed. IsSigned seen (signed_of signed)) (IsUnfit seen) }
@@ -93,19 +95,20 @@ fn signed_interest<'a>(interest: &'a Interest<'a>) -> Result<Signed<'a>, Reason>
         return Err(Reason::Shape);
     };
     Ok(Signed {
-        name: without_digest(interest.name),
+        name,
         signature,
         parts,
     })
 }
 
-fn signed_data<'a>(packet: &'a Data<'a>) -> Result<Signed<'a>, Reason>
+fn signed_data<'a>(packet: &'a Data<'a>, name: Name<'a>) -> Result<Signed<'a>, Reason>
+    requires { components name ≡ components packet.now.name }
     ensures { let seen = seen_data packet.entry.now.whole.now (plain_data packet.entry.now) in
         MatchResult result (λ signed. IsSigned seen (signed_of signed)) (IsUnfit seen) }
 {
     match packet.signed_parts() {
         Some(parts) => Ok(Signed {
-            name: packet.name,
+            name,
             signature: packet.signature,
             parts,
         }),

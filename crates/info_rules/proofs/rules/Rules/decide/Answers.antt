@@ -11,5 +11,5 @@ pub returns-in-Some-reason : goal.returns-in-Some-reason
 returns-in-Some-reason c =
     let against = rw c.in-Some-reason.is at c.in_ok-reason.ensures in
     let deny = subst (λ (all : List Checker). Deny c.args.keys.now all (seen_of c.args.packet) c.in-Some-reason.reason) c.deref.ensures.value against in
-    denied c.self.inside.rules.items c.args.self.now c.args.keys.now c.args.packet c.kind.result (components c.name.result) c.in-Some.rule c.index.result.now c.in-Some-reason.reason
-    c.self.view_is c.kind.ensures c.name.ensures c.index.ensures c.in-Some.ensures deny
+    denied c.self.inside.rules.items c.args.self.now c.args.keys.now c.args.packet c.kind.result (components c.name-name.result) c.in-Some.rule c.index.result.now c.in-Some-reason.reason
+    c.self.view_is c.kind.ensures c.name-name.ensures c.index.ensures c.in-Some.ensures deny
