@@ -11,6 +11,7 @@ pub mod Matches
 pub mod OneCheck
 pub mod OneDecision
 pub mod Outcomes
+pub mod Outlines
 pub mod Parted
 pub mod Reasons
 pub mod Relations

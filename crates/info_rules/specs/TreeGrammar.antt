@@ -1,7 +1,7 @@
 -- The grammar of rule files: which entries the tokens of a text are.
 use Rattle.std.specs.Prelude.{◌≡◌, ◌≢◌, ℕ, ◌+◌, ◌<◌, ◌≤◌, ⊤, List, [], ◌∷◌, ◌++◌, length, Option, None, Some, Bool, true, false}
 use Rattle.std.specs.Option.{option_map}
-use Rattle.info_rules.specs.Tree.{PlainEntry}
+use Rattle.info_rules.specs.Tree.{PlainEntry, Block}
 use Rattle.info_rules.specs.Words.{Token, Word, Open, Close, unescaped, tokens_in}
 
 -- a key and at most one value on its line, as they stand in the text
@@ -67,6 +67,13 @@ outline depth NoNode = []
 outline depth (Leaf head others) = entry_of_head depth head false ∷ outline depth others
 outline depth (Branch head opened block closed others) =
     entry_of_head depth head true ∷ (outline (depth + 1) block ++ outline depth others)
+
+-- the entries of one block, each with those of its own block
+unfoldable pub keyed : ℕ → Nodes → List Block
+keyed depth NoNode = []
+keyed depth (Leaf head others) = (entry_of_head depth head false, []) ∷ keyed depth others
+keyed depth (Branch head opened block closed others) =
+    (entry_of_head depth head true, outline (depth + 1) block) ∷ keyed depth others
 
 pub record IsTree (tokens : List (ℕ × Token)) (entries : List PlainEntry) : Type 0 where
   pub nodes : Nodes

@@ -42,4 +42,4 @@ pub use rule::Kind;
 pub use rule_file::no_rule_is_dropped;
 pub use rules::{RuleNo, Rules};
 pub use tree::InfoTree;
-pub use tree_reader::trees_have_one_reading;
+pub use tree_reader::{outlines_keep_blocks, trees_have_one_reading};

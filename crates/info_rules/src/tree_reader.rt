@@ -1,8 +1,8 @@
 //! Reading the entries of a text.
 
 ghost use Rattle.std.specs.Prelude.{◌≡◌, ◌≤◌, ◌↔◌, ℕ, List, Ok, IfOk, MatchResult, length, map};
-ghost use Rattle.info_rules.specs.Tree.{PlainEntry};
-ghost use Rattle.info_rules.specs.TreeGrammar.{TreeOf};
+ghost use Rattle.info_rules.specs.Tree.{PlainEntry, blocks_of};
+ghost use Rattle.info_rules.specs.TreeGrammar.{Nodes, TreeOf, keyed, outline};
 ghost use Rattle.info_rules.specs.TreeReading.{IsTreeFaultOf, entries_in, tree_in};
 ghost use Rattle.info_rules.specs.Faults.{memory_fault};
 ghost use Rattle.info_rules.specs.Shown.{entry_of};
@@ -84,4 +84,10 @@ pub fn trees_have_one_reading()
     ensures exact { (text : List ℕ) (entries : List PlainEntry) → (tree_in text ≡ Ok entries)
         ↔ TreeOf text entries }
     ensures one { (text : List ℕ) (a b : List PlainEntry) → TreeOf text a → TreeOf text b → a ≡ b }
+{}
+
+/// Law: in the outline of a text, the keys of a block are those of the block, each with its own block.
+pub fn outlines_keep_blocks()
+    ensures { (depth : ℕ) (nodes : Nodes) → blocks_of depth (outline depth nodes)
+        ≡ keyed depth nodes }
 {}

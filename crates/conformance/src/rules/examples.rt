@@ -6,7 +6,105 @@ use crate::rows::assert_right;
 use info_rules::RuleNo;
 use std::alloc::Global;
 
-/// The first file of `docs/RULES.md`.
+/// The whole file of `docs/RULES.md`.
+const WHOLE: &str = r"; Who may change routes and strategies.
+rule {
+  id operators
+  for interest
+  filter {
+    type name
+    name /localhost/nfd
+    relation is-prefix-of
+  }
+  checker {
+    type customized
+    key-locator {
+      type name
+      regex ^<ops><KEY><>$
+    }
+  }
+}
+
+; Who may delete from the repository: one key. This rule stands before the next one.
+rule {
+  id archive-delete
+  for interest
+  filter {
+    type name
+    name /repo/delete
+    relation is-prefix-of
+  }
+  checker {
+    type customized
+    key-locator {
+      type name
+      name /archive/KEY/1
+      relation equal
+    }
+  }
+}
+
+; Who may insert and check: any key of the laboratory.
+rule {
+  id archive-use
+  for interest
+  filter {
+    type name
+    name /repo
+    relation is-prefix-of
+  }
+  checker {
+    type customized
+    key-locator {
+      type name
+      regex ^<lab><>*<KEY><>$
+    }
+  }
+}
+
+; Data of the sensors: /sensors/roof/KEY/7 signs what is under /sensors/roof, and nothing else.
+rule {
+  id sensors
+  for data
+  filter {
+    type name
+    name /sensors
+    relation is-prefix-of
+  }
+  checker {
+    type hierarchical
+  }
+}
+
+; All other Data. A digest shows damaged octets, and not who made them.
+rule {
+  id others
+  for data
+  checker {
+    type customized
+    sig-type sha256
+  }
+}
+";
+
+const OF_WHOLE: &str = r"
+interest /localhost/nfd/fib/add-nexthop/P by /ops/KEY/1 key → allowed 0
+interest /localhost/nfd/fib/add-nexthop/P by digest → denied 0 SigType
+interest /repo/delete/P by /archive/KEY/1 key → allowed 1
+interest /repo/delete/P by /lab/roof/KEY/7 key → denied 1 KeyLocator
+interest /repo/insert/P by /lab/roof/KEY/7 key → allowed 2
+interest /elsewhere by /ops/KEY/1 key → no rule
+data /sensors/roof/1 by /sensors/roof/KEY/7 key → allowed 3
+data /sensors/roof/1 by digest → denied 3 SigType
+data /A by digest → allowed 4
+";
+
+#[test]
+fn a_whole_file(rt: HostRuntime) {
+    assert_right(&rt, first_wrong_under(rt.alloc(), WHOLE, OF_WHOLE));
+}
+
+/// The first part in `docs/RULES.md`.
 const OPERATORS: &str = r"rule
 {
   id operators
@@ -42,7 +140,7 @@ fn only_operators_change_routes(rt: HostRuntime) {
     assert_right(&rt, first_wrong_under(rt.alloc(), OPERATORS, OF_OPERATORS));
 }
 
-/// The second file of `docs/RULES.md`.
+/// The second part in `docs/RULES.md`.
 const ARCHIVE: &str = r"rule
 {
   id archive-delete
@@ -102,7 +200,7 @@ fn one_key_deletes(rt: HostRuntime) {
     assert_right(&rt, first_wrong_under(rt.alloc(), ARCHIVE, OF_ARCHIVE));
 }
 
-/// The third file of `docs/RULES.md`.
+/// The third part in `docs/RULES.md`.
 const PRODUCERS: &str = r"rule
 {
   id producers
