@@ -1,9 +1,9 @@
 -- The blocks of an outline.
-use Rattle.std.proofs.Common.{◌≡◌, ℕ, ◌+◌, ◌<◌, Bool, true, false, cond, eqb, List, [], ◌∷◌, ◌++◌, refl, sym, ap, ◌∙◌, append_assoc, arith}
+use Rattle.std.proofs.Common.{◌≡◌, ℕ, ◌+◌, ◌<◌, true, false, eqb, List, [], ◌∷◌, ◌++◌, refl, sym, ap, ◌∙◌, append_assoc, arith}
 use Rattle.std.proofs.lemmas.List.{append-nil}
 use Rattle.std.proofs.lemmas.Bool.Decides.{nat_tests}
 use Rattle.info_rules.specs.Tree.{PlainEntry, Block, parted, blocks_of}
-use Rattle.info_rules.specs.TreeGrammar.{Head, Nodes, NoNode, Leaf, Branch, entry_of_head, outline, keyed}
+use Rattle.info_rules.specs.TreeGrammar.{Nodes, NoNode, Leaf, Branch, entry_of_head, outline, keyed}
 
 same : (n : ℕ) → eqb n n ≡ true
 same n = grind (arith, nat_tests)

@@ -1,10 +1,9 @@
 -- What rules decide of a packet.
-use Rattle.std.specs.Prelude.{◌≡◌, ◌⊎◌, ◌≤◌, ℕ, List, [], Option, None, Some, All, Any, ⊤}
+use Rattle.std.specs.Prelude.{◌≡◌, ◌⊎◌, ◌≤◌, ℕ, List, [], Option, None, Some, All, Any}
 use Rattle.hmac_keys.specs.KeyFile.{NamedKey}
-use Rattle.ndn_packets.specs.Packet.{PlainSignature, PlainFrame, AnInterest, AData, ANack, Idle}
+use Rattle.ndn_packets.specs.Packet.{KeyName, PlainSignature, PlainFrame, AnInterest, AData, ANack, Idle}
 use Rattle.ndn_packets.specs.Covered.{Covered}
-use Rattle.info_rules.specs.declared.rule.LocatorTest.{LocatorTest}
-use Rattle.info_rules.specs.declared.rule.LocatorTest.TheVariants as tests
+use Rattle.ndn_tlv.specs.Element.{Field}
 use Rattle.info_rules.specs.declared.rule.Checker.{Checker}
 use Rattle.info_rules.specs.declared.rule.Checker.TheVariants as checkers
 use Rattle.info_rules.specs.declared.decision.Reason.{Reason}
@@ -15,6 +14,7 @@ use Rattle.info_rules.specs.Rule.{PlainRule}
 use Rattle.info_rules.specs.First.{NoneApplies, IsFirst}
 use Rattle.info_rules.specs.Seen.{SeenPacket, seen_interest, seen_data, SaysWhen, PlainSigned, IsSigned}
 use Rattle.info_rules.specs.Checks.{Checks}
+use Rattle.info_rules.specs.Locator.{MakesOf}
 
 -- the number of a reason: of several the greatest is reported
 abbrev pub reason_number : Reason → ℕ
@@ -102,22 +102,23 @@ Decides rules keys Idle decision = ⊥
 
 -- ---- where memory is asked for
 
-abbrev pub IsHyper : LocatorTest → Type 0
-IsHyper (tests.Name test) = ⊥
-IsHyper (tests.Hyper hyper) = ⊤
-IsHyper tests.Hierarchical = ⊥
+-- the checker expands a template: it makes another name of the key's, which is not too long
+abbrev pub Expands : Checker → PlainSigned → Type 0
+Expands checkers.Sha256 signed = ⊥
+Expands (checkers.HmacSha256 test) signed =
+    (key : List Field) × (signed.signature.info.locator ≡ KeyName key) × MakesOf test key
+Expands checkers.Unsupported signed = ⊥
 
--- the checker expands templates
-abbrev pub Expands : Checker → Type 0
-Expands checkers.Sha256 = ⊥
-Expands (checkers.HmacSha256 test) = IsHyper test
-Expands checkers.Unsupported = ⊥
+-- one of these does
+abbrev pub AnyExpands : List Checker → SeenPacket → Type 0
+AnyExpands all packet = (signed : PlainSigned) × IsSigned packet signed
+    × Any (λ checker. Expands checker signed) all
 
--- a checker of the first rule that applies expands templates
+-- a checker of the first rule that applies expands a template
 abbrev pub AsksForMemory : List PlainRule → SeenPacket → Type 0
 AsksForMemory rules packet =
     (n : ℕ) × (rule : PlainRule) × IsFirst rules packet.kind packet.name n rule
-    × Any Expands rule.checkers
+    × AnyExpands rule.checkers packet
 
 abbrev pub MayRefuse : List PlainRule → PlainFrame → Type 0
 MayRefuse rules (AnInterest whole i) = AsksForMemory rules (seen_interest whole i)

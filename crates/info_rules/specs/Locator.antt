@@ -58,3 +58,13 @@ abbrev pub PassesLocator : LocatorTest → List Field → List Field → Type 0
 PassesLocator (tests.Name test) key packet = Passes test key
 PassesLocator (tests.Hyper hyper) key packet = IsHyperRelated hyper key packet
 PassesLocator tests.Hierarchical key packet = IsHierarchical key packet
+
+-- a name is made of another
+abbrev pub IsMade : PlainPattern → List PlainPart → List Field → Type 0
+IsMade pattern template name = (made : List Field) × Makes pattern template name made
+
+-- another name is made of the key's, before any is made of the packet's
+abbrev pub MakesOf : LocatorTest → List Field → Type 0
+MakesOf (tests.Name test) key = ⊥
+MakesOf (tests.Hyper hyper) key = IsMade hyper.key_pattern hyper.key_template key
+MakesOf tests.Hierarchical key = ⊥

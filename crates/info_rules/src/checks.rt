@@ -4,7 +4,7 @@ ghost use Rattle.std.specs.Prelude.{◌≡◌, ◌++◌, [], MatchResult};
 ghost use Rattle.sha2.specs.Sha256.{sha256};
 ghost use Rattle.ndn_names.specs.View.{components};
 ghost use Rattle.info_rules.specs.Checks.{ChecksTag, ChecksKey, ChecksLocator, Checks};
-ghost use Rattle.info_rules.specs.Decides.{IsHyper, Expands};
+ghost use Rattle.info_rules.specs.Decides.{Expands};
 ghost use Rattle.info_rules.specs.Shown.{signed_of};
 
 use crate::decision::Reason;
@@ -26,7 +26,7 @@ pub fn check(
     signed: Signed<'_>,
 ) -> Result<Option<Reason>, Memory>
     ensures { MatchResult result (Checks keys.now checker.now (signed_of signed.entry))
-        (λ _. Expands checker.now) }
+        (λ _. Expands checker.now (signed_of signed.entry)) }
 {
     match checker {
         Checker::Sha256 => Ok(check_sha256(signed)),
@@ -52,7 +52,7 @@ fn check_hmac(
 ) -> Result<Option<Reason>, Memory>
     ensures { MatchResult result
         (Checks keys.now (Checker.HmacSha256 test.now) (signed_of signed.entry))
-        (λ _. IsHyper test.now) }
+        (λ _. Expands (Checker.HmacSha256 test.now) (signed_of signed.entry)) }
 {
     if signed.signature.kind != HMAC_WITH_SHA256 {
         return Ok(Some(Reason::SigType));

@@ -4,7 +4,7 @@ ghost use Rattle.std.specs.Prelude.{◌≡◌, ◌⊎◌, List, Any, MatchOption
 ghost use Rattle.hmac_keys.specs.KeyFile.{NamedKey, AreApart};
 ghost use Rattle.ndn_packets.specs.Packet.{PlainFrame};
 ghost use Rattle.info_rules.specs.Rule.{PlainRule};
-ghost use Rattle.info_rules.specs.Decides.{IsGreater, IsPassed, IsGreatest, Allow, Deny, Expands, Decides};
+ghost use Rattle.info_rules.specs.Decides.{IsGreater, IsPassed, IsGreatest, Allow, Deny, Expands, AnyExpands, Decides};
 ghost use Rattle.ndn_names.specs.View.{components};
 ghost use Rattle.info_rules.specs.Shown.{seen_of, signed_of};
 ghost use Rattle.info_rules.specs.Signer.{NamesItsSigner};
@@ -127,7 +127,8 @@ impl Rules {
     /// What the first rule that applies decides of a packet, by its received octets. An Interest
     /// goes by its name without a digest of parameters at its end.
     ///
-    /// Memory is asked for only where a checker of that rule expands templates.
+    /// Memory is asked for only where a checker of that rule makes another name of the key's, and
+    /// that has at most 64 components. A template that makes a longer name does not pass.
     pub fn decide(
         &self,
         alloc: Global,
@@ -161,7 +162,7 @@ fn reason_against(
     ensures { MatchResult result
         (λ reason. MatchOption reason (Allow keys.now checkers.now (seen_of packet.entry))
         (Deny keys.now checkers.now (seen_of packet.entry)))
-        (λ _. Any Expands checkers.now) }
+        (λ _. AnyExpands checkers.now (seen_of packet.entry)) }
 {
     match packet.signed(name) {
         Ok(signed) => greatest_reason(alloc, keys, checkers, signed),
@@ -179,7 +180,7 @@ fn greatest_reason(
     ensures { MatchResult result
         (λ reason. MatchOption reason (IsPassed keys.now checkers.now (signed_of signed.entry))
         (IsGreatest keys.now checkers.now (signed_of signed.entry)))
-        (λ _. Any Expands checkers.now) }
+        (λ _. Any (λ checker. Expands checker (signed_of signed.entry)) checkers.now) }
 {
     let mut greatest = None;
     for checker in checkers {

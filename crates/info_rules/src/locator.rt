@@ -7,8 +7,7 @@ ghost use Rattle.ndn_names.specs.View.{components, field_of};
 ghost use Rattle.ndn_names.specs.Name.{IsPrefix};
 ghost use Rattle.name_patterns.specs.Match.{Match};
 ghost use Rattle.name_patterns.specs.Template.{OfGroup, part_of, NeedAtMost};
-ghost use Rattle.info_rules.specs.Locator.{Makes, IsHyperRelated, key_component, IsKeyOf, hierarchical_pattern, IsHierarchical, PassesLocator};
-ghost use Rattle.info_rules.specs.Decides.{IsHyper};
+ghost use Rattle.info_rules.specs.Locator.{Makes, IsMade, MakesOf, IsHyperRelated, key_component, IsKeyOf, hierarchical_pattern, IsHierarchical, PassesLocator};
 
 use crate::matching::{is_related, passes};
 use crate::rule::{HyperRelation, LocatorTest};
@@ -35,7 +34,7 @@ pub fn passes_locator(
     ensures { MatchResult result
         (λ passed. IsTrue passed
         ↔ PassesLocator test.now (components key.entry) (components packet.entry))
-        (λ _. IsHyper test.now) }
+        (λ _. MakesOf test.now (components key.entry)) }
 {
     match test {
         LocatorTest::Name(test) => Ok(passes(test, key)),
@@ -51,9 +50,10 @@ fn is_hyper_related(
     key: Name<'_>,
     packet: Name<'_>,
 ) -> Result<bool, Memory>
-    ensures { IfOk result
+    ensures { MatchResult result
         (λ related. IsTrue related
-        ↔ IsHyperRelated hyper.now (components key.entry) (components packet.entry)) }
+        ↔ IsHyperRelated hyper.now (components key.entry) (components packet.entry))
+        (λ _. IsMade hyper.now.key_pattern hyper.now.key_template (components key.entry)) }
 {
     let Some(of_key) = made_of(alloc, &hyper.key_pattern, &hyper.key_template, key)? else {
         return Ok(false);
@@ -74,9 +74,11 @@ fn made_of(
     name: Name<'_>,
 ) -> Result<Option<NameBuf>, Memory>
     requires { NeedAtMost (length pattern.now.groups) template.now }
-    ensures { IfOk result (λ made. MatchOption made
+    ensures { MatchResult result
+        (λ made. MatchOption made
         ((made : List Field) → ¬ Makes pattern.now template.now (components name.entry) made)
-        (λ made. Makes pattern.now template.now (components name.entry) made)) }
+        (λ made. Makes pattern.now template.now (components name.entry) made))
+        (λ _. IsMade pattern.now template.now (components name.entry)) }
 {
     let Some(captures) = pattern.matches(name) else {
         return Ok(None);

@@ -1,3 +1,5 @@
+use Rattle.std.proofs.Common.{rules}
+use Rattle.info_rules.specs.Locator.{IsMade}
 use Rattle.ndn_names.specs.View.{components}
 use Rattle.info_rules.proofs.Matches.{key_not_made, packet_not_made, both_made}
 use Rattle.info_rules.proofs.locator.is_hyper_related.Goals as goal
@@ -18,3 +20,9 @@ returns c =
     let of_packet = rw c.in-Some-2.is at c.in_ok-of_packet.ensures in
     let test = rw (c.view.ensures, c.view-2.ensures) at c.is_related.ensures in
     rw (← c.hyper.view_is) (both_made _ (components c.args.key) (components c.args.packet) c.in-Some.of_key c.in-Some-2.of_packet c.is_related.result of_key of_packet test)
+
+pub returns-in_err-of_packet : goal.returns-in_err-of_packet
+returns-in_err-of_packet c =
+    let of_key = rw c.in-Some.is at c.in_ok-of_key.ensures in
+    let made : IsMade c.args.hyper.now.key_pattern c.args.hyper.now.key_template (components c.args.key) = rw (← c.hyper.view_is) (c.in-Some.of_key, of_key) in
+    search rules
