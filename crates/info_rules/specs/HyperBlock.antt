@@ -22,7 +22,8 @@ Half = Option PlainPattern × Option (List PlainPart)
 -- the template needs no group that the pattern does not have, where both are there
 abbrev pub HasGroups : Half → Type 0
 HasGroups half =
-    IfSome half.0 (λ pattern. IfSome half.1 (λ template. NeedAtMost (length pattern.groups) template))
+    IfSome half.0 (λ pattern.
+    IfSome half.1 (λ template. NeedAtMost (length pattern.groups) template))
 
 abbrev pub HaveGroups : (Half × Option Relation) × Half → Type 0
 HaveGroups parts = HasGroups parts.0.0 × HasGroups parts.1
@@ -35,7 +36,8 @@ groups_of (Err fault) = 9
 
 abbrev pub half_with : List ℕ → List Block → Found (Option PlainPattern) → Found Half
 half_with template_word keys pattern =
-    both pattern (value_in Pattern (λ text. ok_of (template_in (groups_of pattern) text)) template_word keys)
+    both pattern (value_in Pattern
+    (λ text. ok_of (template_in (groups_of pattern) text)) template_word keys)
 
 -- a pattern, and a template for its groups, by their words
 unfoldable pub half_in : List ℕ → List ℕ → List Block → Found Half

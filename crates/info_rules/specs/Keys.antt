@@ -54,7 +54,8 @@ is_there word keys = is_some (first_of (named word keys))
 abbrev pub missing_unless : Bool → ℕ → Option RulesFault
 missing_unless there line = if there then None else Some (record { line = line; kind = Missing })
 
--- what a key with a block gives, by what the keys of that depth give in the block of a key on a line
+-- what a key with a block gives, by what the keys of that depth give in the block of a key on a
+-- line
 abbrev pub block_in : {A : Type 0} → ℕ → (ℕ → List Block → Found A) → Block → Found A
 block_in depth f key =
     if key.0.has_block then beside (shape_fault key) (f key.0.line (blocks_of depth key.1))

@@ -24,7 +24,8 @@ abbrev pub head_in : ℕ → List Block → Found (List ℕ × Kind)
 head_in line keys = both (needed line (value_in BadValue id_in (codes "id") keys))
     (needed line (value_in BadValue kind_in (codes "for") keys))
 
-unfoldable pub rule_parts : ℕ → List Block → Found ((List ℕ × Kind) × (List NameTest × List Checker))
+unfoldable pub rule_parts : ℕ → List Block
+    → Found ((List ℕ × Kind) × (List NameTest × List Checker))
 rule_parts line keys = both
     (head_in line keys)
     (both (each filter_in (named (codes "filter") keys))

@@ -1,5 +1,5 @@
--- What is wrong with the keys of a block, by the table: keys that are not in it, and keys that stand
--- there too often. The first key of each word is left to those who read it.
+-- What is wrong with the keys of a block, by the table: keys that are not in it, and keys that
+-- stand there too often. The first key of each word is left to those who read it.
 use Rattle.std.specs.Prelude.{List, [], ◌∷◌, ◌++◌, Bool, false, if◌then◌else◌}
 use Rattle.std.specs.List.{flat_map, list_any}
 use Rattle.info_rules.specs.declared.fault.RulesFault.{RulesFault}

@@ -199,8 +199,8 @@ pub fn decisions_are_unique()
         → Decides rules keys packet a → Decides rules keys packet b → a ≡ b }
 {}
 
-/// Law: an allowed packet says who signed it: anybody, by DigestSha256, or the owner of a key of the
-/// book, by HMAC and the key's name. An Interest also says when.
+/// Law: an allowed packet says who signed it: anybody, by DigestSha256, or the owner of a key of
+/// the book, by HMAC and the key's name. An Interest also says when.
 pub fn allowed_packets_name_their_signer()
     ensures { (rules : List PlainRule) (keys : List NamedKey) (packet : PlainFrame) (rule : RuleNo)
         → Decides rules keys packet (Decision.Allowed rule) → NamesItsSigner keys packet }

@@ -84,9 +84,7 @@ impl RulesFault {
     }
 }
 
-/// A refusal of memory, which has no place in the text. Where a block is read, it is reported too
-/// beside what is not there; but files are read once nothing is wrong with them, and then nothing
-/// is missing.
+/// A refusal of memory, which has no place in the text.
 pub const MEMORY: RulesFault = RulesFault {
     line: 0,
     kind: RulesFaultKind::Memory,

@@ -143,7 +143,8 @@ impl<'a> Keys<'a> {
 
     /// Those after the first key of this word.
     pub fn after_first(self, word: &str) -> Keys<'a>
-        ensures { named word.now (keys_of result) ≡ others_of (named word.now (keys_of self.entry)) }
+        ensures { named word.now (keys_of result)
+            ≡ others_of (named word.now (keys_of self.entry)) }
     {
         let mut keys = self;
         while let Some((key, others)) = keys.split_first() {

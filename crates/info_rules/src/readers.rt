@@ -135,7 +135,8 @@ pub fn read_signature_type(keys: Keys<'_>, word: &str) -> Found<Option<Signature
 #[tactic(auto, unfolding(crate::specs::Values::value_in))]
 pub fn read_name(alloc: Global, keys: Keys<'_>, word: &str) -> Read<Option<NameBuf>>
     ensures { IfOk result
-        (λ found. found ≡ value_in BadValue (λ text. ok_of (name_in text)) word.now (keys_of keys.entry)) }
+        (λ found. found ≡ value_in BadValue (λ text. ok_of (name_in text))
+        word.now (keys_of keys.entry)) }
 {
     let Some(key) = keys.first_named(word) else {
         return Ok(Ok(None));
@@ -150,7 +151,8 @@ pub fn read_name(alloc: Global, keys: Keys<'_>, word: &str) -> Read<Option<NameB
 #[tactic(auto, unfolding(crate::specs::Values::value_in))]
 pub fn read_pattern(alloc: Global, keys: Keys<'_>, word: &str) -> Read<Option<Pattern>>
     ensures { IfOk result
-        (λ found. found ≡ value_in PatternFaultKind (λ text. ok_of (pattern_in text)) word.now (keys_of keys.entry)) }
+        (λ found. found ≡ value_in PatternFaultKind (λ text. ok_of (pattern_in text))
+        word.now (keys_of keys.entry)) }
 {
     let Some(key) = keys.first_named(word) else {
         return Ok(Ok(None));
@@ -174,9 +176,11 @@ pub fn read_template(
     groups: u8,
 ) -> Read<Option<Template>>
     ensures read { IfOk result
-        (λ found. found ≡ value_in PatternFaultKind (λ text. ok_of (template_in groups text)) word.now (keys_of keys.entry)) }
+        (λ found. found ≡ value_in PatternFaultKind (λ text. ok_of (template_in groups text))
+        word.now (keys_of keys.entry)) }
     // It needs none but these groups.
-    ensures groups { IfOk result (λ found. IfOk found (λ template. IfSome template (NeedAtMost groups))) }
+    ensures groups { IfOk result
+        (λ found. IfOk found (λ template. IfSome template (NeedAtMost groups))) }
 {
     let Some(key) = keys.first_named(word) else {
         return Ok(Ok(None));

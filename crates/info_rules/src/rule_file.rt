@@ -156,10 +156,11 @@ impl Rules {
     }
 }
 
-/// Law: each rule of a file is there, in the order of the text, and each filter and each checker of a
-/// rule.
+/// Law: each rule of a file is there, in the order of the text, and each filter and each checker of
+/// a rule.
 pub fn no_rule_is_dropped()
-    ensures rules { (entries : List PlainEntry) (rules : List PlainRule) → rules_in entries ≡ Ok rules
+    ensures rules { (entries : List PlainEntry) (rules : List PlainRule)
+        → rules_in entries ≡ Ok rules
         → AreRead rule_in (named (codes "rule") (blocks_of 0 entries)) rules }
     ensures filters { (key : Keyed) (rule : PlainRule) → rule_in key ≡ Ok rule
         → AreRead filter_in (named (codes "filter") (blocks_of 1 key.1)) rule.filters }

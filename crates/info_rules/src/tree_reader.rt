@@ -86,7 +86,7 @@ pub fn trees_have_one_reading()
     ensures one { (text : List ℕ) (a b : List PlainEntry) → TreeOf text a → TreeOf text b → a ≡ b }
 {}
 
-/// Law: in the outline of a text, the keys of a block are those of the block, each with its own block.
+/// Law: in the outline of a text, the keys of a block are those of the block, each with its own.
 pub fn outlines_keep_blocks()
     ensures { (depth : ℕ) (nodes : Nodes) → blocks_of depth (outline depth nodes)
         ≡ keyed depth nodes }

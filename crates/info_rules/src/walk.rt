@@ -17,7 +17,8 @@ use std::alloc::Global;
 
 /// Whether a key is in the table.
 fn is_known(forms: &[Form], key: Key<'_>) -> bool
-    ensures { result ≡ list_any (λ form. is_word form.word (key_of key.entry)) (map form_of forms.now) }
+    ensures { result ≡ list_any (λ form. is_word form.word (key_of key.entry))
+        (map form_of forms.now) }
 {
     let mut left = forms;
     while let Some((form, others)) = left.split_first() {
@@ -46,7 +47,8 @@ fn judge_unknown(forms: &[Form], keys: Keys<'_>, report: &mut Report)
 
 /// Whether a second key is wrong by itself.
 fn is_right(alloc: Global, takes: Takes, key: Key<'_>) -> Result<bool, Memory>
-    ensures { IfOk result (λ right. again_wrong takes (key_of key.entry) ≡ value_faults right (key_of key.entry)) }
+    ensures { IfOk result (λ right. again_wrong takes (key_of key.entry)
+        ≡ value_faults right (key_of key.entry)) }
 {
     match takes {
         Takes::Value(kind) => match key.value() {
@@ -79,7 +81,8 @@ fn judge_second(
     report: &mut Report,
 ) -> Result<(), Memory>
     ensures { OnOk result (report.new ≡ after report.old
-        (flat_map (again_faults form.now.1) (others_of (named form.now.0.now (keys_of keys.entry))))) }
+        (flat_map (again_faults form.now.1)
+        (others_of (named form.now.0.now (keys_of keys.entry))))) }
 {
     let mut left = keys.after_first(form.0);
     while let Some((key, others)) = left.split_first() {
