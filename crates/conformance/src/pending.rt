@@ -229,9 +229,11 @@ const ROWS: &str = "\
 # an Interest of lifetime 100 at 1000 waits at 1099, and not at 1100
 ask /A 1 7 1100, expire 1099, data /A -> ok; -; faces 1
 ask /A 1 7 1100, expire 1100, data /A -> ok; -; faces
-# lifetime 0, and the greatest deadline
+ask /A 1 7 1100, expire 1100, ask /A 1 7 1200, expire 1199, data /A -> ok; -; ok; -; faces 1
+# lifetime 0, and the greatest deadline and moment
 ask /A 1 7 1000, len, expire 1000, len -> ok; 1 false; -; 0 true
 ask /A 1 7 18446744073709551615, expire 18446744073709551614, len, expire 18446744073709551615, len -> ok; -; 1 false; -; 0 true
+ask /A 1 7 18446744073709551615, sent /A 1 2 7 18446744073709551615, used /A -> ok; true; used 2@18446744073709551615
 # faces 1 (CanBePrefix) and 2 (without) ask for the same name
 ask /A/B+p 1 7 9, ask /A/B 2 8 9, data /A/B/C, len, data /A/B, len -> ok; ok; faces 1; 1 false; faces 2; 0 true
 ask /A/B 3 7 9, ask /A/B+p 1 8 9, ask /A+p 2 9 9, data /A/B -> ok; ok; ok; faces 1 2 3
@@ -246,6 +248,7 @@ ask /A 1 7 5000, sent /A 1 2 7 1000, loops /A 2 7, loops /A 1 7, loops /A 3 7, l
 ask /A 1 7 5000, sent /A 1 2 7 1000, ask /A 1 8 5000, loops /A 1 7, loops /A 2 7, loops /A 3 7, loops /A 3 8 -> ok; true; ok; true; true; true; true
 ask /A 1 7 5000, loops /A 2 7, loops /A+p 2 7, loops /B 2 7 -> ok; true; false; false
 ask /A 1 7 5000, sent /A 1 2 7 1000, sent /A 1 2 8 1010, sent /A 1 1 8 1010, used /A, used /B -> ok; true; true; true; used 1@1010 2@1010; used
+ask /A 1 7 5000, sent /A 1 2 7 1000, loops /A 1 7, ask /A 1 7 5009, used /A, sent /A 1 2 7 1010, used /A, nack /A 2 7 150, of /A 1 -> ok; true; false; ok; used 2@1000; true; used 2@1010; all 150; 00000007
 # Nacks
 ask /A 1 7 5000, sent /A 1 2 7 1000, nack /A 2 7 150, remove /A, nack /A 2 7 150 -> ok; true; all 150; -; no pending
 ask /A 1 7 5000, sent /A 1 2 7 0, sent /A 1 3 7 0, nack /A 3 7 150, nack /A 2 8 50, nack /A 2 7 100 -> ok; true; true; waiting; no pending; all 100
@@ -260,6 +263,7 @@ ask /A 1 7 5, withdraw /A 2, withdraw /B 1, remove /A+p, len -> ok; -; -; -; 1 f
 ask /A 1 7 5, sent /A 1 2 7 1, withdraw /A 1, ask /A 3 9 5, used /A, loops /A 4 7 -> ok; true; -; ok; used; false
 ask /A 1 7 5, ask /A 3 9 6, sent /A 1 2 7 1, expire 5, used /A, expire 6, ask /A 1 7 9, used /A -> ok; ok; true; -; used 2@1; -; ok; used
 # a face that closes
+ask /A 1 7 5, sent /A 1 2 7 1, close 2, len, used /A -> ok; true; -; 1 false; used
 ask /A 1 7 5, ask /B 1 8 5, ask /B 2 9 5, sent /B 2 1 9 1, close 1, len, used /B, data /B -> ok; ok; ok; true; -; 1 false; used; faces 2
 ask /A 1 7 5, sent /A 1 2 7 1, sent /A 1 3 7 1, nack /A 3 7 50, close 2, len, used /A, nack /A 3 7 50 -> ok; true; true; waiting; -; 1 false; used 3@1; all 50
 ";
@@ -331,7 +335,7 @@ fn keeps_what_is_prepared(alloc: Global) -> Option<bool> {
     let mut table = Table::new(alloc);
     let (key, other) = (OwnedKey::read(alloc, "/A")?, OwnedKey::read(alloc, "/B")?);
     if table.ask(other.view(), 1, [1; 4], 5).is_some() {
-        return None;
+        return Some(table.pit.is_empty());
     }
     if !table.prepare(key.view(), 4) {
         return Some(table.pit.len() == 1 && table.pit.interest_of(other.view(), 1).is_some());
@@ -346,13 +350,15 @@ fn leaves_the_older_one(alloc: Global) -> Option<bool> {
     let mut table = Table::new(alloc);
     let key = OwnedKey::read(alloc, "/A")?;
     if table.ask(key.view(), 1, [1; 4], 5).is_some() {
-        return None;
+        return Some(table.pit.is_empty());
     }
+    let sent = table.sent(key.view(), 1, 2, [1; 4], 3);
     let nonce = match table.ask(key.view(), 1, [2; 4], 5) {
         None => [2; 4],
         Some(_) => [1; 4],
     };
-    Some(table.pit.interest_of(key.view(), 1) == Some(nonce.as_slice()))
+    let kept = table.pit.interest_of(key.view(), 1) == Some(nonce.as_slice());
+    Some(sent && kept && table.pit.len() == 1 && table.pit.used(key.view()).get(2) == Some(3))
 }
 
 #[test]

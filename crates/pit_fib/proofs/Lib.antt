@@ -16,3 +16,4 @@ pub mod PendingFaces
 pub mod Moments
 pub mod Askers
 pub mod Satisfied
+pub mod Nacks

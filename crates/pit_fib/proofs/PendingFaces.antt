@@ -15,7 +15,7 @@ use Rattle.ndn_packets.specs.Answers.{answers}
 use Rattle.ndn_packets.specs.Key.{PlainKey}
 use Rattle.pit_fib.specs.Faces.{IsRising, has_face, with_face}
 use Rattle.pit_fib.specs.Records.{Ask, Sent, Records, Pending, no_records, is_alive, records_at}
-use Rattle.pit_fib.specs.Cause.{Cause, Expires, Arrives, SentTo, Satisfied, Nacked, Withdrawn, Removed, Closed, changed, same_key, until_after, nacked_with, records_after, Follows}
+use Rattle.pit_fib.specs.Cause.{Cause, Expires, Arrives, SentTo, Satisfied, NackCame, Withdrawn, Removed, Closed, changed, same_key, until_after, nacked_with, records_after, Follows}
 use Rattle.pit_fib.specs.Past.{ask_after, sent_after}
 use Rattle.pit_fib.specs.Pit.{HasRecord, HasRoomFor, AtMost64}
 use Rattle.pit_fib.proofs.Rows.{first_of, second_of, is_less}
@@ -29,7 +29,7 @@ Adds (Expires now) f = ⊥
 Adds (Arrives key face ask) f = f ≡ face
 Adds (SentTo key face nonce moment) f = f ≡ face
 Adds (Satisfied name digest) f = ⊥
-Adds (Nacked key face nonce reason) f = ⊥
+Adds (NackCame key face nonce reason) f = ⊥
 Adds (Withdrawn key face) f = ⊥
 Adds (Removed key) f = ⊥
 Adds (Closed face) f = ⊥
@@ -65,7 +65,7 @@ asks_before (Expires now) k f was e = inl (was_there (until_after now) was e)
 asks_before (Arrives key face ask) k f was e = put_at ⊥ was (same_key k key) f face ask e
 asks_before (SentTo key face nonce moment) k f was e = inl e
 asks_before (Satisfied name digest) k f was e = gone ⊥ was (answers name digest k.name k.can_be_prefix) e
-asks_before (Nacked key face nonce reason) k f was e = inl e
+asks_before (NackCame key face nonce reason) k f was e = inl e
 asks_before (Withdrawn key face) k f was e = gone ⊥ was (same_key k key && eqb f face) e
 asks_before (Removed key) k f was e = gone ⊥ was (same_key k key) e
 asks_before (Closed face) k f was e = gone ⊥ was (eqb f face) e
@@ -75,7 +75,7 @@ sent_before (Expires now) k f was e = inl e
 sent_before (Arrives key face ask) k f was e = inl e
 sent_before (SentTo key face nonce moment) k f was e = put_at ⊥ was (same_key k key) f face _ e
 sent_before (Satisfied name digest) k f was e = gone ⊥ was (answers name digest k.name k.can_be_prefix) e
-sent_before (Nacked key face nonce reason) k f was e = inl (was_mapped (nacked_with nonce reason) (same_key k key && eqb f face) was was (λ s. s) e)
+sent_before (NackCame key face nonce reason) k f was e = inl (was_mapped (nacked_with nonce reason) (same_key k key && eqb f face) was was (λ s. s) e)
 sent_before (Withdrawn key face) k f was e = inl e
 sent_before (Removed key) k f was e = gone ⊥ was (same_key k key) e
 sent_before (Closed face) k f was e = gone ⊥ was (eqb f face) e

@@ -1,23 +1,26 @@
 -- What causes leave of one face's records.
-use Rattle.std.proofs.Common.{◌≡◌, ℕ, ◌≤◌, true, false, cond, List, [], ◌∷◌, refl, sym, ap, subst, ◌∙◌, arith, ltb, eqb}
-use Rattle.std.specs.Prelude.{Option, Some, None, option_and_then, ◌&&◌}
+use Rattle.std.proofs.Common.{◌≡◌, ℕ, ◌≤◌, Bool, true, false, cond, List, [], ◌∷◌, length, refl, sym, ap, subst, ◌∙◌, arith, ltb, eqb}
+use Rattle.std.specs.Prelude.{Option, Some, None, IsSome, IsTrue, is_some, option_and_then, ◌&&◌, ◌↔◌}
 use Rattle.std.specs.Option.{option_map}
 use Rattle.std.specs.Ordering.{nat_cmp, eq_by_cmp, is_eq}
 use Rattle.std.specs.Cmp.{nat_cmp_total, tied_itself}
 use Rattle.std.specs.FinMap as map
-use Rattle.std.specs.FinMap.{FinMap, get, get-insert, get-remove, get-empty, empty, empty_of_len, len, nat_cmp-IsAntisymmetric, same_map}
+use Rattle.std.specs.FinMap.{FinMap, entries, find, get, get-entries, len-entries, get-insert, get-remove, get-empty, empty, empty_of_len, len, nat_cmp-IsAntisymmetric, same_map}
 use Rattle.std.proofs.lemmas.Bool.{eqb-true}
 use Rattle.std.proofs.lemmas.Bool.Decides.{nat_tests}
 use Rattle.ndn_packets.specs.Answers.{answers}
 use Rattle.ndn_packets.specs.Key.{PlainKey}
 use Rattle.pit_fib.specs.Tables.{revise}
 use Rattle.pit_fib.specs.Records.{Ask, Sent, Asks, Asked, Records, no_records, is_alive}
-use Rattle.pit_fib.specs.Cause.{Cause, Expires, Arrives, SentTo, Satisfied, Nacked, Withdrawn, Removed, Closed, changed, settled, same_key, until_after, sent_at, nacked_with, with_reason, records_after}
+use Rattle.pit_fib.specs.Cause.{Cause, Expires, Arrives, SentTo, Satisfied, NackCame, Withdrawn, Removed, Closed, changed, settled, same_key, until_after, sent_at, nacked_with, with_reason, records_after}
 use Rattle.pit_fib.specs.Past.{records_of, ask_of, ask_after, sent_of, sent_after}
 use Rattle.pit_fib.proofs.Revised.{get-revise}
 use Rattle.pit_fib.proofs.PendingTables.{dead_none, dead_after_expiry}
 
 -- ---- one cause
+
+differ : (b : Bool) → b ≡ true → b ≡ false → ⊥
+differ b p q = absurd cc
 
 dead_is_empty : {X : Type 0} (m : FinMap nat_cmp X) → ltb 0 (len m) ≡ false → m ≡ empty
 dead_is_empty m e = empty_of_len m (grind (arith, nat_tests))
@@ -43,7 +46,7 @@ get-changed (SentTo key face nonce moment) k f r =
     elim (same_key k key) as (λ b. get (cond b (record { asks = r.asks; asked = map.insert r.asked face (sent_at nonce moment) }) r).asks f ≡ get r.asks f) [ true ↦ refl | false ↦ refl ]
 get-changed (Satisfied name digest) k f r =
     elim (answers name digest k.name k.can_be_prefix) as (λ b. get (cond b no_records r).asks f ≡ cond b None (get r.asks f)) [ true ↦ get-empty nat_cmp f | false ↦ refl ]
-get-changed (Nacked key face nonce reason) k f r =
+get-changed (NackCame key face nonce reason) k f r =
     elim (same_key k key) as (λ b. get (cond b (record { asks = r.asks; asked = with_reason face nonce reason r.asked (get r.asked face) }) r).asks f ≡ get r.asks f) [ true ↦ refl | false ↦ refl ]
 get-changed (Withdrawn key face) k f r =
     elim (same_key k key) as (λ b. get (cond b (record { asks = map.remove r.asks face; asked = r.asked }) r).asks f ≡ cond (b && eqb f face) None (get r.asks f)) [
@@ -60,6 +63,34 @@ pub asks_of_run : (run : List Cause) (k : PlainKey) (f : ℕ) → get (records_o
 asks_of_run [] k f = get-empty nat_cmp f
 asks_of_run (cause ∷ before) k f =
     get-settled (changed cause k (records_of before k)) f ∙ get-changed cause k f (records_of before k) ∙ ap (ask_after cause k f) (asks_of_run before k f)
+
+-- some face asks where the map of those who ask has one
+has_some : (m : Asks) → ltb 0 (len m) ≡ true → (face : ℕ) × IsSome (get m face)
+has_some m alive = first_of (entries m) refl
+  where
+    nothing : {A : Type 0} → entries m ≡ [] → A
+    nothing none = absurd (differ (ltb 0 (len m)) alive (ap (ltb 0) (len-entries m ∙ ap length none)))
+
+    first_of : (es : List (ℕ × Ask)) → entries m ≡ es → (face : ℕ) × IsSome (get m face)
+    first_of [] none = nothing none
+    first_of (e ∷ es) is = (
+      e.0,
+      ap is_some (get-entries m e.0 ∙ ap (find nat_cmp e.0) is
+          ∙ ap (λ b. cond b (Some e.1) (find nat_cmp e.0 es)) (ap is_eq (tied_itself nat_cmp_total e.0))),
+    )
+
+some_has : (m : Asks) (face : ℕ) → IsSome (get m face) → ltb 0 (len m) ≡ true
+some_has m face some =
+    elim (ltb 0 (len m)) as (λ b. ltb 0 (len m) ≡ b → b ≡ true) [
+      | true ↦ λ t. refl
+      | false ↦ λ t. absurd (differ (is_some (get m face)) some (ap (λ (m : Asks). is_some (get m face)) (dead_is_empty m t) ∙ ap is_some (get-empty nat_cmp face)))
+    ] refl
+
+pub alive_of_run : (run : List Cause) (k : PlainKey) → IsTrue (is_alive (records_of run k)) ↔ ((face : ℕ) × IsSome (ask_of run k face))
+alive_of_run run k = (
+  λ alive. let some = has_some (records_of run k).asks alive in (some.0, subst (λ (o : Option Ask). IsSome o) (asks_of_run run k some.0) some.1),
+  λ (face, some). some_has (records_of run k).asks face (subst (λ (o : Option Ask). IsSome o) (sym (asks_of_run run k face)) some),
+)
 
 -- ---- the faces asked
 
@@ -94,7 +125,7 @@ get-changed_asked (SentTo key face nonce moment) k g r =
     ]
 get-changed_asked (Satisfied name digest) k g r =
     elim (answers name digest k.name k.can_be_prefix) as (λ b. get (cond b no_records r).asked g ≡ cond b None (get r.asked g)) [ true ↦ get-empty nat_cmp g | false ↦ refl ]
-get-changed_asked (Nacked key face nonce reason) k g r =
+get-changed_asked (NackCame key face nonce reason) k g r =
     elim (same_key k key) as (λ b. get (cond b (record { asks = r.asks; asked = with_reason face nonce reason r.asked (get r.asked face) }) r).asked g ≡ cond (b && eqb g face) (option_map (nacked_with nonce reason) (get r.asked g)) (get r.asked g)) [
       | true ↦ get-with_reason face nonce reason r.asked g
       | false ↦ refl

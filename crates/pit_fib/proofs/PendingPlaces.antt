@@ -11,7 +11,7 @@ use Rattle.std.proofs.Math.Seq.{drop-cons}
 use Rattle.std.proofs.lemmas.Bool.Decides.{nat_tests}
 use Rattle.ndn_packets.specs.Key.{PlainKey, key_cmp}
 use Rattle.pit_fib.specs.Records.{Ask, Sent, Records, Pending, HoldsTheLiving, no_records, is_alive, records_at}
-use Rattle.pit_fib.specs.Cause.{Cause, Arrives, SentTo, Nacked, changed, settled, same_key, sent_at, with_reason, Follows}
+use Rattle.pit_fib.specs.Cause.{Cause, Arrives, SentTo, NackCame, changed, settled, same_key, sent_at, with_reason, Follows}
 use Rattle.pit_fib.specs.Entries.{AllLive, AreApart}
 use Rattle.ndn_packets.specs.Key.{key_cmp-total, key_cmp-antisymmetric}
 use Rattle.pit_fib.proofs.PendingTables.{one_key, same_self, dead_none, records_at-entries}
@@ -171,13 +171,13 @@ sent_here key face nonce moment s = ap (λ b. cond b (record { asks = s.asks; as
 abbrev with_its_reason : ℕ → List ℕ → ℕ → Records → Records
 with_its_reason face nonce reason s = record { asks = s.asks; asked = with_reason face nonce reason s.asked (get s.asked face) }
 
-pub nacked_elsewhere : (key : PlainKey) (face : ℕ) (nonce : List ℕ) (reason : ℕ) (k : PlainKey) (s : Records) → same_key k key ≡ false → changed (Nacked key face nonce reason) k s ≡ s
+pub nacked_elsewhere : (key : PlainKey) (face : ℕ) (nonce : List ℕ) (reason : ℕ) (k : PlainKey) (s : Records) → same_key k key ≡ false → changed (NackCame key face nonce reason) k s ≡ s
 nacked_elsewhere key face nonce reason k s t = ap (λ b. cond b (with_its_reason face nonce reason s) s) t
 
-pub nacked_here : (key : PlainKey) (face : ℕ) (nonce : List ℕ) (reason : ℕ) (s : Records) → changed (Nacked key face nonce reason) key s ≡ with_its_reason face nonce reason s
+pub nacked_here : (key : PlainKey) (face : ℕ) (nonce : List ℕ) (reason : ℕ) (s : Records) → changed (NackCame key face nonce reason) key s ≡ with_its_reason face nonce reason s
 nacked_here key face nonce reason s = ap (λ b. cond b (with_its_reason face nonce reason s) s) (same_self key)
 
-pub nacked_nothing : (key : PlainKey) (face : ℕ) (nonce : List ℕ) (reason : ℕ) → changed (Nacked key face nonce reason) key no_records ≡ no_records
+pub nacked_nothing : (key : PlainKey) (face : ℕ) (nonce : List ℕ) (reason : ℕ) → changed (NackCame key face nonce reason) key no_records ≡ no_records
 nacked_nothing key face nonce reason =
     nacked_here key face nonce reason no_records
     ∙ ap (λ (o : Option Sent). record { asks = empty; asked = with_reason face nonce reason empty o }) (get-empty nat_cmp face)

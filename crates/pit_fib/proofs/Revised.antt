@@ -52,31 +52,31 @@ pub revise-empty : {K X Y : Type 0} (R : K → K → Ordering) (change : X → O
 unfolding revise
 revise-empty R change = ap (λ es. from_sorted {R = R} (revised change es)) (no_entries R) ∙ from_none R
 
+pub equal : (o : Ordering) → is_eq o ≡ true → o ≡ Equal
+equal Less e = absurd cc
+equal Equal e = refl
+equal Greater e = absurd cc
+
+pub find_below : {K X : Type 0} (R : K → K → Ordering) (q : K) (es : List (K × X)) → T (below_all R q es) → find R q es ≡ None
+find_below R q [] h = refl
+find_below R q (e ∷ es) h =
+    elim (R q e.0) as (λ o. T (is_lt o && below_all R q es) → find R q es ≡ None → cond (is_eq o) (Some e.1) (find R q es) ≡ None) [
+      | Less ↦ λ h r. r
+      | Equal ↦ λ h r. absurd h
+      | Greater ↦ λ h r. absurd h
+    ] h (find_below R q es (second_of _ _ h))
+
 pub from_revised : {K X Y : Type 0} (R : K → K → Ordering) (change : X → Option Y) (es : List (K × X)) → T (is_sorted R es) → from_sorted {R = R} (revised change es) ≡ revise change (from_sorted {R = R} es)
 unfolding revise
 from_revised R change es sorted = ap (λ l. from_sorted {R = R} (revised change l)) (sym (entries-from_sorted R es sorted))
 
-module _ {K X : Type 0} {R : K → K → Ordering} (anti : IsAntisymmetric R) (change : X → Option X) where
-  equal : (o : Ordering) → is_eq o ≡ true → o ≡ Equal
-  equal Less e = absurd cc
-  equal Equal e = refl
-  equal Greater e = absurd cc
-
-  find_below : (q : K) (es : List (K × X)) → T (below_all R q es) → find R q es ≡ None
-  find_below q [] h = refl
-  find_below q (e ∷ es) h =
-      elim (R q e.0) as (λ o. T (is_lt o && below_all R q es) → find R q es ≡ None → cond (is_eq o) (Some e.1) (find R q es) ≡ None) [
-        | Less ↦ λ h r. r
-        | Equal ↦ λ h r. absurd h
-        | Greater ↦ λ h r. absurd h
-      ] h (find_below q es (second_of _ _ h))
-
+module _ {K X Y : Type 0} {R : K → K → Ordering} (anti : IsAntisymmetric R) (change : X → Option Y) where
   -- the first of some entries, where its value stays or goes
-  first_found : (q k : K) (o : Option X) (rest : List (K × X)) → eq_by_cmp R q k ≡ true → find R q rest ≡ None → find R q (with_entry k o rest) ≡ o
+  first_found : (q k : K) (o : Option Y) (rest : List (K × Y)) → eq_by_cmp R q k ≡ true → find R q rest ≡ None → find R q (with_entry k o rest) ≡ o
   first_found q k None rest t none = none
   first_found q k (Some x) rest t none = ap (λ b. cond b (Some x) (find R q rest)) t
 
-  first_passed : (q k : K) (o : Option X) (rest : List (K × X)) → eq_by_cmp R q k ≡ false → find R q (with_entry k o rest) ≡ find R q rest
+  first_passed : (q k : K) (o : Option Y) (rest : List (K × Y)) → eq_by_cmp R q k ≡ false → find R q (with_entry k o rest) ≡ find R q rest
   first_passed q k None rest t = refl
   first_passed q k (Some x) rest t = ap (λ b. cond b (Some x) (find R q rest)) t
 
@@ -87,7 +87,7 @@ module _ {K X : Type 0} {R : K → K → Ordering} (anti : IsAntisymmetric R) (c
       elim (eq_by_cmp R q e.0) as (λ t. eq_by_cmp R q e.0 ≡ t → find R q (with_entry e.0 (change e.1) (revised change es)) ≡ option_and_then change (cond t (Some e.1) (find R q es))) [
         | true ↦ λ t.
             let one : q ≡ e.0 = anti q e.0 (equal (R q e.0) t) in
-            let none : find R q es ≡ None = find_below q es (subst (λ k. T (below_all R k es)) (sym one) (first_of _ _ h)) in
+            let none : find R q es ≡ None = find_below R q es (subst (λ k. T (below_all R k es)) (sym one) (first_of _ _ h)) in
             first_found q e.0 (change e.1) (revised change es) t (rest ∙ ap (option_and_then change) none)
         | false ↦ λ t. first_passed q e.0 (change e.1) (revised change es) t ∙ rest
       ] refl

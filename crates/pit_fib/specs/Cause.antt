@@ -16,13 +16,13 @@ pub data Cause : Type 0 where
   Arrives : (key : PlainKey) (face : ℕ) (ask : Ask) → Cause
   -- an Interest of a key was sent to a face
   SentTo : (key : PlainKey) (face : ℕ) (nonce : List ℕ) (moment : ℕ) → Cause
-  -- Data of this name and implicit digest went to all who ask for it
+  -- Data of this name and implicit digest came, and may be sent
   Satisfied : (name : List Field) (digest : List ℕ) → Cause
   -- a Nack came from a face
-  Nacked : (key : PlainKey) (face : ℕ) (nonce : List ℕ) (reason : ℕ) → Cause
+  NackCame : (key : PlainKey) (face : ℕ) (nonce : List ℕ) (reason : ℕ) → Cause
   -- a face does not ask any more
   Withdrawn : (key : PlainKey) (face : ℕ) → Cause
-  -- nobody asks any more
+  -- all records of a key were taken out
   Removed : (key : PlainKey) → Cause
   -- a face closed
   Closed : (face : ℕ) → Cause
@@ -59,7 +59,7 @@ changed (SentTo key face nonce moment) k r =
     else r
 changed (Satisfied name digest) k r =
     if answers name digest k.name k.can_be_prefix then no_records else r
-changed (Nacked key face nonce reason) k r =
+changed (NackCame key face nonce reason) k r =
     if same_key k key then record r {
       asked = with_reason face nonce reason r.asked (map.get r.asked face);
     } else r

@@ -5,7 +5,7 @@ use Rattle.std.specs.Option.{option_map}
 use Rattle.ndn_packets.specs.Answers.{answers}
 use Rattle.ndn_packets.specs.Key.{PlainKey}
 use Rattle.pit_fib.specs.Records.{Ask, Sent, Records, no_records, is_alive}
-use Rattle.pit_fib.specs.Cause.{Cause, Expires, Arrives, SentTo, Satisfied, Nacked, Withdrawn, Removed, Closed, same_key, until_after, sent_at, nacked_with, records_after}
+use Rattle.pit_fib.specs.Cause.{Cause, Expires, Arrives, SentTo, Satisfied, NackCame, Withdrawn, Removed, Closed, same_key, until_after, sent_at, nacked_with, records_after}
 
 -- the records after these causes, the last cause first
 abbrev pub records_of : List Cause → PlainKey → Records
@@ -20,7 +20,7 @@ ask_after (Arrives key face ask) k f was =
 ask_after (SentTo key face nonce moment) k f was = was
 ask_after (Satisfied name digest) k f was =
     if answers name digest k.name k.can_be_prefix then None else was
-ask_after (Nacked key face nonce reason) k f was = was
+ask_after (NackCame key face nonce reason) k f was = was
 ask_after (Withdrawn key face) k f was = if same_key k key && (f == face) then None else was
 ask_after (Removed key) k f was = if same_key k key then None else was
 ask_after (Closed face) k f was = if f == face then None else was
@@ -38,7 +38,7 @@ sent_after (SentTo key face nonce moment) k g was =
     if same_key k key && (g == face) then Some (sent_at nonce moment) else was
 sent_after (Satisfied name digest) k g was =
     if answers name digest k.name k.can_be_prefix then None else was
-sent_after (Nacked key face nonce reason) k g was =
+sent_after (NackCame key face nonce reason) k g was =
     if same_key k key && (g == face) then option_map (nacked_with nonce reason) was else was
 sent_after (Withdrawn key face) k g was = was
 sent_after (Removed key) k g was = if same_key k key then None else was

@@ -81,6 +81,13 @@ abbrev pub all_nacked : Option ℕ → Nacked
 all_nacked None = Waiting
 all_nacked (Some reason) = All reason
 
+-- each face asked has answered by a Nack, and this is the least of their reasons
+pub record IsLeastReason (asked : Asked) (least : ℕ) : Type 0 where
+  pub each : (face : ℕ) (sent : Sent) → map.get asked face ≡ Some sent
+      → (reason : ℕ) × (sent.reason ≡ Some reason) × (least ≤ reason)
+  pub one : (face : ℕ) × (sent : Sent) × (map.get asked face ≡ Some sent)
+      × (sent.reason ≡ Some least)
+
 -- what a Nack of this Nonce and reason from a face comes to
 abbrev pub nacked_answer : Records → ℕ → List ℕ → ℕ → Nacked
 nacked_answer r face nonce reason =

@@ -14,16 +14,17 @@ pub record Ask : Type 0 where
   pub deadline : ℕ
 
 -- the last sending to a face: its Nonce, its moment in milliseconds since 1970, and the reason of
--- the Nack that came back
+-- the last Nack of that Nonce that came back since, if any
 pub record Sent : Type 0 where
   pub nonce : List ℕ
   pub moment : ℕ
   pub reason : Option ℕ
 
--- by face
+-- who asks, by face
 abbrev pub Asks : Type 0
 Asks = map.FinMap nat_cmp Ask
 
+-- who was asked, by face
 abbrev pub Asked : Type 0
 Asked = map.FinMap nat_cmp Sent
 

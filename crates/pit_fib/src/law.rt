@@ -1,10 +1,13 @@
-ghost use Rattle.std.specs.Prelude.{◌≡◌, ◌≤◌, ℕ, List, None, length, take};
+ghost use Rattle.std.specs.Prelude.{◌≡◌, ◌≤◌, ◌↔◌, ℕ, List, Option, None, IsSome, IsTrue, true, false, length, option_and_then, take};
+ghost use Rattle.std.specs.Ordering.{nat_cmp};
 ghost use Rattle.std.specs.FinMap as map;
 ghost use Rattle.ndn_tlv.specs.Element.{Field};
 ghost use Rattle.ndn_packets.specs.Key.{PlainKey};
-ghost use Rattle.pit_fib.specs.Tables.{ByName, IsLongest, longest};
-ghost use Rattle.pit_fib.specs.Records.{Records, Pending, HoldsTheLiving, records_at};
-ghost use Rattle.pit_fib.specs.Cause.{Cause, Expires, records_after};
+ghost use Rattle.pit_fib.specs.Tables.{ByName, IsLongest, longest, revise};
+ghost use Rattle.pit_fib.specs.Records.{Records, Pending, HoldsTheLiving, is_alive, records_at};
+ghost use Rattle.pit_fib.specs.Cause.{Cause, Expires, records_after, with_reason};
+ghost use Rattle.pit_fib.specs.Pit.{IsLeastReason, was_sent, nacked_answer};
+ghost use Rattle.pit_fib.specs.declared.nacked.Nacked.TheVariants as answers;
 ghost use Rattle.pit_fib.specs.Past.{records_of, ask_of, sent_of};
 
 /// Law: of values by name, `longest` gives that of the longest prefix of a name that has one, and
@@ -17,13 +20,34 @@ pub fn longest_is_the_longest_prefix<V>()
         → longest table name ≡ None }
 {}
 
-/// Law: the records that causes leave of a key are, face by face, the last Interest that nothing
-/// has ended since, and the last sending since some face has asked without a break.
+/// Law: of a map by face whose values are changed, each face has its own value changed, or none.
+pub fn revising_changes_each_value<V, W>()
+    ensures { (change : V → Option W) (m : map.FinMap nat_cmp V) (face : ℕ)
+        → map.get (revise change m) face ≡ option_and_then change (map.get m face) }
+{}
+
+/// Law: the records that causes, the last one first, leave of a key are, face by face, the last
+/// Interest that nothing has ended since, and the last sending since some face has asked without a
+/// break. Some face asks exactly where such an Interest is left.
 pub fn records_are_the_past()
-    ensures asks { (run : List Cause) (key : PlainKey) (face : ℕ)
-        → map.get (records_of run key).asks face ≡ ask_of run key face }
-    ensures asked { (run : List Cause) (key : PlainKey) (face : ℕ)
-        → map.get (records_of run key).asked face ≡ sent_of run key face }
+    ensures asks { (causes : List Cause) (key : PlainKey) (face : ℕ)
+        → map.get (records_of causes key).asks face ≡ ask_of causes key face }
+    ensures asked { (causes : List Cause) (key : PlainKey) (face : ℕ)
+        → map.get (records_of causes key).asked face ≡ sent_of causes key face }
+    ensures alive { (causes : List Cause) (key : PlainKey) → IsTrue (is_alive (records_of causes key))
+        ↔ ((face : ℕ) × IsSome (ask_of causes key face)) }
+{}
+
+/// Law: a Nack comes to nothing exactly where its Nonce was not the last one sent to its face, and
+/// gives a reason exactly where all faces asked have then answered by a Nack: the least one.
+pub fn nacks_tell_the_least_reason()
+    ensures pending { (r : Records) (face : ℕ) (nonce : List ℕ) (reason : ℕ)
+        → (nacked_answer r face nonce reason ≡ answers.NoPending)
+        ↔ (was_sent (map.get r.asked face) nonce ≡ false) }
+    ensures all { (r : Records) (face : ℕ) (nonce : List ℕ) (reason least : ℕ)
+        → was_sent (map.get r.asked face) nonce ≡ true
+        → (nacked_answer r face nonce reason ≡ answers.All least)
+        ↔ IsLeastReason (with_reason face nonce reason r.asked (map.get r.asked face)) least }
 {}
 
 /// Law: tables of the living that have the same records at each key are the same.

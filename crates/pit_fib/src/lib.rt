@@ -25,8 +25,8 @@ pub use fault::{PitFault, TableFault};
 pub use fib::{Fib, MAX_DEPTH, MAX_ENTRIES};
 pub use hops::{Hop, Hops};
 pub use law::{
-    expiry_may_come_twice, longest_is_the_longest_prefix, records_are_the_past,
-    records_tell_the_table,
+    expiry_may_come_twice, longest_is_the_longest_prefix, nacks_tell_the_least_reason,
+    records_are_the_past, records_tell_the_table, revising_changes_each_value,
 };
 pub use nacked::Nacked;
 pub use pit::{MAX_PENDING, Pit};

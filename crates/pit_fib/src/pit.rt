@@ -8,7 +8,7 @@ ghost use Rattle.ndn_packets.specs.Key.{PlainKey, key_cmp, plain_key};
 ghost use Rattle.pit_fib.specs.declared.fault.PitFault.TheVariants as faults;
 ghost use Rattle.pit_fib.specs.Faces.{IsRising, has_face};
 ghost use Rattle.pit_fib.specs.Records.{Records, HoldsTheLiving, is_alive, records_at};
-ghost use Rattle.pit_fib.specs.Cause.{Expires, Arrives, SentTo, Satisfied, Nacked as NackCame, Withdrawn, Removed, Closed, Follows};
+ghost use Rattle.pit_fib.specs.Cause.{Expires, Arrives, SentTo, Satisfied, NackCame, Withdrawn, Removed, Closed, Follows};
 ghost use Rattle.pit_fib.specs.Pit.{AtMost64, HasRecord, HasRoomFor, WaitsFor, loops as loops_in, moments, nacked_answer};
 
 use crate::answering::Answering;
@@ -28,7 +28,7 @@ pub const MAX_PENDING: usize = 4096;
 
 /// The pending Interest table (NFD Developer's Guide, "Pending Interest Table"): by key, the
 /// Interests that wait and the faces to which they were sent. Under each of its keys some face
-/// asks. It has at most 4,096 keys, and records of at most 64 different faces.
+/// asks. It takes no new key while 4,096 stand, and has records of at most 64 different faces.
 #[derive(Drop)]
 pub struct Pit {
     alloc: Global,
@@ -71,7 +71,8 @@ impl Pit {
         }
     }
 
-    /// The number of keys under which Interests wait.
+    /// The number of keys under which Interests wait. The clauses beside `exact` are true of every
+    /// table.
     pub fn len(&self) -> usize
         ensures exact { result ≡ map.len self.now.pending }
         ensures living { HoldsTheLiving self.now.pending }
@@ -100,8 +101,8 @@ impl Pit {
         }
     }
 
-    /// Prepares one `arrive` of this key, of an Interest of at most so many octets, which is then
-    /// not refused memory. Nor are the `sent` calls after it.
+    /// Prepares one `arrive` of this key, of an Interest of at most so many octets. It is then not
+    /// refused memory while only removals stand between.
     pub fn prepare(&mut self, key: Key<'_>, octets: usize) -> Result<(), Memory>
         ensures pending { self.new.pending ≡ self.old.pending }
         ensures ok { OnOk result (self.new.prepared ≡ Some (plain_key key.entry, octets)) }

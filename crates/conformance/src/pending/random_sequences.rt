@@ -148,7 +148,19 @@ fn shows(table: &Table, records: &Records, at: usize, key: Key<'_>, face: u64) -
         _ => false,
     };
     let moment = sent.map(|sent| sent.moment);
-    interest && table.pit.used(key).get(face) == moment && table.pit.len() == records.len()
+    interest && table.pit.used(key).get(face) == moment
+}
+
+/// Whether the table shows what the records have, of all keys and faces.
+fn shows_all(table: &Table, records: &Records, keys: &[OwnedKey]) -> bool {
+    for (at, key) in keys.iter().enumerate() {
+        for face in 0..3 {
+            if !shows(table, records, at, key.view(), face) {
+                return false;
+            }
+        }
+    }
+    table.pit.len() == records.len()
 }
 
 /// Whether a Data goes to the faces that the records have.
@@ -164,95 +176,165 @@ fn satisfy_agrees(
     };
     let faces = table.satisfy(&data);
     let mut agrees = true;
-    for face in 0..4 {
+    let mut asking: usize = 0;
+    for face in 0..3 {
         let asks = records.asks.iter().any(|ask| ask.face == face
             && answered.get(ask.key) == Some(&true));
         agrees = agrees && faces.contains(face) == asks;
+        if asks {
+            asking = asking.saturating_add(1);
+        }
     }
     records
         .asks
         .retain(|ask| answered.get(ask.key) != Some(&true));
-    Some(agrees)
+    Some(agrees && faces.len() == asking)
 }
 
-/// Whether a random call answers as the records do.
+/// How often a Nack came to each answer but the first, and an Interest looped.
+#[derive(Clone, Copy)]
+struct Seen {
+    waiting: u64,
+    all: u64,
+    loops: u64,
+}
+
+/// Whether a Nack comes to what the records say.
+fn nack_agrees(
+    table: &mut Table,
+    records: &mut Records,
+    keys: &[OwnedKey],
+    seen: &mut Seen,
+    one: Asked,
+) -> Option<bool> {
+    let key = keys.get(one.key)?.view();
+    let reason = one.moment;
+    let answer = records.nacked(one.key, one.face, one.nonce, reason);
+    match answer {
+        Nacked::NoPending => {}
+        Nacked::Waiting => seen.waiting = seen.waiting.saturating_add(1),
+        Nacked::All(_) => seen.all = seen.all.saturating_add(1),
+    }
+    Some(table.nacked(key, one.face, octets_of(one.nonce), reason) == answer)
+}
+
+/// Whether an Interest loops where the records say so, and is kept.
+fn ask_agrees(
+    table: &mut Table,
+    records: &mut Records,
+    keys: &[OwnedKey],
+    seen: &mut Seen,
+    one: Asks,
+) -> Option<bool> {
+    let key = keys.get(one.key)?.view();
+    let loops = records.loops(one.key, one.face, one.nonce);
+    if loops {
+        seen.loops = seen.loops.saturating_add(1);
+    }
+    let agrees = table.pit.loops(key, one.face, octets_of(one.nonce)) == loops;
+    let refused = table.ask(key, one.face, octets_of(one.nonce), one.deadline);
+    records.arrive(one)?;
+    Some(agrees && refused.is_none())
+}
+
+/// Whether a sending is kept where the records have the face that asks.
+fn sent_agrees(
+    table: &mut Table,
+    records: &mut Records,
+    keys: &[OwnedKey],
+    asker: u64,
+    one: Asked,
+) -> Option<bool> {
+    let key = keys.get(one.key)?.view();
+    let asks = records
+        .asks
+        .iter()
+        .any(|ask| ask.key == one.key && ask.face == asker);
+    if asks {
+        records.sent(one)?;
+    }
+    Some(table.sent(key, asker, one.face, octets_of(one.nonce), one.moment) == asks)
+}
+
+/// Takes out of both what a random removal takes.
+fn remove(
+    table: &mut Table,
+    records: &mut Records,
+    keys: &[OwnedKey],
+    removal: u64,
+    one: Asks,
+) -> Option<()> {
+    let key = keys.get(one.key)?.view();
+    match removal {
+        0 => {
+            table.withdraw(key, one.face);
+            records
+                .asks
+                .retain(|ask| ask.key != one.key || ask.face != one.face);
+        }
+        1 => {
+            table.remove(key);
+            records.asks.retain(|ask| ask.key != one.key);
+        }
+        2 => {
+            table.expire(one.deadline);
+            records.asks.retain(|ask| one.deadline < ask.deadline);
+        }
+        _ => {
+            table.close_face(one.face);
+            records.asks.retain(|ask| ask.face != one.face);
+            records.asked.retain(|sent| sent.face != one.face);
+        }
+    }
+    Some(())
+}
+
+/// Whether a random call answers as the records do. Most calls are of one of two keys.
 fn call_agrees(
     table: &mut Table,
     records: &mut Records,
     keys: &[OwnedKey],
     packets: &[Vec<u8>],
+    seen: &mut Seen,
+    first: u64,
     state: &mut u64,
 ) -> Option<bool> {
-    let at = random(state, 6) as usize;
-    let key = keys.get(at)?.view();
-    let (face, nonce, now) = (random(state, 4), random(state, 3), random(state, 20));
-    let agrees = match random(state, 12) {
-        0 => satisfy_agrees(table, records, packets, random(state, 3) as usize)?,
-        1 => {
-            let reason = random(state, 3);
-            table.nacked(key, face, octets_of(nonce), reason)
-                == records.nacked(at, face, nonce, reason)
-        }
-        2 => {
-            table.withdraw(key, face);
-            records.asks.retain(|ask| ask.key != at || ask.face != face);
+    let key = first.saturating_add(random(state, 2)) as usize;
+    let (face, nonce, moment) = (random(state, 3), random(state, 2), random(state, 20));
+    let sent = Asked {
+        key,
+        face,
+        nonce,
+        moment,
+        reason: None,
+    };
+    let ask = Asks {
+        key,
+        face,
+        nonce,
+        deadline: moment,
+    };
+    let agrees = match random(state, 21) {
+        0..=4 => nack_agrees(table, records, keys, seen, sent)?,
+        5..=9 => ask_agrees(table, records, keys, seen, ask)?,
+        10..=15 => sent_agrees(table, records, keys, random(state, 3), sent)?,
+        16 => satisfy_agrees(table, records, packets, random(state, 3) as usize)?,
+        removal => {
+            remove(table, records, keys, removal.saturating_sub(17), ask)?;
             true
-        }
-        3 => {
-            table.remove(key);
-            records.asks.retain(|ask| ask.key != at);
-            true
-        }
-        4 => {
-            table.expire(now);
-            records.asks.retain(|ask| now < ask.deadline);
-            true
-        }
-        5 => {
-            table.close_face(face);
-            records.asks.retain(|ask| ask.face != face);
-            records.asked.retain(|sent| sent.face != face);
-            true
-        }
-        6 | 7 | 8 => {
-            let loops = table.pit.loops(key, face, octets_of(nonce));
-            let agrees = loops == records.loops(at, face, nonce);
-            let asked = table.ask(key, face, octets_of(nonce), now);
-            records.arrive(Asks {
-                key: at,
-                face,
-                nonce,
-                deadline: now,
-            })?;
-            agrees && asked.is_none()
-        }
-        _ => {
-            let asker = random(state, 4);
-            let asks = records
-                .asks
-                .iter()
-                .any(|ask| ask.key == at && ask.face == asker);
-            if asks {
-                records.sent(Asked {
-                    key: at,
-                    face,
-                    nonce,
-                    moment: now,
-                    reason: None,
-                })?;
-            }
-            table.sent(key, asker, face, octets_of(nonce), now) == asks
         }
     };
     records.settle();
-    Some(agrees && shows(table, records, at, key, face))
+    let asked = keys.get(key)?.view();
+    Some(agrees && shows(table, records, key, asked, face))
 }
 
-/// Whether twelve random calls do.
+/// Whether 24 random calls do, and leave all records as they are.
 fn sequence_agrees(
     alloc: Global,
     keys: &[OwnedKey],
     packets: &[Vec<u8>],
+    seen: &mut Seen,
     state: &mut u64,
 ) -> Option<bool> {
     let mut table = Table::new(alloc);
@@ -260,15 +342,16 @@ fn sequence_agrees(
         asks: Vec::new(alloc),
         asked: Vec::new(alloc),
     };
-    for _ in 0..12 {
-        if !call_agrees(&mut table, &mut records, keys, packets, state)? {
+    let first = random(state, 5);
+    for _ in 0..24 {
+        if !call_agrees(&mut table, &mut records, keys, packets, seen, first, state)? {
             return Some(false);
         }
     }
-    Some(true)
+    Some(shows_all(&table, &records, keys))
 }
 
-/// Whether ten thousand sequences do.
+/// Whether ten thousand sequences do, in which Nacks waited and went back, and Interests looped.
 fn all_agree(alloc: Global) -> Option<bool> {
     let (mut keys, mut packets) = (Vec::new(alloc), Vec::new(alloc));
     for key in KEYS {
@@ -281,12 +364,17 @@ fn all_agree(alloc: Global) -> Option<bool> {
         packets.push(packet).ok()?;
     }
     let mut state = 0x2545_f491_4f6c_dd1d;
+    let mut seen = Seen {
+        waiting: 0,
+        all: 0,
+        loops: 0,
+    };
     for _ in 0..10_000 {
-        if !sequence_agrees(alloc, &keys, &packets, &mut state)? {
+        if !sequence_agrees(alloc, &keys, &packets, &mut seen, &mut state)? {
             return Some(false);
         }
     }
-    Some(true)
+    Some(seen.waiting > 100 && seen.all > 100 && seen.loops > 100)
 }
 
 #[test]
