@@ -1,2 +1,3 @@
 pub mod RouteRoom
 pub mod PendingRoom
+pub mod NoRoutes

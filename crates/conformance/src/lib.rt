@@ -12,6 +12,8 @@ mod guard;
 #[cfg(test)]
 mod keys;
 #[cfg(test)]
+mod management;
+#[cfg(test)]
 mod names;
 #[cfg(test)]
 mod packets;

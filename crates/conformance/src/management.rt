@@ -1,0 +1,252 @@
+//! Management commands, their effects, replies and lists.
+
+ghost use Rattle.std.specs.Prelude.{◌≡◌, IfSome};
+ghost use Rattle.std.specs.FinMap as map;
+
+use crate::rows::{check_rows, octets};
+use content_store::Store;
+use mgmt_core::*;
+use ndn_names::NameBuf;
+use pit_fib::{Faces, Fib, StrategyTable};
+use std::alloc::Global;
+
+/// Appends a number, or `-`, after a space.
+fn put_number(alloc: Global, text: &mut String, number: Option<u64>) -> Option<()> {
+    match number {
+        None => text.push_str(" -").ok(),
+        Some(number) => text.push_str(&format!(in alloc; " {number}").ok()?).ok(),
+    }
+}
+
+fn action_shown(action: Action) -> &'static str {
+    match action {
+        Action::AddNexthop => "add",
+        Action::RemoveNexthop => "remove",
+        Action::SetStrategy => "set",
+        Action::UnsetStrategy => "unset",
+        Action::EraseCache => "erase",
+    }
+}
+
+/// A name: a URI, and the octets of components after it, in hexadecimal. The word `digest` stands
+/// for a digest of 32 zeros.
+fn name_in(alloc: Global, text: &str) -> Option<NameBuf> {
+    let mut words = text.split(' ');
+    let mut name = NameBuf::from_uri(alloc, words.next()?).ok()?;
+    for word in words {
+        if word == "digest" {
+            name.append(2, &[0; 32]).ok()?;
+        } else {
+            name.append(8, &octets(alloc, word)?).ok()?;
+        }
+    }
+    Some(name)
+}
+
+/// What a command asks for: its action, name, face, cost, count and strategy, or the status that
+/// refuses it.
+fn command_shown(alloc: Global, row: &str) -> Option<String> {
+    let name = name_in(alloc, row)?;
+    let command = match Command::read(name.view()) {
+        Ok(command) => command,
+        Err(status) => return format!(in alloc; "{status}").ok(),
+    };
+    let action = action_shown(command.action);
+    let about = NameBuf::from_name(alloc, command.name).ok()?;
+    let mut text = format!(in alloc; "{action} {about}").ok()?;
+    put_number(alloc, &mut text, Some(command.face))?;
+    put_number(alloc, &mut text, Some(command.cost))?;
+    put_number(alloc, &mut text, command.count)?;
+    if let Some(strategy) = command.strategy {
+        let strategy = NameBuf::from_name(alloc, strategy).ok()?;
+        text.push_str(&format!(in alloc; " {strategy}").ok()?).ok()?;
+    }
+    Some(text)
+}
+
+#[test]
+fn segments_and_unknown_commands(rt: HostRuntime) {
+    let rows = "
+# Less than a module and a verb, with the digest and without.
+/ -> 400
+/localhost/nfd -> 400
+/localhost/nfd/fib -> 400
+/localhost/nfd/fib digest -> 400
+# Commands that do not exist come before wrong parameters.
+/localhost/nfd/rib/register 680507030801416a0100 -> 501
+/localhost/nfd/rib/register -> 501
+/localhost/nfd/fib/list digest -> 501
+/localhost/nfd/fib/add -> 501
+/localhost/nfd/cs/add-nexthop -> 501
+/localhost/nfd/strategy-choice/erase -> 501
+/localhop/nfd/fib/add-nexthop 68050703080141 -> 501
+/localhost/NFD/fib/add-nexthop 68050703080141 -> 501
+/localhost/nfd/fib/32=add-nexthop 68050703080141 -> 501
+# Another shape.
+/localhost/nfd/fib/add-nexthop -> 400
+/localhost/nfd/fib/add-nexthop digest -> 400
+/localhost/nfd/fib/add-nexthop digest 68050703080141 -> 400
+/localhost/nfd/fib/add-nexthop 68050703080141 68050703080141 -> 400
+/localhost/nfd/fib/add-nexthop/32=h%05%07%03%08%01A -> 400
+/localhost/nfd/fib/add-nexthop 6805070308014100 -> 400
+/localhost/nfd/fib/add-nexthop 69050703080141 -> 400
+/localhost/nfd/fib/add-nexthop 6805070308 -> 400
+";
+    check_rows(&rt, rt.alloc(), rows, command_shown);
+    assert!(rt; segment_is(rt.alloc(), 4097, 0, Some((4096, 1))));
+    assert!(rt; segment_is(rt.alloc(), 4097, 1, Some((1, 1))));
+    assert!(rt; segment_is(rt.alloc(), 4097, 2, None));
+    assert!(rt; segment_is(rt.alloc(), 4096, 0, Some((4096, 0))));
+    assert!(rt; segment_is(rt.alloc(), 4096, 1, None));
+    assert!(rt; segment_is(rt.alloc(), 0, 0, Some((0, 0))));
+    assert!(rt; segment_is(rt.alloc(), 0, 1, None));
+    assert!(rt; segment_is(rt.alloc(), 4097, u64::MAX, None));
+}
+
+/// Whether a segment of so many octets has this length and this number of the last one.
+fn segment_is(alloc: Global, len: usize, number: u64, expected: Option<(usize, u64)>) -> bool {
+    let mut text: Vec<u8> = Vec::new(alloc);
+    if text.resize(len, 7).is_err() {
+        return false;
+    }
+    match segment_of(&text, number) {
+        None => expected.is_none(),
+        Some((segment, last)) => expected == Some((segment.len(), last)),
+    }
+}
+
+#[test]
+fn parameters(rt: HostRuntime) {
+    let rows = "
+# Absent fields: face 0 and cost 0.
+/localhost/nfd/fib/add-nexthop 68050703080141 -> add /A 0 0 -
+/localhost/nfd/fib/add-nexthop 68050703080141 digest -> add /A 0 0 -
+/localhost/nfd/fib/add-nexthop 68020700 -> add / 0 0 -
+/localhost/nfd/fib/add-nexthop 680b07030801416901026a0105 -> add /A 2 5 -
+/localhost/nfd/fib/remove-nexthop 6808070308014169010a -> remove /A 10 0 -
+/localhost/nfd/strategy-choice/set 680c07030801416b050703080142 -> set /A 0 0 - /B
+/localhost/nfd/strategy-choice/set 680907030801416b020700 -> set /A 0 0 - /
+/localhost/nfd/strategy-choice/unset 68050703080141 -> unset /A 0 0 -
+/localhost/nfd/cs/erase 68080703080141840102 -> erase /A 0 0 2
+# Any order, the first of each counts, unknown elements are ignored.
+/localhost/nfd/fib/add-nexthop 680b6a01056901020703080141 -> add /A 2 5 -
+/localhost/nfd/fib/add-nexthop 680b0703080141690102690103 -> add /A 2 0 -
+/localhost/nfd/fib/add-nexthop 680a07030801410703080142 -> add /A 0 0 -
+/localhost/nfd/fib/add-nexthop 68070703080141ff00 -> 400
+/localhost/nfd/fib/add-nexthop 680707030801416e00 -> add /A 0 0 -
+# Numbers of each length, up to the greatest.
+/localhost/nfd/fib/add-nexthop 680907030801416902000a -> add /A 10 0 -
+/localhost/nfd/fib/add-nexthop 680b070308014169040000000a -> add /A 10 0 -
+/localhost/nfd/fib/add-nexthop 681907030801416908ffffffffffffffff6a08ffffffffffffffff -> add /A 18446744073709551615 18446744073709551615 -
+/localhost/nfd/cs/erase 680f07030801418408ffffffffffffffff -> erase /A 0 0 18446744073709551615
+# A field of wrong form, one that is needed, one that the command does not take.
+/localhost/nfd/fib/add-nexthop 680707030801416900 -> 400
+/localhost/nfd/fib/add-nexthop 680a07030801416903000002 -> 400
+/localhost/nfd/fib/add-nexthop 68050703000141 -> 400
+/localhost/nfd/fib/add-nexthop 6803690102 -> 400
+/localhost/nfd/fib/add-nexthop 6800 -> 400
+/localhost/nfd/fib/add-nexthop 680807030801416c0100 -> 400
+/localhost/nfd/fib/add-nexthop 680807030801416d0100 -> 400
+/localhost/nfd/fib/add-nexthop 680807030801416f0100 -> 400
+/localhost/nfd/fib/add-nexthop 68080703080141840100 -> 400
+/localhost/nfd/fib/remove-nexthop 680807030801416a0100 -> 400
+/localhost/nfd/strategy-choice/unset 68080703080141690100 -> 400
+/localhost/nfd/strategy-choice/unset 68020700 -> 400
+/localhost/nfd/strategy-choice/set 68050703080141 -> 400
+/localhost/nfd/strategy-choice/set 680a07030801416b03080142 -> 400
+/localhost/nfd/cs/erase 68080703080141690100 -> 400
+";
+    check_rows(&rt, rt.alloc(), rows, command_shown);
+}
+
+/// Octets in hexadecimal.
+fn put_hex(alloc: Global, text: &mut String, octets: &[u8]) -> Option<()> {
+    text.push_str(&hex::encode(alloc, octets).ok()?).ok()
+}
+
+/// Tables without routes, with best-route at `/`, and with no Data.
+fn new_tables(alloc: Global) -> Option<Tables>
+    ensures { IfSome result (λ tables. tables.fib.table ≡ map.empty) }
+{
+    let store = Store::new(alloc, 8).ok()?;
+    let tables = Tables::new(alloc, Fib::new(alloc), StrategyTable::new(alloc), store);
+    Some(tables)
+}
+
+/// What becomes of a command from face 9, while the faces 2 and 9 are up: its status, the body of
+/// its reply, and the list of routes or, of a command on strategies, that of strategies.
+fn applied_shown(alloc: Global, row: &str) -> Option<String> {
+    let name = name_in(alloc, row)?;
+    let command = Command::read(name.view()).ok()?;
+    let mut up = Faces::new();
+    up.insert(2);
+    up.insert(9);
+    let mut tables = new_tables(alloc)?;
+    tables.prepare(&command).ok()?;
+    let applied = apply(&mut tables, &command, 9, &up).ok()?;
+    let status = applied.status;
+    let mut text = format!(in alloc; "{status} ").ok()?;
+    put_hex(alloc, &mut text, applied.body.as_slice())?;
+    text.push(' ').ok()?;
+    match command.action {
+        Action::SetStrategy => {
+            put_hex(
+                alloc,
+                &mut text,
+                &strategy_dataset(alloc, &tables.strategies).ok()?,
+            )?;
+        }
+        _ => put_hex(alloc, &mut text, &fib_dataset(alloc, &tables.fib).ok()?)?,
+    }
+    Some(text)
+}
+
+#[test]
+fn statuses_of_commands(rt: HostRuntime) {
+    let rows = "
+# A route of a face, of the asking face, and of one that is not up; the reply has the face.
+/localhost/nfd/fib/add-nexthop 68080703080141690102 -> 200 680b07030801416901026a0100 800d070308014181066901026a0100
+/localhost/nfd/fib/add-nexthop 68080703080141690107 -> 410  
+/localhost/nfd/fib/add-nexthop 680807030801416a0105 -> 200 680b07030801416901096a0105 800d070308014181066901096a0105
+/localhost/nfd/fib/add-nexthop 68080703080141690100 -> 200 680b07030801416901096a0100 800d070308014181066901096a0100
+# A strategy, without its Version component; an unknown one; a name of 33 components.
+/localhost/nfd/strategy-choice/set 682e07030801416b27072508096c6f63616c686f737408036e66640808737472617465677908096d756c746963617374 -> 200 682e07030801416b27072508096c6f63616c686f737408036e66640808737472617465677908096d756c746963617374 802c07006b28072608096c6f63616c686f737408036e666408087374726174656779080a626573742d726f757465802e07030801416b27072508096c6f63616c686f737408036e66640808737472617465677908096d756c746963617374
+/localhost/nfd/strategy-choice/set 683107030801416b2a072808096c6f63616c686f737408036e66640808737472617465677908096d756c746963617374360105 -> 200 682e07030801416b27072508096c6f63616c686f737408036e66640808737472617465677908096d756c746963617374 802c07006b28072608096c6f63616c686f737408036e666408087374726174656779080a626573742d726f757465802e07030801416b27072508096c6f63616c686f737408036e66640808737472617465677908096d756c746963617374
+/localhost/nfd/strategy-choice/set 682b07006b27072508096c6f63616c686f737408036e66640808737472617465677908096d756c746963617374 -> 200 682b07006b27072508096c6f63616c686f737408036e66640808737472617465677908096d756c746963617374 802b07006b27072508096c6f63616c686f737408036e66640808737472617465677908096d756c746963617374
+/localhost/nfd/strategy-choice/set 683407030801416b2d072b08096c6f63616c686f737408036e66640808737472617465677908096d756c746963617374360105360105 -> 404  802c07006b28072608096c6f63616c686f737408036e666408087374726174656779080a626573742d726f757465
+/localhost/nfd/strategy-choice/set 682307030801416b1c071a08096c6f63616c686f737408036e666408087374726174656779 -> 404  802c07006b28072608096c6f63616c686f737408036e666408087374726174656779080a626573742d726f757465
+/localhost/nfd/strategy-choice/set 680907030801416b020700 -> 404  802c07006b28072608096c6f63616c686f737408036e666408087374726174656779080a626573742d726f757465
+/localhost/nfd/strategy-choice/set 688e07630801410801410801410801410801410801410801410801410801410801410801410801410801410801410801410801410801410801410801410801410801410801410801410801410801410801410801410801410801410801410801410801410801416b27072508096c6f63616c686f737408036e66640808737472617465677908096d756c746963617374 -> 414  802c07006b28072608096c6f63616c686f737408036e666408087374726174656779080a626573742d726f757465
+/localhost/nfd/strategy-choice/set 686907630801410801410801410801410801410801410801410801410801410801410801410801410801410801410801410801410801410801410801410801410801410801410801410801410801410801410801410801410801410801410801410801410801416b020700 -> 414  802c07006b28072608096c6f63616c686f737408036e666408087374726174656779080a626573742d726f757465
+/localhost/nfd/strategy-choice/set 688c07600801410801410801410801410801410801410801410801410801410801410801410801410801410801410801410801410801410801410801410801410801410801410801410801410801410801410801410801410801410801410801410801416b28072608096c6f63616c686f737408036e666408087374726174656779080a626573742d726f757465 -> 200 688c07600801410801410801410801410801410801410801410801410801410801410801410801410801410801410801410801410801410801410801410801410801410801410801410801410801410801410801410801410801410801410801410801416b28072608096c6f63616c686f737408036e666408087374726174656779080a626573742d726f757465 802c07006b28072608096c6f63616c686f737408036e666408087374726174656779080a626573742d726f757465808c07600801410801410801410801410801410801410801410801410801410801410801410801410801410801410801410801410801410801410801410801410801410801410801410801410801410801410801410801410801410801410801410801416b28072608096c6f63616c686f737408036e666408087374726174656779080a626573742d726f757465
+# A prefix of 32 components, and of 33, which comes before a face that is not up.
+/localhost/nfd/fib/add-nexthop 68650760080141080141080141080141080141080141080141080141080141080141080141080141080141080141080141080141080141080141080141080141080141080141080141080141080141080141080141080141080141080141080141080141690102 -> 200 686807600801410801410801410801410801410801410801410801410801410801410801410801410801410801410801410801410801410801410801410801410801410801410801410801410801410801410801410801410801410801410801410801416901026a0100 806a076008014108014108014108014108014108014108014108014108014108014108014108014108014108014108014108014108014108014108014108014108014108014108014108014108014108014108014108014108014108014108014108014181066901026a0100
+/localhost/nfd/fib/add-nexthop 68680763080141080141080141080141080141080141080141080141080141080141080141080141080141080141080141080141080141080141080141080141080141080141080141080141080141080141080141080141080141080141080141080141080141690102 -> 414  
+/localhost/nfd/fib/add-nexthop 68680763080141080141080141080141080141080141080141080141080141080141080141080141080141080141080141080141080141080141080141080141080141080141080141080141080141080141080141080141080141080141080141080141080141690107 -> 414  
+# A route that is not there, and a face that is not up.
+/localhost/nfd/fib/remove-nexthop 68080703080141690107 -> 200 68080703080141690107 
+/localhost/nfd/strategy-choice/unset 68050703080141 -> 200 68050703080141 
+# The Count is repeated, and not the number removed.
+/localhost/nfd/cs/erase 68080703080141840105 -> 200 68080703080141840105 
+/localhost/nfd/cs/erase 68050703080141 -> 200 68050703080141 
+";
+    check_rows(&rt, rt.alloc(), rows, applied_shown);
+}
+
+/// Whether a reply is these octets.
+fn replies(alloc: Global, status: u16, text: &str, body: &str, expected: &str) -> bool {
+    let (Some(body), Some(expected)) = (octets(alloc, body), octets(alloc, expected)) else {
+        return false;
+    };
+    let mut out: Vec<u8> = Vec::new(alloc);
+    put_response(&mut out, status, text, &body).is_ok() && out.as_slice() == expected.as_slice()
+}
+
+#[test]
+fn replies_of_commands(rt: HostRuntime) {
+    let body = "680b07030801416901026a0100";
+    let reply = "65146601c867024f4b680b07030801416901026a0100";
+    assert!(rt; replies(rt.alloc(), 200, "OK", body, reply));
+    let denial = "651066020193670a546167206279206f7073";
+    assert!(rt; replies(rt.alloc(), 403, "Tag by ops", "", denial));
+}

@@ -1,0 +1,5 @@
+pub mod Singles
+pub mod Strategies
+pub mod OpenFaces
+pub mod Texts
+pub mod Replies

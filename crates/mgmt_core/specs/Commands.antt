@@ -1,0 +1,90 @@
+-- The commands, one row for each (NFD Management, "FIB Management", "Strategy Choice Management",
+-- "Content Store Management"). Statuses and texts are this profile's.
+use Rattle.std.specs.Prelude.{ℕ, List, [], ◌∷◌, Bool, true, false, ◌==◌, ◌&&◌, ◌||◌, Option, codes, find, bytes_eq}
+use Rattle.std.specs.List.{list_any}
+use Rattle.mgmt_core.specs.declared.action.Action.{Action}
+use Rattle.mgmt_core.specs.declared.action.Action.TheVariants.{AddNexthop, RemoveNexthop, SetStrategy, UnsetStrategy, EraseCache}
+use Rattle.mgmt_core.specs.declared.types.TheConstants.{NAME, FACE_ID, COST, STRATEGY, FLAGS, EXPIRATION_PERIOD, ORIGIN, COUNT}
+
+-- why a command that is well formed may be refused
+pub data Refusal : Type 0 where
+  PrefixTooLong : Refusal
+  FaceNotOpen : Refusal
+  UnknownStrategy : Refusal
+  TableFull : Refusal
+
+pub record Row : Type 0 where
+  pub part : List ℕ
+  pub verb : List ℕ
+  -- the types of the fields that it has to have, and of those that it may have
+  pub needs : List ℕ
+  pub uses : List ℕ
+  -- whether the name may be `/`
+  pub takes_root : Bool
+  -- what refuses it, in the order in which it is tested
+  pub refusals : List Refusal
+
+abbrev pub row_of : Action → Row
+row_of AddNexthop = record {
+  part = codes "fib";
+  verb = codes "add-nexthop";
+  needs = NAME ∷ [];
+  uses = FACE_ID ∷ COST ∷ [];
+  takes_root = true;
+  refusals = PrefixTooLong ∷ FaceNotOpen ∷ TableFull ∷ [];
+}
+row_of RemoveNexthop = record {
+  part = codes "fib";
+  verb = codes "remove-nexthop";
+  needs = NAME ∷ [];
+  uses = FACE_ID ∷ [];
+  takes_root = true;
+  refusals = [];
+}
+row_of SetStrategy = record {
+  part = codes "strategy-choice";
+  verb = codes "set";
+  needs = NAME ∷ STRATEGY ∷ [];
+  uses = [];
+  takes_root = true;
+  refusals = PrefixTooLong ∷ UnknownStrategy ∷ TableFull ∷ [];
+}
+row_of UnsetStrategy = record {
+  part = codes "strategy-choice";
+  verb = codes "unset";
+  needs = NAME ∷ [];
+  uses = [];
+  takes_root = false;
+  refusals = [];
+}
+row_of EraseCache = record {
+  part = codes "cs";
+  verb = codes "erase";
+  needs = NAME ∷ [];
+  uses = COUNT ∷ [];
+  takes_root = true;
+  refusals = [];
+}
+
+abbrev pub actions : List Action
+actions = AddNexthop ∷ RemoveNexthop ∷ SetStrategy ∷ UnsetStrategy ∷ EraseCache ∷ []
+
+abbrev pub is_named : List ℕ → List ℕ → Action → Bool
+is_named part verb action =
+    bytes_eq part (row_of action).part && bytes_eq verb (row_of action).verb
+
+-- the command of this module and verb
+abbrev pub action_named : List ℕ → List ℕ → Option Action
+action_named part verb = find (is_named part verb) actions
+
+-- the fields that parameters can have; elements of other types are ignored
+abbrev pub parameter_fields : List ℕ
+parameter_fields =
+    NAME ∷ FACE_ID ∷ COST ∷ STRATEGY ∷ FLAGS ∷ EXPIRATION_PERIOD ∷ ORIGIN ∷ COUNT ∷ []
+
+abbrev pub has : ℕ → List ℕ → Bool
+has kind kinds = list_any (λ k. kind == k) kinds
+
+-- whether a command needs or uses the field of this type
+abbrev pub takes : ℕ → Row → Bool
+takes kind row = has kind row.needs || has kind row.uses

@@ -1,0 +1,166 @@
+-- Reading a command's name (NFD Management, "Control Command"): the components after
+-- `/localhost/nfd` are the module, the verb and the parameters, and there may be the digest after
+-- them.
+use Rattle.std.specs.Prelude.{ℕ, ◌-◌, List, [], ◌∷◌, length, take, Bool, true, false, not, is_some, nat_lt, ◌==◌, ◌&&◌, Option, None, Some, Result, Ok, Err, unwrap_or, slice_get, codes, bytes_eq, if◌then◌else◌}
+use Rattle.std.specs.Option.{option_map}
+use Rattle.std.specs.List.{list_all}
+use Rattle.ndn_tlv.specs.declared.fault.TlvFault.{TlvFault}
+use Rattle.ndn_tlv.specs.Element.{Field}
+use Rattle.ndn_tlv.specs.Reading.{elements_of, nni_at, on_result}
+use Rattle.ndn_names.specs.declared.component_type.TheConstants.{GENERIC, PARAMETERS_SHA256_DIGEST}
+use Rattle.ndn_names.specs.Reading.{name_at}
+use Rattle.ndn_names.specs.View.{components}
+use Rattle.mgmt_core.specs.declared.action.Action.{Action}
+use Rattle.mgmt_core.specs.declared.command.Command.{Command}
+use Rattle.mgmt_core.specs.declared.types.TheConstants.{BAD_PARAMETERS, COST, COUNT, FACE_ID, NAME, PARAMETERS, STRATEGY, UNKNOWN_COMMAND}
+use Rattle.mgmt_core.specs.Commands.{Row, row_of, action_named, has, parameter_fields, takes}
+
+-- what a command asks for; face 0 is the face that it came from
+pub record PlainCommand : Type 0 where
+  pub action : Action
+  pub name : List Field
+  pub face : ℕ
+  pub cost : ℕ
+  pub strategy : Option (List Field)
+  pub count : Option ℕ
+
+-- a command without where its names lie in memory
+abbrev pub asked : Command → PlainCommand
+asked c = record {
+  action = c.action;
+  name = components c.name;
+  face = c.face;
+  cost = c.cost;
+  strategy = option_map components c.strategy;
+  count = c.count;
+}
+
+infixl 10 ◌>>=◌
+abbrev pub ◌>>=◌ : {A B : Type 0} → Option A → (A → Option B) → Option B
+None >>= f = None
+(Some x) >>= f = f x
+
+-- ---- fields
+
+abbrev pub Elements : Type 0
+Elements = List (Result Field TlvFault)
+
+-- it can be read, and is no field that the command does not take
+abbrev pub fits : Row → Result Field TlvFault → Bool
+fits row (Ok e) = not (has e.0 parameter_fields && not (takes e.0 row))
+fits row (Err fault) = false
+
+-- the value of the first field of a type
+abbrev pub first_of : ℕ → Elements → Option (List ℕ)
+first_of kind [] = None
+first_of kind (Err fault ∷ es) = None
+first_of kind (Ok e ∷ es) = if e.0 == kind then Some e.1 else first_of kind es
+
+-- the value of the one element that is there, of this type
+abbrev pub single : ℕ → Elements → Option (List ℕ)
+single kind [] = None
+single kind (Err fault ∷ es) = None
+single kind (Ok e ∷ []) = if e.0 == kind then Some e.1 else None
+single kind (Ok e ∷ (f ∷ es)) = None
+
+abbrev pub name_of : List ℕ → Option (List Field)
+name_of value = on_result (λ cs. Some cs) (λ _. None) (name_at value)
+
+abbrev pub number_of : List ℕ → Option ℕ
+number_of value = on_result (λ n. Some n) (λ _. None) (nni_at value)
+
+-- a field that may be absent; None where its form is wrong
+abbrev pub optional_of : {X : Type 0} → (List ℕ → Option X) → Option (List ℕ) → Option (Option X)
+optional_of form None = Some None
+optional_of form (Some value) = option_map (λ x. Some x) (form value)
+
+abbrev pub number_in : ℕ → Elements → Option (Option ℕ)
+number_in kind es = optional_of number_of (first_of kind es)
+
+abbrev pub name_in : Elements → Option (List Field)
+name_in es = first_of NAME es >>= name_of
+
+-- a Strategy holds one Name
+abbrev pub strategy_in : Elements → Option (Option (List Field))
+strategy_in es =
+    optional_of (λ value. single NAME (elements_of value) >>= name_of) (first_of STRATEGY es)
+
+-- ---- commands
+
+abbrev pub is_root : List Field → Bool
+is_root [] = true
+is_root (c ∷ cs) = false
+
+-- the command of these parameters; None where they are not its own
+unfoldable pub command_of : Action → Elements → Option PlainCommand
+command_of action es =
+    let row = row_of action in
+    if not (list_all (fits row) es && list_all (λ kind. is_some (first_of kind es)) row.needs)
+    then None else (do
+      name ← name_in es
+      face ← number_in FACE_ID es
+      cost ← number_in COST es
+      strategy ← strategy_in es
+      count ← number_in COUNT es
+      if is_root name && not row.takes_root then None else Some (record {
+        action = action;
+        name = name;
+        face = unwrap_or face 0;
+        cost = unwrap_or cost 0;
+        strategy = strategy;
+        count = count;
+      }))
+
+-- the name, without its last component where that has this type
+abbrev pub last_is : ℕ → Option Field → Bool
+last_is kind None = false
+last_is kind (Some c) = c.0 == kind
+
+abbrev pub without_last : ℕ → List Field → List Field
+without_last kind cs =
+    let front = length cs - 1 in
+    if last_is kind (slice_get cs front) then take front cs else cs
+
+-- the octets of a GenericNameComponent
+abbrev pub generic_value : Option Field → Option (List ℕ)
+generic_value None = None
+generic_value (Some c) = if c.0 == GENERIC then Some c.1 else None
+
+abbrev pub generic_at : List Field → ℕ → Option (List ℕ)
+generic_at cs at = generic_value (slice_get cs at)
+
+-- the action of `/localhost/nfd/MODULE/VERB`
+unfoldable pub action_at : List Field → Option Action
+action_at cs = do
+  localhost ← generic_at cs 0
+  nfd ← generic_at cs 1
+  part ← generic_at cs 2
+  verb ← generic_at cs 3
+  if bytes_eq localhost (codes "localhost") && bytes_eq nfd (codes "nfd")
+      then action_named part verb else None
+
+-- the parameters are one element in the fifth component
+unfoldable pub parameters_at : Action → List Field → Option PlainCommand
+parameters_at action cs = do
+  value ← generic_at cs 4
+  parameters ← single PARAMETERS (elements_of value)
+  command_of action (elements_of parameters)
+
+-- a command, or the first status that refuses it
+abbrev pub or_status : {X : Type 0} → ℕ → Option X → Result X ℕ
+or_status status None = Err status
+or_status status (Some x) = Ok x
+
+abbrev pub on_option : {X Y : Type 0} → Y → (X → Y) → Option X → Y
+on_option none some None = none
+on_option none some (Some x) = some x
+
+unfoldable pub command_before_digest : List Field → Result PlainCommand ℕ
+command_before_digest cs =
+    if nat_lt (length cs) 4 then Err BAD_PARAMETERS else
+    on_option (Err UNKNOWN_COMMAND) (λ action.
+    if length cs == 5 then or_status BAD_PARAMETERS (parameters_at action cs) else
+    Err BAD_PARAMETERS) (action_at cs)
+
+abbrev pub command_at : List Field → Result PlainCommand ℕ
+command_at cs = command_before_digest (without_last PARAMETERS_SHA256_DIGEST cs)

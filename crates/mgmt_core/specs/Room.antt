@@ -1,0 +1,27 @@
+-- What is prepared for a command.
+use Rattle.std.specs.Prelude.{◌≡◌, ℕ, ◌<◌, ◌≤◌, ◌^◌, Some, length, vec_capacity}
+use Rattle.mgmt_core.specs.declared.action.Action.TheVariants.{AddNexthop, SetStrategy}
+use Rattle.mgmt_core.specs.declared.reply.ReplyRoom.{ReplyRoom}
+use Rattle.mgmt_core.specs.declared.tables.Tables.{Tables}
+use Rattle.mgmt_core.specs.Reading.{PlainCommand}
+use Rattle.mgmt_core.specs.Writing.{octets, reply_body, reply_fields}
+
+-- there is room for the reply to a command, whichever face it comes from
+abbrev pub HasRoomForReply : ReplyRoom → PlainCommand → Type 0
+HasRoomForReply room c =
+    (face : ℕ) → face < 2 ^ 64
+    → (length (octets (reply_fields c face)) ≤ vec_capacity room.fields)
+    × (length (reply_body c face) ≤ vec_capacity room.body)
+
+-- the table that the command may enlarge is prepared for its name
+abbrev pub IsCallPrepared : Tables → PlainCommand → Type 0
+IsCallPrepared t c =
+    elim c.action [
+      | AddNexthop ↦ t.fib.prepared ≡ Some c.name
+      | SetStrategy ↦ t.strategies.prepared ≡ Some c.name
+      | _ ↦ Unit {0}
+    ]
+
+-- the command is prepared; what only removes from the tables leaves it so
+abbrev pub IsPrepared : Tables → PlainCommand → Type 0
+IsPrepared t c = HasRoomForReply t.room c × IsCallPrepared t c

@@ -1,0 +1,34 @@
+-- The statuses of the two commands that enlarge a table, for private contracts.
+use Rattle.std.specs.Prelude.{ℕ, List, length, not, nat_lt, Option, None, Some, Result, Ok, Err, if◌then◌else◌}
+use Rattle.ndn_tlv.specs.Element.{Field}
+use Rattle.ndn_tlv.specs.declared.memory.Memory.{Memory}
+use Rattle.pit_fib.specs.declared.fault.TableFault.{TableFault}
+use Rattle.pit_fib.specs.declared.fault.TableFault.TheVariants as faults
+use Rattle.pit_fib.specs.declared.strategy_table.StrategyId.{StrategyId}
+use Rattle.pit_fib.specs.Faces.{has_face}
+use Rattle.pit_fib.specs.Fib.{Routes}
+use Rattle.pit_fib.specs.StrategyTable.{Choices}
+use Rattle.mgmt_core.specs.declared.types.TheConstants.{FACE_NOT_OPEN, OK, PREFIX_TOO_LONG, TABLE_FULL, UNKNOWN_STRATEGY}
+use Rattle.mgmt_core.specs.Tables.{is_full}
+
+abbrev pub add_status : List Field → ℕ → List ℕ → Routes → ℕ
+add_status name face up routes =
+    if nat_lt 32 (length name) then PREFIX_TOO_LONG else (
+    if not (has_face face up) then FACE_NOT_OPEN else (
+    if is_full routes name then TABLE_FULL else
+    OK))
+
+abbrev pub set_status : List Field → Option StrategyId → Choices → ℕ
+set_status name None choices =
+    if nat_lt 32 (length name) then PREFIX_TOO_LONG else UNKNOWN_STRATEGY
+set_status name (Some strategy) choices =
+    if nat_lt 32 (length name) then PREFIX_TOO_LONG else (
+    if is_full choices name then TABLE_FULL else
+    OK)
+
+-- by what the table answered
+abbrev pub status_by : Result (Unit {0}) TableFault → Result ℕ Memory
+status_by (Ok _) = Ok OK
+status_by (Err faults.TooDeep) = Ok PREFIX_TOO_LONG
+status_by (Err faults.TableFull) = Ok TABLE_FULL
+status_by (Err faults.Memory) = Err (record {})

@@ -1,0 +1,120 @@
+-- What commands do to the tables, and which are refused (NFD Management, "FIB Management",
+-- "Strategy Choice Management", "Content Store Management").
+use Rattle.std.specs.Prelude.{◌≡◌, ℕ, List, [], ◌∷◌, length, Bool, true, not, is_none, nat_lt, nat_le, ◌==◌, ◌&&◌, Option, None, Some, IsSome, find, codes, if◌then◌else◌}
+use Rattle.std.specs.FinMap as map
+use Rattle.std.specs.Ordering.{eq_by_cmp}
+use Rattle.ndn_tlv.specs.Element.{Field}
+use Rattle.ndn_names.specs.declared.component_type.TheConstants.{GENERIC, VERSION}
+use Rattle.ndn_names.specs.Order.{name_cmp}
+use Rattle.pit_fib.specs.declared.strategy_table.StrategyId.{StrategyId}
+use Rattle.pit_fib.specs.declared.strategy_table.StrategyId.TheVariants.{BestRoute, Multicast}
+use Rattle.pit_fib.specs.Faces.{has_face}
+use Rattle.pit_fib.specs.Fib.{Routes, costs_at, with_route, without_route}
+use Rattle.pit_fib.specs.StrategyTable.{Choices, without_choice}
+use Rattle.pit_fib.specs.Tables.{ByName}
+use Rattle.content_store.specs.Store.{CachedData, Erases}
+use Rattle.mgmt_core.specs.declared.action.Action.{Action}
+use Rattle.mgmt_core.specs.declared.action.Action.TheVariants.{AddNexthop, RemoveNexthop, SetStrategy, UnsetStrategy, EraseCache}
+use Rattle.mgmt_core.specs.declared.types.TheConstants.{FACE_NOT_OPEN, OK, PREFIX_TOO_LONG, TABLE_FULL, UNKNOWN_STRATEGY}
+use Rattle.mgmt_core.specs.Commands.{Refusal, PrefixTooLong, FaceNotOpen, UnknownStrategy, TableFull, row_of}
+use Rattle.mgmt_core.specs.Reading.{PlainCommand, without_last, ◌>>=◌}
+
+-- ---- strategies
+
+abbrev pub strategy_word : StrategyId → List ℕ
+strategy_word BestRoute = codes "best-route"
+strategy_word Multicast = codes "multicast"
+
+abbrev pub generic : List ℕ → Field
+generic value = (GENERIC, value)
+
+abbrev pub strategy_name : StrategyId → List Field
+strategy_name strategy =
+    generic (codes "localhost") ∷ generic (codes "nfd") ∷ generic (codes "strategy")
+    ∷ generic (strategy_word strategy) ∷ []
+
+abbrev pub is_strategy : List Field → StrategyId → Bool
+is_strategy name strategy = eq_by_cmp name_cmp name (strategy_name strategy)
+
+-- the strategy of a name, which may have a Version component after it
+abbrev pub strategy_named : List Field → Option StrategyId
+strategy_named name = find (is_strategy (without_last VERSION name)) (BestRoute ∷ Multicast ∷ [])
+
+abbrev pub strategy_asked : PlainCommand → Option StrategyId
+strategy_asked c = c.strategy >>= strategy_named
+
+-- ---- what refuses a command
+
+-- the face that a command from this face stands for
+abbrev pub face_of : PlainCommand → ℕ → ℕ
+face_of c face = if c.face == 0 then face else c.face
+
+-- the name is new, and 4,096 stand
+abbrev pub is_full : {X : Type 0} → ByName X → List Field → Bool
+is_full table name = not (map.contains_key table name) && nat_le 4096 (map.len table)
+
+-- the table that a command changes
+abbrev pub is_full_for : Action → Routes → Choices → List Field → Bool
+is_full_for SetStrategy routes choices name = is_full choices name
+is_full_for _ routes choices name = is_full routes name
+
+abbrev pub refuses : PlainCommand → ℕ → List ℕ → Routes → Choices → Refusal → Bool
+refuses c face up routes choices PrefixTooLong = nat_lt 32 (length c.name)
+refuses c face up routes choices FaceNotOpen = not (has_face (face_of c face) up)
+refuses c face up routes choices UnknownStrategy = is_none (strategy_asked c)
+refuses c face up routes choices TableFull = is_full_for c.action routes choices c.name
+
+abbrev pub code_of : Refusal → ℕ
+code_of PrefixTooLong = PREFIX_TOO_LONG
+code_of FaceNotOpen = FACE_NOT_OPEN
+code_of UnknownStrategy = UNKNOWN_STRATEGY
+code_of TableFull = TABLE_FULL
+
+-- the code of the first of these that refuses
+abbrev pub first_status : (Refusal → Bool) → List Refusal → ℕ
+first_status refused [] = OK
+first_status refused (r ∷ rs) = if refused r then code_of r else first_status refused rs
+
+-- the status of a command from a face, while these faces are up
+abbrev pub status_of : PlainCommand → ℕ → List ℕ → Routes → Choices → ℕ
+status_of c face up routes choices =
+    first_status (refuses c face up routes choices) (row_of c.action).refusals
+
+-- each face that has a route is up
+abbrev pub AllAreUp : Routes → List ℕ → Type 0
+AllAreUp routes up =
+    (name : List Field) (face : ℕ) → IsSome (map.get (costs_at routes name) face)
+    → has_face face up ≡ true
+
+-- ---- what a command does
+
+abbrev pub routes_after : PlainCommand → ℕ → Routes → Routes
+routes_after c face routes =
+    elim c.action [
+      | AddNexthop ↦ with_route routes c.name (face_of c face) c.cost
+      | RemoveNexthop ↦ without_route routes c.name (face_of c face)
+      | _ ↦ routes
+    ]
+
+abbrev pub with_choice : Choices → List Field → Option StrategyId → Choices
+with_choice choices name None = choices
+with_choice choices name (Some strategy) = map.insert choices name strategy
+
+abbrev pub choices_after : PlainCommand → Choices → Choices
+choices_after c choices =
+    elim c.action [
+      | SetStrategy ↦ with_choice choices c.name (strategy_asked c)
+      | UnsetStrategy ↦ without_choice choices c.name
+      | _ ↦ choices
+    ]
+
+abbrev pub CachedAfter : PlainCommand → List CachedData → List CachedData → Type 0
+CachedAfter c before after =
+    elim c.action [
+      | EraseCache ↦ (gone : ℕ) × Erases c.name c.count before after gone
+      | _ ↦ after ≡ before
+    ]
+
+-- what a command leaves: its effect where the status is 200, and else what was there
+abbrev pub if_done : {X : Type 0} → ℕ → X → X → X
+if_done status after before = if status == OK then after else before

@@ -1,0 +1,85 @@
+-- What replies and lists hold (NFD Management, "Control Command", "FIB Dataset", "Strategy Choice
+-- Dataset").
+use Rattle.std.specs.Prelude.{ℕ, ◌*◌, ◌-◌, ◌/◌, List, [], ◌∷◌, ◌++◌, length, take, drop, flat_map, Option, None, Some, nat_lt, ◌==◌, if◌then◌else◌}
+use Rattle.std.specs.Option.{option_map}
+use Rattle.ndn_tlv.specs.Number.{shortest_nni}
+use Rattle.ndn_tlv.specs.Element.{Field, element}
+use Rattle.ndn_names.specs.Name.{octets_of}
+use Rattle.pit_fib.specs.declared.hops.Hop.{Hop}
+use Rattle.pit_fib.specs.declared.strategy_table.StrategyId.{StrategyId}
+use Rattle.mgmt_core.specs.declared.types.TheConstants.{COST, COUNT, ENTRY, FACE_ID, NAME, NEXT_HOP, OK, PARAMETERS, RESPONSE, STATUS_CODE, STATUS_TEXT, STRATEGY}
+use Rattle.mgmt_core.specs.declared.dataset.TheConstants.{SEGMENT_LEN}
+use Rattle.mgmt_core.specs.Commands.{row_of, takes}
+use Rattle.mgmt_core.specs.Reading.{PlainCommand}
+use Rattle.mgmt_core.specs.Tables.{face_of, strategy_asked, strategy_name}
+
+abbrev pub octets : List Field → List ℕ
+octets fields = flat_map element fields
+
+-- a field that may be absent
+abbrev pub optional : ℕ → Option (List ℕ) → List Field
+optional kind None = []
+optional kind (Some value) = (kind, value) ∷ []
+
+abbrev pub number : ℕ → Option ℕ → List Field
+number kind n = optional kind (option_map shortest_nni n)
+
+-- a strategy, as an element that is a Name
+abbrev pub strategy_value : StrategyId → List ℕ
+strategy_value strategy = element (NAME, octets_of (strategy_name strategy))
+
+-- what a command gives, if it takes the field of this type
+abbrev pub given : {X : Type 0} → PlainCommand → ℕ → Option X → Option X
+given c kind x = if takes kind (row_of c.action) then x else None
+
+-- the fields of a reply to a command from this face: those that the command takes, with the face
+-- that it stands for
+abbrev pub reply_fields : PlainCommand → ℕ → List Field
+reply_fields c face =
+    (NAME, octets_of c.name)
+    ∷ (number FACE_ID (given c FACE_ID (Some (face_of c face)))
+    ++ (number COST (given c COST (Some c.cost))
+    ++ (number COUNT (given c COUNT c.count)
+    ++ optional STRATEGY (option_map strategy_value (given c STRATEGY (strategy_asked c))))))
+
+-- the body of a reply
+abbrev pub reply_body : PlainCommand → ℕ → List ℕ
+reply_body c face = element (PARAMETERS, octets (reply_fields c face))
+
+-- what a command is answered with at a status: no body where it is not 200
+abbrev pub body_after : PlainCommand → ℕ → ℕ → List ℕ
+body_after c face status = if status == OK then reply_body c face else []
+
+-- a reply: the status, its text, and the body
+abbrev pub response : ℕ → List ℕ → List ℕ → List ℕ
+response status text body =
+    element (
+      RESPONSE,
+      octets ((STATUS_CODE, shortest_nni status) ∷ (STATUS_TEXT, text) ∷ [])
+          ++ body,
+    )
+
+-- a next hop in a list
+abbrev pub hop_text : Hop → List ℕ
+hop_text hop =
+    let fields = (FACE_ID, shortest_nni hop.face) ∷ (COST, shortest_nni hop.cost) ∷ [] in
+    element (NEXT_HOP, octets fields)
+
+-- an entry of the list of routes: its name and its next hops
+abbrev pub route_text : List Field × List Hop → List ℕ
+route_text entry = element (ENTRY, element (NAME, octets_of entry.0) ++ flat_map hop_text entry.1)
+
+-- an entry of the list of strategies: its name and its strategy
+abbrev pub choice_text : List Field × StrategyId → List ℕ
+choice_text entry =
+    element (ENTRY, octets ((NAME, octets_of entry.0) ∷ (STRATEGY, strategy_value entry.1) ∷ []))
+
+-- the number of the last segment; a text without octets is one segment
+abbrev pub last_segment : List ℕ → ℕ
+last_segment text = (length text - 1) / SEGMENT_LEN
+
+-- a segment and the number of the last one
+abbrev pub segment_at : List ℕ → ℕ → Option (List ℕ × ℕ)
+segment_at text k =
+    if nat_lt (last_segment text) k then None else
+    Some (take SEGMENT_LEN (drop (k * SEGMENT_LEN) text), last_segment text)

@@ -1,0 +1,78 @@
+ghost use Rattle.std.specs.Prelude.{◌≡◌};
+ghost use Rattle.mgmt_core.specs.Commands.{row_of, is_named, takes, action_named};
+
+use crate::types::{COST, COUNT, FACE_ID, NAME, STRATEGY};
+
+/// What a command does (NFD Management, "FIB Management", "Strategy Choice Management", "Content
+/// Store Management").
+#[derive(Clone, Copy, Debug, PartialEq, Eq)]
+pub enum Action {
+    /// `fib/add-nexthop`: adds the next hop of a face, or sets its cost.
+    AddNexthop,
+    /// `fib/remove-nexthop`: removes the next hop of a face.
+    RemoveNexthop,
+    /// `strategy-choice/set`: sets the strategy of a name.
+    SetStrategy,
+    /// `strategy-choice/unset`: removes the strategy of a name.
+    UnsetStrategy,
+    /// `cs/erase`: erases Data from the cache.
+    EraseCache,
+}
+
+impl Action {
+    /// Whether the action goes by these two words.
+    fn is_named(self, module: &[u8], verb: &[u8]) -> bool
+        ensures { result ≡ is_named «module».now verb.now self }
+    {
+        match self {
+            Action::AddNexthop => {
+                module == b"fib".as_slice() && verb == b"add-nexthop".as_slice()
+            }
+            Action::RemoveNexthop => {
+                module == b"fib".as_slice() && verb == b"remove-nexthop".as_slice()
+            }
+            Action::SetStrategy => {
+                module == b"strategy-choice".as_slice() && verb == b"set".as_slice()
+            }
+            Action::UnsetStrategy => {
+                module == b"strategy-choice".as_slice() && verb == b"unset".as_slice()
+            }
+            Action::EraseCache => module == b"cs".as_slice() && verb == b"erase".as_slice(),
+        }
+    }
+
+    /// The action of this module and verb.
+    pub(crate) fn named(module: &[u8], verb: &[u8]) -> Option<Action>
+        ensures { result ≡ action_named «module».now verb.now }
+    {
+        if Action::AddNexthop.is_named(module, verb) {
+            return Some(Action::AddNexthop);
+        }
+        if Action::RemoveNexthop.is_named(module, verb) {
+            return Some(Action::RemoveNexthop);
+        }
+        if Action::SetStrategy.is_named(module, verb) {
+            return Some(Action::SetStrategy);
+        }
+        if Action::UnsetStrategy.is_named(module, verb) {
+            return Some(Action::UnsetStrategy);
+        }
+        if Action::EraseCache.is_named(module, verb) {
+            return Some(Action::EraseCache);
+        }
+        None
+    }
+
+    /// Whether the action needs or uses the field of this type.
+    pub(crate) fn takes(self, kind: u32) -> bool
+        ensures { result ≡ takes kind (row_of self) }
+    {
+        match self {
+            Action::AddNexthop => kind == NAME || kind == FACE_ID || kind == COST,
+            Action::RemoveNexthop => kind == NAME || kind == FACE_ID,
+            Action::SetStrategy => kind == NAME || kind == STRATEGY,
+            Action::UnsetStrategy => kind == NAME,
+            Action::EraseCache => kind == NAME || kind == COUNT,
+        }
+    }
+}

@@ -1,0 +1,126 @@
+ghost use Rattle.std.specs.Prelude.{◌≡◌, Ok, Err, None, Some, unwrap_or};
+ghost use Rattle.std.specs.Option.{option_map};
+ghost use Rattle.ndn_tlv.specs.Reading.{elements_of, on_result};
+ghost use Rattle.ndn_names.specs.View.{components, field_of};
+ghost use Rattle.mgmt_core.specs.Reading.{asked, command_at, parameters_at, command_of, without_last as front_of, generic_at, action_at};
+
+use crate::action::Action;
+use crate::fields::{
+    are_fields, has_needed, name_field, number_field, single_element, strategy_field,
+};
+use crate::types::{BAD_PARAMETERS, COST, COUNT, FACE_ID, PARAMETERS, UNKNOWN_COMMAND};
+use ndn_names::Name;
+use ndn_names::component_type::{GENERIC, PARAMETERS_SHA256_DIGEST};
+
+/// A command that is well formed (NFD Management, "Control Command").
+#[derive(Clone, Copy, Debug)]
+pub struct Command<'a> {
+    /// What it does.
+    pub action: Action,
+    /// The name whose routes, strategy or Data it is about.
+    pub name: Name<'a>,
+    /// The face of the next hop: 0 for the one that the command came from.
+    pub face: u64,
+    /// The cost of the next hop, 0 where it is not given.
+    pub cost: u64,
+    /// The name of the strategy.
+    pub strategy: Option<Name<'a>>,
+    /// The greatest number of Data to erase.
+    pub count: Option<u64>,
+}
+
+impl<'a> Command<'a> {
+    #[tactic(auto, unfolding(crate::specs::Reading::command_before_digest))]
+    /// Reads the name of a command, `/localhost/nfd/MODULE/VERB/PARAMETERS`, with or without the
+    /// digest component after it.
+    ///
+    /// Refuses it with the first status in this order: 400 for less than a module and a verb, 501
+    /// for a command that does not exist, 400 for parameters that are not its own.
+    pub fn read(name: Name<'a>) -> Result<Command<'a>, u16>
+        ensures { on_result (λ c. Ok (asked c)) Err result ≡ command_at (components name.entry) }
+    {
+        let name = without_last(name, PARAMETERS_SHA256_DIGEST);
+        if name.len() < 4 {
+            return Err(BAD_PARAMETERS);
+        }
+        let Some(action) = action_at(name) else {
+            return Err(UNKNOWN_COMMAND);
+        };
+        if name.len() != 5 {
+            return Err(BAD_PARAMETERS);
+        }
+        command_in(action, name).ok_or(BAD_PARAMETERS)
+    }
+}
+
+/// The name, without its last component where that has this type.
+pub(crate) fn without_last(name: Name<'_>, kind: u16) -> Name<'_>
+    ensures { components result ≡ front_of kind (components name.entry) }
+{
+    let front = name.len().saturating_sub(1);
+    match name.component(front) {
+        Some(last) if last.kind == kind => name.prefix(front),
+        _ => name,
+    }
+}
+
+/// The octets of a GenericNameComponent of the name.
+fn generic_at(name: Name<'_>, at: usize) -> Option<&[u8]>
+    ensures { option_map (λ v. v.now) result ≡ generic_at (components name.entry) at }
+{
+    match name.component(at) {
+        Some(component) if component.kind == GENERIC => Some(component.value),
+        _ => None,
+    }
+}
+
+#[tactic(auto, unfolding(crate::specs::Reading::action_at))]
+/// The action that the first four components name.
+fn action_at(name: Name<'_>) -> Option<Action>
+    ensures { result ≡ action_at (components name.entry) }
+{
+    let localhost = generic_at(name, 0)?;
+    let nfd = generic_at(name, 1)?;
+    let module = generic_at(name, 2)?;
+    let verb = generic_at(name, 3)?;
+    if localhost == b"localhost".as_slice() && nfd == b"nfd".as_slice() {
+        return Action::named(module, verb);
+    }
+    None
+}
+
+#[tactic(auto, unfolding(crate::specs::Reading::parameters_at))]
+/// The command whose parameters are the fifth component.
+fn command_in<'a>(action: Action, name: Name<'a>) -> Option<Command<'a>>
+    ensures { option_map asked result ≡ parameters_at action (components name.entry) }
+{
+    let component = generic_at(name, 4)?;
+    let fields = single_element(component, PARAMETERS)?;
+    command_of(action, fields)
+}
+
+#[tactic(auto, unfolding(crate::specs::Reading::command_of))]
+/// The command of these parameters.
+fn command_of(action: Action, fields: &[u8]) -> Option<Command<'_>>
+    ensures { option_map asked result ≡ command_of action (elements_of fields.now) }
+{
+    if !are_fields(fields, action) || !has_needed(fields, action) {
+        return None;
+    }
+    let name = name_field(fields)?;
+    let face = number_field(fields, FACE_ID)?;
+    let cost = number_field(fields, COST)?;
+    let strategy = strategy_field(fields)?;
+    let count = number_field(fields, COUNT)?;
+    if action == Action::UnsetStrategy && name.is_empty() {
+        return None;
+    }
+    Some(Command {
+        action,
+        name,
+        face: face.unwrap_or(0),
+        cost: cost.unwrap_or(0),
+        strategy,
+        count,
+    })
+}

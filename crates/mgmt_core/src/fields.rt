@@ -1,0 +1,118 @@
+//! The fields of a command's parameters.
+
+ghost use Rattle.std.specs.Prelude.{◌≡◌, is_some};
+ghost use Rattle.std.specs.Option.{option_map};
+ghost use Rattle.std.specs.List.{list_all};
+ghost use Rattle.ndn_tlv.specs.Reading.{elements_of};
+ghost use Rattle.ndn_names.specs.View.{components};
+ghost use Rattle.mgmt_core.specs.Commands.{row_of, has, parameter_fields};
+ghost use Rattle.mgmt_core.specs.Reading.{fits, first_of, single, number_in, name_in, strategy_in};
+
+use crate::action::Action;
+use crate::types::{COST, COUNT, EXPIRATION_PERIOD, FACE_ID, FLAGS, NAME, ORIGIN, STRATEGY};
+use ndn_names::Name;
+use ndn_tlv::{first_element, nni_of};
+
+/// The value of octets that are one element of this type.
+pub fn single_element(octets: &[u8], kind: u32) -> Option<&[u8]>
+    ensures { option_map (λ v. v.now) result ≡ single kind (elements_of octets.now) }
+{
+    let Ok((element, rest)) = first_element(octets) else {
+        return None;
+    };
+    if element.kind == kind && rest.is_empty() {
+        return Some(element.value);
+    }
+    None
+}
+
+/// Whether parameters can have a field of this type.
+fn is_field(kind: u32) -> bool
+    ensures { result ≡ has kind parameter_fields }
+{
+    match kind {
+        NAME | FACE_ID | COST | STRATEGY | FLAGS | EXPIRATION_PERIOD | ORIGIN | COUNT => true,
+        _ => false,
+    }
+}
+
+/// Whether the octets are elements, none of which is a field that the action does not take.
+pub fn are_fields(octets: &[u8], action: Action) -> bool
+    ensures { result ≡ list_all (fits (row_of action)) (elements_of octets.now) }
+{
+    let mut rest = octets;
+    while !rest.is_empty() {
+        let Ok((element, after)) = first_element(rest) else {
+            return false;
+        };
+        if is_field(element.kind) && !action.takes(element.kind) {
+            return false;
+        }
+        rest = after;
+    }
+    true
+}
+
+/// The value of the first field of this type.
+pub fn first_field(octets: &[u8], kind: u32) -> Option<&[u8]>
+    ensures { option_map (λ v. v.now) result ≡ first_of kind (elements_of octets.now) }
+{
+    let mut rest = octets;
+    while !rest.is_empty() {
+        let Ok((element, after)) = first_element(rest) else {
+            return None;
+        };
+        if element.kind == kind {
+            return Some(element.value);
+        }
+        rest = after;
+    }
+    None
+}
+
+/// The number in the first field of this type, if there is one. None where it is no number.
+pub fn number_field(octets: &[u8], kind: u32) -> Option<Option<u64>>
+    ensures { result ≡ number_in kind (elements_of octets.now) }
+{
+    match first_field(octets, kind) {
+        None => Some(None),
+        Some(value) => match nni_of(value) {
+            Ok(number) => Some(Some(number)),
+            Err(_) => None,
+        },
+    }
+}
+
+/// The Name field. None where it is missing or no name.
+pub fn name_field(octets: &[u8]) -> Option<Name<'_>>
+    ensures { option_map components result ≡ name_in (elements_of octets.now) }
+{
+    let value = first_field(octets, NAME)?;
+    Name::read(value).ok()
+}
+
+/// The name in the Strategy field, if there is one. None where it is no name.
+pub fn strategy_field(octets: &[u8]) -> Option<Option<Name<'_>>>
+    ensures { option_map (option_map components) result ≡ strategy_in (elements_of octets.now) }
+{
+    let Some(value) = first_field(octets, STRATEGY) else {
+        return Some(None);
+    };
+    let name = single_element(value, NAME)?;
+    match Name::read(name) {
+        Ok(name) => Some(Some(name)),
+        Err(_) => None,
+    }
+}
+
+/// Whether the fields that the action needs are there.
+pub fn has_needed(octets: &[u8], action: Action) -> bool
+    ensures { result ≡ list_all (λ kind. is_some (first_of kind (elements_of octets.now)))
+        (row_of action).needs }
+{
+    let has_name = first_field(octets, NAME).is_some();
+    match action {
+        Action::SetStrategy => has_name && first_field(octets, STRATEGY).is_some(),
+        _ => has_name,
+    }
+}

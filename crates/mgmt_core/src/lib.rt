@@ -1,0 +1,24 @@
+//! What an operator says to the node: commands on routes, strategies and the cache, and the lists
+//! that show them.
+#![tactic(auto)]
+
+mod action;
+mod applied;
+mod command;
+mod dataset;
+mod effect;
+mod fields;
+mod reply;
+mod response;
+mod strategy_name;
+mod tables;
+mod types;
+mod writing;
+
+pub use action::Action;
+pub use applied::{Applied, Octets};
+pub use command::Command;
+pub use dataset::{SEGMENT_LEN, fib_dataset, segment_of, strategy_dataset};
+pub use effect::apply;
+pub use response::put_response;
+pub use tables::Tables;

@@ -1,0 +1,139 @@
+ghost use Rattle.std.specs.Prelude.{◌≡◌, ◌<◌, ◌≤◌, ◌+◌, ◌^◌, ◌++◌, length, vec_len, IsOk, IfOk, OnOk};
+ghost use Rattle.std.specs.Vec.{vec_capacity};
+ghost use Rattle.mgmt_core.specs.Reading.{asked};
+ghost use Rattle.mgmt_core.specs.Tables.{face_of, strategy_asked};
+ghost use Rattle.mgmt_core.specs.Writing.{given, octets, optional, reply_body, reply_fields};
+ghost use Rattle.mgmt_core.specs.Writing.{strategy_value};
+ghost use Rattle.std.specs.Option.{option_map};
+ghost use Rattle.mgmt_core.specs.Room.{HasRoomForReply};
+
+use crate::applied::Octets;
+use crate::command::Command;
+use crate::strategy_name::{strategy_named, strategy_value};
+use crate::types::{COST, COUNT, FACE_ID, NAME, PARAMETERS, STRATEGY};
+use crate::writing::put_number_field;
+use ndn_tlv::{Memory, put_element};
+use pit_fib::StrategyId;
+use std::alloc::Global;
+use std::mem;
+
+/// The greatest number of octets before an element's value, where its type has one octet.
+const HEADER_LEN: usize = 10;
+
+impl Command<'_> {
+    /// The face that it stands for, where it comes from this face.
+    pub(crate) fn face_from(&self, face: u64) -> u64
+        ensures { result ≡ face_of (asked self.now) face }
+    {
+        if self.face == 0 { face } else { self.face }
+    }
+
+    /// The strategy that it asks for.
+    pub(crate) fn strategy(&self) -> Option<StrategyId>
+        ensures { result ≡ strategy_asked (asked self.now) }
+    {
+        strategy_named(self.strategy?)
+    }
+
+    /// The number, where the command takes the field of this type.
+    fn given_number(&self, kind: u32, number: Option<u64>) -> Option<u64>
+        ensures { result ≡ given (asked self.now) kind number }
+    {
+        if self.action.takes(kind) {
+            number
+        } else {
+            None
+        }
+    }
+
+    /// The strategy, where the command takes one.
+    fn given_strategy(&self) -> Option<StrategyId>
+        ensures { result ≡ given (asked self.now) STRATEGY (strategy_asked (asked self.now)) }
+    {
+        if self.action.takes(STRATEGY) {
+            self.strategy()
+        } else {
+            None
+        }
+    }
+
+    /// Appends the fields of the reply, or some octets of them.
+    fn put_fields(&self, out: &mut Vec<u8>, face: u64) -> Result<(), Memory>
+        ensures ok { OnOk result
+            (out.new.items ≡ out.old.items ++ octets (reply_fields (asked self.now) face)) }
+        ensures room { vec_len out.old + length (octets (reply_fields (asked self.now) face))
+            ≤ vec_capacity out.old → IsOk result }
+    {
+        let face = self.given_number(FACE_ID, Some(self.face_from(face)));
+        let cost = self.given_number(COST, Some(self.cost));
+        let count = self.given_number(COUNT, self.count);
+        put_element(out, NAME, self.name.as_octets())?;
+        put_number_field(out, FACE_ID, face)?;
+        put_number_field(out, COST, cost)?;
+        put_number_field(out, COUNT, count)?;
+        put_strategy(out, self.given_strategy())
+    }
+}
+
+/// Appends a Strategy field, where there is one, or some octets of it.
+fn put_strategy(out: &mut Vec<u8>, strategy: Option<StrategyId>) -> Result<(), Memory>
+    ensures ok { OnOk result (out.new.items
+        ≡ out.old.items ++ octets (optional STRATEGY (option_map strategy_value strategy))) }
+    ensures room { vec_len out.old
+        + length (octets (optional STRATEGY (option_map strategy_value strategy)))
+        ≤ vec_capacity out.old → IsOk result }
+    ensures capacity { vec_capacity out.old ≤ vec_capacity out.new }
+{
+    match strategy {
+        None => Ok(()),
+        Some(strategy) => put_element(out, STRATEGY, strategy_value(strategy)),
+    }
+}
+
+/// Memory for one reply.
+#[derive(Drop)]
+pub struct ReplyRoom {
+    fields: Vec<u8>,
+    body: Vec<u8>,
+}
+
+impl ReplyRoom {
+    /// No room.
+    pub fn new(alloc: Global) -> ReplyRoom {
+        ReplyRoom {
+            fields: Vec::new(alloc),
+            body: Vec::new(alloc),
+        }
+    }
+
+    /// Makes room for the reply to a command, whichever face it comes from: the greatest number of
+    /// a face has the longest text.
+    pub fn prepare(&mut self, command: &Command<'_>) -> Result<(), Memory>
+        ensures { OnOk result (HasRoomForReply self.new (asked command.now)) }
+    {
+        self.fields.clear();
+        self.body.clear();
+        command.put_fields(&mut self.body, u64::MAX)?;
+        self.fields.reserve(self.body.len())?;
+        self.body.reserve(HEADER_LEN)?;
+        Ok(())
+    }
+
+    /// The body of the reply to a command from this face. It takes the room.
+    pub fn body_of(
+        &mut self,
+        alloc: Global,
+        command: &Command<'_>,
+        face: u64,
+    ) -> Result<Octets, Memory>
+        ensures ok { IfOk result (λ body. body ≡ reply_body (asked command.now) face) }
+        ensures promised { HasRoomForReply self.old (asked command.now) → IsOk result }
+    {
+        self.fields.clear();
+        command.put_fields(&mut self.fields, face)?;
+        let mut body = mem::replace(&mut self.body, Vec::new(alloc));
+        body.clear();
+        put_element(&mut body, PARAMETERS, &self.fields)?;
+        Ok(Octets::of(body))
+    }
+}

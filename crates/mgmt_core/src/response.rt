@@ -1,0 +1,47 @@
+ghost use Rattle.std.specs.Prelude.{◌≡◌, ◌+◌, ◌≤◌, ◌++◌, length, take, vec_len, string_bytes, IsOk, OnOk, OnErr};
+ghost use Rattle.std.specs.Vec.{vec_capacity};
+ghost use Rattle.mgmt_core.specs.Writing.{response};
+
+use crate::types::{RESPONSE, STATUS_CODE, STATUS_TEXT};
+use crate::writing::{element_len, nni_element_len, put_nni_element};
+use ndn_tlv::{Memory, put_element, put_number};
+
+/// Appends a reply: the status code, its text, and the body, which is the element of the
+/// parameters or empty (NFD Management, "Control Command", ControlResponse). Where memory is
+/// refused, nothing is appended.
+pub fn put_response(out: &mut Vec<u8>, status: u16, text: &str, body: &[u8]) -> Result<(), Memory>
+    ensures ok { OnOk result
+        (out.new.items ≡ out.old.items ++ response status text.now body.now) }
+    ensures err { OnErr result (out.new.items ≡ out.old.items) }
+    // Where there is room, memory is not refused.
+    ensures room { vec_len out.old + length (response status text.now body.now)
+        ≤ vec_capacity out.old → IsOk result }
+    ensures capacity { vec_capacity out.old ≤ vec_capacity out.new }
+{
+    let len = out.len();
+    let done = put_parts(out, status, text.as_bytes(), body);
+    if done.is_err() {
+        out.truncate(len);
+    }
+    done
+}
+
+/// Appends a reply, or some octets of it.
+fn put_parts(out: &mut Vec<u8>, status: u16, text: &[u8], body: &[u8]) -> Result<(), Memory>
+    ensures ok { OnOk result
+        (out.new.items ≡ out.old.items ++ response status text.now body.now) }
+    ensures begins { take (vec_len out.old) out.new.items ≡ out.old.items }
+    ensures room { vec_len out.old + length (response status text.now body.now)
+        ≤ vec_capacity out.old → IsOk result }
+    ensures capacity { vec_capacity out.old ≤ vec_capacity out.new }
+{
+    let status = u64::from(status);
+    let front_len = nni_element_len(STATUS_CODE, status) + element_len(STATUS_TEXT, text);
+    let value_len = front_len.checked_add(body.len()).ok_or(Memory)?;
+    put_number(out, u64::from(RESPONSE))?;
+    put_number(out, value_len as u64)?;
+    put_nni_element(out, STATUS_CODE, status)?;
+    put_element(out, STATUS_TEXT, text)?;
+    out.extend_from_slice(body)?;
+    Ok(())
+}

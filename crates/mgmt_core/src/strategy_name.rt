@@ -1,0 +1,48 @@
+ghost use Rattle.std.specs.Prelude.{◌≡◌};
+ghost use Rattle.ndn_names.specs.View.{components};
+ghost use Rattle.mgmt_core.specs.Tables.{strategy_named, is_strategy};
+ghost use Rattle.mgmt_core.specs.Writing.{strategy_value};
+
+use crate::command::without_last;
+use ndn_names::Name;
+use ndn_names::component_type::VERSION;
+use pit_fib::StrategyId;
+
+/// The names of strategies, each a Name element.
+const BEST_ROUTE: &[u8; 40] =
+    b"\x07\x26\x08\x09localhost\x08\x03nfd\x08\x08strategy\x08\x0abest-route";
+
+const MULTICAST: &[u8; 39] =
+    b"\x07\x25\x08\x09localhost\x08\x03nfd\x08\x08strategy\x08\x09multicast";
+
+/// A strategy's name, as a Name element.
+pub fn strategy_value(strategy: StrategyId) -> &'static [u8]
+    ensures { result.now ≡ strategy_value strategy }
+{
+    match strategy {
+        StrategyId::BestRoute => BEST_ROUTE,
+        StrategyId::Multicast => MULTICAST,
+    }
+}
+
+/// The strategy of a name, which may have a Version component after it.
+pub fn strategy_named(name: Name<'_>) -> Option<StrategyId>
+    ensures { result ≡ strategy_named (components name.entry) }
+{
+    let name = without_last(name, VERSION);
+    if is_name_of(name, StrategyId::BestRoute) {
+        return Some(StrategyId::BestRoute);
+    }
+    if is_name_of(name, StrategyId::Multicast) {
+        return Some(StrategyId::Multicast);
+    }
+    None
+}
+
+/// Whether this is the strategy's name.
+fn is_name_of(name: Name<'_>, strategy: StrategyId) -> bool
+    ensures { result ≡ is_strategy (components name.entry) strategy }
+{
+    let (_, octets) = strategy_value(strategy).split_at(2);
+    name.as_octets() == octets
+}

@@ -1,0 +1,56 @@
+ghost use Rattle.std.specs.Prelude.{◌≡◌, OnOk};
+ghost use Rattle.mgmt_core.specs.Reading.{asked};
+ghost use Rattle.mgmt_core.specs.Room.{IsPrepared};
+
+use crate::action::Action;
+use crate::command::Command;
+use crate::reply::ReplyRoom;
+use content_store::Store;
+use ndn_tlv::Memory;
+use pit_fib::{Fib, StrategyTable};
+use std::alloc::Global;
+
+/// What commands change: routes, strategies and the cache.
+#[derive(Drop)]
+pub struct Tables {
+    pub fib: Fib,
+    pub strategies: StrategyTable,
+    pub store: Store,
+    pub(crate) alloc: Global,
+    // What is reserved for the next reply.
+    pub(crate) room: ReplyRoom,
+}
+
+impl Tables {
+    /// These tables.
+    pub fn new(alloc: Global, fib: Fib, strategies: StrategyTable, store: Store) -> Tables
+        ensures fib { result.fib ≡ fib }
+        ensures strategies { result.strategies ≡ strategies }
+        ensures store { result.store ≡ store }
+    {
+        Tables {
+            fib,
+            strategies,
+            store,
+            alloc,
+            room: ReplyRoom::new(alloc),
+        }
+    }
+
+    /// Prepares one `apply` of this command, from any face, which is then not refused memory while
+    /// only removals from the tables stand between. The next `apply` or `prepare`, of any command
+    /// and a refused one too, ends the preparation.
+    pub fn prepare(&mut self, command: &Command<'_>) -> Result<(), Memory>
+        ensures ok { OnOk result (IsPrepared self.new (asked command.now)) }
+        ensures routes { self.new.fib.table ≡ self.old.fib.table }
+        ensures choices { self.new.strategies.table ≡ self.old.strategies.table }
+        ensures store { self.new.store ≡ self.old.store }
+    {
+        self.room.prepare(command)?;
+        match command.action {
+            Action::AddNexthop => self.fib.prepare(command.name),
+            Action::SetStrategy => self.strategies.prepare(command.name),
+            _ => Ok(()),
+        }
+    }
+}
