@@ -4,3 +4,4 @@ pub mod Spelling
 pub mod Commands
 pub mod Lines
 pub mod Jobs
+pub mod ShortForms

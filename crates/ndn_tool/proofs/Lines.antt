@@ -1,5 +1,5 @@
 -- What becomes of the answers of the command line's reader.
-use Rattle.std.proofs.Common.{◌≡◌, ◌≢◌, ℕ, List, [], Option, None, Some, Result, Ok, Err, MatchResult, true, refl, sym, ap, subst, inl, inr, ◌∙◌}
+use Rattle.std.proofs.Common.{◌≡◌, ◌≢◌, ℕ, List, [], drop, Option, None, Some, Result, Ok, Err, MatchResult, true, refl, sym, ap, subst, inl, inr, ◌∙◌}
 use Rattle.clap.specs.declared.error.Error.{Error}
 use Rattle.clap.specs.declared.error.kind.ErrorKind.{ErrorKind}
 use Rattle.clap.specs.declared.error.kind.ErrorKind.TheVariants as kind
@@ -11,27 +11,28 @@ use Rattle.clap.specs.Faults.{fault_of, is_simple_and_free}
 use Rattle.clap.specs.Kinds.{HasKind, IsAmong}
 use Rattle.clap.proofs.OnLiterals.{clap_on_literals}
 use Rattle.ndn_tool.specs.declared.job.Job.{Job}
-use Rattle.ndn_tool.specs.declared.job.Job.TheVariants.{Help, Interest, Data, Tag, Show}
+use Rattle.ndn_tool.specs.declared.job.Job.TheVariants.{Help, Interest, Data, Command, Tag, Show}
 use Rattle.ndn_tool.specs.declared.fault.Usage.TheVariants.{CommandLine, BadValue}
 use Rattle.ndn_tool.specs.declared.fault.ToolFault.{ToolFault}
 use Rattle.ndn_tool.specs.declared.fault.ToolFault.TheVariants as fault
 use Rattle.ndn_tool.specs.Value.{ReadsInMemory}
-use Rattle.ndn_tool.specs.CommandLine.{interest_app, data_app, tag_app, show_app, tool}
-use Rattle.ndn_tool.specs.Command.{reading_of, faults, IsJob, Asks, IsWrongLine, IsRefusedLine}
+use Rattle.ndn_tool.specs.Nonce.{words_of}
+use Rattle.ndn_tool.specs.CommandLine.{interest_app, data_app, command_app, route_app, strategy_app, cache_app, tag_app, show_app, tool}
+use Rattle.ndn_tool.specs.Command.{reading_of, faults, IsJob, IsJobOf, Asks, IsWrongLine, IsRefusedLine}
 
 -- the program's command line is of those whose matches are stated
 pub simple : is_simple tool ≡ true
-unfolding tool interest_app data_app tag_app show_app clap_on_literals
+unfolding tool interest_app data_app command_app route_app strategy_app cache_app tag_app show_app clap_on_literals
 simple = refl
 
 pub simple_and_free : is_simple_and_free tool ≡ true
-unfolding tool interest_app data_app tag_app show_app clap_on_literals
+unfolding tool interest_app data_app command_app route_app strategy_app cache_app tag_app show_app clap_on_literals
 simple_and_free = refl
 
 -- ---- an error
 
-module _ (arguments : List (List ℕ)) (error : Error) (has : HasKind (faults arguments) error) where
-  is_wrong : (k : ErrorKind) → kind_of error ≡ k → k ≢ kind.DisplayHelp → k ≢ kind.OutOfMemory → IsWrongLine arguments (CommandLine error)
+module _ (now : ℕ) (arguments : List (List ℕ)) (error : Error) (has : HasKind (faults arguments) error) where
+  is_wrong : (k : ErrorKind) → kind_of error ≡ k → k ≢ kind.DisplayHelp → k ≢ kind.OutOfMemory → IsWrongLine now arguments (CommandLine error)
   is_wrong k e help memory = elim has [
     | inl m ↦ absurd (memory (sym e ∙ m))
     | inr among ↦ (among, λ d. help (sym e ∙ d))
@@ -43,7 +44,7 @@ module _ (arguments : List (List ℕ)) (error : Error) (has : HasKind (faults ar
     | inr among ↦ subst (λ k. IsAmong k (faults arguments)) e among
   ]
 
-  answered_as : (k : ErrorKind) → kind_of error ≡ k → MatchResult (reading_of k error) (Asks arguments) (IsRefusedLine arguments)
+  answered_as : (k : ErrorKind) → kind_of error ≡ k → MatchResult (reading_of k error) (Asks now arguments) (IsRefusedLine now arguments)
   answered_as kind.InvalidValue e = is_wrong _ e (λ x. cc) (λ x. cc)
   answered_as kind.UnknownArgument e = is_wrong _ e (λ x. cc) (λ x. cc)
   answered_as kind.InvalidSubcommand e = is_wrong _ e (λ x. cc) (λ x. cc)
@@ -62,39 +63,40 @@ module _ (arguments : List (List ℕ)) (error : Error) (has : HasKind (faults ar
   answered_as kind.Format e = is_wrong _ e (λ x. cc) (λ x. cc)
   answered_as kind.OutOfMemory e = tt
 
-  pub answered_error : MatchResult (reading_of (kind_of error) error) (Asks arguments) (IsRefusedLine arguments)
+  pub answered_error : MatchResult (reading_of (kind_of error) error) (Asks now arguments) (IsRefusedLine now arguments)
   answered_error = answered_as (kind_of error) refl
 
 -- ---- matches
 
-no_help : (used : Option (List ℕ × List Row)) (error : Error) → IsJob used (Help error) → ⊥
-no_help None error h = h
-no_help (Some used) error h = h
+no_help : (now : ℕ) (words : List ℕ) (used : Option (List ℕ × List Row)) (error : Error) → IsJob now words used (Help error) → ⊥
+no_help now words None error h = h
+no_help now words (Some used) error h = h
 
-pub asked : (arguments : List (List ℕ)) → faults arguments ≡ [] → (r : Result Job ToolFault) → ReadsInMemory (IsJob (subcommand_of tool arguments)) r → MatchResult r (Asks arguments) (IsRefusedLine arguments)
-asked arguments none (Ok (Help error)) h = absurd (no_help (subcommand_of tool arguments) error h)
-asked arguments none (Ok (Interest job)) h = (none, h)
-asked arguments none (Ok (Data job)) h = (none, h)
-asked arguments none (Ok (Tag job)) h = (none, h)
-asked arguments none (Ok (Show octets)) h = (none, h)
-asked arguments none (Err (fault.Usage (CommandLine error))) h = absurd h
-asked arguments none (Err (fault.Usage (BadValue place wanted))) h = (none, h)
-asked arguments none (Err fault.NoKey) h = h
-asked arguments none (Err (fault.Write why)) h = h
-asked arguments none (Err (fault.Packet why)) h = h
-asked arguments none (Err fault.Memory) h = tt
+pub asked : (now : ℕ) (arguments : List (List ℕ)) → faults arguments ≡ [] → (r : Result Job ToolFault) → ReadsInMemory (IsJobOf now arguments) r → MatchResult r (Asks now arguments) (IsRefusedLine now arguments)
+asked now arguments none (Ok (Help error)) h = absurd (no_help now (words_of (drop 1 arguments)) (subcommand_of tool arguments) error h)
+asked now arguments none (Ok (Interest job)) h = (none, h)
+asked now arguments none (Ok (Data job)) h = (none, h)
+asked now arguments none (Ok (Command job)) h = (none, h)
+asked now arguments none (Ok (Tag job)) h = (none, h)
+asked now arguments none (Ok (Show octets)) h = (none, h)
+asked now arguments none (Err (fault.Usage (CommandLine error))) h = absurd h
+asked now arguments none (Err (fault.Usage (BadValue place wanted))) h = (none, h)
+asked now arguments none (Err fault.NoKey) h = h
+asked now arguments none (Err (fault.Write why)) h = h
+asked now arguments none (Err (fault.Packet why)) h = h
+asked now arguments none (Err fault.Memory) h = tt
 
-module _ (arguments : List (List ℕ)) (app : App) (is_tool : app ≡ tool) where
+module _ (now : ℕ) (arguments : List (List ℕ)) (app : App) (is_tool : app ≡ tool) where
   free : is_simple_and_free app ≡ true
   free = ap is_simple_and_free is_tool ∙ simple_and_free
 
   pub from_matches : (m : ArgMatches) (r : Result Job ToolFault) → HasMatchesOf app arguments m → (is_simple_and_free app ≡ true → fault_of app arguments ≡ [])
-      → ReadsInMemory (IsJob (subcommand_rows_of m)) r → MatchResult r (Asks arguments) (IsRefusedLine arguments)
+      → ReadsInMemory (IsJob now (words_of (drop 1 arguments)) (subcommand_rows_of m)) r → MatchResult r (Asks now arguments) (IsRefusedLine now arguments)
   from_matches m r has none h =
       let used : subcommand_rows_of m ≡ subcommand_of tool arguments = (has (ap is_simple is_tool ∙ simple)).1 ∙ ap (λ (a : App). subcommand_of a arguments) is_tool in
       let clear : faults arguments ≡ [] = ap (λ (a : App). fault_of a arguments) (sym is_tool) ∙ none free in
-      asked arguments clear r (subst (λ (u : Option (List ℕ × List Row)). ReadsInMemory (IsJob u) r) used h)
+      asked now arguments clear r (subst (λ (u : Option (List ℕ × List Row)). ReadsInMemory (IsJob now (words_of (drop 1 arguments)) u) r) used h)
 
   pub from_error : (error : Error) → (is_simple_and_free app ≡ true → HasKind (fault_of app arguments) error)
-      → MatchResult (reading_of (kind_of error) error) (Asks arguments) (IsRefusedLine arguments)
-  from_error error has = answered_error arguments error (subst (λ (a : App). HasKind (fault_of a arguments) error) is_tool (has free))
+      → MatchResult (reading_of (kind_of error) error) (Asks now arguments) (IsRefusedLine now arguments)
+  from_error error has = answered_error now arguments error (subst (λ (a : App). HasKind (fault_of a arguments) error) is_tool (has free))

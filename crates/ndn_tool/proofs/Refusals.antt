@@ -1,5 +1,5 @@
 -- What the refusals of writers say of the packet that a job asks for.
-use Rattle.std.proofs.Common.{◌≡◌, List, Option, None, Some, Result, Ok, Err, IfErr, MatchOption, refl, ap}
+use Rattle.std.proofs.Common.{◌≡◌, List, Option, None, Some, Result, Ok, Err, IfErr, MatchOption, refl, ap, inl, inr}
 use Rattle.hmac_keys.specs.KeyFile.{NamedKey}
 use Rattle.ndn_packets.specs.declared.fault.WriteFault.{WriteFault}
 use Rattle.ndn_packets.specs.declared.fault.WriteFault.TheVariants.{BadName, TooLong, Memory}
@@ -8,8 +8,12 @@ use Rattle.ndn_packets.specs.declared.data_writer.DataWriter.{DataWriter}
 use Rattle.ndn_packets.specs.Writing.{interest_refusal, data_refusal}
 use Rattle.ndn_tool.specs.declared.job.InterestJob.{InterestJob}
 use Rattle.ndn_tool.specs.declared.job.DataJob.{DataJob}
+use Rattle.ndn_tool.specs.declared.job.CommandJob.{CommandJob}
+use Rattle.ndn_tool.specs.declared.fault.ToolFault.{ToolFault}
+use Rattle.ndn_tool.specs.declared.fault.ToolFault.TheVariants as fault
+use Rattle.ndn_tool.specs.Parameters.{IsNameRefusal}
 use Rattle.ndn_tool.specs.Fault.{fault_of_write}
-use Rattle.ndn_tool.specs.Answer.{AsksInterest, AsksData, IsInterestRefusal, IsDataRefusal}
+use Rattle.ndn_tool.specs.Answer.{AsksInterest, AsksData, AsksCommand, IsInterestRefusal, IsDataRefusal, IsCommandRefusal}
 
 -- the fault of a writer that has this cause to refuse, or none
 abbrev pub IsToldBy : Option WriteFault → WriteFault → Type 0
@@ -46,3 +50,16 @@ pub data_refused : (job : DataJob) (book : List NamedKey) (w : DataWriter) (why 
 data_refused job book w BadName asks h = (w, asks, bad_name (data_refusal w) h)
 data_refused job book w TooLong asks h = (w, asks, too_long (data_refusal w) h)
 data_refused job book w Memory asks h = tt
+
+pub command_refused : (job : CommandJob) (book : List NamedKey) (w : InterestWriter) (why : WriteFault)
+    → AsksCommand job book w → IsToldBy (interest_refusal w) why → IsCommandRefusal job book (fault_of_write why)
+command_refused job book w BadName asks h = inr (w, asks, bad_name (interest_refusal w) h)
+command_refused job book w TooLong asks h = inr (w, asks, too_long (interest_refusal w) h)
+command_refused job book w Memory asks h = tt
+
+pub name_refused : (job : CommandJob) (book : List NamedKey) (why : ToolFault) → IsNameRefusal job why → IsCommandRefusal job book why
+name_refused job book (fault.Usage usage) h = h
+name_refused job book fault.NoKey h = absurd h
+name_refused job book (fault.Write why) h = inl h
+name_refused job book (fault.Packet why) h = h
+name_refused job book fault.Memory h = tt

@@ -1,11 +1,12 @@
 -- What the program prints for a job, and why it prints nothing.
-use Rattle.std.specs.Prelude.{◌≡◌, ℕ, List, ◌++◌, codes, Option, None, Some, ⊤}
+use Rattle.std.specs.Prelude.{◌≡◌, ◌⊎◌, ℕ, List, ◌++◌, false, codes, Option, None, Some, ⊤}
 use Rattle.std.specs.Option.{option_map}
 use Rattle.hex.specs.Hex.{encode_lower}
 use Rattle.ndn_tlv.specs.Element.{Field}
 use Rattle.ndn_names.specs.View.{components}
 use Rattle.hmac_keys.specs.Mac.{Mac}
 use Rattle.hmac_keys.specs.KeyFile.{NamedKey, IsAmong}
+use Rattle.ndn_packets.specs.declared.fault.WriteFault.{WriteFault}
 use Rattle.ndn_packets.specs.declared.signature.Sign.{Sign}
 use Rattle.ndn_packets.specs.declared.signature.Sign.TheVariants.{Digest, Hmac}
 use Rattle.ndn_packets.specs.declared.interest_writer.InterestWriter.{InterestWriter}
@@ -16,12 +17,14 @@ use Rattle.ndn_packets.specs.FrameFaults.{FaultOf}
 use Rattle.ndn_packets.specs.Writing.{interest_text, interest_refusal, data_text, data_refusal}
 use Rattle.ndn_tool.specs.declared.job.InterestJob.{InterestJob}
 use Rattle.ndn_tool.specs.declared.job.DataJob.{DataJob}
+use Rattle.ndn_tool.specs.declared.job.CommandJob.{CommandJob}
 use Rattle.ndn_tool.specs.declared.job.TagJob.{TagJob}
 use Rattle.ndn_tool.specs.declared.job.Job.{Job}
 use Rattle.ndn_tool.specs.declared.job.Job.TheVariants as job
 use Rattle.ndn_tool.specs.declared.fault.ToolFault.{ToolFault}
 use Rattle.ndn_tool.specs.declared.fault.ToolFault.TheVariants as fault
 use Rattle.ndn_tool.specs.Show.{frame_lines}
+use Rattle.ndn_tool.specs.Parameters.{command_name, IsTooLong}
 
 -- octets in hexadecimal of lower case, on a line
 abbrev pub hex_line : List ℕ → List ℕ
@@ -77,6 +80,26 @@ pub record AsksData (job : DataJob) (book : List NamedKey) (w : DataWriter) : Ty
   pub content : option_map (λ c. c.now) w.content ≡ option_map (λ c. c.items) job.content
   pub sign : SignsData job.key.key book w.sign
 
+-- a command is signed, with DigestSha256 where there is no key
+abbrev pub SignsCommand : Option (List Field) → List NamedKey → Option Sign → Type 0
+SignsCommand key book None = ⊥
+SignsCommand key book (Some sign) = SignsData key book sign
+
+-- the parameters of the command stand in its name; its ApplicationParameters are those that a
+-- signed Interest has where none are given, empty ones
+pub record AsksCommand (job : CommandJob) (book : List NamedKey) (w : InterestWriter)
+    : Type 0 where
+  pub name : components w.name ≡ command_name job
+  pub can_be_prefix : w.can_be_prefix ≡ false
+  pub must_be_fresh : w.must_be_fresh ≡ false
+  pub nonce : w.nonce ≡ job.stamp.nonce
+  pub lifetime : w.lifetime ≡ None
+  pub hop_limit : w.hop_limit ≡ None
+  pub parameters : w.parameters ≡ None
+  pub sign : SignsCommand job.stamp.key.key book w.sign
+  pub time : w.time ≡ Some job.stamp.time
+  pub seq : w.seq ≡ job.stamp.seq
+
 -- ---- answers
 
 -- the line of the Interest that is asked for
@@ -89,6 +112,11 @@ abbrev pub IsDataAnswer : DataJob → List NamedKey → List ℕ → Type 0
 IsDataAnswer job book text =
     (w : DataWriter) × AsksData job book w × (data_refusal w ≡ None)
     × (text ≡ hex_line (data_text w))
+
+abbrev pub IsCommandAnswer : CommandJob → List NamedKey → List ℕ → Type 0
+IsCommandAnswer job book text =
+    (w : InterestWriter) × AsksCommand job book w × (interest_refusal w ≡ None)
+    × (text ≡ hex_line (interest_text w))
 
 -- the line of the tag of the octets under the key
 abbrev pub IsTagAnswer : TagJob → List NamedKey → List ℕ → Type 0
@@ -104,6 +132,7 @@ abbrev pub IsAnswer : Job → List NamedKey → List ℕ → Type 0
 IsAnswer (job.Help help) book text = ⊤
 IsAnswer (job.Interest asked) book text = IsInterestAnswer asked book text
 IsAnswer (job.Data asked) book text = IsDataAnswer asked book text
+IsAnswer (job.Command asked) book text = IsCommandAnswer asked book text
 IsAnswer (job.Tag asked) book text = IsTagAnswer asked book text
 IsAnswer (job.Show octets) book text = IsShown octets.items text
 
@@ -125,6 +154,17 @@ IsDataRefusal job book (fault.Write why) =
 IsDataRefusal job book (fault.Packet why) = ⊥
 IsDataRefusal job book fault.Memory = ⊤
 
+abbrev pub IsRefusedCommand : CommandJob → List NamedKey → WriteFault → Type 0
+IsRefusedCommand job book why =
+    (w : InterestWriter) × AsksCommand job book w × (interest_refusal w ≡ Some why)
+
+abbrev pub IsCommandRefusal : CommandJob → List NamedKey → ToolFault → Type 0
+IsCommandRefusal job book (fault.Usage usage) = ⊥
+IsCommandRefusal job book fault.NoKey = LacksChosen job.stamp.key.key book
+IsCommandRefusal job book (fault.Write why) = IsTooLong job why ⊎ IsRefusedCommand job book why
+IsCommandRefusal job book (fault.Packet why) = ⊥
+IsCommandRefusal job book fault.Memory = ⊤
+
 abbrev pub IsTagRefusal : TagJob → List NamedKey → ToolFault → Type 0
 IsTagRefusal job book (fault.Usage usage) = ⊥
 IsTagRefusal job book fault.NoKey = LacksKey job.key book
@@ -143,5 +183,6 @@ abbrev pub IsRefusal : Job → List NamedKey → ToolFault → Type 0
 IsRefusal (job.Help help) book why = why ≡ fault.Memory
 IsRefusal (job.Interest asked) book why = IsInterestRefusal asked book why
 IsRefusal (job.Data asked) book why = IsDataRefusal asked book why
+IsRefusal (job.Command asked) book why = IsCommandRefusal asked book why
 IsRefusal (job.Tag asked) book why = IsTagRefusal asked book why
 IsRefusal (job.Show octets) book why = IsNotShown octets.items why

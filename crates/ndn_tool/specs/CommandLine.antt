@@ -5,13 +5,17 @@ use Rattle.clap.specs.declared.builder.arg.Arg.{Arg}
 use Rattle.clap.specs.declared.builder.command.Command.{Command}
 use Rattle.clap.specs.declared.builder.command.Command.TheViews.{out-Command}
 use Rattle.clap.specs.Walk.{Rule, rule_of}
-use Rattle.clap.specs.Simple.{App, app_of, new_rule, new_shape}
+use Rattle.clap.specs.Simple.{App, app_of, new_rule, new_shape, with_rule}
 
 -- ---- arguments
 
 -- a positional argument, which is required
 abbrev pub a_positional : List ℕ → Rule
 a_positional id = record (new_rule id) { required = true }
+
+-- a positional argument, which may be left out
+abbrev pub an_optional_positional : List ℕ → Rule
+an_optional_positional id = new_rule id
 
 -- an option with a value
 abbrev pub an_option : List ℕ → Rule
@@ -54,6 +58,55 @@ data_app = a_subcommand (codes "data") (
     ∷ an_option (codes "key")
     ∷ [])
 
+unfoldable pub command_app : App
+command_app = a_subcommand (codes "command") (
+    a_positional (codes "URI")
+    ∷ a_required_option (codes "name")
+    ∷ a_required_option (codes "nonce")
+    ∷ a_required_option (codes "time")
+    ∷ an_option (codes "seq")
+    ∷ an_option (codes "face")
+    ∷ an_option (codes "cost")
+    ∷ an_option (codes "strategy")
+    ∷ an_option (codes "count")
+    ∷ an_option (codes "lifetime")
+    ∷ a_flag (codes "can-be-prefix")
+    ∷ an_option (codes "keys")
+    ∷ an_option (codes "key")
+    ∷ [])
+
+-- a short form, with the options of its time, its Nonce and its key
+abbrev pub stamped : App → App
+stamped app =
+    with_rule (with_rule (with_rule (with_rule (with_rule app
+    (an_option (codes "time")))
+    (an_option (codes "nonce")))
+    (an_option (codes "seq")))
+    (an_option (codes "keys")))
+    (an_option (codes "key"))
+
+unfoldable pub route_app : App
+route_app = stamped (a_subcommand (codes "route") (
+    a_positional (codes "VERB")
+    ∷ a_positional (codes "PREFIX")
+    ∷ a_required_option (codes "face")
+    ∷ an_option (codes "cost")
+    ∷ []))
+
+unfoldable pub strategy_app : App
+strategy_app = stamped (a_subcommand (codes "strategy") (
+    a_positional (codes "VERB")
+    ∷ a_positional (codes "PREFIX")
+    ∷ an_optional_positional (codes "STRATEGY")
+    ∷ []))
+
+unfoldable pub cache_app : App
+cache_app = stamped (a_subcommand (codes "cache") (
+    a_positional (codes "VERB")
+    ∷ a_positional (codes "PREFIX")
+    ∷ an_option (codes "count")
+    ∷ []))
+
 unfoldable pub tag_app : App
 tag_app = a_subcommand (codes "tag") (
     a_positional (codes "HEX")
@@ -73,7 +126,9 @@ tool = record {
     subcommand_required = true;
     arg_required_else_help = true;
   };
-  subs = interest_app.top ∷ data_app.top ∷ tag_app.top ∷ show_app.top ∷ [];
+  subs =
+      interest_app.top ∷ data_app.top ∷ command_app.top ∷ route_app.top ∷ strategy_app.top
+      ∷ cache_app.top ∷ tag_app.top ∷ show_app.top ∷ [];
 }
 
 -- ---- what is built

@@ -41,6 +41,7 @@ status_of (fault.Tool why) = tool_status why
 status_of fault.NotText = 2
 status_of (fault.Keys why) = key_status why
 status_of fault.Read = 3
+status_of fault.Clock = 3
 status_of fault.Write = 3
 
 abbrev pub out_of_memory : List ℕ
@@ -74,4 +75,5 @@ text_of (fault.Tool why) = tool_text why
 text_of fault.NotText = Some (codes "error: an argument is not UTF-8 text\n")
 text_of (fault.Keys why) = Some (key_text why)
 text_of fault.Read = Some (codes "error: the key file cannot be read\n")
+text_of fault.Clock = Some (codes "error: the clock cannot be read\n")
 text_of fault.Write = Some (codes "error: standard output cannot be written\n")

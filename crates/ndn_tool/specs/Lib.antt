@@ -1,9 +1,12 @@
 pub mod Value
 pub mod Options
+pub mod Nonce
+pub mod ShortForm
 pub mod Job
 pub mod Fault
 pub mod KeyFile
 pub mod CommandLine
 pub mod Command
 pub mod Show
+pub mod Parameters
 pub mod Answer

@@ -1,12 +1,16 @@
 -- What the options of a subcommand spell, by what was found for each of them.
-use Rattle.std.specs.Prelude.{◌≡◌, ℕ, List, Option, None, Some, Bool, true, false, codes, String, Vec, string_bytes}
+use Rattle.std.specs.Prelude.{◌≡◌, ℕ, List, Option, None, Some, Bool, true, false, codes, bytes_eq, if◌then◌else◌, String, Vec, string_bytes}
 use Rattle.clap.specs.declared.parser.matches.ArgMatches.{ArgMatches}
 use Rattle.clap.specs.Matches.{found_of}
 use Rattle.clap.specs.Walk.{Row, rows_of, first_of, one_of}
+use Rattle.ndn_tlv.specs.Element.{Field}
 use Rattle.ndn_names.specs.ReadsAs.{ReadsAs}
 use Rattle.ndn_tool.specs.declared.job.KeyChoice.{KeyChoice}
 use Rattle.ndn_tool.specs.declared.job.InterestJob.{InterestJob}
 use Rattle.ndn_tool.specs.declared.job.DataJob.{DataJob}
+use Rattle.ndn_tool.specs.declared.job.Parameters.{Parameters}
+use Rattle.ndn_tool.specs.declared.job.Stamp.{Stamp}
+use Rattle.ndn_tool.specs.declared.job.CommandJob.{CommandJob}
 use Rattle.ndn_tool.specs.declared.job.TagJob.{TagJob}
 use Rattle.ndn_tool.specs.Value.{IsNumber, IsHops, AreOctets, IsNonce}
 
@@ -41,6 +45,16 @@ IsFlag said b =
     × (said ≡ Some (codes "false") → b ≡ false)
     × (said ≡ None → b ≡ false)
 
+-- the short words for the two strategies stand for their names
+abbrev pub strategy_uri : List ℕ → List ℕ
+strategy_uri word =
+    if bytes_eq word (codes "best-route") then codes "/localhost/nfd/strategy/best-route" else (
+    if bytes_eq word (codes "multicast") then codes "/localhost/nfd/strategy/multicast" else
+    word)
+
+abbrev pub SpellsStrategy : List ℕ → List Field → Type 0
+SpellsStrategy word name = ReadsAs (strategy_uri word) name
+
 pub record IsKeyChoice (rows : List Row) (choice : KeyChoice) : Type 0 where
   pub keys : MayHave (value_at rows (codes "keys")) IsPath choice.keys
   pub key : MayHave (value_at rows (codes "key")) ReadsAs choice.key
@@ -62,6 +76,27 @@ pub record IsDataJob (rows : List Row) (job : DataJob) : Type 0 where
   pub content : MayHave (value_at rows (codes "content")) AreOctets job.content
   pub freshness : MayHave (value_at rows (codes "freshness")) IsNumber job.freshness
   pub key : IsKeyChoice rows job.key
+
+-- the parameters of `command`
+pub record AreParameters (rows : List Row) (p : Parameters) : Type 0 where
+  pub name : Has (value_at rows (codes "name")) ReadsAs p.name
+  pub face : MayHave (value_at rows (codes "face")) IsNumber p.face
+  pub cost : MayHave (value_at rows (codes "cost")) IsNumber p.cost
+  pub strategy : MayHave (value_at rows (codes "strategy")) ReadsAs p.strategy
+  pub count : MayHave (value_at rows (codes "count")) IsNumber p.count
+  pub can_be_prefix : IsFlag (flag_at rows (codes "can-be-prefix")) p.can_be_prefix
+  pub lifetime : MayHave (value_at rows (codes "lifetime")) IsNumber p.lifetime
+
+pub record IsStamp (rows : List Row) (stamp : Stamp) : Type 0 where
+  pub nonce : Has (value_at rows (codes "nonce")) IsNonce stamp.nonce
+  pub time : Has (value_at rows (codes "time")) IsNumber stamp.time
+  pub seq : MayHave (value_at rows (codes "seq")) IsNumber stamp.seq
+  pub key : IsKeyChoice rows stamp.key
+
+pub record IsCommandJob (rows : List Row) (job : CommandJob) : Type 0 where
+  pub name : Has (value_at rows (codes "URI")) ReadsAs job.name
+  pub parameters : AreParameters rows job.parameters
+  pub stamp : IsStamp rows job.stamp
 
 pub record IsTagJob (rows : List Row) (job : TagJob) : Type 0 where
   pub octets : Has (value_at rows (codes "HEX")) AreOctets job.octets

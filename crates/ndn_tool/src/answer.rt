@@ -1,9 +1,11 @@
 //! The answer to a job.
 ghost use Rattle.std.specs.Prelude.{◌≡◌, ◌++◌, List, ℕ, IfOk, OnErr, MatchResult, option_map};
-ghost use Rattle.ndn_tool.specs.Answer.{IsAnswer, IsRefusal, IsInterestAnswer, IsInterestRefusal, IsDataAnswer, IsDataRefusal, IsTagAnswer, IsTagRefusal, IsShown, IsNotShown, IsHmac, SignsInterest, SignsData, IsNoKey, hex_line};
+ghost use Rattle.ndn_tool.specs.Answer.{IsAnswer, IsRefusal, IsInterestAnswer, IsInterestRefusal, IsDataAnswer, IsDataRefusal, IsCommandAnswer, IsCommandRefusal, IsTagAnswer, IsTagRefusal, IsShown, IsNotShown, IsHmac, SignsInterest, SignsData, IsNoKey, hex_line};
+ghost use Rattle.ndn_tool.specs.Parameters.{command_name};
 
 use crate::fault::ToolFault;
-use crate::job::{DataJob, InterestJob, Job, TagJob};
+use crate::job::{CommandJob, DataJob, InterestJob, Job, TagJob};
+use crate::parameters::command_name;
 use crate::show::put_frame;
 use hmac_keys::{KeyBook, hmac_sha256};
 use ndn_names::NameBuf;
@@ -35,6 +37,7 @@ fn text_of(alloc: Global, job: &Job, book: &KeyBook) -> Result<Vec<u8>, ToolFaul
         Job::Help(help) => Ok(help.to_string(alloc)?.into_bytes()),
         Job::Interest(job) => interest_text(alloc, job, book),
         Job::Data(job) => data_text(alloc, job, book),
+        Job::Command(job) => command_text(alloc, job, book),
         Job::Tag(job) => tag_text(alloc, job, book),
         Job::Show(octets) => shown_text(alloc, octets),
     }
@@ -81,6 +84,52 @@ fn data_text(alloc: Global, job: &DataJob, book: &KeyBook) -> Result<Vec<u8>, To
     Ok(hex_line(alloc, &packet)?)
 }
 
+fn command_text(alloc: Global, job: &CommandJob, book: &KeyBook) -> Result<Vec<u8>, ToolFault>
+    ensures { MatchResult result
+        (λ text. IsCommandAnswer job.now book.now text.items)
+        (IsCommandRefusal job.now book.now) }
+{
+    match command_name(alloc, job) {
+        Ok(name) => named_command(alloc, job, &name, book),
+        Err(fault) => {
+            // A missing key is reported before a name that has no room.
+            data_sign(&job.stamp.key.key, book)?;
+            Err(fault)
+        }
+    }
+}
+
+/// The line of a command whose Interest has this name, but for its digest.
+fn named_command<'a>(
+    alloc: Global,
+    job: &'a CommandJob,
+    name: &'a NameBuf,
+    book: &'a KeyBook,
+) -> Result<Vec<u8>, ToolFault>
+    requires { name.now ≡ command_name job.now }
+    ensures { MatchResult result
+        (λ text. IsCommandAnswer job.now book.now text.items)
+        (IsCommandRefusal job.now book.now) }
+{
+    let sign = data_sign(&job.stamp.key.key, book)?;
+    let writer = InterestWriter {
+        name: name.view(),
+        can_be_prefix: false,
+        must_be_fresh: false,
+        nonce: job.stamp.nonce,
+        lifetime: None,
+        hop_limit: None,
+        // A signed Interest without any gets empty ones.
+        parameters: None,
+        sign: Some(sign),
+        time: Some(job.stamp.time),
+        seq: job.stamp.seq,
+    };
+    let mut packet = Vec::new(alloc);
+    writer.write(&mut packet)?;
+    Ok(hex_line(alloc, &packet)?)
+}
+
 fn tag_text(alloc: Global, job: &TagJob, book: &KeyBook) -> Result<Vec<u8>, ToolFault>
     ensures { MatchResult result
         (λ text. IsTagAnswer job.now book.now text.items)
@@ -118,7 +167,7 @@ fn interest_sign<'a>(
     }
 }
 
-/// The signature of a Data: with its key, or by DigestSha256.
+/// The signature of a Data or of a command: with its key, or by DigestSha256.
 fn data_sign<'a>(key: &'a Option<NameBuf>, book: &'a KeyBook) -> Result<Sign<'a>, ToolFault>
     ensures { MatchResult result (SignsData key.now book.now) (IsNoKey key.now book.now) }
 {

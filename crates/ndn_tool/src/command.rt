@@ -1,14 +1,17 @@
 //! The command line, and its help.
-ghost use Rattle.std.specs.Prelude.{◌≡◌, codes, map, option_map, IfOk, MatchResult};
+ghost use Rattle.std.specs.Prelude.{◌≡◌, codes, drop, map, option_map, IfOk, MatchResult};
 ghost use Rattle.clap.specs.Words.{kind_of, subcommand_rows_of, with_rule};
 ghost use Rattle.clap.specs.Simple.{App};
 ghost use Rattle.ndn_tool.specs.Value.{IsUsage, ReadsInMemory};
 ghost use Rattle.ndn_tool.specs.Options.{rows_in};
 ghost use Rattle.ndn_tool.specs.CommandLine.{HasApp, HasRule, a_positional, an_option, a_required_option, a_flag, interest_app, data_app, tag_app, show_app, tool};
+ghost use Rattle.ndn_tool.specs.Nonce.{words_of};
 ghost use Rattle.ndn_tool.specs.Command.{reading_of, IsJob, IsNamedJob, Asks, IsRefusedLine};
 
 use crate::fault::{ToolFault, Usage};
-use crate::job::{DataJob, InterestJob, Job, TagJob};
+use crate::job::{CommandJob, DataJob, InterestJob, Job, TagJob};
+use crate::management::{cache_command, command_command, route_command, strategy_command};
+use crate::nonce::words_of;
 use crate::options::required_octets;
 use clap::error::ErrorKind;
 use clap::{Arg, ArgAction, ArgMatches, Command, Error};
@@ -65,18 +68,31 @@ Example: a Data named /A.
   content 78
   signature 0 -";
 
-/// Reads the arguments of a command line, the first of which is the program's name.
+/// Reads the arguments of a command line, the first of which is the program's name, at a time in
+/// milliseconds since 1970.
 ///
 /// Refuses a wrong command line by `Usage`, and any other by `Memory` alone.
-pub fn parse_words<S: AsStr>(alloc: Global, arguments: &[S]) -> Result<Job, ToolFault>
+pub fn parse_words<S: AsStr>(alloc: Global, now: u64, arguments: &[S]) -> Result<Job, ToolFault>
     ensures { MatchResult result
-        (Asks (map S.text arguments.now))
-        (IsRefusedLine (map S.text arguments.now)) }
+        (Asks now (map S.text arguments.now))
+        (IsRefusedLine now (map S.text arguments.now)) }
 {
+    let words = words_of(alloc, after_program(arguments))?;
     let mut command = command(alloc)?;
     match command.try_get_matches_from_mut(arguments) {
-        Ok(matches) => job_of(alloc, &matches),
+        Ok(matches) => job_of(alloc, &matches, now, &words),
         Err(error) => answer_to(error),
+    }
+}
+
+/// The arguments after the program's name.
+fn after_program<S: AsStr>(arguments: &[S]) -> &[S]
+    ensures { map S.text result.now ≡ drop 1 (map S.text arguments.now) }
+{
+    if arguments.is_empty() {
+        arguments
+    } else {
+        &arguments[1..]
     }
 }
 
@@ -91,11 +107,11 @@ fn answer_to(error: Error) -> Result<Job, ToolFault>
 }
 
 /// The job of the subcommand that was found.
-fn job_of(alloc: Global, matches: &ArgMatches<'_>) -> Result<Job, ToolFault>
-    ensures { ReadsInMemory (IsJob (subcommand_rows_of matches.now)) result }
+fn job_of(alloc: Global, matches: &ArgMatches<'_>, now: u64, words: &[u8]) -> Result<Job, ToolFault>
+    ensures { ReadsInMemory (IsJob now words.now (subcommand_rows_of matches.now)) result }
 {
     match used(matches) {
-        Some((name, options)) => named_job(alloc, name, options),
+        Some((name, options)) => named_job(alloc, name, options, now, words),
         None => Err(no_subcommand()),
     }
 }
@@ -108,12 +124,22 @@ fn used<'a, 'm>(matches: &'m ArgMatches<'a>) -> Option<(&'a str, &'m ArgMatches<
 }
 
 /// The job that the options of the subcommand of this name ask for.
-fn named_job(alloc: Global, name: &str, options: &ArgMatches<'_>) -> Result<Job, ToolFault>
-    ensures { ReadsInMemory (IsNamedJob name.now (rows_in options.now)) result }
+fn named_job(
+    alloc: Global,
+    name: &str,
+    options: &ArgMatches<'_>,
+    now: u64,
+    words: &[u8],
+) -> Result<Job, ToolFault>
+    ensures { ReadsInMemory (IsNamedJob now words.now name.now (rows_in options.now)) result }
 {
     match name {
         "interest" => Ok(Job::Interest(InterestJob::read(alloc, options)?)),
         "data" => Ok(Job::Data(DataJob::read(alloc, options)?)),
+        "command" => Ok(Job::Command(CommandJob::read(alloc, options)?)),
+        "route" | "strategy" | "cache" => {
+            Ok(Job::Command(CommandJob::read_short(alloc, name, options, now, words)?))
+        }
         "tag" => Ok(Job::Tag(TagJob::read(alloc, options)?)),
         "show" => Ok(Job::Show(required_octets(alloc, options, "HEX")?)),
         _ => Err(no_subcommand()),
@@ -140,6 +166,10 @@ fn command<'a>(alloc: Global) -> Result<Command<'a>, AllocError>
         .arg_required_else_help(true)
         .subcommand(interest_command(alloc)?)?
         .subcommand(data_command(alloc)?)?
+        .subcommand(command_command(alloc)?)?
+        .subcommand(route_command(alloc)?)?
+        .subcommand(strategy_command(alloc)?)?
+        .subcommand(cache_command(alloc)?)?
         .subcommand(tag_command(alloc)?)?
         .subcommand(show_command(alloc)?)
 }
@@ -219,7 +249,7 @@ fn show_command<'a>(alloc: Global) -> Result<Command<'a>, AllocError>
 }
 
 /// The command with the options of a key.
-fn with_key<'a>(alloc: Global, command: Command<'a>) -> Result<Command<'a>, AllocError>
+pub fn with_key<'a>(alloc: Global, command: Command<'a>) -> Result<Command<'a>, AllocError>
     ensures { (app : App) → HasApp app command.entry → IfOk result
         (HasApp (with_rule (with_rule app (an_option (codes "keys"))) (an_option (codes "key")))) }
 {
@@ -229,27 +259,27 @@ fn with_key<'a>(alloc: Global, command: Command<'a>) -> Result<Command<'a>, Allo
 }
 
 /// A positional argument, which is required.
-fn positional<'a>(alloc: Global, id: &'a str, help: &'a str) -> Arg<'a>
+pub fn positional<'a>(alloc: Global, id: &'a str, help: &'a str) -> Arg<'a>
     ensures { HasRule (a_positional id.entry.now) result }
 {
     Arg::new(alloc, id).required(true).help(help)
 }
 
 /// A required option with a value.
-fn required_option<'a>(alloc: Global, id: &'a str, value: &'a str, help: &'a str) -> Arg<'a>
+pub fn required_option<'a>(alloc: Global, id: &'a str, value: &'a str, help: &'a str) -> Arg<'a>
     ensures { HasRule (a_required_option id.entry.now) result }
 {
     option(alloc, id, value, help).required(true)
 }
 
 /// An option with a value.
-fn option<'a>(alloc: Global, id: &'a str, value: &'a str, help: &'a str) -> Arg<'a>
+pub fn option<'a>(alloc: Global, id: &'a str, value: &'a str, help: &'a str) -> Arg<'a>
     ensures { HasRule (an_option id.entry.now) result }
 {
     Arg::new(alloc, id).long(id).value_name(value).help(help)
 }
 
-fn flag<'a>(alloc: Global, id: &'a str, help: &'a str) -> Arg<'a>
+pub fn flag<'a>(alloc: Global, id: &'a str, help: &'a str) -> Arg<'a>
     ensures { HasRule (a_flag id.entry.now) result }
 {
     Arg::new(alloc, id)

@@ -45,6 +45,8 @@ pub enum Fault {
     Keys(KeyFault),
     /// The key file cannot be read.
     Read,
+    /// The clock cannot be read.
+    Clock,
     /// Standard output cannot be written.
     Write,
 }
@@ -81,7 +83,7 @@ impl Fault {
             Fault::Tool(fault) => fault.exit_status(),
             Fault::NotText => 2,
             Fault::Keys(KeyFault::BadLine(_) | KeyFault::TwiceNamed(_) | KeyFault::TooMany) => 1,
-            Fault::Keys(KeyFault::Memory) | Fault::Read | Fault::Write => 3,
+            Fault::Keys(KeyFault::Memory) | Fault::Read | Fault::Clock | Fault::Write => 3,
         }
     }
 }
@@ -123,6 +125,7 @@ impl fmt::Display for Fault {
             Fault::Keys(KeyFault::TooMany) => f.write_str("keys:0: TooMany\n"),
             Fault::Keys(KeyFault::Memory) => f.write_str("error: out of memory\n"),
             Fault::Read => f.write_str("error: the key file cannot be read\n"),
+            Fault::Clock => f.write_str("error: the clock cannot be read\n"),
             Fault::Write => f.write_str("error: standard output cannot be written\n"),
         }
     }

@@ -1,7 +1,9 @@
 //! What a command line asks for.
 
 use crate::fault::ToolFault;
+use crate::nonce::nonce_of;
 use crate::options;
+use crate::short_form::ShortForm;
 use clap::{ArgMatches, Error};
 use ndn_names::NameBuf;
 use std::alloc::Global;
@@ -15,6 +17,8 @@ pub enum Job {
     Interest(InterestJob),
     /// To write a Data.
     Data(DataJob),
+    /// To write a command.
+    Command(CommandJob),
     /// To compute the tag of octets.
     Tag(TagJob),
     /// To show what a packet holds.
@@ -64,6 +68,47 @@ pub struct DataJob {
     pub key: KeyChoice,
 }
 
+/// A command to write: an Interest whose name ends with its parameters.
+#[derive(Drop)]
+pub struct CommandJob {
+    /// The name of the command, which ends with its verb.
+    pub name: NameBuf,
+    pub parameters: Parameters,
+    pub stamp: Stamp,
+}
+
+/// The parameters of a command. Those that a command of its kind does not have are left out.
+#[derive(Drop)]
+pub struct Parameters {
+    /// The name that the command is about.
+    pub name: NameBuf,
+    /// The face of a next hop; 0 is the one that the command comes from.
+    pub face: Option<u64>,
+    /// The cost of a next hop.
+    pub cost: Option<u64>,
+    /// The name of a strategy.
+    pub strategy: Option<NameBuf>,
+    /// The greatest number of Data to erase.
+    pub count: Option<u64>,
+    /// Whether Data with longer names are meant too.
+    pub can_be_prefix: bool,
+    /// The InterestLifetime in milliseconds.
+    pub lifetime: Option<u64>,
+}
+
+/// What makes a command one of its own, and who sends it.
+#[derive(Drop)]
+pub struct Stamp {
+    /// The value of the Nonce, 4 octets as they stand.
+    pub nonce: [u8; 4],
+    /// The SignatureTime, in milliseconds since 1970.
+    pub time: u64,
+    /// The SignatureSeqNum.
+    pub seq: Option<u64>,
+    /// The key of the signature; without one it is DigestSha256.
+    pub key: KeyChoice,
+}
+
 /// Octets, and the key to compute their tag with.
 #[derive(Drop)]
 pub struct TagJob {
@@ -85,6 +130,7 @@ impl Job {
         match self {
             Job::Interest(job) => job.key.path(),
             Job::Data(job) => job.key.path(),
+            Job::Command(job) => job.stamp.key.path(),
             Job::Tag(job) => Some(job.keys.as_str()),
             Job::Help(_) | Job::Show(_) => None,
         }
@@ -126,6 +172,133 @@ impl DataJob {
             name: options::required_name(alloc, options, "URI")?,
             content: options::octets(alloc, options, "content")?,
             freshness: options::number(options, "freshness")?,
+            key: KeyChoice::read(alloc, options)?,
+        })
+    }
+}
+
+impl CommandJob {
+    ghost use Rattle.ndn_tool.specs.Value.{ReadsInMemory};
+    ghost use Rattle.ndn_tool.specs.Options.{rows_in, IsCommandJob};
+    ghost use Rattle.ndn_tool.specs.ShortForm.{IsFormJob, IsShortJob};
+
+    /// The command that the options of `command` ask for.
+    pub fn read(alloc: Global, options: &ArgMatches<'_>) -> Result<CommandJob, ToolFault>
+        ensures { ReadsInMemory (IsCommandJob (rows_in options.now)) result }
+    {
+        Ok(CommandJob {
+            name: options::required_name(alloc, options, "URI")?,
+            parameters: Parameters::read(alloc, options)?,
+            stamp: Stamp::read(alloc, options)?,
+        })
+    }
+
+    /// The command that a short form asks for: the subcommand of this name with these options.
+    /// Where they leave out the time and the Nonce, they are `now` and made of the words.
+    pub fn read_short(
+        alloc: Global,
+        subcommand: &str,
+        options: &ArgMatches<'_>,
+        now: u64,
+        words: &[u8],
+    ) -> Result<CommandJob, ToolFault>
+        ensures { ReadsInMemory
+            (IsShortJob now words.now subcommand.now (rows_in options.now)) result }
+    {
+        let form = ShortForm::read(subcommand, options)?;
+        CommandJob::read_form(alloc, form, options, now, words)
+    }
+
+    /// The command of a short form.
+    fn read_form(
+        alloc: Global,
+        form: ShortForm,
+        options: &ArgMatches<'_>,
+        now: u64,
+        words: &[u8],
+    ) -> Result<CommandJob, ToolFault>
+        ensures { ReadsInMemory (IsFormJob form now words.now (rows_in options.now)) result }
+    {
+        form.check(options)?;
+        Ok(CommandJob {
+            name: form.name(alloc)?,
+            parameters: Parameters::read_short(alloc, options)?,
+            stamp: Stamp::read_short(alloc, options, now, words)?,
+        })
+    }
+}
+
+impl Parameters {
+    ghost use Rattle.ndn_tool.specs.Value.{ReadsInMemory};
+    ghost use Rattle.ndn_tool.specs.Options.{rows_in, AreParameters};
+    ghost use Rattle.ndn_tool.specs.ShortForm.{AreShortParameters};
+
+    /// The parameters that the options of `command` spell.
+    fn read(alloc: Global, options: &ArgMatches<'_>) -> Result<Parameters, ToolFault>
+        ensures { ReadsInMemory (AreParameters (rows_in options.now)) result }
+    {
+        Ok(Parameters {
+            name: options::required_name(alloc, options, "name")?,
+            face: options::number(options, "face")?,
+            cost: options::number(options, "cost")?,
+            strategy: options::name(alloc, options, "strategy")?,
+            count: options::number(options, "count")?,
+            can_be_prefix: options::flag(options, "can-be-prefix"),
+            lifetime: options::number(options, "lifetime")?,
+        })
+    }
+
+    /// The parameters that the options of a short form spell.
+    fn read_short(alloc: Global, options: &ArgMatches<'_>) -> Result<Parameters, ToolFault>
+        ensures { ReadsInMemory (AreShortParameters (rows_in options.now)) result }
+    {
+        Ok(Parameters {
+            name: options::required_name(alloc, options, "PREFIX")?,
+            face: options::number(options, "face")?,
+            cost: options::number(options, "cost")?,
+            strategy: options::strategy(alloc, options, "STRATEGY")?,
+            count: options::number(options, "count")?,
+            can_be_prefix: false,
+            lifetime: None,
+        })
+    }
+}
+
+impl Stamp {
+    ghost use Rattle.ndn_tool.specs.Value.{ReadsInMemory};
+    ghost use Rattle.ndn_tool.specs.Options.{rows_in, IsStamp};
+    ghost use Rattle.ndn_tool.specs.ShortForm.{IsShortStamp};
+
+    /// The stamp that the options of `command` spell.
+    fn read(alloc: Global, options: &ArgMatches<'_>) -> Result<Stamp, ToolFault>
+        ensures { ReadsInMemory (IsStamp (rows_in options.now)) result }
+    {
+        Ok(Stamp {
+            nonce: options::required_nonce(options, "nonce")?,
+            time: options::required_number(options, "time")?,
+            seq: options::number(options, "seq")?,
+            key: KeyChoice::read(alloc, options)?,
+        })
+    }
+
+    /// The stamp that the options of a short form spell.
+    fn read_short(
+        alloc: Global,
+        options: &ArgMatches<'_>,
+        now: u64,
+        words: &[u8],
+    ) -> Result<Stamp, ToolFault>
+        ensures { ReadsInMemory (IsShortStamp now words.now (rows_in options.now)) result }
+    {
+        let time = options::number(options, "time")?.unwrap_or(now);
+        let nonce = match options::nonce(options, "nonce")? {
+            Some(nonce) => nonce,
+            None => nonce_of(alloc, time, words)?,
+        };
+        Ok(Stamp {
+            nonce,
+            time,
+            seq: options::number(options, "seq")?,
             key: KeyChoice::read(alloc, options)?,
         })
     }

@@ -8,7 +8,11 @@ mod answer;
 mod command;
 mod fault;
 mod job;
+mod management;
+mod nonce;
 mod options;
+mod parameters;
+mod short_form;
 mod show;
 mod value;
 
@@ -22,6 +26,7 @@ use std::env::Env;
 use std::io::Write;
 use std::process::ExitCode;
 use std::rt::Files;
+use std::time::{Clock, SystemTime};
 use std::{env, fs, io, str};
 
 fn main(rt: HostRuntime) -> ExitCode {
@@ -35,9 +40,9 @@ fn main(rt: HostRuntime) -> ExitCode {
 }
 
 /// Does what the command line asks for, and prints the answer.
-fn run<R: Env + AllocGlobal + Files + Print>(rt: &R) -> Result<(), Fault> {
+fn run<R: Clock + Env + AllocGlobal + Files + Print>(rt: &R) -> Result<(), Fault> {
     let arguments = arguments_of(rt)?;
-    let job = parse_words(rt.alloc(), arguments.as_slice())?;
+    let job = parse_words(rt.alloc(), milliseconds(rt)?, arguments.as_slice())?;
     let book = book_of(rt, &job)?;
     let mut text = Vec::new(rt.alloc());
     answer(rt.alloc(), &job, &book, &mut text)?;
@@ -51,6 +56,17 @@ fn arguments_of<R: Env + AllocGlobal>(rt: &R) -> Result<Vec<String>, Fault> {
             Err(Fault::Tool(ToolFault::Memory))
         }
         Err(_) => Err(Fault::NotText),
+    }
+}
+
+/// The time of the clock, in milliseconds since 1970.
+fn milliseconds<R: Clock>(rt: &R) -> Result<u64, Fault> {
+    let Ok(time) = SystemTime::now(rt) else {
+        return Err(Fault::Clock);
+    };
+    match time.duration_since(SystemTime::UNIX_EPOCH) {
+        Ok(duration) => u64::try_from(duration.as_millis()).map_err(|_| Fault::Clock),
+        Err(_) => Err(Fault::Clock),
     }
 }
 

@@ -2,16 +2,17 @@
 ghost use Rattle.std.specs.Prelude.{◌≡◌, Some, None, option_map, MatchResult};
 ghost use Rattle.ndn_names.specs.ReadsAs.{ReadsAs};
 ghost use Rattle.ndn_tool.specs.Value.{IsNumber, IsHops, AreOctets, IsNonce, IsUsage, Reads, ReadsInMemory};
-ghost use Rattle.ndn_tool.specs.Options.{rows_in, value_at, Has, MayHave, IsPath, IsFlag, flag_at};
+ghost use Rattle.ndn_tool.specs.Options.{rows_in, value_at, Has, MayHave, IsPath, IsFlag, flag_at, SpellsStrategy};
 
 use crate::fault::{ToolFault, Usage};
+use crate::short_form::strategy_uri;
 use crate::value::{parse_hops, parse_name, parse_nonce, parse_number, parse_octets};
 use clap::ArgMatches;
 use ndn_names::NameBuf;
 use std::alloc::Global;
 
 /// The value of an option, if it is there.
-fn value<'a>(options: &ArgMatches<'a>, id: &str) -> Option<&'a str>
+pub fn value<'a>(options: &ArgMatches<'a>, id: &str) -> Option<&'a str>
     ensures { option_map (λ value. value.now) result ≡ value_at (rows_in options.now) id.now }
 {
     options.get_str(id)
@@ -71,6 +72,13 @@ pub fn required_nonce(options: &ArgMatches<'_>, id: &'static str) -> Result<[u8;
     parse_nonce(id, required(options, id)?)
 }
 
+/// The number that a required option spells.
+pub fn required_number(options: &ArgMatches<'_>, id: &'static str) -> Result<u64, ToolFault>
+    ensures { Reads (Has (value_at (rows_in options.now) id.now) IsNumber) result }
+{
+    parse_number(id, required(options, id)?)
+}
+
 /// Whether a flag is there.
 pub fn flag(options: &ArgMatches<'_>, id: &'static str) -> bool
     ensures { IsFlag (flag_at (rows_in options.now) id.now) result }
@@ -123,6 +131,30 @@ pub fn name(
     match value(options, id) {
         None => Ok(None),
         Some(value) => Ok(Some(parse_name(alloc, id, value)?)),
+    }
+}
+
+/// The name of a strategy that an option spells, if it is there: a URI, or the last word of it.
+pub fn strategy(
+    alloc: Global,
+    options: &ArgMatches<'_>,
+    id: &'static str,
+) -> Result<Option<NameBuf>, ToolFault>
+    ensures { ReadsInMemory (MayHave (value_at (rows_in options.now) id.now) SpellsStrategy) result }
+{
+    match value(options, id) {
+        None => Ok(None),
+        Some(value) => Ok(Some(parse_name(alloc, id, strategy_uri(value))?)),
+    }
+}
+
+/// The value of the Nonce that an option spells, if it is there.
+pub fn nonce(options: &ArgMatches<'_>, id: &'static str) -> Result<Option<[u8; 4]>, ToolFault>
+    ensures { Reads (MayHave (value_at (rows_in options.now) id.now) IsNonce) result }
+{
+    match value(options, id) {
+        None => Ok(None),
+        Some(value) => Ok(Some(parse_nonce(id, value)?)),
     }
 }
 

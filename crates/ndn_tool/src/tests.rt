@@ -17,7 +17,7 @@ fn job_of(alloc: Global, command: &str) -> Result<Job, ToolFault> {
         let argument = if argument == "''" { "" } else { argument };
         arguments.push(argument).map_err(|_| ToolFault::Memory)?;
     }
-    parse_words(alloc, arguments.as_slice())
+    parse_words(alloc, 1_000_000, arguments.as_slice())
 }
 
 /// What the program prints for a command, with the keys of a text.
@@ -231,6 +231,120 @@ fn signed_interests(rt: HostRuntime) {
     check_session(&rt, OPS, SIGNED_INTERESTS);
 }
 
+const COMMANDS: &str = "
+$ ndn_tool command /localhost/nfd/fib/add-nexthop --name /A --face 2 --nonce 01020304 --time 1000000 --keys F --key /ops/KEY/1
+0598075008096c6f63616c686f737408036e66640803666962080b6164642d6e657874686f70080a680807030801416901020220b3efe71974da9dc26e88d0c074c8f0ff34ea85c38b109d9e9c6400b87694f2f20a040102030424002c1a1b01041c0f070d08036f707308034b45590801312804000f42402e20d113cf38056af9bbbec876471f4b51934978ef69345464b05cb762148eaa5dbb
+$ ndn_tool command /repo/insert --name /A --can-be-prefix --lifetime 4000 --nonce 01020304 --time 1000005 --keys F --key /ops/KEY/1 --face 2 --cost 1 --count 1 --strategy /A
+0587073f08047265706f0806696e73657274080dc90b070308014121000c020fa00220e8caee836a8e2cf69f8dfcbb05ba1a369d6b263722630743353e6a5c6261683c0a040102030424002c1a1b01041c0f070d08036f707308034b45590801312804000f42452e2025c2c61b7016cd5fb9825c90f813e02dd6c62c3d4a2d4357b6da5cbbdeafede7
+$ ndn_tool command /localhost/nfd/fib/add-nexthop --name /A --face 256 --cost 18446744073709551615 --strategy /localhost/nfd/strategy/multicast --count 0 --nonce 01020304 --time 0 --seq 18446744073709551615 --lifetime 1 --can-be-prefix
+05c5078708096c6f63616c686f737408036e66640803666962080b6164642d6e657874686f700841683f0703080141690201006a08ffffffffffffffff6b27072508096c6f63616c686f737408036e66640808737472617465677908096d756c7469636173748401000220537e6246c98bb844eb1cbc982f2e3efe4b5b176808d04ec5b44ea984277ad2850a040102030424002c101b01002801002a08ffffffffffffffff2e20682bb2cba3c2367cb040a0256086fa27e5c6e0b58b89c6bb53cf671ad336c057
+";
+
+/// Each option of `command`; the packets were made by a program of its own.
+#[test]
+fn commands(rt: HostRuntime) {
+    check_session(&rt, OPS, COMMANDS);
+}
+
+const MANAGEMENT: &str = "
+$ ndn_tool route add /A --face 2 --nonce 01020304 --time 1000000 --keys examples/sample.keys --key /ops/KEY/1
+0598075008096c6f63616c686f737408036e66640803666962080b6164642d6e657874686f70080a680807030801416901020220b3efe71974da9dc26e88d0c074c8f0ff34ea85c38b109d9e9c6400b87694f2f20a040102030424002c1a1b01041c0f070d08036f707308034b45590801312804000f42402e20d113cf38056af9bbbec876471f4b51934978ef69345464b05cb762148eaa5dbb
+$ ndn_tool show 0598075008096c6f63616c686f737408036e66640803666962080b6164642d6e657874686f70080a680807030801416901020220b3efe71974da9dc26e88d0c074c8f0ff34ea85c38b109d9e9c6400b87694f2f20a040102030424002c1a1b01041c0f070d08036f707308034b45590801312804000f42402e20d113cf38056af9bbbec876471f4b51934978ef69345464b05cb762148eaa5dbb
+interest /localhost/nfd/fib/add-nexthop/h%08%07%03%08%01Ai%01%02/params-sha256=b3efe71974da9dc26e88d0c074c8f0ff34ea85c38b109d9e9c6400b87694f2f2
+nonce 01020304
+lifetime 4000
+parameters -
+signature 4 d113cf38056af9bbbec876471f4b51934978ef69345464b05cb762148eaa5dbb
+$ ndn_tool interest /localhost/nfd/fib/list --can-be-prefix --nonce 01020304
+0525071b08096c6f63616c686f737408036e6664080366696208046c69737421000a0401020304
+";
+
+/// The example of `docs/MANAGEMENT.md`.
+#[test]
+fn management(rt: HostRuntime) {
+    check_session(&rt, OPS, MANAGEMENT);
+}
+
+const SHORT_FORMS: &str = "
+$ ndn_tool route add /A --face 2 --nonce 01020304 --time 1000000 --keys F --key /ops/KEY/1
+0598075008096c6f63616c686f737408036e66640803666962080b6164642d6e657874686f70080a680807030801416901020220b3efe71974da9dc26e88d0c074c8f0ff34ea85c38b109d9e9c6400b87694f2f20a040102030424002c1a1b01041c0f070d08036f707308034b45590801312804000f42402e20d113cf38056af9bbbec876471f4b51934978ef69345464b05cb762148eaa5dbb
+$ ndn_tool route add /A --face 2 --cost 5 --time 1700000000000 --nonce 01020304 --seq 7 --keys F --key /ops/KEY/1
+05a2075308096c6f63616c686f737408036e66640803666962080b6164642d6e657874686f70080d680b07030801416901026a01050220d4208a7f7fb7340bf77bc33b6beb6e7b8ed22529eb380724b8af2d143cc3b0390a040102030424002c211b01041c0f070d08036f707308034b455908013128080000018bcfe568002a01072e20340976d5d3250ec61ce8230e9c5e2a786a9c81b717f16b2d7f6efa7ba514ea45
+$ ndn_tool route remove /A --face 2 --time 1000001 --nonce 01020304 --keys F --key /ops/KEY/1
+059b075308096c6f63616c686f737408036e66640803666962080e72656d6f76652d6e657874686f70080a68080703080141690102022065df2769560aa8aa87286ba86a92077737874fcfd004643365c4c87baea6da120a040102030424002c1a1b01041c0f070d08036f707308034b45590801312804000f42412e206d91a2c2036c3ecf8a982a7ace7a4b508321bbff2be3939d382002abea2a9354
+$ ndn_tool strategy set /A multicast --time 1000002 --nonce 01020304 --keys F --key /ops/KEY/1
+05c2077a08096c6f63616c686f737408036e6664080f73747261746567792d63686f69636508037365740830682e07030801416b27072508096c6f63616c686f737408036e66640808737472617465677908096d756c7469636173740220c7499b7f7241b259e6108858c664bce7b511a46fb72a8444f7a46296603432b80a040102030424002c1a1b01041c0f070d08036f707308034b45590801312804000f42422e20352b829a81572f223511e7e99a551f89014f9999201f8c7de95b3ad4b436b2d8
+$ ndn_tool strategy set /A best-route --time 1000002 --nonce 01020304 --keys F --key /ops/KEY/1
+05c3077b08096c6f63616c686f737408036e6664080f73747261746567792d63686f69636508037365740831682f07030801416b28072608096c6f63616c686f737408036e666408087374726174656779080a626573742d726f757465022019ae5246c300c06e166aa0598fbfca4d5eedbca1635f4169ca9ba0afafc76e2e0a040102030424002c1a1b01041c0f070d08036f707308034b45590801312804000f42422e20cfb17d4a24b0899cebb8621f7e0760df090492a515bf7655fe2d35b4b179b729
+$ ndn_tool strategy set /A /localhost/nfd/strategy/best-route --time 1000002 --nonce 01020304 --keys F --key /ops/KEY/1
+05c3077b08096c6f63616c686f737408036e6664080f73747261746567792d63686f69636508037365740831682f07030801416b28072608096c6f63616c686f737408036e666408087374726174656779080a626573742d726f757465022019ae5246c300c06e166aa0598fbfca4d5eedbca1635f4169ca9ba0afafc76e2e0a040102030424002c1a1b01041c0f070d08036f707308034b45590801312804000f42422e20cfb17d4a24b0899cebb8621f7e0760df090492a515bf7655fe2d35b4b179b729
+$ ndn_tool strategy unset /A --time 1000003 --nonce 01020304 --keys F --key /ops/KEY/1
+059b075308096c6f63616c686f737408036e6664080f73747261746567792d63686f6963650805756e7365740807680507030801410220342179a53480a67726ae0b6df5b50c395a72c4e40f2dbf907a2a1b26a983ca450a040102030424002c1a1b01041c0f070d08036f707308034b45590801312804000f42432e2075dd0e385ecce272c15d79edacd9824e854b54bc619ccc4b1e69eb9363e9aca4
+$ ndn_tool cache erase /A --count 10 --time 1000004 --nonce 01020304 --keys F --key /ops/KEY/1
+0591074908096c6f63616c686f737408036e66640802637308056572617365080a6808070308014184010a022047793271c5617bf728759a094dc161227c2d4fbcc9ae8acf9082b154b98d60fe0a040102030424002c1a1b01041c0f070d08036f707308034b45590801312804000f42442e209a0f7f1e0ae8e30ca595cd007ba6e0ed13491be6e89af3f2c56bb5c4d2154b6c
+$ ndn_tool cache erase /A --time 1000004 --nonce 01020304 --keys F --key /ops/KEY/1
+058e074608096c6f63616c686f737408036e6664080263730805657261736508076805070308014102208814c09ec98153ec9bef46ce6a0a62b8f3d926f5fb130dc979226174b424fd3b0a040102030424002c1a1b01041c0f070d08036f707308034b45590801312804000f42442e203fd659eea3f5258b3fc16203fe322821351029a608f79e33a808a74492457244
+$ ndn_tool route add /A --face 2
+0587075008096c6f63616c686f737408036e66640803666962080b6164642d6e657874686f70080a680807030801416901020220748c0b3814b14d7eacaf838db258aefb7331ace602a96734ba7948df122b590c0a04ea537e1624002c091b01002804000f42402e207e0c3114a496784d495cf6d6899ef0e870aa899b6da63962cd30ff4c3f3c89c1
+$ ndn_tool cache erase /A --count 10
+0580074908096c6f63616c686f737408036e66640802637308056572617365080a6808070308014184010a0220128c0a99b3ded3189e916a1a3fc7e7c9f03d50eb050bfdbb62c4f7d45085c0b90a04ca70b69b24002c091b01002804000f42402e205d42d3fdaa6b3c11aea0be4e2784a4e1d3a0456cd9bf39ed18dae188854d34c8
+";
+
+/// The short forms, with the time 1000000 of the clock; the packets were made by a program of its
+/// own.
+#[test]
+fn short_forms(rt: HostRuntime) {
+    check_session(&rt, OPS, SHORT_FORMS);
+}
+
+const REFUSED_COMMANDS: &str = "
+ndn_tool command /localhost/nfd/fib/add-nexthop --name /A --time 1 => --nonce <HEX>
+ndn_tool command /localhost/nfd/fib/add-nexthop --name /A --nonce 01020304 => --time <N>
+ndn_tool command /localhost/nfd/fib/add-nexthop --nonce 01020304 --time 1 => --name <URI>
+ndn_tool command /A --name /A --nonce 01020304 --time x => time: give a decimal number
+ndn_tool command /A --name /A --nonce 01020304 --time 1 --strategy multicast => strategy: give the URI
+ndn_tool route add /A => --face <N>
+ndn_tool route add --face 1 => <PREFIX>
+ndn_tool route set /A --face 1 => VERB: give
+ndn_tool route remove /A --face 1 --cost 1 => cost: give no cost
+ndn_tool route add A --face 1 => PREFIX: give the URI
+ndn_tool route add /A --face x => face: give a decimal number
+ndn_tool route add /A multicast --face 1 => unexpected argument 'multicast'
+ndn_tool strategy set /A => STRATEGY: give a strategy
+ndn_tool strategy set /A worst-route => STRATEGY: give the URI
+ndn_tool strategy unset /A multicast => STRATEGY: give no strategy
+ndn_tool strategy erase /A => VERB: give
+ndn_tool cache set /A => VERB: give
+ndn_tool cache erase /A --time -1 => '-1'
+ndn_tool cache erase /A --nonce 0 => nonce: give 8
+";
+
+#[test]
+fn refused_commands(rt: HostRuntime) {
+    check_parts(&rt, 2, REFUSED_COMMANDS);
+}
+
+const UNWRITTEN_COMMANDS: &str = "
+$ ndn_tool route add /A --face 2 --key /ops/KEY/2
+key not found
+status 1
+$ ndn_tool command /2=AAAAAAAAAAAAAAAAAAAAAAAAAAAAAAAA/insert --name /A --nonce 01020304 --time 1
+BadName
+status 1
+$ ndn_tool command /1/2/3/4/5/6/7/8/9/0/1/2/3/4/5/6/7/8/9/0/1/2/3/4/5/6/7/8/9/0/1/2/3/4/5/6/7/8/9/0/1/2/3/4/5/6/7/8/9/0/1/2/3/4/5/6/7/8/9/0/1/2/3 --name /A --nonce 01020304 --time 1
+TooLong
+status 1
+$ ndn_tool command /1/2/3/4/5/6/7/8/9/0/1/2/3/4/5/6/7/8/9/0/1/2/3/4/5/6/7/8/9/0/1/2/3/4/5/6/7/8/9/0/1/2/3/4/5/6/7/8/9/0/1/2/3/4/5/6/7/8/9/0/1/2/3/4 --name /A --nonce 01020304 --time 1
+TooLong
+status 1
+";
+
+/// Commands with another key, or whose names have no room for what is put after them.
+#[test]
+fn unwritten_commands(rt: HostRuntime) {
+    check_session(&rt, OPS, UNWRITTEN_COMMANDS);
+}
+
 const DATA_PACKETS: &str = "
 $ ndn_tool data /
 0629070016031b0100172021c9e89ecce288f852d98a96085e170fd34e42bfa9fdb663cfc5de93bb5bc1e7
@@ -391,6 +505,10 @@ ndn_tool interest --help => |  $ ndn_tool interest /A --nonce 01020304|  050b070
 ndn_tool data -h => |  $ ndn_tool data /A --content 78|  062f070308014115017816031b01001720e4f0b5aed03446e702356a360c7194c208b8b6a28ff30de430f1baa08ba29266|
 ndn_tool tag --help => 5bdcc146bf60754e6a042426089575c75a003f089d2739839dec58b964ec3843|
 ndn_tool show --help => |  signature 0 -|
+ndn_tool command --help => |      --nonce 01020304 --time 1000000 --keys ops.keys --key /ops/KEY/1|
+ndn_tool route --help => |  $ ndn_tool route remove /A --face 2
+ndn_tool strategy --help => |  $ ndn_tool strategy set /A multicast
+ndn_tool cache --help => |  $ ndn_tool cache erase /A --count 10
 ";
 
 #[test]
@@ -478,6 +596,7 @@ fn statuses(rt: HostRuntime) {
         wanted: "octets",
     };
     assert!(rt; ends_with(Fault::Read, 3));
+    assert!(rt; ends_with(Fault::Clock, 3));
     assert!(rt; ends_with(Fault::Write, 3));
     assert!(rt; ends_with(Fault::NotText, 2));
     assert!(rt; ends_with(Fault::Keys(KeyFault::TooMany), 1));
@@ -500,6 +619,8 @@ $ ndn_tool data /A --content 78
 062f070308014115017816031b01001720e4f0b5aed03446e702356a360c7194c208b8b6a28ff30de430f1baa08ba29266
 $ ndn_tool tag 7768617420646f2079612077616e7420666f72206e6f7468696e673f --keys F --key /k
 5bdcc146bf60754e6a042426089575c75a003f089d2739839dec58b964ec3843
+$ ndn_tool cache erase /A --count 10
+0580074908096c6f63616c686f737408036e66640802637308056572617365080a6808070308014184010a0220128c0a99b3ded3189e916a1a3fc7e7c9f03d50eb050bfdbb62c4f7d45085c0b90a04ca70b69b24002c091b01002804000f42402e205d42d3fdaa6b3c11aea0be4e2784a4e1d3a0456cd9bf39ed18dae188854d34c8
 ";
 
 /// Whether a command prints this, or is refused memory.

@@ -13,5 +13,9 @@ returns c =
     let helping = helps_else _ c.arg_required_else_help.result _ _ one c.arg_required_else_help.ensures in
     let asking = added_below _ _ c.in_ok-subcommand.field-0 _ _ helping c.in_ok-interest_command.ensures c.in_ok-subcommand.ensures in
     let content = added_below _ _ c.in_ok-subcommand-2.field-0 _ _ asking c.in_ok-data_command.ensures c.in_ok-subcommand-2.ensures in
-    let octets = added_below _ _ c.in_ok-subcommand-3.field-0 _ _ content c.in_ok-tag_command.ensures c.in_ok-subcommand-3.ensures in
-    IfOk-weaker c.subcommand-4.result _ _ (λ command adds. added_below _ _ command _ _ octets c.in_ok-show_command.ensures adds) c.subcommand-4.ensures
+    let whole = added_below _ _ c.in_ok-subcommand-3.field-0 _ _ content c.in_ok-command_command.ensures c.in_ok-subcommand-3.ensures in
+    let route = added_below _ _ c.in_ok-subcommand-4.field-0 _ _ whole c.in_ok-route_command.ensures c.in_ok-subcommand-4.ensures in
+    let strategy = added_below _ _ c.in_ok-subcommand-5.field-0 _ _ route c.in_ok-strategy_command.ensures c.in_ok-subcommand-5.ensures in
+    let cache = added_below _ _ c.in_ok-subcommand-6.field-0 _ _ strategy c.in_ok-cache_command.ensures c.in_ok-subcommand-6.ensures in
+    let octets = added_below _ _ c.in_ok-subcommand-7.field-0 _ _ cache c.in_ok-tag_command.ensures c.in_ok-subcommand-7.ensures in
+    IfOk-weaker c.subcommand-8.result _ _ (λ command adds. added_below _ _ command _ _ octets c.in_ok-show_command.ensures adds) c.subcommand-8.ensures

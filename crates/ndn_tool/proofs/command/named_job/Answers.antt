@@ -1,24 +1,34 @@
 use Rattle.std.proofs.lemmas.Result.{err_from_is_err_and}
 use Rattle.ndn_tool.proofs.Spelling.{refused_part}
-use Rattle.ndn_tool.proofs.Jobs.{an_interest, a_data, a_tag, a_show}
+use Rattle.ndn_tool.proofs.Jobs.{an_interest, a_data, a_command, a_short, a_tag, a_show}
 use Rattle.ndn_tool.proofs.command.named_job.Goals as goal
 
 pub returns-in_err-read-in-interest : goal.returns-in_err-read-in-interest
 returns-in_err-read-in-interest c =
     let p = err_from_is_err_and c.from_residual.result c.from_residual.ensures.1 in
-    rw (p.1, p.2) (refused_part _ _ (an_interest c.args.name.now _ c.in-interest.is) c.in_err-read-in-interest.field-0.0 c.in_err-read-in-interest.ensures)
+    rw (p.1, p.2) (refused_part _ _ (an_interest _ _ c.args.name.now _ c.in-interest.is) c.in_err-read-in-interest.field-0.0 c.in_err-read-in-interest.ensures)
 
 pub returns-in_err-read-in-data : goal.returns-in_err-read-in-data
 returns-in_err-read-in-data c =
     let p = err_from_is_err_and c.from_residual-in_err-read-in-data.result c.from_residual-in_err-read-in-data.ensures.1 in
-    rw (p.1, p.2) (refused_part _ _ (a_data c.args.name.now _ c.in-data.is) c.in_err-read-in-data.field-0.0 c.in_err-read-in-data.ensures)
+    rw (p.1, p.2) (refused_part _ _ (a_data _ _ c.args.name.now _ c.in-data.is) c.in_err-read-in-data.field-0.0 c.in_err-read-in-data.ensures)
 
 pub returns-in_err-read-in-tag : goal.returns-in_err-read-in-tag
 returns-in_err-read-in-tag c =
     let p = err_from_is_err_and c.from_residual-in_err-read-in-tag.result c.from_residual-in_err-read-in-tag.ensures.1 in
-    rw (p.1, p.2) (refused_part _ _ (a_tag c.args.name.now _ c.in-tag.is) c.in_err-read-in-tag.field-0.0 c.in_err-read-in-tag.ensures)
+    rw (p.1, p.2) (refused_part _ _ (a_tag _ _ c.args.name.now _ c.in-tag.is) c.in_err-read-in-tag.field-0.0 c.in_err-read-in-tag.ensures)
 
 pub returns-in_err-required_octets-in-show : goal.returns-in_err-required_octets-in-show
 returns-in_err-required_octets-in-show c =
     let p = err_from_is_err_and c.from_residual-in_err-required_octets-in-show.result c.from_residual-in_err-required_octets-in-show.ensures.1 in
-    rw (p.1, p.2) (refused_part _ _ (a_show c.args.name.now _ c.in-show.is) c.in_err-required_octets-in-show.field-0.0 c.in_err-required_octets-in-show.ensures)
+    rw (p.1, p.2) (refused_part _ _ (a_show _ _ c.args.name.now _ c.in-show.is) c.in_err-required_octets-in-show.field-0.0 c.in_err-required_octets-in-show.ensures)
+
+pub returns-in_err-read-in-command : goal.returns-in_err-read-in-command
+returns-in_err-read-in-command c =
+    let p = err_from_is_err_and c.from_residual-in_err-read-in-command.result c.from_residual-in_err-read-in-command.ensures.1 in
+    rw (p.1, p.2) (refused_part _ _ (a_command _ _ c.args.name.now _ c.in-command.is) c.in_err-read-in-command.field-0.0 c.in_err-read-in-command.ensures)
+
+pub returns-in_err-read_short-in-route : goal.returns-in_err-read_short-in-route
+returns-in_err-read_short-in-route c =
+    let p = err_from_is_err_and c.from_residual-in_err-read_short-in-route.result c.from_residual-in_err-read_short-in-route.ensures.1 in
+    rw (p.1, p.2) (refused_part _ _ (a_short _ _ c.args.name.now _ c.in-route.is) c.in_err-read_short-in-route.field-0.0 c.in_err-read_short-in-route.ensures)

@@ -1,0 +1,12 @@
+use Rattle.std.proofs.Common.{codes}
+use Rattle.ndn_tool.specs.CommandLine.{strategy_app}
+use Rattle.ndn_tool.proofs.Commands.{described, added}
+use Rattle.ndn_tool.proofs.management.strategy_command.Goals as goal
+
+pub returns : goal.returns
+unfolding strategy_app
+returns c =
+    let start = described (codes "strategy") c.new.result c.about.result c.after_help.result _ _ c.new.ensures.app c.new.ensures.local c.about.ensures c.after_help.ensures in
+    let verb = added _ _ c.in_ok-arg.field-0 _ _ start c.positional.ensures c.in_ok-arg.ensures in
+    let name = added _ _ c.in_ok-arg-2.field-0 _ _ verb c.positional-2.ensures c.in_ok-arg-2.ensures in
+    c.with_stamp.ensures _ (added _ _ c.in_ok-command.command _ _ name c.optional_positional.ensures c.in_ok-command.ensures)
