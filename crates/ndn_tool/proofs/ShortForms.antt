@@ -6,8 +6,8 @@ use Rattle.ndn_tool.specs.declared.short_form.ShortForm.{ShortForm}
 use Rattle.ndn_tool.specs.declared.fault.ToolFault.{ToolFault}
 use Rattle.ndn_tool.specs.Value.{ReadsInMemory}
 use Rattle.ndn_tool.specs.Options.{Has}
-use Rattle.ndn_tool.specs.ShortForm.{IsVerb, IsFormJob, IsShortJob, form_of}
-use Rattle.ndn_tool.proofs.Spelling.{refused_part, has_value}
+use Rattle.ndn_tool.specs.ShortForm.{IsVerb, IsFormJob, form_of}
+use Rattle.ndn_tool.proofs.Spelling.{refused_part}
 
 -- a verb has one form
 same_form : (subcommand : List ℕ) (said : Option (List ℕ)) (f g : ShortForm) → Has said (IsVerb subcommand) f → Has said (IsVerb subcommand) g → g ≡ f

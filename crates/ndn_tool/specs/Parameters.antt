@@ -1,6 +1,6 @@
 -- The parameters of a command, as the last component of its name (NFD Management, "Control
 -- Command").
-use Rattle.std.specs.Prelude.{◌≡◌, ◌≤◌, ◌⊎◌, ℕ, List, [], ◌∷◌, ◌++◌, length, Bool, false, ◌==◌, ◌&&◌, Option, None, Some, codes, slice_get, bytes_eq, if◌then◌else◌, ⊤}
+use Rattle.std.specs.Prelude.{◌≡◌, ◌≤◌, ℕ, List, [], ◌∷◌, ◌++◌, length, Bool, false, ◌==◌, ◌&&◌, Option, None, Some, codes, slice_get, bytes_eq, if◌then◌else◌, ⊤}
 use Rattle.std.specs.Option.{option_map}
 use Rattle.ndn_tlv.specs.Element.{Field, element}
 use Rattle.ndn_names.specs.declared.component_type.TheConstants.{GENERIC}

@@ -1,7 +1,6 @@
 -- The short forms of commands: the command that each stands for, and what its options spell.
 use Rattle.std.specs.Prelude.{◌≡◌, ℕ, List, [], ◌∷◌, Option, None, Some, Bool, true, false, is_some, is_none, ◌&&◌, codes, find, bytes_eq, unwrap_or}
 use Rattle.clap.specs.Walk.{Row}
-use Rattle.ndn_tlv.specs.Element.{Field}
 use Rattle.ndn_names.specs.ReadsAs.{ReadsAs}
 use Rattle.ndn_tool.specs.declared.job.Parameters.{Parameters}
 use Rattle.ndn_tool.specs.declared.job.Stamp.{Stamp}
