@@ -1,6 +1,5 @@
 pub mod Among
 pub mod ClosedGroups
-pub mod Counts
 pub mod DraftSteps
 pub mod Expansion
 pub mod GrammarReading
@@ -9,6 +8,7 @@ pub mod ItemReading
 pub mod ListReading
 pub mod Matched
 pub mod PartReading
+pub mod Places
 pub mod QuotedReading
 pub mod RepeatReading
 pub mod Rows

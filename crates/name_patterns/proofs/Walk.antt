@@ -1,15 +1,16 @@
 -- The walk over the table, which gives the counts of the greatest split one after the other.
-use Rattle.std.proofs.Common.{◌≡◌, ℕ, zero, suc, ◌+◌, ◌<◌, ◌≤◌, List, [], ◌∷◌, ◌++◌, length, take, drop, sum, get_or, Option, None, Some, refl, ◌∙◌, arith, inl, inr, length-append}
+use Rattle.std.proofs.Common.{◌≡◌, ℕ, zero, suc, ◌+◌, ◌^◌, ◌<◌, ◌≤◌, List, [], ◌∷◌, ◌++◌, length, map, take, drop, sum, get_or, Option, None, Some, refl, ◌∙◌, arith, inl, inr, length-append}
 use Rattle.std.specs.Prelude.{slice_get, slice_set, IsSomeAnd}
-use Rattle.std.proofs.lemmas.List.{drop-drop, length-drop, take-append-le, take_all}
+use Rattle.std.proofs.lemmas.List.{drop-drop, length-drop, length-map, take-append-le, take_all}
 use Rattle.std.proofs.lemmas.List.Sums.{sum_by_push}
 use Rattle.std.proofs.Math.Seq.{drop-length}
 use Rattle.std.proofs.lemmas.Option.{get_or_from_slice_get}
 use Rattle.std.proofs.lemmas.Bool.{cases_eq}
 use Rattle.ndn_tlv.specs.Element.{Field}
+use Rattle.name_patterns.specs.declared.search.Row.{Row}
 use Rattle.name_patterns.specs.Pattern.{PlainAtom}
-use Rattle.name_patterns.specs.Greedy.{first_count, greedy, IsRow, IsTable, AreStarts}
-use Rattle.name_patterns.proofs.Rows.{set_same, set_other}
+use Rattle.name_patterns.specs.Greedy.{first_count, greedy, ArePassed, AreSplit, IsRow, IsTable, AreStarts}
+use Rattle.name_patterns.proofs.Rows.{set_same, set_other, drop_map, nil_after, nil_at_end}
 use Rattle.name_patterns.proofs.Splits.{after_counts, first_fits, greedy_none, greedy_some, greedy_end, greedy_no_end}
 
 -- what is there, and has the property
@@ -17,13 +18,36 @@ pub some_of : {X : Type 0} (P : X → Type 0) (o : Option X) → IsSomeAnd o P �
 some_of P None h = absurd h
 some_of P (Some x) h = (x, refl, h)
 
--- what stands in the table
-pub table_at : (atoms : List PlainAtom) (cs : List Field) (rows : List (List (Option ℕ))) (i place : ℕ) → IsTable atoms cs rows → i ≤ length atoms → place ≤ length cs
-    → get_or (get_or rows i []) place None ≡ first_count (drop i atoms) (drop place cs)
-table_at atoms cs rows i place table low fits =
+-- the row of an atom
+pub row_at : (atoms : List PlainAtom) (cs : List Field) (rows : List Row) (i : ℕ) (d : Row) → IsTable atoms cs rows → i ≤ length atoms → IsRow (drop i atoms) cs (get_or rows i d)
+row_at atoms cs rows i d table low =
     let row = some_of (IsRow (drop i atoms) cs) (slice_get rows i) (table i low) in
-    let row_is : get_or rows i [] ≡ row.0 = get_or_from_slice_get rows i row.0 [] row.1 in
-    rw row_is (get_or_from_slice_get row.0 place (first_count (drop i atoms) (drop place cs)) None (row.2 place fits))
+    let row_is : get_or rows i d ≡ row.0 = get_or_from_slice_get rows i row.0 d row.1 in
+    rw row_is row.2
+
+-- the places from which on some atoms have a split
+pub row_split : (atoms : List PlainAtom) (cs : List Field) (row : Row) → IsRow atoms cs row → AreSplit atoms cs row.split
+row_split [] cs row is = is
+row_split (atom ∷ atoms) cs row is = is.2
+
+-- the row of an atom, and what is known of the atoms after it
+pub record IsAtomRow (atom : PlainAtom) (atoms later : List PlainAtom) (cs : List Field) (row after : Row) : Type 0 where
+  pub cut : atoms ≡ atom ∷ later
+  pub passed : ArePassed atom.test cs row.passed
+  pub small : row.passed < 2 ^ 64
+  pub rest : AreSplit later cs after.split
+
+pub atom_row : {X : Type 0} (f : X → PlainAtom) (xs : List X) (cs : List Field) (rows : List Row) (i : ℕ) (x : X) (d : Row) → IsTable (map f xs) cs rows → i < length xs
+    → x ≡ get_or xs i x → IsAtomRow (f x) (drop i (map f xs)) (drop (i + 1) (map f xs)) cs (get_or rows i d) (get_or rows (i + 1) d)
+atom_row f xs cs rows i x d table low x_is =
+    let cut = drop_map f xs i x low x_is in
+    let row : IsRow (f x ∷ drop (i + 1) (map f xs)) cs (get_or rows i d) = rw cut at (row_at (map f xs) cs rows i d table (omega (arith, length-map xs f))) in
+    record {
+      cut = cut;
+      passed = row.0;
+      small = row.1;
+      rest = row_split (drop (i + 1) (map f xs)) cs (get_or rows (i + 1) d) (row_at (map f xs) cs rows (i + 1) d table (omega (arith, length-map xs f)));
+    }
 
 cons_at : {X : Type 0} (xs : List X) (i : ℕ) → i < length xs → (x : X) × (drop i xs ≡ x ∷ drop (i + 1) xs)
 cons_at [] i h = absurd (omega arith)
@@ -82,18 +106,20 @@ walk_step atoms cs i place starts done k w low room e =
 dropped_all : {X : Type 0} (xs : List X) (i : ℕ) → i ≡ length xs → drop i xs ≡ []
 dropped_all xs i e = rw e (drop-length xs)
 
-pub walk_end : (atoms : List PlainAtom) (cs : List Field) (i place : ℕ) (starts done : List ℕ) (k : ℕ) → IsWalked atoms cs i place starts done → i ≡ length atoms
-    → first_count (drop i atoms) (drop place cs) ≡ Some k → IsSomeAnd (greedy atoms cs) (λ counts. AreStarts atoms counts starts)
-walk_end atoms cs i place starts done k w i_is e =
+pub walk_end : (atoms : List PlainAtom) (cs : List Field) (i place : ℕ) (starts done : List ℕ) → IsWalked atoms cs i place starts done → i ≡ length atoms
+    → length cs ≤ place → IsSomeAnd (greedy atoms cs) (λ counts. AreStarts atoms counts starts)
+walk_end atoms cs i place starts done w i_is at_end =
     let nil = dropped_all atoms i i_is in
-    let counts_are : greedy atoms cs ≡ Some done = w.rest ∙ rw nil (greedy_end done (drop place cs) k (rw nil at e)) in
+    let place_is : place ≡ length cs = omega (arith, w.fits) in
+    let end : first_count [] (drop place cs) ≡ Some 0 = rw place_is (nil_at_end cs) in
+    let counts_are : greedy atoms cs ≡ Some done = w.rest ∙ rw nil (greedy_end done (drop place cs) 0 end) in
     rw counts_are (λ n low. w.starts_are n (omega arith))
 
 pub walk_no_end : (atoms : List PlainAtom) (cs : List Field) (i place : ℕ) (starts done : List ℕ) → IsWalked atoms cs i place starts done → i ≡ length atoms
-    → first_count (drop i atoms) (drop place cs) ≡ None → greedy atoms cs ≡ None
-walk_no_end atoms cs i place starts done w i_is e =
+    → place < length cs → greedy atoms cs ≡ None
+walk_no_end atoms cs i place starts done w i_is before =
     let nil = dropped_all atoms i i_is in
-    w.rest ∙ rw nil (greedy_no_end done (drop place cs) (rw nil at e))
+    w.rest ∙ rw nil (greedy_no_end done (drop place cs) (nil_after cs place before))
 
 pub walk_start : (atoms : List PlainAtom) (cs : List Field) (starts : List ℕ) → slice_get starts 0 ≡ Some 0 → IsWalked atoms cs 0 0 starts []
 walk_start atoms cs starts e = record {

@@ -1,7 +1,9 @@
 -- The search for the greatest split.
-use Rattle.std.specs.Prelude.{◌≡◌, ◌≤◌, slice_get, IsSomeAnd, take, sum, ℕ, zero, suc, List, [], ◌∷◌, length, drop, Option, Some, None, option_map, option_and_then, is_some, Bool, true, false, not, nat_lt, min, ◌==◌, ◌&&◌, bytes_eq, if◌then◌else◌}
+use Rattle.std.specs.Prelude.{◌≡◌, ◌≤◌, ◌<◌, ◌^◌, slice_get, IsSomeAnd, take, sum, ℕ, zero, suc, List, [], ◌∷◌, length, drop, Option, Some, None, option_map, option_and_then, is_some, Bool, true, false, not, nat_lt, min, ◌==◌, ◌&&◌, bytes_eq, if◌then◌else◌}
+use Rattle.std.specs.Int.{bit_at}
 use Rattle.std.specs.List.{list_any, prefix_len}
 use Rattle.ndn_tlv.specs.Element.{Field}
+use Rattle.name_patterns.specs.declared.search.Row.{Row}
 use Rattle.name_patterns.specs.Pattern.{PlainTest, Anything, OneOf, NoneOf, PlainAtom}
 
 abbrev pub is_among : Field → List Field → Bool
@@ -43,21 +45,34 @@ greedy (atom ∷ atoms) cs =
     option_and_then (λ count. option_map (λ counts. count ∷ counts) (greedy atoms (drop count cs)))
     (first_count (atom ∷ atoms) cs)
 
--- a count stands at this place
-abbrev pub is_count : Option (Option ℕ) → Bool
-is_count None = false
-is_count (Some count) = is_some count
+-- a place is among some, which are the bits of a number
+abbrev pub has_place : ℕ → ℕ → Bool
+has_place places place = bit_at places place == 1
 
-abbrev pub has_count : List (Option ℕ) → ℕ → Bool
-has_count row place = is_count (slice_get row place)
+abbrev pub passes_there : PlainTest → Option Field → Bool
+passes_there test None = false
+passes_there test (Some c) = passes test c
 
--- a row has, for each place of the components, the first count of the atoms from that place on
-abbrev pub IsRow : List PlainAtom → List Field → List (Option ℕ) → Type 0
-IsRow atoms cs row =
-    (place : ℕ) → place ≤ length cs → slice_get row place ≡ Some (first_count atoms (drop place cs))
+-- the places of the components that pass the test
+abbrev pub ArePassed : PlainTest → List Field → ℕ → Type 0
+ArePassed test cs places =
+    (place : ℕ) → has_place places place ≡ passes_there test (slice_get cs place)
+
+-- the places from which on the atoms have a split of the components
+abbrev pub AreSplit : List PlainAtom → List Field → ℕ → Type 0
+AreSplit atoms cs places =
+    (place : ℕ) → place ≤ length cs
+    → has_place places place ≡ is_some (first_count atoms (drop place cs))
+
+-- the row of the first of some atoms: which components pass its test, all at places below 64, and
+-- from where on there is a split
+abbrev pub IsRow : List PlainAtom → List Field → Row → Type 0
+IsRow [] cs row = AreSplit [] cs row.split
+IsRow (atom ∷ atoms) cs row = ArePassed atom.test cs row.passed × (row.passed < 2 ^ 64)
+    × AreSplit (atom ∷ atoms) cs row.split
 
 -- a table has a row for the atoms from each of them on
-abbrev pub IsTable : List PlainAtom → List Field → List (List (Option ℕ)) → Type 0
+abbrev pub IsTable : List PlainAtom → List Field → List Row → Type 0
 IsTable atoms cs rows =
     (i : ℕ) → i ≤ length atoms → IsSomeAnd (slice_get rows i) (IsRow (drop i atoms) cs)
 

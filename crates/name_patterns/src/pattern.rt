@@ -72,8 +72,9 @@ impl Pattern {
         ensures cost { steps.new
             ≡ steps.old + length self.now.atoms * length (components name.entry) }
     {
-        let starts = first_split(&self.atoms, name, steps)?;
-        Some(self.captures(&starts, name.len()))
+        let len = name.len();
+        let starts = first_split(&self.atoms, name, len, steps)?;
+        Some(self.captures(&starts, len))
     }
 
     /// The places of the groups, by those in front of each atom, in a name of so many components.

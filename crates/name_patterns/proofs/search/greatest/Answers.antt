@@ -1,19 +1,21 @@
-use Rattle.std.proofs.Common.{◌≡◌, suc, ◌-◌, drop, true, false, sym, ◌∙◌, arith}
-use Rattle.name_patterns.specs.Greedy.{has_count}
-use Rattle.name_patterns.proofs.Counts.{down_takes, down_passes, down_stops, count_at}
+use Rattle.std.proofs.Common.{◌+◌, ◌-◌, ◌≤◌, ◌<◌, sym, arith}
+use Rattle.name_patterns.proofs.Places.{skipped, greatest_taken, greatest_not_taken}
 use Rattle.name_patterns.proofs.search.greatest.Goals as goal
+use Rattle.name_patterns.proofs.search.greatest.Goals.{else-skipped-most-via-then-skipped-most+else-least-most, else-skipped-most-via-else-skipped-most}
 
-pub returns-then-is_some : goal.returns-then-is_some
-returns-then-is_some c =
-    let end_is : c.counts.end ≡ suc (c.counts.end - 1) = omega arith in
-    let takes : has_count (drop c.args.place c.args.after.now) (c.counts.end - 1) ≡ true = rw (← c.from.ensures) (count_at c.args.after.now c.args.place c.from.result ∙ (sym c.is_some.ensures ∙ c.if-is_some.true)) in
-    sym (rw end_is at c.counts.invariant.0 ∙ down_takes (has_count (drop c.args.place c.args.after.now)) c.args.repeat.least (c.counts.end - 1) (omega arith) takes)
-
-pub counts-preserved : goal.counts-preserved
-counts-preserved c =
-    let end_is : c.counts.end ≡ suc (c.counts.end - 1) = omega arith in
-    let passes : has_count (drop c.args.place c.args.after.now) (c.counts.end - 1) ≡ false = rw (← c.from.ensures) (count_at c.args.after.now c.args.place c.from.result ∙ (sym c.is_some.ensures ∙ c.if-is_some.false)) in
-    (rw end_is at c.counts.invariant.0 ∙ down_passes (has_count (drop c.args.place c.args.after.now)) c.args.repeat.least (c.counts.end - 1) (omega arith) passes, omega arith)
+pub returns-then-least-most : goal.returns-then-least-most
+returns-then-least-most c =
+    let skips : skipped c.args.after (c.args.place + c.args.most) ≤ c.args.most = rw c.from.ensures at c.if-skipped-most.true in
+    let enough : c.args.least ≤ c.args.most - skipped c.args.after (c.args.place + c.args.most) = rw c.from.ensures at c.if-least-most.true in
+    rw c.from.ensures (sym (greatest_taken c.args.after c.args.place c.args.least c.args.most (omega arith) skips enough))
 
 pub returns : goal.returns
-returns c = sym (c.counts.invariant.0 ∙ down_stops (has_count (drop c.args.place c.args.after.now)) c.args.repeat.least c.counts.end (omega arith))
+returns c = elim c.else-skipped-most.branch [
+  | else-skipped-most-via-then-skipped-most+else-least-most w ↦
+      let few : c.args.most - skipped c.args.after (c.args.place + c.args.most) < c.args.least = rw c.from.ensures at w.if-least-most.false in
+      let skips : skipped c.args.after (c.args.place + c.args.most) ≤ c.args.most = rw c.from.ensures at w.if-skipped-most.true in
+      sym (greatest_not_taken c.args.after c.args.place c.args.least c.args.most (omega arith) (omega arith))
+  | else-skipped-most-via-else-skipped-most w ↦
+      let many : c.args.most < skipped c.args.after (c.args.place + c.args.most) = rw c.from.ensures at w.if-skipped-most.false in
+      sym (greatest_not_taken c.args.after c.args.place c.args.least c.args.most (omega arith) (omega arith))
+]

@@ -21,12 +21,12 @@ returns-in_err-starts-clause-none c =
 pub returns-clause-found : goal.returns-clause-found
 returns-clause-found c =
     let at = (goal.at.returns-clause-found c).After-deref in
-    matched c.args.self.now (components c.args.name) c.in_ok-starts.starts c.len.result c.captures-2.result (rw (atoms_are at) at c.in_ok-starts.ensures.found)
-    (limits at).groups c.len.ensures.exact c.captures-2.ensures
+    matched c.args.self.now (components c.args.name) c.in_ok-starts.starts c.len-len.result c.captures-2.result (rw (atoms_are at) at c.in_ok-starts.ensures.found)
+    (limits at).groups c.len-len.ensures.exact c.captures-2.ensures
 
 pub returns-clause-there : goal.returns-clause-there
 returns-clause-there c =
     let at = (goal.at.returns-clause-there c).After-deref in
-    let found = matched c.args.self.now (components c.args.name) c.in_ok-starts.starts c.len.result c.captures-2.result (rw (atoms_are at) at c.in_ok-starts.ensures.found)
-    (limits at).groups c.len.ensures.exact c.captures-2.ensures in
+    let found = matched c.args.self.now (components c.args.name) c.in_ok-starts.starts c.len-len.result c.captures-2.result (rw (atoms_are at) at c.in_ok-starts.ensures.found)
+    (limits at).groups c.len-len.ensures.exact c.captures-2.ensures in
     matched_there c.args.self.now (components c.args.name) c.captures-2.result found (limits at).groups
