@@ -1,5 +1,5 @@
 -- A name has one match, and one name is made of it.
-use Rattle.std.proofs.Common.{◌≡◌, ℕ, ◌<◌, false, List, [], ◌∷◌, ◌++◌, ◌⊎◌, inl, inr, length, subst, sym, ap, ◌∙◌, arith}
+use Rattle.std.proofs.Common.{◌≡◌, ℕ, ◌<◌, ◌≤◌, false, List, [], ◌∷◌, ◌++◌, ◌⊎◌, inl, inr, length, subst, sym, refl, ap, ◌∙◌, arith}
 use Rattle.std.specs.Prelude.{Bool, IsTrue, ◌↔◌}
 use Rattle.ndn_tlv.specs.Element.{Field}
 use Rattle.ndn_names.specs.Order.{DiffersBelow}
@@ -55,6 +55,10 @@ too_long pattern template cs places m long made h =
 
 pub unmatched : (pattern : PlainPattern) (template : List PlainPart) (cs : List Field) → HasNoSplit pattern.atoms cs → (made : List Field) → ¬ Makes pattern template cs made
 unmatched pattern template cs none made h = none h.matched.0 h.matched.1.split
+
+pub not_too_long : (pattern : PlainPattern) (template : List PlainPart) (cs : List Field) (places : List (ℕ × ℕ)) → Match pattern cs places → length (expansion_of template places cs) ≤ 64
+    → Makes pattern template cs (expansion_of template places cs)
+not_too_long pattern template cs places m short = record { places = places; matched = m; expanded = refl; short = short }
 
 pub key_not_made : (hyper : PlainHyper) (key packet : List Field) → ((made : List Field) → ¬ Makes hyper.key_pattern hyper.key_template key made)
     → IsTrue false ↔ IsHyperRelated hyper key packet

@@ -14,7 +14,7 @@ use Rattle.info_rules.specs.Rule.{PlainRule}
 use Rattle.info_rules.specs.First.{NoneApplies, IsFirst}
 use Rattle.info_rules.specs.Seen.{SeenPacket, seen_interest, seen_data, SaysWhen, PlainSigned, IsSigned}
 use Rattle.info_rules.specs.Checks.{Checks}
-use Rattle.info_rules.specs.Locator.{MakesOf}
+use Rattle.info_rules.specs.Locator.{MakesBoth}
 
 -- the number of a reason: of several the greatest is reported
 abbrev pub reason_number : Reason → ℕ
@@ -102,11 +102,13 @@ Decides rules keys Idle decision = ⊥
 
 -- ---- where memory is asked for
 
--- the checker expands a template: it makes another name of the key's, which is not too long
+-- the checker expands templates: it makes other names of the key's and of the packet's, and neither
+-- is too long
 abbrev pub Expands : Checker → PlainSigned → Type 0
 Expands checkers.Sha256 signed = ⊥
 Expands (checkers.HmacSha256 test) signed =
-    (key : List Field) × (signed.signature.info.locator ≡ KeyName key) × MakesOf test key
+    (key : List Field) × (signed.signature.info.locator ≡ KeyName key)
+    × MakesBoth test key signed.name
 Expands checkers.Unsupported signed = ⊥
 
 -- one of these does

@@ -59,12 +59,14 @@ PassesLocator (tests.Name test) key packet = Passes test key
 PassesLocator (tests.Hyper hyper) key packet = IsHyperRelated hyper key packet
 PassesLocator tests.Hierarchical key packet = IsHierarchical key packet
 
--- a name is made of another
-abbrev pub IsMade : PlainPattern → List PlainPart → List Field → Type 0
-IsMade pattern template name = (made : List Field) × Makes pattern template name made
+-- a name is made of the key's and one of the packet's, neither of them too long
+abbrev pub AreMade : PlainHyper → List Field → List Field → Type 0
+AreMade hyper key packet =
+    (a b : List Field) × Makes hyper.key_pattern hyper.key_template key a
+    × Makes hyper.packet_pattern hyper.packet_template packet b
 
--- another name is made of the key's, before any is made of the packet's
-abbrev pub MakesOf : LocatorTest → List Field → Type 0
-MakesOf (tests.Name test) key = ⊥
-MakesOf (tests.Hyper hyper) key = IsMade hyper.key_pattern hyper.key_template key
-MakesOf tests.Hierarchical key = ⊥
+-- the test makes other names of the key's and of the packet's
+abbrev pub MakesBoth : LocatorTest → List Field → List Field → Type 0
+MakesBoth (tests.Name test) key packet = ⊥
+MakesBoth (tests.Hyper hyper) key packet = AreMade hyper key packet
+MakesBoth tests.Hierarchical key packet = ⊥

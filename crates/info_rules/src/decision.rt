@@ -127,8 +127,9 @@ impl Rules {
     /// What the first rule that applies decides of a packet, by its received octets. An Interest
     /// goes by its name without a digest of parameters at its end.
     ///
-    /// Memory is asked for only where a checker of that rule makes another name of the key's, and
-    /// that has at most 64 components. A template that makes a longer name does not pass.
+    /// Memory is asked for only where a checker of that rule makes other names of the key's and of
+    /// the packet's, each of at most 64 components. A template that makes a longer name does not
+    /// pass.
     pub fn decide(
         &self,
         alloc: Global,

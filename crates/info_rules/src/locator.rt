@@ -1,19 +1,19 @@
 //! Which keys may sign which packets, by their names.
 
-ghost use Rattle.std.specs.Prelude.{◌≡◌, ◌≤◌, ◌↔◌, ℕ, List, Some, length, option_map, IsTrue, MatchOption, MatchResult, IfOk, codes};
+ghost use Rattle.std.specs.Prelude.{◌≡◌, ◌≤◌, ◌↔◌, ℕ, List, Some, length, option_map, IsTrue, MatchOption, MatchResult, IfOk, IfSome, IfNone, codes};
 ghost use Rattle.name_patterns.specs.Grammar.{IsPattern};
 ghost use Rattle.ndn_tlv.specs.Element.{Field};
 ghost use Rattle.ndn_names.specs.View.{components, field_of};
 ghost use Rattle.ndn_names.specs.Name.{IsPrefix};
 ghost use Rattle.name_patterns.specs.Match.{Match};
-ghost use Rattle.name_patterns.specs.Template.{OfGroup, part_of, NeedAtMost};
-ghost use Rattle.info_rules.specs.Locator.{Makes, IsMade, MakesOf, IsHyperRelated, key_component, IsKeyOf, hierarchical_pattern, IsHierarchical, PassesLocator};
+ghost use Rattle.name_patterns.specs.Template.{OfGroup, part_of, expansion_of, NeedAtMost, AreThere};
+ghost use Rattle.info_rules.specs.Locator.{Makes, AreMade, MakesBoth, IsHyperRelated, key_component, IsKeyOf, hierarchical_pattern, IsHierarchical, PassesLocator};
 
 use crate::matching::{is_related, passes};
 use crate::rule::{HyperRelation, LocatorTest};
-use name_patterns::{Pattern, Template};
+use name_patterns::{Captures, Pattern, Template};
 use ndn_names::component_type::GENERIC;
-use ndn_names::{Component, Name, NameBuf, NameFault};
+use ndn_names::{Component, Name, NameBuf};
 use ndn_tlv::Memory;
 use std::alloc::Global;
 
@@ -34,7 +34,7 @@ pub fn passes_locator(
     ensures { MatchResult result
         (λ passed. IsTrue passed
         ↔ PassesLocator test.now (components key.entry) (components packet.entry))
-        (λ _. MakesOf test.now (components key.entry)) }
+        (λ _. MakesBoth test.now (components key.entry) (components packet.entry)) }
 {
     match test {
         LocatorTest::Name(test) => Ok(passes(test, key)),
@@ -53,40 +53,50 @@ fn is_hyper_related(
     ensures { MatchResult result
         (λ related. IsTrue related
         ↔ IsHyperRelated hyper.now (components key.entry) (components packet.entry))
-        (λ _. IsMade hyper.now.key_pattern hyper.now.key_template (components key.entry)) }
+        (λ _. AreMade hyper.now (components key.entry) (components packet.entry)) }
 {
-    let Some(of_key) = made_of(alloc, &hyper.key_pattern, &hyper.key_template, key)? else {
+    let Some(of_key) = captured(&hyper.key_pattern, &hyper.key_template, key) else {
         return Ok(false);
     };
-    let Some(of_packet) = made_of(alloc, &hyper.packet_pattern, &hyper.packet_template, packet)?
-    else {
+    let Some(of_packet) = captured(&hyper.packet_pattern, &hyper.packet_template, packet) else {
         return Ok(false);
     };
-    Ok(is_related(hyper.relation, of_key.view(), of_packet.view()))
+    let made_key = made_of(alloc, &hyper.key_template, &of_key, key)?;
+    let made_packet = made_of(alloc, &hyper.packet_template, &of_packet, packet)?;
+    Ok(is_related(hyper.relation, made_key.view(), made_packet.view()))
 }
 
-/// The name that is made of another, if the pattern matches that and the template does not make too
-/// long a name.
+/// What the groups hold, if the pattern matches the name and the template does not make too long a
+/// name of it. It takes no memory.
+fn captured(pattern: &Pattern, template: &Template, name: Name<'_>) -> Option<Captures>
+    requires { NeedAtMost (length pattern.now.groups) template.now }
+    ensures none { IfNone result ((made : List Field)
+        → ¬ Makes pattern.now template.now (components name.entry) made) }
+    ensures made { IfSome result (λ captures. Makes pattern.now template.now
+        (components name.entry) (expansion_of template.now captures (components name.entry))) }
+    ensures there { IfSome result
+        (λ captures. AreThere captures (components name.entry) template.now) }
+{
+    let captures = pattern.matches(name)?;
+    if template.is_too_long(&captures) {
+        return None;
+    }
+    Some(captures)
+}
+
+/// The name that is made of another, which is not too long.
 fn made_of(
     alloc: Global,
-    pattern: &Pattern,
     template: &Template,
+    captures: &Captures,
     name: Name<'_>,
-) -> Result<Option<NameBuf>, Memory>
-    requires { NeedAtMost (length pattern.now.groups) template.now }
-    ensures { MatchResult result
-        (λ made. MatchOption made
-        ((made : List Field) → ¬ Makes pattern.now template.now (components name.entry) made)
-        (λ made. Makes pattern.now template.now (components name.entry) made))
-        (λ _. IsMade pattern.now template.now (components name.entry)) }
+) -> Result<NameBuf, Memory>
+    requires { AreThere captures.now (components name) template.now }
+    ensures { IfOk result
+        (λ made. made ≡ expansion_of template.now captures.now (components name.entry)) }
 {
-    let Some(captures) = pattern.matches(name) else {
-        return Ok(None);
-    };
-    match template.expand(alloc, &captures, name) {
-        Ok(made) => Ok(Some(made)),
-        Err(NameFault::TooManyComponents) => Ok(None),
-        // It refuses nothing else.
+    match template.expand(alloc, captures, name) {
+        Ok(made) => Ok(made),
         Err(_) => Err(Memory),
     }
 }

@@ -94,8 +94,9 @@ impl Template {
         Ok(expanded)
     }
 
-    /// Whether the name would have more than 64 components.
-    fn is_too_long(&self, captures: &Captures) -> bool
+    /// Whether the name that it stands for, where the groups hold these places, would have more than
+    /// 64 components, which `expand` refuses. It takes no memory.
+    pub fn is_too_long(&self, captures: &Captures) -> bool
         ensures { result ≡ nat_lt 64 (sum_by (part_len captures.now) self.now) }
     {
         let mut room = MAX_COMPONENTS;
