@@ -10,6 +10,7 @@ pub mod Lists
 pub mod Matches
 pub mod OneCheck
 pub mod OneDecision
+pub mod SomeDecision
 pub mod Outcomes
 pub mod Outlines
 pub mod Parted

@@ -27,5 +27,6 @@ pub mod Seen
 pub mod Locator
 pub mod Checks
 pub mod Decides
+pub mod Decided
 pub mod Signer
 pub mod Limits

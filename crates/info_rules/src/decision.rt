@@ -7,6 +7,7 @@ ghost use Rattle.info_rules.specs.Rule.{PlainRule};
 ghost use Rattle.info_rules.specs.Decides.{IsGreater, IsPassed, IsGreatest, Allow, Deny, Expands, AnyExpands, Decides};
 ghost use Rattle.ndn_names.specs.View.{components};
 ghost use Rattle.info_rules.specs.Shown.{seen_of, signed_of};
+ghost use Rattle.info_rules.specs.Decided.{IsDecided};
 ghost use Rattle.info_rules.specs.Signer.{NamesItsSigner};
 
 use crate::checks::check;
@@ -198,6 +199,13 @@ pub fn decisions_are_unique()
     ensures { (rules : List PlainRule) (keys : List NamedKey) (packet : PlainFrame) (a b : Decision)
         → AreApart keys
         → Decides rules keys packet a → Decides rules keys packet b → a ≡ b }
+{}
+
+/// Law: no Interest and no Data is without a decision. So each has exactly one.
+pub fn no_packet_is_undecided()
+    ensures { (rules : List PlainRule) (keys : List NamedKey) (packet : PlainFrame)
+        → IsDecided packet
+        → ¬ ((decision : Decision) → ¬ Decides rules keys packet decision) }
 {}
 
 /// Law: an allowed packet says who signed it: anybody, by DigestSha256, or the owner of a key of

@@ -33,7 +33,10 @@ mod value_words;
 mod walk;
 mod words;
 
-pub use decision::{Decision, Reason, allowed_packets_name_their_signer, decisions_are_unique};
+pub use decision::{
+    Decision, Reason, allowed_packets_name_their_signer, decisions_are_unique,
+    no_packet_is_undecided,
+};
 pub use fault::{RulesFault, RulesFaultKind};
 pub use locator::{hierarchical_keys_match_a_pattern, hierarchical_text_spells_its_pattern};
 pub use packet::{Packet, read_packets_have_a_shape};
