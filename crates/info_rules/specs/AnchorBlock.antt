@@ -1,6 +1,6 @@
 -- Blocks of trust anchors, of which only the type is looked at.
 use Rattle.std.specs.Prelude.{ℕ, List, None}
-use Rattle.info_rules.specs.declared.table.Block.TheVariants.{Anchor}
+use Rattle.info_rules.specs.Blocks.{Anchor}
 use Rattle.info_rules.specs.Tree.{Block}
 use Rattle.info_rules.specs.Faults.{after}
 use Rattle.info_rules.specs.Found.{Found, beside, needed}

@@ -5,8 +5,8 @@ use Rattle.info_rules.specs.declared.rule.Checker.{Checker}
 use Rattle.info_rules.specs.declared.rule.Checker.TheVariants as checkers
 use Rattle.info_rules.specs.declared.rule.LocatorTest.{LocatorTest}
 use Rattle.info_rules.specs.declared.rule.LocatorTest.TheVariants as locators
-use Rattle.info_rules.specs.declared.table.Block.{Block as BlockKind}
-use Rattle.info_rules.specs.declared.table.Block.TheVariants as blocks
+use Rattle.info_rules.specs.Blocks.{BlockKind}
+use Rattle.info_rules.specs.Blocks as blocks
 use Rattle.info_rules.specs.declared.value_words.CheckerType.{CheckerType}
 use Rattle.info_rules.specs.declared.value_words.CheckerType.TheVariants.{Customized, Hierarchical}
 use Rattle.info_rules.specs.declared.value_words.SignatureType.{SignatureType}

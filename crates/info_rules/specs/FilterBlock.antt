@@ -2,7 +2,7 @@
 use Rattle.std.specs.Prelude.{ℕ, List, None}
 use Rattle.info_rules.specs.declared.rule.NameTest.{NameTest}
 use Rattle.info_rules.specs.declared.form.Tested.TheVariants.{PacketName}
-use Rattle.info_rules.specs.declared.table.Block.TheVariants.{Filter}
+use Rattle.info_rules.specs.Blocks.{Filter}
 use Rattle.info_rules.specs.Tree.{Block}
 use Rattle.info_rules.specs.Faults.{after}
 use Rattle.info_rules.specs.Found.{Found, beside, then_made}

@@ -6,7 +6,7 @@ use Rattle.name_patterns.specs.PatternReading.{pattern_in}
 use Rattle.name_patterns.specs.TemplateReading.{template_in}
 use Rattle.info_rules.specs.declared.fault.RulesFaultKind.TheVariants.{BadValue, Pattern}
 use Rattle.info_rules.specs.declared.rule.Relation.{Relation}
-use Rattle.info_rules.specs.declared.table.Block.TheVariants as blocks
+use Rattle.info_rules.specs.Blocks as blocks
 use Rattle.info_rules.specs.Hyper.{PlainHyper}
 use Rattle.info_rules.specs.Tree.{Block}
 use Rattle.info_rules.specs.Faults.{after}

@@ -10,6 +10,7 @@ pub mod Found
 pub mod Keys
 pub mod ValueWords
 pub mod Values
+pub mod Blocks
 pub mod Table
 pub mod Walk
 pub mod NameTest

@@ -4,7 +4,7 @@ use Rattle.info_rules.specs.declared.rule.LocatorTest.{LocatorTest}
 use Rattle.info_rules.specs.declared.rule.LocatorTest.TheVariants.{Name, Hyper}
 use Rattle.info_rules.specs.declared.form.Tested.TheVariants.{KeyName}
 use Rattle.info_rules.specs.declared.form.Form.TheVariants as forms
-use Rattle.info_rules.specs.declared.table.Block.TheVariants.{Locator}
+use Rattle.info_rules.specs.Blocks.{Locator}
 use Rattle.info_rules.specs.Hyper.{PlainHyper}
 use Rattle.info_rules.specs.Tree.{Block}
 use Rattle.info_rules.specs.Faults.{after}

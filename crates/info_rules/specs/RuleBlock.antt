@@ -4,7 +4,7 @@ use Rattle.info_rules.specs.declared.fault.RulesFaultKind.TheVariants.{BadValue}
 use Rattle.info_rules.specs.declared.rule.Kind.{Kind}
 use Rattle.info_rules.specs.declared.rule.NameTest.{NameTest}
 use Rattle.info_rules.specs.declared.rule.Checker.{Checker}
-use Rattle.info_rules.specs.declared.table.Block.TheVariants as blocks
+use Rattle.info_rules.specs.Blocks as blocks
 use Rattle.info_rules.specs.Rule.{PlainRule}
 use Rattle.info_rules.specs.Tree.{Block}
 use Rattle.info_rules.specs.Faults.{after}

@@ -3,7 +3,7 @@ use Rattle.std.specs.Prelude.{ℕ, List, [], ◌∷◌, ◌++◌, length, Option
 use Rattle.std.specs.List.{flat_map}
 use Rattle.info_rules.specs.declared.fault.RulesFault.{RulesFault}
 use Rattle.info_rules.specs.declared.fault.RulesFaultKind.TheVariants.{TwiceNamed}
-use Rattle.info_rules.specs.declared.table.Block.TheVariants.{File}
+use Rattle.info_rules.specs.Blocks.{File}
 use Rattle.info_rules.specs.Tree.{PlainEntry, Block, blocks_of}
 use Rattle.info_rules.specs.Rule.{PlainRule}
 use Rattle.info_rules.specs.Faults.{after}

@@ -10,6 +10,15 @@ use Rattle.info_rules.specs.Words.{Token, Word, Open, Close, Broken}
 use Rattle.info_rules.specs.TreeReading.{PlainDraft}
 use Rattle.info_rules.specs.Rule.{PlainRule}
 use Rattle.info_rules.specs.declared.table.Form.{Form}
+use Rattle.info_rules.specs.declared.table.Block.{Block as BlockView}
+use Rattle.info_rules.specs.declared.table.Block.TheVariants as block_views
+use Rattle.info_rules.specs.declared.table.Takes.{Takes as TakesView}
+use Rattle.info_rules.specs.declared.table.Takes.TheVariants as takes_views
+use Rattle.info_rules.specs.declared.table.Times.{Times as TimesView}
+use Rattle.info_rules.specs.declared.table.Times.TheVariants as times_views
+use Rattle.info_rules.specs.declared.value_kind.ValueKind.{ValueKind as ValueView}
+use Rattle.info_rules.specs.declared.value_kind.ValueKind.TheVariants as value_views
+use Rattle.info_rules.specs.Blocks as blocks
 use Rattle.info_rules.specs.Table.{PlainForm}
 use Rattle.info_rules.specs.declared.keys.Key.{Key}
 use Rattle.info_rules.specs.declared.keys.Keys.{Keys}
@@ -60,8 +69,39 @@ key_of key = (entry_of key.own.now, map entry_of key.inner.now)
 abbrev pub keys_of : Keys → List Block
 keys_of keys = blocks_of keys.depth (map entry_of keys.entries.now)
 
+abbrev pub block_kind_of : BlockView → blocks.BlockKind
+block_kind_of block_views.File = blocks.File
+block_kind_of block_views.Anchor = blocks.Anchor
+block_kind_of block_views.Rule = blocks.Rule
+block_kind_of block_views.Filter = blocks.Filter
+block_kind_of block_views.Customized = blocks.Customized
+block_kind_of block_views.Hierarchical = blocks.Hierarchical
+block_kind_of block_views.Locator = blocks.Locator
+block_kind_of block_views.Hyper = blocks.Hyper
+
+abbrev pub value_kind_of : ValueView → blocks.ValueKind
+value_kind_of value_views.Id = blocks.Id
+value_kind_of value_views.PacketKind = blocks.PacketKind
+value_kind_of value_views.NameWord = blocks.NameWord
+value_kind_of value_views.Uri = blocks.Uri
+value_kind_of value_views.Relation = blocks.Relation
+value_kind_of value_views.Pattern = blocks.Pattern
+value_kind_of value_views.Template = blocks.Template
+value_kind_of value_views.CheckerType = blocks.CheckerType
+value_kind_of value_views.SignatureType = blocks.SignatureType
+value_kind_of value_views.AnchorType = blocks.AnchorType
+
+abbrev pub takes_of : TakesView → blocks.Takes
+takes_of (takes_views.Value kind) = blocks.Value (value_kind_of kind)
+takes_of takes_views.Inner = blocks.Inner
+
+abbrev pub times_of : TimesView → blocks.Times
+times_of times_views.Once = blocks.Once
+times_of (times_views.UpTo most) = blocks.UpTo most
+times_of times_views.AnyNumber = blocks.AnyNumber
+
 abbrev pub form_of : Form → PlainForm
-form_of form = record { word = form.0.now; takes = form.1; times = form.2 }
+form_of form = record { word = form.0.now; takes = takes_of form.1; times = times_of form.2 }
 
 abbrev pub frame_of : Packet → PlainFrame
 frame_of (packets.Interest i) = AnInterest i.now.whole.now (plain_interest i.now)

@@ -1,12 +1,8 @@
 -- The table of the blocks of a rule file: which keys each has.
 use Rattle.std.specs.Prelude.{ℕ, List, [], ◌∷◌, Bool, true, false, codes}
-use Rattle.info_rules.specs.declared.table.Block.{Block}
-use Rattle.info_rules.specs.declared.table.Block.TheVariants as blocks
-use Rattle.info_rules.specs.declared.table.Times.{Times}
-use Rattle.info_rules.specs.declared.table.Times.TheVariants.{Once, UpTo, AnyNumber}
-use Rattle.info_rules.specs.declared.table.Takes.{Takes}
-use Rattle.info_rules.specs.declared.table.Takes.TheVariants.{Value, Inner}
-use Rattle.info_rules.specs.declared.value_kind.ValueKind.TheVariants.{Id, PacketKind, NameWord, Uri, Relation, Pattern, Template, CheckerType, SignatureType, AnchorType}
+use Rattle.info_rules.specs.Blocks as blocks
+use Rattle.info_rules.specs.Blocks.{BlockKind, Times, Once, UpTo, AnyNumber, Takes, Value, Inner}
+use Rattle.info_rules.specs.Blocks.{Id, PacketKind, NameWord, Uri, Relation, Pattern, Template, CheckerType, SignatureType, AnchorType}
 
 -- a key by its word, with what it takes, and how often it may stand in its block
 pub record PlainForm : Type 0 where
@@ -18,7 +14,7 @@ abbrev pub form : List ℕ → Takes → Times → PlainForm
 form word takes times = record { word = word; takes = takes; times = times }
 
 -- the keys of each block
-unfoldable pub table : Block → List PlainForm
+unfoldable pub table : BlockKind → List PlainForm
 table blocks.File =
     form (codes "rule") Inner (UpTo 256) ∷ form (codes "trust-anchor") Inner AnyNumber ∷ []
 table blocks.Anchor = form (codes "type") (Value AnchorType) Once ∷ []
@@ -44,7 +40,7 @@ table blocks.Hyper =
     ∷ form (codes "p-expand") (Value Template) Once ∷ []
 
 -- a trust anchor's other keys are not looked at
-abbrev pub is_closed : Block → Bool
+abbrev pub is_closed : BlockKind → Bool
 is_closed blocks.File = true
 is_closed blocks.Anchor = false
 is_closed blocks.Rule = true

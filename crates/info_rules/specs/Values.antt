@@ -3,8 +3,7 @@ use Rattle.std.specs.Prelude.{ℕ, List, Option, None, Some, is_some, Result, Ok
 use Rattle.ndn_names.specs.UriReading.{name_in}
 use Rattle.info_rules.specs.declared.fault.RulesFaultKind.{RulesFaultKind}
 use Rattle.info_rules.specs.declared.fault.RulesFaultKind.TheVariants.{BadValue, AnyAnchor}
-use Rattle.info_rules.specs.declared.value_kind.ValueKind.{ValueKind}
-use Rattle.info_rules.specs.declared.value_kind.ValueKind.TheVariants.{Id, PacketKind, NameWord, Uri, Relation, Pattern, Template, CheckerType, SignatureType, AnchorType}
+use Rattle.info_rules.specs.Blocks.{ValueKind, Id, PacketKind, NameWord, Uri, Relation, Pattern, Template, CheckerType, SignatureType, AnchorType}
 use Rattle.info_rules.specs.Tree.{Block}
 use Rattle.info_rules.specs.Keys.{on_option, first_of, named, value_of}
 use Rattle.info_rules.specs.ValueWords.{is_id, kind_in, relation_in, checker_type_in, signature_type_in, is_anchor_type}

@@ -4,11 +4,7 @@ use Rattle.std.specs.Prelude.{List, [], ◌∷◌, ◌++◌, Bool, false, if◌t
 use Rattle.std.specs.List.{flat_map, list_any}
 use Rattle.info_rules.specs.declared.fault.RulesFault.{RulesFault}
 use Rattle.info_rules.specs.declared.fault.RulesFaultKind.TheVariants.{UnknownKey, BadValue, TwiceNamed}
-use Rattle.info_rules.specs.declared.table.Block.{Block as BlockKind}
-use Rattle.info_rules.specs.declared.table.Times.{Times}
-use Rattle.info_rules.specs.declared.table.Times.TheVariants.{Once, UpTo, AnyNumber}
-use Rattle.info_rules.specs.declared.table.Takes.{Takes}
-use Rattle.info_rules.specs.declared.table.Takes.TheVariants.{Value, Inner}
+use Rattle.info_rules.specs.Blocks.{BlockKind, Times, Once, UpTo, AnyNumber, Takes, Value, Inner}
 use Rattle.info_rules.specs.Tree.{Block}
 use Rattle.info_rules.specs.Table.{PlainForm, table, is_closed}
 use Rattle.info_rules.specs.Keys.{on_option, is_word, named, others_of, value_of, fault_at, many_faults}

@@ -3,7 +3,7 @@
 ghost use Rattle.std.specs.Prelude.{◌≡◌, IfOk, codes};
 ghost use Rattle.info_rules.specs.Found.{each, shown, then_made, both as spec_both};
 ghost use Rattle.info_rules.specs.Keys.{first_of, named};
-ghost use Rattle.info_rules.specs.Shown.{key_of, keys_of};
+ghost use Rattle.info_rules.specs.Shown.{key_of, keys_of, block_kind_of};
 ghost use Rattle.info_rules.specs.CheckerBlock as spec;
 ghost use Rattle.info_rules.specs.CheckerBlock.{block_of, locators_of, checker_of, checker_in};
 
@@ -80,7 +80,7 @@ fn locators_of(alloc: Global, hierarchical: bool, keys: Keys<'_>) -> Read<Vec<Lo
 
 /// The keys of a checker: a hierarchical one has no key locator.
 fn block_of(hierarchical: bool) -> Block
-    ensures { result ≡ block_of hierarchical }
+    ensures { block_kind_of result ≡ block_of hierarchical }
 {
     if hierarchical {
         Block::Hierarchical

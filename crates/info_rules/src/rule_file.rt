@@ -16,6 +16,7 @@ ghost use Rattle.info_rules.specs.CheckerBlock.{checker_in};
 ghost use Rattle.info_rules.specs.RuleBlock.{rule_in};
 ghost use Rattle.info_rules.specs.Found.{AreRead};
 ghost use Rattle.info_rules.specs.Limits.{AreWithinLimits};
+ghost use Rattle.info_rules.specs.Blocks.{File};
 ghost use Rattle.info_rules.specs.Walk.{walk_faults};
 ghost use Rattle.info_rules.specs.RuleFile.{id_key, same_id_faults, repeated_faults, id_faults, shared_faults, rules_of_keys, rules_in};
 
@@ -104,7 +105,7 @@ fn judge_ids(keys: Keys<'_>, report: &mut Report)
 #[tactic(auto, using(crate::proofs::Reports::after_append, crate::proofs::Reports::after_none))]
 fn judge_file(alloc: Global, keys: Keys<'_>) -> Result<Option<RulesFault>, Memory>
     ensures { IfOk result (λ fault. fault ≡ after None
-        (walk_faults Block.File (keys_of keys.entry) ++ shared_faults (keys_of keys.entry))) }
+        (walk_faults File (keys_of keys.entry) ++ shared_faults (keys_of keys.entry))) }
 {
     let mut report = walk(alloc, Block::File, keys)?;
     if keys.count("rule") <= MAX_RULES {

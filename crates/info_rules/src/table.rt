@@ -93,12 +93,12 @@ const HYPER: [Form; 5] = [
 impl Block {
     ghost use Rattle.std.specs.Prelude.{◌≡◌, map};
     ghost use Rattle.info_rules.specs.Table.{table, is_closed};
-    ghost use Rattle.info_rules.specs.Shown.{form_of};
+    ghost use Rattle.info_rules.specs.Shown.{form_of, block_kind_of};
 
     /// Its keys.
     #[tactic(auto, unfolding(crate::specs::Table::table))]
     pub fn forms(self) -> &'static [Form]
-        ensures { map form_of result.now ≡ table self }
+        ensures { map form_of result.now ≡ table (block_kind_of self) }
     {
         match self {
             Block::File => &FILE,
@@ -114,7 +114,7 @@ impl Block {
 
     /// Whether it has no other keys.
     pub fn is_closed(self) -> bool
-        ensures { result ≡ is_closed self }
+        ensures { result ≡ is_closed (block_kind_of self) }
     {
         !matches!(self, Block::Anchor)
     }

@@ -2,6 +2,7 @@
 
 ghost use Rattle.std.specs.Prelude.{◌≡◌, IfOk};
 ghost use Rattle.info_rules.specs.Values.{is_value};
+ghost use Rattle.info_rules.specs.Shown.{value_kind_of};
 
 use crate::readers::name_of;
 use crate::value_words::{
@@ -40,7 +41,7 @@ impl ValueKind {
     /// pattern or template is another fault.
     #[tactic(auto, unfolding(crate::specs::Values::is_value))]
     pub fn is_value(self, alloc: Global, text: &str) -> Result<bool, Memory>
-        ensures { IfOk result (λ right. right ≡ is_value self text.now) }
+        ensures { IfOk result (λ right. right ≡ is_value (value_kind_of self) text.now) }
     {
         Ok(match self {
             ValueKind::Id => is_id(text),

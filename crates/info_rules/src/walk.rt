@@ -6,7 +6,7 @@ ghost use Rattle.info_rules.specs.Faults.{after};
 ghost use Rattle.info_rules.specs.Table.{table};
 ghost use Rattle.info_rules.specs.Keys.{is_word, named, others_of};
 ghost use Rattle.info_rules.specs.Walk.{unknown_faults, value_faults, again_wrong, again_faults, times_faults, walk_faults};
-ghost use Rattle.info_rules.specs.Shown.{key_of, keys_of, form_of};
+ghost use Rattle.info_rules.specs.Shown.{key_of, keys_of, form_of, takes_of, block_kind_of};
 
 use crate::fault::RulesFaultKind;
 use crate::keys::{Key, Keys};
@@ -47,7 +47,7 @@ fn judge_unknown(forms: &[Form], keys: Keys<'_>, report: &mut Report)
 
 /// Whether a second key is wrong by itself.
 fn is_right(alloc: Global, takes: Takes, key: Key<'_>) -> Result<bool, Memory>
-    ensures { IfOk result (λ right. again_wrong takes (key_of key.entry)
+    ensures { IfOk result (λ right. again_wrong (takes_of takes) (key_of key.entry)
         ≡ value_faults right (key_of key.entry)) }
 {
     match takes {
@@ -63,7 +63,8 @@ fn is_right(alloc: Global, takes: Takes, key: Key<'_>) -> Result<bool, Memory>
 /// Notes a second key.
 #[tactic(auto, using(crate::proofs::Reports::after_append, crate::proofs::Reports::after_none), unfolding(crate::specs::Faults::after))]
 fn judge_again(alloc: Global, takes: Takes, key: Key<'_>, report: &mut Report) -> Result<(), Memory>
-    ensures { OnOk result (report.new ≡ after report.old (again_faults takes (key_of key.entry))) }
+    ensures { OnOk result (report.new
+        ≡ after report.old (again_faults (takes_of takes) (key_of key.entry))) }
 {
     if !is_right(alloc, takes, key)? {
         report.note(key.line(), RulesFaultKind::BadValue);
@@ -81,7 +82,7 @@ fn judge_second(
     report: &mut Report,
 ) -> Result<(), Memory>
     ensures { OnOk result (report.new ≡ after report.old
-        (flat_map (again_faults form.now.1)
+        (flat_map (again_faults (takes_of form.now.1))
         (others_of (named form.now.0.now (keys_of keys.entry))))) }
 {
     let mut left = keys.after_first(form.0);
@@ -138,7 +139,7 @@ fn judge_all_times(
 #[tactic(auto, using(crate::proofs::Reports::after_append, crate::proofs::Reports::after_none), unfolding(crate::specs::Walk::walk_faults))]
 pub fn walk(alloc: Global, block: Block, keys: Keys<'_>) -> Result<Report, Memory>
     ensures { IfOk result
-        (λ report. report ≡ after None (walk_faults block (keys_of keys.entry))) }
+        (λ report. report ≡ after None (walk_faults (block_kind_of block) (keys_of keys.entry))) }
 {
     let mut report = Report::new();
     if block.is_closed() {
