@@ -1,7 +1,7 @@
 -- Blocks of filters.
 use Rattle.std.specs.Prelude.{ℕ, List, None}
 use Rattle.info_rules.specs.declared.rule.NameTest.{NameTest}
-use Rattle.info_rules.specs.declared.form.Tested.TheVariants.{PacketName}
+use Rattle.info_rules.specs.Forms.{PacketName}
 use Rattle.info_rules.specs.Blocks.{Filter}
 use Rattle.info_rules.specs.Tree.{Block}
 use Rattle.info_rules.specs.Faults.{after}

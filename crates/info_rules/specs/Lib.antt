@@ -13,6 +13,7 @@ pub mod Values
 pub mod Blocks
 pub mod Table
 pub mod Walk
+pub mod Forms
 pub mod NameTest
 pub mod FilterBlock
 pub mod HyperBlock

@@ -2,8 +2,8 @@
 use Rattle.std.specs.Prelude.{ℕ, List, Option, None, Some, is_some, Ok, Bool, not, codes}
 use Rattle.info_rules.specs.declared.rule.LocatorTest.{LocatorTest}
 use Rattle.info_rules.specs.declared.rule.LocatorTest.TheVariants.{Name, Hyper}
-use Rattle.info_rules.specs.declared.form.Tested.TheVariants.{KeyName}
-use Rattle.info_rules.specs.declared.form.Form.TheVariants as forms
+use Rattle.info_rules.specs.Forms as forms
+use Rattle.info_rules.specs.Forms.{KeyName}
 use Rattle.info_rules.specs.Blocks.{Locator}
 use Rattle.info_rules.specs.Hyper.{PlainHyper}
 use Rattle.info_rules.specs.Tree.{Block}

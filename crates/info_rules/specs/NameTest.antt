@@ -10,10 +10,8 @@ use Rattle.name_patterns.specs.Pattern.{PlainPattern}
 use Rattle.info_rules.specs.declared.rule.Relation.{Relation}
 use Rattle.info_rules.specs.declared.rule.NameTest.{NameTest}
 use Rattle.info_rules.specs.declared.rule.NameTest.TheVariants.{Related, Matching}
-use Rattle.info_rules.specs.declared.form.Form.{Form}
-use Rattle.info_rules.specs.declared.form.Form.TheVariants as forms
-use Rattle.info_rules.specs.declared.form.Tested.{Tested}
-use Rattle.info_rules.specs.declared.form.Tested.TheVariants.{PacketName, KeyName}
+use Rattle.info_rules.specs.Forms as forms
+use Rattle.info_rules.specs.Forms.{Form, Tested, PacketName, KeyName}
 use Rattle.info_rules.specs.Tree.{Block}
 use Rattle.info_rules.specs.Found.{Found, both, beside, needed, shown}
 use Rattle.info_rules.specs.Keys.{on_option, first_of, is_word, is_there, missing_unless}

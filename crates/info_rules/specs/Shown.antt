@@ -1,5 +1,5 @@
 -- What private parts show.
-use Rattle.std.specs.Prelude.{map, string_bytes, List, ◌++◌}
+use Rattle.std.specs.Prelude.{ℕ, map, string_bytes, List, ◌++◌}
 use Rattle.std.specs.Option.{option_map}
 use Rattle.info_rules.specs.declared.entry.Entry.{Entry}
 use Rattle.info_rules.specs.declared.rule.Rule.{Rule}
@@ -18,7 +18,12 @@ use Rattle.info_rules.specs.declared.table.Times.{Times as TimesView}
 use Rattle.info_rules.specs.declared.table.Times.TheVariants as times_views
 use Rattle.info_rules.specs.declared.value_kind.ValueKind.{ValueKind as ValueView}
 use Rattle.info_rules.specs.declared.value_kind.ValueKind.TheVariants as value_views
+use Rattle.info_rules.specs.declared.form.Tested.{Tested as TestedView}
+use Rattle.info_rules.specs.declared.form.Tested.TheVariants as tested_views
+use Rattle.info_rules.specs.declared.form.Form.{Form as NameFormView}
+use Rattle.info_rules.specs.declared.form.Form.TheVariants as name_form_views
 use Rattle.info_rules.specs.Blocks as blocks
+use Rattle.info_rules.specs.Forms as forms
 use Rattle.info_rules.specs.Table.{PlainForm}
 use Rattle.info_rules.specs.declared.keys.Key.{Key}
 use Rattle.info_rules.specs.declared.keys.Keys.{Keys}
@@ -99,6 +104,19 @@ abbrev pub times_of : TimesView → blocks.Times
 times_of times_views.Once = blocks.Once
 times_of (times_views.UpTo most) = blocks.UpTo most
 times_of times_views.AnyNumber = blocks.AnyNumber
+
+abbrev pub tested_of : TestedView → forms.Tested
+tested_of tested_views.PacketName = forms.PacketName
+tested_of tested_views.KeyName = forms.KeyName
+
+abbrev pub name_form_of : NameFormView → forms.Form
+name_form_of name_form_views.Related = forms.Related
+name_form_of name_form_views.Matching = forms.Matching
+name_form_of name_form_views.Hyper = forms.Hyper
+
+-- a form with the line of its key
+abbrev pub found_form_of : NameFormView × ℕ → forms.Form × ℕ
+found_form_of found = (name_form_of found.0, found.1)
 
 abbrev pub form_of : Form → PlainForm
 form_of form = record { word = form.0.now; takes = takes_of form.1; times = times_of form.2 }

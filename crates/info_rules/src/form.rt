@@ -24,11 +24,12 @@ pub enum Tested {
 
 impl Tested {
     ghost use Rattle.std.specs.Prelude.{◌≡◌};
+    ghost use Rattle.std.specs.Option.{option_map};
     ghost use Rattle.info_rules.specs.NameTest.{tests_key, form_of};
-    ghost use Rattle.info_rules.specs.Shown.{key_of};
+    ghost use Rattle.info_rules.specs.Shown.{key_of, tested_of, name_form_of};
 
     fn is_key_name(self) -> bool
-        ensures { result ≡ tests_key self }
+        ensures { result ≡ tests_key (tested_of self) }
     {
         match self {
             Tested::PacketName => false,
@@ -39,7 +40,7 @@ impl Tested {
     /// The form that a key is of, if it is of one.
     #[tactic(auto, unfolding(crate::specs::NameTest::form_of))]
     fn form_of(self, key: Key<'_>) -> Option<Form>
-        ensures { result ≡ form_of self (key_of key.entry) }
+        ensures { option_map name_form_of result ≡ form_of (tested_of self) (key_of key.entry) }
     {
         if key.is("name") || key.is("relation") {
             return Some(Form::Related);
@@ -56,11 +57,13 @@ impl Tested {
 
 impl Form {
     ghost use Rattle.std.specs.Prelude.{◌≡◌};
+    ghost use Rattle.std.specs.Option.{option_map};
     ghost use Rattle.info_rules.specs.NameTest.{is_form, is_other};
+    ghost use Rattle.info_rules.specs.Shown.{name_form_of};
 
     /// Whether it is this form.
     fn is(self, other: Form) -> bool
-        ensures { result ≡ is_form other self }
+        ensures { result ≡ is_form (name_form_of other) (name_form_of self) }
     {
         match other {
             Form::Related => matches!(self, Form::Related),
@@ -71,7 +74,7 @@ impl Form {
 
     /// Whether it is no such form.
     fn is_not(self, other: Option<Form>) -> bool
-        ensures { result ≡ is_other other self }
+        ensures { result ≡ is_other (option_map name_form_of other) (name_form_of self) }
     {
         match other {
             Some(other) => !self.is(other),
@@ -81,12 +84,14 @@ impl Form {
 }
 
 ghost use Rattle.std.specs.Prelude.{◌≡◌};
+ghost use Rattle.std.specs.Option.{option_map};
 ghost use Rattle.info_rules.specs.NameTest.{other_form_of, first_other};
-ghost use Rattle.info_rules.specs.Shown.{key_of, keys_of};
+ghost use Rattle.info_rules.specs.Shown.{key_of, keys_of, tested_of, name_form_of, found_form_of};
 
 /// The form and the line of a key that is of a form, but not of this one.
 fn other_form_of(tested: Tested, other: Option<Form>, key: Key<'_>) -> Option<(Form, u32)>
-    ensures { result ≡ other_form_of tested other (key_of key.entry) }
+    ensures { option_map found_form_of result
+        ≡ other_form_of (tested_of tested) (option_map name_form_of other) (key_of key.entry) }
 {
     let form = tested.form_of(key)?;
     if form.is_not(other) {
@@ -97,7 +102,8 @@ fn other_form_of(tested: Tested, other: Option<Form>, key: Key<'_>) -> Option<(F
 
 /// The form and the line of the first such key.
 pub fn first_other(tested: Tested, other: Option<Form>, keys: Keys<'_>) -> Option<(Form, u32)>
-    ensures { result ≡ first_other tested other (keys_of keys.entry) }
+    ensures { option_map found_form_of result
+        ≡ first_other (tested_of tested) (option_map name_form_of other) (keys_of keys.entry) }
 {
     let mut left = keys;
     while let Some((key, others)) = left.split_first() {

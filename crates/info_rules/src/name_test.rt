@@ -1,7 +1,7 @@
 //! What the blocks of filters and key locators ask of a name.
 
 ghost use Rattle.std.specs.Prelude.{◌≡◌, IfOk};
-ghost use Rattle.info_rules.specs.Shown.{keys_of};
+ghost use Rattle.info_rules.specs.Shown.{keys_of, tested_of, name_form_of};
 ghost use Rattle.info_rules.specs.NameTest as spec;
 
 use crate::fault::{RulesFault, RulesFaultKind};
@@ -19,7 +19,7 @@ pub type Names = ((Option<NameBuf>, Option<Relation>), Option<Pattern>);
 
 /// What a block lacks that has keys of this form alone.
 fn half_fault(line: u32, keys: Keys<'_>, form: Form) -> Option<RulesFault>
-    ensures { result ≡ spec.half_fault line (keys_of keys.entry) form }
+    ensures { result ≡ spec.half_fault line (keys_of keys.entry) (name_form_of form) }
 {
     match form {
         Form::Related => missing_unless(keys.has("name") && keys.has("relation"), line),
@@ -29,7 +29,8 @@ fn half_fault(line: u32, keys: Keys<'_>, form: Form) -> Option<RulesFault>
 
 /// The fault of the first key of a second form, or else of what the first form lacks.
 fn second_fault(tested: Tested, line: u32, keys: Keys<'_>, form: Form) -> Option<RulesFault>
-    ensures { result ≡ spec.second_fault tested line (keys_of keys.entry) form }
+    ensures { result
+        ≡ spec.second_fault (tested_of tested) line (keys_of keys.entry) (name_form_of form) }
 {
     match first_other(tested, Some(form), keys) {
         Some((_, second)) => Some(RulesFault {
@@ -43,7 +44,7 @@ fn second_fault(tested: Tested, line: u32, keys: Keys<'_>, form: Form) -> Option
 /// What is wrong with the forms in the block of a key on this line: it needs one.
 #[tactic(auto, unfolding(crate::specs::NameTest::form_fault))]
 fn form_fault(tested: Tested, line: u32, keys: Keys<'_>) -> Option<RulesFault>
-    ensures { result ≡ spec.form_fault tested line (keys_of keys.entry) }
+    ensures { result ≡ spec.form_fault (tested_of tested) line (keys_of keys.entry) }
 {
     match first_other(tested, None, keys) {
         Some((form, _)) => second_fault(tested, line, keys, form),
@@ -64,7 +65,8 @@ fn read_names(alloc: Global, keys: Keys<'_>) -> Read<Names>
 /// What the keys in the block of a key on this line ask of a name, in one form.
 #[tactic(auto, unfolding(crate::specs::NameTest::asked_in))]
 pub fn read_asked(alloc: Global, tested: Tested, line: u32, keys: Keys<'_>) -> Read<Names>
-    ensures { IfOk result (λ found. found ≡ spec.asked_in tested line (keys_of keys.entry)) }
+    ensures { IfOk result
+        (λ found. found ≡ spec.asked_in (tested_of tested) line (keys_of keys.entry)) }
 {
     let word = needed(line, read_name_word(keys, "type"));
     let names = read_names(alloc, keys)?;
