@@ -5,7 +5,8 @@ use name_patterns::{Pattern, PatternFault, Template};
 use ndn_names::{Name, NameBuf, NameFault};
 use std::alloc::Global;
 
-/// What a template, read for a pattern, makes of a name, if the pattern matches it.
+/// What a template, read for a pattern, makes of a name, if the pattern matches it and the template
+/// tells rightly whether the name is too long.
 fn expanded(
     alloc: Global,
     pattern: &Pattern,
@@ -15,7 +16,12 @@ fn expanded(
     let template = Template::read(alloc, template, pattern.groups())?;
     match pattern.matches(name) {
         None => Ok(None),
-        Some(captures) => Ok(Some(template.expand(alloc, &captures, name))),
+        Some(captures) => {
+            let made = template.expand(alloc, &captures, name);
+            let is_refused = matches!(made, Err(NameFault::TooManyComponents));
+            let is_told = template.is_too_long(&captures) == is_refused;
+            Ok(is_told.then_some(made))
+        }
     }
 }
 

@@ -1,4 +1,4 @@
 use Rattle.conformance.proofs.patterns.templates.expanded.Goals as goal
 
-pub expand-requires : goal.expand-requires
-expand-requires c = c.in-Some.ensures.there c.in_ok-template.template (rw c.groups.ensures.exact at c.in_ok-template.ensures.groups)
+pub expand-made-requires : goal.expand-made-requires
+expand-made-requires c = c.in-Some.ensures.there c.in_ok-template.template (rw c.groups.ensures.exact at c.in_ok-template.ensures.groups)
