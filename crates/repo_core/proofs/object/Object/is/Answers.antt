@@ -1,0 +1,13 @@
+use Rattle.std.proofs.Common.{sym, ap, ◌∙◌}
+use Rattle.std.proofs.lemmas.Slice.Eq.{slice_eq-Decides}
+use Rattle.std.proofs.lemmas.Bool.Decides.{Decides-eqb}
+use Rattle.repo_core.proofs.FullNames.{is_that}
+use Rattle.repo_core.proofs.object.Object.is.Goals as goal
+
+pub returns : goal.returns
+returns c = λ name h.
+    let same = slice_eq-Decides Decides-eqb _ _ _ c.eq.ensures in
+    let that = is_that c.self.inside.full_name.items c.args.octets.now name c.self.invariant.0 h in (
+      λ t. ap (λ o. o.0) (sym c.self.view_is) ∙ that.0 (sym c.as_slice.ensures.value ∙ same.0 t),
+      λ e. same.1 (c.as_slice.ensures.value ∙ that.1 (ap (λ o. o.0) c.self.view_is ∙ e)),
+    )

@@ -1,0 +1,11 @@
+use Rattle.std.proofs.Common.{◌≡◌, length, vec_len, ap, sym, ◌∙◌, rules}
+use Rattle.std.specs.FinMap.{len}
+use Rattle.repo_core.specs.Wants.{want_cmp}
+use Rattle.repo_core.proofs.Rows.{len-from_sorted}
+use Rattle.repo_core.proofs.wants.Wants.len.Goals as goal
+
+pub returns : goal.returns
+returns c =
+    let rows = c.self.inside.rows.items in
+    let count : vec_len c.self.inside.rows ≡ length rows = search rules in
+    c.len.ensures ∙ count ∙ sym (len-from_sorted want_cmp rows c.self.invariant.0) ∙ ap len c.self.view_is

@@ -1,0 +1,59 @@
+-- The Data that a repository stores (NDN Packet Format 0.3, "Name", "Implicit Digest Component").
+use Rattle.std.specs.Prelude.{ℕ, ◌==◌, List, [], ◌∷◌, length, drop, filter, not, Bool, true, false, ◌&&◌, ◌||◌, Option, None, Some}
+use Rattle.std.specs.declared.cmp.Ordering.{Ordering}
+use Rattle.std.specs.FinMap.{FinMap, entries, from_sorted}
+use Rattle.sha2.specs.Sha256.{sha256}
+use Rattle.ndn_tlv.specs.Element.{Field}
+use Rattle.ndn_names.specs.Order.{name_cmp}
+use Rattle.ndn_names.specs.declared.component_type.TheConstants.{IMPLICIT_SHA256_DIGEST}
+use Rattle.ndn_names.specs.View.{components}
+use Rattle.ndn_packets.specs.Answers.{begins_with, full_name}
+use Rattle.ndn_packets.specs.declared.data.Data.{Data}
+
+-- the octets of Data by their full names, in canonical order
+abbrev pub Objects : Type 0
+Objects = FinMap name_cmp (List ℕ)
+
+-- a Data as it is stored: its full name and its octets
+abbrev pub object_of : Data → List Field × List ℕ
+object_of d = (full_name (components d.name) (sha256 d.whole.now), d.whole.now)
+
+-- the map of the entries that pass a test
+unfoldable pub kept : {K X : Type 0} {R : K → K → Ordering} → (K × X → Bool) → FinMap R X
+    → FinMap R X
+kept test m = from_sorted (filter test (entries m))
+
+-- nothing, or a digest
+abbrev pub is_digest_alone : List Field → Bool
+is_digest_alone [] = true
+is_digest_alone (c ∷ []) = c.0 == IMPLICIT_SHA256_DIGEST
+is_digest_alone (c ∷ (d ∷ cs)) = false
+
+-- The Data of a full name answers an Interest of this name: the full name begins with it, and after
+-- it stands nothing, or the digest alone or, with CanBePrefix, anything.
+abbrev pub full_name_answers : List Field → Bool → List Field → Bool
+full_name_answers name can_be_prefix full =
+    begins_with name full && (can_be_prefix || is_digest_alone (drop (length name) full))
+
+-- the objects that answer an Interest, in canonical order of their full names
+abbrev pub answering : List Field → Bool → List (List Field × List ℕ)
+    → List (List Field × List ℕ)
+answering name can_be_prefix rows =
+    filter (λ o. full_name_answers name can_be_prefix o.0) rows
+
+-- how many answer
+abbrev pub number_of : List Field → Bool → Objects → ℕ
+number_of name can_be_prefix objects = length (answering name can_be_prefix (entries objects))
+
+abbrev pub first_octets : List (List Field × List ℕ) → Option (List ℕ)
+first_octets [] = None
+first_octets (o ∷ os) = Some o.1
+
+-- the octets of the one of the least full name that answers
+abbrev pub served : List Field → Bool → Objects → Option (List ℕ)
+served name can_be_prefix objects = first_octets (answering name can_be_prefix (entries objects))
+
+-- without those that answer
+abbrev pub without_answering : List Field → Bool → Objects → Objects
+without_answering name can_be_prefix objects =
+    kept (λ o. not (full_name_answers name can_be_prefix o.0)) objects

@@ -1,0 +1,116 @@
+-- Reading a command's name: after the repository's prefix stand the verb, the parameters and the
+-- digest of the Interest's parameters.
+use Rattle.std.specs.Prelude.{ℕ, ◌+◌, List, [], ◌∷◌, length, drop, Bool, true, false, not, is_ok, ◌==◌, ◌&&◌, Option, None, Some, Result, Ok, Err, unwrap_or, slice_get, if◌then◌else◌}
+use Rattle.std.specs.Option.{option_map}
+use Rattle.std.specs.List.{list_all}
+use Rattle.ndn_tlv.specs.declared.fault.TlvFault.{TlvFault}
+use Rattle.ndn_tlv.specs.Element.{Field}
+use Rattle.ndn_tlv.specs.Reading.{elements_of, nni_at, on_result}
+use Rattle.ndn_names.specs.declared.component_type.TheConstants.{GENERIC, PARAMETERS_SHA256_DIGEST}
+use Rattle.ndn_names.specs.Reading.{name_at}
+use Rattle.ndn_names.specs.View.{components}
+use Rattle.ndn_packets.specs.Answers.{begins_with}
+use Rattle.repo_core.specs.declared.verb.Verb.{Verb}
+use Rattle.repo_core.specs.declared.command.Asked.{Asked}
+use Rattle.repo_core.specs.declared.types.TheConstants.{CAN_BE_PREFIX, DEFAULT_LIFETIME, INTEREST_LIFETIME, NAME, PARAMETERS}
+use Rattle.repo_core.specs.Commands.{verb_named}
+
+-- what a command asks for: the Data that answer an Interest of this name and flag
+pub record PlainCommand : Type 0 where
+  pub verb : Verb
+  pub name : List Field
+  pub can_be_prefix : Bool
+  -- how long they are wanted, in milliseconds
+  pub lifetime : ℕ
+
+abbrev pub asked : Asked → PlainCommand
+asked a = record {
+  verb = a.verb;
+  name = components a.name;
+  can_be_prefix = a.can_be_prefix;
+  lifetime = a.lifetime;
+}
+
+infixl 10 ◌>>=◌
+abbrev pub ◌>>=◌ : {A B : Type 0} → Option A → (A → Option B) → Option B
+None >>= f = None
+(Some x) >>= f = f x
+
+-- ---- fields
+
+abbrev pub Elements : Type 0
+Elements = List (Result Field TlvFault)
+
+abbrev pub can_be_read : Result Field TlvFault → Bool
+can_be_read (Ok e) = true
+can_be_read (Err fault) = false
+
+-- the value of the first field of a type
+abbrev pub first_of : ℕ → Elements → Option (List ℕ)
+first_of kind [] = None
+first_of kind (Err fault ∷ es) = None
+first_of kind (Ok e ∷ es) = if e.0 == kind then Some e.1 else first_of kind es
+
+-- the value of the one element that is there, of this type
+abbrev pub single : ℕ → Elements → Option (List ℕ)
+single kind [] = None
+single kind (Err fault ∷ es) = None
+single kind (Ok e ∷ []) = if e.0 == kind then Some e.1 else None
+single kind (Ok e ∷ (f ∷ es)) = None
+
+abbrev pub name_of : List ℕ → Option (List Field)
+name_of value = on_result (λ cs. Some cs) (λ _. None) (name_at value)
+
+-- the Name field
+abbrev pub name_in : Elements → Option (List Field)
+name_in es = first_of NAME es >>= name_of
+
+-- whether CanBePrefix is there, which has no octets; None where it has some
+abbrev pub flag_of : Option (List ℕ) → Option Bool
+flag_of None = Some false
+flag_of (Some []) = Some true
+flag_of (Some (b ∷ value)) = None
+
+-- InterestLifetime, or what stands for it where it is absent; None where it is no number
+abbrev pub lifetime_of : Option (List ℕ) → Option ℕ
+lifetime_of None = Some DEFAULT_LIFETIME
+lifetime_of (Some value) = on_result (λ n. Some n) (λ _. None) (nni_at value)
+
+-- the command of these parameters; None where they are not well formed
+unfoldable pub command_of : Verb → Elements → Option PlainCommand
+command_of verb es =
+    if not (list_all can_be_read es) then None else (do
+      name ← name_in es
+      can_be_prefix ← flag_of (first_of CAN_BE_PREFIX es)
+      lifetime ← lifetime_of (first_of INTEREST_LIFETIME es)
+      Some (record {
+        verb = verb;
+        name = name;
+        can_be_prefix = can_be_prefix;
+        lifetime = lifetime;
+      }))
+
+-- ---- names
+
+-- the octets of a component of this type
+abbrev pub value_of : ℕ → Option Field → Option (List ℕ)
+value_of kind None = None
+value_of kind (Some c) = if c.0 == kind then Some c.1 else None
+
+-- the octets of a component of this type, counted from the end of the prefix
+abbrev pub value_after : List Field → List Field → ℕ → ℕ → Option (List ℕ)
+value_after start cs kind at = value_of kind (slice_get cs (length start + at))
+
+-- the verb of a name that begins with the repository's prefix and a verb
+unfoldable pub verb_at : List Field → List Field → Option Verb
+verb_at start cs =
+    if begins_with start cs then (value_after start cs GENERIC 0 >>= verb_named) else None
+
+-- the command that a name is; None where it has another shape
+unfoldable pub command_at : List Field → List Field → Option PlainCommand
+command_at start cs = do
+  verb ← verb_at start cs
+  value ← value_after start cs GENERIC 1
+  digest ← value_after start cs PARAMETERS_SHA256_DIGEST 2
+  parameters ← single PARAMETERS (elements_of value)
+  if length cs == length start + 3 then command_of verb (elements_of parameters) else None

@@ -1,0 +1,153 @@
+-- What a repository holds, and what commands, Data and time do to it.
+use Rattle.std.specs.Prelude.{◌≡◌, ℕ, ◌+◌, List, [], ◌∷◌, Bool, true, false, nat_lt, nat_le, ◌==◌, ◌||◌, Option, None, Some, IfSome, refl, if◌then◌else◌}
+use Rattle.std.specs.Coded.{Coded, code_by, coded×, coded_list, coded_ℕ, coded_option}
+use Rattle.std.specs.FinMap as map
+use Rattle.ndn_tlv.specs.Element.{Field}
+use Rattle.ndn_packets.specs.Answers.{full_name}
+use Rattle.repo_core.specs.declared.verb.Verb.{Verb}
+use Rattle.repo_core.specs.declared.verb.Verb.TheVariants.{Insert, Delete, Check}
+use Rattle.repo_core.specs.declared.reply.RepoReply.{RepoReply}
+use Rattle.repo_core.specs.declared.reply.Want.{Want}
+use Rattle.repo_core.specs.declared.repo.TheConstants.{MAX_HELD, MAX_WANTS}
+use Rattle.repo_core.specs.declared.types.TheConstants.{BAD_PARAMETERS, NOT_FOUND, OK, PENDING}
+use Rattle.repo_core.specs.Commands.{Case, Stored, Wanted, NoPlace, Otherwise, row_of}
+use Rattle.repo_core.specs.Reading.{PlainCommand, command_at}
+use Rattle.repo_core.specs.Objects.{Objects, number_of, without_answering}
+use Rattle.repo_core.specs.Wants.{Wants, WantKey, want_code, is_wanted, unfilled, deadline}
+
+-- objects and wants
+pub record Held : Type 0 where
+  pub objects : Objects
+  pub wants : Wants
+
+pub record RepoState : Type 0 where
+  pub start : List Field
+  pub held : Held
+  -- the name whose insert is prepared, and the Data, by its full name and octets, that is
+  pub prepared_want : Option (List Field)
+  pub prepared_object : Option (List Field × List ℕ)
+
+-- ---- commands
+
+abbrev pub key_of : PlainCommand → WantKey
+key_of c = (c.name, c.can_be_prefix)
+
+abbrev pub is_full : Held → Bool
+is_full s =
+    nat_le MAX_WANTS (map.len s.wants) || nat_le MAX_HELD (map.len s.objects + map.len s.wants)
+
+abbrev pub holds : Held → PlainCommand → Case → Bool
+holds s c Stored = nat_lt 0 (number_of c.name c.can_be_prefix s.objects)
+holds s c Wanted = map.contains_key s.wants (key_of c)
+holds s c NoPlace = is_full s
+holds s c Otherwise = true
+
+-- the status of the first case that holds
+abbrev pub first_status : Held → PlainCommand → List (Case × ℕ) → ℕ
+first_status s c [] = NOT_FOUND
+first_status s c (row ∷ rows) = if holds s c row.0 then row.1 else first_status s c rows
+
+abbrev pub status_of : Held → PlainCommand → ℕ
+status_of s c = first_status s c (row_of c.verb).answers
+
+-- what is to be fetched: of an insert that is pending, an Interest of its name, flag and lifetime
+abbrev pub fetch_of : PlainCommand → ℕ → Option Want
+fetch_of c status =
+    elim c.verb [
+      | Insert ↦ if status == PENDING then Some (record {
+        name = c.name;
+        can_be_prefix = c.can_be_prefix;
+        lifetime = c.lifetime;
+      }) else None
+      | _ ↦ None
+    ]
+
+-- the number of objects that answer, with status 200
+abbrev pub reply_with : Held → PlainCommand → ℕ → RepoReply
+reply_with s c status = record {
+  status = status;
+  count = if status == OK then number_of c.name c.can_be_prefix s.objects else 0;
+  fetch = fetch_of c status;
+}
+
+abbrev pub reply_to : Held → Option PlainCommand → RepoReply
+reply_to s None = record { status = BAD_PARAMETERS; count = 0; fetch = None }
+reply_to s (Some c) = reply_with s c (status_of s c)
+
+-- a want that stood gets the new deadline
+abbrev pub after_insert : PlainCommand → ℕ → Held → Held
+after_insert c now s =
+    if status_of s c == PENDING then record s {
+      wants = map.insert s.wants (key_of c) (deadline now c.lifetime);
+    } else s
+
+abbrev pub after_delete : PlainCommand → Held → Held
+after_delete c s =
+    if status_of s c == OK then record {
+      objects = without_answering c.name c.can_be_prefix s.objects;
+      wants = map.remove s.wants (key_of c);
+    } else s
+
+abbrev pub after_known : PlainCommand → ℕ → Held → Held
+after_known c now s =
+    elim c.verb [ Insert ↦ after_insert c now s | Delete ↦ after_delete c s | Check ↦ s ]
+
+-- what a command of this name does at this moment, in a repository of this prefix
+abbrev pub after_some : Option PlainCommand → ℕ → Held → Held
+after_some None now s = s
+after_some (Some c) now s = after_known c now s
+
+abbrev pub after_command : List Field → List Field → ℕ → Held → Held
+after_command start name now s = after_some (command_at start name) now s
+
+-- ---- Data
+
+-- Data of this name, implicit digest and octets: it is stored where it is wanted, in place of what
+-- has its full name
+abbrev pub after_offer : List Field → List ℕ → List ℕ → Held → Held
+after_offer name digest octets s =
+    if is_wanted name digest s.wants then record {
+      objects = map.insert s.objects (full_name name digest) octets;
+      wants = unfilled name digest s.wants;
+    } else s
+
+-- ---- what is prepared
+
+-- the command is prepared, if it can make a want
+abbrev pub is_insert : Verb → Bool
+is_insert Insert = true
+is_insert Delete = false
+is_insert Check = false
+
+abbrev pub IsCommandPrepared : RepoState → List Field → Type 0
+IsCommandPrepared s name =
+    IfSome (command_at s.start name)
+    (λ c. is_insert c.verb ≡ true → s.prepared_want ≡ Some c.name)
+
+-- the offer is prepared, if the Data is wanted
+abbrev pub IsOfferPrepared : RepoState → List Field → List ℕ → List ℕ → Type 0
+IsOfferPrepared s name digest octets =
+    is_wanted name digest s.held.wants ≡ true
+    → s.prepared_object ≡ Some (full_name name digest, octets)
+
+-- ---- as the value of a model
+
+abbrev pub octets_code : Coded (List ℕ)
+octets_code = coded_list coded_ℕ
+
+abbrev pub name_code : Coded (List Field)
+name_code = coded_list (coded× coded_ℕ octets_code)
+
+abbrev pub held_code : Coded Held
+held_code =
+    code_by (Objects × Wants) (coded× (map.code name_code octets_code) (map.code want_code coded_ℕ))
+    (λ s. (s.objects, s.wants)) (λ p. record { objects = p.0; wants = p.1 }) (λ _. refl)
+
+abbrev pub state_code : Coded RepoState
+state_code =
+    code_by (List Field × (Held × (Option (List Field) × Option (List Field × List ℕ))))
+    (coded× name_code (coded× held_code
+    (coded× (coded_option name_code) (coded_option (coded× name_code octets_code)))))
+    (λ s. (s.start, (s.held, (s.prepared_want, s.prepared_object))))
+    (λ p. record { start = p.0; held = p.1.0; prepared_want = p.1.1.0; prepared_object = p.1.1.1 })
+    (λ _. refl)

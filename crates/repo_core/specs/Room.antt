@@ -1,0 +1,38 @@
+-- Rows in order and the room beside them, for private contracts.
+use Rattle.std.specs.Prelude.{◌≡◌, ◌≢◌, ℕ, ◌<◌, ◌≤◌, List, length, take, slice_index_or, refl}
+use Rattle.std.specs.Coded.{Coded, code_by, coded×, coded_list, coded_ℕ}
+use Rattle.std.specs.declared.cmp.Ordering.{Ordering}
+use Rattle.std.specs.declared.cmp.Ordering.TheVariants.{Greater}
+use Rattle.std.specs.FinMap as map
+use Rattle.std.specs.List.{AllByRecursion}
+use Rattle.repo_core.specs.declared.spare.Names.{Names}
+use Rattle.repo_core.specs.Objects.{Objects}
+
+-- objects, and for how many more there is room
+pub record Shelf : Type 0 where
+  pub table : Objects
+  pub room : ℕ
+
+abbrev pub shelf_code : Coded Shelf
+shelf_code =
+    code_by (Objects × ℕ)
+    (coded× (map.code (coded_list (coded× coded_ℕ (coded_list coded_ℕ))) (coded_list coded_ℕ))
+    coded_ℕ)
+    (λ s. (s.table, s.room)) (λ p. record { table = p.0; room = p.1 }) (λ _. refl)
+
+-- all rows before a place have lesser keys, and those from it on have not
+pub record IsPlace {K X : Type 0} (R : K → K → Ordering) (key : K) (rows : List (K × X)) (at : ℕ) : Type 0 where
+  pub within : at ≤ length rows
+  pub before : AllByRecursion (λ row. R key row.0 ≡ Greater) (take at rows)
+  pub after : (k : ℕ) (row : K × X) → at ≤ k → k < length rows
+      → R key (slice_index_or rows k row).0 ≢ Greater
+
+-- the row at a place has this key
+abbrev pub HasAt : {K X : Type 0} → K → List (K × X) → ℕ → Type 0
+HasAt {K} {X} key rows at =
+    (at < length rows)
+    × ((row : K × X) → row ≡ slice_index_or rows at row → row.0 ≡ key)
+
+-- both copies are of one name
+abbrev pub AreAlike : Names → Type 0
+AreAlike n = n.fetched ≡ n.key

@@ -1,0 +1,81 @@
+//! Commands as names: the repository's prefix, the verb, the parameters and the digest.
+
+ghost use Rattle.std.specs.Prelude.{◌≡◌, ◌≤◌};
+ghost use Rattle.std.specs.Option.{option_map};
+ghost use Rattle.ndn_tlv.specs.Reading.{elements_of};
+ghost use Rattle.ndn_names.specs.View.{components};
+ghost use Rattle.repo_core.specs.Reading.{asked, command_at, command_of, value_after, verb_at};
+
+use crate::fields::{are_elements, flag_field, lifetime_field, name_field, single_element};
+use crate::types::PARAMETERS;
+use crate::verb::Verb;
+use ndn_names::Name;
+use ndn_names::component_type::{GENERIC, PARAMETERS_SHA256_DIGEST};
+
+/// A command that is well formed: it is about the Data that answer an Interest of a name and a
+/// flag, and wants them for a lifetime in milliseconds.
+#[derive(Clone, Copy)]
+pub struct Asked<'a> {
+    pub verb: Verb,
+    pub name: Name<'a>,
+    pub can_be_prefix: bool,
+    pub lifetime: u64,
+}
+
+/// The octets of the component of this type, counted from the end of the prefix.
+fn value_after<'a>(start: Name<'_>, name: Name<'a>, kind: u16, at: usize) -> Option<&'a [u8]>
+    requires { at ≤ 2 }
+    ensures { option_map (λ v. v.now) result
+        ≡ value_after (components start.entry) (components name.entry) kind at }
+{
+    match name.component(start.len() + at) {
+        Some(component) if component.kind == kind => Some(component.value),
+        _ => None,
+    }
+}
+
+#[tactic(auto, unfolding(crate::specs::Reading::verb_at))]
+/// The verb of a name that begins with the prefix and a verb.
+pub fn verb_after(start: Name<'_>, name: Name<'_>) -> Option<Verb>
+    ensures { result ≡ verb_at (components start.entry) (components name.entry) }
+{
+    if !start.is_prefix_of(name) {
+        return None;
+    }
+    Verb::named(value_after(start, name, GENERIC, 0)?)
+}
+
+#[tactic(auto, unfolding(crate::specs::Reading::command_at))]
+/// The command that a name is.
+pub fn command_in<'a>(start: Name<'_>, name: Name<'a>) -> Option<Asked<'a>>
+    ensures { option_map asked result
+        ≡ command_at (components start.entry) (components name.entry) }
+{
+    let verb = verb_after(start, name)?;
+    let value = value_after(start, name, GENERIC, 1)?;
+    value_after(start, name, PARAMETERS_SHA256_DIGEST, 2)?;
+    let fields = single_element(value, PARAMETERS)?;
+    if name.len() != start.len() + 3 {
+        return None;
+    }
+    command_of(verb, fields)
+}
+
+#[tactic(auto, unfolding(crate::specs::Reading::command_of))]
+/// The command of these parameters.
+fn command_of(verb: Verb, fields: &[u8]) -> Option<Asked<'_>>
+    ensures { option_map asked result ≡ command_of verb (elements_of fields.now) }
+{
+    if !are_elements(fields) {
+        return None;
+    }
+    let name = name_field(fields)?;
+    let can_be_prefix = flag_field(fields)?;
+    let lifetime = lifetime_field(fields)?;
+    Some(Asked {
+        verb,
+        name,
+        can_be_prefix,
+        lifetime,
+    })
+}

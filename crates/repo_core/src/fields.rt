@@ -1,0 +1,85 @@
+//! The fields of a command's parameters.
+
+ghost use Rattle.std.specs.Prelude.{◌≡◌};
+ghost use Rattle.std.specs.Option.{option_map};
+ghost use Rattle.std.specs.List.{list_all};
+ghost use Rattle.ndn_tlv.specs.Reading.{elements_of};
+ghost use Rattle.ndn_names.specs.View.{components};
+ghost use Rattle.repo_core.specs.Reading.{can_be_read, first_of, flag_of, lifetime_of, name_in, single};
+
+use crate::types::{CAN_BE_PREFIX, DEFAULT_LIFETIME, INTEREST_LIFETIME, NAME};
+use ndn_names::Name;
+use ndn_tlv::{first_element, nni_of};
+
+/// The value of octets that are one element of this type.
+pub fn single_element(octets: &[u8], kind: u32) -> Option<&[u8]>
+    ensures { option_map (λ v. v.now) result ≡ single kind (elements_of octets.now) }
+{
+    let Ok((element, rest)) = first_element(octets) else {
+        return None;
+    };
+    if element.kind == kind && rest.is_empty() {
+        return Some(element.value);
+    }
+    None
+}
+
+/// Whether the octets are elements.
+pub fn are_elements(octets: &[u8]) -> bool
+    ensures { result ≡ list_all can_be_read (elements_of octets.now) }
+{
+    let mut rest = octets;
+    while !rest.is_empty() {
+        let Ok((_, after)) = first_element(rest) else {
+            return false;
+        };
+        rest = after;
+    }
+    true
+}
+
+/// The value of the first field of this type.
+fn first_field(octets: &[u8], kind: u32) -> Option<&[u8]>
+    ensures { option_map (λ v. v.now) result ≡ first_of kind (elements_of octets.now) }
+{
+    let mut rest = octets;
+    while !rest.is_empty() {
+        let Ok((element, after)) = first_element(rest) else {
+            return None;
+        };
+        if element.kind == kind {
+            return Some(element.value);
+        }
+        rest = after;
+    }
+    None
+}
+
+/// The Name field. None where it is missing or no name.
+pub fn name_field(octets: &[u8]) -> Option<Name<'_>>
+    ensures { option_map components result ≡ name_in (elements_of octets.now) }
+{
+    let value = first_field(octets, NAME)?;
+    Name::read(value).ok()
+}
+
+/// Whether the CanBePrefix field is there. None where it has octets.
+pub fn flag_field(octets: &[u8]) -> Option<bool>
+    ensures { result ≡ flag_of (first_of CAN_BE_PREFIX (elements_of octets.now)) }
+{
+    match first_field(octets, CAN_BE_PREFIX) {
+        None => Some(false),
+        Some([]) => Some(true),
+        Some(_) => None,
+    }
+}
+
+/// The InterestLifetime field, or what stands for it. None where it is no number.
+pub fn lifetime_field(octets: &[u8]) -> Option<u64>
+    ensures { result ≡ lifetime_of (first_of INTEREST_LIFETIME (elements_of octets.now)) }
+{
+    match first_field(octets, INTEREST_LIFETIME) {
+        None => Some(DEFAULT_LIFETIME),
+        Some(value) => nni_of(value).ok(),
+    }
+}

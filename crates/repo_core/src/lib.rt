@@ -1,0 +1,21 @@
+//! A repository: Data that commands ask for, insert and delete.
+#![tactic(auto)]
+
+mod command;
+mod fields;
+mod law;
+mod object;
+mod objects;
+mod reply;
+mod repo;
+mod room;
+mod spare;
+mod types;
+mod verb;
+mod wants;
+mod writing;
+
+pub use law::{expiry_keeps_preparations, full_names_answer_as_data};
+pub use reply::{RepoReply, Want, put_repo_reply, status_text};
+pub use repo::{MAX_HELD, MAX_WANTS, Repo};
+pub use verb::Verb;

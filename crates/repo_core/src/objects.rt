@@ -1,0 +1,173 @@
+ghost use Rattle.std.specs.Prelude.{◌≡◌, ◌↔◌, ◌<◌, ◌≤◌, List, length, OnOk, IsOk, IsTrue};
+ghost use lib.Dec.{T};
+ghost use Rattle.std.specs.FinMap as map;
+ghost use Rattle.std.specs.Option.{option_map};
+ghost use Rattle.ndn_tlv.specs.Element.{Field, IsElements};
+ghost use Rattle.ndn_names.specs.Order.{name_cmp};
+ghost use Rattle.ndn_names.specs.View.{components};
+ghost use Rattle.repo_core.specs.Objects.{answering, first_octets, number_of, served, without_answering};
+ghost use Rattle.repo_core.specs.Room.{HasAt, IsPlace};
+
+use crate::object::Object;
+use crate::room::insert_row;
+use ndn_names::Name;
+use ndn_tlv::Memory;
+use std::alloc::Global;
+use std::marker::Model;
+
+/// Data that are stored, each full name once.
+#[derive(Drop)]
+pub struct Objects {
+    // In canonical order of their full names.
+    rows: Vec<Object>,
+}
+
+impl Model for Objects {
+    ghost use lib.Dec.{T};
+    ghost use Rattle.std.specs.Prelude.{◌-◌, vec_len};
+    ghost use Rattle.std.specs.Vec.{vec_capacity};
+    ghost use Rattle.std.specs.FinMap as map;
+    ghost use Rattle.ndn_names.specs.Order.{name_cmp};
+    ghost use Rattle.repo_core.specs.Room.{Shelf, shelf_code};
+
+    ghost Value = { Shelf };
+
+    ghost coded = { shelf_code };
+
+    ghost view = { λ o. record {
+      table = map.from_sorted o.rows.items;
+      room = vec_capacity o.rows - vec_len o.rows;
+    } };
+
+    ghost invariant = { λ o. T (map.is_sorted name_cmp o.rows.items) };
+}
+
+impl Objects {
+    pub fn new(alloc: Global) -> Objects
+        ensures { result.table ≡ map.empty }
+    {
+        Objects {
+            rows: Vec::new(alloc),
+        }
+    }
+
+    pub fn len(&self) -> usize
+        ensures { result ≡ map.len self.now.table }
+    {
+        self.rows.len()
+    }
+
+    /// How many answer an Interest of this name and flag.
+    pub fn number(&self, name: Name<'_>, can_be_prefix: bool) -> usize
+        ensures { result ≡ number_of (components name.entry) can_be_prefix self.now.table }
+    {
+        count_of(
+            candidates(&self.rows, name, can_be_prefix),
+            name,
+            can_be_prefix,
+        )
+    }
+
+    /// The octets of the one of the least full name that answers.
+    pub fn served(&self, name: Name<'_>, can_be_prefix: bool) -> Option<&[u8]>
+        ensures { option_map (λ o. o.now) result
+            ≡ served (components name.entry) can_be_prefix self.now.table }
+    {
+        first_of(
+            candidates(&self.rows, name, can_be_prefix),
+            name,
+            can_be_prefix,
+        )
+    }
+
+    /// Removes those that answer.
+    pub fn remove(&mut self, name: Name<'_>, can_be_prefix: bool)
+        ensures { self.new.table
+            ≡ without_answering (components name.entry) can_be_prefix self.old.table }
+    {
+        self.rows
+            .retain(|object| !object.answers(name, can_be_prefix));
+    }
+
+    /// Makes room for one more.
+    pub fn reserve(&mut self) -> Result<(), Memory>
+        ensures ok { OnOk result (0 < self.new.room) }
+        ensures table { self.new.table ≡ self.old.table }
+        ensures more { self.old.room ≤ self.new.room }
+        ensures room { 0 < self.old.room → IsOk result }
+    {
+        self.rows.reserve(1)?;
+        Ok(())
+    }
+
+    /// Puts one in place of what has its full name.
+    pub fn put(&mut self, object: Object)
+        requires { 0 < self.old.room }
+        ensures { self.new.table ≡ map.insert self.old.table object.0 object.1 }
+    {
+        let at = place_of(&self.rows, object.full_name());
+        if has_at(&self.rows, at, object.full_name()) {
+            self.rows[at] = object;
+        } else {
+            insert_row(&mut self.rows, at, object);
+        }
+    }
+}
+
+/// The place of the first full name that does not come before the name of these octets.
+fn place_of(objects: &[Object], octets: &[u8]) -> usize
+    requires { T (map.is_sorted name_cmp objects.now) }
+    ensures { (name : List Field) → IsElements octets.now name
+        → IsPlace name_cmp name objects.now result }
+{
+    objects.partition_point(|object| object.is_below(octets))
+}
+
+/// Whether the full name at a place is that of these octets.
+fn has_at(objects: &[Object], at: usize, octets: &[u8]) -> bool
+    ensures { (name : List Field) → IsElements octets.now name
+        → IsTrue result ↔ HasAt name objects.now at }
+{
+    match objects.get(at) {
+        Some(object) => object.is(octets),
+        None => false,
+    }
+}
+
+/// A part that has all objects that answer an Interest of this name and flag.
+fn candidates<'a>(objects: &'a [Object], name: Name<'_>, can_be_prefix: bool) -> &'a [Object]
+    requires { T (map.is_sorted name_cmp objects.now) }
+    ensures { answering (components name.entry) can_be_prefix result.now
+        ≡ answering (components name.entry) can_be_prefix objects.now }
+{
+    let start = place_of(objects, name.as_octets());
+    let (_, rest) = objects.split_at(start);
+    let end = rest.partition_point(|object| object.is_near(name, can_be_prefix));
+    &rest[..end]
+}
+
+/// How many of these answer.
+fn count_of(objects: &[Object], name: Name<'_>, can_be_prefix: bool) -> usize
+    ensures { result ≡ length (answering (components name.entry) can_be_prefix objects.now) }
+{
+    let mut count = 0;
+    for object in objects {
+        if object.answers(name, can_be_prefix) {
+            count += 1;
+        }
+    }
+    count
+}
+
+/// The octets of the first of these that answers.
+fn first_of<'a>(objects: &'a [Object], name: Name<'_>, can_be_prefix: bool) -> Option<&'a [u8]>
+    ensures { option_map (λ o. o.now) result
+        ≡ first_octets (answering (components name.entry) can_be_prefix objects.now) }
+{
+    for object in objects {
+        if object.answers(name, can_be_prefix) {
+            return Some(object.octets());
+        }
+    }
+    None
+}

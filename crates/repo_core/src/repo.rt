@@ -1,0 +1,293 @@
+ghost use Rattle.std.specs.Prelude.{◌≡◌, None, IfOk, IfSome, IsOk, OnErr, OnOk};
+ghost use Rattle.std.specs.FinMap as map;
+ghost use Rattle.std.specs.Option.{option_map};
+ghost use Rattle.sha2.specs.Sha256.{sha256};
+ghost use Rattle.ndn_names.specs.View.{components};
+ghost use Rattle.repo_core.specs.Objects.{object_of, served};
+ghost use Rattle.repo_core.specs.Reading.{asked as plain, command_at, verb_at};
+ghost use Rattle.repo_core.specs.Repo.{IsCommandPrepared, IsOfferPrepared, after_command, after_delete, after_insert, after_offer, is_full, reply_to};
+ghost use Rattle.repo_core.specs.Room.{AreAlike};
+ghost use Rattle.repo_core.specs.Wants.{after_expiry, is_wanted};
+
+use crate::command::{Asked, command_in, verb_after};
+use crate::object::Object;
+use crate::objects::Objects;
+use crate::reply::{RepoReply, Want};
+use crate::spare::{Names, names_for};
+use crate::types::{BAD_PARAMETERS, FULL, NOT_FOUND, OK, PENDING};
+use crate::verb::Verb;
+use crate::wants::Wants;
+use ndn_names::{Name, NameBuf};
+use ndn_packets::{Data, Interest};
+use ndn_tlv::Memory;
+use std::alloc::Global;
+use std::marker::Model;
+
+/// The greatest number of wants.
+pub const MAX_WANTS: usize = 64;
+
+/// The greatest number of objects and wants together.
+pub const MAX_HELD: usize = 65_536;
+
+/// A repository: it stores the Data that commands want, and serves them. It holds at most 64 wants,
+/// and at most 65,536 objects and wants.
+#[derive(Drop)]
+pub struct Repo {
+    alloc: Global,
+    start: NameBuf,
+    objects: Objects,
+    wants: Wants,
+    // What is reserved for one insert, and the object that is reserved for one offer.
+    names: Option<Names>,
+    object: Option<Object>,
+}
+
+impl Model for Repo {
+    ghost use Rattle.std.specs.Prelude.{◌<◌, IfSome};
+    ghost use Rattle.std.specs.Option.{option_map};
+    ghost use Rattle.repo_core.specs.Repo.{RepoState, state_code};
+    ghost use Rattle.repo_core.specs.Room.{AreAlike};
+
+    ghost Value = { RepoState };
+
+    ghost coded = { state_code };
+
+    ghost view = { λ r. record {
+      start = r.start;
+      held = record { objects = r.objects.table; wants = r.wants };
+      prepared_want = option_map (λ n. n.key) r.names;
+      prepared_object = r.object;
+    } };
+
+    ghost invariant = { λ r. IfSome r.names AreAlike × IfSome r.object (λ _. 0 < r.objects.room) };
+}
+
+impl Repo {
+    /// An empty repository. Its commands' names begin with this prefix.
+    pub fn new(alloc: Global, prefix: NameBuf) -> Result<Repo, Memory>
+        ensures { IfOk result (λ r. r ≡ record {
+          start = prefix;
+          held = record { objects = map.empty; wants = map.empty };
+          prepared_want = None;
+          prepared_object = None;
+        }) }
+    {
+        let wants = Wants::new(alloc)?;
+        Ok(Repo {
+            alloc,
+            start: prefix,
+            objects: Objects::new(alloc),
+            wants,
+            names: None,
+            object: None,
+        })
+    }
+
+    /// The verb of a name that begins with the prefix and a verb, as commands' names do.
+    pub fn verb_of(&self, name: Name<'_>) -> Option<Verb>
+        ensures { result ≡ verb_at self.now.start (components name.entry) }
+    {
+        verb_after(self.start.view(), name)
+    }
+
+    /// Gives a command its effect at this moment, in milliseconds since 1970. Its name is the
+    /// prefix, the verb, the parameters and the digest of the Interest's parameters.
+    ///
+    /// An insert is answered 200 where objects answer, with their number, else 503 where there is
+    /// neither an equal want nor a place for one, and else 100, and then the want stands until the
+    /// lifetime is over. A delete is answered 200 with the number of objects if there were any or
+    /// an equal want, which then are gone, and else 404. A check is answered 200 with the number of
+    /// objects that answer, 100 for an equal want, and else 404. Any other name is answered 400.
+    /// `Memory` comes of an insert alone, and changes nothing but that nothing is prepared.
+    pub fn command(&mut self, name: Name<'_>, now: u64) -> Result<RepoReply, Memory>
+        ensures reply { IfOk result (λ r.
+            r ≡ reply_to self.old.held (command_at self.old.start (components name.entry))) }
+        ensures held { OnOk result (self.new.held
+            ≡ after_command self.old.start (components name.entry) now self.old.held) }
+        ensures err { OnErr result (self.new.held ≡ self.old.held) }
+        ensures start { self.new.start ≡ self.old.start }
+        ensures ended { (self.new.prepared_want ≡ None) × (self.new.prepared_object ≡ None) }
+        ensures promised { IsCommandPrepared self.old (components name.entry) → IsOk result }
+    {
+        let spare = self.names.take();
+        self.object = None;
+        let Some(asked) = command_in(self.start.view(), name) else {
+            return Ok(RepoReply::plain(BAD_PARAMETERS, 0));
+        };
+        match asked.verb {
+            Verb::Insert => self.insert(asked, now, spare),
+            Verb::Delete => Ok(self.delete(asked)),
+            Verb::Check => Ok(self.check(asked)),
+        }
+    }
+
+    /// Offers a Data: where it is wanted, it is stored in place of one of its full name, and all
+    /// wants that it answers are gone. Answers whether it was. `Memory` comes only where it is
+    /// wanted, and changes nothing but that nothing is prepared.
+    pub fn offer(&mut self, packet: &Data<'_>) -> Result<bool, Memory>
+        ensures filled { IfOk result (λ filled. filled ≡ is_wanted (components packet.now.name)
+            (sha256 packet.now.whole.now) self.old.held.wants) }
+        ensures held { OnOk result (self.new.held ≡ after_offer (components packet.now.name)
+            (sha256 packet.now.whole.now) packet.now.whole.now self.old.held) }
+        ensures err { OnErr result (self.new.held ≡ self.old.held) }
+        ensures start { self.new.start ≡ self.old.start }
+        ensures ended { (self.new.prepared_want ≡ None) × (self.new.prepared_object ≡ None) }
+        ensures promised { IsOfferPrepared self.old (components packet.now.name)
+            (sha256 packet.now.whole.now) packet.now.whole.now → IsOk result }
+    {
+        let spare = self.object.take();
+        self.names = None;
+        if !self.wants.are_filled_by(packet) {
+            return Ok(false);
+        }
+        self.objects.reserve()?;
+        let object = object_for(self.alloc, spare, packet)?;
+        self.wants.fill(packet);
+        self.objects.put(object);
+        Ok(true)
+    }
+
+    /// The octets of the stored Data of the least full name that answers an Interest, whatever its
+    /// MustBeFresh.
+    pub fn serve(&self, interest: &Interest<'_>) -> Option<&[u8]>
+        ensures { option_map (λ o. o.now) result ≡ served (components interest.now.name)
+            interest.now.can_be_prefix self.now.held.objects }
+    {
+        self.objects.served(interest.name, interest.can_be_prefix)
+    }
+
+    /// Removes the wants whose deadline is at most this moment, in milliseconds since 1970. What is
+    /// prepared stays so.
+    pub fn expire(&mut self, now: u64)
+        ensures { self.new ≡ record self.old {
+          held = record self.old.held {
+            wants = after_expiry now self.old.held.wants;
+          };
+        } }
+    {
+        self.wants.expire(now);
+    }
+
+    /// Prepares the command of this name, its reply included: it is then not refused memory, while
+    /// wants only expire. Any command, offer or further preparation, a refused one too, ends it.
+    pub fn prepare_command(&mut self, name: Name<'_>) -> Result<(), Memory>
+        ensures held { self.new.held ≡ self.old.held }
+        ensures start { self.new.start ≡ self.old.start }
+        ensures ok { OnOk result (IsCommandPrepared self.new (components name.entry)) }
+    {
+        self.names = None;
+        self.object = None;
+        if let Some(asked) = command_in(self.start.view(), name) {
+            if asked.verb == Verb::Insert {
+                let names = Names::new(self.alloc, asked.name)?;
+                self.names = Some(names);
+            }
+        }
+        Ok(())
+    }
+
+    /// Prepares the offer of this Data, as `prepare_command` does a command.
+    pub fn prepare_offer(&mut self, packet: &Data<'_>) -> Result<(), Memory>
+        ensures held { self.new.held ≡ self.old.held }
+        ensures start { self.new.start ≡ self.old.start }
+        ensures ok { OnOk result (IsOfferPrepared self.new (components packet.now.name)
+            (sha256 packet.now.whole.now) packet.now.whole.now) }
+    {
+        self.names = None;
+        self.object = None;
+        if self.wants.are_filled_by(packet) {
+            self.objects.reserve()?;
+            let object = Object::new(self.alloc, packet)?;
+            self.object = Some(object);
+        }
+        Ok(())
+    }
+
+    /// The insert, with the names that are prepared.
+    fn insert(
+        &mut self,
+        asked: Asked<'_>,
+        now: u64,
+        spare: Option<Names>,
+    ) -> Result<RepoReply, Memory>
+        requires verb { asked.verb ≡ Verb.Insert }
+        requires alike { IfSome spare AreAlike }
+        ensures reply { IfOk result (λ r. r ≡ reply_to self.old.held (Some (plain asked.entry))) }
+        ensures held { OnOk result (self.new
+            ≡ record self.old { held = after_insert (plain asked.entry) now self.old.held }) }
+        ensures err { OnErr result (self.new ≡ self.old) }
+        ensures spared { option_map (λ n. n.key) spare ≡ Some (components asked.entry.name)
+            → IsOk result }
+    {
+        let count = self.objects.number(asked.name, asked.can_be_prefix);
+        if count > 0 {
+            return Ok(RepoReply::plain(OK, count as u64));
+        }
+        if !self.wants.contains(asked.name, asked.can_be_prefix) && self.is_full() {
+            return Ok(RepoReply::plain(FULL, 0));
+        }
+        let names = names_for(self.alloc, spare, asked.name)?;
+        let deadline = now.saturating_add(asked.lifetime);
+        self.wants.put(names.key, asked.can_be_prefix, deadline);
+        let fetch = Want {
+            name: names.fetched,
+            can_be_prefix: asked.can_be_prefix,
+            lifetime: asked.lifetime,
+        };
+        Ok(RepoReply {
+            status: PENDING,
+            count: 0,
+            fetch: Some(fetch),
+        })
+    }
+
+    /// Whether there is no place for one more want.
+    fn is_full(&self) -> bool
+        ensures { result ≡ is_full self.now.held }
+    {
+        self.wants.len() >= MAX_WANTS || self.objects.len() >= MAX_HELD - self.wants.len()
+    }
+
+    /// The delete.
+    fn delete(&mut self, asked: Asked<'_>) -> RepoReply
+        requires verb { asked.verb ≡ Verb.Delete }
+        requires free { self.old.prepared_object ≡ None }
+        ensures reply { result ≡ reply_to self.old.held (Some (plain asked.entry)) }
+        ensures held { self.new
+            ≡ record self.old { held = after_delete (plain asked.entry) self.old.held } }
+    {
+        let count = self.objects.number(asked.name, asked.can_be_prefix);
+        if count == 0 && !self.wants.contains(asked.name, asked.can_be_prefix) {
+            return RepoReply::plain(NOT_FOUND, 0);
+        }
+        self.objects.remove(asked.name, asked.can_be_prefix);
+        self.wants.remove(asked.name, asked.can_be_prefix);
+        RepoReply::plain(OK, count as u64)
+    }
+
+    /// The check.
+    fn check(&self, asked: Asked<'_>) -> RepoReply
+        requires { asked.verb ≡ Verb.Check }
+        ensures { result ≡ reply_to self.now.held (Some (plain asked.entry)) }
+    {
+        let count = self.objects.number(asked.name, asked.can_be_prefix);
+        if count > 0 {
+            return RepoReply::plain(OK, count as u64);
+        }
+        if self.wants.contains(asked.name, asked.can_be_prefix) {
+            return RepoReply::plain(PENDING, 0);
+        }
+        RepoReply::plain(NOT_FOUND, 0)
+    }
+}
+
+/// The object of a Data: what is prepared, if it is that, or a new one.
+fn object_for(alloc: Global, spare: Option<Object>, packet: &Data<'_>) -> Result<Object, Memory>
+    ensures ok { IfOk result (λ o. o ≡ object_of packet.now) }
+    ensures spared { spare ≡ Some (object_of packet.now) → IsOk result }
+{
+    match spare {
+        Some(object) if object.is_of(packet) => Ok(object),
+        _ => Object::new(alloc, packet),
+    }
+}
