@@ -3,3 +3,4 @@ pub mod Strategies
 pub mod OpenFaces
 pub mod Texts
 pub mod Replies
+pub mod OpenRoutes
