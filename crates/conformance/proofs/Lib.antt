@@ -1,3 +1,4 @@
 pub mod RouteRoom
 pub mod PendingRoom
 pub mod NoRoutes
+pub mod OpenRoutes

@@ -1,5 +1,7 @@
 //! Management commands, their effects, replies and lists.
 
+mod effects;
+
 ghost use Rattle.std.specs.Prelude.{◌≡◌, IfSome};
 ghost use Rattle.std.specs.FinMap as map;
 

@@ -1,0 +1,436 @@
+//! Commands one after the other on the same tables.
+
+ghost use Rattle.std.specs.Prelude.{◌≡◌};
+
+use super::{name_in, put_hex};
+use crate::rows::{check_rows, octets};
+use crate::tables::routes_in;
+use content_store::Store;
+use mgmt_core::*;
+use ndn_names::{Name, NameBuf};
+use ndn_packets::*;
+use pit_fib::{Faces, Fib, StrategyTable};
+use std::alloc::Global;
+use std::marker::Model;
+
+/// Tables, and the faces that are up, among them each face that has a route.
+#[derive(Drop)]
+struct Station {
+    tables: Tables,
+    up: Faces,
+}
+
+impl Model for Station {
+    ghost use Rattle.std.specs.FinMap as map;
+    ghost use Rattle.std.specs.Coded.{coded_ℕ};
+    ghost use Rattle.pit_fib.specs.Tables.{ByFace};
+    ghost use Rattle.pit_fib.specs.NameTable.{NameTable, name_table_code};
+    ghost use Rattle.mgmt_core.specs.Tables.{AllAreUp};
+
+    ghost Value = { NameTable ByFace };
+
+    ghost coded = { name_table_code (map.code coded_ℕ coded_ℕ) };
+
+    ghost view = { λ s. s.tables.fib };
+
+    ghost invariant = { λ s. AllAreUp s.tables.fib.table s.up };
+}
+
+impl Station {
+    /// Without routes and Data. The faces 2 and 9 are up.
+    fn new(alloc: Global) -> Option<Station> {
+        let store = Store::new(alloc, 8).ok()?;
+        let mut up = Faces::new();
+        up.insert(2);
+        up.insert(9);
+        Some(Station {
+            tables: Tables::new(alloc, Fib::new(alloc), StrategyTable::new(alloc), store),
+            up,
+        })
+    }
+
+    /// What becomes of a command from face 9.
+    fn apply(&mut self, command: &Command<'_>) -> Option<Applied> {
+        apply(&mut self.tables, command, 9, &self.up).ok()
+    }
+
+    fn prepare(&mut self, command: &Command<'_>) -> bool {
+        self.tables.prepare(command).is_ok()
+    }
+
+    fn put(&mut self, packet: &[u8]) -> Option<bool> {
+        let Frame::Data(data) = read_frame(packet).ok()? else {
+            return None;
+        };
+        Some(self.tables.store.put(&data, 0))
+    }
+
+    /// Whether the cache has Data of this very name.
+    fn has(&mut self, name: Name<'_>) -> bool {
+        let key = Key {
+            name,
+            can_be_prefix: false,
+            must_be_fresh: false,
+        };
+        self.tables.store.find(key, 0).is_some()
+    }
+
+    /// How many hops Interests of this name have.
+    fn hops(&self, name: Name<'_>) -> usize {
+        self.tables.fib.longest(name).len()
+    }
+}
+
+fn verb_of(call: &str) -> Option<&'static str> {
+    match call {
+        "add" => Some("/localhost/nfd/fib/add-nexthop "),
+        "remove" => Some("/localhost/nfd/fib/remove-nexthop "),
+        "set" => Some("/localhost/nfd/strategy-choice/set "),
+        "unset" => Some("/localhost/nfd/strategy-choice/unset "),
+        "erase" => Some("/localhost/nfd/cs/erase "),
+        _ => None,
+    }
+}
+
+/// Octets in hexadecimal, `-` for none.
+fn hex_shown(alloc: Global, octets: &[u8]) -> Option<String> {
+    let mut text = String::new(alloc);
+    put_hex(alloc, &mut text, octets)?;
+    if octets.is_empty() {
+        text.push('-').ok()?;
+    }
+    Some(text)
+}
+
+/// A command by its call and parameters: its status, and the body of its reply.
+fn command_shown(alloc: Global, station: &mut Station, call: &str, rest: &str) -> Option<String> {
+    let mut text = String::from_str(alloc, verb_of(call)?).ok()?;
+    text.push_str(rest).ok()?;
+    let name = name_in(alloc, &text)?;
+    let applied = station.apply(&Command::read(name.view()).ok()?)?;
+    let (status, body) = (applied.status, hex_shown(alloc, applied.body.as_slice())?);
+    format!(in alloc; "{status} {body}").ok()
+}
+
+/// `data` and `find` with a URI, `routes`, `strategies`, or a command.
+fn answer(alloc: Global, station: &mut Station, call: &str) -> Option<String> {
+    let (call, rest) = call.split_once(' ').unwrap_or((call, "/"));
+    match call {
+        "routes" => hex_shown(alloc, &fib_dataset(alloc, &station.tables.fib).ok()?),
+        "strategies" => hex_shown(
+            alloc,
+            &strategy_dataset(alloc, &station.tables.strategies).ok()?,
+        ),
+        "data" => {
+            let mut packet = Vec::new(alloc);
+            put_reply(
+                &mut packet,
+                NameBuf::from_uri(alloc, rest).ok()?.view(),
+                &[],
+            )
+            .ok()?;
+            String::from_str(
+                alloc,
+                if station.put(&packet)? {
+                    "kept"
+                } else {
+                    "lost"
+                },
+            )
+            .ok()
+        }
+        "find" => {
+            let name = NameBuf::from_uri(alloc, rest).ok()?;
+            String::from_str(
+                alloc,
+                if station.has(name.view()) {
+                    "there"
+                } else {
+                    "gone"
+                },
+            )
+            .ok()
+        }
+        _ => command_shown(alloc, station, call, rest),
+    }
+}
+
+/// The answers to calls that `, ` parts.
+fn answers(alloc: Global, row: &str) -> Option<String> {
+    let mut station = Station::new(alloc)?;
+    let mut text = String::new(alloc);
+    for call in row.split(", ") {
+        if !text.is_empty() {
+            text.push_str(", ").ok()?;
+        }
+        text.push_str(&answer(alloc, &mut station, call)?).ok()?;
+    }
+    Some(text)
+}
+
+const ROWS: &str = "\
+# A route that goes; its entry goes with its last hop.
+add 68080703080141690102, routes, remove 68080703080141690102, routes -> 200 680b07030801416901026a0100, 800d070308014181066901026a0100, 200 68080703080141690102, -
+# One of two hops goes: the one of the asking face.
+add 68080703080141690102, add 680807030801416a0105, remove 68050703080141, routes -> 200 680b07030801416901026a0100, 200 680b07030801416901096a0105, 200 68080703080141690109, 800d070308014181066901026a0100
+# Hops by cost, and then by face; names in canonical order.
+add 680b07030801416901026a0107, add 680b07030801416901096a0105, routes -> 200 680b07030801416901026a0107, 200 680b07030801416901096a0105, 8015070308014181066901096a010581066901026a0107
+add 68080703080142690109, add 68080703080142690102, add 68080703080141690102, routes -> 200 680b07030801426901096a0100, 200 680b07030801426901026a0100, 200 680b07030801416901026a0100, 800d070308014181066901026a01008015070308014281066901026a010081066901096a0100
+# A second cost takes the place of the first.
+add 680b07030801416901026a0107, add 680b07030801416901026a0103, routes -> 200 680b07030801416901026a0107, 200 680b07030801416901026a0103, 800d070308014181066901026a0103
+# A route of another name stays, and so do all where a command is refused.
+add 68080703080141690102, remove 68080703080142690102, routes -> 200 680b07030801416901026a0100, 200 68080703080142690102, 800d070308014181066901026a0100
+add 68080703080141690102, add 68080703080141690107, remove 68080703080141690107, routes -> 200 680b07030801416901026a0100, 410 -, 200 68080703080141690107, 800d070308014181066901026a0100
+# A strategy that goes, and one that stays.
+set 682e07030801416b27072508096c6f63616c686f737408036e66640808737472617465677908096d756c746963617374, unset 68050703080142, unset 68050703080141, strategies -> 200 682e07030801416b27072508096c6f63616c686f737408036e66640808737472617465677908096d756c746963617374, 200 68050703080142, 200 68050703080141, 802c07006b28072608096c6f63616c686f737408036e666408087374726174656779080a626573742d726f757465
+# Data that go: all under a name, or the first ones. The reply has the Count given, if any.
+data /A, data /A/B, data /C, erase 68050703080141, find /A, find /A/B, find /C -> kept, kept, kept, 200 68050703080141, gone, gone, there
+data /A, data /A/B, erase 68080703080141840101, find /A, find /A/B -> kept, kept, 200 68080703080141840101, gone, there
+data /A, data /A/B, erase 68080703080141840105, find /A, find /A/B -> kept, kept, 200 68080703080141840105, gone, gone
+data /A, erase 68080703080141840100, erase 68080703080142840105, find /A -> kept, 200 68080703080141840100, 200 68080703080142840105, there
+";
+
+#[test]
+fn commands_one_after_the_other(rt: HostRuntime) {
+    check_rows(&rt, rt.alloc(), ROWS, answers);
+}
+
+fn adds(name: Name<'_>, face: u64) -> Command<'_> {
+    Command {
+        action: Action::AddNexthop,
+        name,
+        face,
+        cost: 0,
+        strategy: None,
+        count: None,
+    }
+}
+
+/// A name of one component, of two octets.
+fn numbered(alloc: Global, number: u16) -> Option<NameBuf> {
+    let mut name = NameBuf::new(alloc);
+    name.append(8, &number.to_be_bytes()).ok()?;
+    Some(name)
+}
+
+/// A name of so many components `A`.
+fn deep(alloc: Global, depth: usize) -> Option<NameBuf> {
+    let mut name = NameBuf::new(alloc);
+    for _ in 0..depth {
+        name.append(8, b"A").ok()?;
+    }
+    Some(name)
+}
+
+/// The status of a new hop.
+fn added(station: &mut Station, name: &NameBuf, face: u64) -> u16 {
+    station
+        .apply(&adds(name.view(), face))
+        .map(|applied| applied.status)
+        .unwrap_or(0)
+}
+
+/// Tables with 4,096 routes to face 2.
+fn filled(alloc: Global) -> Option<Station> {
+    let mut station = Station::new(alloc)?;
+    for number in (0..4096).rev() {
+        if added(&mut station, &numbered(alloc, number)?, 2) != 200 {
+            return None;
+        }
+    }
+    Some(station)
+}
+
+/// Whether a name more is refused, after a name that is too long and a face that is not up, and a
+/// hop more is not.
+fn refuses_one_name_more(alloc: Global) -> Option<bool> {
+    let mut station = filled(alloc)?;
+    let (more, known) = (numbered(alloc, 4096)?, numbered(alloc, 4095)?);
+    Some(
+        added(&mut station, &deep(alloc, 33)?, 7) == 414
+            && added(&mut station, &more, 7) == 410
+            && added(&mut station, &more, 2) == 503
+            && added(&mut station, &known, 9) == 200
+            && station.hops(more.view()) == 0
+            && station.hops(known.view()) == 2,
+    )
+}
+
+/// Whether the list of 4,096 routes has 16 octets for each, the first and the last as expected, and
+/// 16 segments.
+fn lists_4096_routes(alloc: Global) -> Option<bool> {
+    let text = fib_dataset(alloc, &filled(alloc)?.tables.fib).ok()?;
+    let first = octets(alloc, "800e07040802000081066901026a0100")?;
+    let last = octets(alloc, "800e070408020fff81066901026a0100")?;
+    let (segment, number) = segment_of(&text, 15)?;
+    Some(
+        text.len() == 65_536
+            && text.starts_with(&first)
+            && segment.len() == 4096
+            && segment.ends_with(&last)
+            && number == 15
+            && segment_of(&text, 16).is_none(),
+    )
+}
+
+/// Whether 4,095 names find a strategy beside `/`, and one more does not, but comes after an unknown
+/// strategy.
+fn refuses_one_strategy_more(alloc: Global) -> Option<bool> {
+    let mut station = Station::new(alloc)?;
+    let multicast = NameBuf::from_uri(alloc, "/localhost/nfd/strategy/multicast").ok()?;
+    for number in (1..4096).rev() {
+        if set(&mut station, &numbered(alloc, number)?, &multicast) != 200 {
+            return Some(false);
+        }
+    }
+    let (more, known) = (numbered(alloc, 4096)?, numbered(alloc, 1)?);
+    Some(
+        set(&mut station, &more, &known) == 404
+            && set(&mut station, &more, &multicast) == 503
+            && set(&mut station, &known, &multicast) == 200,
+    )
+}
+
+/// The status of a strategy for a name.
+fn set(station: &mut Station, name: &NameBuf, strategy: &NameBuf) -> u16 {
+    let command = Command {
+        action: Action::SetStrategy,
+        name: name.view(),
+        face: 0,
+        cost: 0,
+        strategy: Some(strategy.view()),
+        count: None,
+    };
+    station
+        .apply(&command)
+        .map(|applied| applied.status)
+        .unwrap_or(0)
+}
+
+#[test]
+fn full_tables(rt: HostRuntime) {
+    assert!(rt; refuses_one_name_more(rt.alloc()) == Some(true));
+    assert!(rt; refuses_one_strategy_more(rt.alloc()) == Some(true));
+    assert!(rt; lists_4096_routes(rt.alloc()) == Some(true));
+}
+
+/// Whether a list of one route, whose name's component makes it so long, has these segments: the
+/// length of the last one, and its number.
+fn is_cut(alloc: Global, len: usize, last_len: usize, last: u64) -> Option<bool> {
+    let mut station = Station::new(alloc)?;
+    let mut value = Vec::new(alloc);
+    // The four headers of four octets each before the value, and a hop of 8 octets after it.
+    value.resize(len.saturating_sub(20), 7).ok()?;
+    let mut name = NameBuf::new(alloc);
+    name.append(8, &value).ok()?;
+    let is_added = added(&mut station, &name, 2) == 200;
+    let text = fib_dataset(alloc, &station.tables.fib).ok()?;
+    let (segment, number) = segment_of(&text, last)?;
+    Some(is_added && text.len() == len && segment.len() == last_len && number == last)
+}
+
+#[test]
+fn lists_in_segments(rt: HostRuntime) {
+    assert!(rt; is_cut(rt.alloc(), 4096, 4096, 0) == Some(true));
+    assert!(rt; is_cut(rt.alloc(), 4097, 1, 1) == Some(true));
+}
+
+/// A signed add-nexthop of `/A` to face 2, at 1000000, by the key `6b6579` named `/ops/KEY/1`.
+const ADD_NEXTHOP: &str =
+    "0598075008096c6f63616c686f737408036e66640803666962080b6164642d6e657874686f70080a680807030801416901020220b3efe71974da9dc26e88d0c074c8f0ff34ea85c38b109d9e9c6400b87694f2f20a040102030424002c1a1b01041c0f070d08036f707308034b45590801312804000f42402e20d113cf38056af9bbbec876471f4b51934978ef69345464b05cb762148eaa5dbb";
+
+/// The segment of the list of routes, version 2, with `/A` to face 7.
+const LIST_OF_ONE_ROUTE: &str =
+    "0666072108096c6f63616c686f737408036e6664080366696208046c6973743601023201001409190203e81a03320100150f800d070308014181066901076a010016031b010017201b52e55cb80faba7d19cc92444e95d0d6409f1ae0cec3b48ddc33107b7684694";
+
+/// Whether the name of the signed packet is the command.
+fn reads_the_packet(alloc: Global) -> Option<bool> {
+    let packet = octets(alloc, ADD_NEXTHOP)?;
+    let Frame::Interest(interest) = read_frame(&packet).ok()? else {
+        return None;
+    };
+    let command = Command::read(interest.name).ok()?;
+    let is_about = command.name == NameBuf::from_uri(alloc, "/A").ok()?.view();
+    Some(is_about && command.action == Action::AddNexthop && command.face == 2 && command.cost == 0)
+}
+
+/// The Data of a list's segment.
+fn segment_packet<'a>(
+    alloc: Global,
+    name: Name<'a>,
+    segment: &'a [u8],
+    last: u64,
+) -> Option<Vec<u8>> {
+    let writer = DataWriter {
+        name,
+        freshness: Some(1000),
+        last: Some(last),
+        content: Some(segment),
+        sign: Sign::Digest,
+    };
+    let mut packet = Vec::new(alloc);
+    writer.write(&mut packet).ok()?;
+    Some(packet)
+}
+
+/// Whether the segment is written as it stands there.
+fn writes_the_segment(alloc: Global) -> Option<bool> {
+    let fib = routes_in(alloc, "/A 7 0")?;
+    let text = fib_dataset(alloc, &fib).ok()?;
+    let (segment, last) = segment_of(&text, 0)?;
+    let name = NameBuf::from_uri(alloc, "/localhost/nfd/fib/list/v=2/seg=0").ok()?;
+    let packet = segment_packet(alloc, name.view(), segment, last)?;
+    Some(packet.as_slice() == octets(alloc, LIST_OF_ONE_ROUTE)?.as_slice())
+}
+
+#[test]
+fn packets_of_management(rt: HostRuntime) {
+    assert!(rt; reads_the_packet(rt.alloc()) == Some(true));
+    assert!(rt; writes_the_segment(rt.alloc()) == Some(true));
+}
+
+/// Whether a prepared command is not refused memory, and a refused preparation leaves the routes.
+fn applies_what_is_prepared(alloc: Global) -> Option<bool> {
+    let name = numbered(alloc, 1)?;
+    let mut station = Station::new(alloc)?;
+    if !station.prepare(&adds(name.view(), 2)) {
+        return Some(station.hops(name.view()) == 0);
+    }
+    Some(added(&mut station, &name, 2) == 200 && station.hops(name.view()) == 1)
+}
+
+/// Whether a command that nothing prepares has its effect, or none where it is refused memory.
+fn applies_or_leaves(alloc: Global) -> Option<bool> {
+    let name = numbered(alloc, 1)?;
+    let mut station = Station::new(alloc)?;
+    let hops = match added(&mut station, &name, 2) {
+        200 => 1,
+        _ => 0,
+    };
+    Some(station.hops(name.view()) == hops)
+}
+
+/// Whether a reply for which there is no memory leaves what stood before it.
+fn replies_or_leaves(alloc: Global) -> Option<bool> {
+    let mut out = Vec::new(alloc);
+    out.push(7).ok()?;
+    let len = match put_response(&mut out, 200, "OK", &[]) {
+        Ok(()) => 10,
+        Err(_) => 1,
+    };
+    Some(out.len() == len && out.first() == Some(&7))
+}
+
+#[test]
+fn prepared_commands(rt: HostRuntime) {
+    assert!(rt; applies_what_is_prepared(rt.alloc()) == Some(true));
+    assert!(rt; applies_or_leaves(rt.alloc()) == Some(true));
+    assert!(rt; replies_or_leaves(rt.alloc()) == Some(true));
+}
+
+#[test]
+fn refused_memory_for_commands(rt: HostRuntime) {
+    assert!(rt; applies_what_is_prepared(rt.alloc()) != Some(false));
+    assert!(rt; applies_or_leaves(rt.alloc()) != Some(false));
+    assert!(rt; replies_or_leaves(rt.alloc()) != Some(false));
+}
