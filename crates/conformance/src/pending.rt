@@ -143,47 +143,67 @@ fn satisfied(alloc: Global, table: &mut Table, uri: &str) -> Option<String> {
     faces_shown(alloc, &table.satisfy(&data))
 }
 
-/// A call that names a key: `ask KEY FACE NONCE DEADLINE`, `sent KEY ASKER FACE NONCE NOW`,
-/// `loops KEY FACE NONCE`, `nack KEY FACE NONCE REASON`, `of KEY FACE`, `used KEY`,
-/// `withdraw KEY FACE`, `remove KEY`.
+fn nacked_shown(alloc: Global, answer: Nacked) -> Option<String> {
+    match answer {
+        Nacked::NoPending => String::from_str(alloc, "no pending").ok(),
+        Nacked::Waiting => String::from_str(alloc, "waiting").ok(),
+        Nacked::All(reason) => format!(in alloc; "all {reason}").ok(),
+    }
+}
+
+fn interest_shown(alloc: Global, interest: Option<&[u8]>) -> Option<String> {
+    match interest {
+        Some(interest) => hex::encode(alloc, interest).ok(),
+        None => String::from_str(alloc, "none").ok(),
+    }
+}
+
+/// A call that names a key and has one word for an answer: `ask KEY FACE NONCE DEADLINE`,
+/// `sent KEY ASKER FACE NONCE NOW`, `loops KEY FACE NONCE`, `withdraw KEY FACE`, `remove KEY`.
+fn word_of(
+    table: &mut Table,
+    call: &str,
+    key: Key<'_>,
+    face: u64,
+    first: &str,
+    last: &str,
+) -> Option<&'static str> {
+    let is_so = match call {
+        "ask" => table
+            .ask(key, face, nonce_of(first)?, last.parse().ok()?)
+            .is_none(),
+        "sent" => {
+            let (nonce, now) = last.split_once(' ')?;
+            let nonce = nonce_of(nonce)?;
+            table.sent(key, face, first.parse().ok()?, nonce, now.parse().ok()?)
+        }
+        "loops" => table.pit.loops(key, face, nonce_of(first)?),
+        "withdraw" => {
+            table.withdraw(key, face);
+            return Some("-");
+        }
+        "remove" => {
+            table.remove(key);
+            return Some("-");
+        }
+        _ => return None,
+    };
+    Some(if is_so { "yes" } else { "no" })
+}
+
+/// A call that names a key: those above, `nack KEY FACE NONCE REASON`, `of KEY FACE`, `used KEY`.
 fn keyed(alloc: Global, table: &mut Table, call: &str, key: Key<'_>, rest: &str) -> Option<String> {
     let (face, rest) = rest.split_once(' ').unwrap_or((rest, "0"));
     let (first, last) = rest.split_once(' ').unwrap_or((rest, "0"));
     let face = face.parse().ok()?;
     match call {
-        "ask" => match table.ask(key, face, nonce_of(first)?, last.parse().ok()?) {
-            None => format!(in alloc; "ok").ok(),
-            Some(fault) => format!(in alloc; "{fault}").ok(),
-        },
-        "sent" => {
-            let (nonce, now) = last.split_once(' ')?;
-            let nonce = nonce_of(nonce)?;
-            let sent = table.sent(key, face, first.parse().ok()?, nonce, now.parse().ok()?);
-            format!(in alloc; "{sent}").ok()
+        "nack" => {
+            let answer = table.nacked(key, face, nonce_of(first)?, last.parse().ok()?);
+            nacked_shown(alloc, answer)
         }
-        "loops" => {
-            let loops = table.pit.loops(key, face, nonce_of(first)?);
-            format!(in alloc; "{loops}").ok()
-        }
-        "nack" => match table.nacked(key, face, nonce_of(first)?, last.parse().ok()?) {
-            Nacked::NoPending => format!(in alloc; "no pending").ok(),
-            Nacked::Waiting => format!(in alloc; "waiting").ok(),
-            Nacked::All(reason) => format!(in alloc; "all {reason}").ok(),
-        },
-        "of" => match table.pit.interest_of(key, face) {
-            Some(interest) => hex::encode(alloc, interest).ok(),
-            None => format!(in alloc; "none").ok(),
-        },
+        "of" => interest_shown(alloc, table.pit.interest_of(key, face)),
         "used" => used_shown(alloc, &table.pit.used(key)),
-        "withdraw" => {
-            table.withdraw(key, face);
-            format!(in alloc; "-").ok()
-        }
-        "remove" => {
-            table.remove(key);
-            format!(in alloc; "-").ok()
-        }
-        _ => None,
+        _ => String::from_str(alloc, word_of(table, call, key, face, first, last)?).ok(),
     }
 }
 
@@ -227,45 +247,45 @@ fn answers(alloc: Global, row: &str) -> Option<String> {
 
 const ROWS: &str = "\
 # an Interest of lifetime 100 at 1000 waits at 1099, and not at 1100
-ask /A 1 7 1100, expire 1099, data /A -> ok; -; faces 1
-ask /A 1 7 1100, expire 1100, data /A -> ok; -; faces
-ask /A 1 7 1100, expire 1100, ask /A 1 7 1200, expire 1199, data /A -> ok; -; ok; -; faces 1
+ask /A 1 7 1100, expire 1099, data /A -> yes; -; faces 1
+ask /A 1 7 1100, expire 1100, data /A -> yes; -; faces
+ask /A 1 7 1100, expire 1100, ask /A 1 7 1200, expire 1199, data /A -> yes; -; yes; -; faces 1
 # lifetime 0, and the greatest deadline and moment
-ask /A 1 7 1000, len, expire 1000, len -> ok; 1 false; -; 0 true
-ask /A 1 7 18446744073709551615, expire 18446744073709551614, len, expire 18446744073709551615, len -> ok; -; 1 false; -; 0 true
-ask /A 1 7 18446744073709551615, sent /A 1 2 7 18446744073709551615, used /A -> ok; true; used 2@18446744073709551615
+ask /A 1 7 1000, len, expire 1000, len -> yes; 1 false; -; 0 true
+ask /A 1 7 18446744073709551615, expire 18446744073709551614, len, expire 18446744073709551615, len -> yes; -; 1 false; -; 0 true
+ask /A 1 7 18446744073709551615, sent /A 1 2 7 18446744073709551615, used /A -> yes; yes; used 2@18446744073709551615
 # faces 1 (CanBePrefix) and 2 (without) ask for the same name
-ask /A/B+p 1 7 9, ask /A/B 2 8 9, data /A/B/C, len, data /A/B, len -> ok; ok; faces 1; 1 false; faces 2; 0 true
-ask /A/B 3 7 9, ask /A/B+p 1 8 9, ask /A+p 2 9 9, data /A/B -> ok; ok; ok; faces 1 2 3
-ask / 1 7 9, ask /+p 2 7 9, ask /A/B/C 3 7 9, ask /AA+p 4 7 9, data /A/B -> ok; ok; ok; ok; faces 2
+ask /A/B+p 1 7 9, ask /A/B 2 8 9, data /A/B/C, len, data /A/B, len -> yes; yes; faces 1; 1 false; faces 2; 0 true
+ask /A/B 3 7 9, ask /A/B+p 1 8 9, ask /A+p 2 9 9, data /A/B -> yes; yes; yes; faces 1 2 3
+ask / 1 7 9, ask /+p 2 7 9, ask /A/B/C 3 7 9, ask /AA+p 4 7 9, data /A/B -> yes; yes; yes; yes; faces 2
 # MustBeFresh is another key, and is not looked at
-ask /A 1 7 9, ask /A+f 2 8 9, len, data /A, len -> ok; ok; 2 false; faces 1 2; 0 true
+ask /A 1 7 9, ask /A+f 2 8 9, len, data /A, len -> yes; yes; 2 false; faces 1 2; 0 true
 # full names
-ask /A/sha256digest=2d92a383706a615fe67c9a585b00f29c5c06d2abdaec456e9cdc026679eb2479 1 7 9, data /A -> ok; faces 1
-ask /A/sha256digest=6b50b2f9e1b4b6cb6b9a7a4a4c4a2b52f2e4a1f1d8a3a7bd1a2a3b4c5d6e7f80 1 7 9, ask /A 2 8 9, data /A, len -> ok; ok; faces 2; 1 false
+ask /A/sha256digest=2d92a383706a615fe67c9a585b00f29c5c06d2abdaec456e9cdc026679eb2479 1 7 9, data /A -> yes; faces 1
+ask /A/sha256digest=6b50b2f9e1b4b6cb6b9a7a4a4c4a2b52f2e4a1f1d8a3a7bd1a2a3b4c5d6e7f80 1 7 9, ask /A 2 8 9, data /A, len -> yes; yes; faces 2; 1 false
 # a repeated Interest, a loop, and a retry
-ask /A 1 7 5000, sent /A 1 2 7 1000, loops /A 2 7, loops /A 1 7, loops /A 3 7, loops /A 3 8, used /A -> ok; true; true; false; true; false; used 2@1000
-ask /A 1 7 5000, sent /A 1 2 7 1000, ask /A 1 8 5000, loops /A 1 7, loops /A 2 7, loops /A 3 7, loops /A 3 8 -> ok; true; ok; true; true; true; true
-ask /A 1 7 5000, loops /A 2 7, loops /A+p 2 7, loops /B 2 7 -> ok; true; false; false
-ask /A 1 7 5000, sent /A 1 2 7 1000, sent /A 1 2 8 1010, sent /A 1 1 8 1010, used /A, used /B -> ok; true; true; true; used 1@1010 2@1010; used
-ask /A 1 7 5000, sent /A 1 2 7 1000, loops /A 1 7, ask /A 1 7 5009, used /A, sent /A 1 2 7 1010, used /A, nack /A 2 7 150, of /A 1 -> ok; true; false; ok; used 2@1000; true; used 2@1010; all 150; 00000007
+ask /A 1 7 5000, sent /A 1 2 7 1000, loops /A 2 7, loops /A 1 7, loops /A 3 7, loops /A 3 8, used /A -> yes; yes; yes; no; yes; no; used 2@1000
+ask /A 1 7 5000, sent /A 1 2 7 1000, ask /A 1 8 5000, loops /A 1 7, loops /A 2 7, loops /A 3 7, loops /A 3 8 -> yes; yes; yes; yes; yes; yes; yes
+ask /A 1 7 5000, loops /A 2 7, loops /A+p 2 7, loops /B 2 7 -> yes; yes; no; no
+ask /A 1 7 5000, sent /A 1 2 7 1000, sent /A 1 2 8 1010, sent /A 1 1 8 1010, used /A, used /B -> yes; yes; yes; yes; used 1@1010 2@1010; used
+ask /A 1 7 5000, sent /A 1 2 7 1000, loops /A 1 7, ask /A 1 7 5009, used /A, sent /A 1 2 7 1010, used /A, nack /A 2 7 150, of /A 1 -> yes; yes; no; yes; used 2@1000; yes; used 2@1010; all 150; 00000007
 # Nacks
-ask /A 1 7 5000, sent /A 1 2 7 1000, nack /A 2 7 150, remove /A, nack /A 2 7 150 -> ok; true; all 150; -; no pending
-ask /A 1 7 5000, sent /A 1 2 7 0, sent /A 1 3 7 0, nack /A 3 7 150, nack /A 2 8 50, nack /A 2 7 100 -> ok; true; true; waiting; no pending; all 100
-ask /A 1 7 5000, sent /A 1 2 7 0, sent /A 1 3 7 0, nack /A 3 7 50, nack /A 3 7 0, nack /A 2 7 100 -> ok; true; true; waiting; waiting; all 0
-ask /A 1 7 5000, sent /A 1 2 7 0, sent /A 1 3 7 0, nack /A 3 7 50, sent /A 1 3 8 9, nack /A 2 7 100, nack /A 3 7 50, nack /A 3 8 150 -> ok; true; true; waiting; true; waiting; no pending; all 100
-ask /A 1 7 5000, nack /A 1 7 50, nack /A+f 1 7 50 -> ok; no pending; no pending
+ask /A 1 7 5000, sent /A 1 2 7 1000, nack /A 2 7 150, remove /A, nack /A 2 7 150 -> yes; yes; all 150; -; no pending
+ask /A 1 7 5000, sent /A 1 2 7 0, sent /A 1 3 7 0, nack /A 3 7 150, nack /A 2 8 50, nack /A 2 7 100 -> yes; yes; yes; waiting; no pending; all 100
+ask /A 1 7 5000, sent /A 1 2 7 0, sent /A 1 3 7 0, nack /A 3 7 50, nack /A 3 7 0, nack /A 2 7 100 -> yes; yes; yes; waiting; waiting; all 0
+ask /A 1 7 5000, sent /A 1 2 7 0, sent /A 1 3 7 0, nack /A 3 7 50, sent /A 1 3 8 9, nack /A 2 7 100, nack /A 3 7 50, nack /A 3 8 150 -> yes; yes; yes; waiting; yes; waiting; no pending; all 100
+ask /A 1 7 5000, nack /A 1 7 50, nack /A+f 1 7 50 -> yes; no pending; no pending
 # what a face asked last
-ask /A 1 7 5, ask /A 1 8 4, of /A 1, of /A 2, of /A+p 1, expire 4, len -> ok; ok; 00000008; none; none; -; 0 true
-ask /A 1 7 5, ask /A 2 8 4, withdraw /A 1, of /A 1, of /A 2, withdraw /A 2, len -> ok; ok; -; none; 00000008; -; 0 true
-ask /A 1 7 5, withdraw /A 2, withdraw /B 1, remove /A+p, len -> ok; -; -; -; 1 false
+ask /A 1 7 5, ask /A 1 8 4, of /A 1, of /A 2, of /A+p 1, expire 4, len -> yes; yes; 00000008; none; none; -; 0 true
+ask /A 1 7 5, ask /A 2 8 4, withdraw /A 1, of /A 1, of /A 2, withdraw /A 2, len -> yes; yes; -; none; 00000008; -; 0 true
+ask /A 1 7 5, withdraw /A 2, withdraw /B 1, remove /A+p, len -> yes; -; -; -; 1 false
 # without an asker the faces asked are forgotten
-ask /A 1 7 5, sent /A 1 2 7 1, withdraw /A 1, ask /A 3 9 5, used /A, loops /A 4 7 -> ok; true; -; ok; used; false
-ask /A 1 7 5, ask /A 3 9 6, sent /A 1 2 7 1, expire 5, used /A, expire 6, ask /A 1 7 9, used /A -> ok; ok; true; -; used 2@1; -; ok; used
+ask /A 1 7 5, sent /A 1 2 7 1, withdraw /A 1, ask /A 3 9 5, used /A, loops /A 4 7 -> yes; yes; -; yes; used; no
+ask /A 1 7 5, ask /A 3 9 6, sent /A 1 2 7 1, expire 5, used /A, expire 6, ask /A 1 7 9, used /A -> yes; yes; yes; -; used 2@1; -; yes; used
 # a face that closes
-ask /A 1 7 5, sent /A 1 2 7 1, close 2, len, used /A -> ok; true; -; 1 false; used
-ask /A 1 7 5, ask /B 1 8 5, ask /B 2 9 5, sent /B 2 1 9 1, close 1, len, used /B, data /B -> ok; ok; ok; true; -; 1 false; used; faces 2
-ask /A 1 7 5, sent /A 1 2 7 1, sent /A 1 3 7 1, nack /A 3 7 50, close 2, len, used /A, nack /A 3 7 50 -> ok; true; true; waiting; -; 1 false; used 3@1; all 50
+ask /A 1 7 5, sent /A 1 2 7 1, close 2, len, used /A -> yes; yes; -; 1 false; used
+ask /A 1 7 5, ask /B 1 8 5, ask /B 2 9 5, sent /B 2 1 9 1, close 1, len, used /B, data /B -> yes; yes; yes; yes; -; 1 false; used; faces 2
+ask /A 1 7 5, sent /A 1 2 7 1, sent /A 1 3 7 1, nack /A 3 7 50, close 2, len, used /A, nack /A 3 7 50 -> yes; yes; yes; waiting; -; 1 false; used 3@1; all 50
 ";
 
 #[test]
