@@ -22,6 +22,8 @@ mod patterns;
 #[cfg(test)]
 mod pending;
 #[cfg(test)]
+mod repository;
+#[cfg(test)]
 mod rows;
 #[cfg(test)]
 mod rules;

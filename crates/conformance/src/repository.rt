@@ -1,0 +1,461 @@
+//! The repository: its commands, what it stores and serves, and its replies.
+
+mod random_sequences;
+
+use crate::rows::{check_rows, octets};
+use ndn_names::{Name, NameBuf};
+use ndn_packets::*;
+use repo_core::*;
+use std::alloc::Global;
+
+/// A Data of a name and a Content in hexadecimal.
+fn data_of(alloc: Global, name: &str, content: &str) -> Option<Vec<u8>> {
+    let name = NameBuf::from_uri(alloc, name).ok()?;
+    let content = octets(alloc, content)?;
+    written(alloc, name.view(), &content)
+}
+
+fn written<'a>(alloc: Global, name: Name<'a>, content: &'a [u8]) -> Option<Vec<u8>> {
+    let writer = DataWriter {
+        name,
+        freshness: None,
+        last: None,
+        content: Some(content),
+        sign: Sign::Digest,
+    };
+    let mut out = Vec::new(alloc);
+    writer.write(&mut out).ok()?;
+    Some(out)
+}
+
+/// The octets of an Interest's Name and flag, as fields of parameters.
+fn fields_of(alloc: Global, name: &str, can_be_prefix: bool) -> Option<Vec<u8>> {
+    let name = NameBuf::from_uri(alloc, name).ok()?;
+    let mut fields = Vec::new(alloc);
+    ndn_tlv::put_element(&mut fields, 7, name.view().as_octets()).ok()?;
+    if can_be_prefix {
+        ndn_tlv::put_element(&mut fields, 33, &[]).ok()?;
+    }
+    Some(fields)
+}
+
+/// A command's name: the verb, and the parameters' fields, with a digest of zeros after them.
+fn command_name(alloc: Global, verb: &str, fields: &[u8]) -> Option<NameBuf> {
+    let mut parameters = Vec::new(alloc);
+    ndn_tlv::put_element(&mut parameters, 201, fields).ok()?;
+    let mut name = NameBuf::from_uri(alloc, "/repo").ok()?;
+    name.append(8, verb.as_bytes()).ok()?;
+    name.append(8, &parameters).ok()?;
+    name.append(2, &[0; 32]).ok()?;
+    Some(name)
+}
+
+/// The command of a verb on the Data that answer an Interest, with a lifetime if there is one.
+fn command_on(alloc: Global, verb: &str, asked: &str, lifetime: Option<u64>) -> Option<NameBuf> {
+    let (uri, can_be_prefix) = match asked.strip_suffix('*') {
+        Some(uri) => (uri, true),
+        None => (asked, false),
+    };
+    let mut fields = fields_of(alloc, uri, can_be_prefix)?;
+    if let Some(lifetime) = lifetime {
+        let mut value = Vec::new(alloc);
+        ndn_tlv::put_nni(&mut value, lifetime).ok()?;
+        ndn_tlv::put_element(&mut fields, 12, &value).ok()?;
+    }
+    command_name(alloc, verb, &fields)
+}
+
+/// A reply: its status and count, and what is fetched.
+fn reply_shown(alloc: Global, reply: &RepoReply) -> Option<String> {
+    let (status, count) = (reply.status, reply.count);
+    let Some(want) = &reply.fetch else {
+        return format!(in alloc; "{status}:{count}").ok();
+    };
+    let flag = if want.can_be_prefix { "*" } else { "" };
+    let (name, lifetime) = (&want.name, want.lifetime);
+    format!(in alloc; "{status}:{count} {name}{flag} {lifetime}").ok()
+}
+
+/// Gives a command: its verb, what it asks, the moment and perhaps a lifetime.
+fn command(alloc: Global, repo: &mut Repo, verb: &str, words: &str) -> Option<String> {
+    let mut words = words.split(' ');
+    let asked = words.next()?;
+    let now = words.next()?.parse().ok()?;
+    let lifetime = match words.next() {
+        Some(word) => Some(word.parse().ok()?),
+        None => None,
+    };
+    let name = command_on(alloc, verb, asked, lifetime)?;
+    let reply = repo.command(name.view(), now).ok()?;
+    reply_shown(alloc, &reply)
+}
+
+/// Offers a Data: its name and its Content.
+fn offer(alloc: Global, repo: &mut Repo, words: &str) -> Option<String> {
+    let (name, content) = words.split_once(' ')?;
+    let packet = data_of(alloc, name, content)?;
+    let Frame::Data(data) = read_frame(&packet).ok()? else {
+        return None;
+    };
+    let filled = repo.offer(&data).ok()?;
+    format!(in alloc; "{filled}").ok()
+}
+
+/// The Content of what an Interest gets; `!` after its name is MustBeFresh.
+fn serve(alloc: Global, repo: &Repo, asked: &str) -> Option<String> {
+    let (asked, must_be_fresh) = match asked.strip_suffix('!') {
+        Some(asked) => (asked, true),
+        None => (asked, false),
+    };
+    let (uri, can_be_prefix) = match asked.strip_suffix('*') {
+        Some(uri) => (uri, true),
+        None => (asked, false),
+    };
+    let name = NameBuf::from_uri(alloc, uri).ok()?;
+    let writer = InterestWriter {
+        name: name.view(),
+        can_be_prefix,
+        must_be_fresh,
+        nonce: [0; 4],
+        lifetime: None,
+        hop_limit: None,
+        parameters: None,
+        sign: None,
+        time: None,
+        seq: None,
+    };
+    let mut packet = Vec::new(alloc);
+    writer.write(&mut packet).ok()?;
+    let Frame::Interest(interest) = read_frame(&packet).ok()? else {
+        return None;
+    };
+    let Some(served) = repo.serve(&interest) else {
+        return String::from_str(alloc, "none").ok();
+    };
+    let Frame::Data(data) = read_frame(served).ok()? else {
+        return None;
+    };
+    hex::encode(alloc, data.content?).ok()
+}
+
+/// What a call answers, if that is shown.
+fn answer(alloc: Global, repo: &mut Repo, call: &str) -> Option<Option<String>> {
+    let (verb, words) = call.split_once(' ')?;
+    match verb {
+        "offer" => offer(alloc, repo, words).map(Some),
+        "serve" => serve(alloc, repo, words).map(Some),
+        "expire" => {
+            repo.expire(words.parse().ok()?);
+            Some(None)
+        }
+        _ => command(alloc, repo, verb, words).map(Some),
+    }
+}
+
+/// The answers of calls, one after the other.
+fn answers(alloc: Global, calls: &str) -> Option<String> {
+    let prefix = NameBuf::from_uri(alloc, "/repo").ok()?;
+    let mut repo = Repo::new(alloc, prefix).ok()?;
+    let mut shown = String::new(alloc);
+    for call in calls.split_terminator(", ") {
+        if let Some(text) = answer(alloc, &mut repo, call)? {
+            if !shown.is_empty() {
+                shown.push_str(", ").ok()?;
+            }
+            shown.push_str(&text).ok()?;
+        }
+    }
+    Some(shown)
+}
+
+#[test]
+fn repository_life(rt: HostRuntime) {
+    let rows = "
+insert /A 1000000, offer /A 01, insert /A 1000000, serve /A, delete /A 1000000, check /A 1000000, serve /A -> 100:0 /A 4000, true, 200:1, 01, 200:1, 404:0, none
+# Data that nobody wants are not stored.
+offer /A 01, check /A 0, insert /A 0, offer /B 01, check /B 0, check /A 0 -> false, 404:0, 100:0 /A 4000, false, 404:0, 100:0
+# A filled want is gone, and so are all that one Data fills.
+insert /A 0, insert /A* 0, insert /B 0, offer /A 01, offer /A 02, check /A 0, delete /A* 0, delete /A* 0, check /B 0 -> 100:0 /A 4000, 100:0 /A* 4000, 100:0 /B 4000, true, false, 200:1, 200:1, 404:0, 100:0
+# Each object that answers is counted, and deleted.
+insert /A/1* 0, offer /A/1/x 01, insert /A/2* 0, offer /A/2/y 02, check /A* 0, check /A 0, delete /A* 0, check /A* 0, serve /A/1/x -> 100:0 /A/1* 4000, true, 100:0 /A/2* 4000, true, 200:2, 404:0, 200:2, 404:0, none
+# A delete takes the want of its own flag alone.
+insert /A 0, delete /A* 0, check /A 0, delete /A 0, check /A 0 -> 100:0 /A 4000, 404:0, 100:0, 200:0, 404:0
+# What is served: the least full name that answers, fresh or not.
+insert /A/2 0, offer /A/2 02, insert /A/1 0, offer /A/1 01, serve /A, serve /A*, serve /A*!, serve /A/2 -> 100:0 /A/2 4000, true, 100:0 /A/1 4000, true, none, 01, 01, 02
+# Full names in wants and Interests. By another program the digests of /A are d995.. with the Content 01, and 39ca.. with 02.
+insert /A/sha256digest=d995119f06c9061252b84b965bc440b037330601163443b3445e3e5cb367fcc5 0, offer /A 02, check /A 0, offer /A 01, check /A/sha256digest=d995119f06c9061252b84b965bc440b037330601163443b3445e3e5cb367fcc5 0, check /A/sha256digest=39caf7c279362f9f0fbef289ab00f666f3dccf5dd9151758293bd5d959cda26c* 0, serve /A/sha256digest=d995119f06c9061252b84b965bc440b037330601163443b3445e3e5cb367fcc5, delete /A/sha256digest=d995119f06c9061252b84b965bc440b037330601163443b3445e3e5cb367fcc5* 0 -> 100:0 /A/sha256digest=d995119f06c9061252b84b965bc440b037330601163443b3445e3e5cb367fcc5 4000, false, 404:0, true, 200:1, 404:0, 01, 200:1
+";
+    check_rows(&rt, rt.alloc(), rows, answers);
+}
+
+#[test]
+fn want_deadline(rt: HostRuntime) {
+    let rows = "
+insert /A 1000000 100, expire 1000099, check /A 1000099, expire 1000100, check /A 1000100 -> 100:0 /A 100, 100:0, 404:0
+# An equal want is renewed, sooner or later.
+insert /A 0 100, insert /A 50 100, expire 100, check /A 0, expire 150, check /A 0 -> 100:0 /A 100, 100:0 /A 100, 100:0, 404:0
+insert /A 0 100, insert /A 0 10, expire 10, check /A 0 -> 100:0 /A 100, 100:0 /A 10, 404:0
+# Without a lifetime it stands 4,000 ms.
+insert /A 0, expire 3999, check /A 0, expire 4000, check /A 0 -> 100:0 /A 4000, 100:0, 404:0
+# The sum stops at the greatest moment.
+insert /A 5 18446744073709551615, expire 18446744073709551614, check /A 0, expire 18446744073709551615, check /A 0 -> 100:0 /A 18446744073709551615, 100:0, 404:0
+insert /A 5 0, check /A 5, expire 5, check /A 5 -> 100:0 /A 0, 100:0, 404:0
+";
+    check_rows(&rt, rt.alloc(), rows, answers);
+}
+
+/// What a command answers on an empty repository of the prefix `/repo`: a URI, and components after
+/// it in hexadecimal; the word `digest` stands for a digest of zeros.
+fn first_answer(alloc: Global, text: &str) -> Option<String> {
+    let mut words = text.split(' ');
+    let mut name = NameBuf::from_uri(alloc, words.next()?).ok()?;
+    for word in words {
+        if word == "digest" {
+            name.append(2, &[0; 32]).ok()?;
+        } else {
+            name.append(8, &octets(alloc, word)?).ok()?;
+        }
+    }
+    let prefix = NameBuf::from_uri(alloc, "/repo").ok()?;
+    let mut repo = Repo::new(alloc, prefix).ok()?;
+    let reply = repo.command(name.view(), 1000000).ok()?;
+    reply_shown(alloc, &reply)
+}
+
+#[test]
+fn repository_commands(rt: HostRuntime) {
+    let rows = "
+/repo/insert c9050703080141 digest -> 100:0 /A 4000
+/repo/insert c90707030801412100 digest -> 100:0 /A* 4000
+/repo/insert c9080703080141 0c0164 digest -> 400:0
+/repo/insert c90807030801410c0164 digest -> 100:0 /A 100
+/repo/insert c90a210007030801410c0164 digest -> 100:0 /A* 100
+/repo/check c9050703080141 digest -> 404:0
+/repo/delete c9050703080141 digest -> 404:0
+/repo/insert c9020700 digest -> 100:0 / 4000
+# The first of each field counts, and unknown elements are ignored.
+/repo/insert c90a07030801410703080142 digest -> 100:0 /A 4000
+/repo/insert c9070703080141f100 digest -> 100:0 /A 4000
+# Fields of a wrong form, in every verb.
+/repo/insert c9080703080141210101 digest -> 400:0
+/repo/delete c9080703080141210101 digest -> 400:0
+/repo/check c90907030801410c020000 digest -> 404:0
+/repo/check c90a07030801410c03000000 digest -> 400:0
+/repo/insert c9021234 digest -> 400:0
+/repo/insert c900 digest -> 400:0
+/repo/insert c9022100 digest -> 400:0
+/repo/insert c907070308014107 digest -> 400:0
+/repo/insert c9050703000141 digest -> 400:0
+# Another shape.
+/repo/insert c9050703080141 -> 400:0
+/repo/insert digest -> 400:0
+/repo/insert c9050703080141 c9050703080141 digest -> 400:0
+/repo/insert c9050703080141 digest digest -> 400:0
+/repo/insert c905070308014100 digest -> 400:0
+/repo/insert 68050703080141 digest -> 400:0
+/repo/list c9050703080141 digest -> 400:0
+/other/insert c9050703080141 digest -> 400:0
+/repo -> 400:0
+/ -> 400:0
+";
+    check_rows(&rt, rt.alloc(), rows, first_answer);
+}
+
+/// A reply: a status, its text and a count.
+fn reply_written(alloc: Global, row: &str) -> Option<String> {
+    let (status, count) = row.split_once(' ')?;
+    let status = status.parse().ok()?;
+    let mut out = Vec::new(alloc);
+    put_repo_reply(&mut out, status, status_text(status)?, count.parse().ok()?).ok()?;
+    hex::encode(alloc, &out).ok()
+}
+
+#[test]
+fn repository_replies(rt: HostRuntime) {
+    let rows = "
+100 0 -> cf0fd00164670770656e64696e67840100
+200 1 -> cf0ad001c867024f4b840101
+400 0 -> cf17d0020190670e62616420706172616d6574657273840100
+404 256 -> cf13d002019467096e6f7420666f756e6484020100
+503 0 -> cf18d00201f7670f7265706f7369746f72792066756c6c840100
+";
+    check_rows(&rt, rt.alloc(), rows, reply_written);
+    assert!(rt; status_text(403).is_none());
+}
+
+/// The verb of a name, in a repository of the prefix `/repo`.
+fn verb_shown(alloc: Global, uri: &str) -> Option<String> {
+    let prefix = NameBuf::from_uri(alloc, "/repo").ok()?;
+    let repo = Repo::new(alloc, prefix).ok()?;
+    let name = NameBuf::from_uri(alloc, uri).ok()?;
+    let text = match repo.verb_of(name.view()) {
+        Some(Verb::Insert) => "insert",
+        Some(Verb::Delete) => "delete",
+        Some(Verb::Check) => "check",
+        None => "none",
+    };
+    String::from_str(alloc, text).ok()
+}
+
+#[test]
+fn repository_verbs(rt: HostRuntime) {
+    let rows = "
+/repo/insert -> insert
+/repo/delete/x/y -> delete
+/repo/check/x -> check
+/repo -> none
+/repo/32=insert -> none
+/repo/Insert -> none
+/repo/x/insert -> none
+/insert -> none
+/repos/insert -> none
+";
+    check_rows(&rt, rt.alloc(), rows, verb_shown);
+}
+
+/// Gives a command on `/N` and answers its status.
+fn status_of(alloc: Global, repo: &mut Repo, verb: &str, number: usize) -> Option<u16> {
+    let uri = format!(in alloc; "/{number}").ok()?;
+    let name = command_on(alloc, verb, &uri, None)?;
+    Some(repo.command(name.view(), 0).ok()?.status)
+}
+
+/// Whether 64 wants fit, no other does, and an equal one does.
+fn wants_are_limited(alloc: Global) -> Option<bool> {
+    let prefix = NameBuf::from_uri(alloc, "/repo").ok()?;
+    let mut repo = Repo::new(alloc, prefix).ok()?;
+    for number in 0..64 {
+        if status_of(alloc, &mut repo, "insert", number)? != 100 {
+            return Some(false);
+        }
+    }
+    let new = status_of(alloc, &mut repo, "insert", 64)?;
+    let equal = status_of(alloc, &mut repo, "insert", 5)?;
+    let absent = status_of(alloc, &mut repo, "check", 64)?;
+    repo.expire(4000);
+    let later = status_of(alloc, &mut repo, "insert", 64)?;
+    Some(new == 503 && equal == 100 && absent == 404 && later == 100)
+}
+
+#[test]
+fn sixty_four_wants(rt: HostRuntime) {
+    assert!(rt; wants_are_limited(rt.alloc()) == Some(true));
+}
+
+/// Octets that differ in one number.
+#[derive(Drop)]
+struct Numbered {
+    front: Vec<u8>,
+    back: Vec<u8>,
+    octets: Vec<u8>,
+}
+
+impl Numbered {
+    /// From what stands before the number and after it, in hexadecimal.
+    fn new(alloc: Global, front: &str, back: &str) -> Option<Numbered> {
+        Some(Numbered {
+            front: octets(alloc, front)?,
+            back: octets(alloc, back)?,
+            octets: Vec::new(alloc),
+        })
+    }
+
+    fn with(&mut self, number: u32) -> Option<&[u8]> {
+        self.octets.clear();
+        self.octets.extend_from_slice(&self.front).ok()?;
+        self.octets.extend_from_slice(&number.to_be_bytes()).ok()?;
+        self.octets.extend_from_slice(&self.back).ok()?;
+        Some(&self.octets)
+    }
+}
+
+/// A repository, the names of inserts of one name each, and the Data of these names. The names rise
+/// with their numbers.
+#[derive(Drop)]
+struct Filling {
+    repo: Repo,
+    inserts: Numbered,
+    packets: Numbered,
+}
+
+impl Filling {
+    fn new(alloc: Global) -> Option<Filling> {
+        let insert = "08047265706f 0806696e73657274 080ac90807060804";
+        Some(Filling {
+            repo: Repo::new(alloc, NameBuf::from_uri(alloc, "/repo").ok()?).ok()?,
+            inserts: Numbered::new(alloc, insert, "0220 00x32")?,
+            packets: Numbered::new(alloc, "060f07060804", "16031b01001700")?,
+        })
+    }
+
+    /// Asks for the Data of a number, and answers the status.
+    fn ask(&mut self, number: u32) -> Option<u16> {
+        let name = Name::read(self.inserts.with(number)?).ok()?;
+        Some(self.repo.command(name, 0).ok()?.status)
+    }
+
+    fn offer(&mut self, number: u32) -> Option<bool> {
+        let Frame::Data(data) = read_frame(self.packets.with(number)?).ok()? else {
+            return None;
+        };
+        self.repo.offer(&data).ok()
+    }
+}
+
+/// Whether 65,535 objects and a want fit, no other want does, and the object of this one does.
+fn objects_are_limited(alloc: Global) -> Option<bool> {
+    let mut filling = Filling::new(alloc)?;
+    for number in 0..65_535 {
+        if filling.ask(number)? != 100 || !filling.offer(number)? {
+            return Some(false);
+        }
+    }
+    let last = filling.ask(65_535)?;
+    let one_more = filling.ask(65_536)?;
+    let equal = filling.ask(65_535)?;
+    let is_stored = filling.offer(65_535)?;
+    let full = filling.ask(65_536)?;
+    let held = filling.ask(7)?;
+    Some(is_stored && [last, one_more, equal, full, held] == [100, 503, 100, 503, 200])
+}
+
+#[test]
+fn objects_and_wants(rt: HostRuntime) {
+    assert!(rt; objects_are_limited(rt.alloc()) == Some(true));
+}
+
+/// Whether a command and an offer answer as prepared, or say that memory was refused, and a refusal
+/// changes nothing.
+fn is_prepared(alloc: Global) -> Option<bool> {
+    let prefix = NameBuf::from_uri(alloc, "/repo").ok()?;
+    let insert = command_on(alloc, "insert", "/A", None)?;
+    let check = command_on(alloc, "check", "/A", None)?;
+    let packet = data_of(alloc, "/A", "01")?;
+    let Frame::Data(data) = read_frame(&packet).ok()? else {
+        return None;
+    };
+    let mut repo = Repo::new(alloc, prefix).ok()?;
+    repo.prepare_command(insert.view()).ok()?;
+    repo.expire(0);
+    if repo.command(insert.view(), 0).is_err() {
+        return Some(false);
+    }
+    let was_prepared = repo.prepare_offer(&data).is_ok();
+    repo.expire(0);
+    let filled = repo.offer(&data);
+    let status = repo.command(check.view(), 0).ok()?.status;
+    match filled {
+        Ok(filled) => Some(filled && status == 200),
+        Err(_) => Some(!was_prepared && status == 100),
+    }
+}
+
+#[test]
+fn repository_with_refused_memory(rt: HostRuntime) {
+    assert!(rt; is_prepared(rt.alloc()) != Some(false));
+}
+
+#[test]
+fn repository_prepared(rt: HostRuntime) {
+    assert!(rt; is_prepared(rt.alloc()) == Some(true));
+}

@@ -1,0 +1,261 @@
+//! Random calls of a repository, beside plain lists that are searched from end to end.
+
+use super::{command_on, data_of};
+use ndn_names::NameBuf;
+use ndn_packets::*;
+use repo_core::*;
+use std::alloc::Global;
+
+/// Names in canonical order, of which the first begins the next two.
+const NAMES: [&str; 5] = ["/A", "/A/B", "/A/C", "/B", "/AA"];
+
+/// Whether the second name begins with the first, both by their places.
+fn begins(first: usize, second: usize) -> bool {
+    first == second || (first == 0 && (second == 1 || second == 2))
+}
+
+/// A Data, with the place of its name and its digest.
+#[derive(Drop)]
+struct Made {
+    name: usize,
+    packet: Vec<u8>,
+    digest: [u8; 32],
+}
+
+#[derive(Clone, Copy)]
+struct Wanted {
+    name: usize,
+    can_be_prefix: bool,
+    deadline: u64,
+}
+
+/// What a repository holds, in plain lists.
+#[derive(Drop)]
+struct Plain {
+    objects: Vec<usize>,
+    wants: Vec<Wanted>,
+}
+
+/// The next number of a sequence without a pattern (xorshift), below a limit.
+fn random(state: &mut u64, limit: u64) -> u64 {
+    *state ^= state.wrapping_shl(13);
+    *state ^= state.wrapping_shr(7);
+    *state ^= state.wrapping_shl(17);
+    state.checked_rem(limit).unwrap_or(0)
+}
+
+fn written(alloc: Global, name: usize, uri: &str, content: &str) -> Option<Made> {
+    let packet = data_of(alloc, uri, content)?;
+    let Frame::Data(data) = read_frame(&packet).ok()? else {
+        return None;
+    };
+    let digest = data.digest();
+    Some(Made {
+        name,
+        packet,
+        digest,
+    })
+}
+
+fn all_made(alloc: Global) -> Option<Vec<Made>> {
+    let mut all = Vec::new(alloc);
+    for (name, uri) in NAMES.iter().enumerate() {
+        all.push(written(alloc, name, uri, "01")?).ok()?;
+        all.push(written(alloc, name, uri, "02")?).ok()?;
+    }
+    Some(all)
+}
+
+/// Whether a Data answers an Interest of this name and flag.
+fn answers(made: &Made, name: usize, can_be_prefix: bool) -> bool {
+    made.name == name || (can_be_prefix && begins(name, made.name))
+}
+
+/// How many objects answer.
+fn number(all: &[Made], plain: &Plain, name: usize, can_be_prefix: bool) -> Option<u64> {
+    let mut count: u64 = 0;
+    for place in &plain.objects {
+        if answers(all.get(*place)?, name, can_be_prefix) {
+            count = count.checked_add(1)?;
+        }
+    }
+    Some(count)
+}
+
+/// The least object that answers.
+fn least<'a>(
+    all: &'a [Made],
+    plain: &Plain,
+    name: usize,
+    can_be_prefix: bool,
+) -> Option<Option<&'a Made>> {
+    let mut least: Option<&Made> = None;
+    for place in &plain.objects {
+        let one = all.get(*place)?;
+        let is_less = match least {
+            Some(other) => {
+                (one.name, one.digest.as_slice()) < (other.name, other.digest.as_slice())
+            }
+            None => true,
+        };
+        if is_less && answers(one, name, can_be_prefix) {
+            least = Some(one);
+        }
+    }
+    Some(least)
+}
+
+fn has_want(plain: &Plain, name: usize, can_be_prefix: bool) -> bool {
+    plain.wants.iter().any(|want| want.name == name && want.can_be_prefix == can_be_prefix)
+}
+
+/// The status and count of a command, which has its effect on the lists.
+fn expected(all: &[Made], plain: &mut Plain, verb: &str, asked: Wanted) -> Option<(u16, u64)> {
+    let (name, flag) = (asked.name, asked.can_be_prefix);
+    let count = number(all, plain, name, flag)?;
+    let wanted = has_want(plain, name, flag);
+    if verb == "delete" {
+        plain
+            .wants
+            .retain(|want| want.name != name || want.can_be_prefix != flag);
+        plain.objects.retain(|place| all.get(*place).is_none_or(|one| !answers(one, name, flag)));
+        let status = if count > 0 || wanted { 200 } else { 404 };
+        return Some((status, count));
+    }
+    if count > 0 {
+        return Some((200, count));
+    }
+    if verb == "check" {
+        return Some((if wanted { 100 } else { 404 }, 0));
+    }
+    plain
+        .wants
+        .retain(|want| want.name != name || want.can_be_prefix != flag);
+    plain.wants.push(asked).ok()?;
+    Some((100, 0))
+}
+
+/// Whether a command answers as expected.
+fn command_agrees(
+    alloc: Global,
+    all: &[Made],
+    repo: &mut Repo,
+    plain: &mut Plain,
+    state: &mut u64,
+) -> Option<bool> {
+    let verb = match random(state, 5) {
+        0 => "delete",
+        1 => "check",
+        _ => "insert",
+    };
+    let (name, flag) = (random(state, 5) as usize, random(state, 2) == 1);
+    let (now, lifetime) = (random(state, 20), random(state, 20));
+    let suffix = if flag { "*" } else { "" };
+    let uri = NAMES.get(name)?;
+    let asked = format!(in alloc; "{uri}{suffix}").ok()?;
+    let command = command_on(alloc, verb, &asked, Some(lifetime))?;
+    let reply = repo.command(command.view(), now).ok()?;
+    let wanted = Wanted {
+        name,
+        can_be_prefix: flag,
+        deadline: now.saturating_add(lifetime),
+    };
+    Some((reply.status, reply.count) == expected(all, plain, verb, wanted)?)
+}
+
+/// Whether an offer is answered as expected.
+fn offer_agrees(all: &[Made], repo: &mut Repo, plain: &mut Plain, state: &mut u64) -> Option<bool> {
+    let place = random(state, 10) as usize;
+    let one = all.get(place)?;
+    let Frame::Data(data) = read_frame(&one.packet).ok()? else {
+        return None;
+    };
+    let before = plain.wants.len();
+    plain
+        .wants
+        .retain(|want| !answers(one, want.name, want.can_be_prefix));
+    let is_filled = plain.wants.len() != before;
+    if is_filled {
+        plain.objects.retain(|other| *other != place);
+        plain.objects.push(place).ok()?;
+    }
+    Some(repo.offer(&data).ok()? == is_filled)
+}
+
+/// Whether an Interest is served as expected.
+fn serve_agrees(
+    alloc: Global,
+    all: &[Made],
+    repo: &Repo,
+    plain: &Plain,
+    state: &mut u64,
+) -> Option<bool> {
+    let (name, flag) = (random(state, 5) as usize, random(state, 2) == 1);
+    let uri = NameBuf::from_uri(alloc, NAMES.get(name)?).ok()?;
+    let writer = InterestWriter {
+        name: uri.view(),
+        can_be_prefix: flag,
+        must_be_fresh: random(state, 2) == 1,
+        nonce: [0; 4],
+        lifetime: None,
+        hop_limit: None,
+        parameters: None,
+        sign: None,
+        time: None,
+        seq: None,
+    };
+    let mut packet = Vec::new(alloc);
+    writer.write(&mut packet).ok()?;
+    let Frame::Interest(interest) = read_frame(&packet).ok()? else {
+        return None;
+    };
+    let served = repo.serve(&interest);
+    Some(match least(all, plain, name, flag)? {
+        Some(one) => served == Some(one.packet.as_slice()),
+        None => served.is_none(),
+    })
+}
+
+/// Whether ten random calls answer as the lists do.
+fn sequence_agrees(alloc: Global, all: &[Made], state: &mut u64) -> Option<bool> {
+    let prefix = NameBuf::from_uri(alloc, "/repo").ok()?;
+    let mut repo = Repo::new(alloc, prefix).ok()?;
+    let mut plain = Plain {
+        objects: Vec::new(alloc),
+        wants: Vec::new(alloc),
+    };
+    for _ in 0..10 {
+        let agrees = match random(state, 8) {
+            0 => serve_agrees(alloc, all, &repo, &plain, state)?,
+            1 => {
+                let now = random(state, 30);
+                plain.wants.retain(|want| want.deadline > now);
+                repo.expire(now);
+                true
+            }
+            2 | 3 => offer_agrees(all, &mut repo, &mut plain, state)?,
+            _ => command_agrees(alloc, all, &mut repo, &mut plain, state)?,
+        };
+        if !agrees {
+            return Some(false);
+        }
+    }
+    Some(true)
+}
+
+/// Whether ten thousand sequences do.
+fn all_agree(alloc: Global) -> Option<bool> {
+    let all = all_made(alloc)?;
+    let mut state = 0x2545_f491_4f6c_dd1d;
+    for _ in 0..10_000 {
+        if !sequence_agrees(alloc, &all, &mut state)? {
+            return Some(false);
+        }
+    }
+    Some(true)
+}
+
+#[test]
+fn random_sequences(rt: HostRuntime) {
+    assert!(rt; all_agree(rt.alloc()) == Some(true));
+}
