@@ -244,6 +244,8 @@ fn repository_commands(rt: HostRuntime) {
 /repo/insert c9021234 digest -> 400:0
 /repo/insert c900 digest -> 400:0
 /repo/insert c9022100 digest -> 400:0
+# A broken element after the needed one, and parameters that are cut short.
+/repo/insert c906070308014107 digest -> 400:0
 /repo/insert c907070308014107 digest -> 400:0
 /repo/insert c9050703000141 digest -> 400:0
 # Another shape.

@@ -319,7 +319,7 @@ fn full_tables(rt: HostRuntime) {
 fn is_cut(alloc: Global, len: usize, last_len: usize, last: u64) -> Option<bool> {
     let mut station = Station::new(alloc)?;
     let mut value = Vec::new(alloc);
-    // The four headers of four octets each before the value, and a hop of 8 octets after it.
+    // Three headers of four octets each stand before the value, and a hop of 8 octets after it.
     value.resize(len.saturating_sub(20), 7).ok()?;
     let mut name = NameBuf::new(alloc);
     name.append(8, &value).ok()?;
