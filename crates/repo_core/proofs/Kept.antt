@@ -1,5 +1,5 @@
 -- The entries that pass a test.
-use Rattle.std.proofs.Common.{◌≡◌, Bool, true, false, cond, List, [], ◌∷◌, refl, sym, ap, subst, ◌∙◌}
+use Rattle.std.proofs.Common.{◌≡◌, Bool, true, false, cond, List, [], ◌∷◌, sym, ap, subst, ◌∙◌}
 use lib.Dec.{T}
 use Rattle.std.specs.Prelude.{filter, ◌&&◌}
 use Rattle.std.specs.declared.cmp.Ordering.{Ordering}

@@ -1,6 +1,6 @@
 -- The commands of a repository, one row for each: the verb, and what it is answered with. Statuses
 -- and texts are this profile's.
-use Rattle.std.specs.Prelude.{ℕ, List, [], ◌∷◌, Option, None, Some, find, codes, bytes_eq, ◌==◌}
+use Rattle.std.specs.Prelude.{ℕ, List, [], ◌∷◌, Option, find, codes, bytes_eq, ◌==◌}
 use Rattle.std.specs.Option.{option_map}
 use Rattle.repo_core.specs.declared.verb.Verb.{Verb}
 use Rattle.repo_core.specs.declared.verb.Verb.TheVariants.{Insert, Delete, Check}

@@ -24,7 +24,7 @@ pub record IsFullName (full : List ℕ) : Type 0 where
   pub whole : full ≡ octets_of (full_name_in full)
   pub fields : AllByRecursion IsField (full_name_in full)
 
--- nothing, or first a component of one of the digests' types
+-- nothing, or first a component whose type is at most that of an implicit digest
 abbrev pub starts_small : List Field → Bool
 starts_small [] = true
 starts_small (c ∷ cs) = nat_lt c.0 2

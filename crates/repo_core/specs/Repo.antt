@@ -23,7 +23,8 @@ pub record Held : Type 0 where
 pub record RepoState : Type 0 where
   pub start : List Field
   pub held : Held
-  -- the name whose insert is prepared, and the Data, by its full name and octets, that is
+  -- the name of the insert that is prepared, with either flag, and the full name and the octets of
+  -- the Data whose offer is prepared
   pub prepared_want : Option (List Field)
   pub prepared_object : Option (List Field × List ℕ)
 
@@ -92,13 +93,19 @@ abbrev pub after_known : PlainCommand → ℕ → Held → Held
 after_known c now s =
     elim c.verb [ Insert ↦ after_insert c now s | Delete ↦ after_delete c s | Check ↦ s ]
 
--- what a command of this name does at this moment, in a repository of this prefix
+-- a name that is no command does nothing
 abbrev pub after_some : Option PlainCommand → ℕ → Held → Held
 after_some None now s = s
 after_some (Some c) now s = after_known c now s
 
+-- what a command of this name does at this moment, in a repository of this prefix
 abbrev pub after_command : List Field → List Field → ℕ → Held → Held
 after_command start name now s = after_some (command_at start name) now s
+
+-- the one command that takes memory: an insert that makes a want, or renews one
+abbrev pub MakesWant : Held → Option PlainCommand → Type 0
+MakesWant s None = ⊥
+MakesWant s (Some c) = (c.verb ≡ Insert) × (status_of s c ≡ PENDING)
 
 -- ---- Data
 

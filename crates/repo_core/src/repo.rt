@@ -1,11 +1,11 @@
-ghost use Rattle.std.specs.Prelude.{◌≡◌, None, IfOk, IfSome, IsOk, OnErr, OnOk};
+ghost use Rattle.std.specs.Prelude.{◌≡◌, true, None, Some, IfOk, IfSome, IsOk, OnErr, OnOk};
 ghost use Rattle.std.specs.FinMap as map;
 ghost use Rattle.std.specs.Option.{option_map};
 ghost use Rattle.sha2.specs.Sha256.{sha256};
 ghost use Rattle.ndn_names.specs.View.{components};
 ghost use Rattle.repo_core.specs.Objects.{object_of, served};
 ghost use Rattle.repo_core.specs.Reading.{asked as plain, command_at, verb_at};
-ghost use Rattle.repo_core.specs.Repo.{IsCommandPrepared, IsOfferPrepared, after_command, after_delete, after_insert, after_offer, is_full, reply_to};
+ghost use Rattle.repo_core.specs.Repo.{IsCommandPrepared, IsOfferPrepared, after_command, after_delete, after_insert, after_offer, is_full, reply_to, status_of, MakesWant};
 ghost use Rattle.repo_core.specs.Room.{AreAlike};
 ghost use Rattle.repo_core.specs.Wants.{after_expiry, is_wanted};
 
@@ -105,6 +105,8 @@ impl Repo {
         ensures held { OnOk result (self.new.held
             ≡ after_command self.old.start (components name.entry) now self.old.held) }
         ensures err { OnErr result (self.new.held ≡ self.old.held) }
+        ensures cause { OnErr result
+            (MakesWant self.old.held (command_at self.old.start (components name.entry))) }
         ensures start { self.new.start ≡ self.old.start }
         ensures ended { (self.new.prepared_want ≡ None) × (self.new.prepared_object ≡ None) }
         ensures promised { IsCommandPrepared self.old (components name.entry) → IsOk result }
@@ -130,6 +132,8 @@ impl Repo {
         ensures held { OnOk result (self.new.held ≡ after_offer (components packet.now.name)
             (sha256 packet.now.whole.now) packet.now.whole.now self.old.held) }
         ensures err { OnErr result (self.new.held ≡ self.old.held) }
+        ensures cause { OnErr result (is_wanted (components packet.now.name)
+            (sha256 packet.now.whole.now) self.old.held.wants ≡ true) }
         ensures start { self.new.start ≡ self.old.start }
         ensures ended { (self.new.prepared_want ≡ None) × (self.new.prepared_object ≡ None) }
         ensures promised { IsOfferPrepared self.old (components packet.now.name)
@@ -174,6 +178,8 @@ impl Repo {
         ensures held { self.new.held ≡ self.old.held }
         ensures start { self.new.start ≡ self.old.start }
         ensures ok { OnOk result (IsCommandPrepared self.new (components name.entry)) }
+        ensures err { OnErr result (self.new.prepared_want ≡ None) }
+        ensures alone { self.new.prepared_object ≡ None }
     {
         self.names = None;
         self.object = None;
@@ -192,6 +198,10 @@ impl Repo {
         ensures start { self.new.start ≡ self.old.start }
         ensures ok { OnOk result (IsOfferPrepared self.new (components packet.now.name)
             (sha256 packet.now.whole.now) packet.now.whole.now) }
+        ensures err { OnErr result (self.new.prepared_object ≡ None) }
+        ensures alone { self.new.prepared_want ≡ None }
+        ensures cause { OnErr result (is_wanted (components packet.now.name)
+            (sha256 packet.now.whole.now) self.old.held.wants ≡ true) }
     {
         self.names = None;
         self.object = None;
@@ -216,6 +226,7 @@ impl Repo {
         ensures held { OnOk result (self.new
             ≡ record self.old { held = after_insert (plain asked.entry) now self.old.held }) }
         ensures err { OnErr result (self.new ≡ self.old) }
+        ensures cause { OnErr result (MakesWant self.old.held (Some (plain asked.entry))) }
         ensures spared { option_map (λ n. n.key) spare ≡ Some (components asked.entry.name)
             → IsOk result }
     {

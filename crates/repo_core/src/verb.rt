@@ -6,9 +6,9 @@ ghost use Rattle.repo_core.specs.Commands.{verb_named};
 pub enum Verb {
     /// `insert`: the Data that answer are stored once they arrive.
     Insert,
-    /// `delete`: the Data that answer are stored and wanted no longer.
+    /// `delete`: the Data that answer are stored no longer, and an equal want is gone.
     Delete,
-    /// `check`: how many Data answer, or whether they are wanted.
+    /// `check`: how many stored Data answer, or whether an equal want stands.
     Check,
 }
 

@@ -1,9 +1,8 @@
 use Rattle.std.proofs.Common.{ap, ◌∙◌, sym}
 use Rattle.std.specs.Prelude.{nat_lt}
 use Rattle.std.specs.List.{list_any}
-use Rattle.std.specs.FinMap.{entries, entries-from_sorted, entries_sorted}
+use Rattle.std.specs.FinMap.{entries}
 use Rattle.ndn_packets.specs.Answers.{answers}
-use Rattle.repo_core.specs.Objects.{kept}
 use Rattle.repo_core.specs.Wants.{want_cmp}
 use Rattle.repo_core.proofs.Kept.{entries-kept}
 use Rattle.repo_core.proofs.Spares.{any_of_part}

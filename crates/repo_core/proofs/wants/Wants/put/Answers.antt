@@ -1,7 +1,7 @@
-use Rattle.std.proofs.Common.{◌≡◌, ◌<◌, ℕ, false, length, vec_len, set, ap, sym, ◌∙◌, arith, inl, inr, rules}
+use Rattle.std.proofs.Common.{◌≡◌, ◌<◌, false, length, vec_len, set, ap, sym, ◌∙◌, arith, inl, inr, rules}
 use Rattle.std.specs.Prelude.{◌↔◌, IsTrue, vec_capacity, is_some}
 use Rattle.std.specs.FinMap as map
-use Rattle.std.specs.FinMap.{put, is_sorted, len, contains_key, get-from_sorted}
+use Rattle.std.specs.FinMap.{put, len, contains_key, get-from_sorted}
 use Rattle.repo_core.specs.Room.{IsPlace, HasAt}
 use Rattle.repo_core.specs.Wants.{WantKey, want_cmp, want_cmp-total, want_cmp-antisymmetric}
 use Rattle.repo_core.proofs.Rows.{sorted_put, from_put, len-from_sorted}
