@@ -34,8 +34,9 @@ impl<'a> Command<'a> {
     /// Reads the name of a command, `/localhost/nfd/MODULE/VERB/PARAMETERS`, with or without the
     /// digest component after it.
     ///
-    /// Refuses it with the first status in this order: 400 for less than a module and a verb, 501
-    /// for a command that does not exist, 400 for parameters that are not its own.
+    /// Refuses it with the first status in this order: 400 for fewer than four components before
+    /// the digest, 501 for a command that does not exist, also where the name does not begin with
+    /// `/localhost/nfd`, 400 for parameters that are not its own.
     pub fn read(name: Name<'a>) -> Result<Command<'a>, u16>
         ensures { on_result (λ c. Ok (asked c)) Err result ≡ command_at (components name.entry) }
     {

@@ -16,12 +16,14 @@ use crate::types::{FACE_NOT_OPEN, OK, PREFIX_TOO_LONG, TABLE_FULL, UNKNOWN_STRAT
 use ndn_tlv::Memory;
 use pit_fib::{Faces, Fib, MAX_DEPTH, StrategyTable, TableFault};
 
-/// Gives a command, from this face and while these faces are up, its effect on the tables.
+/// Gives a command, from this face and while these faces are up, its effect on the tables. Each
+/// face that has a route is up.
 ///
-/// The status is the first of these that holds: 414 where the name has more than 32 components and
-/// 410 where the face is not up (for a new hop), 404 where there is no such strategy, 503 where the
-/// name is new and the table has 4,096, and otherwise 200. Only 200 changes a table, and `Memory`
-/// changes none.
+/// The status is the first of these that applies. Of `fib/add-nexthop` and `strategy-choice/set`:
+/// 414 where the name has more than 32 components. Of the first: 410 where the face is not up. Of
+/// the second: 404 where there is no such strategy. Of both: 503 where the name is new to the table
+/// and 4,096 stand there. Otherwise 200. Only 200 changes a table. `Memory` changes none; it may come
+/// in place of any status where the command was not prepared.
 pub fn apply(
     tables: &mut Tables,
     command: &Command<'_>,
