@@ -7,11 +7,14 @@ use Rattle.std.specs.Cmp.{Equal-is}
 use Rattle.std.proofs.lemmas.Cmp.{tied_itself}
 use Rattle.std.proofs.lemmas.List.{length-take}
 use Rattle.std.proofs.lemmas.List.Edits.{length-remove}
-use Rattle.std.proofs.lemmas.List.Elements.{All-from_recursion, All-same, All-take, All-filter, All-contains_itself}
+use Rattle.std.proofs.lemmas.List.Elements.{All-from_recursion, All-cons, All-same, All-take, All-filter, All-contains_itself}
 use Rattle.ndn_tlv.specs.Element.{Field}
 use Rattle.ndn_names.specs.Order.{name_cmp}
 use Rattle.ndn_names.specs.Key.{name_cmp-total, name_cmp-antisymmetric}
-use Rattle.content_store.specs.Store.{CachedData, StoreState, full_name_of, EachOnce, IsStore, without, with_used}
+use Rattle.ndn_packets.specs.declared.data.Data.{Data}
+use Rattle.ndn_packets.specs.View.{plain_data}
+use Rattle.ndn_packets.proofs.Held.{data_read}
+use Rattle.content_store.specs.Store.{CachedData, IsCachedData, cached_at, StoreState, full_name_of, EachOnce, IsStore, without, with_used}
 
 pub is_same : (a b : List Field) → eq_by_cmp name_cmp a b ≡ true → a ≡ b
 is_same a b e = name_cmp-antisymmetric a b ((Equal-is (name_cmp a b)).0 e)
@@ -108,20 +111,31 @@ part_store s n test h =
       at_most_65536 = h.at_most_65536;
       within_capacity = omega (arith, length-take n (filter test s.cached), length_filter test s.cached);
       each_once = once_take n (filter test s.cached) (once_filter test s.cached h.each_once);
+      each_data = All-take IsCachedData n (filter test s.cached) (All-filter test IsCachedData s.cached h.each_data);
     }
+
+pub cached_is_data : (d : Data) (arrival : ℕ) → IsCachedData (cached_at d arrival)
+cached_is_data d arrival =
+    record { packet = plain_data d; read = data_read d; name = refl; digest = refl; freshness = refl }
+
+-- one in front of those without its full name
+data_front : (c : CachedData) (cs : List CachedData) → IsCachedData c → All IsCachedData cs → All IsCachedData (c ∷ without (full_name_of c) cs)
+data_front c cs d h =
+    All-cons IsCachedData c _ d (All-filter (λ e. not (eq_by_cmp name_cmp (full_name_of e) (full_name_of c))) IsCachedData cs h)
 
 -- what `put` leaves, where it keeps and where it does not
 pub put_is : (n : ℕ) (c : CachedData) (cs new : List CachedData) → 1 ≤ n → new ≡ c ∷ take (n - 1) (without (full_name_of c) cs) → new ≡ take n (c ∷ without (full_name_of c) cs)
 put_is n c cs new low is = is ∙ sym (take_front n c (without (full_name_of c) cs) low)
 
-pub kept_store : (s : StoreState) (c : CachedData) (new : List CachedData) → IsStore s → new ≡ take s.capacity (c ∷ without (full_name_of c) s.cached) → IsStore (record s { cached = new })
-kept_store s c new h is =
+pub kept_store : (s : StoreState) (c : CachedData) (new : List CachedData) → IsCachedData c → IsStore s → new ≡ take s.capacity (c ∷ without (full_name_of c) s.cached) → IsStore (record s { cached = new })
+kept_store s c new d h is =
     subst (λ (cs : List CachedData). IsStore (record s { cached = cs })) (sym is)
     (record {
       not_none = h.not_none;
       at_most_65536 = h.at_most_65536;
       within_capacity = omega (arith, length-take s.capacity (c ∷ without (full_name_of c) s.cached));
       each_once = once_take s.capacity (c ∷ without (full_name_of c) s.cached) (once_front c s.cached h.each_once);
+      each_data = All-take IsCachedData s.capacity (c ∷ without (full_name_of c) s.cached) (data_front c s.cached d h.each_data);
     })
 
 pub refused_store : (s : StoreState) (c : CachedData) (new : List CachedData) → IsStore s → new ≡ take (s.capacity - 1) (without (full_name_of c) s.cached) → IsStore (record s { cached = new })
@@ -129,10 +143,10 @@ refused_store s c new h is =
     subst (λ (cs : List CachedData). IsStore (record s { cached = cs })) (sym is)
     (part_store s (s.capacity - 1) (λ d. not (eq_by_cmp name_cmp (full_name_of d) (full_name_of c))) h)
 
-pub put_store : (s : StoreState) (c : CachedData) (new : List CachedData) (r : Bool) → IsStore s → (IsTrue r → new ≡ take s.capacity (c ∷ without (full_name_of c) s.cached))
+pub put_store : (s : StoreState) (c : CachedData) (new : List CachedData) (r : Bool) → IsCachedData c → IsStore s → (IsTrue r → new ≡ take s.capacity (c ∷ without (full_name_of c) s.cached))
     → (r ≡ false → new ≡ take (s.capacity - 1) (without (full_name_of c) s.cached)) → IsStore (record s { cached = new })
-put_store s c new true h kept lost = kept_store s c new h (kept refl)
-put_store s c new false h kept lost = refused_store s c new h (lost refl)
+put_store s c new true d h kept lost = kept_store s c new d h (kept refl)
+put_store s c new false d h kept lost = refused_store s c new h (lost refl)
 
 pub refused_held : (cs : List CachedData) (n : ℕ) (c : CachedData) (new : List CachedData) → new ≡ take n (without (full_name_of c) cs) → All (λ d. Contains cs d) new
 refused_held cs n c new is =
@@ -147,6 +161,7 @@ fewer_store s test h =
       at_most_65536 = h.at_most_65536;
       within_capacity = omega (arith, length_filter test s.cached);
       each_once = once_filter test s.cached h.each_once;
+      each_data = All-filter test IsCachedData s.cached h.each_data;
     }
 
 -- one of those that are held, moved to the front
@@ -161,6 +176,7 @@ used_store s c h in' =
       at_most_65536 = h.at_most_65536;
       within_capacity = omega (arith, count);
       each_once = once_front c s.cached h.each_once;
+      each_data = data_front c s.cached (subst IsCachedData in'.2 (h.each_data in'.0 c in'.1)) h.each_data;
     }
 
 pub once_removed : (cs : List CachedData) (at : ℕ) (c : CachedData) → EachOnce cs → at < length cs → c ≡ get_or cs at c → EachOnce (remove cs at)

@@ -11,7 +11,9 @@ use Rattle.ndn_names.specs.Order.{Less, name_cmp}
 use Rattle.ndn_names.specs.View.{components}
 use Rattle.ndn_packets.specs.Answers.{full_name, Answers}
 use Rattle.ndn_packets.specs.declared.data.Data.{Data}
+use Rattle.ndn_packets.specs.Grammar.{IsData}
 use Rattle.ndn_packets.specs.Key.{PlainKey}
+use Rattle.ndn_packets.specs.Packet.{PlainData}
 
 -- A Data that is held: its name and its implicit digest, its octets, its FreshnessPeriod in
 -- milliseconds and the moment of its arrival, in milliseconds since 1970.
@@ -45,12 +47,21 @@ abbrev pub EachOnce : List CachedData → Type 0
 EachOnce [] = Unit {0}
 EachOnce (c ∷ cs) = AllByRecursion (λ d. full_name_of c ≢ full_name_of d) cs × EachOnce cs
 
+-- the octets are a Data, with this name, implicit digest and FreshnessPeriod
+pub record IsCachedData (c : CachedData) : Type 0 where
+  pub packet : PlainData
+  pub read : IsData c.octets packet
+  pub name : c.name ≡ packet.name
+  pub digest : c.digest ≡ sha256 c.octets
+  pub freshness : c.freshness ≡ packet.freshness
+
 -- what is true of every store
 pub record IsStore (s : StoreState) : Type 0 where
   pub not_none : 1 ≤ s.capacity
   pub at_most_65536 : s.capacity ≤ 65536
   pub within_capacity : length s.cached ≤ s.capacity
   pub each_once : EachOnce s.cached
+  pub each_data : All IsCachedData s.cached
 
 -- fresh while now is less than its arrival plus its FreshnessPeriod; the sum stops at the greatest
 -- moment

@@ -1,14 +1,17 @@
-use Rattle.std.proofs.Common.{◌-◌, subst}
+use Rattle.std.proofs.Common.{◌-◌, subst, sym}
 use Rattle.std.specs.List.{All, Contains}
 use Rattle.std.proofs.lemmas.List.Elements.{All-contains_itself}
-use Rattle.content_store.specs.Store.{StoreState, IsStore}
-use Rattle.content_store.proofs.Lists.{put_store, refused_held}
+use Rattle.content_store.specs.Store.{StoreState, IsStore, IsCachedData}
+use Rattle.content_store.proofs.Lists.{cached_is_data, put_store, refused_held}
 use Rattle.content_store.proofs.store.Store.put.Goals as goal
 use Rattle.content_store.proofs.store.Store.put.Goals.{After-put_first}
 
+entry_is_data : (c : After-put_first) → IsCachedData c.in-Ok.entry
+entry_is_data c = subst IsCachedData (sym c.in-Ok.ensures) (cached_is_data c.args.packet.now c.args.arrival)
+
 store : (c : After-put_first) → IsStore (record { cached = c.put_first.new.entries.items; capacity = c.self.inside.capacity })
 store c =
-    put_store (record { cached = c.self.inside.entries.items; capacity = c.self.inside.capacity }) c.in-Ok.entry c.put_first.new.entries.items c.put_first.result c.self.invariant
+    put_store (record { cached = c.self.inside.entries.items; capacity = c.self.inside.capacity }) c.in-Ok.entry c.put_first.new.entries.items c.put_first.result (entry_is_data c) c.self.invariant
     c.put_first.ensures.ok c.put_first.ensures.refused
 
 pub returns-in_default-clause-refused : goal.returns-in_default-clause-refused
