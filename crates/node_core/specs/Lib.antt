@@ -10,3 +10,15 @@ pub mod Script
 pub mod Writing
 pub mod Ending
 pub mod Play
+pub mod Policy
+pub mod Verdict
+pub mod Said
+pub mod Request
+pub mod NextHops
+pub mod Commands
+pub mod Datasets
+pub mod Replies
+pub mod Effects
+pub mod Causes
+pub mod Node
+pub mod Runs
