@@ -11,3 +11,11 @@ pub mod Runs
 pub mod Shown
 pub mod Promise
 pub mod OneReading
+mod OneEffect
+pub mod Moments
+pub mod Requests
+pub mod RunSteps
+pub mod RunCaches
+pub mod Histories
+pub mod Denials
+pub mod Ticks

@@ -1,5 +1,5 @@
 -- A script has one reading.
-use Rattle.std.proofs.Common.{◌≡◌, ℕ, ◌+◌, ◌≤◌, List, [], ◌∷◌, ◌++◌, length, get_or, refl, sym, ap, subst, ◌∙◌, arith, append_assoc, append-nil, length-append, inl, inr, Ok, codes}
+use Rattle.std.proofs.Common.{◌≡◌, ℕ, ◌+◌, ◌≤◌, List, [], ◌∷◌, ◌++◌, length, get_or, refl, sym, ap, subst, ◌∙◌, arith, append_assoc, length-append, inl, inr, Ok, codes}
 use Rattle.std.specs.Prelude.{◌⊎◌}
 use Rattle.std.specs.Fmt.{decimal}
 use Rattle.std.proofs.lemmas.Fmt.{decimal_injective}
@@ -10,7 +10,7 @@ use Rattle.node_core.specs.Event.{PlainEvent, Packet, FaceUp, FaceDown, Tick}
 use Rattle.node_core.specs.Line.{Lacks, scope_word, HexSpells, LineSpells, IsEventLine, IsSkipped, IsBadLine, SaysNothing}
 use Rattle.node_core.specs.Script.{ended, joined, AreLines, Say, IsScript, IsBadAt}
 use Rattle.node_core.proofs.Lists.{SameCut, cut_once}
-use Rattle.node_core.proofs.Words.{decoded_length, scope_word-Lacks, number-Lacks, up_words, down_words, in_words, tick_text, kind_first}
+use Rattle.node_core.proofs.Words.{decoded_length, scope_word-Lacks, number-Lacks, up_words, down_words, in_words, tick_text}
 
 -- ---- a line says one event
 
