@@ -19,3 +19,4 @@ pub mod RunCaches
 pub mod Histories
 pub mod Denials
 pub mod Ticks
+pub mod Explained

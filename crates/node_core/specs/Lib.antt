@@ -22,3 +22,4 @@ pub mod Effects
 pub mod Causes
 pub mod Node
 pub mod Runs
+pub mod Sends

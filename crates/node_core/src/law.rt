@@ -6,8 +6,9 @@ ghost use Rattle.node_core.specs.Policy.{Policy, at_moment};
 ghost use Rattle.node_core.specs.Step.{moment};
 ghost use Rattle.node_core.specs.Verdict.{Answer};
 ghost use Rattle.node_core.specs.Effects.{IsAfter};
+ghost use Rattle.node_core.specs.Sends.{EachIsExplained};
 ghost use Rattle.node_core.specs.Node.{NodeState, IsStep, Unharmed};
-ghost use Rattle.node_core.specs.Runs.{Run, Start, Then, BringsData, BringsRequest, HasTicksFor, HaveOneHistory, IsPolicyOf, IsRun, MayReply, Stands};
+ghost use Rattle.node_core.specs.Runs.{Run, Start, Then, BringsData, BringsRequest, HasTicksFor, HaveOneHistory, IsPolicyOf, IsRun, MayReply, Stands, seen_after};
 
 /// Law: what follows from events alone is a function of them, where the keys of a book have
 /// different names.
@@ -70,4 +71,14 @@ pub fn denied_events_change_nothing()
     ensures policy { (first p : Policy) (past other : Run) → AreApart first.keys
         → IsRun first past → HasTicksFor past other → IsPolicyOf first past p
         → IsPolicyOf first other p }
+{}
+
+/// Law: each send of an answer that the past allows is a Data that came in this event, was allowed,
+/// and goes to a face that waits for it; or a Data that answers the Interest of the event, from the
+/// cache, the repository or the node itself, back to its face; or an Interest or a Nack.
+pub fn each_send_is_explained()
+    ensures { (first : Policy) (past : Run) (event : PlainEvent) (answer : Answer)
+        (reply : MayReply first past event answer)
+        → EachIsExplained (seen_after past (at_moment reply.was (moment event)) reply.waiting)
+        event answer }
 {}

@@ -18,7 +18,7 @@ mod word;
 
 pub use event::{DropReason, Event, Scope, Verdict};
 pub use law::{
-    denied_events_change_nothing, events_have_one_effect, histories_decide,
+    denied_events_change_nothing, each_send_is_explained, events_have_one_effect, histories_decide,
     new_nodes_stand_in_no_run, refused_steps_stand_still, steps_go_on_with_runs,
     steps_have_one_effect,
 };
