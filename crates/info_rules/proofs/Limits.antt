@@ -1,31 +1,28 @@
--- The rules of a file are few, and have different ids.
-use Rattle.std.proofs.Common.{◌≡◌, ℕ, ◌≤◌, Bool, true, false, cond, List, [], ◌∷◌, ◌++◌, length, suc, refl, sym, ap, subst, ◌∙◌, arith}
-use Rattle.std.specs.Prelude.{◌≢◌, Option, Some, None, Result, Ok, Err, nat_lt, bytes_eq, codes, ◌⊎◌, IfOk, MatchOption, MatchResult}
+-- Keys that are read without a fault: how many there are, and their ids.
+use Rattle.std.proofs.Common.{◌≡◌, ℕ, Bool, true, false, cond, List, [], ◌∷◌, ◌++◌, length, suc, refl, sym, ap, subst, ◌∙◌}
+use Rattle.std.specs.Prelude.{◌≢◌, Option, Some, None, Ok, Err, bytes_eq, codes, MatchOption}
 use Rattle.std.specs.List.{AllByRecursion, flat_map}
-use Rattle.std.proofs.lemmas.Bool.Decides.{nat_tests}
 use Rattle.std.proofs.lemmas.Slice.Eq.{bytes_eq-Decides}
 use Rattle.info_rules.specs.declared.fault.RulesFault.{RulesFault}
 use Rattle.info_rules.specs.declared.fault.RulesFaultKind.TheVariants as kinds
 use Rattle.info_rules.specs.Blocks as blocks
-use Rattle.info_rules.specs.Tree.{PlainEntry, Block, blocks_of}
+use Rattle.info_rules.specs.Tree.{Block, blocks_of}
 use Rattle.info_rules.specs.Rule.{PlainRule}
-use Rattle.info_rules.specs.Faults.{after, memory_fault, IsAmong, NoneIsSooner}
-use Rattle.info_rules.specs.Found.{Found, both, beside, needed, shown, followed, each, AreRead}
-use Rattle.info_rules.specs.Keys.{on_option, is_word, named, value_of, fault_at, many_faults, shape_fault, block_in}
+use Rattle.info_rules.specs.Faults.{after, IsAmong, NoneIsSooner}
+use Rattle.info_rules.specs.Found.{Found, both, beside, needed, followed, each}
+use Rattle.info_rules.specs.Keys.{on_option, is_word, named, value_of, fault_at, shape_fault, block_in}
 use Rattle.info_rules.specs.Values.{◌>>=◌, id_in, value_in}
 use Rattle.info_rules.specs.ValueWords.{kind_in, is_id}
-use Rattle.info_rules.specs.Table.{table}
-use Rattle.info_rules.specs.Walk.{unknown_faults, times_faults, walk_faults}
+use Rattle.info_rules.specs.Walk.{walk_faults}
 use Rattle.info_rules.specs.FilterBlock.{filter_in}
 use Rattle.info_rules.specs.CheckerBlock.{checker_in}
-use Rattle.info_rules.specs.AnchorBlock.{anchor_in}
 use Rattle.info_rules.specs.RuleBlock.{head_in, rule_with, rule_parts, rule_of_keys, rule_in}
-use Rattle.info_rules.specs.RuleFile.{id_key, same_id_faults, repeated_faults, id_faults, shared_faults, rules_of_keys, rules_in}
-use Rattle.info_rules.specs.Limits.{HaveOwnIds, AreWithinLimits}
+use Rattle.info_rules.specs.RuleFile.{id_key, same_id_faults, repeated_faults, id_faults}
+use Rattle.info_rules.specs.Limits.{HaveOwnIds}
 use Rattle.info_rules.proofs.Least.{least_of}
 use Rattle.info_rules.proofs.FoundParts.{both_ok, beside_ok, shown_ok, needed_ok, value_ok}
 
-none_of_both : (xs ys : List RulesFault) → xs ++ ys ≡ [] → (xs ≡ []) × (ys ≡ [])
+pub none_of_both : (xs ys : List RulesFault) → xs ++ ys ≡ [] → (xs ≡ []) × (ys ≡ [])
 none_of_both [] ys e = (refl, e)
 none_of_both (x ∷ xs) ys e = absurd cc
 
@@ -36,7 +33,7 @@ ok_one : {A : Type 0} (x y : Found A) (a b : A) → x ≡ Ok a → y ≡ Ok b �
 ok_one x y a b p q e = cc
 
 -- what the first key and the others gave
-head_gave : {A : Type 0} (f : Block → Found A) (key : Block) (keys : List Block) (all : List A) → each f (key ∷ keys) ≡ Ok all
+pub head_gave : {A : Type 0} (f : Block → Found A) (key : Block) (keys : List Block) (all : List A) → each f (key ∷ keys) ≡ Ok all
     → (one : A) × (others : List A) × (f key ≡ Ok one) × (each f keys ≡ Ok others) × (one ∷ others ≡ all)
 unfolding each
 head_gave {A = A} f key keys all e = by_parts (f key) (each f keys) refl refl e
@@ -47,39 +44,16 @@ head_gave {A = A} f key keys all e = by_parts (f key) (each f keys) refl refl e
     by_parts (Err d) (Ok others) p q e = absurd cc
     by_parts (Err d) (Err g) p q e = absurd cc
 
-no_key : {A : Type 0} (f : Block → Found A) (all : List A) → each f [] ≡ Ok all → [] ≡ all
+pub no_key : {A : Type 0} (f : Block → Found A) (all : List A) → each f [] ≡ Ok all → [] ≡ all
 unfolding each
 no_key f all e = ok_one (each f []) (Ok all) [] all refl refl e
 
-each_length : {A : Type 0} (f : Block → Found A) (keys : List Block) (all : List A) → each f keys ≡ Ok all → length all ≡ length keys
+pub each_length : {A : Type 0} (f : Block → Found A) (keys : List Block) (all : List A) → each f keys ≡ Ok all → length all ≡ length keys
 each_length f [] all e = ap length (sym (no_key f all e))
 each_length f (key ∷ keys) all e =
     let gave = head_gave f key keys all e in
     let len = each_length f keys gave.1 gave.3 in
     ap length (sym gave.4) ∙ ap (λ n. suc n) len
-
-pub all_read : {A : Type 0} (f : Block → Found A) (keys : List Block) (all : List A) → each f keys ≡ Ok all → AreRead f keys all
-all_read f [] all e = subst (AreRead f []) (no_key f all e) tt
-all_read f (key ∷ keys) all e = let gave = head_gave f key keys all e in subst (AreRead f (key ∷ keys)) gave.4 (gave.2, all_read f keys gave.1 gave.3)
-
--- ---- how many
-
-few_of : (word : List ℕ) (keys : List Block) → many_faults 256 word keys ≡ [] → nat_lt 256 (length (named word keys)) ≡ false
-few_of word keys e = by_test (nat_lt 256 (length (named word keys))) refl e
-  where
-    by_test : (t : Bool) → nat_lt 256 (length (named word keys)) ≡ t → cond {A = List RulesFault} t (record { line = 0; kind = kinds.TooLarge } ∷ []) [] ≡ [] → nat_lt 256 (length (named word keys)) ≡ false
-    by_test true is e = absurd cc
-    by_test false is e = is
-
-at_most : (n : ℕ) → nat_lt 256 n ≡ false → n ≤ 256
-at_most n e = grind (arith, nat_tests)
-
--- no fault of a file's keys is one of too many rules
-no_more : (keys : List Block) → walk_faults blocks.File keys ≡ [] → many_faults 256 (codes "rule") keys ≡ []
-unfolding walk_faults table times_faults
-no_more keys e =
-    let times = (none_of_both (flat_map (unknown_faults (table blocks.File)) keys) _ e).1 in
-    (none_of_both (many_faults 256 (codes "rule") keys) _ times).0
 
 -- ---- different ids
 
@@ -97,20 +71,8 @@ is_text text id e = by_test (is_id text) e
     by_test true e = some_one text id e
     by_test false e = absurd cc
 
--- the filters and the checkers of a rule
-pub tests_of : (key : Block) (rule : PlainRule) → rule_in key ≡ Ok rule
-    → (each filter_in (named (codes "filter") (blocks_of 1 key.1)) ≡ Ok rule.filters) × (each checker_in (named (codes "checker") (blocks_of 1 key.1)) ≡ Ok rule.checkers)
-unfolding rule_in rule_of_keys rule_parts
-tests_of key rule e =
-    let line = key.0.line in
-    let keys = blocks_of 1 key.1 in
-    let read = shown_ok rule_with (rule_parts line keys) rule (beside_ok (after None (walk_faults blocks.Rule keys)) _ rule (in_block 1 rule_of_keys key rule e)).1 in
-    let parts = both_ok (head_in line keys) (both (each filter_in (named (codes "filter") keys)) (each checker_in (named (codes "checker") keys))) read.0 read.1 in
-    let tests = both_ok (each filter_in (named (codes "filter") keys)) (each checker_in (named (codes "checker") keys)) read.0.1 parts.1 in
-    (tests.0 ∙ ap (λ (r : PlainRule). Ok r.filters) read.2, tests.1 ∙ ap (λ (r : PlainRule). Ok r.checkers) read.2)
-
 -- a rule's id is the value of the first key `id` of its block
-id_of : (key : Block) (rule : PlainRule) → is_word (codes "rule") key ≡ true → rule_in key ≡ Ok rule → (id_key key >>= value_of) ≡ Some rule.id
+pub id_of : (key : Block) (rule : PlainRule) → is_word (codes "rule") key ≡ true → rule_in key ≡ Ok rule → (id_key key >>= value_of) ≡ Some rule.id
 unfolding rule_in rule_of_keys rule_parts id_key
 id_of key rule is e =
     let line = key.0.line in
@@ -155,7 +117,7 @@ repeated_none : (key : Block) (keys : List Block) (id : List ℕ) → (id_key ke
 unfolding repeated_faults
 repeated_none key keys id e none = rw e at none
 
-own_ids : (keys : List Block) (rules : List PlainRule) → id_faults keys ≡ [] → each rule_in (named (codes "rule") keys) ≡ Ok rules → HaveOwnIds rules
+pub own_ids : (keys : List Block) (rules : List PlainRule) → id_faults keys ≡ [] → each rule_in (named (codes "rule") keys) ≡ Ok rules → HaveOwnIds rules
 unfolding id_faults
 own_ids [] rules none e = subst HaveOwnIds (no_key rule_in rules e) tt
 own_ids (key ∷ keys) rules none e =
@@ -170,41 +132,11 @@ own_ids (key ∷ keys) rules none e =
         let none_more = repeated_none key keys gave.0.id (id_of key gave.0 is gave.2) one in
         subst HaveOwnIds gave.4 (none_has gave.0.id keys gave.1 none_more gave.3, further gave.1 gave.3)
 
--- ---- files
+-- ---- no fault
 
-no_fault : (faults : List RulesFault) → after None faults ≡ None → faults ≡ []
+pub no_fault : (faults : List RulesFault) → after None faults ≡ None → faults ≡ []
 no_fault faults e = by_fault (after None faults) (least_of faults) e
   where
     by_fault : (o : Option RulesFault) → MatchOption o (faults ≡ []) (λ told. IsAmong told faults × NoneIsSooner told faults) → o ≡ None → faults ≡ []
     by_fault None least e = least
     by_fault (Some fault) least e = absurd cc
-
--- the rules of keys without a fault
-rules_read : (keys : List Block) (rules : List PlainRule) → rules_of_keys keys ≡ Ok rules → (walk_faults blocks.File keys ++ shared_faults keys ≡ []) × (each rule_in (named (codes "rule") keys) ≡ Ok rules)
-unfolding rules_of_keys
-rules_read keys rules e =
-    let all = beside_ok (after None (walk_faults blocks.File keys ++ shared_faults keys)) (shown (λ read. read.0) (both (each rule_in (named (codes "rule") keys)) (each anchor_in (named (codes "trust-anchor") keys)))) rules e in
-    let read = shown_ok (λ (read : List PlainRule × List (Unit {0})). read.0) (both (each rule_in (named (codes "rule") keys)) (each anchor_in (named (codes "trust-anchor") keys))) rules all.1 in
-    let parts = both_ok (each rule_in (named (codes "rule") keys)) (each anchor_in (named (codes "trust-anchor") keys)) read.0 read.1 in
-    (no_fault _ all.0, parts.0 ∙ ap Ok read.2)
-
-within : (keys : List Block) (rules : List PlainRule) → rules_of_keys keys ≡ Ok rules → AreWithinLimits rules
-within keys rules e =
-    let read = rules_read keys rules e in
-    let none = none_of_both (walk_faults blocks.File keys) (shared_faults keys) read.0 in
-    let few = few_of (codes "rule") keys (no_more keys none.0) in
-    let own : id_faults keys ≡ [] = rw few at none.1 in
-    (omega (arith, at_most (length (named (codes "rule") keys)) few, each_length rule_in (named (codes "rule") keys) rules read.1), own_ids keys rules own read.1)
-
-pub each_rule : (entries : List PlainEntry) (rules : List PlainRule) → rules_in entries ≡ Ok rules → each rule_in (named (codes "rule") (blocks_of 0 entries)) ≡ Ok rules
-unfolding rules_in
-each_rule entries rules e = (rules_read (blocks_of 0 entries) rules e).1
-
-pub within_limits : (entries : List PlainEntry) (rules : List PlainRule) → rules_in entries ≡ Ok rules → AreWithinLimits rules
-unfolding rules_in
-within_limits entries rules e = within (blocks_of 0 entries) rules e
-
-pub read_within : (entries : List PlainEntry) (read : Result (List PlainRule) RulesFault) → MatchResult read (λ rules. rules_in entries ≡ Ok rules) (λ fault. (rules_in entries ≡ Err fault) ⊎ (fault ≡ memory_fault))
-    → IfOk read AreWithinLimits
-read_within entries (Ok rules) h = within_limits entries rules h
-read_within entries (Err fault) h = tt

@@ -1,5 +1,5 @@
 -- What is read, or else the fault to report of all that were met.
-use Rattle.std.specs.Prelude.{◌≡◌, ⊤, ℕ, List, [], ◌∷◌, ◌++◌, Option, None, Some, Result, Ok, Err, if◌then◌else◌}
+use Rattle.std.specs.Prelude.{ℕ, List, [], ◌∷◌, ◌++◌, Option, None, Some, Result, Ok, Err, if◌then◌else◌}
 use Rattle.info_rules.specs.declared.fault.RulesFault.{RulesFault}
 use Rattle.info_rules.specs.declared.fault.RulesFaultKind.TheVariants.{Missing}
 use Rattle.info_rules.specs.Faults.{sooner}
@@ -74,10 +74,3 @@ joined (Ok parts) (Ok others) = Ok (parts ++ others)
 joined (Ok parts) (Err f) = Err f
 joined (Err e) (Ok others) = Err e
 joined (Err e) (Err f) = Err (sooner_of e f)
-
--- each of these keys gives one of these, in turn
-abbrev pub AreRead : {A : Type 0} → (Block → Found A) → List Block → List A → Type 0
-AreRead f [] [] = ⊤
-AreRead f [] (part ∷ parts) = ⊥
-AreRead f (key ∷ keys) [] = ⊥
-AreRead f (key ∷ keys) (part ∷ parts) = (f key ≡ Ok part) × AreRead f keys parts

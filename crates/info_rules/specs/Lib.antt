@@ -32,3 +32,4 @@ pub mod Decides
 pub mod Decided
 pub mod Signer
 pub mod Limits
+pub mod Meaning

@@ -1,5 +1,5 @@
--- How many rules a file gives, and their ids.
-use Rattle.std.specs.Prelude.{◌≢◌, ◌≤◌, List, [], ◌∷◌, length, ⊤}
+-- The ids of rules.
+use Rattle.std.specs.Prelude.{◌≢◌, List, [], ◌∷◌, ⊤}
 use Rattle.std.specs.List.{AllByRecursion}
 use Rattle.info_rules.specs.Rule.{PlainRule}
 
@@ -7,7 +7,3 @@ use Rattle.info_rules.specs.Rule.{PlainRule}
 abbrev pub HaveOwnIds : List PlainRule → Type 0
 HaveOwnIds [] = ⊤
 HaveOwnIds (rule ∷ rules) = AllByRecursion (λ other. other.id ≢ rule.id) rules × HaveOwnIds rules
-
--- at most 256 rules, of different ids
-abbrev pub AreWithinLimits : List PlainRule → Type 0
-AreWithinLimits rules = (length rules ≤ 256) × HaveOwnIds rules

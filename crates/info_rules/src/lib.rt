@@ -42,7 +42,7 @@ pub use locator::{hierarchical_keys_match_a_pattern, hierarchical_text_spells_it
 pub use packet::{Packet, read_packets_have_a_shape};
 pub use report::the_least_is_reported;
 pub use rule::Kind;
-pub use rule_file::no_rule_is_dropped;
+pub use rule_file::rule_files_have_one_reading;
 pub use rules::{RuleNo, Rules};
 pub use tree::InfoTree;
 pub use tree_reader::{outlines_keep_blocks, trees_have_one_reading};

@@ -1,21 +1,14 @@
-//! Rule files: their faults, and their rules. A file is judged as a whole first, and read only
-//where ! nothing is wrong with it.
+//! Rule files: their rules, or else the fault to report.
 
-ghost use Rattle.std.specs.Prelude.{◌≡◌, ◌⊎◌, ◌++◌, None, Ok, Err, IfOk, MatchResult, map};
+ghost use Rattle.std.specs.Prelude.{◌≡◌, ◌⊎◌, ◌↔◌, ◌++◌, List, None, Ok, Err, IfOk, MatchResult, map};
 ghost use Rattle.std.specs.List.{flat_map};
 ghost use Rattle.std.specs.Option.{option_map};
 ghost use Rattle.info_rules.specs.Shown.{key_of, keys_of, rule_of};
 ghost use Rattle.info_rules.specs.Faults.{after, memory_fault};
 ghost use Rattle.info_rules.specs.Found.{shown};
-ghost use Rattle.std.specs.Prelude.{List, codes};
-ghost use Rattle.info_rules.specs.Tree.{PlainEntry, Block as Keyed, blocks_of};
+ghost use Rattle.info_rules.specs.Tree.{PlainEntry};
 ghost use Rattle.info_rules.specs.Rule.{PlainRule};
-ghost use Rattle.info_rules.specs.Keys.{named};
-ghost use Rattle.info_rules.specs.FilterBlock.{filter_in};
-ghost use Rattle.info_rules.specs.CheckerBlock.{checker_in};
-ghost use Rattle.info_rules.specs.RuleBlock.{rule_in};
-ghost use Rattle.info_rules.specs.Found.{AreRead};
-ghost use Rattle.info_rules.specs.Limits.{AreWithinLimits};
+ghost use Rattle.info_rules.specs.Meaning.{IsRuleFile};
 ghost use Rattle.info_rules.specs.Blocks.{File};
 ghost use Rattle.info_rules.specs.Walk.{walk_faults};
 ghost use Rattle.info_rules.specs.RuleFile.{id_key, same_id_faults, repeated_faults, id_faults, shared_faults, rules_of_keys, rules_in};
@@ -148,23 +141,23 @@ impl Rules {
     /// Refuses the file by the fault on the least line, and on one line by that of the least kind:
     /// see `RulesFault`. `Memory` may come at any file.
     pub fn read(alloc: Global, tree: &InfoTree) -> Result<Rules, RulesFault>
+        // What is read, the entries mean.
+        ensures found { IfOk result (IsRuleFile tree.now) }
+        // What the entries mean is read, but for memory.
+        ensures only { (rules : List PlainRule) → IsRuleFile tree.now rules
+            → MatchResult result (λ read. read ≡ rules) (λ fault. fault ≡ memory_fault) }
+        // Which fault it is.
         ensures exact { MatchResult result (λ rules. rules_in tree.now ≡ Ok rules)
             (λ fault. (rules_in tree.now ≡ Err fault) ⊎ (fault ≡ memory_fault)) }
-        // At most 256, no two of which have one id.
-        ensures limits { IfOk result AreWithinLimits }
     {
         read_file(alloc, tree)
     }
 }
 
-/// Law: each rule of a file is there, in the order of the text, and each filter and each checker of
-/// a rule.
-pub fn no_rule_is_dropped()
-    ensures rules { (entries : List PlainEntry) (rules : List PlainRule)
-        → rules_in entries ≡ Ok rules
-        → AreRead rule_in (named (codes "rule") (blocks_of 0 entries)) rules }
-    ensures filters { (key : Keyed) (rule : PlainRule) → rule_in key ≡ Ok rule
-        → AreRead filter_in (named (codes "filter") (blocks_of 1 key.1)) rule.filters }
-    ensures checkers { (key : Keyed) (rule : PlainRule) → rule_in key ≡ Ok rule
-        → AreRead checker_in (named (codes "checker") (blocks_of 1 key.1)) rule.checkers }
+/// Law: entries mean one list of rules at most, which `rules_in` gives.
+pub fn rule_files_have_one_reading()
+    ensures exact { (entries : List PlainEntry) (rules : List PlainRule)
+        → (rules_in entries ≡ Ok rules) ↔ IsRuleFile entries rules }
+    ensures one { (entries : List PlainEntry) (a b : List PlainRule) → IsRuleFile entries a
+        → IsRuleFile entries b → a ≡ b }
 {}

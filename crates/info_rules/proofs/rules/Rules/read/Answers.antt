@@ -1,5 +1,8 @@
-use Rattle.info_rules.proofs.Limits.{read_within}
+use Rattle.info_rules.proofs.FileMeanings.{read_found, read_only}
 use Rattle.info_rules.proofs.rules.Rules.read.Goals as goal
 
-pub returns-clause-limits : goal.returns-clause-limits
-returns-clause-limits c = read_within c.args.tree.now c.read_file.result c.read_file.ensures
+pub returns-clause-found : goal.returns-clause-found
+returns-clause-found c = read_found c.args.tree.now c.read_file.result c.read_file.ensures
+
+pub returns-clause-only : goal.returns-clause-only
+returns-clause-only c = read_only c.args.tree.now c.read_file.result c.read_file.ensures

@@ -1,0 +1,241 @@
+-- What key locators and checkers mean.
+use Rattle.std.proofs.Common.{◌≡◌, ℕ, Bool, true, List, [], ◌∷◌, length, refl, sym, ap, subst, ◌∙◌}
+use Rattle.std.specs.Prelude.{Option, Some, None, Ok, not, codes, ◌||◌}
+use Rattle.name_patterns.specs.Pattern.{PlainPattern}
+use Rattle.name_patterns.specs.Grammar.{IsPattern}
+use Rattle.name_patterns.specs.Template.{PlainPart, IsTemplate}
+use Rattle.name_patterns.specs.PatternReading.{pattern_in}
+use Rattle.name_patterns.specs.TemplateReading.{template_in}
+use Rattle.info_rules.specs.declared.fault.RulesFaultKind.TheVariants as kinds
+use Rattle.info_rules.specs.declared.rule.Relation.{Relation}
+use Rattle.info_rules.specs.declared.rule.NameTest.{NameTest}
+use Rattle.info_rules.specs.declared.rule.LocatorTest.{LocatorTest}
+use Rattle.info_rules.specs.declared.rule.LocatorTest.TheVariants as locators
+use Rattle.info_rules.specs.Blocks as blocks
+use Rattle.info_rules.specs.Forms as forms
+use Rattle.info_rules.specs.Forms.{PacketName, KeyName}
+use Rattle.info_rules.specs.Hyper.{PlainHyper}
+use Rattle.info_rules.specs.Tree.{Block, blocks_of}
+use Rattle.info_rules.specs.Table.{table}
+use Rattle.info_rules.specs.Walk.{walk_faults}
+use Rattle.info_rules.specs.Faults.{after}
+use Rattle.info_rules.specs.Found.{Found, both, beside, needed, shown, then_made, each}
+use Rattle.info_rules.specs.Keys.{first_of, others_of, named, missing_unless}
+use Rattle.info_rules.specs.ValueWords.{relation_in}
+use Rattle.info_rules.specs.Values.{ok_of, value_in}
+use Rattle.info_rules.specs.NameTest.{Names, asked_in, test_of}
+use Rattle.info_rules.specs.FilterBlock.{filter_of, filter_in}
+use Rattle.info_rules.specs.HyperBlock.{Half, groups_of, half_in, parts_in, hyper_with, hyper_made, is_whole, hyper_of, hyper_in}
+use Rattle.info_rules.specs.LocatorBlock.{is_hyper_alone, test_by, locator_made, locator_of, locator_in}
+use Rattle.info_rules.specs.Meaning.{HasOnly, Lacks, Has, AsksOfName, IsFilter, AsksOfBoth, IsHyper, AsksOfKey, IsLocator}
+use Rattle.info_rules.proofs.FoundParts.{both_ok, beside_ok, shown_ok, made_ok}
+use Rattle.info_rules.proofs.Meanings.{beside_again, both_again, made_again, shown_again, fits, fits_again, lacks, only_of, has, has_again, has_there, has_once, lacks_once, block_ok, block_again, first_gave, one_again, none_again, one_once}
+use Rattle.info_rules.proofs.WordMeanings.{pattern_means, pattern_meant, template_means, template_meant, relation_means, relation_meant}
+use Rattle.info_rules.proofs.NameMeanings.{words_by, words_for, StandOnce, IsAsked, is_asked, test_means, test_meant, once_there, known_there, hyper_asked, hyper_alone, lacks_hyper, hyper_more}
+
+some_one : {A : Type 0} (x y : A) → Some x ≡ Some y → x ≡ y
+some_one x y e = cc
+
+pub ok_one : {A : Type 0} (g : Found A) (x y : A) → g ≡ Ok x → g ≡ Ok y → x ≡ y
+ok_one g x y p q = cc
+
+-- ---- filters
+
+filter_keys : (line : ℕ) (keys : List Block) (test : NameTest) → filter_of line keys ≡ Ok test → AsksOfName keys test
+unfolding filter_of table
+filter_keys line keys test e =
+    let parts = beside_ok (after None (walk_faults blocks.Filter keys)) (then_made (test_of line) (asked_in PacketName line keys)) test e in
+    let fit = fits blocks.Filter keys refl parts.0 in
+    let once : StandOnce keys = record { type = fit.1.0; name = fit.1.1.0; relation = fit.1.1.1.0; regex = fit.1.1.1.1.0 } in
+    let made = made_ok (test_of line) (asked_in PacketName line keys) test parts.1 in
+    test_means PacketName line keys made.0 test once (is_asked PacketName line keys made.0 fit.0 once made.1) made.2
+
+keys_filter : (line : ℕ) (keys : List Block) (test : NameTest) → AsksOfName keys test → filter_of line keys ≡ Ok test
+unfolding filter_of table
+keys_filter line keys test h =
+    let once = once_there keys test h in
+    let fit = fits_again blocks.Filter keys refl (known_there PacketName keys test h) (once.type, (once.name, (once.relation, (once.regex, tt)))) in
+    let meant = test_meant PacketName line keys test h in
+    beside_again (after None (walk_faults blocks.Filter keys)) (then_made (test_of line) (asked_in PacketName line keys)) test fit (made_again (test_of line) (asked_in PacketName line keys) meant.0 test meant.1 meant.2)
+
+pub filter_means : (key : Block) (test : NameTest) → filter_in key ≡ Ok test → IsFilter key test
+unfolding filter_in
+filter_means key test e = let block = block_ok 2 filter_of key test e in (block.0, filter_keys key.0.line (blocks_of 2 key.1) test block.1)
+
+pub filter_meant : (key : Block) (test : NameTest) → IsFilter key test → filter_in key ≡ Ok test
+unfolding filter_in
+filter_meant key test h = block_again 2 filter_of key test h.0 (keys_filter key.0.line (blocks_of 2 key.1) test h.1)
+
+-- ---- hyper-relations
+
+half_means : (pattern_word template_word : List ℕ) (keys : List Block) (pattern : PlainPattern) (template : List PlainPart) → others_of (named pattern_word keys) ≡ [] → others_of (named template_word keys) ≡ []
+    → half_in pattern_word template_word keys ≡ Ok (Some pattern, Some template) → Has IsPattern pattern_word keys pattern × Has (IsTemplate (length pattern.groups)) template_word keys template
+unfolding half_in
+half_means pattern_word template_word keys pattern template first second e =
+    let read = value_in kinds.Pattern (λ text. ok_of (pattern_in text)) pattern_word keys in
+    let parts = both_ok read (value_in kinds.Pattern (λ text. ok_of (template_in (groups_of read) text)) template_word keys) (Some pattern, Some template) e in
+    let spelled = has kinds.Pattern (λ text. ok_of (pattern_in text)) pattern_word keys pattern parts.0 first in
+    let with_groups : value_in kinds.Pattern (λ text. ok_of (template_in (length pattern.groups) text)) template_word keys ≡ Ok (Some template) =
+    subst (λ (r : Found (Option PlainPattern)). value_in kinds.Pattern (λ text. ok_of (template_in (groups_of r) text)) template_word keys ≡ Ok (Some template)) parts.0 parts.1 in
+    let expanded = has kinds.Pattern (λ text. ok_of (template_in (length pattern.groups) text)) template_word keys template with_groups second in
+    ((spelled.0, spelled.1, pattern_means spelled.0 pattern spelled.2), (expanded.0, expanded.1, template_means (length pattern.groups) expanded.0 template expanded.2))
+
+half_meant : (pattern_word template_word : List ℕ) (keys : List Block) (pattern : PlainPattern) (template : List PlainPart) → Has IsPattern pattern_word keys pattern → Has (IsTemplate (length pattern.groups)) template_word keys template
+    → half_in pattern_word template_word keys ≡ Ok (Some pattern, Some template)
+unfolding half_in
+half_meant pattern_word template_word keys pattern template given expand =
+    let read = has_again kinds.Pattern (λ text. ok_of (pattern_in text)) pattern_word keys pattern given.0 given.1 (pattern_meant given.0 pattern given.2) in
+    let expanded = has_again kinds.Pattern (λ text. ok_of (template_in (length pattern.groups) text)) template_word keys template expand.0 expand.1 (template_meant (length pattern.groups) expand.0 template expand.2) in
+    subst (λ (r : Found (Option PlainPattern)). both r (value_in kinds.Pattern (λ text. ok_of (template_in (groups_of r) text)) template_word keys) ≡ Ok (Some pattern, Some template)) (sym read)
+    (both_again (Ok (Some pattern)) (value_in kinds.Pattern (λ text. ok_of (template_in (length pattern.groups) text)) template_word keys) (Some pattern) (Some template) refl expanded)
+
+abbrev half : Option PlainPattern → Option (List PlainPart) → Half
+half pattern template = (pattern, template)
+
+-- the five parts of a relation
+record AreParts (hyper : PlainHyper) (a : Option PlainPattern) (b : Option (List PlainPart)) (c : Option Relation) (d : Option PlainPattern) (e : Option (List PlainPart)) : Type 0 where
+  key : half a b ≡ half (Some hyper.key_pattern) (Some hyper.key_template)
+  relation : c ≡ Some hyper.relation
+  packet : half d e ≡ half (Some hyper.packet_pattern) (Some hyper.packet_template)
+
+parts_of : (hyper : PlainHyper) (a : Option PlainPattern) (b : Option (List PlainPart)) (c : Option Relation) (d : Option PlainPattern) (e : Option (List PlainPart)) → hyper_with a b c d e ≡ Some hyper → AreParts hyper a b c d e
+parts_of hyper None b c d e h = absurd cc
+parts_of hyper (Some a) None c d e h = absurd cc
+parts_of hyper (Some a) (Some b) None d e h = absurd cc
+parts_of hyper (Some a) (Some b) (Some c) None e h = absurd cc
+parts_of hyper (Some a) (Some b) (Some c) (Some d) None h = absurd cc
+parts_of hyper (Some a) (Some b) (Some c) (Some d) (Some e) h =
+    let whole : PlainHyper = record { key_pattern = a; key_template = b; relation = c; packet_pattern = d; packet_template = e } in
+    let same : whole ≡ hyper = some_one whole hyper h in
+    record {
+      key = ap (λ (x : PlainHyper). half (Some x.key_pattern) (Some x.key_template)) same;
+      relation = ap (λ (x : PlainHyper). Some x.relation) same;
+      packet = ap (λ (x : PlainHyper). half (Some x.packet_pattern) (Some x.packet_template)) same;
+    }
+
+hyper_keys : (needed : Bool) (line : ℕ) (keys : List Block) (hyper : PlainHyper) → hyper_of needed line keys ≡ Ok (Some hyper) → AsksOfBoth keys hyper
+unfolding hyper_of parts_in table
+hyper_keys needed line keys hyper e =
+    let all = beside_ok (after None (walk_faults blocks.Hyper keys)) (beside (missing_unless (not needed || is_whole keys) line) (then_made hyper_made (parts_in keys))) (Some hyper) e in
+    let fit = fits blocks.Hyper keys refl all.0 in
+    let read = beside_ok (missing_unless (not needed || is_whole keys) line) (then_made hyper_made (parts_in keys)) (Some hyper) all.1 in
+    let made = made_ok hyper_made (parts_in keys) (Some hyper) read.1 in
+    let parts = parts_of hyper made.0.0.0.0 made.0.0.0.1 made.0.0.1 made.0.1.0 made.0.1.1 (ok_one (hyper_made made.0) (hyper_with made.0.0.0.0 made.0.0.0.1 made.0.0.1 made.0.1.0 made.0.1.1) (Some hyper) refl made.2) in
+    let key_half = half_in (codes "k-regex") (codes "k-expand") keys in
+    let packet_half = half_in (codes "p-regex") (codes "p-expand") keys in
+    let how = value_in kinds.BadValue relation_in (codes "h-relation") keys in
+    let two = both_ok (both key_half how) packet_half made.0 made.1 in
+    let one = both_ok key_half how made.0.0 two.0 in
+    let key = half_means (codes "k-regex") (codes "k-expand") keys hyper.key_pattern hyper.key_template fit.1.0 fit.1.1.0 (one.0 ∙ ap Ok parts.key) in
+    let packet = half_means (codes "p-regex") (codes "p-expand") keys hyper.packet_pattern hyper.packet_template fit.1.1.1.1.0 fit.1.1.1.1.1.0 (two.1 ∙ ap Ok parts.packet) in
+    let stands = has kinds.BadValue relation_in (codes "h-relation") keys hyper.relation (one.1 ∙ ap Ok parts.relation) fit.1.1.1.0 in
+    (fit.0, key.0, key.1, (stands.0, stands.1, relation_means stands.0 hyper.relation stands.2), packet.0, packet.1)
+
+keys_hyper : (line : ℕ) (keys : List Block) (hyper : PlainHyper) → AsksOfBoth keys hyper → hyper_of true line keys ≡ Ok (Some hyper)
+unfolding hyper_of parts_in table
+keys_hyper line keys hyper (only, key_pattern, key_template, stands, packet_pattern, packet_template) =
+    let fit = fits_again blocks.Hyper keys refl only (
+      has_once (codes "k-regex") keys key_pattern.0 key_pattern.1,
+      (
+        has_once (codes "k-expand") keys key_template.0 key_template.1,
+        (
+          has_once (codes "h-relation") keys stands.0 stands.1,
+          (has_once (codes "p-regex") keys packet_pattern.0 packet_pattern.1, (has_once (codes "p-expand") keys packet_template.0 packet_template.1, tt)),
+        ),
+      ),
+    ) in
+    let whole : is_whole keys ≡ true =
+    rw (
+      has_there (codes "k-regex") keys key_pattern.0 key_pattern.1,
+      has_there (codes "k-expand") keys key_template.0 key_template.1,
+      has_there (codes "h-relation") keys stands.0 stands.1,
+      has_there (codes "p-regex") keys packet_pattern.0 packet_pattern.1,
+      has_there (codes "p-expand") keys packet_template.0 packet_template.1,
+    ) refl in
+    let key = half_meant (codes "k-regex") (codes "k-expand") keys hyper.key_pattern hyper.key_template key_pattern key_template in
+    let packet = half_meant (codes "p-regex") (codes "p-expand") keys hyper.packet_pattern hyper.packet_template packet_pattern packet_template in
+    let how = has_again kinds.BadValue relation_in (codes "h-relation") keys hyper.relation stands.0 stands.1 (relation_meant stands.0 hyper.relation stands.2) in
+    rw (fit, whole, key, how, packet) refl
+
+hyper_means : (needed : Bool) (key : Block) (hyper : PlainHyper) → hyper_in needed key ≡ Ok (Some hyper) → IsHyper key hyper
+unfolding hyper_in
+hyper_means needed key hyper e = let block = block_ok 4 (hyper_of needed) key (Some hyper) e in (block.0, hyper_keys needed key.0.line (blocks_of 4 key.1) hyper block.1)
+
+hyper_meant : (key : Block) (hyper : PlainHyper) → IsHyper key hyper → hyper_in true key ≡ Ok (Some hyper)
+unfolding hyper_in
+hyper_meant key hyper h = block_again 4 (hyper_of true) key (Some hyper) h.0 (keys_hyper key.0.line (blocks_of 4 key.1) hyper h.1)
+
+-- ---- key locators
+
+not_lacked : (word : List ℕ) (keys rest : List Block) (key : Block) → named word keys ≡ key ∷ rest → Lacks word keys → ⊥
+not_lacked word keys rest key is none = absurd cc
+
+by_hyper : (form : forms.Form) (keys : List Block) (key : Block) → HasOnly (words_by form) keys → named (codes "hyper-relation") keys ≡ key ∷ [] → HasOnly (words_by forms.Hyper) keys
+by_hyper forms.Related keys key only is = absurd (not_lacked (codes "hyper-relation") keys [] key is (lacks (words_by forms.Related) (codes "hyper-relation") keys refl only))
+by_hyper forms.Matching keys key only is = absurd (not_lacked (codes "hyper-relation") keys [] key is (lacks (words_by forms.Matching) (codes "hyper-relation") keys refl only))
+by_hyper forms.Hyper keys key only is = only
+
+-- the test by name of these parts
+named_test : (line : ℕ) (keys : List Block) (names : Names) (test : LocatorTest) → StandOnce keys → IsAsked KeyName keys names → shown locators.Name (test_of line names) ≡ Ok test → AsksOfKey keys test
+named_test line keys names test once asked e =
+    let read = shown_ok locators.Name (test_of line names) test e in
+    subst (AsksOfKey keys) read.2 (test_means KeyName line keys names read.0 once asked read.1)
+
+-- the test of these parts, by the first hyper-relation
+locator_by : (line : ℕ) (keys : List Block) (names : Names) (hypers : List (Option PlainHyper)) (test : LocatorTest) → StandOnce keys → others_of (named (codes "hyper-relation") keys) ≡ [] → IsAsked KeyName keys names
+    → each (hyper_in (is_hyper_alone keys)) (named (codes "hyper-relation") keys) ≡ Ok hypers → (first : Option (Option PlainHyper)) → first_of hypers ≡ first → test_by line names first ≡ Ok test → AsksOfKey keys test
+locator_by line keys names hypers test once alone asked e None is made = named_test line keys names test once asked made
+locator_by line keys names hypers test once alone asked e (Some None) is made = named_test line keys names test once asked made
+locator_by line keys names hypers test once alone asked e (Some (Some hyper)) is made =
+    let same : locators.Hyper hyper ≡ test = cc in
+    let gave = first_gave (hyper_in (is_hyper_alone keys)) (codes "hyper-relation") keys hypers (Some hyper) alone e is in
+    subst (AsksOfKey keys) same (by_hyper asked.form keys gave.0 asked.only gave.1, asked.type, (gave.0, gave.1, hyper_means (is_hyper_alone keys) gave.0 hyper gave.2))
+
+locator_keys : (line : ℕ) (keys : List Block) (test : LocatorTest) → locator_of line keys ≡ Ok test → AsksOfKey keys test
+unfolding locator_of table
+locator_keys line keys test e =
+    let hypers = each (hyper_in (is_hyper_alone keys)) (named (codes "hyper-relation") keys) in
+    let all = beside_ok (after None (walk_faults blocks.Locator keys)) (then_made (locator_made line) (both (asked_in KeyName line keys) hypers)) test e in
+    let fit = fits blocks.Locator keys refl all.0 in
+    let once : StandOnce keys = record { type = fit.1.0; name = fit.1.1.0; relation = fit.1.1.1.0; regex = fit.1.1.1.1.0 } in
+    let made = made_ok (locator_made line) (both (asked_in KeyName line keys) hypers) test all.1 in
+    let parts = both_ok (asked_in KeyName line keys) hypers made.0 made.1 in
+    locator_by line keys made.0.0 made.0.1 test once fit.1.1.1.1.1.0 (is_asked KeyName line keys made.0.0 fit.0 once parts.0) parts.1 (first_of made.0.1) refl made.2
+
+keys_locator : (line : ℕ) (keys : List Block) (test : LocatorTest) → AsksOfKey keys test → locator_of line keys ≡ Ok test
+unfolding locator_of table is_hyper_alone
+keys_locator line keys (locators.Name test) h =
+    let once = once_there keys test h in
+    let none = lacks_hyper keys test h in
+    let fit = fits_again blocks.Locator keys refl (known_there KeyName keys test h) (once.type, (once.name, (once.relation, (once.regex, (lacks_once (codes "hyper-relation") keys none, tt))))) in
+    let meant = test_meant KeyName line keys test h in
+    let hypers = none_again (hyper_in (is_hyper_alone keys)) (codes "hyper-relation") keys none in
+    let read = both_again (asked_in KeyName line keys) (each (hyper_in (is_hyper_alone keys)) (named (codes "hyper-relation") keys)) meant.0 [] meant.1 hypers in
+    beside_again (after None (walk_faults blocks.Locator keys)) (then_made (locator_made line) (both (asked_in KeyName line keys) (each (hyper_in (is_hyper_alone keys)) (named (codes "hyper-relation") keys)))) (locators.Name test) fit
+    (made_again (locator_made line) (both (asked_in KeyName line keys) (each (hyper_in (is_hyper_alone keys)) (named (codes "hyper-relation") keys))) (meant.0, []) (locators.Name test) read (shown_again locators.Name (test_of line meant.0) test meant.2))
+keys_locator line keys (locators.Hyper hyper) (only, type, block) =
+    let words = words_by forms.Hyper in
+    let fit = fits_again blocks.Locator keys refl (only_of words (words_for KeyName) keys hyper_more only) (
+      has_once (codes "type") keys (codes "name") type,
+      (
+        lacks_once (codes "name") keys (lacks words (codes "name") keys refl only),
+        (
+          lacks_once (codes "relation") keys (lacks words (codes "relation") keys refl only),
+          (lacks_once (codes "regex") keys (lacks words (codes "regex") keys refl only), (one_once (codes "hyper-relation") keys block.0 block.1, tt)),
+        ),
+      ),
+    ) in
+    let alone : is_hyper_alone keys ≡ true = rw (hyper_alone keys only) refl in
+    let gives : hyper_in (is_hyper_alone keys) block.0 ≡ Ok (Some hyper) = rw alone (hyper_meant block.0 hyper block.2) in
+    let hypers = one_again (hyper_in (is_hyper_alone keys)) (codes "hyper-relation") keys block.0 (Some hyper) block.1 gives in
+    let names = hyper_asked line keys block.0 only type block.1 in
+    rw (fit, names, hypers) refl
+keys_locator line keys locators.Hierarchical h = absurd h
+
+pub locator_means : (key : Block) (test : LocatorTest) → locator_in key ≡ Ok test → IsLocator key test
+unfolding locator_in
+locator_means key test e = let block = block_ok 3 locator_of key test e in (block.0, locator_keys key.0.line (blocks_of 3 key.1) test block.1)
+
+pub locator_meant : (key : Block) (test : LocatorTest) → IsLocator key test → locator_in key ≡ Ok test
+unfolding locator_in
+locator_meant key test h = block_again 3 locator_of key test h.0 (keys_locator key.0.line (blocks_of 3 key.1) test h.1)

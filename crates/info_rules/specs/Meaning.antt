@@ -1,0 +1,194 @@
+-- What the entries of a rule file mean, in an operator's terms (ndn-cxx, "Validator Configuration
+-- File Format").
+use Rattle.std.specs.Prelude.{◌≡◌, ◌⊎◌, ◌≤◌, ⊤, ℕ, List, [], ◌∷◌, length, None, Some, true, false, codes}
+use Rattle.std.specs.List.{AllByRecursion}
+use Rattle.ndn_names.specs.ReadsAs.{ReadsAs}
+use Rattle.name_patterns.specs.Grammar.{IsPattern}
+use Rattle.name_patterns.specs.Template.{IsTemplate}
+use Rattle.info_rules.specs.declared.rule.Kind.{Kind}
+use Rattle.info_rules.specs.declared.rule.Kind.TheVariants as kinds
+use Rattle.info_rules.specs.declared.rule.Relation.{Relation}
+use Rattle.info_rules.specs.declared.rule.Relation.TheVariants as relations
+use Rattle.info_rules.specs.declared.rule.NameTest.{NameTest}
+use Rattle.info_rules.specs.declared.rule.NameTest.TheVariants as tests
+use Rattle.info_rules.specs.declared.rule.LocatorTest.{LocatorTest}
+use Rattle.info_rules.specs.declared.rule.LocatorTest.TheVariants as locators
+use Rattle.info_rules.specs.declared.rule.Checker.{Checker}
+use Rattle.info_rules.specs.declared.rule.Checker.TheVariants as checkers
+use Rattle.info_rules.specs.Tree.{PlainEntry, Block, blocks_of}
+use Rattle.info_rules.specs.Keys.{named}
+use Rattle.info_rules.specs.Hyper.{PlainHyper}
+use Rattle.info_rules.specs.Rule.{PlainRule}
+use Rattle.info_rules.specs.Limits.{HaveOwnIds}
+
+-- ---- keys of a block
+
+-- the word is one of these
+abbrev pub IsOneOf : List (List ℕ) → List ℕ → Type 0
+IsOneOf [] word = ⊥
+IsOneOf (one ∷ others) word = (word ≡ one) ⊎ IsOneOf others word
+
+-- each key is one of these words
+abbrev pub HasOnly : List (List ℕ) → List Block → Type 0
+HasOnly words keys = AllByRecursion (λ key. IsOneOf words key.0.key) keys
+
+-- no key is this word
+abbrev pub Lacks : List ℕ → List Block → Type 0
+Lacks word keys = named word keys ≡ []
+
+-- one key is this word, and it has this value and no block
+abbrev pub HasValue : List ℕ → List Block → List ℕ → Type 0
+HasValue word keys text =
+    (key : Block) × (named word keys ≡ key ∷ []) × (key.0.value ≡ Some text)
+    × (key.0.has_block ≡ false)
+
+-- one key is this word, and its value is read so
+abbrev pub Has : {A : Type 0} → (List ℕ → A → Type 0) → List ℕ → List Block → A → Type 0
+Has IsText word keys x = (text : List ℕ) × HasValue word keys text × IsText text x
+
+-- the key has a block and no value
+abbrev pub OpensBlock : Block → Type 0
+OpensBlock key = (key.0.has_block ≡ true) × (key.0.value ≡ None)
+
+-- one key is this word, and it means this
+abbrev pub HasBlock : {A : Type 0} → (Block → A → Type 0) → List ℕ → List Block → A → Type 0
+HasBlock Means word keys x = (key : Block) × (named word keys ≡ key ∷ []) × Means key x
+
+-- each of these keys means one of these, in turn
+abbrev pub Mean : {A : Type 0} → (Block → A → Type 0) → List Block → List A → Type 0
+Mean Means [] [] = ⊤
+Mean Means [] (x ∷ xs) = ⊥
+Mean Means (key ∷ keys) [] = ⊥
+Mean Means (key ∷ keys) (x ∷ xs) = Means key x × Mean Means keys xs
+
+-- ---- words
+
+abbrev pub IsKind : List ℕ → Kind → Type 0
+IsKind text kinds.Data = text ≡ codes "data"
+IsKind text kinds.Interest = text ≡ codes "interest"
+
+abbrev pub IsRelation : List ℕ → Relation → Type 0
+IsRelation text relations.Equal = text ≡ codes "equal"
+IsRelation text relations.IsPrefixOf = text ≡ codes "is-prefix-of"
+IsRelation text relations.IsStrictPrefixOf = text ≡ codes "is-strict-prefix-of"
+
+-- 1 to 100 octets, and no control character
+abbrev pub IsId : List ℕ → List ℕ → Type 0
+IsId text id =
+    (text ≡ id) × (1 ≤ length id) × (length id ≤ 100) × AllByRecursion (λ octet. 32 ≤ octet) id
+
+-- ---- names: what a filter asks of a packet's, and a key locator of a key's
+
+-- a name and how it stands to the one asked about, or a pattern of that one
+abbrev pub AsksOfName : List Block → NameTest → Type 0
+AsksOfName keys (tests.Related relation name) =
+    HasOnly (codes "type" ∷ codes "name" ∷ codes "relation" ∷ []) keys
+    × HasValue (codes "type") keys (codes "name") × Has ReadsAs (codes "name") keys name
+    × Has IsRelation (codes "relation") keys relation
+AsksOfName keys (tests.Matching pattern) =
+    HasOnly (codes "type" ∷ codes "regex" ∷ []) keys
+    × HasValue (codes "type") keys (codes "name") × Has IsPattern (codes "regex") keys pattern
+
+-- a `filter`
+abbrev pub IsFilter : Block → NameTest → Type 0
+IsFilter key test = OpensBlock key × AsksOfName (blocks_of 2 key.1) test
+
+-- ---- checkers
+
+-- two patterns, a template for the groups of each, and how the expanded names stand
+abbrev pub AsksOfBoth : List Block → PlainHyper → Type 0
+AsksOfBoth keys hyper =
+    HasOnly (codes "k-regex" ∷ codes "k-expand" ∷ codes "h-relation" ∷ codes "p-regex"
+    ∷ codes "p-expand" ∷ []) keys
+    × Has IsPattern (codes "k-regex") keys hyper.key_pattern
+    × Has (IsTemplate (length hyper.key_pattern.groups)) (codes "k-expand") keys hyper.key_template
+    × Has IsRelation (codes "h-relation") keys hyper.relation
+    × Has IsPattern (codes "p-regex") keys hyper.packet_pattern
+    × Has (IsTemplate (length hyper.packet_pattern.groups)) (codes "p-expand") keys
+    hyper.packet_template
+
+-- a `hyper-relation`
+abbrev pub IsHyper : Block → PlainHyper → Type 0
+IsHyper key hyper = OpensBlock key × AsksOfBoth (blocks_of 4 key.1) hyper
+
+abbrev pub AsksOfKey : List Block → LocatorTest → Type 0
+AsksOfKey keys (locators.Name test) = AsksOfName keys test
+AsksOfKey keys (locators.Hyper hyper) =
+    HasOnly (codes "type" ∷ codes "hyper-relation" ∷ []) keys
+    × HasValue (codes "type") keys (codes "name")
+    × HasBlock IsHyper (codes "hyper-relation") keys hyper
+AsksOfKey keys locators.Hierarchical = ⊥
+
+-- a `key-locator`
+abbrev pub IsLocator : Block → LocatorTest → Type 0
+IsLocator key test = OpensBlock key × AsksOfKey (blocks_of 3 key.1) test
+
+-- the signatures that a checker takes: HMAC with SHA-256 where it does not say
+abbrev pub TakesHmac : List Block → Type 0
+TakesHmac keys = Lacks (codes "sig-type") keys
+    ⊎ HasValue (codes "sig-type") keys (codes "hmac-sha256")
+
+abbrev pub TakesDigest : List Block → Type 0
+TakesDigest keys = HasValue (codes "sig-type") keys (codes "sha256")
+
+abbrev pub TakesAsymmetric : List Block → Type 0
+TakesAsymmetric keys = HasValue (codes "sig-type") keys (codes "rsa-sha256")
+    ⊎ HasValue (codes "sig-type") keys (codes "ecdsa-sha256")
+
+-- a checker of `type customized`: its key locator says which keys may make the HMAC; a digest has
+-- no key, so it needs no locator, and one that stands beside it counts for nothing
+abbrev pub AsksAsTold : List Block → Checker → Type 0
+AsksAsTold keys (checkers.HmacSha256 test) =
+    TakesHmac keys × HasBlock IsLocator (codes "key-locator") keys test
+AsksAsTold keys checkers.Sha256 =
+    TakesDigest keys × (Lacks (codes "key-locator") keys
+    ⊎ ((test : LocatorTest) × HasBlock IsLocator (codes "key-locator") keys test))
+AsksAsTold keys checkers.Unsupported =
+    TakesAsymmetric keys
+    × ((test : LocatorTest) × HasBlock IsLocator (codes "key-locator") keys test)
+
+-- a checker of `type hierarchical`, which has no key locator
+abbrev pub AsksByHierarchy : List Block → Checker → Type 0
+AsksByHierarchy keys (checkers.HmacSha256 test) = TakesHmac keys × (test ≡ locators.Hierarchical)
+AsksByHierarchy keys checkers.Sha256 = TakesDigest keys
+AsksByHierarchy keys checkers.Unsupported = TakesAsymmetric keys
+
+abbrev pub AsksOfSignature : List Block → Checker → Type 0
+AsksOfSignature keys checker =
+    (HasOnly (codes "type" ∷ codes "sig-type" ∷ codes "key-locator" ∷ []) keys
+    × HasValue (codes "type") keys (codes "customized") × AsksAsTold keys checker)
+    ⊎ (HasOnly (codes "type" ∷ codes "sig-type" ∷ []) keys
+    × HasValue (codes "type") keys (codes "hierarchical") × AsksByHierarchy keys checker)
+
+-- a `checker`
+abbrev pub IsChecker : Block → Checker → Type 0
+IsChecker key checker = OpensBlock key × AsksOfSignature (blocks_of 2 key.1) checker
+
+-- ---- rules
+
+-- the keys of a rule, with each of its filters and checkers in turn
+abbrev pub AreOfRule : List Block → PlainRule → Type 0
+AreOfRule keys rule =
+    HasOnly (codes "id" ∷ codes "for" ∷ codes "filter" ∷ codes "checker" ∷ []) keys
+    × Has IsId (codes "id") keys rule.id × Has IsKind (codes "for") keys rule.kind
+    × Mean IsFilter (named (codes "filter") keys) rule.filters × (length rule.filters ≤ 16)
+    × Mean IsChecker (named (codes "checker") keys) rule.checkers × (length rule.checkers ≤ 16)
+
+-- a `rule`
+abbrev pub IsRule : Block → PlainRule → Type 0
+IsRule key rule = OpensBlock key × AreOfRule (blocks_of 1 key.1) rule
+
+-- a `trust-anchor`, which gives nothing: one type, which is not `any`; other keys are not looked at
+abbrev pub IsAnchor : Block → Type 0
+IsAnchor key =
+    OpensBlock key
+    × ((text : List ℕ) × HasValue (codes "type") (blocks_of 1 key.1) text
+    × IsOneOf (codes "file" ∷ codes "dir" ∷ codes "base64" ∷ []) text)
+
+-- the entries of a rule file, with each of its rules in turn, whose ids are different
+abbrev pub IsRuleFile : List PlainEntry → List PlainRule → Type 0
+IsRuleFile entries rules =
+    HasOnly (codes "rule" ∷ codes "trust-anchor" ∷ []) (blocks_of 0 entries)
+    × Mean IsRule (named (codes "rule") (blocks_of 0 entries)) rules × (length rules ≤ 256)
+    × HaveOwnIds rules
+    × AllByRecursion IsAnchor (named (codes "trust-anchor") (blocks_of 0 entries))
