@@ -1,5 +1,6 @@
 pub mod CheckerMeanings
 pub mod Escapes
+pub mod FaultPlaces
 pub mod FileMeanings
 pub mod Firsts
 pub mod FoundParts

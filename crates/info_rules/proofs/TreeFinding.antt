@@ -332,7 +332,7 @@ tokens_two draft final line token tokens e = by_next (with_token draft line toke
 fits_here : (draft : PlainDraft) (line : ℕ) (token : Token) (next : PlainDraft) → with_token draft line token ≡ Ok next → with_fitting draft line token ≡ Ok next
 fits_here draft line token next e = (ok_unless (deep_before draft.deep line) (with_fitting draft line token) next e).1
 
-never_deep : (tokens : List (ℕ × Token)) (draft final : PlainDraft) → with_tokens draft tokens ≡ Ok final → final.deep ≡ None → draft.deep ≡ None
+pub never_deep : (tokens : List (ℕ × Token)) (draft final : PlainDraft) → with_tokens draft tokens ≡ Ok final → final.deep ≡ None → draft.deep ≡ None
 never_deep [] draft final e none = ap (λ (d : PlainDraft). d.deep) (ok_is draft final (sym (tokens_done draft) ∙ e)) ∙ none
 never_deep ((line, token) ∷ tokens) draft final e none =
     let p = tokens_two draft final line token tokens e in
@@ -372,7 +372,7 @@ meaning ((line, token) ∷ tokens) draft final e ended none =
 
 -- ---- the whole text
 
-whole_found : (line : ℕ) (draft : PlainDraft) (entries : List PlainEntry) → whole_of line draft ≡ Ok entries → (draft.depth ≡ 0) × (draft.deep ≡ None) × (entries_of draft ≡ entries)
+pub whole_found : (line : ℕ) (draft : PlainDraft) (entries : List PlainEntry) → whole_of line draft ≡ Ok entries → (draft.depth ≡ 0) × (draft.deep ≡ None) × (entries_of draft ≡ entries)
 whole_found line draft entries e = by_depth (eqb draft.depth 0) refl (ok_unless (deep_before draft.deep line) _ entries e).1
   where
     by_deep : (deep : Option ℕ) → if_shallow deep (entries_of draft) ≡ Ok entries → (deep ≡ None) × (entries_of draft ≡ entries)

@@ -33,3 +33,4 @@ pub mod Decided
 pub mod Signer
 pub mod Limits
 pub mod Meaning
+pub mod FaultPlace

@@ -45,4 +45,4 @@ pub use rule::Kind;
 pub use rule_file::rule_files_have_one_reading;
 pub use rules::{RuleNo, Rules};
 pub use tree::InfoTree;
-pub use tree_reader::{outlines_keep_blocks, trees_have_one_reading};
+pub use tree_reader::{faults_stand_at_their_line, outlines_keep_blocks, trees_have_one_reading};

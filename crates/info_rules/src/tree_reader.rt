@@ -1,9 +1,10 @@
 //! Reading the entries of a text.
 
-ghost use Rattle.std.specs.Prelude.{◌≡◌, ◌≤◌, ◌↔◌, ℕ, List, Ok, IfOk, MatchResult, length, map};
+ghost use Rattle.std.specs.Prelude.{◌≡◌, ◌≢◌, ◌≤◌, ◌↔◌, ℕ, List, Ok, Err, IfOk, MatchResult, length, map};
 ghost use Rattle.info_rules.specs.Tree.{PlainEntry, blocks_of};
 ghost use Rattle.info_rules.specs.TreeGrammar.{Nodes, TreeOf, keyed, outline};
 ghost use Rattle.info_rules.specs.TreeReading.{IsTreeFaultOf, entries_in, tree_in};
+ghost use Rattle.info_rules.specs.FaultPlace.{StandsAt};
 ghost use Rattle.info_rules.specs.Faults.{memory_fault};
 ghost use Rattle.info_rules.specs.Shown.{entry_of};
 
@@ -90,4 +91,11 @@ pub fn trees_have_one_reading()
 pub fn outlines_keep_blocks()
     ensures { (depth : ℕ) (nodes : Nodes) → blocks_of depth (outline depth nodes)
         ≡ keyed depth nodes }
+{}
+
+/// Law: the fault of a text that is not too large stands on one of its lines. The lines before that
+/// one begin some file without such a fault; those up to its end begin none.
+pub fn faults_stand_at_their_line()
+    ensures { (text : List ℕ) (fault : RulesFault) → tree_in text ≡ Err fault
+        → fault.kind ≢ RulesFaultKind.TooLarge → StandsAt text fault.line }
 {}
