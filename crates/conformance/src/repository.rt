@@ -268,7 +268,7 @@ fn reply_written(alloc: Global, row: &str) -> Option<String> {
     let (status, count) = row.split_once(' ')?;
     let status = status.parse().ok()?;
     let mut out = Vec::new(alloc);
-    put_repo_reply(&mut out, status, status_text(status)?, count.parse().ok()?).ok()?;
+    put_repo_reply(&mut out, status, repo_status_text(status)?, count.parse().ok()?).ok()?;
     hex::encode(alloc, &out).ok()
 }
 
@@ -282,7 +282,7 @@ fn repository_replies(rt: HostRuntime) {
 503 0 -> cf18d00201f7670f7265706f7369746f72792066756c6c840100
 ";
     check_rows(&rt, rt.alloc(), rows, reply_written);
-    assert!(rt; status_text(403).is_none());
+    assert!(rt; repo_status_text(403).is_none());
 }
 
 /// The verb of a name, in a repository of the prefix `/repo`.

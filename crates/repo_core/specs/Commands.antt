@@ -16,21 +16,21 @@ pub data Case : Type 0 where
   NoPlace : Case
   Otherwise : Case
 
-pub record Row : Type 0 where
+pub record VerbRow : Type 0 where
   pub word : List ℕ
   -- the status of the first case that holds counts
   pub answers : List (Case × ℕ)
 
-abbrev pub row_of : Verb → Row
-row_of Insert = record {
+abbrev pub verb_row : Verb → VerbRow
+verb_row Insert = record {
   word = codes "insert";
   answers = (Stored, OK) ∷ (Wanted, PENDING) ∷ (NoPlace, FULL) ∷ (Otherwise, PENDING) ∷ [];
 }
-row_of Delete = record {
+verb_row Delete = record {
   word = codes "delete";
   answers = (Stored, OK) ∷ (Wanted, OK) ∷ (Otherwise, NOT_FOUND) ∷ [];
 }
-row_of Check = record {
+verb_row Check = record {
   word = codes "check";
   answers = (Stored, OK) ∷ (Wanted, PENDING) ∷ (Otherwise, NOT_FOUND) ∷ [];
 }
@@ -40,14 +40,14 @@ verbs = Insert ∷ Delete ∷ Check ∷ []
 
 -- the verb of a word
 abbrev pub verb_named : List ℕ → Option Verb
-verb_named word = find (λ verb. bytes_eq word (row_of verb).word) verbs
+verb_named word = find (λ verb. bytes_eq word (verb_row verb).word) verbs
 
 -- the texts of the statuses
-abbrev pub texts : List (ℕ × List ℕ)
-texts =
+abbrev pub repo_texts : List (ℕ × List ℕ)
+repo_texts =
     (PENDING, codes "pending") ∷ (OK, codes "OK") ∷ (BAD_PARAMETERS, codes "bad parameters")
     ∷ (NOT_FOUND, codes "not found") ∷ (FULL, codes "repository full") ∷ []
 
 -- the text of a status; None where no command is answered with it
-abbrev pub text_of : ℕ → Option (List ℕ)
-text_of status = option_map (λ row. row.1) (find (λ row. status == row.0) texts)
+abbrev pub repo_text_of : ℕ → Option (List ℕ)
+repo_text_of status = option_map (λ row. row.1) (find (λ row. status == row.0) repo_texts)

@@ -42,8 +42,8 @@ answering name can_be_prefix rows =
     filter (λ o. full_name_answers name can_be_prefix o.0) rows
 
 -- how many answer
-abbrev pub number_of : List Field → Bool → Objects → ℕ
-number_of name can_be_prefix objects = length (answering name can_be_prefix (entries objects))
+abbrev pub number_answering : List Field → Bool → Objects → ℕ
+number_answering name can_be_prefix objects = length (answering name can_be_prefix (entries objects))
 
 abbrev pub first_octets : List (List Field × List ℕ) → Option (List ℕ)
 first_octets [] = None

@@ -15,15 +15,15 @@ use Rattle.repo_core.specs.declared.types.TheConstants.{CAN_BE_PREFIX, DEFAULT_L
 use Rattle.repo_core.specs.Commands.{verb_named}
 
 -- what a command asks for: the Data that answer an Interest of this name and flag
-pub record PlainCommand : Type 0 where
+pub record RepoCommand : Type 0 where
   pub verb : Verb
   pub name : List Field
   pub can_be_prefix : Bool
   -- how long they are wanted, in milliseconds
   pub lifetime : ℕ
 
-abbrev pub asked : Asked → PlainCommand
-asked a = record {
+abbrev pub plain : Asked → RepoCommand
+plain a = record {
   verb = a.verb;
   name = components a.name;
   can_be_prefix = a.can_be_prefix;
@@ -76,7 +76,7 @@ lifetime_of None = Some DEFAULT_LIFETIME
 lifetime_of (Some value) = on_result (λ n. Some n) (λ _. None) (nni_at value)
 
 -- the command of these parameters; None where they are not well formed
-unfoldable pub command_of : Verb → Elements → Option PlainCommand
+unfoldable pub command_of : Verb → Elements → Option RepoCommand
 command_of verb es =
     if not (list_all can_be_read es) then None else (do
       name ← name_in es
@@ -106,8 +106,8 @@ verb_at start cs =
     if begins_with start cs then (value_after start cs GENERIC 0 >>= verb_named) else None
 
 -- the command that a name is; None where it has another shape
-unfoldable pub command_at : List Field → List Field → Option PlainCommand
-command_at start cs = do
+unfoldable pub repo_command_at : List Field → List Field → Option RepoCommand
+repo_command_at start cs = do
   verb ← verb_at start cs
   value ← value_after start cs GENERIC 1
   digest ← value_after start cs PARAMETERS_SHA256_DIGEST 2

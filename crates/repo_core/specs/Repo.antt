@@ -10,10 +10,10 @@ use Rattle.repo_core.specs.declared.reply.RepoReply.{RepoReply}
 use Rattle.repo_core.specs.declared.reply.Want.{Want}
 use Rattle.repo_core.specs.declared.repo.TheConstants.{MAX_HELD, MAX_WANTS}
 use Rattle.repo_core.specs.declared.types.TheConstants.{BAD_PARAMETERS, NOT_FOUND, OK, PENDING}
-use Rattle.repo_core.specs.Commands.{Case, Stored, Wanted, NoPlace, Otherwise, row_of}
-use Rattle.repo_core.specs.Reading.{PlainCommand, command_at}
-use Rattle.repo_core.specs.Objects.{Objects, number_of, without_answering}
-use Rattle.repo_core.specs.Wants.{Wants, WantKey, want_code, is_wanted, unfilled, deadline}
+use Rattle.repo_core.specs.Commands.{Case, Stored, Wanted, NoPlace, Otherwise, verb_row}
+use Rattle.repo_core.specs.Reading.{RepoCommand, repo_command_at}
+use Rattle.repo_core.specs.Objects.{Objects, number_answering, without_answering}
+use Rattle.repo_core.specs.Wants.{Wants, WantKey, want_code, is_wanted, unfilled, want_deadline}
 
 -- objects and wants
 pub record Held : Type 0 where
@@ -30,29 +30,29 @@ pub record RepoState : Type 0 where
 
 -- ---- commands
 
-abbrev pub key_of : PlainCommand → WantKey
-key_of c = (c.name, c.can_be_prefix)
+abbrev pub want_key : RepoCommand → WantKey
+want_key c = (c.name, c.can_be_prefix)
 
-abbrev pub is_full : Held → Bool
-is_full s =
+abbrev pub is_repo_full : Held → Bool
+is_repo_full s =
     nat_le MAX_WANTS (map.len s.wants) || nat_le MAX_HELD (map.len s.objects + map.len s.wants)
 
-abbrev pub holds : Held → PlainCommand → Case → Bool
-holds s c Stored = nat_lt 0 (number_of c.name c.can_be_prefix s.objects)
-holds s c Wanted = map.contains_key s.wants (key_of c)
-holds s c NoPlace = is_full s
+abbrev pub holds : Held → RepoCommand → Case → Bool
+holds s c Stored = nat_lt 0 (number_answering c.name c.can_be_prefix s.objects)
+holds s c Wanted = map.contains_key s.wants (want_key c)
+holds s c NoPlace = is_repo_full s
 holds s c Otherwise = true
 
 -- the status of the first case that holds
-abbrev pub first_status : Held → PlainCommand → List (Case × ℕ) → ℕ
-first_status s c [] = NOT_FOUND
-first_status s c (row ∷ rows) = if holds s c row.0 then row.1 else first_status s c rows
+abbrev pub first_case_status : Held → RepoCommand → List (Case × ℕ) → ℕ
+first_case_status s c [] = NOT_FOUND
+first_case_status s c (row ∷ rows) = if holds s c row.0 then row.1 else first_case_status s c rows
 
-abbrev pub status_of : Held → PlainCommand → ℕ
-status_of s c = first_status s c (row_of c.verb).answers
+abbrev pub repo_status_of : Held → RepoCommand → ℕ
+repo_status_of s c = first_case_status s c (verb_row c.verb).answers
 
 -- what is to be fetched: of an insert that is pending, an Interest of its name, flag and lifetime
-abbrev pub fetch_of : PlainCommand → ℕ → Option Want
+abbrev pub fetch_of : RepoCommand → ℕ → Option Want
 fetch_of c status =
     elim c.verb [
       | Insert ↦ if status == PENDING then Some (record {
@@ -64,48 +64,48 @@ fetch_of c status =
     ]
 
 -- the number of objects that answer, with status 200
-abbrev pub reply_with : Held → PlainCommand → ℕ → RepoReply
+abbrev pub reply_with : Held → RepoCommand → ℕ → RepoReply
 reply_with s c status = record {
   status = status;
-  count = if status == OK then number_of c.name c.can_be_prefix s.objects else 0;
+  count = if status == OK then number_answering c.name c.can_be_prefix s.objects else 0;
   fetch = fetch_of c status;
 }
 
-abbrev pub reply_to : Held → Option PlainCommand → RepoReply
+abbrev pub reply_to : Held → Option RepoCommand → RepoReply
 reply_to s None = record { status = BAD_PARAMETERS; count = 0; fetch = None }
-reply_to s (Some c) = reply_with s c (status_of s c)
+reply_to s (Some c) = reply_with s c (repo_status_of s c)
 
 -- a want that stood gets the new deadline
-abbrev pub after_insert : PlainCommand → ℕ → Held → Held
+abbrev pub after_insert : RepoCommand → ℕ → Held → Held
 after_insert c now s =
-    if status_of s c == PENDING then record s {
-      wants = map.insert s.wants (key_of c) (deadline now c.lifetime);
+    if repo_status_of s c == PENDING then record s {
+      wants = map.insert s.wants (want_key c) (want_deadline now c.lifetime);
     } else s
 
-abbrev pub after_delete : PlainCommand → Held → Held
+abbrev pub after_delete : RepoCommand → Held → Held
 after_delete c s =
-    if status_of s c == OK then record {
+    if repo_status_of s c == OK then record {
       objects = without_answering c.name c.can_be_prefix s.objects;
-      wants = map.remove s.wants (key_of c);
+      wants = map.remove s.wants (want_key c);
     } else s
 
-abbrev pub after_known : PlainCommand → ℕ → Held → Held
+abbrev pub after_known : RepoCommand → ℕ → Held → Held
 after_known c now s =
     elim c.verb [ Insert ↦ after_insert c now s | Delete ↦ after_delete c s | Check ↦ s ]
 
 -- a name that is no command does nothing
-abbrev pub after_some : Option PlainCommand → ℕ → Held → Held
+abbrev pub after_some : Option RepoCommand → ℕ → Held → Held
 after_some None now s = s
 after_some (Some c) now s = after_known c now s
 
 -- what a command of this name does at this moment, in a repository of this prefix
 abbrev pub after_command : List Field → List Field → ℕ → Held → Held
-after_command start name now s = after_some (command_at start name) now s
+after_command start name now s = after_some (repo_command_at start name) now s
 
 -- the one command that takes memory: an insert that makes a want, or renews one
-abbrev pub MakesWant : Held → Option PlainCommand → Type 0
+abbrev pub MakesWant : Held → Option RepoCommand → Type 0
 MakesWant s None = ⊥
-MakesWant s (Some c) = (c.verb ≡ Insert) × (status_of s c ≡ PENDING)
+MakesWant s (Some c) = (c.verb ≡ Insert) × (repo_status_of s c ≡ PENDING)
 
 -- ---- Data
 
@@ -128,7 +128,7 @@ is_insert Check = false
 
 abbrev pub IsCommandPrepared : RepoState → List Field → Type 0
 IsCommandPrepared s name =
-    IfSome (command_at s.start name)
+    IfSome (repo_command_at s.start name)
     (λ c. is_insert c.verb ≡ true → s.prepared_want ≡ Some c.name)
 
 -- the offer is prepared, if the Data is wanted

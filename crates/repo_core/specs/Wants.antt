@@ -62,9 +62,9 @@ abbrev pub unfilled : List Field → List ℕ → Wants → Wants
 unfilled name digest wants = kept (λ w. not (answers name digest w.0.0 w.0.1)) wants
 
 -- without the wants that are due
-abbrev pub after_expiry : ℕ → Wants → Wants
-after_expiry now wants = kept (λ w. nat_lt now w.1) wants
+abbrev pub wants_after : ℕ → Wants → Wants
+wants_after now wants = kept (λ w. nat_lt now w.1) wants
 
 -- the deadline of a want; the sum stops at the greatest moment
-abbrev pub deadline : ℕ → ℕ → ℕ
-deadline now lifetime = min (now + lifetime) (2 ^ 64 - 1)
+abbrev pub want_deadline : ℕ → ℕ → ℕ
+want_deadline now lifetime = min (now + lifetime) (2 ^ 64 - 1)

@@ -4,14 +4,14 @@ use Rattle.ndn_tlv.specs.Number.{shortest_nni}
 use Rattle.ndn_tlv.specs.Element.{Field, element}
 use Rattle.repo_core.specs.declared.types.TheConstants.{COUNT, RESPONSE, STATUS_CODE, STATUS_TEXT}
 
-abbrev pub octets : List Field → List ℕ
-octets fields = flat_map element fields
+abbrev pub fields_octets : List Field → List ℕ
+fields_octets fields = flat_map element fields
 
 -- a reply: the status, its text, and a number
-abbrev pub response : ℕ → List ℕ → ℕ → List ℕ
-response status text count =
+abbrev pub repo_response : ℕ → List ℕ → ℕ → List ℕ
+repo_response status text count =
     element (
       RESPONSE,
-      octets ((STATUS_CODE, shortest_nni status) ∷ (STATUS_TEXT, text)
+      fields_octets ((STATUS_CODE, shortest_nni status) ∷ (STATUS_TEXT, text)
           ∷ (COUNT, shortest_nni count) ∷ []),
     )

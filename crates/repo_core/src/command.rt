@@ -4,7 +4,7 @@ ghost use Rattle.std.specs.Prelude.{◌≡◌, ◌≤◌};
 ghost use Rattle.std.specs.Option.{option_map};
 ghost use Rattle.ndn_tlv.specs.Reading.{elements_of};
 ghost use Rattle.ndn_names.specs.View.{components};
-ghost use Rattle.repo_core.specs.Reading.{asked, command_at, command_of, value_after, verb_at};
+ghost use Rattle.repo_core.specs.Reading.{command_of, plain, repo_command_at, value_after, verb_at};
 
 use crate::fields::{are_elements, flag_field, lifetime_field, name_field, single_element};
 use crate::types::PARAMETERS;
@@ -45,11 +45,11 @@ pub fn verb_after(start: Name<'_>, name: Name<'_>) -> Option<Verb>
     Verb::named(value_after(start, name, GENERIC, 0)?)
 }
 
-#[tactic(auto, unfolding(crate::specs::Reading::command_at))]
+#[tactic(auto, unfolding(crate::specs::Reading::repo_command_at))]
 /// The command that a name is.
 pub fn command_in<'a>(start: Name<'_>, name: Name<'a>) -> Option<Asked<'a>>
-    ensures { option_map asked result
-        ≡ command_at (components start.entry) (components name.entry) }
+    ensures { option_map plain result
+        ≡ repo_command_at (components start.entry) (components name.entry) }
 {
     let verb = verb_after(start, name)?;
     let value = value_after(start, name, GENERIC, 1)?;
@@ -64,7 +64,7 @@ pub fn command_in<'a>(start: Name<'_>, name: Name<'a>) -> Option<Asked<'a>>
 #[tactic(auto, unfolding(crate::specs::Reading::command_of))]
 /// The command of these parameters.
 fn command_of(verb: Verb, fields: &[u8]) -> Option<Asked<'_>>
-    ensures { option_map asked result ≡ command_of verb (elements_of fields.now) }
+    ensures { option_map plain result ≡ command_of verb (elements_of fields.now) }
 {
     if !are_elements(fields) {
         return None;

@@ -4,7 +4,7 @@ ghost use Rattle.std.specs.Prelude.{◌≡◌, ℕ, List, Bool, true};
 ghost use Rattle.ndn_tlv.specs.Element.{Field};
 ghost use Rattle.ndn_packets.specs.Answers.{answers, full_name};
 ghost use Rattle.repo_core.specs.Objects.{full_name_answers};
-ghost use Rattle.repo_core.specs.Wants.{Wants, after_expiry, is_wanted};
+ghost use Rattle.repo_core.specs.Wants.{Wants, is_wanted, wants_after};
 
 /// Law: an object answers an Interest exactly where its Data does.
 pub fn full_names_answer_as_data()
@@ -17,6 +17,6 @@ pub fn full_names_answer_as_data()
 /// stays prepared.
 pub fn expiry_keeps_preparations()
     ensures { (now : ℕ) (name : List Field) (digest : List ℕ) (wants : Wants)
-        → is_wanted name digest (after_expiry now wants) ≡ true
+        → is_wanted name digest (wants_after now wants) ≡ true
         → is_wanted name digest wants ≡ true }
 {}

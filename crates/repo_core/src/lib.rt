@@ -16,6 +16,6 @@ mod wants;
 mod writing;
 
 pub use law::{expiry_keeps_preparations, full_names_answer_as_data};
-pub use reply::{RepoReply, Want, put_repo_reply, status_text};
+pub use reply::{RepoReply, Want, put_repo_reply, repo_status_text};
 pub use repo::{MAX_HELD, MAX_WANTS, Repo};
 pub use verb::Verb;

@@ -5,7 +5,7 @@ ghost use Rattle.std.specs.Option.{option_map};
 ghost use Rattle.ndn_tlv.specs.Element.{Field, IsElements};
 ghost use Rattle.ndn_names.specs.Order.{name_cmp};
 ghost use Rattle.ndn_names.specs.View.{components};
-ghost use Rattle.repo_core.specs.Objects.{answering, first_octets, number_of, served, without_answering};
+ghost use Rattle.repo_core.specs.Objects.{answering, first_octets, number_answering, served, without_answering};
 ghost use Rattle.repo_core.specs.Room.{HasAt, IsPlace};
 
 use crate::object::Object;
@@ -59,7 +59,7 @@ impl Objects {
 
     /// How many answer an Interest of this name and flag.
     pub fn number(&self, name: Name<'_>, can_be_prefix: bool) -> usize
-        ensures { result ≡ number_of (components name.entry) can_be_prefix self.now.table }
+        ensures { result ≡ number_answering (components name.entry) can_be_prefix self.now.table }
     {
         count_of(
             candidates(&self.rows, name, can_be_prefix),

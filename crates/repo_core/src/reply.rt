@@ -1,8 +1,8 @@
 ghost use Rattle.std.specs.Prelude.{◌≡◌, ◌+◌, ◌≤◌, ◌++◌, length, take, vec_len, None, IsOk, OnOk, OnErr};
 ghost use Rattle.std.specs.Option.{option_map};
 ghost use Rattle.std.specs.Vec.{vec_capacity};
-ghost use Rattle.repo_core.specs.Commands.{text_of};
-ghost use Rattle.repo_core.specs.Writing.{response};
+ghost use Rattle.repo_core.specs.Commands.{repo_text_of};
+ghost use Rattle.repo_core.specs.Writing.{repo_response};
 
 use crate::types::{
     BAD_PARAMETERS, COUNT, FULL, NOT_FOUND, OK, PENDING, RESPONSE, STATUS_CODE, STATUS_TEXT,
@@ -45,8 +45,8 @@ impl RepoReply {
 }
 
 /// The text of a status that a command is answered with. None for any other status.
-pub fn status_text(status: u16) -> Option<&'static str>
-    ensures { option_map (λ text. text.now) result ≡ text_of status }
+pub fn repo_status_text(status: u16) -> Option<&'static str>
+    ensures { option_map (λ text. text.now) result ≡ repo_text_of status }
 {
     match status {
         PENDING => Some("pending"),
@@ -62,10 +62,10 @@ pub fn status_text(status: u16) -> Option<&'static str>
 /// appended.
 pub fn put_repo_reply(out: &mut Vec<u8>, status: u16, text: &str, count: u64) -> Result<(), Memory>
     ensures ok { OnOk result
-        (out.new.items ≡ out.old.items ++ response status text.now count) }
+        (out.new.items ≡ out.old.items ++ repo_response status text.now count) }
     ensures err { OnErr result (out.new.items ≡ out.old.items) }
     // Where there is room, memory is not refused.
-    ensures room { vec_len out.old + length (response status text.now count)
+    ensures room { vec_len out.old + length (repo_response status text.now count)
         ≤ vec_capacity out.old → IsOk result }
     ensures capacity { vec_capacity out.old ≤ vec_capacity out.new }
 {
@@ -80,9 +80,9 @@ pub fn put_repo_reply(out: &mut Vec<u8>, status: u16, text: &str, count: u64) ->
 /// Appends a reply, or some octets of it.
 fn put_parts(out: &mut Vec<u8>, status: u16, text: &[u8], count: u64) -> Result<(), Memory>
     ensures ok { OnOk result
-        (out.new.items ≡ out.old.items ++ response status text.now count) }
+        (out.new.items ≡ out.old.items ++ repo_response status text.now count) }
     ensures begins { take (vec_len out.old) out.new.items ≡ out.old.items }
-    ensures room { vec_len out.old + length (response status text.now count)
+    ensures room { vec_len out.old + length (repo_response status text.now count)
         ≤ vec_capacity out.old → IsOk result }
     ensures capacity { vec_capacity out.old ≤ vec_capacity out.new }
 {

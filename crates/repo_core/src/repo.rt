@@ -4,10 +4,10 @@ ghost use Rattle.std.specs.Option.{option_map};
 ghost use Rattle.sha2.specs.Sha256.{sha256};
 ghost use Rattle.ndn_names.specs.View.{components};
 ghost use Rattle.repo_core.specs.Objects.{object_of, served};
-ghost use Rattle.repo_core.specs.Reading.{asked as plain, command_at, verb_at};
-ghost use Rattle.repo_core.specs.Repo.{IsCommandPrepared, IsOfferPrepared, after_command, after_delete, after_insert, after_offer, is_full, reply_to, status_of, MakesWant};
+ghost use Rattle.repo_core.specs.Reading.{plain, repo_command_at, verb_at};
+ghost use Rattle.repo_core.specs.Repo.{IsCommandPrepared, IsOfferPrepared, after_command, after_delete, after_insert, after_offer, is_repo_full, reply_to, MakesWant};
 ghost use Rattle.repo_core.specs.Room.{AreAlike};
-ghost use Rattle.repo_core.specs.Wants.{after_expiry, is_wanted};
+ghost use Rattle.repo_core.specs.Wants.{wants_after, is_wanted};
 
 use crate::command::{Asked, command_in, verb_after};
 use crate::object::Object;
@@ -101,12 +101,12 @@ impl Repo {
     /// `Memory` comes of an insert alone, and changes nothing but that nothing is prepared.
     pub fn command(&mut self, name: Name<'_>, now: u64) -> Result<RepoReply, Memory>
         ensures reply { IfOk result (λ r.
-            r ≡ reply_to self.old.held (command_at self.old.start (components name.entry))) }
+            r ≡ reply_to self.old.held (repo_command_at self.old.start (components name.entry))) }
         ensures held { OnOk result (self.new.held
             ≡ after_command self.old.start (components name.entry) now self.old.held) }
         ensures err { OnErr result (self.new.held ≡ self.old.held) }
         ensures cause { OnErr result
-            (MakesWant self.old.held (command_at self.old.start (components name.entry))) }
+            (MakesWant self.old.held (repo_command_at self.old.start (components name.entry))) }
         ensures start { self.new.start ≡ self.old.start }
         ensures ended { (self.new.prepared_want ≡ None) × (self.new.prepared_object ≡ None) }
         ensures promised { IsCommandPrepared self.old (components name.entry) → IsOk result }
@@ -165,7 +165,7 @@ impl Repo {
     pub fn expire(&mut self, now: u64)
         ensures { self.new ≡ record self.old {
           held = record self.old.held {
-            wants = after_expiry now self.old.held.wants;
+            wants = wants_after now self.old.held.wants;
           };
         } }
     {
@@ -254,7 +254,7 @@ impl Repo {
 
     /// Whether there is no place for one more want.
     fn is_full(&self) -> bool
-        ensures { result ≡ is_full self.now.held }
+        ensures { result ≡ is_repo_full self.now.held }
     {
         self.wants.len() >= MAX_WANTS || self.objects.len() >= MAX_HELD - self.wants.len()
     }

@@ -4,7 +4,7 @@ ghost use Rattle.std.specs.FinMap as map;
 ghost use Rattle.sha2.specs.Sha256.{sha256};
 ghost use Rattle.ndn_names.specs.View.{components};
 ghost use Rattle.repo_core.specs.Room.{HasAt, IsPlace};
-ghost use Rattle.repo_core.specs.Wants.{after_expiry, is_wanted, unfilled, want_cmp};
+ghost use Rattle.repo_core.specs.Wants.{is_wanted, unfilled, want_cmp, wants_after};
 
 use crate::repo::MAX_WANTS;
 use crate::room::insert_row;
@@ -110,7 +110,7 @@ impl Wants {
 
     /// Removes all that are due at this moment.
     pub fn expire(&mut self, now: u64)
-        ensures { self.new ≡ after_expiry now self.old }
+        ensures { self.new ≡ wants_after now self.old }
     {
         self.rows.retain(|row| now < row.1);
     }

@@ -1,7 +1,7 @@
 use Rattle.std.proofs.Common.{rules, ap, ◌∙◌, arith}
 use Rattle.std.specs.Prelude.{nat_lt}
 use Rattle.std.proofs.lemmas.Fn.{filter_same}
-use Rattle.repo_core.specs.Wants.{after_expiry, want_cmp}
+use Rattle.repo_core.specs.Wants.{wants_after, want_cmp}
 use Rattle.repo_core.proofs.Kept.{from_kept, kept_sorted}
 use Rattle.repo_core.proofs.wants.Wants.expire.Goals as goal
 
@@ -16,4 +16,4 @@ pub returns : goal.returns
 returns c =
     from_kept want_cmp (λ w. nat_lt c.args.now w.1) c.self.inside.rows.items c.retain.new.self.items c.self.invariant.0
     (filter_same _ (λ w. nat_lt c.args.now w.1) _ (λ x b f' k. search rules) c.self.inside.rows.items c.retain.new.self.items c.retain.ensures.filtered)
-    ∙ ap (after_expiry c.args.now) c.self.view_is
+    ∙ ap (wants_after c.args.now) c.self.view_is
