@@ -1,5 +1,5 @@
 -- What is prepared for a command.
-use Rattle.std.specs.Prelude.{◌≡◌, ℕ, ◌<◌, ◌≤◌, ◌^◌, Some, length, vec_capacity}
+use Rattle.std.specs.Prelude.{◌≡◌, ℕ, ◌<◌, ◌≤◌, ◌^◌, ◌⊎◌, Option, None, Some, length, vec_capacity}
 use Rattle.mgmt_core.specs.declared.action.Action.TheVariants.{AddNexthop, SetStrategy}
 use Rattle.mgmt_core.specs.declared.reply.ReplyRoom.{ReplyRoom}
 use Rattle.mgmt_core.specs.declared.tables.Tables.{Tables}
@@ -25,3 +25,7 @@ IsCallPrepared t c =
 -- the command is prepared; what only removes from the tables leaves it so
 abbrev pub IsPrepared : Tables → PlainCommand → Type 0
 IsPrepared t c = HasRoomForReply t.room c × IsCallPrepared t c
+
+-- what was prepared is so still, or nothing is
+abbrev pub IsKeptOrEnded : {X : Type 0} → Option X → Option X → Type 0
+IsKeptOrEnded before after = (after ≡ before) ⊎ (after ≡ None)

@@ -1,6 +1,6 @@
-ghost use Rattle.std.specs.Prelude.{◌≡◌, OnOk};
+ghost use Rattle.std.specs.Prelude.{◌≡◌, OnErr, OnOk};
 ghost use Rattle.mgmt_core.specs.Reading.{asked};
-ghost use Rattle.mgmt_core.specs.Room.{IsPrepared};
+ghost use Rattle.mgmt_core.specs.Room.{IsKeptOrEnded, IsPrepared};
 
 use crate::action::Action;
 use crate::command::Command;
@@ -39,9 +39,14 @@ impl Tables {
 
     /// Prepares one `apply` of this command, from any face, which is then not refused memory while
     /// only removals from the tables stand between. The next `apply` or `prepare`, of any command
-    /// and a refused one too, ends the preparation.
+    /// and a refused one too, ends the preparation. A refused `prepare` adds no preparation to a
+    /// table.
     pub fn prepare(&mut self, command: &Command<'_>) -> Result<(), Memory>
         ensures ok { OnOk result (IsPrepared self.new (asked command.now)) }
+        ensures err_routes { OnErr result
+            (IsKeptOrEnded self.old.fib.prepared self.new.fib.prepared) }
+        ensures err_choices { OnErr result
+            (IsKeptOrEnded self.old.strategies.prepared self.new.strategies.prepared) }
         ensures routes { self.new.fib.table ≡ self.old.fib.table }
         ensures choices { self.new.strategies.table ≡ self.old.strategies.table }
         ensures store { self.new.store ≡ self.old.store }
