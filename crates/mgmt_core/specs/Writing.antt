@@ -1,12 +1,15 @@
 -- What replies and lists hold (NFD Management, "Control Command", "FIB Dataset", "Strategy Choice
 -- Dataset").
-use Rattle.std.specs.Prelude.{ℕ, ◌*◌, ◌-◌, ◌/◌, List, [], ◌∷◌, ◌++◌, length, take, drop, flat_map, Option, None, Some, nat_lt, ◌==◌, if◌then◌else◌}
+use Rattle.std.specs.Prelude.{ℕ, ◌+◌, ◌*◌, ◌-◌, ◌/◌, List, [], ◌∷◌, ◌++◌, length, take, drop, flat_map, Option, None, Some, nat_lt, ◌==◌, if◌then◌else◌}
+use Rattle.std.specs.FinMap.{entries}
 use Rattle.std.specs.Option.{option_map}
 use Rattle.ndn_tlv.specs.Number.{shortest_nni}
 use Rattle.ndn_tlv.specs.Element.{Field, element}
 use Rattle.ndn_names.specs.Name.{octets_of}
 use Rattle.pit_fib.specs.declared.hops.Hop.{Hop}
 use Rattle.pit_fib.specs.declared.strategy_table.StrategyId.{StrategyId}
+use Rattle.pit_fib.specs.Fib.{Routes, listed}
+use Rattle.pit_fib.specs.StrategyTable.{Choices}
 use Rattle.mgmt_core.specs.declared.types.TheConstants.{COST, COUNT, ENTRY, FACE_ID, NAME, NEXT_HOP, OK, PARAMETERS, RESPONSE, STATUS_CODE, STATUS_TEXT, STRATEGY}
 use Rattle.mgmt_core.specs.declared.dataset.TheConstants.{SEGMENT_LEN}
 use Rattle.mgmt_core.specs.Commands.{row_of, takes}
@@ -82,4 +85,11 @@ last_segment text = (length text - 1) / SEGMENT_LEN
 abbrev pub segment_at : List ℕ → ℕ → Option (List ℕ × ℕ)
 segment_at text k =
     if nat_lt (last_segment text) k then None else
+-- the list of routes, and that of strategies
+abbrev pub fib_text : Routes → List ℕ
+fib_text routes = flat_map route_text (listed routes)
+
+abbrev pub strategy_text : Choices → List ℕ
+strategy_text choices = flat_map choice_text (entries choices)
+
     Some (take SEGMENT_LEN (drop (k * SEGMENT_LEN) text), last_segment text)

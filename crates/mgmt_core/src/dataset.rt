@@ -1,8 +1,6 @@
-ghost use Rattle.std.specs.Prelude.{◌≡◌, ◌++◌, length, drop, flat_map, map, IfOk, OnOk};
-ghost use Rattle.std.specs.FinMap as map_of;
+ghost use Rattle.std.specs.Prelude.{◌≡◌, ◌++◌, flat_map, IfOk, OnOk};
 ghost use Rattle.std.specs.Option.{option_map};
-ghost use Rattle.pit_fib.specs.Fib.{listed};
-ghost use Rattle.mgmt_core.specs.Writing.{choice_text, hop_text, route_text, segment_at};
+ghost use Rattle.mgmt_core.specs.Writing.{choice_text, fib_text, hop_text, route_text, segment_at, strategy_text};
 
 use crate::strategy_name::strategy_value;
 use crate::types::{COST, ENTRY, FACE_ID, NAME, NEXT_HOP, STRATEGY};
@@ -18,7 +16,7 @@ pub const SEGMENT_LEN: usize = 4096;
 /// The list of routes (NFD Management, "FIB Dataset"): by name in canonical order, the hops of a
 /// name by cost and then by face.
 pub fn fib_dataset(alloc: Global, fib: &Fib) -> Result<Vec<u8>, Memory>
-    ensures { IfOk result (λ text. text.items ≡ flat_map route_text (listed fib.now.table)) }
+    ensures { IfOk result (λ text. text.items ≡ fib_text fib.now.table) }
 {
     let mut text = Vec::new(alloc);
     for entry in &fib.list(alloc)? {
@@ -61,8 +59,7 @@ fn put_hop(alloc: Global, text: &mut Vec<u8>, hop: Hop) -> Result<(), Memory>
 
 /// The list of strategies (NFD Management, "Strategy Choice Dataset"): by name in canonical order.
 pub fn strategy_dataset(alloc: Global, strategies: &StrategyTable) -> Result<Vec<u8>, Memory>
-    ensures { IfOk result (λ text. text.items
-        ≡ flat_map choice_text (map_of.entries strategies.now.table)) }
+    ensures { IfOk result (λ text. text.items ≡ strategy_text strategies.now.table) }
 {
     let mut text = Vec::new(alloc);
     for entry in &strategies.list(alloc)? {
