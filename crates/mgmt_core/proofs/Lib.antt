@@ -4,3 +4,5 @@ pub mod OpenFaces
 pub mod Texts
 pub mod Replies
 pub mod OpenRoutes
+pub mod Statuses
+pub mod Bounds

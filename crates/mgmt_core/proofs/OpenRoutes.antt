@@ -1,8 +1,8 @@
 -- What commands do to the faces that have routes.
-use Rattle.std.proofs.Common.{◌≡◌, ℕ, Bool, List, true, false, cond, sym, subst, refl, Option, None, Some, unwrap_or, eqb, arith}
+use Rattle.std.proofs.Common.{◌≡◌, ℕ, Bool, List, [], ◌∷◌, true, false, cond, sym, subst, refl, Option, None, Some, unwrap_or, eqb, arith}
 use Rattle.std.proofs.lemmas.Bool.Decides.{nat_tests}
 use Rattle.std.proofs.lemmas.Cmp.{nat_cmp_total}
-use Rattle.std.specs.Prelude.{◌≢◌, IsSome, not, option_and_then}
+use Rattle.std.specs.Prelude.{◌≢◌, IsSome, not, option_and_then, nat_lt, nat_le, length, ◌||◌}
 use Rattle.std.specs.Ordering.{nat_cmp, eq_by_cmp}
 use Rattle.std.specs.FinMap as map
 use Rattle.std.specs.FinMap.{get-empty, get-insert, get-remove}
@@ -10,12 +10,11 @@ use Rattle.ndn_tlv.specs.Element.{Field}
 use Rattle.ndn_names.specs.Order.{name_cmp}
 use Rattle.ndn_names.specs.Key.{name_cmp-antisymmetric, name_cmp-total}
 use Rattle.pit_fib.proofs.Revised.{get-revise}
-use Rattle.pit_fib.specs.Faces.{has_face}
+use Rattle.pit_fib.specs.Faces.{adding, has_face, with_face}
 use Rattle.pit_fib.specs.Fib.{Routes, costs_at, with_route, without_route, with_value, without_face, without_hop}
 use Rattle.pit_fib.specs.Tables.{ByFace}
-use Rattle.mgmt_core.specs.declared.action.Action.{Action}
 use Rattle.mgmt_core.specs.declared.action.Action.TheVariants.{AddNexthop, RemoveNexthop, SetStrategy, UnsetStrategy, EraseCache}
-use Rattle.mgmt_core.specs.Commands.{Refusal, FaceNotOpen, PrefixTooLong, TableFull, row_of}
+use Rattle.mgmt_core.specs.Commands.{FaceNotOpen, PrefixTooLong, TableFull, row_of}
 use Rattle.mgmt_core.specs.Reading.{PlainCommand}
 use Rattle.mgmt_core.specs.Tables.{AllAreUp, face_of, first_status, if_done, refuses, routes_after, status_of}
 use Rattle.pit_fib.specs.StrategyTable.{Choices}
@@ -141,3 +140,28 @@ module _ (up rest : List ℕ) (face : ℕ) (others : (f : ℕ) → has_face f up
   closing_leaves_up routes all n =
       subst (λ (o : Option ByFace). AreUp (unwrap_or o map.empty) rest)
       (sym (get-revise name_cmp-antisymmetric (without_hop face) routes n)) (entry_left (map.get routes n) (all n))
+
+later : (a b : Bool) → b ≡ true → (a || b) ≡ true
+later true b e = refl
+later false b e = e
+
+either : (a b c : Bool) → (b ≡ true → c ≡ true) → (a || b) ≡ true → (a || c) ≡ true
+either true b c f e = refl
+either false b c f e = f e
+
+-- the others stay where one is added
+still_there : (f face : ℕ) (up : List ℕ) → has_face f up ≡ true → has_face f (with_face face up) ≡ true
+still_there f face [] e = absurd cc
+still_there f face (g ∷ up) e = placed (nat_lt face g) (λ rest. still_there f face up rest)
+  where
+    placed : (b : Bool) → (has_face f up ≡ true → has_face f (with_face face up) ≡ true) → has_face f (cond b (face ∷ g ∷ up) (g ∷ with_face face up)) ≡ true
+    placed true again = later (eqb face f) (has_face f (g ∷ up)) e
+    placed false again = either (eqb g f) (has_face f up) (has_face f (with_face face up)) again e
+
+pub opening_leaves_up : (face : ℕ) (up : List ℕ) (routes : Routes) → AllAreUp routes up → AllAreUp routes (adding face up).1
+opening_leaves_up face up routes all = opened (has_face face up) (nat_le 64 (length up))
+  where
+    opened : (b c : Bool) → AllAreUp routes (cond {A = Bool × List ℕ} b (true, up) (cond c (false, up) (true, with_face face up))).1
+    opened true c = all
+    opened false true = all
+    opened false false = λ name f some. still_there f face up (all name f some)

@@ -1,10 +1,11 @@
 -- The commands, one row for each (NFD Management, "FIB Management", "Strategy Choice Management",
 -- "Content Store Management"). Statuses and texts are this profile's.
 use Rattle.std.specs.Prelude.{ℕ, List, [], ◌∷◌, Bool, true, false, ◌==◌, ◌&&◌, ◌||◌, Option, codes, find, bytes_eq}
+use Rattle.std.specs.Option.{option_map}
 use Rattle.std.specs.List.{list_any}
 use Rattle.mgmt_core.specs.declared.action.Action.{Action}
 use Rattle.mgmt_core.specs.declared.action.Action.TheVariants.{AddNexthop, RemoveNexthop, SetStrategy, UnsetStrategy, EraseCache}
-use Rattle.mgmt_core.specs.declared.types.TheConstants.{NAME, FACE_ID, COST, STRATEGY, FLAGS, EXPIRATION_PERIOD, ORIGIN, COUNT}
+use Rattle.mgmt_core.specs.declared.types.TheConstants.{NAME, FACE_ID, COST, STRATEGY, FLAGS, EXPIRATION_PERIOD, ORIGIN, COUNT, OK, BAD_PARAMETERS, UNKNOWN_STRATEGY, FACE_NOT_OPEN, PREFIX_TOO_LONG, UNKNOWN_COMMAND, TABLE_FULL}
 
 -- why a command that is well formed may be refused
 pub data Refusal : Type 0 where
@@ -88,3 +89,15 @@ has kind kinds = list_any (λ k. kind == k) kinds
 -- whether a command needs or uses the field of this type
 abbrev pub takes : ℕ → Row → Bool
 takes kind row = has kind row.needs || has kind row.uses
+
+-- the texts of the statuses
+abbrev pub texts : List (ℕ × List ℕ)
+texts =
+    (OK, codes "OK") ∷ (BAD_PARAMETERS, codes "bad parameters")
+    ∷ (UNKNOWN_STRATEGY, codes "unknown strategy") ∷ (FACE_NOT_OPEN, codes "face not open")
+    ∷ (PREFIX_TOO_LONG, codes "prefix too long") ∷ (UNKNOWN_COMMAND, codes "unknown command")
+    ∷ (TABLE_FULL, codes "table full") ∷ []
+
+-- the text of a status; None where no command is answered with it
+abbrev pub text_of : ℕ → Option (List ℕ)
+text_of status = option_map (λ row. row.1) (find (λ row. status == row.0) texts)

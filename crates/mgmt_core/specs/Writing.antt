@@ -12,6 +12,7 @@ use Rattle.pit_fib.specs.Fib.{Routes, listed}
 use Rattle.pit_fib.specs.StrategyTable.{Choices}
 use Rattle.mgmt_core.specs.declared.types.TheConstants.{COST, COUNT, ENTRY, FACE_ID, NAME, NEXT_HOP, OK, PARAMETERS, RESPONSE, STATUS_CODE, STATUS_TEXT, STRATEGY}
 use Rattle.mgmt_core.specs.declared.dataset.TheConstants.{SEGMENT_LEN}
+use Rattle.mgmt_core.specs.declared.reply.TheConstants.{BODY_EXTRA, REPLY_EXTRA}
 use Rattle.mgmt_core.specs.Commands.{row_of, takes}
 use Rattle.mgmt_core.specs.Reading.{PlainCommand}
 use Rattle.mgmt_core.specs.Tables.{face_of, strategy_asked, strategy_name}
@@ -62,6 +63,13 @@ response status text body =
           ++ body,
     )
 
+-- No body of a reply to a command is longer than this, and no reply to it, whatever its status.
+abbrev pub body_limit : PlainCommand → ℕ
+body_limit c = length (octets_of c.name) + BODY_EXTRA
+
+abbrev pub reply_limit : PlainCommand → ℕ
+reply_limit c = length (octets_of c.name) + REPLY_EXTRA
+
 -- a next hop in a list
 abbrev pub hop_text : Hop → List ℕ
 hop_text hop =
@@ -77,6 +85,13 @@ abbrev pub choice_text : List Field × StrategyId → List ℕ
 choice_text entry =
     element (ENTRY, octets ((NAME, octets_of entry.0) ∷ (STRATEGY, strategy_value entry.1) ∷ []))
 
+-- the list of routes, and that of strategies
+abbrev pub fib_text : Routes → List ℕ
+fib_text routes = flat_map route_text (listed routes)
+
+abbrev pub strategy_text : Choices → List ℕ
+strategy_text choices = flat_map choice_text (entries choices)
+
 -- the number of the last segment; a text without octets is one segment
 abbrev pub last_segment : List ℕ → ℕ
 last_segment text = (length text - 1) / SEGMENT_LEN
@@ -85,11 +100,4 @@ last_segment text = (length text - 1) / SEGMENT_LEN
 abbrev pub segment_at : List ℕ → ℕ → Option (List ℕ × ℕ)
 segment_at text k =
     if nat_lt (last_segment text) k then None else
--- the list of routes, and that of strategies
-abbrev pub fib_text : Routes → List ℕ
-fib_text routes = flat_map route_text (listed routes)
-
-abbrev pub strategy_text : Choices → List ℕ
-strategy_text choices = flat_map choice_text (entries choices)
-
     Some (take SEGMENT_LEN (drop (k * SEGMENT_LEN) text), last_segment text)

@@ -1,9 +1,12 @@
-ghost use Rattle.std.specs.Prelude.{◌≡◌, ◌≢◌, ℕ, List, true};
-ghost use Rattle.pit_fib.specs.Faces.{has_face};
+ghost use Rattle.std.specs.Prelude.{◌≡◌, ◌≢◌, ◌+◌, ◌≤◌, ℕ, List, Some, IfErr, IsSome, length, true};
+ghost use Rattle.ndn_tlv.specs.Element.{Field};
+ghost use Rattle.pit_fib.specs.Faces.{adding, has_face};
 ghost use Rattle.pit_fib.specs.Fib.{Routes, without_face};
 ghost use Rattle.pit_fib.specs.StrategyTable.{Choices};
-ghost use Rattle.mgmt_core.specs.Reading.{PlainCommand};
+ghost use Rattle.mgmt_core.specs.Commands.{text_of};
+ghost use Rattle.mgmt_core.specs.Reading.{PlainCommand, command_at};
 ghost use Rattle.mgmt_core.specs.Tables.{AllAreUp, if_done, routes_after, status_of};
+ghost use Rattle.mgmt_core.specs.Writing.{body_after, body_limit, reply_limit, response};
 
 /// Law: where each face that has a route is up, so it is after a command, whatever its status.
 pub fn commands_leave_faces_up()
@@ -18,4 +21,30 @@ pub fn closings_leave_faces_up()
     ensures { (up rest : List ℕ) (face : ℕ) (routes : Routes)
         → ((f : ℕ) → has_face f up ≡ true → f ≢ face → has_face f rest ≡ true)
         → AllAreUp routes up → AllAreUp (without_face routes face) rest }
+{}
+
+/// Law: where each face that has a route is up, so it is after a face opens, or is refused.
+pub fn openings_leave_faces_up()
+    ensures { (face : ℕ) (up : List ℕ) (routes : Routes)
+        → AllAreUp routes up → AllAreUp routes (adding face up).1 }
+{}
+
+/// Law: each status that a command may have has a text.
+pub fn statuses_have_texts()
+    ensures applied { (c : PlainCommand) (face : ℕ) (up : List ℕ) (routes : Routes)
+        (choices : Choices) → IsSome (text_of (status_of c face up routes choices)) }
+    ensures refused { (name : List Field)
+        → IfErr (command_at name) (λ status. IsSome (text_of status)) }
+{}
+
+/// Law: how long replies are at most. So room for one can be made before its status is known.
+pub fn replies_are_bounded()
+    ensures body { (c : PlainCommand) (face status : ℕ)
+        → length (body_after c face status) ≤ body_limit c }
+    ensures whole { (c : PlainCommand) (face status : ℕ) (text : List ℕ)
+        → text_of status ≡ Some text
+        → length (response status text (body_after c face status)) ≤ reply_limit c }
+    // A reply of any text and body, as the refusal of a command that no rule allows.
+    ensures any { (status : ℕ) (text body : List ℕ)
+        → length (response status text body) ≤ length text + length body + 30 }
 {}

@@ -21,6 +21,10 @@ pub use applied::{Applied, Octets};
 pub use command::Command;
 pub use dataset::{SEGMENT_LEN, fib_dataset, segment_of, strategy_dataset};
 pub use effect::apply;
-pub use law::{closings_leave_faces_up, commands_leave_faces_up};
-pub use response::put_response;
+pub use law::{
+    closings_leave_faces_up, commands_leave_faces_up, openings_leave_faces_up, replies_are_bounded,
+    statuses_have_texts,
+};
+pub use reply::{BODY_EXTRA, REPLY_EXTRA};
+pub use response::{put_response, status_text};
 pub use tables::Tables;

@@ -2,7 +2,7 @@ ghost use Rattle.std.specs.Prelude.{◌≡◌, ◌<◌, ◌≤◌, ◌+◌, ◌^
 ghost use Rattle.std.specs.Vec.{vec_capacity};
 ghost use Rattle.mgmt_core.specs.Reading.{asked};
 ghost use Rattle.mgmt_core.specs.Tables.{face_of, strategy_asked};
-ghost use Rattle.mgmt_core.specs.Writing.{given, octets, optional, reply_body, reply_fields};
+ghost use Rattle.mgmt_core.specs.Writing.{given, octets, optional, reply_body, reply_fields, reply_limit};
 ghost use Rattle.mgmt_core.specs.Writing.{strategy_value};
 ghost use Rattle.std.specs.Option.{option_map};
 ghost use Rattle.mgmt_core.specs.Room.{HasRoomForReply};
@@ -17,10 +17,25 @@ use pit_fib::StrategyId;
 use std::alloc::Global;
 use std::mem;
 
+/// The body of a reply has at most so many octets beyond those of the name that the command is
+/// about: the headers, and the longest fields after the name, which are those of a strategy.
+pub const BODY_EXTRA: usize = 62;
+
+/// A whole reply has at most so many octets beyond those of that name.
+pub const REPLY_EXTRA: usize = 108;
+
 /// The greatest number of octets before an element's value, where its type has one octet.
 const HEADER_LEN: usize = 10;
 
 impl Command<'_> {
+    /// The greatest number of octets of the reply to it, whatever its status and the face that it
+    /// comes from.
+    pub fn reply_limit(&self) -> usize
+        ensures { result ≡ reply_limit (asked self.now) }
+    {
+        self.name.as_octets().len() + REPLY_EXTRA
+    }
+
     /// The face that it stands for, where it comes from this face.
     pub(crate) fn face_from(&self, face: u64) -> u64
         ensures { result ≡ face_of (asked self.now) face }

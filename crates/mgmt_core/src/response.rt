@@ -1,10 +1,31 @@
-ghost use Rattle.std.specs.Prelude.{◌≡◌, ◌+◌, ◌≤◌, ◌++◌, length, take, vec_len, string_bytes, IsOk, OnOk, OnErr};
+ghost use Rattle.std.specs.Prelude.{◌≡◌, ◌+◌, ◌≤◌, ◌++◌, length, take, vec_len, IsOk, OnOk, OnErr};
+ghost use Rattle.std.specs.Option.{option_map};
 ghost use Rattle.std.specs.Vec.{vec_capacity};
+ghost use Rattle.mgmt_core.specs.Commands.{text_of};
 ghost use Rattle.mgmt_core.specs.Writing.{response};
 
-use crate::types::{RESPONSE, STATUS_CODE, STATUS_TEXT};
+use crate::types::{
+    BAD_PARAMETERS, FACE_NOT_OPEN, OK, PREFIX_TOO_LONG, RESPONSE, STATUS_CODE, STATUS_TEXT,
+    TABLE_FULL, UNKNOWN_COMMAND, UNKNOWN_STRATEGY,
+};
 use crate::writing::{element_len, nni_element_len, put_nni_element};
 use ndn_tlv::{Memory, put_element, put_number};
+
+/// The text of a status that a command is answered with. None for any other status.
+pub fn status_text(status: u16) -> Option<&'static str>
+    ensures { option_map (λ text. text.now) result ≡ text_of status }
+{
+    match status {
+        OK => Some("OK"),
+        BAD_PARAMETERS => Some("bad parameters"),
+        UNKNOWN_STRATEGY => Some("unknown strategy"),
+        FACE_NOT_OPEN => Some("face not open"),
+        PREFIX_TOO_LONG => Some("prefix too long"),
+        UNKNOWN_COMMAND => Some("unknown command"),
+        TABLE_FULL => Some("table full"),
+        _ => None,
+    }
+}
 
 /// Appends a reply: the status code, its text, and the body, which is the element of the
 /// parameters or empty (NFD Management, "Control Command", ControlResponse). Where memory is

@@ -1,0 +1,122 @@
+-- How long replies are at most.
+use Rattle.std.proofs.Common.{◌≡◌, ℕ, ◌+◌, ◌<◌, ◌≤◌, Bool, true, false, cond, List, [], ◌∷◌, ◌++◌, length, subst, arith, eqb}
+use Rattle.std.specs.Prelude.{Option, Some, None, find}
+use Rattle.std.specs.List.{AllByRecursion}
+use Rattle.std.specs.Option.{option_map}
+use Rattle.std.proofs.lemmas.List.{length-append}
+use Rattle.ndn_tlv.specs.Number.{shortest_nni, spelling}
+use Rattle.ndn_tlv.specs.Element.{Field, element}
+use Rattle.ndn_tlv.proofs.Numbers.{length-spelling_one, length-spelling_nine}
+use Rattle.ndn_tlv.proofs.Integers.{length-shortest_eight}
+use Rattle.ndn_names.specs.Name.{octets_of}
+use Rattle.pit_fib.specs.declared.strategy_table.StrategyId.{StrategyId}
+use Rattle.pit_fib.specs.declared.strategy_table.StrategyId.TheVariants.{BestRoute, Multicast}
+use Rattle.mgmt_core.specs.declared.action.Action.{Action}
+use Rattle.mgmt_core.specs.declared.action.Action.TheVariants.{AddNexthop, RemoveNexthop, SetStrategy, UnsetStrategy, EraseCache}
+use Rattle.mgmt_core.specs.declared.types.TheConstants.{COST, COUNT, FACE_ID, NAME, STRATEGY}
+use Rattle.mgmt_core.specs.Commands.{row_of, takes, text_of, texts}
+use Rattle.mgmt_core.specs.Reading.{PlainCommand}
+use Rattle.mgmt_core.specs.Tables.{face_of, strategy_asked}
+use Rattle.mgmt_core.specs.Writing.{body_after, number, octets, optional, reply_body, response, strategy_value}
+use Rattle.mgmt_core.proofs.Texts.{length-element}
+
+-- an element whose type has one octet
+element_fits : (kind : ℕ) (value : List ℕ) → kind < 253 → length (element (kind, value)) ≤ length value + 10
+element_fits kind value lt = omega (arith, length-element kind value, length-spelling_one kind lt, length-spelling_nine (length value))
+
+number_fits : (kind n : ℕ) → kind < 253 → length (element (kind, shortest_nni n)) ≤ 10
+number_fits kind n lt =
+    let few = length-shortest_eight n in
+    let one = length-spelling_one (length (shortest_nni n)) (omega (arith, few)) in
+    omega (arith, few, one, length-element kind (shortest_nni n), length-spelling_one kind lt)
+
+one_field : (kind n : ℕ) → kind < 253 → length (octets (number kind (Some n))) ≤ 10
+one_field kind n lt = omega (arith, number_fits kind n lt, length-append (element (kind, shortest_nni n)) [])
+
+strategy_len : (s : StrategyId) → length (strategy_value s) ≤ 40
+unfolding spelling
+strategy_len BestRoute = omega arith
+strategy_len Multicast = omega arith
+
+-- the fields after the name
+abbrev other_fields : Action → ℕ → ℕ → Option ℕ → Option StrategyId → List Field
+other_fields a face cost count strategy =
+    number FACE_ID (cond (takes FACE_ID (row_of a)) (Some face) None)
+    ++ (number COST (cond (takes COST (row_of a)) (Some cost) None)
+    ++ (number COUNT (cond (takes COUNT (row_of a)) count None)
+    ++ optional STRATEGY (option_map strategy_value (cond (takes STRATEGY (row_of a)) strategy None))))
+
+strategy_fits : (o : Option StrategyId) → length (octets (optional 107 (option_map strategy_value o))) ≤ 42
+strategy_fits None = omega arith
+strategy_fits (Some s) =
+    let value = strategy_value s in
+    let few = strategy_len s in
+    let one = length-spelling_one (length value) (omega (arith, few)) in
+    omega (arith, few, one, length-element 107 value, length-spelling_one 107 (omega arith), length-append (element (107, value)) [])
+
+count_fits : (o : Option ℕ) → length (octets (number 132 o)) ≤ 10
+count_fits None = omega arith
+count_fits (Some n) = one_field 132 n (omega arith)
+
+others_fit : (a : Action) (face cost : ℕ) (count : Option ℕ) (strategy : Option StrategyId) → length (octets (other_fields a face cost count strategy)) ≤ 42
+others_fit AddNexthop face cost count strategy =
+    omega (arith, length-append (element (105, shortest_nni face)) (octets (number 106 (Some cost))), number_fits 105 face (omega arith), one_field 106 cost (omega arith))
+others_fit RemoveNexthop face cost count strategy = let le = one_field 105 face (omega arith) in omega (arith, le)
+others_fit SetStrategy face cost count strategy = strategy_fits strategy
+others_fit UnsetStrategy face cost count strategy = omega arith
+others_fit EraseCache face cost count strategy = let le = others_of_erase count in omega (arith, le)
+  where
+    others_of_erase : (o : Option ℕ) → length (octets (number 132 o ++ [])) ≤ 10
+    others_of_erase None = omega arith
+    others_of_erase (Some n) = one_field 132 n (omega arith)
+
+body_fits : (c : PlainCommand) (face : ℕ) → length (reply_body c face) ≤ length (octets_of c.name) + 62
+body_fits c face =
+    let others = other_fields c.action (face_of c face) c.cost c.count (strategy_asked c) in
+    let value = element (NAME, octets_of c.name) ++ octets others in
+    omega (
+      arith,
+      element_fits 104 value (omega arith),
+      length-append (element (NAME, octets_of c.name)) (octets others),
+      element_fits 7 (octets_of c.name) (omega arith),
+      others_fit c.action (face_of c face) c.cost c.count (strategy_asked c),
+    )
+
+pub body_is_bounded : (c : PlainCommand) (face status : ℕ) → length (body_after c face status) ≤ length (octets_of c.name) + 62
+body_is_bounded c face status = by (eqb status 200)
+  where
+    by : (b : Bool) → length (cond b (reply_body c face) []) ≤ length (octets_of c.name) + 62
+    by true = body_fits c face
+    by false = omega arith
+
+pub response_is_bounded : (status : ℕ) (text body : List ℕ) → length (response status text body) ≤ length text + length body + 30
+response_is_bounded status text body =
+    let code = element (102, shortest_nni status) in
+    let words = element (103, text) in
+    let front = octets ((102, shortest_nni status) ∷ (103, text) ∷ []) in
+    omega (
+      arith,
+      element_fits 101 (front ++ body) (omega arith),
+      length-append front body,
+      length-append code (words ++ []),
+      length-append words [],
+      number_fits 102 status (omega arith),
+      element_fits 103 text (omega arith),
+    )
+
+found_fits : (status : ℕ) (text : List ℕ) (rows : List (ℕ × List ℕ)) → AllByRecursion (λ row. length row.1 ≤ 16) rows → option_map (λ row. row.1) (find (λ row. eqb status row.0) rows) ≡ Some text → length text ≤ 16
+found_fits status text [] all e = absurd cc
+found_fits status text (row ∷ rows) all e = by (eqb status row.0) e (λ rest. found_fits status text rows all.1 rest)
+  where
+    by : (b : Bool) → option_map (λ row. row.1) (cond b (Some row) (find (λ row. eqb status row.0) rows)) ≡ Some text
+        → (option_map (λ row. row.1) (find (λ row. eqb status row.0) rows) ≡ Some text → length text ≤ 16) → length text ≤ 16
+    by true e again = let same : row.1 ≡ text = cc in subst (λ (t : List ℕ). length t ≤ 16) same all.0
+    by false e again = again e
+
+text_fits : (status : ℕ) (text : List ℕ) → text_of status ≡ Some text → length text ≤ 16
+text_fits status text e =
+    found_fits status text texts (omega arith, (omega arith, (omega arith, (omega arith, (omega arith, (omega arith, (omega arith, tt))))))) e
+
+pub reply_is_bounded : (c : PlainCommand) (face status : ℕ) (text : List ℕ) → text_of status ≡ Some text → length (response status text (body_after c face status)) ≤ length (octets_of c.name) + 108
+reply_is_bounded c face status text e =
+    omega (arith, text_fits status text e, body_is_bounded c face status, response_is_bounded status text (body_after c face status))
