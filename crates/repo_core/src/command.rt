@@ -1,8 +1,9 @@
 //! Commands as names: the repository's prefix, the verb, the parameters and the digest.
 
-ghost use Rattle.std.specs.Prelude.{◌≡◌, ◌≤◌};
+ghost use Rattle.std.specs.Prelude.{◌≡◌, ◌≤◌, IfSome, length};
 ghost use Rattle.std.specs.Option.{option_map};
 ghost use Rattle.ndn_tlv.specs.Reading.{elements_of};
+ghost use Rattle.ndn_names.specs.Name.{octets_of};
 ghost use Rattle.ndn_names.specs.View.{components};
 ghost use Rattle.repo_core.specs.Reading.{command_of, plain, repo_command_at, value_after, verb_at};
 
@@ -25,8 +26,9 @@ pub struct Asked<'a> {
 /// The octets of the component of this type, counted from the end of the prefix.
 fn value_after<'a>(start: Name<'_>, name: Name<'a>, kind: u16, at: usize) -> Option<&'a [u8]>
     requires { at ≤ 2 }
-    ensures { option_map (λ v. v.now) result
+    ensures exact { option_map (λ v. v.now) result
         ≡ value_after (components start.entry) (components name.entry) kind at }
+    ensures short { IfSome result (λ v. length v.now ≤ length (octets_of (components name.entry))) }
 {
     match name.component(start.len() + at) {
         Some(component) if component.kind == kind => Some(component.value),
@@ -48,8 +50,10 @@ pub fn verb_after(start: Name<'_>, name: Name<'_>) -> Option<Verb>
 #[tactic(auto, unfolding(crate::specs::Reading::repo_command_at))]
 /// The command that a name is.
 pub fn command_in<'a>(start: Name<'_>, name: Name<'a>) -> Option<Asked<'a>>
-    ensures { option_map plain result
+    ensures exact { option_map plain result
         ≡ repo_command_at (components start.entry) (components name.entry) }
+    ensures short { IfSome result (λ a. length (octets_of (components a.name))
+        ≤ length (octets_of (components name.entry))) }
 {
     let verb = verb_after(start, name)?;
     let value = value_after(start, name, GENERIC, 1)?;
@@ -64,7 +68,8 @@ pub fn command_in<'a>(start: Name<'_>, name: Name<'a>) -> Option<Asked<'a>>
 #[tactic(auto, unfolding(crate::specs::Reading::command_of))]
 /// The command of these parameters.
 fn command_of(verb: Verb, fields: &[u8]) -> Option<Asked<'_>>
-    ensures { option_map plain result ≡ command_of verb (elements_of fields.now) }
+    ensures exact { option_map plain result ≡ command_of verb (elements_of fields.now) }
+    ensures short { IfSome result (λ a. length (octets_of (components a.name)) ≤ length fields.now) }
 {
     if !are_elements(fields) {
         return None;

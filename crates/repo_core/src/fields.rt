@@ -1,9 +1,10 @@
 //! The fields of a command's parameters.
 
-ghost use Rattle.std.specs.Prelude.{◌≡◌};
+ghost use Rattle.std.specs.Prelude.{◌≡◌, ◌≤◌, IfSome, length};
 ghost use Rattle.std.specs.Option.{option_map};
 ghost use Rattle.std.specs.List.{list_all};
 ghost use Rattle.ndn_tlv.specs.Reading.{elements_of};
+ghost use Rattle.ndn_names.specs.Name.{octets_of};
 ghost use Rattle.ndn_names.specs.View.{components};
 ghost use Rattle.repo_core.specs.Reading.{can_be_read, first_of, flag_of, lifetime_of, name_in, single};
 
@@ -13,7 +14,8 @@ use ndn_tlv::{first_element, nni_of};
 
 /// The value of octets that are one element of this type.
 pub fn single_element(octets: &[u8], kind: u32) -> Option<&[u8]>
-    ensures { option_map (λ v. v.now) result ≡ single kind (elements_of octets.now) }
+    ensures exact { option_map (λ v. v.now) result ≡ single kind (elements_of octets.now) }
+    ensures short { IfSome result (λ v. length v.now ≤ length octets.now) }
 {
     let Ok((element, rest)) = first_element(octets) else {
         return None;
@@ -40,7 +42,8 @@ pub fn are_elements(octets: &[u8]) -> bool
 
 /// The value of the first field of this type.
 fn first_field(octets: &[u8], kind: u32) -> Option<&[u8]>
-    ensures { option_map (λ v. v.now) result ≡ first_of kind (elements_of octets.now) }
+    ensures exact { option_map (λ v. v.now) result ≡ first_of kind (elements_of octets.now) }
+    ensures short { IfSome result (λ v. length v.now ≤ length octets.now) }
 {
     let mut rest = octets;
     while !rest.is_empty() {
@@ -57,7 +60,8 @@ fn first_field(octets: &[u8], kind: u32) -> Option<&[u8]>
 
 /// The Name field. None where it is missing or no name.
 pub fn name_field(octets: &[u8]) -> Option<Name<'_>>
-    ensures { option_map components result ≡ name_in (elements_of octets.now) }
+    ensures exact { option_map components result ≡ name_in (elements_of octets.now) }
+    ensures short { IfSome result (λ name. length (octets_of (components name)) ≤ length octets.now) }
 {
     let value = first_field(octets, NAME)?;
     Name::read(value).ok()

@@ -1,7 +1,8 @@
-ghost use Rattle.std.specs.Prelude.{◌≡◌, true, None, Some, IfOk, IfSome, IsOk, OnErr, OnOk};
+ghost use Rattle.std.specs.Prelude.{◌≡◌, ◌+◌, ◌≤◌, true, None, Some, IfOk, IfSome, IsOk, OnErr, OnOk, length};
 ghost use Rattle.std.specs.FinMap as map;
 ghost use Rattle.std.specs.Option.{option_map};
 ghost use Rattle.sha2.specs.Sha256.{sha256};
+ghost use Rattle.ndn_names.specs.Name.{octets_of};
 ghost use Rattle.ndn_names.specs.View.{components};
 ghost use Rattle.repo_core.specs.Objects.{object_of, served};
 ghost use Rattle.repo_core.specs.Reading.{plain, repo_command_at, verb_at};
@@ -111,6 +112,9 @@ impl Repo {
         ensures ended { (self.new.prepared_want ≡ None) × (self.new.prepared_object ≡ None) }
         ensures promised { IsCommandPrepared self.old (components name.entry) → IsOk result }
     {
+        // What is fetched has no longer a name than the command.
+        ensures fetched { IfOk result (λ r. IfSome r.fetch (λ want.
+            length (octets_of want.name) ≤ length (octets_of (components name.entry)))) }
         let spare = self.names.take();
         self.object = None;
         let Some(asked) = command_in(self.start.view(), name) else {

@@ -22,4 +22,4 @@ returns c =
     let start = components c.args.start in
     let name = components c.args.name in
     let begins : begins_with start name ≡ true = sym (same_from_decides c.is_prefix_of.result (begins_with start name) c.is_prefix_of.ensures (prefix_is start name)) ∙ c.if-not-is_prefix_of.false in
-    rw begins (c.named.ensures ∙ ap (λ o. o >>= verb_named) (sym (ap (option_map (λ v. v.now)) c.in_ok-value_after.was) ∙ c.value_after.ensures))
+    rw begins (c.named.ensures ∙ ap (λ o. o >>= verb_named) (sym (ap (option_map (λ v. v.now)) c.in_ok-value_after.was) ∙ c.value_after.ensures.exact))

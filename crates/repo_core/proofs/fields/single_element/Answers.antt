@@ -4,17 +4,17 @@ use Rattle.repo_core.proofs.Singles.{single_none, single_alone, single_other, si
 use Rattle.repo_core.proofs.fields.single_element.Goals as goal
 use Rattle.repo_core.proofs.fields.single_element.Goals.{else-element-kind-via-then-element-kind+else-is_empty, else-element-kind-via-else-element-kind}
 
-pub returns-in_default : goal.returns-in_default
-returns-in_default c = sym (single_none c.args.kind c.args.octets.now c.in_default.field-0 c.in_default.ensures.walk)
+pub returns-in_default-clause-exact : goal.returns-in_default-clause-exact
+returns-in_default-clause-exact c = sym (single_none c.args.kind c.args.octets.now c.in_default.field-0 c.in_default.ensures.walk)
 
-pub returns-then-is_empty : goal.returns-then-is_empty
-returns-then-is_empty c =
+pub returns-then-is_empty-clause-exact : goal.returns-then-is_empty-clause-exact
+returns-then-is_empty-clause-exact c =
     let e = c.in-Ok.element in
     let empty = single_alone c.args.kind (e.kind, e.value.now) c.in-Ok.rest.now (grind (arith, c.if-is_empty.ensures)) in
     sym (ap (single c.args.kind) c.in-Ok.ensures.walk ∙ empty ∙ grind (arith, c.if-element-kind.true))
 
-pub returns : goal.returns
-returns c =
+pub returns-clause-exact : goal.returns-clause-exact
+returns-clause-exact c =
     let e = c.in-Ok.element in
     elim c.else-element-kind.branch [
       | else-element-kind-via-then-element-kind+else-is_empty w ↦
