@@ -1,13 +1,14 @@
 -- The entries that pass a test.
-use Rattle.std.proofs.Common.{◌≡◌, Bool, true, false, cond, List, [], ◌∷◌, sym, ap, subst, ◌∙◌}
+use Rattle.std.proofs.Common.{◌≡◌, Bool, true, false, cond, List, [], ◌∷◌, refl, sym, ap, subst, ◌∙◌}
 use lib.Dec.{T}
-use Rattle.std.specs.Prelude.{filter, ◌&&◌}
+use Rattle.std.specs.Prelude.{filter, None, Some, ◌&&◌}
 use Rattle.std.specs.declared.cmp.Ordering.{Ordering}
-use Rattle.std.specs.Ordering.{is_lt}
-use Rattle.std.specs.FinMap.{FinMap, is_sorted, from_sorted, entries, entries-from_sorted, entries_sorted}
+use Rattle.std.specs.declared.cmp.Ordering.TheVariants.{Less, Equal, Greater}
+use Rattle.std.specs.Ordering.{is_eq, is_lt}
+use Rattle.std.specs.FinMap.{FinMap, IsAntisymmetric, find, get, get-entries, get-from_sorted, is_sorted, from_sorted, entries, entries-from_sorted, entries_sorted}
 use Rattle.std.specs.FinMap.Entries.{below_all}
-use Rattle.repo_core.specs.Objects.{kept}
-use Rattle.repo_core.proofs.Rows.{first_of, second_of}
+use Rattle.repo_core.specs.Objects.{if_kept, kept}
+use Rattle.repo_core.proofs.Rows.{first_of, is_less, second_of}
 
 both : (a b : Bool) → T a → T b → T (a && b)
 both true b p q = q
@@ -40,3 +41,39 @@ module _ {K X : Type 0} (R : K → K → Ordering) (test : K × X → Bool) wher
   pub entries-kept : (m : FinMap R X) → entries (kept test m) ≡ filter test (entries m)
   unfolding kept
   entries-kept m = entries-from_sorted R (filter test (entries m)) (sorted_filter (entries m) (entries_sorted m))
+
+pub is_equal : (o : Ordering) → is_eq o ≡ true → o ≡ Equal
+is_equal Less e = absurd cc
+is_equal Equal e = refl
+is_equal Greater e = absurd cc
+
+module _ {K X : Type 0} {R : K → K → Ordering} (anti : IsAntisymmetric R) (test : K × X → Bool) (k : K) where
+  lacks : (es : List (K × X)) → T (below_all R k es) → find R k es ≡ None
+  lacks [] h = refl
+  lacks (e ∷ es) h = ap (λ o. cond (is_eq o) (Some e.1) (find R k es)) (is_less (R k e.0) (first_of _ _ h)) ∙ lacks es (second_of _ _ h)
+
+  found : (es : List (K × X)) → T (is_sorted R es) → find R k (filter test es) ≡ if_kept test k (find R k es)
+  found [] h = refl
+  found (e ∷ es) h = split (is_eq (R k e.0)) (test e) refl refl (found es (second_of _ _ h))
+    where
+      here : is_eq (R k e.0) ≡ true → test (k, e.1) ≡ test e
+      here eq = ap (λ (x : K). test (x, e.1)) (anti k e.0 (is_equal _ eq))
+
+      none : is_eq (R k e.0) ≡ true → find R k es ≡ None
+      none eq = lacks es (subst (λ (x : K). T (below_all R x es)) (sym (anti k e.0 (is_equal _ eq))) (first_of _ _ h))
+
+      split : (same passes : Bool) → is_eq (R k e.0) ≡ same → test e ≡ passes → find R k (filter test es) ≡ if_kept test k (find R k es)
+          → find R k (cond passes (e ∷ filter test es) (filter test es)) ≡ if_kept test k (cond same (Some e.1) (find R k es))
+      split true true eq t again =
+          ap (λ (b : Bool). cond b (Some e.1) (find R k (filter test es))) eq ∙ sym (ap (λ (b : Bool). cond b (Some e.1) None) (here eq ∙ t))
+      split true false eq t again =
+          again ∙ ap (if_kept test k) (none eq) ∙ sym (ap (λ (b : Bool). cond b (Some e.1) None) (here eq ∙ t))
+      split false true eq t again =
+          ap (λ (b : Bool). cond b (Some e.1) (find R k (filter test es))) eq ∙ again
+      split false false eq t again = again
+
+  pub get-kept : (m : FinMap R X) → get (kept test m) k ≡ if_kept test k (get m k)
+  unfolding kept
+  get-kept m =
+      get-from_sorted R (filter test (entries m)) k (sorted_filter R test (entries m) (entries_sorted m))
+      ∙ found (entries m) (entries_sorted m) ∙ ap (if_kept test k) (sym (get-entries m k))

@@ -6,3 +6,5 @@ pub mod Places
 pub mod Kept
 pub mod Near
 pub mod Spares
+pub mod Limits
+pub mod Verbs

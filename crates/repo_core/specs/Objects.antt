@@ -1,5 +1,5 @@
 -- The Data that a repository stores (NDN Packet Format 0.3, "Name", "Implicit Digest Component").
-use Rattle.std.specs.Prelude.{ℕ, ◌==◌, List, [], ◌∷◌, length, drop, filter, not, Bool, true, false, ◌&&◌, ◌||◌, Option, None, Some}
+use Rattle.std.specs.Prelude.{ℕ, ◌==◌, List, [], ◌∷◌, length, drop, filter, not, Bool, true, false, ◌&&◌, ◌||◌, Option, None, Some, if◌then◌else◌}
 use Rattle.std.specs.declared.cmp.Ordering.{Ordering}
 use Rattle.std.specs.FinMap.{FinMap, entries, from_sorted}
 use Rattle.sha2.specs.Sha256.{sha256}
@@ -22,6 +22,11 @@ object_of d = (full_name (components d.name) (sha256 d.whole.now), d.whole.now)
 unfoldable pub kept : {K X : Type 0} {R : K → K → Ordering} → (K × X → Bool) → FinMap R X
     → FinMap R X
 kept test m = from_sorted (filter test (entries m))
+
+-- what such a map has of a key, where the map had this
+abbrev pub if_kept : {K X : Type 0} → (K × X → Bool) → K → Option X → Option X
+if_kept test key None = None
+if_kept test key (Some x) = if test (key, x) then Some x else None
 
 -- nothing, or a digest
 abbrev pub is_digest_alone : List Field → Bool

@@ -1,5 +1,5 @@
 -- What a repository holds, and what commands, Data and time do to it.
-use Rattle.std.specs.Prelude.{◌≡◌, ℕ, ◌+◌, List, [], ◌∷◌, Bool, true, false, nat_lt, nat_le, ◌==◌, ◌||◌, Option, None, Some, IfSome, refl, if◌then◌else◌}
+use Rattle.std.specs.Prelude.{◌≡◌, ℕ, ◌+◌, ◌≤◌, List, [], ◌∷◌, Bool, true, false, nat_lt, nat_le, ◌==◌, ◌||◌, Option, None, Some, IfSome, refl, if◌then◌else◌}
 use Rattle.std.specs.Coded.{Coded, code_by, coded×, coded_list, coded_ℕ, coded_option}
 use Rattle.std.specs.FinMap as map
 use Rattle.ndn_tlv.specs.Element.{Field}
@@ -13,7 +13,7 @@ use Rattle.repo_core.specs.declared.types.TheConstants.{BAD_PARAMETERS, NOT_FOUN
 use Rattle.repo_core.specs.Commands.{Case, Stored, Wanted, NoPlace, Otherwise, verb_row}
 use Rattle.repo_core.specs.Reading.{RepoCommand, repo_command_at}
 use Rattle.repo_core.specs.Objects.{Objects, number_answering, without_answering}
-use Rattle.repo_core.specs.Wants.{Wants, WantKey, want_code, is_wanted, unfilled, want_deadline}
+use Rattle.repo_core.specs.Wants.{Wants, WantKey, want_code, is_wanted, unfilled, want_deadline, wants_after}
 
 -- objects and wants
 pub record Held : Type 0 where
@@ -27,6 +27,11 @@ pub record RepoState : Type 0 where
   -- the Data whose offer is prepared
   pub prepared_want : Option (List Field)
   pub prepared_object : Option (List Field × List ℕ)
+
+-- at most 64 wants, and 65,536 objects and wants
+abbrev pub IsWithinLimits : Held → Type 0
+IsWithinLimits s =
+    (map.len s.wants ≤ MAX_WANTS) × (map.len s.objects + map.len s.wants ≤ MAX_HELD)
 
 -- ---- commands
 
@@ -117,6 +122,12 @@ after_offer name digest octets s =
       objects = map.insert s.objects (full_name name digest) octets;
       wants = unfilled name digest s.wants;
     } else s
+
+-- ---- time
+
+-- without the wants that are due
+abbrev pub after_time : ℕ → Held → Held
+after_time now s = record s { wants = wants_after now s.wants }
 
 -- ---- what is prepared
 

@@ -1,10 +1,19 @@
 //! Laws on the definitions that contracts cite. They do nothing when the program runs.
 
-ghost use Rattle.std.specs.Prelude.{◌≡◌, ℕ, List, Bool, true};
+ghost use Rattle.std.specs.Prelude.{◌≡◌, ◌↔◌, ◌+◌, ◌≤◌, ◌++◌, ◌∷◌, [], ℕ, List, Bool, Option, Some, IsSome, length, true};
+ghost use Rattle.std.specs.FinMap as map;
 ghost use Rattle.ndn_tlv.specs.Element.{Field};
-ghost use Rattle.ndn_packets.specs.Answers.{answers, full_name};
-ghost use Rattle.repo_core.specs.Objects.{full_name_answers};
-ghost use Rattle.repo_core.specs.Wants.{Wants, is_wanted, wants_after};
+ghost use Rattle.ndn_names.specs.declared.component_type.TheConstants.{GENERIC};
+ghost use Rattle.ndn_packets.specs.Answers.{answers, begins_with, full_name};
+ghost use Rattle.repo_core.specs.declared.verb.Verb.{Verb};
+ghost use Rattle.repo_core.specs.Commands.{repo_text_of, verb_row};
+ghost use Rattle.repo_core.specs.Objects.{Objects, full_name_answers, if_kept, kept};
+ghost use Rattle.repo_core.specs.Reading.{RepoCommand, verb_at};
+ghost use Rattle.repo_core.specs.Repo.{Held, IsWithinLimits, after_command, after_offer, after_time, reply_to};
+ghost use Rattle.repo_core.specs.Wants.{WantKey, Wants, is_wanted, wants_after};
+ghost use Rattle.repo_core.specs.Writing.{repo_response};
+
+use crate::reply::MAX_REPLY_LEN;
 
 /// Law: an object answers an Interest exactly where its Data does.
 pub fn full_names_answer_as_data()
@@ -19,4 +28,43 @@ pub fn expiry_keeps_preparations()
     ensures { (now : ℕ) (name : List Field) (digest : List ℕ) (wants : Wants)
         → is_wanted name digest (wants_after now wants) ≡ true
         → is_wanted name digest wants ≡ true }
+{}
+
+/// Law: a name has a verb exactly where it begins with the prefix and the verb's word.
+pub fn verbs_follow_the_prefix()
+    ensures { (start name : List Field) (verb : Verb)
+        → (verb_at start name ≡ Some verb)
+        ↔ (begins_with (start ++ (GENERIC, (verb_row verb).word) ∷ []) name ≡ true) }
+{}
+
+/// Law: each status that a command is answered with has a text.
+pub fn repo_statuses_have_texts()
+    ensures { (s : Held) (c : Option RepoCommand)
+        → IsSome (repo_text_of (reply_to s c).status) }
+{}
+
+/// Law: how long replies are at most. So room for one can be made before its status is known.
+pub fn repo_replies_are_bounded()
+    ensures known { (status count : ℕ) (text : List ℕ) → repo_text_of status ≡ Some text
+        → length (repo_response status text count) ≤ MAX_REPLY_LEN }
+    // A reply of any text, as the refusal of a command that no rule allows.
+    ensures any { (status count : ℕ) (text : List ℕ)
+        → length (repo_response status text count) ≤ length text + 40 }
+{}
+
+/// Law: at most 64 wants, and at most 65,536 objects and wants, stay so few, whatever comes.
+pub fn limits_are_kept()
+    ensures command { (start name : List Field) (now : ℕ) (s : Held)
+        → IsWithinLimits s → IsWithinLimits (after_command start name now s) }
+    ensures offer { (name : List Field) (digest octets : List ℕ) (s : Held)
+        → IsWithinLimits s → IsWithinLimits (after_offer name digest octets s) }
+    ensures time { (now : ℕ) (s : Held) → IsWithinLimits s → IsWithinLimits (after_time now s) }
+{}
+
+/// Law: what is there of one name, or of one want, after those that fail a test are gone.
+pub fn kept_entries_by_key()
+    ensures objects { (test : List Field × List ℕ → Bool) (objects : Objects) (name : List Field)
+        → map.get (kept test objects) name ≡ if_kept test name (map.get objects name) }
+    ensures wants { (test : WantKey × ℕ → Bool) (wants : Wants) (key : WantKey)
+        → map.get (kept test wants) key ≡ if_kept test key (map.get wants key) }
 {}

@@ -11,6 +11,9 @@ use crate::writing::{element_len, nni_element_len, put_nni_element};
 use ndn_names::NameBuf;
 use ndn_tlv::{Memory, put_element, put_number};
 
+/// The greatest number of octets of a reply to a command that is allowed.
+pub const MAX_REPLY_LEN: usize = 55;
+
 /// An Interest that is to be sent, so that wanted Data arrives.
 #[derive(Debug, Drop)]
 pub struct Want {

@@ -6,7 +6,7 @@ ghost use Rattle.ndn_names.specs.Name.{octets_of};
 ghost use Rattle.ndn_names.specs.View.{components};
 ghost use Rattle.repo_core.specs.Objects.{object_of, served};
 ghost use Rattle.repo_core.specs.Reading.{plain, repo_command_at, verb_at};
-ghost use Rattle.repo_core.specs.Repo.{IsCommandPrepared, IsOfferPrepared, after_command, after_delete, after_insert, after_offer, is_repo_full, reply_to, MakesWant};
+ghost use Rattle.repo_core.specs.Repo.{IsCommandPrepared, IsOfferPrepared, IsWithinLimits, after_command, after_delete, after_insert, after_offer, is_repo_full, reply_to, MakesWant};
 ghost use Rattle.repo_core.specs.Room.{AreAlike};
 ghost use Rattle.repo_core.specs.Wants.{wants_after, is_wanted};
 
@@ -46,7 +46,7 @@ pub struct Repo {
 impl Model for Repo {
     ghost use Rattle.std.specs.Prelude.{◌<◌, IfSome};
     ghost use Rattle.std.specs.Option.{option_map};
-    ghost use Rattle.repo_core.specs.Repo.{RepoState, state_code};
+    ghost use Rattle.repo_core.specs.Repo.{IsWithinLimits, RepoState, state_code};
     ghost use Rattle.repo_core.specs.Room.{AreAlike};
 
     ghost Value = { RepoState };
@@ -60,7 +60,8 @@ impl Model for Repo {
       prepared_object = r.object;
     } };
 
-    ghost invariant = { λ r. IfSome r.names AreAlike × IfSome r.object (λ _. 0 < r.objects.room) };
+    ghost invariant = { λ r. IfSome r.names AreAlike × IfSome r.object (λ _. 0 < r.objects.room)
+        × IsWithinLimits (record { objects = r.objects.table; wants = r.wants }) };
 }
 
 impl Repo {
@@ -111,10 +112,10 @@ impl Repo {
         ensures start { self.new.start ≡ self.old.start }
         ensures ended { (self.new.prepared_want ≡ None) × (self.new.prepared_object ≡ None) }
         ensures promised { IsCommandPrepared self.old (components name.entry) → IsOk result }
-    {
         // What is fetched has no longer a name than the command.
         ensures fetched { IfOk result (λ r. IfSome r.fetch (λ want.
             length (octets_of want.name) ≤ length (octets_of (components name.entry)))) }
+    {
         let spare = self.names.take();
         self.object = None;
         let Some(asked) = command_in(self.start.view(), name) else {
@@ -174,6 +175,14 @@ impl Repo {
         } }
     {
         self.wants.expire(now);
+    }
+
+    /// The number of objects and wants.
+    pub fn held_len(&self) -> usize
+        ensures exact { result ≡ map.len self.now.held.objects + map.len self.now.held.wants }
+        ensures limits { IsWithinLimits self.now.held }
+    {
+        self.objects.len() + self.wants.len()
     }
 
     /// Prepares the command of this name, its reply included: it is then not refused memory, while

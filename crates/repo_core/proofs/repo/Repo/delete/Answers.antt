@@ -1,0 +1,23 @@
+use Rattle.std.proofs.Common.{◌≡◌, ◌<◌, ℕ, List, sym, subst, ap, ◌∙◌}
+use Rattle.std.specs.Prelude.{Option, None, IfSome}
+use Rattle.std.specs.FinMap as map
+use Rattle.ndn_tlv.specs.Element.{Field}
+use Rattle.ndn_names.specs.View.{components}
+use Rattle.repo_core.specs.Objects.{Objects}
+use Rattle.repo_core.specs.Repo.{Held, IsWithinLimits}
+use Rattle.repo_core.specs.Wants.{Wants}
+use Rattle.repo_core.proofs.Limits.{removed_within}
+use Rattle.repo_core.proofs.repo.Repo.delete.Goals as goal
+
+pub invariant_of-self : goal.invariant_of-self
+invariant_of-self c =
+    let s : Held = record { objects = c.self.inside.objects.table; wants = c.self.inside.wants } in
+    let name = components c.args.asked.name in
+    let flag = c.args.asked.can_be_prefix in
+    let none : c.self.inside.object ≡ None = ap (λ r. r.prepared_object) c.self.view_is ∙ c.requires.free in (
+      c.self.invariant.0,
+      subst (λ (o : Option (List Field × List ℕ)). IfSome o (λ x. 0 < c.remove.new.self.room)) (sym none) tt,
+      subst (λ (w : Wants). IsWithinLimits (record { objects = c.remove.new.self.table; wants = w })) (sym c.remove-2.ensures)
+          (subst (λ (o : Objects). IsWithinLimits (record { objects = o; wants = map.remove s.wants (name, flag) })) (sym c.remove.ensures)
+          (removed_within s c.self.invariant.2 name flag (name, flag))),
+    )
