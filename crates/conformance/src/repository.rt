@@ -1,5 +1,6 @@
 //! The repository: its commands, what it stores and serves, and its replies.
 
+mod full;
 mod random_sequences;
 
 use crate::rows::{check_rows, octets};

@@ -1,0 +1,62 @@
+//! A repository that is full.
+
+use ndn_names::{Name, NameBuf};
+use ndn_packets::{Frame, read_frame};
+use repo_core::Repo;
+use std::alloc::Global;
+
+/// The name of an insert of `/N` into the repository `/repo`. N has four octets, from 22 on.
+const INSERT: [u8; 60] =
+    *b"\x08\x04repo\x08\x06insert\x08\x0a\xc9\x08\x07\x06\x08\x04NNNN\x02\x20\0\0\0\0\0\0\0\0\0\0\0\0\0\0\0\0\0\0\0\0\0\0\0\0\0\0\0\0\0\0\0\0";
+
+/// The Data of `/N`. N has four octets, from 6 on.
+const DATA: [u8; 17] = *b"\x06\x0f\x07\x06\x08\x04NNNN\x16\x03\x1b\x01\x00\x17\x00";
+
+/// Whether an insert of `/N` has this status.
+fn inserts(repo: &mut Repo, number: u32, status: u16) -> bool {
+    let mut octets = INSERT;
+    octets[22..26].copy_from_slice(&number.to_be_bytes());
+    let Ok(name) = Name::read(&octets) else {
+        return false;
+    };
+    match repo.command(name, 0) {
+        Ok(reply) => reply.status == status,
+        Err(_) => false,
+    }
+}
+
+/// Whether the Data of `/N` fills a want.
+fn fills(repo: &mut Repo, number: u32) -> bool {
+    let mut octets = DATA;
+    octets[6..10].copy_from_slice(&number.to_be_bytes());
+    match read_frame(&octets) {
+        Ok(Frame::Data(data)) => repo.offer(&data) == Ok(true),
+        _ => false,
+    }
+}
+
+/// Whether 65,536 objects and wants fit and no other, while an equal want does.
+fn holds_so_many(alloc: Global) -> bool {
+    let Ok(prefix) = NameBuf::from_uri(alloc, "/repo") else {
+        return false;
+    };
+    let Ok(mut repo) = Repo::new(alloc, prefix) else {
+        return false;
+    };
+    for number in 0..65_535 {
+        if !inserts(&mut repo, number, 100) || !fills(&mut repo, number) {
+            return false;
+        }
+    }
+    inserts(&mut repo, 65_535, 100)
+        && inserts(&mut repo, 65_536, 503)
+        && inserts(&mut repo, 65_535, 100)
+        && fills(&mut repo, 65_535)
+        && inserts(&mut repo, 65_536, 503)
+        && inserts(&mut repo, 65_535, 200)
+}
+
+#[test]
+fn full_repository(rt: HostRuntime) {
+    assert!(rt; holds_so_many(rt.alloc()));
+}
