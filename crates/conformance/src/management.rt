@@ -244,6 +244,29 @@ fn replies(alloc: Global, status: u16, text: &str, body: &str, expected: &str) -
     put_response(&mut out, status, text, &body).is_ok() && out.as_slice() == expected.as_slice()
 }
 
+/// A reply of this status without a body, with the status's text.
+fn reply_written(alloc: Global, row: &str) -> Option<String> {
+    let status = row.parse().ok()?;
+    let mut out = Vec::new(alloc);
+    put_response(&mut out, status, status_text(status)?, &[]).ok()?;
+    hex::encode(alloc, &out).ok()
+}
+
+#[test]
+fn texts_of_statuses(rt: HostRuntime) {
+    let rows = "
+200 -> 65076601c867024f4b
+400 -> 651466020190670e62616420706172616d6574657273
+404 -> 6516660201946710756e6b6e6f776e207374726174656779
+410 -> 65136602019a670d66616365206e6f74206f70656e
+414 -> 65156602019e670f70726566697820746f6f206c6f6e67
+501 -> 6515660201f5670f756e6b6e6f776e20636f6d6d616e64
+503 -> 6510660201f7670a7461626c652066756c6c
+";
+    check_rows(&rt, rt.alloc(), rows, reply_written);
+    assert!(rt; status_text(403).is_none());
+}
+
 #[test]
 fn replies_of_commands(rt: HostRuntime) {
     let body = "680b07030801416901026a0100";
