@@ -269,7 +269,13 @@ fn reply_written(alloc: Global, row: &str) -> Option<String> {
     let (status, count) = row.split_once(' ')?;
     let status = status.parse().ok()?;
     let mut out = Vec::new(alloc);
-    put_repo_reply(&mut out, status, repo_status_text(status)?, count.parse().ok()?).ok()?;
+    put_repo_reply(
+        &mut out,
+        status,
+        repo_status_text(status)?,
+        count.parse().ok()?,
+    )
+    .ok()?;
     hex::encode(alloc, &out).ok()
 }
 
@@ -371,12 +377,50 @@ fn is_prepared(alloc: Global) -> Option<bool> {
     }
 }
 
+/// Whether an insert and an offer that nothing prepares have their effects, or none where memory is
+/// refused.
+fn stores_or_leaves(alloc: Global) -> Option<bool> {
+    let prefix = NameBuf::from_uri(alloc, "/repo").ok()?;
+    let insert = command_on(alloc, "insert", "/A", None)?;
+    let check = command_on(alloc, "check", "/A", None)?;
+    let packet = data_of(alloc, "/A", "01")?;
+    let Frame::Data(data) = read_frame(&packet).ok()? else {
+        return None;
+    };
+    let mut repo = Repo::new(alloc, prefix).ok()?;
+    let inserted = repo.command(insert.view(), 0).is_ok();
+    let before = repo.command(check.view(), 0).ok()?.status;
+    let filled = repo.offer(&data);
+    let after = repo.command(check.view(), 0).ok()?.status;
+    Some(match (inserted, filled) {
+        (true, Ok(true)) => before == 100 && after == 200,
+        (true, Err(_)) => before == 100 && after == 100,
+        (false, Ok(false)) => before == 404 && after == 404,
+        _ => false,
+    })
+}
+
+/// Whether a reply for which there is no memory leaves what stood before it.
+fn replies_or_leaves(alloc: Global) -> Option<bool> {
+    let mut out = Vec::new(alloc);
+    out.push(7).ok()?;
+    let len = match put_repo_reply(&mut out, 200, "OK", 1) {
+        Ok(()) => 13,
+        Err(_) => 1,
+    };
+    Some(out.len() == len && out.first() == Some(&7))
+}
+
 #[test]
 fn repository_with_refused_memory(rt: HostRuntime) {
     assert!(rt; is_prepared(rt.alloc()) != Some(false));
+    assert!(rt; stores_or_leaves(rt.alloc()) != Some(false));
+    assert!(rt; replies_or_leaves(rt.alloc()) != Some(false));
 }
 
 #[test]
 fn repository_prepared(rt: HostRuntime) {
     assert!(rt; is_prepared(rt.alloc()) == Some(true));
+    assert!(rt; stores_or_leaves(rt.alloc()) == Some(true));
+    assert!(rt; replies_or_leaves(rt.alloc()) == Some(true));
 }

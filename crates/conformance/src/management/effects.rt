@@ -421,11 +421,24 @@ fn replies_or_leaves(alloc: Global) -> Option<bool> {
     Some(out.len() == len && out.first() == Some(&7))
 }
 
+/// Whether the lists of a route and of the strategies are whole, or refused for want of memory.
+fn lists_or_refuses(alloc: Global) -> Option<bool> {
+    let name = numbered(alloc, 1)?;
+    let mut station = Station::new(alloc)?;
+    if added(&mut station, &name, 2) != 200 {
+        return None;
+    }
+    let routes = fib_dataset(alloc, &station.tables.fib).map(|text| text.len());
+    let strategies = strategy_dataset(alloc, &station.tables.strategies).map(|text| text.len());
+    Some(routes.unwrap_or(16) == 16 && strategies.unwrap_or(46) == 46)
+}
+
 #[test]
 fn prepared_commands(rt: HostRuntime) {
     assert!(rt; applies_what_is_prepared(rt.alloc()) == Some(true));
     assert!(rt; applies_or_leaves(rt.alloc()) == Some(true));
     assert!(rt; replies_or_leaves(rt.alloc()) == Some(true));
+    assert!(rt; lists_or_refuses(rt.alloc()) == Some(true));
 }
 
 #[test]
@@ -433,4 +446,5 @@ fn refused_memory_for_commands(rt: HostRuntime) {
     assert!(rt; applies_what_is_prepared(rt.alloc()) != Some(false));
     assert!(rt; applies_or_leaves(rt.alloc()) != Some(false));
     assert!(rt; replies_or_leaves(rt.alloc()) != Some(false));
+    assert!(rt; lists_or_refuses(rt.alloc()) != Some(false));
 }
