@@ -48,7 +48,8 @@ answering name can_be_prefix rows =
 
 -- how many answer
 abbrev pub number_answering : List Field → Bool → Objects → ℕ
-number_answering name can_be_prefix objects = length (answering name can_be_prefix (entries objects))
+number_answering name can_be_prefix objects =
+    length (answering name can_be_prefix (entries objects))
 
 abbrev pub first_octets : List (List Field × List ℕ) → Option (List ℕ)
 first_octets [] = None

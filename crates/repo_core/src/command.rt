@@ -69,7 +69,8 @@ pub fn command_in<'a>(start: Name<'_>, name: Name<'a>) -> Option<Asked<'a>>
 /// The command of these parameters.
 fn command_of(verb: Verb, fields: &[u8]) -> Option<Asked<'_>>
     ensures exact { option_map plain result ≡ command_of verb (elements_of fields.now) }
-    ensures short { IfSome result (λ a. length (octets_of (components a.name)) ≤ length fields.now) }
+    ensures short { IfSome result (λ a.
+        length (octets_of (components a.name)) ≤ length fields.now) }
 {
     if !are_elements(fields) {
         return None;

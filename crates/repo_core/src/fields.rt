@@ -61,7 +61,8 @@ fn first_field(octets: &[u8], kind: u32) -> Option<&[u8]>
 /// The Name field. None where it is missing or no name.
 pub fn name_field(octets: &[u8]) -> Option<Name<'_>>
     ensures exact { option_map components result ≡ name_in (elements_of octets.now) }
-    ensures short { IfSome result (λ name. length (octets_of (components name)) ≤ length octets.now) }
+    ensures short { IfSome result (λ name.
+        length (octets_of (components name)) ≤ length octets.now) }
 {
     let value = first_field(octets, NAME)?;
     Name::read(value).ok()
