@@ -11,22 +11,22 @@ use Rattle.clap.specs.Faults.{fault_of, is_simple_and_free}
 use Rattle.clap.specs.Kinds.{HasKind, IsAmong}
 use Rattle.clap.proofs.OnLiterals.{clap_on_literals}
 use Rattle.ndn_tool.specs.declared.job.Job.{Job}
-use Rattle.ndn_tool.specs.declared.job.Job.TheVariants.{Help, Interest, Data, Command, Tag, Show}
+use Rattle.ndn_tool.specs.declared.job.Job.TheVariants.{Help, Interest, Data, Command, Tag, Show, Explain}
 use Rattle.ndn_tool.specs.declared.fault.Usage.TheVariants.{CommandLine, BadValue}
 use Rattle.ndn_tool.specs.declared.fault.ToolFault.{ToolFault}
 use Rattle.ndn_tool.specs.declared.fault.ToolFault.TheVariants as fault
 use Rattle.ndn_tool.specs.Value.{ReadsInMemory}
 use Rattle.ndn_tool.specs.Nonce.{words_of}
-use Rattle.ndn_tool.specs.CommandLine.{interest_app, data_app, command_app, route_app, strategy_app, cache_app, tag_app, show_app, tool}
+use Rattle.ndn_tool.specs.CommandLine.{interest_app, data_app, command_app, route_app, strategy_app, cache_app, repository_app, tag_app, show_app, explain_app, tool}
 use Rattle.ndn_tool.specs.Command.{reading_of, faults, IsJob, IsJobOf, Asks, IsWrongLine, IsRefusedLine}
 
 -- the program's command line is of those whose matches are stated
 pub simple : is_simple tool ≡ true
-unfolding tool interest_app data_app command_app route_app strategy_app cache_app tag_app show_app clap_on_literals
+unfolding tool interest_app data_app command_app route_app strategy_app cache_app repository_app tag_app show_app explain_app clap_on_literals
 simple = refl
 
 pub simple_and_free : is_simple_and_free tool ≡ true
-unfolding tool interest_app data_app command_app route_app strategy_app cache_app tag_app show_app clap_on_literals
+unfolding tool interest_app data_app command_app route_app strategy_app cache_app repository_app tag_app show_app explain_app clap_on_literals
 simple_and_free = refl
 
 -- ---- an error
@@ -79,6 +79,7 @@ asked now arguments none (Ok (Data job)) h = (none, h)
 asked now arguments none (Ok (Command job)) h = (none, h)
 asked now arguments none (Ok (Tag job)) h = (none, h)
 asked now arguments none (Ok (Show octets)) h = (none, h)
+asked now arguments none (Ok (Explain octets)) h = (none, h)
 asked now arguments none (Err (fault.Usage (CommandLine error))) h = absurd h
 asked now arguments none (Err (fault.Usage (BadValue place wanted))) h = (none, h)
 asked now arguments none (Err fault.NoKey) h = h

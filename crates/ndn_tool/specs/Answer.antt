@@ -24,6 +24,7 @@ use Rattle.ndn_tool.specs.declared.job.Job.TheVariants as job
 use Rattle.ndn_tool.specs.declared.fault.ToolFault.{ToolFault}
 use Rattle.ndn_tool.specs.declared.fault.ToolFault.TheVariants as fault
 use Rattle.ndn_tool.specs.Show.{frame_lines}
+use Rattle.ndn_tool.specs.Explain.{explanation}
 use Rattle.ndn_tool.specs.Parameters.{command_name, IsTooLong}
 
 -- octets in hexadecimal of lower case, on a line
@@ -127,6 +128,11 @@ IsTagAnswer job book text =
 abbrev pub IsShown : List ℕ → List ℕ → Type 0
 IsShown octets text = (frame : PlainFrame) × IsFrame octets frame × (text ≡ frame_lines frame)
 
+-- the same, in words
+abbrev pub IsExplained : List ℕ → List ℕ → Type 0
+IsExplained octets text =
+    (frame : PlainFrame) × IsFrame octets frame × (text ≡ explanation frame)
+
 -- what help says, the reader of the command line knows
 abbrev pub IsAnswer : Job → List NamedKey → List ℕ → Type 0
 IsAnswer (job.Help help) book text = ⊤
@@ -135,6 +141,7 @@ IsAnswer (job.Data asked) book text = IsDataAnswer asked book text
 IsAnswer (job.Command asked) book text = IsCommandAnswer asked book text
 IsAnswer (job.Tag asked) book text = IsTagAnswer asked book text
 IsAnswer (job.Show octets) book text = IsShown octets.items text
+IsAnswer (job.Explain octets) book text = IsExplained octets.items text
 
 -- ---- refusals: each but that for memory has its cause
 
@@ -186,3 +193,4 @@ IsRefusal (job.Data asked) book why = IsDataRefusal asked book why
 IsRefusal (job.Command asked) book why = IsCommandRefusal asked book why
 IsRefusal (job.Tag asked) book why = IsTagRefusal asked book why
 IsRefusal (job.Show octets) book why = IsNotShown octets.items why
+IsRefusal (job.Explain octets) book why = IsNotShown octets.items why

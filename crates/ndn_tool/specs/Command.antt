@@ -9,7 +9,7 @@ use Rattle.clap.specs.declared.error.Error.{Error}
 use Rattle.clap.specs.declared.error.kind.ErrorKind.{ErrorKind}
 use Rattle.clap.specs.declared.error.kind.ErrorKind.TheVariants.{DisplayHelp, OutOfMemory}
 use Rattle.ndn_tool.specs.declared.job.Job.{Job}
-use Rattle.ndn_tool.specs.declared.job.Job.TheVariants.{Help, Interest, Data, Command, Tag, Show}
+use Rattle.ndn_tool.specs.declared.job.Job.TheVariants.{Help, Interest, Data, Command, Tag, Show, Explain}
 use Rattle.ndn_tool.specs.declared.fault.Usage.{Usage as WrongUsage}
 use Rattle.ndn_tool.specs.declared.fault.Usage.TheVariants.{CommandLine, BadValue}
 use Rattle.ndn_tool.specs.declared.fault.ToolFault.{ToolFault}
@@ -17,6 +17,7 @@ use Rattle.ndn_tool.specs.declared.fault.ToolFault.TheVariants.{Usage, Memory}
 use Rattle.ndn_tool.specs.declared.job.CommandJob.{CommandJob}
 use Rattle.ndn_tool.specs.Options.{IsInterestJob, IsDataJob, IsCommandJob, IsTagJob, IsShowJob}
 use Rattle.ndn_tool.specs.ShortForm.{IsShortJob}
+use Rattle.ndn_tool.specs.RepositoryForm.{IsRepositoryJob}
 use Rattle.ndn_tool.specs.Nonce.{words_of}
 use Rattle.ndn_tool.specs.CommandLine.{tool}
 
@@ -32,11 +33,12 @@ reading_of kind error = Err (Usage (CommandLine error))
 abbrev pub IsShortName : List ℕ → Type 0
 IsShortName name = (name ≡ codes "route") ⊎ ((name ≡ codes "strategy") ⊎ (name ≡ codes "cache"))
 
--- `command`, or a short form
+-- `command`, or a short form: of the node's commands, or of a repository's
 abbrev pub IsNamedCommand : ℕ → List ℕ → List ℕ → List Row → CommandJob → Type 0
 IsNamedCommand now words name rows job =
     ((name ≡ codes "command") × IsCommandJob rows job)
-    ⊎ (IsShortName name × IsShortJob now words name rows job)
+    ⊎ ((IsShortName name × IsShortJob now words name rows job)
+    ⊎ ((name ≡ codes "repo") × IsRepositoryJob now words rows job))
 
 -- what the options of the subcommand of this name ask for, at this time and in these words
 abbrev pub IsNamedJob : ℕ → List ℕ → List ℕ → List Row → Job → Type 0
@@ -46,6 +48,8 @@ IsNamedJob now words name rows (Data job) = (name ≡ codes "data") × IsDataJob
 IsNamedJob now words name rows (Command job) = IsNamedCommand now words name rows job
 IsNamedJob now words name rows (Tag job) = (name ≡ codes "tag") × IsTagJob rows job
 IsNamedJob now words name rows (Show octets) = (name ≡ codes "show") × IsShowJob rows octets
+IsNamedJob now words name rows (Explain octets) =
+    (name ≡ codes "explain") × IsShowJob rows octets
 
 -- the same, of the subcommand that was found, if one was
 abbrev pub IsJob : ℕ → List ℕ → Option (List ℕ × List Row) → Job → Type 0

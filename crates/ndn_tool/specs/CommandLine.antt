@@ -107,6 +107,15 @@ cache_app = stamped (a_subcommand (codes "cache") (
     ∷ an_option (codes "count")
     ∷ []))
 
+unfoldable pub repository_app : App
+repository_app = stamped (a_subcommand (codes "repo") (
+    a_positional (codes "VERB")
+    ∷ a_positional (codes "PREFIX")
+    ∷ a_positional (codes "NAME")
+    ∷ a_flag (codes "can-be-prefix")
+    ∷ an_option (codes "lifetime")
+    ∷ []))
+
 unfoldable pub tag_app : App
 tag_app = a_subcommand (codes "tag") (
     a_positional (codes "HEX")
@@ -116,6 +125,9 @@ tag_app = a_subcommand (codes "tag") (
 
 unfoldable pub show_app : App
 show_app = a_subcommand (codes "show") (a_positional (codes "HEX") ∷ [])
+
+unfoldable pub explain_app : App
+explain_app = a_subcommand (codes "explain") (a_positional (codes "HEX") ∷ [])
 
 -- one of these is required, and none is named `help`
 unfoldable pub tool : App
@@ -128,7 +140,8 @@ tool = record {
   };
   subs =
       interest_app.top ∷ data_app.top ∷ command_app.top ∷ route_app.top ∷ strategy_app.top
-      ∷ cache_app.top ∷ tag_app.top ∷ show_app.top ∷ [];
+      ∷ cache_app.top ∷ repository_app.top ∷ tag_app.top ∷ show_app.top
+      ∷ explain_app.top ∷ [];
 }
 
 -- ---- what is built

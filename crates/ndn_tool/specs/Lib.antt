@@ -2,11 +2,15 @@ pub mod Value
 pub mod Options
 pub mod Nonce
 pub mod ShortForm
+pub mod RepositoryForm
 pub mod Job
 pub mod Fault
 pub mod KeyFile
 pub mod CommandLine
 pub mod Command
 pub mod Show
+pub mod Fields
+pub mod Meaning
+pub mod Explain
 pub mod Parameters
 pub mod Answer

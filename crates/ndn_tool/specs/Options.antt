@@ -103,6 +103,6 @@ pub record IsTagJob (rows : List Row) (job : TagJob) : Type 0 where
   pub keys : Has (value_at rows (codes "keys")) IsPath job.keys
   pub key : Has (value_at rows (codes "key")) ReadsAs job.key
 
--- the octets to show
+-- the octets to show or to explain
 abbrev pub IsShowJob : {Z : Type 0} → List Row → Vec ℕ Z → Type 0
 IsShowJob rows octets = Has (value_at rows (codes "HEX")) AreOctets octets

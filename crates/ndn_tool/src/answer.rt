@@ -1,15 +1,18 @@
 //! The answer to a job.
 ghost use Rattle.std.specs.Prelude.{◌≡◌, ◌++◌, List, ℕ, IfOk, OnErr, MatchResult, option_map};
-ghost use Rattle.ndn_tool.specs.Answer.{IsAnswer, IsRefusal, IsInterestAnswer, IsInterestRefusal, IsDataAnswer, IsDataRefusal, IsCommandAnswer, IsCommandRefusal, IsTagAnswer, IsTagRefusal, IsShown, IsNotShown, IsHmac, SignsInterest, SignsData, IsNoKey, hex_line};
+ghost use Rattle.ndn_packets.specs.Link.{IsFrame};
+ghost use Rattle.ndn_packets.specs.View.{plain_frame};
+ghost use Rattle.ndn_tool.specs.Answer.{IsAnswer, IsRefusal, IsInterestAnswer, IsInterestRefusal, IsDataAnswer, IsDataRefusal, IsCommandAnswer, IsCommandRefusal, IsTagAnswer, IsTagRefusal, IsShown, IsExplained, IsNotShown, IsHmac, SignsInterest, SignsData, IsNoKey, hex_line};
 ghost use Rattle.ndn_tool.specs.Parameters.{command_name};
 
+use crate::explain::put_explanation;
 use crate::fault::ToolFault;
 use crate::job::{CommandJob, DataJob, InterestJob, Job, TagJob};
 use crate::parameters::command_name;
 use crate::show::put_frame;
 use hmac_keys::{KeyBook, hmac_sha256};
 use ndn_names::NameBuf;
-use ndn_packets::{DataWriter, InterestWriter, Sign, read_frame};
+use ndn_packets::{DataWriter, Frame, InterestWriter, Sign, read_frame};
 use ndn_tlv::Memory;
 use std::alloc::{AllocError, Global};
 
@@ -40,6 +43,7 @@ fn text_of(alloc: Global, job: &Job, book: &KeyBook) -> Result<Vec<u8>, ToolFaul
         Job::Command(job) => command_text(alloc, job, book),
         Job::Tag(job) => tag_text(alloc, job, book),
         Job::Show(octets) => shown_text(alloc, octets),
+        Job::Explain(octets) => explained_text(alloc, octets),
     }
 }
 
@@ -144,13 +148,32 @@ fn tag_text(alloc: Global, job: &TagJob, book: &KeyBook) -> Result<Vec<u8>, Tool
 fn shown_text(alloc: Global, octets: &[u8]) -> Result<Vec<u8>, ToolFault>
     ensures { MatchResult result (λ text. IsShown octets.now text.items) (IsNotShown octets.now) }
 {
+    let frame = frame_of(octets)?;
+    let mut text = Vec::new(alloc);
+    put_frame(alloc, &mut text, &frame)?;
+    Ok(text)
+}
+
+fn explained_text(alloc: Global, octets: &[u8]) -> Result<Vec<u8>, ToolFault>
+    ensures { MatchResult result
+        (λ text. IsExplained octets.now text.items)
+        (IsNotShown octets.now) }
+{
+    let frame = frame_of(octets)?;
+    let mut text = Vec::new(alloc);
+    put_explanation(alloc, &mut text, &frame)?;
+    Ok(text)
+}
+
+/// The frame that the octets are.
+fn frame_of(octets: &[u8]) -> Result<Frame<'_>, ToolFault>
+    ensures { MatchResult result
+        (λ frame. IsFrame octets.now (plain_frame frame))
+        (IsNotShown octets.now) }
+{
     match read_frame(octets) {
+        Ok(frame) => Ok(frame),
         Err(fault) => Err(ToolFault::Packet(fault)),
-        Ok(frame) => {
-            let mut text = Vec::new(alloc);
-            put_frame(alloc, &mut text, &frame)?;
-            Ok(text)
-        }
     }
 }
 

@@ -4,13 +4,15 @@ ghost use Rattle.clap.specs.Words.{kind_of, subcommand_rows_of, with_rule};
 ghost use Rattle.clap.specs.Simple.{App};
 ghost use Rattle.ndn_tool.specs.Value.{IsUsage, ReadsInMemory};
 ghost use Rattle.ndn_tool.specs.Options.{rows_in};
-ghost use Rattle.ndn_tool.specs.CommandLine.{HasApp, HasRule, a_positional, an_option, a_required_option, a_flag, interest_app, data_app, tag_app, show_app, tool};
+ghost use Rattle.ndn_tool.specs.CommandLine.{HasApp, HasRule, a_positional, an_option, a_required_option, a_flag, interest_app, data_app, tag_app, show_app, explain_app, tool};
 ghost use Rattle.ndn_tool.specs.Nonce.{words_of};
 ghost use Rattle.ndn_tool.specs.Command.{reading_of, IsJob, IsNamedJob, Asks, IsRefusedLine};
 
 use crate::fault::{ToolFault, Usage};
 use crate::job::{CommandJob, DataJob, InterestJob, Job, TagJob};
-use crate::management::{cache_command, command_command, route_command, strategy_command};
+use crate::management::{
+    cache_command, command_command, repository_command, route_command, strategy_command,
+};
 use crate::nonce::words_of;
 use crate::options::required_octets;
 use clap::error::ErrorKind;
@@ -67,6 +69,17 @@ Example: a Data named /A.
   freshness 0
   content 78
   signature 0 -";
+
+const AFTER_EXPLAIN: &str =
+    "Prints the lines of show, and what the signature says of its key, its time and its number.
+
+Example: a Data named /A, signed with a key.
+  $ ndn_tool explain 0620070308014115017816141b01041c0f070d08036f707308034b45590801311700
+  data /A
+  freshness 0
+  content 78
+  signature 4 -
+  key-locator /ops/KEY/1";
 
 /// Reads the arguments of a command line, the first of which is the program's name, at a time in
 /// milliseconds since 1970.
@@ -140,8 +153,10 @@ fn named_job(
         "route" | "strategy" | "cache" => {
             Ok(Job::Command(CommandJob::read_short(alloc, name, options, now, words)?))
         }
+        "repo" => { Ok(Job::Command(CommandJob::read_repository(alloc, options, now, words)?)) }
         "tag" => Ok(Job::Tag(TagJob::read(alloc, options)?)),
         "show" => Ok(Job::Show(required_octets(alloc, options, "HEX")?)),
+        "explain" => Ok(Job::Explain(required_octets(alloc, options, "HEX")?)),
         _ => Err(no_subcommand()),
     }
 }
@@ -170,8 +185,10 @@ fn command<'a>(alloc: Global) -> Result<Command<'a>, AllocError>
         .subcommand(route_command(alloc)?)?
         .subcommand(strategy_command(alloc)?)?
         .subcommand(cache_command(alloc)?)?
+        .subcommand(repository_command(alloc)?)?
         .subcommand(tag_command(alloc)?)?
-        .subcommand(show_command(alloc)?)
+        .subcommand(show_command(alloc)?)?
+        .subcommand(explain_command(alloc)?)
 }
 
 fn interest_command<'a>(alloc: Global) -> Result<Command<'a>, AllocError>
@@ -245,6 +262,15 @@ fn show_command<'a>(alloc: Global) -> Result<Command<'a>, AllocError>
     Command::new(alloc, "show")
         .about("Shows what a packet holds")
         .after_help(AFTER_SHOW)
+        .arg(positional(alloc, "HEX", "The packet, alone or in a link packet"))
+}
+
+fn explain_command<'a>(alloc: Global) -> Result<Command<'a>, AllocError>
+    ensures { IfOk result (HasApp explain_app) }
+{
+    Command::new(alloc, "explain")
+        .about("Says in words what a packet is")
+        .after_help(AFTER_EXPLAIN)
         .arg(positional(alloc, "HEX", "The packet, alone or in a link packet"))
 }
 

@@ -3,6 +3,7 @@
 use crate::fault::ToolFault;
 use crate::nonce::nonce_of;
 use crate::options;
+use crate::repository_form::repository_name;
 use crate::short_form::ShortForm;
 use clap::{ArgMatches, Error};
 use ndn_names::NameBuf;
@@ -23,6 +24,8 @@ pub enum Job {
     Tag(TagJob),
     /// To show what a packet holds.
     Show(Vec<u8>),
+    /// To say in words what a packet is.
+    Explain(Vec<u8>),
 }
 
 /// The key of a signature: the file that it is in, and its name.
@@ -132,7 +135,7 @@ impl Job {
             Job::Data(job) => job.key.path(),
             Job::Command(job) => job.stamp.key.path(),
             Job::Tag(job) => Some(job.keys.as_str()),
-            Job::Help(_) | Job::Show(_) => None,
+            Job::Help(_) | Job::Show(_) | Job::Explain(_) => None,
         }
     }
 }
@@ -181,6 +184,7 @@ impl CommandJob {
     ghost use Rattle.ndn_tool.specs.Value.{ReadsInMemory};
     ghost use Rattle.ndn_tool.specs.Options.{rows_in, IsCommandJob};
     ghost use Rattle.ndn_tool.specs.ShortForm.{IsFormJob, IsShortJob};
+    ghost use Rattle.ndn_tool.specs.RepositoryForm.{IsRepositoryJob};
 
     /// The command that the options of `command` ask for.
     pub fn read(alloc: Global, options: &ArgMatches<'_>) -> Result<CommandJob, ToolFault>
@@ -209,6 +213,23 @@ impl CommandJob {
         CommandJob::read_form(alloc, form, options, now, words)
     }
 
+    /// The command that the options of `repo` ask for. Where they leave out the time and the Nonce,
+    /// they are `now` and made of the words.
+    pub fn read_repository(
+        alloc: Global,
+        options: &ArgMatches<'_>,
+        now: u64,
+        words: &[u8],
+    ) -> Result<CommandJob, ToolFault>
+        ensures { ReadsInMemory (IsRepositoryJob now words.now (rows_in options.now)) result }
+    {
+        Ok(CommandJob {
+            name: repository_name(alloc, options)?,
+            parameters: Parameters::read_repository(alloc, options)?,
+            stamp: Stamp::read_short(alloc, options, now, words)?,
+        })
+    }
+
     /// The command of a short form.
     fn read_form(
         alloc: Global,
@@ -232,6 +253,7 @@ impl Parameters {
     ghost use Rattle.ndn_tool.specs.Value.{ReadsInMemory};
     ghost use Rattle.ndn_tool.specs.Options.{rows_in, AreParameters};
     ghost use Rattle.ndn_tool.specs.ShortForm.{AreShortParameters};
+    ghost use Rattle.ndn_tool.specs.RepositoryForm.{AreRepositoryParameters};
 
     /// The parameters that the options of `command` spell.
     fn read(alloc: Global, options: &ArgMatches<'_>) -> Result<Parameters, ToolFault>
@@ -260,6 +282,21 @@ impl Parameters {
             count: options::number(options, "count")?,
             can_be_prefix: false,
             lifetime: None,
+        })
+    }
+
+    /// The parameters that the options of `repo` spell.
+    fn read_repository(alloc: Global, options: &ArgMatches<'_>) -> Result<Parameters, ToolFault>
+        ensures { ReadsInMemory (AreRepositoryParameters (rows_in options.now)) result }
+    {
+        Ok(Parameters {
+            name: options::required_name(alloc, options, "NAME")?,
+            face: None,
+            cost: None,
+            strategy: None,
+            count: None,
+            can_be_prefix: options::flag(options, "can-be-prefix"),
+            lifetime: options::number(options, "lifetime")?,
         })
     }
 }

@@ -6,12 +6,16 @@ ghost use Rattle.ndn_tool.specs.KeyFile.{AreKeys, IsFileFault};
 
 mod answer;
 mod command;
+mod explain;
 mod fault;
+mod fields;
 mod job;
 mod management;
+mod meaning;
 mod nonce;
 mod options;
 mod parameters;
+mod repository_form;
 mod short_form;
 mod show;
 mod value;
@@ -41,12 +45,23 @@ fn main(rt: HostRuntime) -> ExitCode {
 
 /// Does what the command line asks for, and prints the answer.
 fn run<R: Clock + Env + AllocGlobal + Files + Print>(rt: &R) -> Result<(), Fault> {
-    let arguments = arguments_of(rt)?;
-    let job = parse_words(rt.alloc(), milliseconds(rt)?, arguments.as_slice())?;
-    let book = book_of(rt, &job)?;
-    let mut text = Vec::new(rt.alloc());
-    answer(rt.alloc(), &job, &book, &mut text)?;
+    let text = answer_to(rt, &asked_job(rt)?)?;
     io::writer(rt).write_all(&text).map_err(|_| Fault::Write)
+}
+
+/// What the command line asks for.
+fn asked_job<R: Clock + Env + AllocGlobal>(rt: &R) -> Result<Job, Fault> {
+    let now = milliseconds(rt)?;
+    let arguments = arguments_of(rt)?;
+    Ok(parse_words(rt.alloc(), now, arguments.as_slice())?)
+}
+
+/// The answer to a job, with the keys of its key file.
+fn answer_to<R: AllocGlobal + Files>(rt: &R, job: &Job) -> Result<Vec<u8>, Fault> {
+    let book = book_of(rt, job)?;
+    let mut text = Vec::new(rt.alloc());
+    answer(rt.alloc(), job, &book, &mut text)?;
+    Ok(text)
 }
 
 fn arguments_of<R: Env + AllocGlobal>(rt: &R) -> Result<Vec<String>, Fault> {

@@ -3,7 +3,7 @@
 ghost use Rattle.std.specs.Prelude.{codes, IfOk};
 ghost use Rattle.clap.specs.Words.{with_rule};
 ghost use Rattle.clap.specs.Simple.{App};
-ghost use Rattle.ndn_tool.specs.CommandLine.{HasApp, HasRule, an_option, an_optional_positional, command_app, route_app, strategy_app, cache_app, stamped};
+ghost use Rattle.ndn_tool.specs.CommandLine.{HasApp, HasRule, an_option, an_optional_positional, command_app, route_app, strategy_app, cache_app, repository_app, stamped};
 
 use crate::command::{flag, option, positional, required_option, with_key};
 use clap::{Arg, Command};
@@ -44,6 +44,14 @@ made of its time and its words. Without --key the signature is DigestSha256.
 Example: at most 10 Data under /A are erased.
   $ ndn_tool cache erase /A --count 10 --keys ops.keys --key /ops/KEY/1";
 
+const AFTER_REPOSITORY: &str =
+    "VERB is insert, delete or check. PREFIX is the name of the repository. Without --time the command
+has the time of the clock, and without --nonce a Nonce made of its time and its words. Without --key
+the signature is DigestSha256.
+
+Example: the Data /A is wanted, and stored once it comes.
+  $ ndn_tool repo insert /repo /A --keys ops.keys --key /ops/KEY/1";
+
 const TIME: &str = "The time of the signature, in milliseconds since 1970";
 
 const SEQ: &str = "The sequence number of the signature";
@@ -53,6 +61,10 @@ const FACE: &str = "The face of the next hop";
 const COST: &str = "The cost of the next hop; 0 if absent";
 
 const COUNT: &str = "The greatest number of Data to erase";
+
+const LIFETIME: &str = "The lifetime of Interests, in milliseconds";
+
+const CAN_BE_PREFIX: &str = "Data with longer names are meant too";
 
 /// The command line of `command`.
 pub fn command_command<'a>(alloc: Global) -> Result<Command<'a>, AllocError>
@@ -70,17 +82,8 @@ pub fn command_command<'a>(alloc: Global) -> Result<Command<'a>, AllocError>
         .arg(option(alloc, "cost", "N", COST))?
         .arg(option(alloc, "strategy", "URI", "The name of a strategy"))?
         .arg(option(alloc, "count", "N", COUNT))?
-        .arg(option(
-            alloc,
-            "lifetime",
-            "N",
-            "The lifetime of Interests, in milliseconds",
-        ))?
-        .arg(flag(
-            alloc,
-            "can-be-prefix",
-            "Data with longer names are meant too",
-        ))?;
+        .arg(option(alloc, "lifetime", "N", LIFETIME))?
+        .arg(flag(alloc, "can-be-prefix", CAN_BE_PREFIX))?;
     with_key(alloc, command)
 }
 
@@ -121,6 +124,21 @@ pub fn cache_command<'a>(alloc: Global) -> Result<Command<'a>, AllocError>
         .arg(positional(alloc, "VERB", "erase"))?
         .arg(positional(alloc, "PREFIX", "The name under which Data are erased"))?
         .arg(option(alloc, "count", "N", COUNT))?;
+    with_stamp(alloc, command)
+}
+
+/// The command line of `repo`.
+pub fn repository_command<'a>(alloc: Global) -> Result<Command<'a>, AllocError>
+    ensures { IfOk result (HasApp repository_app) }
+{
+    let command = Command::new(alloc, "repo")
+        .about("Writes a command that inserts, deletes or checks Data in a repository")
+        .after_help(AFTER_REPOSITORY)
+        .arg(positional(alloc, "VERB", "insert, delete or check"))?
+        .arg(positional(alloc, "PREFIX", "The name of the repository"))?
+        .arg(positional(alloc, "NAME", "The name of the Data"))?
+        .arg(flag(alloc, "can-be-prefix", CAN_BE_PREFIX))?
+        .arg(option(alloc, "lifetime", "N", LIFETIME))?;
     with_stamp(alloc, command)
 }
 

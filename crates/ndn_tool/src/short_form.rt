@@ -119,7 +119,8 @@ impl ShortForm {
     }
 }
 
-fn refusal(place: &'static str, wanted: &'static str) -> ToolFault
+/// The fault of a value that may not be given there.
+pub fn refusal(place: &'static str, wanted: &'static str) -> ToolFault
     ensures { result ≡ ToolFault.Usage (Usage.BadValue place.entry wanted.entry) }
 {
     ToolFault::Usage(Usage::BadValue { place, wanted })

@@ -96,7 +96,12 @@ fn put_signature(alloc: Global, text: &mut Vec<u8>, signature: Signature<'_>) ->
     Ok(())
 }
 
-fn put_name(alloc: Global, text: &mut Vec<u8>, label: &str, name: Name<'_>) -> Result<(), Memory>
+pub fn put_name(
+    alloc: Global,
+    text: &mut Vec<u8>,
+    label: &str,
+    name: Name<'_>,
+) -> Result<(), Memory>
     ensures { OnOk result (text.new.items ≡ text.old.items
         ++ named_line label.now (uri_of (components name.entry))) }
 {
@@ -104,14 +109,14 @@ fn put_name(alloc: Global, text: &mut Vec<u8>, label: &str, name: Name<'_>) -> R
     put_value(text, label, uri.as_bytes())
 }
 
-fn put_number(text: &mut Vec<u8>, label: &str, number: u64) -> Result<(), Memory>
+pub fn put_number(text: &mut Vec<u8>, label: &str, number: u64) -> Result<(), Memory>
     ensures { OnOk result (text.new.items ≡ text.old.items
         ++ named_line label.now (decimal number)) }
 {
     writeln!(text, "{label} {number}").map_err(|_| Memory)
 }
 
-fn put_flag(text: &mut Vec<u8>, label: &str, is_there: bool) -> Result<(), Memory>
+pub fn put_flag(text: &mut Vec<u8>, label: &str, is_there: bool) -> Result<(), Memory>
     ensures { OnOk result (text.new.items ≡ text.old.items ++ flag_line label.now is_there) }
 {
     if is_there {
@@ -148,7 +153,7 @@ fn put_octets(alloc: Global, text: &mut Vec<u8>, label: &str, octets: &[u8]) -> 
 }
 
 /// Appends octets in hexadecimal, or a dash if there are none.
-fn put_hex(alloc: Global, text: &mut Vec<u8>, octets: &[u8]) -> Result<(), Memory>
+pub fn put_hex(alloc: Global, text: &mut Vec<u8>, octets: &[u8]) -> Result<(), Memory>
     ensures { OnOk result (text.new.items ≡ text.old.items ++ hex_or_dash octets.now) }
 {
     if octets.is_empty() {
@@ -160,7 +165,7 @@ fn put_hex(alloc: Global, text: &mut Vec<u8>, octets: &[u8]) -> Result<(), Memor
     Ok(())
 }
 
-fn put_value(text: &mut Vec<u8>, label: &str, value: &[u8]) -> Result<(), Memory>
+pub fn put_value(text: &mut Vec<u8>, label: &str, value: &[u8]) -> Result<(), Memory>
     ensures { OnOk result (text.new.items ≡ text.old.items ++ named_line label.now value.now) }
 {
     text.extend_from_slice(label.as_bytes())?;

@@ -297,6 +297,23 @@ fn short_forms(rt: HostRuntime) {
     check_session(&rt, OPS, SHORT_FORMS);
 }
 
+const REPOSITORY_FORMS: &str = "
+$ ndn_tool repo insert /repo /A --nonce 01020304 --time 1000000 --keys F --key /ops/KEY/1
+0581073908047265706f0806696e736572740807c90507030801410220856ad41dcba9cd04d16e32da8c22468001abf94c4a2d4d42b7c3a6e26de9f5910a040102030424002c1a1b01041c0f070d08036f707308034b45590801312804000f42402e2067118d1ececd0d1c18fc45b8ae9abc3778200f148c277b58cdf8f39b8cc0c96d
+$ ndn_tool repo insert /repo /A --can-be-prefix --lifetime 60000 --nonce 01020304 --time 1000005 --seq 7 --keys F --key /ops/KEY/1
+058a073f08047265706f0806696e73657274080dc90b070308014121000c02ea6002208ea65a0b9e0f883fb8d45591033d76776a6db058cac17b4796f0f1de83ed54410a040102030424002c1d1b01041c0f070d08036f707308034b45590801312804000f42452a01072e204f938c4ba225a55732157fbcee8d5358a96cf2ab3b11f024fa1f0db4866967d2
+$ ndn_tool repo delete /a/repo /A/B --can-be-prefix --nonce 01020304 --time 1000006
+0578074108016108047265706f080664656c657465080cc90a07060801410801422100022007d78054d00c2687573d7c884be00727fa6db4e31eaa0bdf594f83ff9785fdf00a040102030424002c091b01002804000f42462e208df25eefdecf4d107d3c1faac1bc34dcbce1bff21712d935aa71763a1e3a84a7
+$ ndn_tool repo check /repo /A
+056f073808047265706f0805636865636b0807c90507030801410220593ca0a16e6969e6c69d1ac7be213430a742b857fa2e5dfcc8dc8815ddb8f0720a048261372524002c091b01002804000f42402e2014b7cacbfe78d46252811b204e080caaae1a2ff907a732f6ce2d5414354ce9a5
+";
+
+/// The short forms of a repository's commands; the packets were made by a program of its own.
+#[test]
+fn repository_forms(rt: HostRuntime) {
+    check_session(&rt, OPS, REPOSITORY_FORMS);
+}
+
 const REFUSED_COMMANDS: &str = "
 ndn_tool command /localhost/nfd/fib/add-nexthop --name /A --time 1 => --nonce <HEX>
 ndn_tool command /localhost/nfd/fib/add-nexthop --name /A --nonce 01020304 => --time <N>
@@ -317,6 +334,12 @@ ndn_tool strategy erase /A => VERB: give
 ndn_tool cache set /A => VERB: give
 ndn_tool cache erase /A --time -1 => '-1'
 ndn_tool cache erase /A --nonce 0 => nonce: give 8
+ndn_tool repo insert /repo => <NAME>
+ndn_tool repo read /repo /A => VERB: give
+ndn_tool repo insert /repo A => NAME: give the URI
+ndn_tool repo check /repo /A --lifetime x => lifetime: give a decimal number
+ndn_tool repo check /repo /A --face 1 => unexpected argument '--face'
+ndn_tool repo check /1/2/3/4/5/6/7/8/9/0/1/2/3/4/5/6/7/8/9/0/1/2/3/4/5/6/7/8/9/0/1/2/3/4/5/6/7/8/9/0/1/2/3/4/5/6/7/8/9/0/1/2/3/4/5/6/7/8/9/0/1/2/3/4 /A => PREFIX: give a name of at most 63
 ";
 
 #[test]
@@ -419,6 +442,115 @@ fn shown_packets(rt: HostRuntime) {
     check_session(&rt, "", SHOWN_PACKETS);
 }
 
+const EXPLAINED_PACKETS: &str = "
+$ ndn_tool explain 057c0725080141022043badb09b67adada910a2773fe2105c48c97f62a512bead62fe439757606b4e9210012000a04010203040c0201002201092401702c1d1b01041c0f070d08036f707308034b45590801312804000f42402a01072e20efd82602c91f6fe2db6b3fc78702ddffd7c53ec4969ddc769960e2e5d96b0d77
+interest /A/params-sha256=43badb09b67adada910a2773fe2105c48c97f62a512bead62fe439757606b4e9
+can-be-prefix
+must-be-fresh
+nonce 01020304
+lifetime 256
+hop-limit 9
+parameters 70
+signature 4 efd82602c91f6fe2db6b3fc78702ddffd7c53ec4969ddc769960e2e5d96b0d77
+key-locator /ops/KEY/1
+time 1000000
+seq 7
+$ ndn_tool explain 0620070308014115017816141b01041c0f070d08036f707308034b45590801311700
+data /A
+freshness 0
+content 78
+signature 4 -
+key-locator /ops/KEY/1
+$ ndn_tool explain 0612070308014116091b01031c041d02aabb1700
+data /A
+freshness 0
+signature 3 -
+key-locator digest
+$ ndn_tool explain 060e070308014116051b01001c001700
+data /A
+freshness 0
+signature 0 -
+key-locator other
+$ ndn_tool explain 6418fd032005fd03210196500d050b07030801410a0401020304
+nack 150
+interest /A
+nonce 01020304
+lifetime 4000
+$ ndn_tool explain 6400
+idle
+$ ndn_tool explain 05a2075308096c6f63616c686f737408036e66640803666962080b6164642d6e657874686f70080d680b07030801416901026a01050220d4208a7f7fb7340bf77bc33b6beb6e7b8ed22529eb380724b8af2d143cc3b0390a040102030424002c211b01041c0f070d08036f707308034b455908013128080000018bcfe568002a01072e20340976d5d3250ec61ce8230e9c5e2a786a9c81b717f16b2d7f6efa7ba514ea45
+interest /localhost/nfd/fib/add-nexthop/h%0B%07%03%08%01Ai%01%02j%01%05/params-sha256=d4208a7f7fb7340bf77bc33b6beb6e7b8ed22529eb380724b8af2d143cc3b039
+nonce 01020304
+lifetime 4000
+parameters -
+signature 4 340976d5d3250ec61ce8230e9c5e2a786a9c81b717f16b2d7f6efa7ba514ea45
+key-locator /ops/KEY/1
+time 1700000000000
+seq 7
+command /localhost/nfd/fib/add-nexthop
+name /A
+face 2
+cost 5
+$ ndn_tool explain 06240703080141151665146601c867024f4b680b07030801416901026a010016031b01001700
+data /A
+freshness 0
+content 65146601c867024f4b680b07030801416901026a0100
+signature 0 -
+status 200 OK
+name /A
+face 2
+cost 0
+$ ndn_tool explain 062007030801411512651066020193670a546167206279206f707316031b01001700
+data /A
+freshness 0
+content 651066020193670a546167206279206f7073
+signature 0 -
+status 403 Tag by ops
+$ ndn_tool explain 061f07030801411511cf0fd00164670770656e64696e6784010016031b01001700
+data /A
+freshness 0
+content cf0fd00164670770656e64696e67840100
+signature 0 -
+status 100 pending
+count 0
+$ ndn_tool explain 062c0703080141151e651c66030000016703610a626810070208016b008408ffffffffffffffff16031b01001700
+data /A
+freshness 0
+content 651c66030000016703610a626810070208016b008408ffffffffffffffff
+signature 0 -
+status bad 000001 610a62
+name bad 0801
+strategy bad -
+count 18446744073709551615
+$ ndn_tool explain 06150703080141150765036601c8650016031b01001700
+data /A
+freshness 0
+content 65036601c86500
+signature 0 -
+$ ndn_tool explain 058a073f08047265706f0806696e73657274080dc90b070308014121000c02ea6002208ea65a0b9e0f883fb8d45591033d76776a6db058cac17b4796f0f1de83ed54410a040102030424002c1d1b01041c0f070d08036f707308034b45590801312804000f42452a01072e204f938c4ba225a55732157fbcee8d5358a96cf2ab3b11f024fa1f0db4866967d2
+interest /repo/insert/%C9%0B%07%03%08%01A%21%00%0C%02%EA%60/params-sha256=8ea65a0b9e0f883fb8d45591033d76776a6db058cac17b4796f0f1de83ed5441
+nonce 01020304
+lifetime 4000
+parameters -
+signature 4 4f938c4ba225a55732157fbcee8d5358a96cf2ab3b11f024fa1f0db4866967d2
+key-locator /ops/KEY/1
+time 1000005
+seq 7
+command /repo/insert
+name /A
+can-be-prefix
+lifetime 60000
+$ ndn_tool explain 05050703080141
+NoNonce
+status 1
+";
+
+/// Packets in words.
+#[test]
+fn explained_packets(rt: HostRuntime) {
+    check_session(&rt, "", EXPLAINED_PACKETS);
+}
+
 const REFUSALS_WITH_KEYS: &str = "
 $ ndn_tool data /A --keys F --key /ops/KEY/2
 key not found
@@ -505,9 +637,11 @@ ndn_tool interest --help => |  $ ndn_tool interest /A --nonce 01020304|  050b070
 ndn_tool data -h => |  $ ndn_tool data /A --content 78|  062f070308014115017816031b01001720e4f0b5aed03446e702356a360c7194c208b8b6a28ff30de430f1baa08ba29266|
 ndn_tool tag --help => 5bdcc146bf60754e6a042426089575c75a003f089d2739839dec58b964ec3843|
 ndn_tool show --help => |  signature 0 -|
+ndn_tool explain --help => |  key-locator /ops/KEY/1
 ndn_tool command --help => |      --nonce 01020304 --time 1000000 --keys ops.keys --key /ops/KEY/1|
 ndn_tool route --help => |  $ ndn_tool route remove /A --face 2
 ndn_tool strategy --help => |  $ ndn_tool strategy set /A multicast
+ndn_tool repo --help => |  $ ndn_tool repo insert /repo /A
 ndn_tool cache --help => |  $ ndn_tool cache erase /A --count 10
 ";
 

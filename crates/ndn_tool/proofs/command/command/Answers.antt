@@ -17,5 +17,7 @@ returns c =
     let route = added_below _ _ c.in_ok-subcommand-4.field-0 _ _ whole c.in_ok-route_command.ensures c.in_ok-subcommand-4.ensures in
     let strategy = added_below _ _ c.in_ok-subcommand-5.field-0 _ _ route c.in_ok-strategy_command.ensures c.in_ok-subcommand-5.ensures in
     let cache = added_below _ _ c.in_ok-subcommand-6.field-0 _ _ strategy c.in_ok-cache_command.ensures c.in_ok-subcommand-6.ensures in
-    let octets = added_below _ _ c.in_ok-subcommand-7.field-0 _ _ cache c.in_ok-tag_command.ensures c.in_ok-subcommand-7.ensures in
-    IfOk-weaker c.subcommand-8.result _ _ (λ command adds. added_below _ _ command _ _ octets c.in_ok-show_command.ensures adds) c.subcommand-8.ensures
+    let repository = added_below _ _ c.in_ok-subcommand-7.field-0 _ _ cache c.in_ok-repository_command.ensures c.in_ok-subcommand-7.ensures in
+    let octets = added_below _ _ c.in_ok-subcommand-8.field-0 _ _ repository c.in_ok-tag_command.ensures c.in_ok-subcommand-8.ensures in
+    let shown = added_below _ _ c.in_ok-subcommand-9.field-0 _ _ octets c.in_ok-show_command.ensures c.in_ok-subcommand-9.ensures in
+    IfOk-weaker c.subcommand-10.result _ _ (λ command adds. added_below _ _ command _ _ shown c.in_ok-explain_command.ensures adds) c.subcommand-10.ensures

@@ -1,0 +1,97 @@
+//! What a packet says to whoever looks for a fault, as lines of text.
+
+ghost use Rattle.std.specs.Prelude.{◌≡◌, ◌++◌, OnOk, option_map, codes};
+ghost use Rattle.std.specs.Fmt.{decimal};
+ghost use Rattle.ndn_packets.specs.Packet.{plain_signature, plain_locator};
+ghost use Rattle.ndn_packets.specs.View.{plain_frame};
+ghost use Rattle.ndn_tool.specs.Show.{optional_line};
+ghost use Rattle.ndn_tool.specs.Explain.{locator_text, info_lines, signer_lines, signature_of, meaning, explanation};
+
+use crate::meaning::{put_command, put_reply};
+use crate::show::{put_frame, put_name, put_number, put_value};
+use ndn_packets::{Frame, Locator, Signature};
+use ndn_tlv::Memory;
+use std::alloc::Global;
+
+/// Appends the lines of `show`, those of the SignatureInfo, and those of a command or a reply. After `Memory` some of them may have
+/// been appended.
+pub fn put_explanation(alloc: Global, text: &mut Vec<u8>, frame: &Frame<'_>) -> Result<(), Memory>
+    ensures { OnOk result (text.new.items ≡ text.old.items ++ explanation (plain_frame frame.now)) }
+{
+    put_frame(alloc, text, frame)?;
+    put_signer(alloc, text, signature_of(frame))?;
+    put_meaning(alloc, text, frame)
+}
+
+/// Appends the lines of the command or of the reply that the packet is.
+fn put_meaning(alloc: Global, text: &mut Vec<u8>, frame: &Frame<'_>) -> Result<(), Memory>
+    ensures { OnOk result (text.new.items ≡ text.old.items ++ meaning (plain_frame frame.now)) }
+{
+    match frame {
+        Frame::Interest(interest) => put_command(alloc, text, interest.name),
+        Frame::Data(data) => match data.content {
+            None => Ok(()),
+            Some(content) => put_reply(alloc, text, content),
+        },
+        Frame::Nack { interest, .. } => put_command(alloc, text, interest.name),
+        Frame::Idle => Ok(()),
+    }
+}
+
+/// Appends the lines of the SignatureInfo of a packet that is signed.
+fn put_signer(
+    alloc: Global,
+    text: &mut Vec<u8>,
+    signature: Option<Signature<'_>>,
+) -> Result<(), Memory>
+    ensures { OnOk result (text.new.items ≡ text.old.items
+        ++ signer_lines (option_map plain_signature signature.entry)) }
+{
+    match signature {
+        None => Ok(()),
+        Some(signature) => put_info(alloc, text, &signature),
+    }
+}
+
+fn signature_of<'a>(frame: &Frame<'a>) -> Option<Signature<'a>>
+    ensures { option_map plain_signature result ≡ signature_of (plain_frame frame.now) }
+{
+    match frame {
+        Frame::Interest(interest) => interest.signature,
+        Frame::Data(data) => Some(data.signature),
+        Frame::Nack { interest, .. } => interest.signature,
+        Frame::Idle => None,
+    }
+}
+
+/// Appends the lines of a SignatureInfo.
+fn put_info(alloc: Global, text: &mut Vec<u8>, signature: &Signature<'_>) -> Result<(), Memory>
+    ensures { OnOk result (text.new.items ≡ text.old.items
+        ++ info_lines (plain_signature signature.now).info) }
+{
+    put_locator(alloc, text, signature.locator)?;
+    put_optional_number(text, "time", signature.time)?;
+    put_optional_number(text, "seq", signature.seq)
+}
+
+fn put_locator(alloc: Global, text: &mut Vec<u8>, locator: Locator<'_>) -> Result<(), Memory>
+    ensures { OnOk result (text.new.items ≡ text.old.items
+        ++ optional_line (codes "key-locator") (locator_text (plain_locator locator.entry))) }
+{
+    match locator {
+        Locator::Missing => Ok(()),
+        Locator::Name(name) => put_name(alloc, text, "key-locator", name),
+        Locator::Digest => put_value(text, "key-locator", b"digest"),
+        Locator::Other => put_value(text, "key-locator", b"other"),
+    }
+}
+
+fn put_optional_number(text: &mut Vec<u8>, label: &str, number: Option<u64>) -> Result<(), Memory>
+    ensures { OnOk result (text.new.items ≡ text.old.items
+        ++ optional_line label.now (option_map decimal number)) }
+{
+    match number {
+        None => Ok(()),
+        Some(number) => put_number(text, label, number),
+    }
+}
