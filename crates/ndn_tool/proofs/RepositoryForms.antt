@@ -1,5 +1,5 @@
 -- A prefix that leaves no room for a verb.
-use Rattle.std.proofs.Common.{◌≡◌, ◌≢◌, ◌⊎◌, ◌≤◌, ℕ, List, [], ◌∷◌, ◌++◌, length, Bool, true, false, refl, Option, Some, Result, Ok, Err, sym, ap, subst, ◌∙◌, arith, inl, inr, codes}
+use Rattle.std.proofs.Common.{◌≡◌, ◌≢◌, ◌⊎◌, ◌≤◌, ℕ, List, [], ◌∷◌, ◌++◌, length, Bool, true, false, refl, Option, Some, Ok, Err, sym, ap, subst, ◌∙◌, arith, inl, inr, codes}
 use Rattle.std.specs.Prelude.{nat_lt, if◌then◌else◌}
 use Rattle.std.proofs.lemmas.List.{length-append}
 use Rattle.clap.specs.Walk.{Row}

@@ -1,12 +1,14 @@
 -- What a packet says to whoever looks for a fault, as lines of text: the lines of `show`, what its
--- SignatureInfo holds (NDN Packet Format 0.3, "Signature"), and the command or the reply that it is.
+-- SignatureInfo holds (NDN Packet Format 0.3, "Signature"), and the command, the reply or the
+-- entries of a list that it holds.
 use Rattle.std.specs.Prelude.{ℕ, List, [], ◌++◌, codes, Option, None, Some}
 use Rattle.std.specs.Option.{option_map}
 use Rattle.std.specs.Fmt.{decimal}
 use Rattle.ndn_names.specs.Uri.{uri_of}
 use Rattle.ndn_packets.specs.Packet.{PlainLocator, Missing, KeyName, Digest, Other, PlainSignature, PlainSignatureInfo, PlainFrame, AnInterest, AData, ANack, Idle}
-use Rattle.ndn_tool.specs.Show.{named_line, optional_line, frame_lines}
+use Rattle.ndn_tool.specs.Show.{optional_line, frame_lines}
 use Rattle.ndn_tool.specs.Meaning.{command_lines, reply_lines}
+use Rattle.ndn_tool.specs.Dataset.{dataset_lines}
 
 -- a URI, or which other kind of KeyLocator it is
 abbrev pub locator_text : PlainLocator → Option (List ℕ)
@@ -34,7 +36,7 @@ signature_of Idle = None
 
 abbrev pub content_lines : Option (List ℕ) → List ℕ
 content_lines None = []
-content_lines (Some content) = reply_lines content
+content_lines (Some content) = reply_lines content ++ dataset_lines content
 
 abbrev pub meaning : PlainFrame → List ℕ
 meaning (AnInterest whole i) = command_lines i.name

@@ -11,6 +11,7 @@ pub mod Command
 pub mod Show
 pub mod Fields
 pub mod Meaning
+pub mod Dataset
 pub mod Explain
 pub mod Parameters
 pub mod Answer

@@ -72,7 +72,8 @@ or_else (Some x) other = Some x
 -- the fields of parameters, which are one element
 abbrev pub parameters_of : List ℕ → Option (List ℕ)
 parameters_of value =
-    or_else (single PARAMETERS (elements_of value)) (single REPOSITORY_PARAMETERS (elements_of value))
+    or_else (single PARAMETERS (elements_of value))
+    (single REPOSITORY_PARAMETERS (elements_of value))
 
 abbrev pub has_kind : ℕ → Option Field → Bool
 has_kind kind None = false

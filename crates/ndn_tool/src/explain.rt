@@ -1,12 +1,13 @@
 //! What a packet says to whoever looks for a fault, as lines of text.
 
-ghost use Rattle.std.specs.Prelude.{◌≡◌, ◌++◌, OnOk, option_map, codes};
+ghost use Rattle.std.specs.Prelude.{◌≡◌, ◌++◌, OnOk, Some, option_map, codes};
 ghost use Rattle.std.specs.Fmt.{decimal};
 ghost use Rattle.ndn_packets.specs.Packet.{plain_signature, plain_locator};
 ghost use Rattle.ndn_packets.specs.View.{plain_frame};
 ghost use Rattle.ndn_tool.specs.Show.{optional_line};
-ghost use Rattle.ndn_tool.specs.Explain.{locator_text, info_lines, signer_lines, signature_of, meaning, explanation};
+ghost use Rattle.ndn_tool.specs.Explain.{locator_text, info_lines, signer_lines, signature_of, content_lines, meaning, explanation};
 
+use crate::dataset::put_entries;
 use crate::meaning::{put_command, put_reply};
 use crate::show::{put_frame, put_name, put_number, put_value};
 use ndn_packets::{Frame, Locator, Signature};
@@ -31,11 +32,20 @@ fn put_meaning(alloc: Global, text: &mut Vec<u8>, frame: &Frame<'_>) -> Result<(
         Frame::Interest(interest) => put_command(alloc, text, interest.name),
         Frame::Data(data) => match data.content {
             None => Ok(()),
-            Some(content) => put_reply(alloc, text, content),
+            Some(content) => put_content(alloc, text, content),
         },
         Frame::Nack { interest, .. } => put_command(alloc, text, interest.name),
         Frame::Idle => Ok(()),
     }
+}
+
+/// Appends the lines of a reply, or of the entries of a list.
+fn put_content(alloc: Global, text: &mut Vec<u8>, content: &[u8]) -> Result<(), Memory>
+    ensures { OnOk result (text.new.items
+        ≡ text.old.items ++ content_lines (Some content.now)) }
+{
+    put_reply(alloc, text, content)?;
+    put_entries(alloc, text, content)
 }
 
 /// Appends the lines of the SignatureInfo of a packet that is signed.

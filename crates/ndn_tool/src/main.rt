@@ -6,6 +6,7 @@ ghost use Rattle.ndn_tool.specs.KeyFile.{AreKeys, IsFileFault};
 
 mod answer;
 mod command;
+mod dataset;
 mod explain;
 mod fault;
 mod fields;

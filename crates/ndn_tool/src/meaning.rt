@@ -217,7 +217,7 @@ fn put_field(
 }
 
 /// Appends the text of a value of this form.
-fn put_form(alloc: Global, text: &mut Vec<u8>, form: Form, value: &[u8]) -> Result<(), Memory>
+pub fn put_form(alloc: Global, text: &mut Vec<u8>, form: Form, value: &[u8]) -> Result<(), Memory>
     ensures { OnOk result (text.new.items ≡ text.old.items ++ form_text form value.now) }
 {
     match form {
