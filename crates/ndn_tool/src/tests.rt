@@ -715,7 +715,7 @@ fn key_files(rt: HostRuntime) {
 }
 
 /// The status that reading the key file of a job ends with: 0 for no keys.
-fn key_file_status<R: AllocGlobal + Files>(rt: &R, job: &Job) -> u8 {
+fn key_file_status(rt: &HostRuntime, job: &Job) -> u8 {
     match book_of(rt, job) {
         Ok(book) => u8::from(book.len() > 0),
         Err(fault) => fault.exit_status(),
@@ -723,12 +723,7 @@ fn key_file_status<R: AllocGlobal + Files>(rt: &R, job: &Job) -> u8 {
 }
 
 /// Whether a command names this key file, and reading it ends with this status.
-fn has_key_file<R: AllocGlobal + Files>(
-    rt: &R,
-    command: &str,
-    path: Option<&str>,
-    status: u8,
-) -> bool {
+fn has_key_file(rt: &HostRuntime, command: &str, path: Option<&str>, status: u8) -> bool {
     job_of(rt.alloc(), command).is_ok_and(|job| job.key_file() == path
         && key_file_status(rt, &job) == status)
 }
