@@ -20,16 +20,16 @@ use Rattle.replay_guard.specs.Guard.{with_recorded}
 use Rattle.replay_guard.specs.Freshness.{Recorded}
 use Rattle.strategies.specs.declared.strategy.Choice.{Choice}
 use Rattle.strategies.specs.declared.strategy.Choice.TheVariants as choices
+use Rattle.mgmt_core.specs.Commands.{text_of}
 use Rattle.mgmt_core.specs.Reading.{PlainCommand, command_at}
 use Rattle.mgmt_core.specs.Tables.{choices_after, if_done, routes_after, status_of}
 use Rattle.mgmt_core.specs.Writing.{body_after, response}
-use Rattle.mgmt_core.specs.declared.types.TheConstants.{BAD_PARAMETERS, FACE_NOT_OPEN, OK, PREFIX_TOO_LONG, TABLE_FULL, UNKNOWN_COMMAND, UNKNOWN_STRATEGY}
 use Rattle.repo_core.specs.declared.reply.RepoReply.{RepoReply}
 use Rattle.repo_core.specs.declared.reply.Want.{Want}
-use Rattle.repo_core.specs.Commands.{text_of}
-use Rattle.repo_core.specs.Reading.{command_at as repository_command_at}
+use Rattle.repo_core.specs.Commands.{repo_text_of}
+use Rattle.repo_core.specs.Reading.{repo_command_at}
 use Rattle.repo_core.specs.Repo.{after_command, reply_to}
-use Rattle.repo_core.specs.Writing.{response as repository_response}
+use Rattle.repo_core.specs.Writing.{repo_response}
 use Rattle.node_core.specs.Event.{Send}
 use Rattle.node_core.specs.Step.{to_each}
 use Rattle.node_core.specs.Policy.{Policy, open_faces, with_next_version}
@@ -44,18 +44,6 @@ NOT_AUTHORIZED = 403
 
 -- ---- commands on routes, strategies and the cache
 
--- the texts of the statuses
-abbrev pub status_texts : List (ℕ × List ℕ)
-status_texts =
-    (OK, codes "OK") ∷ (BAD_PARAMETERS, codes "bad parameters")
-    ∷ (UNKNOWN_STRATEGY, codes "unknown strategy") ∷ (FACE_NOT_OPEN, codes "face not open")
-    ∷ (PREFIX_TOO_LONG, codes "prefix too long") ∷ (UNKNOWN_COMMAND, codes "unknown command")
-    ∷ (TABLE_FULL, codes "table full") ∷ []
-
-abbrev pub status_text : ℕ → List ℕ
-status_text status =
-    unwrap_or (option_map (λ row. row.1) (find (λ row. status == row.0) status_texts)) []
-
 -- the status of a command that came from a face
 abbrev pub tables_status : Policy → ℕ → Result PlainCommand ℕ → ℕ
 tables_status p face (Err status) = status
@@ -68,7 +56,7 @@ tables_body p face (Ok c) = body_after c face (tables_status p face (Ok c))
 abbrev pub tables_reply : Policy → ℕ → Result PlainCommand ℕ → List ℕ
 tables_reply p face c =
     let status = tables_status p face c in
-    response status (status_text status) (tables_body p face c)
+    response status (unwrap_or (text_of status) []) (tables_body p face c)
 
 -- the routes and strategies after the command, and the next version of the lists
 abbrev pub after_tables : Policy → ℕ → Result PlainCommand ℕ → Policy
@@ -83,10 +71,10 @@ after_tables p face (Ok c) =
 -- ---- commands to the repository
 
 abbrev pub repository_reply : Policy → PlainInterest → RepoReply
-repository_reply p i = reply_to p.held (repository_command_at p.repo i.name)
+repository_reply p i = reply_to p.held (repo_command_at p.repo i.name)
 
 abbrev pub repository_content : RepoReply → List ℕ
-repository_content r = repository_response r.status (unwrap_or (text_of r.status) []) r.count
+repository_content r = repo_response r.status (unwrap_or (repo_text_of r.status) []) r.count
 
 abbrev pub after_repository : Policy → PlainInterest → Policy
 after_repository p i = record p { held = after_command p.repo i.name p.now p.held }
@@ -144,7 +132,7 @@ abbrev pub refused_content : Request → List ℕ → List ℕ
 refused_content (Unheard reason) text = []
 refused_content (ForList asked) text = []
 refused_content ForTables text = response NOT_AUTHORIZED text []
-refused_content ForRepository text = repository_response NOT_AUTHORIZED text 0
+refused_content ForRepository text = repo_response NOT_AUTHORIZED text 0
 refused_content ForData text = []
 
 -- why a command is denied, and by which rule

@@ -1,20 +1,18 @@
 -- The lists of routes and strategies as Data (NFD Management, "Status Dataset").
-use Rattle.std.specs.Prelude.{ℕ, List, [], ◌∷◌, ◌++◌, Option, None, Some, flat_map, Bool, true, ◌==◌, if◌then◌else◌}
-use Rattle.std.specs.FinMap as map
+use Rattle.std.specs.Prelude.{ℕ, List, [], ◌∷◌, ◌++◌, Option, None, Some, Bool, true, ◌==◌, if◌then◌else◌}
 use Rattle.ndn_tlv.specs.Element.{Field}
 use Rattle.ndn_tlv.specs.Number.{shortest_nni}
 use Rattle.ndn_names.specs.declared.component_type.TheConstants.{SEGMENT, VERSION}
 use Rattle.ndn_packets.specs.declared.signature.Sign.TheVariants as sign
 use Rattle.ndn_packets.specs.Writing.{meta_fields, meta_of, signed_data}
-use Rattle.pit_fib.specs.Fib.{listed}
-use Rattle.mgmt_core.specs.Writing.{choice_text, route_text, segment_at}
+use Rattle.mgmt_core.specs.Writing.{fib_text, segment_at, strategy_text}
 use Rattle.node_core.specs.Policy.{Policy}
 use Rattle.node_core.specs.Request.{ListKind, RouteList, StrategyList, ListAsked, list_name}
 use Rattle.node_core.specs.Verdict.{Answer, NoSegment, dropped, passed}
 
 abbrev pub list_text : Policy → ListKind → List ℕ
-list_text p RouteList = flat_map route_text (listed p.routes)
-list_text p StrategyList = flat_map choice_text (map.entries p.choices)
+list_text p RouteList = fib_text p.routes
+list_text p StrategyList = strategy_text p.choices
 
 -- the name of a segment: the list, its version and the segment's number
 abbrev pub segment_name : ListKind → ℕ → ℕ → List Field

@@ -9,7 +9,7 @@ use Rattle.replay_guard.specs.Guard.{Table}
 use Rattle.pit_fib.specs.Fib.{Routes}
 use Rattle.pit_fib.specs.StrategyTable.{Choices, only_best_route}
 use Rattle.repo_core.specs.Repo.{Held}
-use Rattle.repo_core.specs.Wants.{after_expiry as unexpired_wants}
+use Rattle.repo_core.specs.Wants.{wants_after}
 use Rattle.node_core.specs.declared.event.Scope.{Scope}
 use Rattle.node_core.specs.declared.event.Scope.TheVariants.{Local, Far}
 use Rattle.node_core.specs.State.{FaceEntry, find_scope, numbers}
@@ -52,7 +52,7 @@ first_policy rules keys repo = record {
 abbrev pub at_moment : Policy → ℕ → Policy
 at_moment p moment =
     let now = max p.now moment in
-    record p { now = now; held = record p.held { wants = unexpired_wants now p.held.wants } }
+    record p { now = now; held = record p.held { wants = wants_after now p.held.wants } }
 
 -- the lists have another version
 abbrev pub with_next_version : Policy → Policy
