@@ -22,15 +22,15 @@ use Rattle.repo_core.specs.Objects.{served}
 use Rattle.node_core.specs.Event.{PlainEvent, Packet, FaceUp, FaceDown, Tick}
 use Rattle.node_core.specs.State.{is_open}
 use Rattle.node_core.specs.Step.{moment, to_each}
-use Rattle.node_core.specs.Verdict.{Answer, Verdict, Passed, Allowed, DataAllowed, Denied, NoRule, Dropped, Either, BadFace, FaceOpen, FacesFull, Loop, NoFace, NoSegment, PitFull, Scope as OutOfScope, dropped, passed}
+use Rattle.node_core.specs.Verdict.{Answer, Verdict, Passed, Allowed, DataAllowed, Denied, NoRule, Dropped, WhereTrue, BadFace, FaceOpen, FacesFull, Loop, NoFace, NoSegment, PitFull, Scope as OutOfScope, dropped, passed}
 use Rattle.node_core.specs.Policy.{Policy}
-use Rattle.node_core.specs.Request.{ListAsked, Request, Unheard, ForList, ForTables, ForRepository, ForData, is_command, is_out_of_scope, request_of}
+use Rattle.node_core.specs.Request.{ListAsked, Request, Refused, ForList, ForTables, ForRepository, ForData, is_command, is_out_of_scope, request_of}
 use Rattle.node_core.specs.NextHops.{ask_from, choice_for, sent_on}
 use Rattle.node_core.specs.Said.{IsSaid}
 use Rattle.node_core.specs.Commands.{command_answer}
-use Rattle.node_core.specs.Datasets.{is_present, list_answer, list_text, segment_answer, segment_name}
+use Rattle.node_core.specs.Datasets.{is_present, list_answer, dataset_text, segment_answer, segment_name}
 use Rattle.node_core.specs.Replies.{Seen, Replies, RepliesBySaid, RepliesForData, RepliesToData, RepliesToPacket, RepliesToRequest, by_cache, forwarded, nack_answer, opening_answer, unserved}
-use Rattle.node_core.specs.Effects.{IsEffect, after_said, decided_packet, heard_packet}
+use Rattle.node_core.specs.Effects.{IsEffect, after_said, decided_packet, packet_to_decide}
 use Rattle.node_core.specs.Causes.{causes_of, closing_causes, packet_causes}
 use Rattle.node_core.specs.Runs.{Brings, BringsPacket, is_denied}
 use Rattle.node_core.proofs.OneEffect.{one_said}
@@ -38,13 +38,13 @@ use Rattle.node_core.proofs.RunSteps.{seen_with}
 
 -- ---- which answers deny
 
-abbrev Mild : Answer → Type 0
+abbrev pub Mild : Answer → Type 0
 Mild answer = is_denied answer.verdict ≡ false
 
 pub mild_is : (answer other : Answer) → answer ≡ other → Mild other → Mild answer
 mild_is answer other e m = ap (λ (a : Answer). is_denied a.verdict) e ∙ m
 
-mild_list : (p : Policy) (face : ℕ) (asked : ListAsked) → Mild (list_answer p face asked)
+pub mild_list : (p : Policy) (face : ℕ) (asked : ListAsked) → Mild (list_answer p face asked)
 mild_list p face asked = by_version (is_present p asked.version)
   where
     by_part : (part : Option (List ℕ × ℕ)) → Mild (segment_answer face (segment_name asked.kind p.table_number asked.segment) part)
@@ -52,8 +52,8 @@ mild_list p face asked = by_version (is_present p asked.version)
     by_part (Some part) = refl
 
     by_version : (b : Bool)
-        → Mild (if b then segment_answer face (segment_name asked.kind p.table_number asked.segment) (segment_at (list_text p asked.kind) asked.segment) else dropped NoSegment)
-    by_version true = by_part (segment_at (list_text p asked.kind) asked.segment)
+        → Mild (if b then segment_answer face (segment_name asked.kind p.table_number asked.segment) (segment_at (dataset_text p asked.kind) asked.segment) else dropped NoSegment)
+    by_version true = by_part (segment_at (dataset_text p asked.kind) asked.segment)
     by_version false = refl
 
 mild_forwarded : (seen : Seen) (key : PlainKey) (whole : List ℕ) (i : PlainInterest) (face : ℕ) (choice : Choice) → Mild (forwarded seen key whole i face choice)
@@ -73,17 +73,30 @@ mild_cache : (seen : Seen) (face : ℕ) (whole : List ℕ) (i : PlainInterest) (
 mild_cache seen face whole i (Some octets) = refl
 mild_cache seen face whole i None = mild_unserved seen face whole i (served i.name i.can_be_prefix seen.policy.held.objects)
 
-mild_data : (seen : Seen) (face : ℕ) (whole : List ℕ) (i : PlainInterest) (answer : Answer) → RepliesForData seen face whole i answer → Mild answer
+pub mild_data : (seen : Seen) (face : ℕ) (whole : List ℕ) (i : PlainInterest) (answer : Answer) → RepliesForData seen face whole i answer → Mild answer
 mild_data seen face whole i answer h = by_loop (loops (seen.records (key_of i)) face i.nonce) h
   where
-    by_loop : (b : Bool) → Either b (answer ≡ record { verdict = Dropped Loop; sends = (face, nack_text DUPLICATE whole) ∷ [] }) ((given : Option (List ℕ)) × seen.MayGive (key_of i) given × (answer ≡ by_cache seen face whole i given)) → Mild answer
+    by_loop : (b : Bool) → WhereTrue b (answer ≡ record { verdict = Dropped Loop; sends = (face, nack_text DUPLICATE whole) ∷ [] }) ((given : Option (List ℕ)) × seen.MayGive (key_of i) given × (answer ≡ by_cache seen face whole i given)) → Mild answer
     by_loop true e = mild_is answer _ e refl
     by_loop false h = mild_is answer _ h.2 (mild_cache seen face whole i h.0)
 
-mild_nack : (asks : Asks) (n : Nacked) → Mild (nack_answer asks n)
+pub mild_nack : (asks : Asks) (n : Nacked) → Mild (nack_answer asks n)
 mild_nack asks nacks.NoPending = refl
 mild_nack asks nacks.Waiting = refl
 mild_nack asks (nacks.All reason) = refl
+
+pub mild_opening : (p : Policy) (face : ℕ) → Mild (opening_answer p face)
+mild_opening p face = by_zero (face == 0) (is_open face p.faces) (nat_le 64 (length p.faces))
+  where
+    by_zero : (a b c : Bool) → Mild (if a then dropped BadFace else (if b then dropped FaceOpen else (if c then dropped FacesFull else passed [])))
+    by_zero true b c = refl
+    by_zero false true c = refl
+    by_zero false false true = refl
+    by_zero false false false = refl
+
+pub mild_closing : (b : Bool) → Mild (if b then passed [] else dropped NoFace)
+mild_closing true = refl
+mild_closing false = refl
 
 -- ---- what is denied has no effect
 
@@ -127,7 +140,7 @@ module _ (p : Policy) (records : PlainKey → Records) (full : Bool) (G : PlainK
 
   request_idles : (face : ℕ) (whole : List ℕ) (i : PlainInterest) (r : Request) → RepliesToRequest seen face whole i answer r
       → Idles face (if is_command r then Some (AnInterest whole i) else None)
-  request_idles face whole i (Unheard reason) h = none_idles face
+  request_idles face whole i (Refused reason) h = none_idles face
   request_idles face whole i (ForList asked) h = none_idles face
   request_idles face whole i ForTables h = some_idles face (AnInterest whole i) h.0 h.1 (command_idle face whole i h.0 h.2)
   request_idles face whole i ForRepository h = some_idles face (AnInterest whole i) h.0 h.1 (command_idle face whole i h.0 h.2)
@@ -136,12 +149,12 @@ module _ (p : Policy) (records : PlainKey → Records) (full : Bool) (G : PlainK
   data_idles : (face : ℕ) (whole : List ℕ) (d : PlainData) → RepliesToData seen face whole d answer → Idles face (if not (is_out_of_scope p face d.name) then Some (AData whole d) else None)
   data_idles face whole d h = by_scope (is_out_of_scope p face d.name) h
     where
-      by_scope : (b : Bool) → Either b (answer ≡ dropped OutOfScope) ((said : Decision) × IsSaid p (AData whole d) said × RepliesBySaid seen face whole d answer said)
+      by_scope : (b : Bool) → WhereTrue b (answer ≡ dropped OutOfScope) ((said : Decision) × IsSaid p (AData whole d) said × RepliesBySaid seen face whole d answer said)
           → Idles face (if not b then Some (AData whole d) else None)
       by_scope true h = none_idles face
       by_scope false h = some_idles face (AData whole d) h.0 h.1 (data_idle face whole d h.0 h.2)
 
-  packet_idles : (face : ℕ) (read : Result PlainFrame PacketFault) → RepliesToPacket seen face read answer → Idles face (heard_packet p face read)
+  packet_idles : (face : ℕ) (read : Result PlainFrame PacketFault) → RepliesToPacket seen face read answer → Idles face (packet_to_decide p face read)
   packet_idles face (Err fault) h = none_idles face
   packet_idles face (Ok (AnInterest whole i)) h = request_idles face whole i (request_of p face i) h
   packet_idles face (Ok (AData whole d)) h = data_idles face whole d h
@@ -152,27 +165,14 @@ module _ (p : Policy) (records : PlainKey → Records) (full : Bool) (G : PlainK
   by_packet face now octets None idles new h = h
   by_packet face now octets (Some packet) idles new h = h.2 ∙ idles packet h.0 refl h.1
 
-  mild_opening : (face : ℕ) → Mild (opening_answer p face)
-  mild_opening face = by_zero (face == 0) (is_open face p.faces) (nat_le 64 (length p.faces))
-    where
-      by_zero : (a b c : Bool) → Mild (if a then dropped BadFace else (if b then dropped FaceOpen else (if c then dropped FacesFull else passed [])))
-      by_zero true b c = refl
-      by_zero false true c = refl
-      by_zero false false true = refl
-      by_zero false false false = refl
-
-  mild_closing : (b : Bool) → Mild (if b then passed [] else dropped NoFace)
-  mild_closing true = refl
-  mild_closing false = refl
-
   pub denied_effect : (event : PlainEvent) → Replies seen event answer → (new : Policy) → IsEffect p event new (decided_packet p event) → new ≡ p
   denied_effect (Packet face now octets) h new e = by_open (is_open face p.faces) h e
     where
-      by_open : (b : Bool) → Either b (RepliesToPacket seen face (frame_at octets) answer) (answer ≡ dropped NoFace)
-          → IsEffect p (Packet face now octets) new (if b then heard_packet p face (frame_at octets) else None) → new ≡ p
-      by_open true h e = by_packet face now octets (heard_packet p face (frame_at octets)) (packet_idles face (frame_at octets) h) new e
+      by_open : (b : Bool) → WhereTrue b (RepliesToPacket seen face (frame_at octets) answer) (answer ≡ dropped NoFace)
+          → IsEffect p (Packet face now octets) new (if b then packet_to_decide p face (frame_at octets) else None) → new ≡ p
+      by_open true h e = by_packet face now octets (packet_to_decide p face (frame_at octets)) (packet_idles face (frame_at octets) h) new e
       by_open false h e = never (mild_is answer (dropped NoFace) h refl)
-  denied_effect (FaceUp face scope now) h new e = never (mild_is answer (opening_answer p face) h (mild_opening face))
+  denied_effect (FaceUp face scope now) h new e = never (mild_is answer (opening_answer p face) h (mild_opening p face))
   denied_effect (FaceDown face now) h new e =
       never (mild_is answer (if is_open face p.faces then passed [] else dropped NoFace) h (mild_closing (is_open face p.faces)))
   denied_effect (Tick now) h new e = never (mild_is answer (passed []) h refl)

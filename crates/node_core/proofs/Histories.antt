@@ -4,6 +4,7 @@ use Rattle.std.specs.Prelude.{Option, nat_le}
 use Rattle.std.specs.FinMap as map
 use Rattle.hmac_keys.specs.KeyFile.{AreApart}
 use Rattle.ndn_packets.specs.Key.{PlainKey}
+use Rattle.pit_fib.specs.declared.pit.TheConstants.{MAX_PENDING}
 use Rattle.pit_fib.specs.Records.{Records, records_at}
 use Rattle.ndn_packets.specs.FrameReading.{frame_at}
 use Rattle.ndn_packets.specs.Packet.{PlainInterest, PlainData, PlainFrame, AnInterest, AData, ANack, Idle}
@@ -13,14 +14,14 @@ use Rattle.info_rules.specs.declared.decision.Decision.TheVariants as decided
 use Rattle.node_core.specs.Event.{PlainEvent, Packet, FaceUp, FaceDown, Tick}
 use Rattle.node_core.specs.State.{is_open}
 use Rattle.node_core.specs.Step.{moment}
-use Rattle.node_core.specs.Verdict.{Answer, Either, NoFace, Scope as OutOfScope, dropped}
+use Rattle.node_core.specs.Verdict.{Answer, WhereTrue, NoFace, Scope as OutOfScope, dropped}
 use Rattle.node_core.specs.Policy.{Policy, at_moment}
-use Rattle.node_core.specs.Request.{Request, Unheard, ForList, ForTables, ForRepository, ForData, is_out_of_scope, request_of}
+use Rattle.node_core.specs.Request.{Request, Refused, ForList, ForTables, ForRepository, ForData, is_out_of_scope, request_of}
 use Rattle.node_core.specs.Said.{IsSaid}
 use Rattle.node_core.specs.Commands.{command_answer}
 use Rattle.node_core.specs.Replies.{Replies, RepliesBySaid, RepliesToCommand, RepliesToData, RepliesToPacket, RepliesToRequest}
 use Rattle.node_core.specs.Effects.{IsAfter}
-use Rattle.node_core.specs.Runs.{Run, Start, Then, BringsData, BringsRequest, HaveOneHistory, IsDataPacket, IsPolicyOf, IsRequestPacket, MayGive, MayReply, is_request, seen_after}
+use Rattle.node_core.specs.Runs.{Run, Start, Then, BringsData, BringsRequest, HaveOneHistory, IsDataPacket, IsPolicyOf, IsRequestPacket, MayCache, MayReply, is_request, seen_after}
 use Rattle.node_core.proofs.Moments.{policy_keys}
 use Rattle.node_core.proofs.RunSteps.{seen_with}
 use Rattle.node_core.proofs.OneEffect.{one_effect, one_said}
@@ -46,7 +47,7 @@ module _ (p : Policy) (r s : PlainKey → Records) (f g : Bool) (G H : PlainKey 
 
   one_request : (face : ℕ) (whole : List ℕ) (i : PlainInterest) (q : Request) → is_request q ≡ true → RepliesToRequest (seen_with p r f G) face whole i a q
       → RepliesToRequest (seen_with p s g H) face whole i b q → a ≡ b
-  one_request face whole i (Unheard reason) is h k = cc is
+  one_request face whole i (Refused reason) is h k = cc is
   one_request face whole i (ForList asked) is h k = h ∙ sym k
   one_request face whole i ForTables is h k = one_command face whole i h k
   one_request face whole i ForRepository is h k = one_command face whole i h k
@@ -63,8 +64,8 @@ module _ (p : Policy) (r s : PlainKey → Records) (f g : Bool) (G H : PlainKey 
   pub one_answer : (event : PlainEvent) → BringsRequest p event → Replies (seen_with p r f G) event a → Replies (seen_with p s g H) event b → a ≡ b
   one_answer (Packet face now octets) is h k = by_open (is_open face p.faces) h k
     where
-      by_open : (o : Bool) → Either o (RepliesToPacket (seen_with p r f G) face (frame_at octets) a) (a ≡ dropped NoFace)
-          → Either o (RepliesToPacket (seen_with p s g H) face (frame_at octets) b) (b ≡ dropped NoFace) → a ≡ b
+      by_open : (o : Bool) → WhereTrue o (RepliesToPacket (seen_with p r f G) face (frame_at octets) a) (a ≡ dropped NoFace)
+          → WhereTrue o (RepliesToPacket (seen_with p s g H) face (frame_at octets) b) (b ≡ dropped NoFace) → a ≡ b
       by_open true h k = one_to_packet face (frame_at octets) is h k
       by_open false h k = h ∙ sym k
   one_answer (FaceUp face scope now) is h k = absurd is
@@ -81,8 +82,8 @@ module _ (p : Policy) (r s : PlainKey → Records) (f g : Bool) (G H : PlainKey 
       → a.verdict ≡ b.verdict
   one_of_data face whole d h k = by_scope (is_out_of_scope p face d.name) h k
     where
-      by_scope : (o : Bool) → Either o (a ≡ dropped OutOfScope) ((said : Decision) × IsSaid p (AData whole d) said × RepliesBySaid (seen_with p r f G) face whole d a said)
-          → Either o (b ≡ dropped OutOfScope) ((said : Decision) × IsSaid p (AData whole d) said × RepliesBySaid (seen_with p s g H) face whole d b said) → a.verdict ≡ b.verdict
+      by_scope : (o : Bool) → WhereTrue o (a ≡ dropped OutOfScope) ((said : Decision) × IsSaid p (AData whole d) said × RepliesBySaid (seen_with p r f G) face whole d a said)
+          → WhereTrue o (b ≡ dropped OutOfScope) ((said : Decision) × IsSaid p (AData whole d) said × RepliesBySaid (seen_with p s g H) face whole d b said) → a.verdict ≡ b.verdict
       by_scope true h k = ap (λ (x : Answer). x.verdict) (h ∙ sym k)
       by_scope false h k =
           by_said face whole d h.0 h.2
@@ -99,8 +100,8 @@ module _ (p : Policy) (r s : PlainKey → Records) (f g : Bool) (G H : PlainKey 
   pub one_verdict : (event : PlainEvent) → BringsData event → Replies (seen_with p r f G) event a → Replies (seen_with p s g H) event b → a.verdict ≡ b.verdict
   one_verdict (Packet face now octets) is h k = by_open (is_open face p.faces) h k
     where
-      by_open : (o : Bool) → Either o (RepliesToPacket (seen_with p r f G) face (frame_at octets) a) (a ≡ dropped NoFace)
-          → Either o (RepliesToPacket (seen_with p s g H) face (frame_at octets) b) (b ≡ dropped NoFace) → a.verdict ≡ b.verdict
+      by_open : (o : Bool) → WhereTrue o (RepliesToPacket (seen_with p r f G) face (frame_at octets) a) (a ≡ dropped NoFace)
+          → WhereTrue o (RepliesToPacket (seen_with p s g H) face (frame_at octets) b) (b ≡ dropped NoFace) → a.verdict ≡ b.verdict
       by_open true h k = one_verdict_of face (frame_at octets) is h k
       by_open false h k = ap (λ (x : Answer). x.verdict) (h ∙ sym k)
   one_verdict (FaceUp face scope now) is h k = absurd is
@@ -124,11 +125,11 @@ module _ (first : Policy) (past other : Run) (event : PlainEvent) (a b : Answer)
       let q = at_moment h.was (moment event) in
       let past_is : HaveOneHistory past past = one_history past in
       let e : p ≡ h.was = one_policy first p h.was past past apart past_is is h.is_policy in
-      one_answer q (records_at h.waiting) (records_at k.waiting) (nat_le 4096 (map.len h.waiting)) (nat_le 4096 (map.len k.waiting)) (MayGive past q.now) (MayGive other q.now) keys_apart a b event
+      one_answer q (records_at h.waiting) (records_at k.waiting) (nat_le MAX_PENDING (map.len h.waiting)) (nat_le MAX_PENDING (map.len k.waiting)) (MayCache past q.now) (MayCache other q.now) keys_apart a b event
       (subst (λ (w : Policy). BringsRequest (at_moment w (moment event)) event) e brings) h.replies other_replies
 
   pub histories_judge : BringsData event → a.verdict ≡ b.verdict
   histories_judge brings =
       let q = at_moment h.was (moment event) in
-      one_verdict q (records_at h.waiting) (records_at k.waiting) (nat_le 4096 (map.len h.waiting)) (nat_le 4096 (map.len k.waiting)) (MayGive past q.now) (MayGive other q.now) keys_apart a b event
+      one_verdict q (records_at h.waiting) (records_at k.waiting) (nat_le MAX_PENDING (map.len h.waiting)) (nat_le MAX_PENDING (map.len k.waiting)) (MayCache past q.now) (MayCache other q.now) keys_apart a b event
       brings h.replies other_replies

@@ -20,3 +20,8 @@ pub mod Histories
 pub mod Denials
 pub mod Ticks
 pub mod Explained
+pub mod Once
+pub mod Stored
+pub mod CachedRuns
+pub mod PastRecords
+pub mod Named

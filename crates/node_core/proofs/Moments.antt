@@ -15,7 +15,7 @@ use Rattle.node_core.specs.Event.{PlainEvent, Packet, FaceUp, FaceDown, Tick}
 use Rattle.node_core.specs.State.{is_open}
 use Rattle.node_core.specs.Step.{moment, with_face, without_entry}
 use Rattle.node_core.specs.Policy.{Policy, at_moment, with_next_version}
-use Rattle.node_core.specs.Request.{Request, Unheard, ForList, ForTables, ForRepository, ForData, request_of}
+use Rattle.node_core.specs.Request.{Request, Refused, ForList, ForTables, ForRepository, ForData, request_of}
 use Rattle.node_core.specs.Said.{recorded_of}
 use Rattle.node_core.specs.Commands.{after_request, after_tables, with_record}
 use Rattle.node_core.specs.Effects.{IsEffect, IsAfter, after_packet, after_said, can_open, decided_packet, face_in, undecided_effect, with_closed, with_open}
@@ -51,7 +51,7 @@ tables_keep p face (Err status) = refl
 tables_keep p face (Ok c) = refl
 
 request_keeps : (p : Policy) (face : ℕ) (i : PlainInterest) (r : Request) → lasting (after_request p face i r) ≡ lasting p
-request_keeps p face i (Unheard reason) = refl
+request_keeps p face i (Refused reason) = refl
 request_keeps p face i (ForList asked) = refl
 request_keeps p face i ForTables = tables_keep p face (command_at i.name)
 request_keeps p face i ForRepository = refl

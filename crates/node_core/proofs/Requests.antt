@@ -17,14 +17,14 @@ use Rattle.mgmt_core.specs.declared.action.Action.{Action}
 use Rattle.mgmt_core.specs.declared.types.TheConstants.{BAD_PARAMETERS, UNKNOWN_COMMAND}
 use Rattle.mgmt_core.specs.Commands.{action_named}
 use Rattle.mgmt_core.specs.Reading.{PlainCommand, ◌>>=◌, action_at, command_at, command_before_digest, generic_at, generic_value, last_is, on_option, or_status, parameters_at, without_last}
-use Rattle.node_core.specs.Verdict.{Drop, HopLimit, Scope}
+use Rattle.node_core.specs.Verdict.{DropReason, HopLimit, Scope}
 use Rattle.node_core.specs.Policy.{Policy}
-use Rattle.node_core.specs.Request.{ListAsked, Request, generic, Unheard, ForList, ForTables, ForRepository, ForData, has_no_hops, heard, is_out_of_scope, list_asked, management, request_of}
+use Rattle.node_core.specs.Request.{ListAsked, Request, generic, Refused, ForList, ForTables, ForRepository, ForData, has_no_hops, named_request, is_out_of_scope, list_asked, management, request_of}
 
 -- ---- each request by its cause
 
 module _ (p : Policy) (face : ℕ) (i : PlainInterest) (P : Request → Type 0)
-    (unheard : (reason : Drop) → P (Unheard reason)) (lists : (asked : ListAsked) → P (ForList asked)) (tables : P ForTables)
+    (unheard : (reason : DropReason) → P (Refused reason)) (lists : (asked : ListAsked) → list_asked i ≡ Some asked → P (ForList asked)) (tables : P ForTables)
     (repository : begins_with management i.name ≡ false → P ForRepository) (for_data : begins_with management i.name ≡ false → P ForData) where
   by_verb : (b : Bool) → begins_with management i.name ≡ false → P (if b then ForRepository else ForData)
   by_verb true e = repository e
@@ -34,20 +34,25 @@ module _ (p : Policy) (face : ℕ) (i : PlainInterest) (P : Request → Type 0)
   by_name true e = tables
   by_name false e = by_verb (is_some (verb_at p.repo i.name)) e
 
-  by_list : (asked : Option ListAsked) → P (heard p i asked)
-  by_list (Some asked) = lists asked
-  by_list None = by_name (begins_with management i.name) refl
+  by_list : (asked : Option ListAsked) → list_asked i ≡ asked → P (named_request p i asked)
+  by_list (Some asked) e = lists asked e
+  by_list None e = by_name (begins_with management i.name) refl
 
-  by_scope : (b : Bool) → P (if b then Unheard Scope else heard p i (list_asked i))
+  by_scope : (b : Bool) → P (if b then Refused Scope else named_request p i (list_asked i))
   by_scope true = unheard Scope
-  by_scope false = by_list (list_asked i)
+  by_scope false = by_list (list_asked i) refl
 
-  by_hops : (b : Bool) → P (if b then Unheard HopLimit else (if is_out_of_scope p face i.name then Unheard Scope else heard p i (list_asked i)))
+  by_hops : (b : Bool) → P (if b then Refused HopLimit else (if is_out_of_scope p face i.name then Refused Scope else named_request p i (list_asked i)))
   by_hops true = unheard HopLimit
   by_hops false = by_scope (is_out_of_scope p face i.name)
 
   pub by_request : P (request_of p face i)
   by_request = by_hops (has_no_hops i.hop_limit)
+
+pub for_list : (p : Policy) (face : ℕ) (i : PlainInterest) (asked : ListAsked) → request_of p face i ≡ ForList asked → list_asked i ≡ Some asked
+for_list p face i asked =
+    by_request p face i (λ r. r ≡ ForList asked → list_asked i ≡ Some asked) (λ reason e. cc e)
+    (λ other is e. let same : other ≡ asked = cc e in is ∙ ap (λ (a : ListAsked). Some a) same) (λ e. cc e) (λ other e. cc e) (λ other e. cc e)
 
 -- ---- names that are commands on the tables begin with /localhost/nfd
 

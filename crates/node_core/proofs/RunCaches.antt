@@ -24,10 +24,10 @@ use Rattle.mgmt_core.specs.Writing.{segment_at}
 use Rattle.node_core.specs.Event.{PlainEvent, Packet, FaceUp, FaceDown, Tick}
 use Rattle.node_core.specs.State.{is_open}
 use Rattle.node_core.specs.Step.{moment}
-use Rattle.node_core.specs.Verdict.{Answer, Drop, NoFace, NoSegment, Verdict, Passed, Allowed, DataAllowed, Denied, NoRule, Dropped, Either, dropped}
+use Rattle.node_core.specs.Verdict.{Answer, DropReason, NoFace, NoSegment, Verdict, Passed, Allowed, DataAllowed, Denied, NoRule, Dropped, WhereTrue, dropped}
 use Rattle.node_core.specs.Policy.{Policy, at_moment}
 use Rattle.node_core.specs.Request.{ListAsked, ForTables, management, request_of}
-use Rattle.node_core.specs.Datasets.{is_present, list_answer, list_text, segment_answer, segment_name}
+use Rattle.node_core.specs.Datasets.{is_present, list_answer, dataset_text, segment_answer, segment_name}
 use Rattle.node_core.specs.Replies.{Seen, Replies, RepliesToPacket, RepliesToRequest}
 use Rattle.node_core.specs.Node.{NodeState, IsAwaited, IsStep, seen_in, CacheAfter, CacheAfterCommand, CacheAfterData, CacheAfterPacket, CacheAfterRequest, held_from}
 use Rattle.node_core.specs.Runs.{Run, Then, Brings, BringsPacket, ErasesByCommand, ErasesByPacket, ErasesData, MayHold, Stands}
@@ -52,7 +52,7 @@ all_front P c cs p h = All-cons P c _ p (All-filter (λ d. not (eq_by_cmp name_c
 abbrev NotAllowed : Verdict → Type 0
 NotAllowed verdict = (rule : ℕ) → verdict ≡ Allowed rule OK → ⊥
 
-dropped_not : (answer : Answer) (reason : Drop) → answer ≡ dropped reason → NotAllowed answer.verdict
+dropped_not : (answer : Answer) (reason : DropReason) → answer ≡ dropped reason → NotAllowed answer.verdict
 dropped_not answer reason e rule f = let g : answer.verdict ≡ Dropped reason = ap (λ (a : Answer). a.verdict) e in cc (f, g)
 
 -- an answer with a list, or none
@@ -64,8 +64,8 @@ listed_not p face asked =
     by_part None rule e = cc e
     by_part (Some part) rule e = cc e
 
-    by_version : (b : Bool) → NotAllowed (if b then segment_answer face (segment_name asked.kind p.table_number asked.segment) (segment_at (list_text p asked.kind) asked.segment) else dropped NoSegment).verdict
-    by_version true rule e = by_part (segment_at (list_text p asked.kind) asked.segment) rule e
+    by_version : (b : Bool) → NotAllowed (if b then segment_answer face (segment_name asked.kind p.table_number asked.segment) (segment_at (dataset_text p asked.kind) asked.segment) else dropped NoSegment).verdict
+    by_version true rule e = by_part (segment_at (dataset_text p asked.kind) asked.segment) rule e
     by_version false rule e = cc e
 
 -- ---- an Interest
@@ -114,7 +114,7 @@ module _ (p : Policy) (waiting : Pending) (seen : Seen) (face : ℕ) (whole : Li
   by_command rule status v (Err refused) k h = kept h (λ c er. subst (λ (r : Result PlainCommand ℕ). ErasesByCommand r c) k er.1)
   by_command rule status v (Ok command) k h = by_status (status == OK) refl h
     where
-      by_status : (b : Bool) → status == OK ≡ b → Either b (CachedAfter command old.cached new.cached × (new.capacity ≡ old.capacity)) (new ≡ old) → All K' new.cached
+      by_status : (b : Bool) → status == OK ≡ b → WhereTrue b (CachedAfter command old.cached new.cached × (new.capacity ≡ old.capacity)) (new ≡ old) → All K' new.cached
       by_status true e h = by_action command command.action refl k h.0
       by_status false e h =
           kept h (λ c er. let f = er.0.1 in let same : status ≡ OK = cc (v, f) in let g = eq-eqb status OK same in cc (e, g))
@@ -133,7 +133,7 @@ module _ (p : Policy) (waiting : Pending) (seen : Seen) (face : ℕ) (whole : Li
       subst (λ (s : StoreState). All K' s.cached) (sym h.3)
       (kept_cached (with_used old h.0).cached (all_front K h.0 old.cached (all_contained K old.cached h.0 held h.1.is_cached) held) (not_command other))
 
-  by_loop : begins_with management i.name ≡ false → (b : Bool) → Either b (new ≡ old) ((given : Option (List ℕ)) × Finds (key_of i) p.now old given new) → All K' new.cached
+  by_loop : begins_with management i.name ≡ false → (b : Bool) → WhereTrue b (new ≡ old) ((given : Option (List ℕ)) × Finds (key_of i) p.now old given new) → All K' new.cached
   by_loop other true h = kept h (not_command other)
   by_loop other false h = by_found other h.0 h.1
 
@@ -141,7 +141,7 @@ module _ (p : Policy) (waiting : Pending) (seen : Seen) (face : ℕ) (whole : Li
   interest_held =
       by_request p face i (λ r. CacheAfterRequest p.now waiting face i answer.verdict old new r → RepliesToRequest seen face whole i answer r → All K' new.cached)
       (λ reason h e. kept h (not_allowed (dropped_not answer reason e)))
-      (λ asked h e. kept h (not_allowed (λ rule f. listed_not seen.policy face asked rule (ap (λ (a : Answer). a.verdict) (sym e) ∙ f))))
+      (λ asked is h e. kept h (not_allowed (λ rule f. listed_not seen.policy face asked rule (ap (λ (a : Answer). a.verdict) (sym e) ∙ f))))
       (λ h e. by_tables answer.verdict refl h)
       (λ other h e. kept h (not_command other))
       (λ other h e. by_loop other (loops (records_at waiting (key_of i)) face i.nonce) h)
@@ -191,8 +191,8 @@ module _ (p : Policy) (waiting : Pending) (answer : Answer) (old new : StoreStat
       → CacheAfter p waiting event answer.verdict old new → Replies (seen_in p waiting old) event answer → All K' new.cached
   event_held (Packet face now octets) keep bring h r = by_open (is_open face p.faces) h r
     where
-      by_open : (b : Bool) → Either b (CacheAfterPacket p waiting face (frame_at octets) answer.verdict old new) (new ≡ old)
-          → Either b (RepliesToPacket (seen_in p waiting old) face (frame_at octets) answer) (answer ≡ dropped NoFace) → All K' new.cached
+      by_open : (b : Bool) → WhereTrue b (CacheAfterPacket p waiting face (frame_at octets) answer.verdict old new) (new ≡ old)
+          → WhereTrue b (RepliesToPacket (seen_in p waiting old) face (frame_at octets) answer) (answer ≡ dropped NoFace) → All K' new.cached
       by_open true h r = packet_held face (frame_at octets) keep bring h r
       by_open false h r = unchanged (λ c k. keep c k (unheard (frame_at octets) r c)) h
   event_held (FaceUp face scope now) keep bring h r = unchanged (λ c k. keep c k (λ e. e)) h

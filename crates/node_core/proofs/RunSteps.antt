@@ -7,6 +7,7 @@ use Rattle.ndn_packets.specs.FrameReading.{frame_at}
 use Rattle.ndn_packets.specs.Key.{PlainKey, key_of}
 use Rattle.ndn_packets.specs.Packet.{PlainInterest, PlainFrame, AnInterest, AData, ANack, Idle}
 use Rattle.ndn_packets.specs.declared.fault.PacketFault.{PacketFault}
+use Rattle.pit_fib.specs.declared.pit.TheConstants.{MAX_PENDING}
 use Rattle.pit_fib.specs.Cause.{Expires, records_after}
 use Rattle.pit_fib.specs.Pit.{loops}
 use Rattle.pit_fib.specs.Records.{Records, records_at}
@@ -14,16 +15,16 @@ use Rattle.content_store.specs.Store.{CachedData, Gives}
 use Rattle.node_core.specs.Event.{PlainEvent, Packet, FaceUp, FaceDown, Tick}
 use Rattle.node_core.specs.State.{is_open}
 use Rattle.node_core.specs.Step.{moment}
-use Rattle.node_core.specs.Verdict.{Answer, Either}
+use Rattle.node_core.specs.Verdict.{Answer, WhereTrue}
 use Rattle.node_core.specs.Policy.{Policy, at_moment}
-use Rattle.node_core.specs.Request.{Request, Unheard, ForList, ForTables, ForRepository, ForData, request_of}
+use Rattle.node_core.specs.Request.{Request, Refused, ForList, ForTables, ForRepository, ForData, request_of}
 use Rattle.node_core.specs.Replies.{Seen, Replies, RepliesToPacket, RepliesToRequest, RepliesForData}
 use Rattle.node_core.specs.Causes.{causes_of, after_causes}
 use Rattle.node_core.specs.Node.{NodeState, IsStep}
-use Rattle.node_core.specs.Runs.{Run, Then, IsWaiting, MayGive, MayHold, MayReply, Stands, now_of, records_of}
+use Rattle.node_core.specs.Runs.{Run, Then, IsWaiting, MayCache, MayHold, MayReply, Stands, now_of, records_of}
 use Rattle.node_core.proofs.Moments.{policy_now}
 
-either_map : (b : Bool) {A B C D : Type 0} → (A → C) → (B → D) → Either b A B → Either b C D
+either_map : (b : Bool) {A B C D : Type 0} → (A → C) → (B → D) → WhereTrue b A B → WhereTrue b C D
 either_map true f g h = f h
 either_map false f g h = g h
 
@@ -41,7 +42,7 @@ module _ (p : Policy) (records : PlainKey → Records) (full : Bool) (G H : Plai
 
   more_request : (face : ℕ) (whole : List ℕ) (i : PlainInterest) (answer : Answer) (r : Request)
       → RepliesToRequest (seen_with p records full G) face whole i answer r → RepliesToRequest (seen_with p records full H) face whole i answer r
-  more_request face whole i answer (Unheard reason) h = h
+  more_request face whole i answer (Refused reason) h = h
   more_request face whole i answer (ForList asked) h = h
   more_request face whole i answer ForTables h = h
   more_request face whole i answer ForRepository h = h
@@ -67,7 +68,7 @@ module _ (p : Policy) (records : PlainKey → Records) (full : Bool) (G H : Plai
 
 -- what the cache gives, it may give
 gives_held : (past : Run) (now : ℕ) (cached : List CachedData) → All (MayHold past) cached → (key : PlainKey) (given : Option (List ℕ))
-    → Gives key now cached given → MayGive past now key given
+    → Gives key now cached given → MayCache past now key given
 gives_held past now cached held key None h = tt
 gives_held past now cached held key (Some octets) h =
     let c = h.0 in
@@ -95,7 +96,7 @@ module _ (first : Policy) (past : Run) (old new : NodeState) (event : PlainEvent
         is_policy = stands.policy;
         waiting = step.waiting;
         is_waiting = is_waiting;
-        replies = more_replies p (records_at step.waiting) (nat_le 4096 (map.len step.waiting)) (λ key given. Gives key p.now old.cache.cached given) (MayGive past p.now)
+        replies = more_replies p (records_at step.waiting) (nat_le MAX_PENDING (map.len step.waiting)) (λ key given. Gives key p.now old.cache.cached given) (MayCache past p.now)
             (gives_held past p.now old.cache.cached stands.cache) event answer step.replies;
       }
 

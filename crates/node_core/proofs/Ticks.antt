@@ -4,6 +4,7 @@ use Rattle.std.specs.Prelude.{[], Option, Some, None, max, nat_le}
 use Rattle.std.specs.FinMap as map
 use Rattle.hmac_keys.specs.KeyFile.{AreApart}
 use Rattle.ndn_packets.specs.Key.{PlainKey}
+use Rattle.pit_fib.specs.declared.pit.TheConstants.{MAX_PENDING}
 use Rattle.pit_fib.specs.Cause.{Cause, Expires, records_after}
 use Rattle.pit_fib.specs.Records.{Records, Pending, records_at}
 use Rattle.content_store.specs.Store.{CachedData}
@@ -14,7 +15,7 @@ use Rattle.node_core.specs.Policy.{Policy, at_moment}
 use Rattle.node_core.specs.Effects.{IsAfter}
 use Rattle.node_core.specs.Replies.{Replies}
 use Rattle.node_core.specs.Causes.{causes_of, after_causes}
-use Rattle.node_core.specs.Runs.{Run, Start, Then, Brings, ErasesData, HasTicksFor, IsPolicyOf, IsRun, IsWaiting, MayGive, MayHold, MayReply, is_denied, now_of, records_of, seen_after}
+use Rattle.node_core.specs.Runs.{Run, Start, Then, Brings, ErasesData, HasTicksFor, IsPolicyOf, IsRun, IsWaiting, MayCache, MayHold, MayReply, is_denied, now_of, records_of, seen_after}
 use Rattle.node_core.proofs.Moments.{policy_keys}
 use Rattle.node_core.proofs.Histories.{one_history, one_policy}
 use Rattle.node_core.proofs.Denials.{denied_brings, denied_causes, denied_effect}
@@ -91,7 +92,7 @@ denied_after first before event answer was p apart reply d is after =
     let keys : AreApart was.keys = subst AreApart (sym (policy_keys first before was is)) apart in
     let replies : Replies (seen_after before q reply.waiting) event answer =
     subst (λ (w : Policy). Replies (seen_after before (at_moment w (moment event)) reply.waiting) event answer) e reply.replies in
-    denied_effect q (records_at reply.waiting) (nat_le 4096 (map.len reply.waiting)) (MayGive before q.now) keys answer d event replies p after
+    denied_effect q (records_at reply.waiting) (nat_le MAX_PENDING (map.len reply.waiting)) (MayCache before q.now) keys answer d event replies p after
 
 pub policy_ticks : (first : Policy) (past other : Run) → AreApart first.keys → IsRun first past → HasTicksFor past other → (p : Policy) → IsPolicyOf first past p → IsPolicyOf first other p
 policy_ticks first Start Start apart is t p h = h
@@ -104,7 +105,7 @@ policy_ticks first (Then before event answer) (Then other another reply) apart i
     (h.0, policy_ticks first before other apart is.0 t h.0 h.1, subst (λ (x : PlainEvent). IsAfter h.0 x p) (sym e) after)
 
 -- what the cache may give after the first run, it may after the second
-given_ticks : (past other : Run) → HasTicksFor past other → (now : ℕ) (key : PlainKey) (given : Option (List ℕ)) → MayGive past now key given → MayGive other now key given
+given_ticks : (past other : Run) → HasTicksFor past other → (now : ℕ) (key : PlainKey) (given : Option (List ℕ)) → MayCache past now key given → MayCache other now key given
 given_ticks past other t now key None h = tt
 given_ticks past other t now key (Some octets) h = (h.0, held_ticks past other t h.0 h.1, h.2, h.3)
 
@@ -118,7 +119,7 @@ reply_ticks first past other event answer apart is t h =
       is_policy = policy_ticks first past other apart is t h.was h.is_policy;
       waiting = h.waiting;
       is_waiting = subst (λ (k : ℕ). IsWaiting other k h.waiting) (sym n) (waiting_ticks past other t (max (now_of past) (moment event)) h.waiting h.is_waiting);
-      replies = more_replies p (records_at h.waiting) (nat_le 4096 (map.len h.waiting)) (MayGive past p.now) (MayGive other p.now) (given_ticks past other t p.now) event answer h.replies;
+      replies = more_replies p (records_at h.waiting) (nat_le MAX_PENDING (map.len h.waiting)) (MayCache past p.now) (MayCache other p.now) (given_ticks past other t p.now) event answer h.replies;
     }
 
 tick_reply : (first : Policy) (past other : Run) (event : PlainEvent) (answer : Answer) → AreApart first.keys → IsRun first past → HasTicksFor past other

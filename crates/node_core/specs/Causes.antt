@@ -83,12 +83,17 @@ closing_causes face (Dropped reason) = []
 -- the causes of an event and its answer in their order, at this moment, where what was due has
 -- expired
 abbrev pub causes_of : ℕ → PlainEvent → Answer → List Cause
-causes_of now (Packet face moment octets) answer = packet_causes now face (frame_at octets) answer
-causes_of now (FaceUp face scope moment) answer = []
-causes_of now (FaceDown face moment) answer = closing_causes face answer.verdict
-causes_of now (Tick moment) answer = []
+causes_of now (Packet face t octets) answer = packet_causes now face (frame_at octets) answer
+causes_of now (FaceUp face scope t) answer = []
+causes_of now (FaceDown face t) answer = closing_causes face answer.verdict
+causes_of now (Tick t) answer = []
 
 -- the records of a key after these causes, in their order
 abbrev pub after_causes : List Cause → PlainKey → Records → Records
 after_causes [] key r = r
 after_causes (cause ∷ causes) key r = after_causes causes key (records_after cause key r)
+
+-- the causes, the last one first, before others that came earlier
+abbrev pub before_earlier : List Cause → List Cause → List Cause
+before_earlier [] earlier = earlier
+before_earlier (cause ∷ causes) earlier = before_earlier causes (cause ∷ earlier)

@@ -1,6 +1,7 @@
 -- What commands are answered with, and what they change (NFD Management, "Control Command"). A
--- command that is allowed has its effect and is replied to in the same step, whatever its status.
-use Rattle.std.specs.Prelude.{ℕ, List, [], ◌∷◌, ◌++◌, length, Bool, Option, None, Some, unwrap_or, find, slice_get, codes, nat_lt, ◌==◌, ◌||◌, Result, Ok, Err, if◌then◌else◌}
+-- command that is allowed is recorded and replied to in the same step, whatever its status, and has
+-- its effect where the status says so.
+use Rattle.std.specs.Prelude.{ℕ, List, [], ◌∷◌, ◌++◌, length, Bool, Option, None, Some, unwrap_or, slice_get, codes, nat_lt, ◌||◌, Result, Ok, Err, if◌then◌else◌}
 use Rattle.std.specs.Option.{option_map}
 use Rattle.std.specs.FinMap as map
 use Rattle.ndn_tlv.specs.Element.{element}
@@ -33,7 +34,7 @@ use Rattle.repo_core.specs.Writing.{repo_response}
 use Rattle.node_core.specs.Event.{Send}
 use Rattle.node_core.specs.Step.{to_each}
 use Rattle.node_core.specs.Policy.{Policy, open_faces, with_next_version}
-use Rattle.node_core.specs.Request.{Request, Unheard, ForList, ForTables, ForRepository, ForData, request_of}
+use Rattle.node_core.specs.Request.{Request, Refused, ForList, ForTables, ForRepository, ForData, request_of}
 use Rattle.node_core.specs.Said.{recorded_of}
 use Rattle.node_core.specs.NextHops.{choice_for, ask_for}
 use Rattle.node_core.specs.Verdict.{Answer, Allowed, Denied, NoRule}
@@ -88,7 +89,8 @@ fetch_text want nonce =
           ++ (NONCE, nonce) ∷ (INTEREST_LIFETIME, shortest_nni want.lifetime) ∷ [])),
     )
 
--- such an Interest cannot be written
+-- such an Interest cannot be written: its name is empty or has a digest of parameters, or it is too
+-- long, which is not to be expected, since the command is longer
 abbrev pub is_unwritable : Want → List ℕ → Bool
 is_unwritable want nonce =
     is_bad_name want.name || nat_lt 8800 (length (fetch_text want nonce))
@@ -112,8 +114,9 @@ pub record Reply : Type 0 where
   pub content : List ℕ
   pub fetches : List Send
 
+-- no other request is decided
 abbrev pub allowed_reply : Policy → ℕ → PlainInterest → Request → Reply
-allowed_reply p face i (Unheard reason) = record { status = 0; content = []; fetches = [] }
+allowed_reply p face i (Refused reason) = record { status = 0; content = []; fetches = [] }
 allowed_reply p face i (ForList asked) = record { status = 0; content = []; fetches = [] }
 allowed_reply p face i ForTables =
     let c = command_at i.name in
@@ -129,7 +132,7 @@ allowed_reply p face i ForData = record { status = 0; content = []; fetches = []
 
 -- a reply of status 403
 abbrev pub refused_content : Request → List ℕ → List ℕ
-refused_content (Unheard reason) text = []
+refused_content (Refused reason) text = []
 refused_content (ForList asked) text = []
 refused_content ForTables text = response NOT_AUTHORIZED text []
 refused_content ForRepository text = repo_response NOT_AUTHORIZED text 0
@@ -171,7 +174,7 @@ with_record p (Some r) = record p { guard = with_recorded p.guard r }
 
 -- what an allowed command changes
 abbrev pub after_request : Policy → ℕ → PlainInterest → Request → Policy
-after_request p face i (Unheard reason) = p
+after_request p face i (Refused reason) = p
 after_request p face i (ForList asked) = p
 after_request p face i ForTables = after_tables p face (command_at i.name)
 after_request p face i ForRepository = after_repository p i

@@ -10,9 +10,9 @@ use Rattle.node_core.specs.Policy.{Policy}
 use Rattle.node_core.specs.Request.{ListKind, RouteList, StrategyList, ListAsked, list_name}
 use Rattle.node_core.specs.Verdict.{Answer, NoSegment, dropped, passed}
 
-abbrev pub list_text : Policy → ListKind → List ℕ
-list_text p RouteList = fib_text p.routes
-list_text p StrategyList = strategy_text p.choices
+abbrev pub dataset_text : Policy → ListKind → List ℕ
+dataset_text p RouteList = fib_text p.routes
+dataset_text p StrategyList = strategy_text p.choices
 
 -- the name of a segment: the list, its version and the segment's number
 abbrev pub segment_name : ListKind → ℕ → ℕ → List Field
@@ -43,5 +43,5 @@ abbrev pub list_answer : Policy → ℕ → ListAsked → Answer
 list_answer p face asked =
     if is_present p asked.version
     then segment_answer face (segment_name asked.kind p.table_number asked.segment)
-    (segment_at (list_text p asked.kind) asked.segment)
+    (segment_at (dataset_text p asked.kind) asked.segment)
     else dropped NoSegment

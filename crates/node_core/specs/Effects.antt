@@ -38,13 +38,13 @@ with_closed p face =
     }) else p
 
 -- the packet of an event that rules decide, if there is one
-abbrev pub heard_packet : Policy → ℕ → Result PlainFrame PacketFault → Option PlainFrame
-heard_packet p face (Err fault) = None
-heard_packet p face (Ok packet) = if is_decided p face packet then Some packet else None
+abbrev pub packet_to_decide : Policy → ℕ → Result PlainFrame PacketFault → Option PlainFrame
+packet_to_decide p face (Err fault) = None
+packet_to_decide p face (Ok packet) = if is_decided p face packet then Some packet else None
 
 abbrev pub decided_packet : Policy → PlainEvent → Option PlainFrame
 decided_packet p (Packet face now octets) =
-    if is_open face p.faces then heard_packet p face (frame_at octets) else None
+    if is_open face p.faces then packet_to_decide p face (frame_at octets) else None
 decided_packet p (FaceUp face scope now) = None
 decided_packet p (FaceDown face now) = None
 decided_packet p (Tick now) = None

@@ -23,3 +23,4 @@ pub mod Causes
 pub mod Node
 pub mod Runs
 pub mod Sends
+pub mod Allowed

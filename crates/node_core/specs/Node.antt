@@ -1,5 +1,5 @@
 -- A node, and one step of it (NFD Developer's Guide, "Forwarding").
-use Rattle.std.specs.Prelude.{◌≡◌, ◌⊎◌, ℕ, List, true, false, All, Contains, Option, Result, Ok, Err, nat_le, IsTrue, ◌==◌}
+use Rattle.std.specs.Prelude.{◌≡◌, ◌⊎◌, ℕ, List, true, false, All, Contains, Option, Result, Ok, Err, nat_le, IsTrue, ⊤, ◌==◌}
 use Rattle.std.specs.FinMap as map
 use Rattle.sha2.specs.Sha256.{sha256}
 use Rattle.ndn_packets.specs.Answers.{answers}
@@ -7,6 +7,7 @@ use Rattle.ndn_packets.specs.FrameReading.{frame_at}
 use Rattle.ndn_packets.specs.Key.{PlainKey, key_of}
 use Rattle.ndn_packets.specs.Packet.{PlainInterest, PlainData, PlainFrame, AnInterest, AData, ANack, Idle}
 use Rattle.ndn_packets.specs.declared.fault.PacketFault.{PacketFault}
+use Rattle.pit_fib.specs.declared.pit.TheConstants.{MAX_PENDING}
 use Rattle.pit_fib.specs.Cause.{Cause, Expires, Follows}
 use Rattle.pit_fib.specs.Pit.{loops}
 use Rattle.pit_fib.specs.Records.{Records, Pending, HoldsTheLiving, is_alive, records_at}
@@ -18,11 +19,11 @@ use Rattle.node_core.specs.Event.{PlainEvent, Packet, FaceUp, FaceDown, Tick}
 use Rattle.node_core.specs.State.{is_open}
 use Rattle.node_core.specs.Step.{moment}
 use Rattle.node_core.specs.Policy.{Policy, at_moment}
-use Rattle.node_core.specs.Request.{Request, Unheard, ForList, ForTables, ForRepository, ForData, request_of}
+use Rattle.node_core.specs.Request.{Request, Refused, ForList, ForTables, ForRepository, ForData, request_of}
 use Rattle.node_core.specs.Replies.{Seen, Replies}
 use Rattle.node_core.specs.Effects.{IsAfter}
 use Rattle.node_core.specs.Causes.{causes_of, after_causes}
-use Rattle.node_core.specs.Verdict.{Either, Verdict, Passed, Allowed, DataAllowed, Denied, NoRule, Dropped, Answer}
+use Rattle.node_core.specs.Verdict.{WhereTrue, Verdict, Passed, Allowed, DataAllowed, Denied, NoRule, Dropped, Answer}
 
 pub record NodeState : Type 0 where
   pub policy : Policy
@@ -36,10 +37,11 @@ abbrev pub MayForget : StoreState → StoreState → Type 0
 MayForget old new =
     All (λ c. Contains old.cached c) new.cached × (new.capacity ≡ old.capacity)
 
--- What the cache gives for an Interest is the most recently used. One that loops asks no cache.
+-- What the cache gives for an Interest becomes the most recently used. One that loops asks no
+-- cache.
 abbrev pub CacheAfterInterest : ℕ → Records → ℕ → PlainInterest → StoreState → StoreState → Type 0
 CacheAfterInterest now r face i old new =
-    Either (loops r face i.nonce) (new ≡ old)
+    WhereTrue (loops r face i.nonce) (new ≡ old)
     ((given : Option (List ℕ)) × Finds (key_of i) now old given new)
 
 -- a Data as it is held from its arrival on
@@ -70,12 +72,12 @@ CacheAfterData now waiting whole d old new =
 abbrev pub CacheAfterCommand : Result PlainCommand ℕ → ℕ → StoreState → StoreState → Type 0
 CacheAfterCommand (Err refused) status old new = new ≡ old
 CacheAfterCommand (Ok c) status old new =
-    Either (status == OK) (CachedAfter c old.cached new.cached × (new.capacity ≡ old.capacity))
+    WhereTrue (status == OK) (CachedAfter c old.cached new.cached × (new.capacity ≡ old.capacity))
     (new ≡ old)
 
 abbrev pub CacheAfterRequest : ℕ → Pending → ℕ → PlainInterest → Verdict → StoreState → StoreState
     → Request → Type 0
-CacheAfterRequest now waiting face i verdict old new (Unheard reason) = new ≡ old
+CacheAfterRequest now waiting face i verdict old new (Refused reason) = new ≡ old
 CacheAfterRequest now waiting face i verdict old new (ForList asked) = new ≡ old
 CacheAfterRequest now waiting face i verdict old new ForTables = elim verdict [
   | Passed ↦ new ≡ old
@@ -108,7 +110,7 @@ CacheAfterPacket p waiting face (Ok Idle) verdict old new = new ≡ old
 -- what an event and its verdict leave of the cache
 abbrev pub CacheAfter : Policy → Pending → PlainEvent → Verdict → StoreState → StoreState → Type 0
 CacheAfter p waiting (Packet face now octets) verdict old new =
-    Either (is_open face p.faces)
+    WhereTrue (is_open face p.faces)
     (CacheAfterPacket p waiting face (frame_at octets) verdict old new) (new ≡ old)
 CacheAfter p waiting (FaceUp face scope now) verdict old new = new ≡ old
 CacheAfter p waiting (FaceDown face now) verdict old new = new ≡ old
@@ -126,21 +128,25 @@ abbrev pub seen_in : Policy → Pending → StoreState → Seen
 seen_in p waiting cache = record {
   policy = p;
   records = records_at waiting;
-  is_full = nat_le 4096 (map.len waiting);
+  is_full = nat_le MAX_PENDING (map.len waiting);
   MayGive = λ key given. Gives key p.now cache.cached given;
 }
 
--- One step, octets to octets: time passes, then the event is answered and has its effect.
+-- One step, octets to octets: time passes, then the event is answered and has its effect. What is
+-- said of a packet, and what the cache gives, stand here twice each, and are one where the keys of
+-- the book have different names and the cache is a store.
 pub record IsStep (old : NodeState) (event : PlainEvent) (answer : Answer)
     (new : NodeState) : Type 0 where
   -- what waits once the moment of the event has come
   pub waiting : Pending
   pub living : HoldsTheLiving waiting
   pub expiry : Follows (Expires (at_moment old.policy (moment event)).now) old.pending waiting
-  pub replies : Replies (seen_in (at_moment old.policy (moment event)) waiting old.cache) event answer
+  pub replies : Replies (seen_in (at_moment old.policy (moment event)) waiting old.cache)
+      event answer
   pub policy : IsAfter old.policy event new.policy
   pub pending : FollowAll (causes_of (at_moment old.policy (moment event)).now event answer)
       waiting new.pending
+  pub alive : HoldsTheLiving new.pending
   pub cache : CacheAfter (at_moment old.policy (moment event)) waiting event answer.verdict
       old.cache new.cache
 
@@ -154,15 +160,15 @@ pub record Unharmed (old new : NodeState) : Type 0 where
 
 -- octets that are no packet, or a link packet that holds none
 abbrev pub HoldsNoPacket : Result PlainFrame PacketFault → Type 0
-HoldsNoPacket (Err fault) = Unit {0}
+HoldsNoPacket (Err fault) = ⊤
 HoldsNoPacket (Ok (AnInterest whole i)) = ⊥
 HoldsNoPacket (Ok (AData whole d)) = ⊥
 HoldsNoPacket (Ok (ANack reason whole i)) = ⊥
-HoldsNoPacket (Ok Idle) = Unit {0}
+HoldsNoPacket (Ok Idle) = ⊤
 
 abbrev pub AsksNoMemory : NodeState → PlainEvent → Type 0
 AsksNoMemory old (Packet face now octets) =
     (is_open face old.policy.faces ≡ false) ⊎ HoldsNoPacket (frame_at octets)
-AsksNoMemory old (FaceUp face scope now) = Unit {0}
-AsksNoMemory old (FaceDown face now) = Unit {0}
-AsksNoMemory old (Tick now) = Unit {0}
+AsksNoMemory old (FaceUp face scope now) = ⊤
+AsksNoMemory old (FaceDown face now) = ⊤
+AsksNoMemory old (Tick now) = ⊤

@@ -17,8 +17,8 @@ use Rattle.node_core.specs.State.{FaceEntry, find_scope, numbers}
 pub record Policy : Type 0 where
   -- the greatest moment so far, in milliseconds since 1970
   pub now : ℕ
-  -- the version of the lists: how many commands under /localhost/nfd were allowed and how many faces
-  -- were closed so far; it stops at the greatest u64
+  -- the version of the lists: how many commands under /localhost/nfd were allowed, and how many
+  -- faces were closed, so far; it stops at the greatest u64
   pub table_number : ℕ
   pub rules : List PlainRule
   pub keys : List NamedKey

@@ -25,9 +25,9 @@ use Rattle.repo_core.specs.Objects.{served}
 use Rattle.node_core.specs.Event.{PlainEvent, Packet, FaceUp, FaceDown, Tick, Send}
 use Rattle.node_core.specs.State.{is_open}
 use Rattle.node_core.specs.Step.{to_each}
-use Rattle.node_core.specs.Verdict.{Either, Answer, Dropped, NoFace, Malformed, Idle, Loop, PitFull, NoPending, BadFace, FaceOpen, FacesFull, Scope as OutOfScope, DataAllowed, Denied, NoRule, dropped, passed}
+use Rattle.node_core.specs.Verdict.{WhereTrue, Answer, Dropped, NoFace, Malformed, Idle, Loop, PitFull, NoPending, BadFace, FaceOpen, FacesFull, Scope as OutOfScope, DataAllowed, Denied, NoRule, dropped, passed}
 use Rattle.node_core.specs.Policy.{Policy}
-use Rattle.node_core.specs.Request.{Request, Unheard, ForList, ForTables, ForRepository, ForData, request_of, is_out_of_scope}
+use Rattle.node_core.specs.Request.{Request, Refused, ForList, ForTables, ForRepository, ForData, request_of, is_out_of_scope}
 use Rattle.node_core.specs.Said.{IsSaid}
 use Rattle.node_core.specs.Commands.{command_answer}
 use Rattle.node_core.specs.Datasets.{list_answer}
@@ -72,7 +72,7 @@ by_cache seen face whole i None = without_cache seen face whole i
 -- A loop is answered by a Nack; else the cache answers, or the repository, or a face is asked.
 abbrev pub RepliesForData : Seen → ℕ → List ℕ → PlainInterest → Answer → Type 0
 RepliesForData seen face whole i answer =
-    Either (loops (seen.records (key_of i)) face i.nonce)
+    WhereTrue (loops (seen.records (key_of i)) face i.nonce)
     (answer ≡ record {
       verdict = Dropped Loop;
       sends = (face, nack_text DUPLICATE whole) ∷ [];
@@ -88,7 +88,7 @@ RepliesToCommand seen face whole i answer =
     × (answer ≡ command_answer seen.policy face i said)
 
 abbrev pub RepliesToRequest : Seen → ℕ → List ℕ → PlainInterest → Answer → Request → Type 0
-RepliesToRequest seen face whole i answer (Unheard reason) = answer ≡ dropped reason
+RepliesToRequest seen face whole i answer (Refused reason) = answer ≡ dropped reason
 RepliesToRequest seen face whole i answer (ForList asked) =
     answer ≡ list_answer seen.policy face asked
 RepliesToRequest seen face whole i answer ForTables = RepliesToCommand seen face whole i answer
@@ -119,7 +119,7 @@ RepliesBySaid seen face whole d answer decided.NoRule =
 
 abbrev pub RepliesToData : Seen → ℕ → List ℕ → PlainData → Answer → Type 0
 RepliesToData seen face whole d answer =
-    Either (is_out_of_scope seen.policy face d.name) (answer ≡ dropped OutOfScope)
+    WhereTrue (is_out_of_scope seen.policy face d.name) (answer ≡ dropped OutOfScope)
     ((said : Decision) × IsSaid seen.policy (AData whole d) said
     × RepliesBySaid seen face whole d answer said)
 
@@ -136,7 +136,7 @@ nack_answer asks (nacks.All reason) = passed (nacks_to asks reason)
 abbrev pub RepliesToNack : Seen → ℕ → ℕ → PlainInterest → Answer → Type 0
 RepliesToNack seen face reason i answer =
     let r = seen.records (key_of i) in
-    Either (is_out_of_scope seen.policy face i.name) (answer ≡ dropped OutOfScope)
+    WhereTrue (is_out_of_scope seen.policy face i.name) (answer ≡ dropped OutOfScope)
     (answer ≡ nack_answer r.asks (nacked_answer r face i.nonce reason))
 
 abbrev pub RepliesToPacket : Seen → ℕ → Result PlainFrame PacketFault → Answer → Type 0
@@ -161,7 +161,7 @@ opening_answer p face =
 -- what may be answered to an event, where this is seen once its moment has come
 abbrev pub Replies : Seen → PlainEvent → Answer → Type 0
 Replies seen (Packet face now octets) answer =
-    Either (is_open face seen.policy.faces) (RepliesToPacket seen face (frame_at octets) answer)
+    WhereTrue (is_open face seen.policy.faces) (RepliesToPacket seen face (frame_at octets) answer)
     (answer ≡ dropped NoFace)
 Replies seen (FaceUp face scope now) answer = answer ≡ opening_answer seen.policy face
 Replies seen (FaceDown face now) answer =

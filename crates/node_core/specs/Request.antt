@@ -1,5 +1,5 @@
--- What an Interest asks a node for: a segment of a list, a command, or Data (NFD Management,
--- "Control Command", "Status Dataset"; NDN Naming Conventions, revision 3).
+-- What an Interest is to a node: a request for a segment of a list, a command, or a request for
+-- Data (NFD Management, "Control Command", "Status Dataset"; NDN Naming Conventions, revision 3).
 use Rattle.std.specs.Prelude.{ℕ, List, [], ◌∷◌, ◌++◌, Bool, true, false, not, Option, None, Some, is_some, drop, length, codes, bytes_eq, ◌==◌, ◌&&◌, if◌then◌else◌}
 use Rattle.std.specs.Option.{option_map, option_or}
 use Rattle.ndn_tlv.specs.Element.{Field}
@@ -9,7 +9,7 @@ use Rattle.ndn_names.specs.declared.component_type.TheConstants.{GENERIC, SEGMEN
 use Rattle.ndn_packets.specs.Answers.{begins_with}
 use Rattle.ndn_packets.specs.Packet.{PlainInterest, PlainFrame, AnInterest, AData, ANack, Idle}
 use Rattle.repo_core.specs.Reading.{verb_at}
-use Rattle.node_core.specs.Verdict.{Drop, HopLimit, Scope}
+use Rattle.node_core.specs.Verdict.{DropReason, HopLimit, Scope}
 use Rattle.node_core.specs.Policy.{Policy, is_far}
 
 abbrev pub generic : List ℕ → Field
@@ -89,19 +89,19 @@ list_asked i = option_or (list_of_kind RouteList i) (list_of_kind StrategyList i
 -- ---- requests
 
 pub data Request : Type 0 where
-  -- it is not heard
-  Unheard : (reason : Drop) → Request
+  -- it is dropped for its HopLimit or its scope
+  Refused : (reason : DropReason) → Request
   ForList : (asked : ListAsked) → Request
-  -- a command on routes, strategies or the cache
+  -- an Interest under /localhost/nfd that asks for no list
   ForTables : Request
   -- a command to the repository
   ForRepository : Request
   ForData : Request
 
--- the request of an Interest that is heard
-abbrev pub heard : Policy → PlainInterest → Option ListAsked → Request
-heard p i (Some asked) = ForList asked
-heard p i None =
+-- the request of an Interest by its name
+abbrev pub named_request : Policy → PlainInterest → Option ListAsked → Request
+named_request p i (Some asked) = ForList asked
+named_request p i None =
     if begins_with management i.name then ForTables else (
     if is_some (verb_at p.repo i.name) then ForRepository else
     ForData)
@@ -113,19 +113,19 @@ has_no_hops (Some limit) = limit == 0
 -- HopLimit 0 comes first, then names of this machine from another one
 abbrev pub request_of : Policy → ℕ → PlainInterest → Request
 request_of p face i =
-    if has_no_hops i.hop_limit then Unheard HopLimit else (
-    if is_out_of_scope p face i.name then Unheard Scope else
-    heard p i (list_asked i))
+    if has_no_hops i.hop_limit then Refused HopLimit else (
+    if is_out_of_scope p face i.name then Refused Scope else
+    named_request p i (list_asked i))
 
 abbrev pub is_command : Request → Bool
-is_command (Unheard reason) = false
+is_command (Refused reason) = false
 is_command (ForList asked) = false
 is_command ForTables = true
 is_command ForRepository = true
 is_command ForData = false
 
--- whether rules decide a packet that came on an open face: every command, and every Data that is
--- heard
+-- whether rules decide a packet that came on an open face: every command, and every Data that is in
+-- scope
 abbrev pub is_decided : Policy → ℕ → PlainFrame → Bool
 is_decided p face (AnInterest whole i) = is_command (request_of p face i)
 is_decided p face (AData whole d) = not (is_out_of_scope p face d.name)

@@ -1,12 +1,14 @@
--- What a run of events and answers says: readings of the past, which keep no table, timer or cache.
-use Rattle.std.specs.Prelude.{◌≡◌, ◌⊎◌, ℕ, Bool, true, false, List, [], Option, None, Some, All, Result, Ok, Err, max, nat_le, ⊤}
+-- What a run of events and answers says: readings of the past, which keep no timer and no cache; of
+-- tables only how many keys are alive.
+use Rattle.std.specs.Prelude.{◌≡◌, ◌⊎◌, ℕ, Bool, true, false, List, [], ◌∷◌, Option, None, Some, All, Result, Ok, Err, max, nat_le, ⊤}
 use Rattle.std.specs.FinMap as map
 use Rattle.ndn_names.specs.Name.{IsPrefix}
 use Rattle.ndn_packets.specs.FrameReading.{frame_at}
 use Rattle.ndn_packets.specs.Key.{PlainKey}
 use Rattle.ndn_packets.specs.Packet.{PlainFrame, AnInterest, AData, ANack, Idle}
 use Rattle.ndn_packets.specs.declared.fault.PacketFault.{PacketFault}
-use Rattle.pit_fib.specs.Cause.{Expires, records_after}
+use Rattle.pit_fib.specs.declared.pit.TheConstants.{MAX_PENDING}
+use Rattle.pit_fib.specs.Cause.{Cause, Expires, records_after}
 use Rattle.pit_fib.specs.Records.{Records, Pending, HoldsTheLiving, no_records, records_at}
 use Rattle.content_store.specs.Store.{CachedData, CanServe, full_name_of}
 use Rattle.mgmt_core.specs.declared.action.Action.TheVariants.{EraseCache}
@@ -16,14 +18,14 @@ use Rattle.node_core.specs.Event.{PlainEvent, Packet, FaceUp, FaceDown, Tick}
 use Rattle.node_core.specs.Step.{moment}
 use Rattle.node_core.specs.Verdict.{Verdict, Passed, Allowed, DataAllowed, Denied, NoRule, Dropped, Answer, passed}
 use Rattle.node_core.specs.Policy.{Policy, at_moment}
-use Rattle.node_core.specs.Request.{Request, Unheard, ForList, ForTables, ForRepository, ForData, request_of}
+use Rattle.node_core.specs.Request.{Request, Refused, ForList, ForTables, ForRepository, ForData, request_of}
 use Rattle.node_core.specs.Effects.{IsAfter}
-use Rattle.node_core.specs.Causes.{causes_of, after_causes}
+use Rattle.node_core.specs.Causes.{causes_of, after_causes, before_earlier}
 use Rattle.node_core.specs.Replies.{Seen, Replies}
 use Rattle.node_core.specs.Node.{NodeState, IsAwaited, held_from}
 
--- a run: nothing, or a run and then an event with its answer. An event that was refused memory is in
--- none.
+-- a run: nothing, or a run and then an event with its answer. An event that was refused memory is
+-- in none.
 pub data Run : Type 0 where
   Start : Run
   Then : (before : Run) (event : PlainEvent) (answer : Answer) → Run
@@ -46,7 +48,16 @@ abbrev pub records_of : Run → PlainKey → Records
 records_of Start key = no_records
 records_of (Then before event answer) key =
     let now = max (now_of before) (moment event) in
-    after_causes (causes_of now event answer) key (records_after (Expires now) key (records_of before key))
+    after_causes (causes_of now event answer) key
+    (records_after (Expires now) key (records_of before key))
+
+-- all that ended or began records in a run, the last first: of each event what is due expires, and
+-- then its own causes follow
+abbrev pub past_causes : Run → List Cause
+past_causes Start = []
+past_causes (Then before event answer) =
+    let now = max (now_of before) (moment event) in
+    before_earlier (causes_of now event answer) (Expires now ∷ past_causes before)
 
 -- the keys that are alive after a run, with their records, once this moment has come
 pub record IsWaiting (past : Run) (now : ℕ) (waiting : Pending) : Type 0 where
@@ -57,7 +68,8 @@ pub record IsWaiting (past : Run) (now : ℕ) (waiting : Pending) : Type 0 where
 -- ---- what the cache may hold (NFD Developer's Guide, "Content Store")
 
 -- the event brings this Data, which is allowed, and which some face waits for
-abbrev pub BringsPacket : ℕ → Pending → Result PlainFrame PacketFault → Verdict → CachedData → Type 0
+abbrev pub BringsPacket : ℕ → Pending → Result PlainFrame PacketFault → Verdict → CachedData
+    → Type 0
 BringsPacket now waiting (Err fault) verdict c = ⊥
 BringsPacket now waiting (Ok (AnInterest whole i)) verdict c = ⊥
 BringsPacket now waiting (Ok (AData whole d)) verdict c =
@@ -67,11 +79,11 @@ BringsPacket now waiting (Ok (ANack reason whole i)) verdict c = ⊥
 BringsPacket now waiting (Ok Idle) verdict c = ⊥
 
 abbrev pub Brings : ℕ → Pending → PlainEvent → Verdict → CachedData → Type 0
-Brings now waiting (Packet face moment octets) verdict c =
+Brings now waiting (Packet face t octets) verdict c =
     BringsPacket now waiting (frame_at octets) verdict c
-Brings now waiting (FaceUp face scope moment) verdict c = ⊥
-Brings now waiting (FaceDown face moment) verdict c = ⊥
-Brings now waiting (Tick moment) verdict c = ⊥
+Brings now waiting (FaceUp face scope t) verdict c = ⊥
+Brings now waiting (FaceDown face t) verdict c = ⊥
+Brings now waiting (Tick t) verdict c = ⊥
 
 -- an allowed erase without Count, of a name that the full name begins with
 abbrev pub ErasesByCommand : Result PlainCommand ℕ → CachedData → Type 0
@@ -88,10 +100,10 @@ ErasesByPacket (Ok (ANack reason whole i)) verdict c = ⊥
 ErasesByPacket (Ok Idle) verdict c = ⊥
 
 abbrev pub ErasesData : PlainEvent → Verdict → CachedData → Type 0
-ErasesData (Packet face moment octets) verdict c = ErasesByPacket (frame_at octets) verdict c
-ErasesData (FaceUp face scope moment) verdict c = ⊥
-ErasesData (FaceDown face moment) verdict c = ⊥
-ErasesData (Tick moment) verdict c = ⊥
+ErasesData (Packet face t octets) verdict c = ErasesByPacket (frame_at octets) verdict c
+ErasesData (FaceUp face scope t) verdict c = ⊥
+ErasesData (FaceDown face t) verdict c = ⊥
+ErasesData (Tick t) verdict c = ⊥
 
 -- The Data came, was allowed and was waited for, and no erase has taken it since. Whether the cache
 -- still holds it is not said.
@@ -102,11 +114,11 @@ MayHold (Then before event answer) c =
     ((waiting : Pending) × IsWaiting before now waiting × Brings now waiting event answer.verdict c)
     ⊎ (MayHold before c × ¬ ErasesData event answer.verdict c)
 
--- what the cache may give for an Interest of a key: nothing, or a Data that it may hold and that can
--- serve it
-abbrev pub MayGive : Run → ℕ → PlainKey → Option (List ℕ) → Type 0
-MayGive past now key None = ⊤
-MayGive past now key (Some octets) =
+-- what the cache may give for an Interest of a key: nothing, or a Data that it may hold and that
+-- can serve it
+abbrev pub MayCache : Run → ℕ → PlainKey → Option (List ℕ) → Type 0
+MayCache past now key None = ⊤
+MayCache past now key (Some octets) =
     (c : CachedData) × MayHold past c × CanServe key now c × (octets ≡ c.octets)
 
 -- ---- runs
@@ -115,12 +127,12 @@ abbrev pub seen_after : Run → Policy → Pending → Seen
 seen_after past p waiting = record {
   policy = p;
   records = records_at waiting;
-  is_full = nat_le 4096 (map.len waiting);
-  MayGive = MayGive past p.now;
+  is_full = nat_le MAX_PENDING (map.len waiting);
+  MayGive = MayCache past p.now;
 }
 
--- The answer is one that the past allows: by the policy, the records of the keys that are alive, and
--- what the cache may hold.
+-- The answer is one that the past allows: by the policy, the records of the keys that are alive,
+-- and what the cache may hold.
 pub record MayReply (first : Policy) (past : Run) (event : PlainEvent)
     (answer : Answer) : Type 0 where
   pub was : Policy
@@ -151,7 +163,7 @@ HaveOneHistory (Then before event answer) (Then other another reply) =
 
 -- an Interest that is a command, or asks for a segment of a list
 abbrev pub is_request : Request → Bool
-is_request (Unheard reason) = false
+is_request (Refused reason) = false
 is_request (ForList asked) = true
 is_request ForTables = true
 is_request ForRepository = true
@@ -165,10 +177,10 @@ IsRequestPacket p face (Ok (ANack reason whole i)) = ⊥
 IsRequestPacket p face (Ok Idle) = ⊥
 
 abbrev pub BringsRequest : Policy → PlainEvent → Type 0
-BringsRequest p (Packet face moment octets) = IsRequestPacket p face (frame_at octets)
-BringsRequest p (FaceUp face scope moment) = ⊥
-BringsRequest p (FaceDown face moment) = ⊥
-BringsRequest p (Tick moment) = ⊥
+BringsRequest p (Packet face t octets) = IsRequestPacket p face (frame_at octets)
+BringsRequest p (FaceUp face scope t) = ⊥
+BringsRequest p (FaceDown face t) = ⊥
+BringsRequest p (Tick t) = ⊥
 
 -- a Data, allowed or not
 abbrev pub IsDataPacket : Result PlainFrame PacketFault → Type 0
@@ -179,10 +191,10 @@ IsDataPacket (Ok (ANack reason whole i)) = ⊥
 IsDataPacket (Ok Idle) = ⊥
 
 abbrev pub BringsData : PlainEvent → Type 0
-BringsData (Packet face moment octets) = IsDataPacket (frame_at octets)
-BringsData (FaceUp face scope moment) = ⊥
-BringsData (FaceDown face moment) = ⊥
-BringsData (Tick moment) = ⊥
+BringsData (Packet face t octets) = IsDataPacket (frame_at octets)
+BringsData (FaceUp face scope t) = ⊥
+BringsData (FaceDown face t) = ⊥
+BringsData (Tick t) = ⊥
 
 -- ---- denied events
 

@@ -22,7 +22,7 @@ key_named Other = None
 abbrev pub signer_in : PlainSignatureInfo → Signer
 signer_in info = if info.kind == DIGEST_SHA256 then None else key_named info.locator
 
--- what is recorded of a command that says who signed it and when
+-- what is recorded of a command: each that is allowed says who signed it and when
 abbrev pub recorded_with : PlainSignatureInfo → Option ℕ → Option Recorded
 recorded_with info None = None
 recorded_with info (Some time) =
@@ -39,7 +39,7 @@ abbrev pub IsFreshCommand : Policy → PlainInterest → Type 0
 IsFreshCommand p i =
     IfSome (recorded_of i) (λ r. IsFresh p.guard r.signer r.time r.number p.now)
 
--- what holds of a packet beside the rules
+-- a command has to be fresh; of Data nothing more is asked
 abbrev pub IsFreshPacket : Policy → PlainFrame → Type 0
 IsFreshPacket p (AnInterest whole i) = IsFreshCommand p i
 IsFreshPacket p (AData whole d) = ⊤

@@ -1,21 +1,19 @@
--- Why octets are sent: each send of an answer is a Data that answers a pending Interest or the
--- Interest of the event itself, or it is an Interest or a Nack.
-use Rattle.std.specs.Prelude.{◌≡◌, ◌≢◌, ◌⊎◌, ℕ, List, Option, Some, All, Ok}
+-- Why Data are sent: each answers an Interest that is pending on its face, or the Interest of the
+-- event itself.
+use Rattle.std.specs.Prelude.{◌≡◌, ◌≢◌, ◌⊎◌, ℕ, List, [], ◌∷◌, Bool, true, false, Some, All, Ok, ⊤, ◌==◌}
 use Rattle.sha2.specs.Sha256.{sha256}
-use Rattle.ndn_tlv.specs.Element.{Field}
 use Rattle.ndn_packets.specs.FrameReading.{frame_at}
 use Rattle.ndn_packets.specs.Key.{key_of}
 use Rattle.ndn_packets.specs.Packet.{PlainInterest, PlainData, AnInterest, AData}
-use Rattle.ndn_packets.specs.Writing.{nack_text, reply_text}
+use Rattle.ndn_packets.specs.Writing.{AreOctets, reply_text}
+use Rattle.ndn_packets.specs.declared.types.TheConstants.{DATA}
 use Rattle.info_rules.specs.declared.rules.RuleNo.{RuleNo}
 use Rattle.info_rules.specs.declared.decision.Decision.TheVariants.{Allowed}
-use Rattle.repo_core.specs.declared.reply.Want.{Want}
 use Rattle.repo_core.specs.Objects.{served}
-use Rattle.node_core.specs.Event.{PlainEvent, Packet, Send}
-use Rattle.node_core.specs.NextHops.{sent_on}
+use Rattle.node_core.specs.Event.{PlainEvent, Packet, FaceUp, FaceDown, Tick, Send}
 use Rattle.node_core.specs.Said.{IsSaid}
-use Rattle.node_core.specs.Commands.{fetch_text}
-use Rattle.node_core.specs.Datasets.{segment_data}
+use Rattle.node_core.specs.Datasets.{segment_data, segment_name}
+use Rattle.node_core.specs.Request.{ListAsked, is_command, list_asked, request_of}
 use Rattle.node_core.specs.Replies.{Seen, Waits}
 use Rattle.node_core.specs.Verdict.{Answer}
 
@@ -36,14 +34,17 @@ pub record IsForwardedData (seen : Seen) (event : PlainEvent) (sent : Send) : Ty
   pub received : sent.1 ≡ whole
 
 -- where a Data comes from that answers an Interest at once: the cache gives it, the repository
--- stores it, or the node makes it: a reply to a command, or a segment of a list
-abbrev pub IsAtHand : Seen → PlainInterest → List ℕ → Type 0
-IsAtHand seen i octets =
+-- stores it, or the node makes it: a reply to a command, or the segment of the list that is asked
+-- for
+abbrev pub IsAtHand : Seen → ℕ → PlainInterest → List ℕ → Type 0
+IsAtHand seen face i octets =
     seen.MayGive (key_of i) (Some octets)
     ⊎ ((served i.name i.can_be_prefix seen.policy.held.objects ≡ Some octets)
-    ⊎ (((content : List ℕ) × (octets ≡ reply_text i.name content))
-    ⊎ ((name : List Field) × (content : List ℕ) × (last : ℕ)
-    × (octets ≡ segment_data name content last))))
+    ⊎ (((is_command (request_of seen.policy face i) ≡ true)
+    × ((content : List ℕ) × (octets ≡ reply_text i.name content)))
+    ⊎ ((asked : ListAsked) × (content : List ℕ) × (last : ℕ) × (list_asked i ≡ Some asked)
+    × (octets ≡ segment_data (segment_name asked.kind seen.policy.table_number asked.segment)
+    content last))))
 
 -- the event brings an Interest, and such a Data goes back to its face
 pub record IsReply (seen : Seen) (event : PlainEvent) (sent : Send) : Type 0 where
@@ -53,18 +54,24 @@ pub record IsReply (seen : Seen) (event : PlainEvent) (sent : Send) : Type 0 whe
   pub interest : PlainInterest
   pub brings : event ≡ Packet sent.0 now octets
   pub read : frame_at octets ≡ Ok (AnInterest whole interest)
-  pub at_hand : IsAtHand seen interest sent.1
+  pub at_hand : IsAtHand seen sent.0 interest sent.1
 
--- no Data: the Interest of the event with HopLimit lowered, one that an insert sends, or a Nack
-abbrev pub IsNoData : Send → Type 0
-IsNoData sent =
-    ((whole : List ℕ) × (limit : Option ℕ) × (sent.1 ≡ sent_on whole limit))
-    ⊎ (((want : Want) × (nonce : List ℕ) × (sent.1 ≡ fetch_text want nonce))
-    ⊎ ((reason : ℕ) × (interest : List ℕ) × (sent.1 ≡ nack_text reason interest)))
+-- whether octets are those of a Data, by their first one, which is its type
+abbrev pub is_data : List ℕ → Bool
+is_data [] = false
+is_data (octet ∷ octets) = octet == DATA
 
+-- each Data that is sent is one of these two; what else is sent is no Data
 abbrev pub IsExplained : Seen → PlainEvent → Send → Type 0
 IsExplained seen event sent =
-    IsForwardedData seen event sent ⊎ (IsReply seen event sent ⊎ IsNoData sent)
+    IsForwardedData seen event sent ⊎ (IsReply seen event sent ⊎ (is_data sent.1 ≡ false))
 
 abbrev pub EachIsExplained : Seen → PlainEvent → Answer → Type 0
 EachIsExplained seen event answer = All (IsExplained seen event) answer.sends
+
+-- the octets of an event are numbers below 256
+abbrev pub BringsOctets : PlainEvent → Type 0
+BringsOctets (Packet face now octets) = AreOctets octets
+BringsOctets (FaceUp face scope now) = ⊤
+BringsOctets (FaceDown face now) = ⊤
+BringsOctets (Tick now) = ⊤

@@ -5,25 +5,25 @@ use Rattle.info_rules.specs.declared.rule.Kind.{Kind}
 use Rattle.info_rules.specs.declared.decision.Reason.{Reason}
 use Rattle.node_core.specs.Event.{Send}
 
--- one fact where a test passes, and another where it does not
-abbrev pub Either : Bool → Type 0 → Type 0 → Type 0
-Either true A B = A
-Either false A B = B
+-- the first fact where a test passes, the second where it does not
+abbrev pub WhereTrue : Bool → Type 0 → Type 0 → Type 0
+WhereTrue true A B = A
+WhereTrue false A B = B
 
 -- why an event was dropped
-pub data Drop : Type 0 where
-  NoFace : Drop
-  Malformed : (fault : PacketFault) → Drop
-  Idle : Drop
-  HopLimit : Drop
-  Scope : Drop
-  Loop : Drop
-  PitFull : Drop
-  NoPending : Drop
-  NoSegment : Drop
-  BadFace : Drop
-  FaceOpen : Drop
-  FacesFull : Drop
+pub data DropReason : Type 0 where
+  NoFace : DropReason
+  Malformed : (fault : PacketFault) → DropReason
+  Idle : DropReason
+  HopLimit : DropReason
+  Scope : DropReason
+  Loop : DropReason
+  PitFull : DropReason
+  NoPending : DropReason
+  NoSegment : DropReason
+  BadFace : DropReason
+  FaceOpen : DropReason
+  FacesFull : DropReason
 
 -- Rules stand by their numbers, counted from 0.
 pub data Verdict : Type 0 where
@@ -33,13 +33,13 @@ pub data Verdict : Type 0 where
   DataAllowed : (rule : ℕ) → Verdict
   Denied : (kind : Kind) (rule : ℕ) (reason : Reason) → Verdict
   NoRule : (kind : Kind) → Verdict
-  Dropped : (reason : Drop) → Verdict
+  Dropped : (reason : DropReason) → Verdict
 
 pub record Answer : Type 0 where
   pub verdict : Verdict
   pub sends : List Send
 
-abbrev pub dropped : Drop → Answer
+abbrev pub dropped : DropReason → Answer
 dropped reason = record { verdict = Dropped reason; sends = [] }
 
 abbrev pub passed : List Send → Answer

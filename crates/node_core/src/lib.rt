@@ -18,9 +18,11 @@ mod word;
 
 pub use event::{DropReason, Event, Scope, Verdict};
 pub use law::{
-    denied_events_change_nothing, each_send_is_explained, events_have_one_effect, histories_decide,
-    new_nodes_stand_in_no_run, refused_steps_stand_still, steps_go_on_with_runs,
-    steps_have_one_effect,
+    cached_data_were_allowed, commands_are_allowed_once, denials_name_their_rule,
+    denied_events_change_nothing, each_send_is_explained, events_have_one_effect,
+    guards_hold_allowed_commands, histories_decide, new_nodes_stand_in_the_empty_run,
+    objects_were_allowed, records_are_read_off_the_run, refused_steps_stand_still,
+    steps_go_on_with_runs, steps_have_one_effect,
 };
 pub use node::{Node, NodeFault, NodeParts};
 pub use outbox::Outbox;

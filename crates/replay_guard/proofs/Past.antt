@@ -27,7 +27,7 @@ raised_after (Some l) t n time number =
     )
 
 -- what one more command adds
-one_more : (table : Signer → Option Latest) (r : Recorded) (signer : Signer) (time : ℕ) (number : Option ℕ) (b : Bool) → eq_by_cmp signer_cmp signer r.signer ≡ b
+pub one_more : (table : Signer → Option Latest) (r : Recorded) (signer : Signer) (time : ℕ) (number : Option ℕ) (b : Bool) → eq_by_cmp signer_cmp signer r.signer ≡ b
     → (IsAfter (cond b (Some (raised (table r.signer) r.time r.number)) (table signer)) time number → IsAfter (table signer) time number × IsNewer signer time number r)
     × (IsAfter (table signer) time number → IsNewer signer time number r → IsAfter (cond b (Some (raised (table r.signer) r.time r.number)) (table signer)) time number)
 one_more table r signer time number true e =
