@@ -81,7 +81,7 @@ sent_before (Removed key) k f was e = gone ⊥ was (same_key k key) e
 sent_before (Closed face) k f was e = gone ⊥ was (eqb f face) e
 
 -- a face has records of an entry
-abbrev InRecords : Records → ℕ → Type 0
+abbrev pub InRecords : Records → ℕ → Type 0
 InRecords r f = IsSome (get r.asks f) ⊎ IsSome (get r.asked f)
 
 in_changed : (cause : Cause) (k : PlainKey) (r : Records) (f : ℕ) → InRecords (changed cause k r) f → InRecords r f ⊎ Adds cause f
@@ -98,12 +98,48 @@ in_settled : (r : Records) (f : ℕ) (b : Bool) → InRecords (cond b r no_recor
 in_settled r f true e = e
 in_settled r f false e = in_none f e
 
+-- a face in the records of a key was in them, or the cause put it there
+pub in_after : (cause : Cause) (k : PlainKey) (r : Records) (f : ℕ) → InRecords (records_after cause k r) f → InRecords r f ⊎ Adds cause f
+in_after cause k r f e = in_changed cause k r f (in_settled (changed cause k r) f (is_alive (changed cause k r)) e)
+
 -- a face with a record had one, or the cause gave it one
 pub had_record : (cause : Cause) (old new : Pending) → Follows cause old new → (f : ℕ) → HasRecord new f → HasRecord old f ⊎ Adds cause f
 had_record cause old new follows f (k, e) =
     let now : InRecords (records_after cause k (records_at old k)) f = subst (λ r. InRecords r f) (follows k) e in
     let before = in_changed cause k (records_at old k) f (in_settled (changed cause k (records_at old k)) f (is_alive (changed cause k (records_at old k))) now) in
     elim before [ (inl was) ↦ inl (k, was) | (inr adds) ↦ inr adds ]
+
+-- a cause that gives no face a record
+abbrev pub GivesNone : Cause → Type 0
+GivesNone cause = (f : ℕ) → Adds cause f → ⊥
+
+-- After a cause that gives none, as time, Data, a Nack, a withdrawal, a removal or a closing, a face
+-- with a record had one before.
+pub had_records : (cause : Cause) (old new : Pending) → GivesNone cause → Follows cause old new → (f : ℕ) → HasRecord new f → HasRecord old f
+had_records cause old new none follows f has =
+    elim (had_record cause old new follows f has) [ (inl was) ↦ was | (inr adds) ↦ absurd (none f adds) ]
+
+-- a face that closed has no record
+closed_asks : (face : ℕ) (k : PlainKey) (was : Option Ask) → IsSome (ask_after (Closed face) k face was) → ⊥
+closed_asks face k was e = never (subst (λ b. IsSome (cond b None was)) (same face) e)
+  where
+    same : (n : ℕ) → eqb n n ≡ true
+    same n = grind (arith, nat_tests)
+
+closed_sent : (face : ℕ) (k : PlainKey) (was : Option Sent) → IsSome (sent_after (Closed face) k face was) → ⊥
+closed_sent face k was e = never (subst (λ b. IsSome (cond b None was)) (same face) e)
+  where
+    same : (n : ℕ) → eqb n n ≡ true
+    same n = grind (arith, nat_tests)
+
+pub closed_has_none : (face : ℕ) (old new : Pending) → Follows (Closed face) old new → HasRecord new face → ⊥
+closed_has_none face old new follows (k, e) =
+    let r = records_at old k in
+    let now : InRecords (records_after (Closed face) k r) face = subst (λ r. InRecords r face) (follows k) e in
+    elim (in_settled (changed (Closed face) k r) face (is_alive (changed (Closed face) k r)) now) [
+      | (inl some) ↦ closed_asks face k (get r.asks face) (subst (λ (o : Option Ask). IsSome o) (get-changed (Closed face) k face r) some)
+      | (inr some) ↦ closed_sent face k (get r.asked face) (subst (λ (o : Option Sent). IsSome o) (get-changed_asked (Closed face) k face r) some)
+    ]
 
 all_before : {P Q : ℕ → Type 0} → ((f : ℕ) → P f → Q f) → (faces : List ℕ) → AllByRecursion P faces → AllByRecursion Q faces
 all_before sub [] h = tt

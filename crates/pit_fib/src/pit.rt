@@ -107,6 +107,7 @@ impl Pit {
         ensures pending { self.new.pending ≡ self.old.pending }
         ensures ok { OnOk result (self.new.prepared ≡ Some (plain_key key.entry, octets)) }
         ensures err { OnErr result (self.new.prepared ≡ None) }
+        ensures living { HoldsTheLiving self.new.pending }
     {
         self.spare = None;
         self.entries.reserve(1)?;
@@ -141,6 +142,7 @@ impl Pit {
         ensures promised { (octets : ℕ)
             → self.old.prepared ≡ Some (plain_key key.entry, octets)
             → length interest.now ≤ octets → IfErr result (λ fault. fault ≢ faults.Memory) }
+        ensures living { HoldsTheLiving self.new.pending }
     {
         if self.is_full_for(key) {
             self.spare = None;
@@ -177,6 +179,7 @@ impl Pit {
         ensures promised { (octets : ℕ)
             → self.old.prepared ≡ Some (plain_key key.entry, octets)
             → length interest.now ≤ octets → IsOk result }
+        ensures living { HoldsTheLiving self.new.pending }
     {
         let spare = self.spare.take();
         let mut spare = spare_for(self.alloc, spare, key, interest.len())?;
@@ -204,6 +207,7 @@ impl Pit {
         ensures pending { Follows (SentTo (plain_key key.entry) face nonce now)
             self.old.pending self.new.pending }
         ensures ended { self.new.prepared ≡ None }
+        ensures living { HoldsTheLiving self.new.pending }
     {
         self.spare = None;
         match place_of(&self.entries, key) {
@@ -241,6 +245,7 @@ impl Pit {
         ensures faces { (face : ℕ) → IsTrue (has_face face result)
             ↔ WaitsFor self.old.pending (components packet.now.name)
             (sha256 packet.now.whole.now) face }
+        ensures living { HoldsTheLiving self.new.pending }
     {
         let mut packet = Answering::new(packet);
         let mut faces = Faces::new();
@@ -259,6 +264,7 @@ impl Pit {
         ensures pending { Follows (NackCame (plain_key key.entry) face nonce reason)
             self.old.pending self.new.pending }
         ensures ended { self.new.prepared ≡ None }
+        ensures living { HoldsTheLiving self.new.pending }
     {
         self.spare = None;
         match place_of(&self.entries, key) {
@@ -272,6 +278,7 @@ impl Pit {
         ensures pending { Follows (Withdrawn (plain_key key.entry) face)
             self.old.pending self.new.pending }
         ensures prepared { self.new.prepared ≡ self.old.prepared }
+        ensures living { HoldsTheLiving self.new.pending }
     {
         self.entries.retain_mut(|entry| entry.withdraw(key, face));
     }
@@ -281,6 +288,7 @@ impl Pit {
         ensures pending { Follows (Removed (plain_key key.entry))
             self.old.pending self.new.pending }
         ensures prepared { self.new.prepared ≡ self.old.prepared }
+        ensures living { HoldsTheLiving self.new.pending }
     {
         self.entries.retain(|entry| !entry.is_of(key));
     }
@@ -289,6 +297,7 @@ impl Pit {
     pub fn expire(&mut self, now: u64)
         ensures pending { Follows (Expires now) self.old.pending self.new.pending }
         ensures prepared { self.new.prepared ≡ self.old.prepared }
+        ensures living { HoldsTheLiving self.new.pending }
     {
         self.entries.retain_mut(|entry| entry.expire(now));
     }
@@ -297,6 +306,7 @@ impl Pit {
     pub fn close_face(&mut self, face: u64)
         ensures pending { Follows (Closed face) self.old.pending self.new.pending }
         ensures prepared { self.new.prepared ≡ self.old.prepared }
+        ensures living { HoldsTheLiving self.new.pending }
     {
         self.entries.retain_mut(|entry| entry.close_face(face));
     }

@@ -1,3 +1,4 @@
+use Rattle.pit_fib.proofs.PendingPlaces.{holds_the_living}
 use Rattle.std.proofs.Common.{rules, ◌≡◌, refl, ap, subst, sym}
 use Rattle.std.specs.FinMap.{from_entries}
 use Rattle.pit_fib.specs.Records.{Pending}
@@ -28,3 +29,7 @@ invariant_of-self c =
 
 pub returns-clause-pending : goal.returns-clause-pending
 returns-clause-pending c = subst (λ (old : Pending). Follows (Closed c.args.face) old (from_entries c.retain_mut.new.self.items)) (ap (λ (s : PitState). s.pending) c.self.view_is) (follows c)
+
+pub returns-clause-living : goal.returns-clause-living
+returns-clause-living c =
+    holds_the_living c.retain_mut.new.self.items _ (subst AllLive (sym (left c)) (live_after (changed (Closed c.args.face)) c.self.inside.entries.items)) refl

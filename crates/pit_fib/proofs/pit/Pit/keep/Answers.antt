@@ -1,4 +1,4 @@
-use Rattle.std.proofs.Common.{◌≡◌, inr, ℕ, true, List, ap, sym, subst, set, ◌∙◌, ◌++◌, ◌∷◌, [], arith}
+use Rattle.std.proofs.Common.{refl, ◌≡◌, inr, ℕ, true, List, ap, sym, subst, set, ◌∙◌, ◌++◌, ◌∷◌, [], arith}
 use Rattle.std.specs.Prelude.{None}
 use Rattle.std.specs.Ordering.{nat_cmp}
 use Rattle.std.specs.FinMap as map
@@ -8,7 +8,7 @@ use Rattle.pit_fib.specs.Records.{Ask, Asks, Records, Pending, is_alive}
 use Rattle.pit_fib.specs.Cause.{Arrives, changed, Follows}
 use Rattle.pit_fib.specs.Entries.{AllLive, AreApart}
 use Rattle.pit_fib.specs.Pit.{PitState, HasRoomFor}
-use Rattle.pit_fib.proofs.PendingPlaces.{IsAt, arrives_elsewhere, arrives_here, alive_insert, set_live, set_apart, set_follows, push_live, push_apart, push_follows, seen_here}
+use Rattle.pit_fib.proofs.PendingPlaces.{holds_the_living, IsAt, arrives_elsewhere, arrives_here, alive_insert, set_live, set_apart, set_follows, push_live, push_apart, push_follows, seen_here}
 use Rattle.pit_fib.proofs.PendingFaces.{grows_few, room_for_ask}
 use Rattle.pit_fib.proofs.pit.Pit.keep.Goals as goal
 use Rattle.pit_fib.proofs.pit.Pit.keep.Goals.{After-drop-spare-in-Some-3, In_ok-push-in-None}
@@ -110,3 +110,25 @@ invariant_of-self-in-Continue-branch-5 c =
 pub returns-in_ok-push-in-None-clause-ok : goal.returns-in_ok-push-in-None-clause-ok
 returns-in_ok-push-in-None-clause-ok c =
     subst (λ (old : Pending). Follows (Arrives (plain_key c.args.key) c.args.face (record { interest = c.args.interest.now; nonce = c.args.nonce; deadline = c.args.deadline })) old (from_entries c.push.new.self.items)) (ap (λ (s : PitState). s.pending) c.self.view_is) (new_follows c)
+
+-- ---- under each key some face asks
+
+pub returns-in_err-spare-clause-living : goal.returns-in_err-spare-clause-living
+returns-in_err-spare-clause-living c = holds_the_living c.self.inside.entries.items _ c.self.invariant.0 refl
+
+pub returns-in_err-push-in-None-clause-living : goal.returns-in_err-push-in-None-clause-living
+returns-in_err-push-in-None-clause-living c =
+    holds_the_living c.push.new.self.items _ (subst AllLive (sym c.in_err-push-in-None.ensures.items) c.self.invariant.0) refl
+
+pub returns-in_ok-arrive-in-Some-clause-living : goal.returns-in_ok-arrive-in-Some-clause-living
+returns-in_ok-arrive-in-Some-clause-living c =
+    let key = plain_key c.args.key in
+    let ask : Ask = (record { interest = c.args.interest.now; nonce = c.args.nonce; deadline = c.args.deadline }) in
+    holds_the_living (set c.self.inside.entries.items c.in-Some.at c.arrive.new.self) _
+    (set_live key c.self.inside.entries.items c.in-Some.at c.index_mut.result.now (place c) c.index_mut.ensures.value c.self.invariant.1 (Arrives key c.args.face ask) (arrives_elsewhere key c.args.face ask) c.arrive.new.self c.arrive.ensures.key (own c) (alive c) c.self.invariant.0) refl
+
+pub returns-in_ok-push-in-None-clause-living : goal.returns-in_ok-push-in-None-clause-living
+returns-in_ok-push-in-None-clause-living c =
+    let ask : Ask = (record { interest = c.args.interest.now; nonce = c.args.nonce; deadline = c.args.deadline }) in
+    holds_the_living c.push.new.self.items _
+    (subst AllLive (sym (pushed c)) (push_live (plain_key c.args.key) c.self.inside.entries.items (none c) c.args.face ask c.arrive-in-None.new.self (new_key c) (new_records c) c.self.invariant.0 c.self.invariant.1)) refl

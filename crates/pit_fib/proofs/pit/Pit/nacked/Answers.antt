@@ -1,4 +1,4 @@
-use Rattle.std.proofs.Common.{◌≡◌, ℕ, true, cond, List, ap, sym, subst, set, ◌∙◌}
+use Rattle.std.proofs.Common.{refl, ◌≡◌, ℕ, true, cond, List, ap, sym, subst, set, ◌∙◌}
 use Rattle.std.specs.Prelude.{None, Option}
 use Rattle.std.specs.Ordering.{nat_cmp}
 use Rattle.std.specs.FinMap.{find, from_entries, entries, empty, get-empty}
@@ -7,7 +7,7 @@ use Rattle.pit_fib.specs.declared.nacked.Nacked.TheVariants.{NoPending}
 use Rattle.pit_fib.specs.Records.{Sent, Records, Pending, is_alive, no_records}
 use Rattle.pit_fib.specs.Cause.{NackCame, changed, with_reason, Follows}
 use Rattle.pit_fib.specs.Pit.{PitState, was_sent, all_nacked, least_reason, nacked_answer}
-use Rattle.pit_fib.proofs.PendingPlaces.{IsAt, live_at, nacked_elsewhere, nacked_here, set_live, set_apart, set_follows, seen_here, seen_nothing, nothing_follows, nacked_nothing}
+use Rattle.pit_fib.proofs.PendingPlaces.{holds_the_living, IsAt, live_at, nacked_elsewhere, nacked_here, set_live, set_apart, set_follows, seen_here, seen_nothing, nothing_follows, nacked_nothing}
 use Rattle.pit_fib.proofs.PendingFaces.{stays_few}
 use Rattle.pit_fib.proofs.pit.Pit.nacked.Goals as goal
 use Rattle.pit_fib.proofs.pit.Pit.nacked.Goals.{After-self-in-Some-1}
@@ -65,3 +65,11 @@ returns-in-None-clause-pending c =
     subst (λ (old : Pending). Follows (NackCame (plain_key c.args.key) c.args.face c.args.nonce c.args.reason) old (from_entries es)) (ap (λ (s : PitState). s.pending) c.self.view_is)
     (nothing_follows key es (NackCame (plain_key c.args.key) c.args.face c.args.nonce c.args.reason) (nacked_elsewhere key c.args.face c.args.nonce c.args.reason) (nacked_nothing key c.args.face c.args.nonce c.args.reason)
     (subst (λ (l : List (PlainKey × Records)). find key_cmp key l ≡ None) c.deref.ensures.value c.in-None.ensures) c.self.invariant.0)
+
+pub returns-in-Some-clause-living : goal.returns-in-Some-clause-living
+returns-in-Some-clause-living c =
+    holds_the_living (set c.self.inside.entries.items c.in-Some.at c.nacked.new.self) _
+    (set_live (plain_key c.args.key) c.self.inside.entries.items c.in-Some.at c.index_mut.result.now (place c) c.index_mut.ensures.value c.self.invariant.1 (NackCame (plain_key c.args.key) c.args.face c.args.nonce c.args.reason) (nacked_elsewhere (plain_key c.args.key) c.args.face c.args.nonce c.args.reason) c.nacked.new.self c.nacked.ensures.key (own c) (alive c) c.self.invariant.0) refl
+
+pub returns-in-None-clause-living : goal.returns-in-None-clause-living
+returns-in-None-clause-living c = holds_the_living c.self.inside.entries.items _ c.self.invariant.0 refl

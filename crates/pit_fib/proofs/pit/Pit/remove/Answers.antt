@@ -1,3 +1,4 @@
+use Rattle.pit_fib.proofs.PendingPlaces.{holds_the_living}
 use Rattle.std.proofs.Common.{rules, ◌≡◌, refl, ap, subst, sym, not, ◌∙◌, Bool, true, false, cond}
 use Rattle.std.proofs.lemmas.Fn.{filter_same}
 use Rattle.std.specs.FinMap.{from_entries}
@@ -35,3 +36,7 @@ invariant_of-self c =
 
 pub returns-clause-pending : goal.returns-clause-pending
 returns-clause-pending c = subst (λ (old : Pending). Follows (Removed (plain_key c.args.key)) old (from_entries c.retain.new.self.items)) (ap (λ (s : PitState). s.pending) c.self.view_is) (follows c)
+
+pub returns-clause-living : goal.returns-clause-living
+returns-clause-living c =
+    holds_the_living c.retain.new.self.items _ (subst AllLive (sym (left c)) (live_after (changed (Removed (plain_key c.args.key))) c.self.inside.entries.items)) refl

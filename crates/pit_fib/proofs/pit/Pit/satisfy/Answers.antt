@@ -1,3 +1,4 @@
+use Rattle.pit_fib.proofs.PendingPlaces.{holds_the_living}
 use Rattle.std.proofs.Common.{rules, ◌≡◌, ℕ, Bool, true, false, List, refl, sym, ap, subst, get_or, set, length, ◌∙◌, arith}
 use Rattle.std.proofs.lemmas.Fn.{filter_same}
 use Rattle.std.proofs.lemmas.List.{take_all}
@@ -129,3 +130,8 @@ returns-clause-faces c = λ f.
     ap (λ (l : List (PlainKey × Records)). from_entries l) c.deref_mut.ensures.value ∙ ap (λ (s : PitState). s.pending) c.self.view_is in
     subst (λ (p : Pending). IsTrue (has_face f c.loop-entry.faces) ↔ WaitsFor p name digest f) old
     (subst (λ b. IsTrue b ↔ WaitsFor (from_entries es) name digest f) (sym all) (asked_exactly name digest es apart f))
+
+pub returns-clause-living : goal.returns-clause-living
+returns-clause-living c =
+    let cause = Satisfied (components c.args.packet.now.name) (sha256 c.args.packet.now.whole.now) in
+    holds_the_living c.retain.new.self.items _ (subst AllLive (sym (left c)) (live_after (changed cause) c.self.inside.entries.items)) refl

@@ -1,11 +1,11 @@
-use Rattle.std.proofs.Common.{◌≡◌, true, false, List, ap, sym, subst, set, ◌∙◌}
+use Rattle.std.proofs.Common.{refl, ◌≡◌, true, false, List, ap, sym, subst, set, ◌∙◌}
 use Rattle.std.specs.FinMap.{from_entries}
 use Rattle.ndn_packets.specs.Key.{PlainKey, plain_key}
 use Rattle.pit_fib.specs.Records.{Records, Pending, is_alive}
 use Rattle.pit_fib.specs.Cause.{SentTo, changed, Follows}
 use Rattle.pit_fib.specs.Pit.{PitState, HasRoomFor}
 use Rattle.pit_fib.proofs.PendingTables.{dead_none}
-use Rattle.pit_fib.proofs.PendingPlaces.{IsAt, live_at, sent_elsewhere, sent_here, set_live, set_apart, set_follows, seen_here, seen_nothing}
+use Rattle.pit_fib.proofs.PendingPlaces.{holds_the_living, IsAt, live_at, sent_elsewhere, sent_here, set_live, set_apart, set_follows, seen_here, seen_nothing}
 use Rattle.pit_fib.proofs.PendingFaces.{grows_few, room_for_sent}
 use Rattle.pit_fib.proofs.pit.Pit.sent.Goals as goal
 use Rattle.pit_fib.proofs.pit.Pit.sent.Goals.{After-self-in-Some-1}
@@ -51,3 +51,11 @@ sent-requires c =
 pub returns-in-None-clause-pending : goal.returns-in-None-clause-pending
 returns-in-None-clause-pending c =
     let gone : false ≡ true = sym dead_none ∙ ap is_alive (sym (seen_nothing (plain_key c.args.key) c.self.inside.entries.items c.deref.result.now c.args.self.now.pending (ap (λ (s : PitState). s.pending) c.self.view_is) c.deref.ensures.value c.in-None.ensures)) ∙ c.requires.stands in cc
+
+pub returns-in-Some-clause-living : goal.returns-in-Some-clause-living
+returns-in-Some-clause-living c =
+    holds_the_living (set c.self.inside.entries.items c.in-Some.at c.sent.new.self) _
+    (set_live (plain_key c.args.key) c.self.inside.entries.items c.in-Some.at c.index_mut.result.now (place c) c.index_mut.ensures.value c.self.invariant.1 (SentTo (plain_key c.args.key) c.args.face c.args.nonce c.args.now) (sent_elsewhere (plain_key c.args.key) c.args.face c.args.nonce c.args.now) c.sent.new.self c.sent.ensures.key (own c) (alive c) c.self.invariant.0) refl
+
+pub returns-in-None-clause-living : goal.returns-in-None-clause-living
+returns-in-None-clause-living c = holds_the_living c.self.inside.entries.items _ c.self.invariant.0 refl
