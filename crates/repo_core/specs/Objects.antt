@@ -1,13 +1,15 @@
 -- The Data that a repository stores (NDN Packet Format 0.3, "Name", "Implicit Digest Component").
-use Rattle.std.specs.Prelude.{ℕ, ◌==◌, List, [], ◌∷◌, length, drop, filter, not, Bool, true, false, ◌&&◌, ◌||◌, Option, None, Some, if◌then◌else◌}
+use Rattle.std.specs.Prelude.{◌≡◌, ℕ, ◌==◌, List, [], ◌∷◌, length, drop, filter, not, Bool, true, false, ◌&&◌, ◌||◌, Option, None, Some, if◌then◌else◌}
 use Rattle.std.specs.declared.cmp.Ordering.{Ordering}
-use Rattle.std.specs.FinMap.{FinMap, entries, from_sorted}
+use Rattle.std.specs.FinMap.{FinMap, entries, from_sorted, get}
 use Rattle.sha2.specs.Sha256.{sha256}
 use Rattle.ndn_tlv.specs.Element.{Field}
 use Rattle.ndn_names.specs.Order.{name_cmp}
 use Rattle.ndn_names.specs.declared.component_type.TheConstants.{IMPLICIT_SHA256_DIGEST}
 use Rattle.ndn_names.specs.View.{components}
 use Rattle.ndn_packets.specs.Answers.{begins_with, full_name}
+use Rattle.ndn_packets.specs.Grammar.{IsData}
+use Rattle.ndn_packets.specs.Packet.{PlainData}
 use Rattle.ndn_packets.specs.declared.data.Data.{Data}
 
 -- the octets of Data by their full names, in canonical order
@@ -17,6 +19,17 @@ Objects = FinMap name_cmp (List ℕ)
 -- a Data as it is stored: its full name and its octets
 abbrev pub object_of : Data → List Field × List ℕ
 object_of d = (full_name (components d.name) (sha256 d.whole.now), d.whole.now)
+
+-- the octets are a Data, and this is its full name
+pub record IsObject (full : List Field) (octets : List ℕ) : Type 0 where
+  pub packet : PlainData
+  pub read : IsData octets packet
+  pub name : full ≡ full_name packet.name (sha256 octets)
+
+-- what is stored is Data, each under its full name
+abbrev pub AreObjects : Objects → Type 0
+AreObjects objects =
+    (full : List Field) (octets : List ℕ) → get objects full ≡ Some octets → IsObject full octets
 
 -- the map of the entries that pass a test
 unfoldable pub kept : {K X : Type 0} {R : K → K → Ordering} → (K × X → Bool) → FinMap R X

@@ -2,12 +2,15 @@
 
 ghost use Rattle.std.specs.Prelude.{◌≡◌, ◌↔◌, ◌+◌, ◌≤◌, ◌++◌, ◌∷◌, [], ℕ, List, Bool, Option, Some, IsSome, length, true};
 ghost use Rattle.std.specs.FinMap as map;
+ghost use Rattle.sha2.specs.Sha256.{sha256};
 ghost use Rattle.ndn_tlv.specs.Element.{Field};
 ghost use Rattle.ndn_names.specs.declared.component_type.TheConstants.{GENERIC};
 ghost use Rattle.ndn_packets.specs.Answers.{answers, begins_with, full_name};
+ghost use Rattle.ndn_packets.specs.Grammar.{IsData};
+ghost use Rattle.ndn_packets.specs.Packet.{PlainData};
 ghost use Rattle.repo_core.specs.declared.verb.Verb.{Verb};
 ghost use Rattle.repo_core.specs.Commands.{repo_text_of, verb_row};
-ghost use Rattle.repo_core.specs.Objects.{Objects, full_name_answers, if_kept, kept};
+ghost use Rattle.repo_core.specs.Objects.{AreObjects, Objects, full_name_answers, if_kept, kept};
 ghost use Rattle.repo_core.specs.Reading.{RepoCommand, verb_at};
 ghost use Rattle.repo_core.specs.Repo.{Held, IsWithinLimits, after_command, after_offer, after_time, reply_to};
 ghost use Rattle.repo_core.specs.Wants.{WantKey, Wants, is_wanted, wants_after};
@@ -59,6 +62,17 @@ pub fn limits_are_kept()
     ensures offer { (name : List Field) (digest octets : List ℕ) (s : Held)
         → IsWithinLimits s → IsWithinLimits (after_offer name digest octets s) }
     ensures time { (now : ℕ) (s : Held) → IsWithinLimits s → IsWithinLimits (after_time now s) }
+{}
+
+/// Law: where all objects are Data under their full names, they stay so, whatever comes.
+pub fn objects_stay_data()
+    ensures command { (start name : List Field) (now : ℕ) (s : Held)
+        → AreObjects s.objects → AreObjects (after_command start name now s).objects }
+    ensures offer { (packet : PlainData) (octets : List ℕ) (s : Held) → IsData octets packet
+        → AreObjects s.objects
+        → AreObjects (after_offer packet.name (sha256 octets) octets s).objects }
+    ensures time { (now : ℕ) (s : Held)
+        → AreObjects s.objects → AreObjects (after_time now s).objects }
 {}
 
 /// Law: what is there of one name, or of one want, after those that fail a test are gone.

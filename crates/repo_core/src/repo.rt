@@ -4,7 +4,7 @@ ghost use Rattle.std.specs.Option.{option_map};
 ghost use Rattle.sha2.specs.Sha256.{sha256};
 ghost use Rattle.ndn_names.specs.Name.{octets_of};
 ghost use Rattle.ndn_names.specs.View.{components};
-ghost use Rattle.repo_core.specs.Objects.{object_of, served};
+ghost use Rattle.repo_core.specs.Objects.{AreObjects, object_of, served};
 ghost use Rattle.repo_core.specs.Reading.{plain, repo_command_at, verb_at};
 ghost use Rattle.repo_core.specs.Repo.{IsCommandPrepared, IsOfferPrepared, IsWithinLimits, after_command, after_delete, after_insert, after_offer, is_repo_full, reply_to, MakesWant};
 ghost use Rattle.repo_core.specs.Room.{AreAlike};
@@ -46,6 +46,7 @@ pub struct Repo {
 impl Model for Repo {
     ghost use Rattle.std.specs.Prelude.{◌<◌, IfSome};
     ghost use Rattle.std.specs.Option.{option_map};
+    ghost use Rattle.repo_core.specs.Objects.{AreObjects};
     ghost use Rattle.repo_core.specs.Repo.{IsWithinLimits, RepoState, state_code};
     ghost use Rattle.repo_core.specs.Room.{AreAlike};
 
@@ -61,7 +62,8 @@ impl Model for Repo {
     } };
 
     ghost invariant = { λ r. IfSome r.names AreAlike × IfSome r.object (λ _. 0 < r.objects.room)
-        × IsWithinLimits (record { objects = r.objects.table; wants = r.wants }) };
+        × IsWithinLimits (record { objects = r.objects.table; wants = r.wants })
+        × AreObjects r.objects.table };
 }
 
 impl Repo {
@@ -177,10 +179,11 @@ impl Repo {
         self.wants.expire(now);
     }
 
-    /// The number of objects and wants.
+    /// The number of objects and wants. The clauses beside `exact` are true of every repository.
     pub fn held_len(&self) -> usize
         ensures exact { result ≡ map.len self.now.held.objects + map.len self.now.held.wants }
         ensures limits { IsWithinLimits self.now.held }
+        ensures objects { AreObjects self.now.held.objects }
     {
         self.objects.len() + self.wants.len()
     }

@@ -3,10 +3,11 @@ use Rattle.std.specs.Prelude.{Option, None, IfSome}
 use Rattle.std.specs.FinMap as map
 use Rattle.ndn_tlv.specs.Element.{Field}
 use Rattle.ndn_names.specs.View.{components}
-use Rattle.repo_core.specs.Objects.{Objects}
+use Rattle.repo_core.specs.Objects.{AreObjects, Objects}
 use Rattle.repo_core.specs.Repo.{Held, IsWithinLimits}
 use Rattle.repo_core.specs.Wants.{Wants}
 use Rattle.repo_core.proofs.Limits.{removed_within}
+use Rattle.repo_core.proofs.Stored.{removed_objects}
 use Rattle.repo_core.proofs.repo.Repo.delete.Goals as goal
 
 pub invariant_of-self : goal.invariant_of-self
@@ -20,4 +21,5 @@ invariant_of-self c =
       subst (λ (w : Wants). IsWithinLimits (record { objects = c.remove.new.self.table; wants = w })) (sym c.remove-2.ensures)
           (subst (λ (o : Objects). IsWithinLimits (record { objects = o; wants = map.remove s.wants (name, flag) })) (sym c.remove.ensures)
           (removed_within s c.self.invariant.2 name flag (name, flag))),
+      subst AreObjects (sym c.remove.ensures) (removed_objects name flag s.objects c.self.invariant.3),
     )

@@ -11,4 +11,5 @@ invariant_of-self c =
       c.self.invariant.1,
       subst (λ (w : Wants). IsWithinLimits (record { objects = c.self.inside.objects.table; wants = w })) (sym c.expire.ensures)
           (time_within s c.self.invariant.2 c.args.now),
+      c.self.invariant.3,
     )

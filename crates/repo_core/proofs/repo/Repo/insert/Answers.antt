@@ -24,4 +24,5 @@ invariant_of-self c =
       c.self.invariant.1,
       subst (λ (w : Wants). IsWithinLimits (record { objects = c.self.inside.objects.table; wants = w })) (sym c.put.ensures)
           (put_within s c.self.invariant.2 key c.saturating_add-deadline.result decided),
+      c.self.invariant.3,
     )
