@@ -1,41 +1,50 @@
-//! The forwarder, by its scripts and by its steps.
+//! The node, by its scripts and by its steps.
 
+mod decisions;
 mod faces;
+mod kept;
 mod nodes;
+mod octets;
 mod packets;
 mod pending;
 mod refused_memory;
+mod routes;
 mod scripts;
 mod streams;
 
+use crate::rules::{KEYS, SAMPLE, rules_of};
+use hmac_keys::KeyBook;
 use ndn_names::NameBuf;
 use node_core::{NodeParts, run_script};
+use octets::hexadecimal_of;
 use std::alloc::Global;
 use std::io::Write;
 use std::process::Abort;
 
-/// The Interest `/A` with the Nonce 01020304.
-const INTEREST: &str = "050b07030801410a0401020304";
-
-/// The Data `/A` with the Content `x` and an empty SignatureValue.
-const DATA: &str = "060f070308014115017816031b01001700";
-
 /// The parts of a node whose repository is at `/repo`.
+fn parts_of(alloc: Global, rules: &str, cache: u32) -> Option<NodeParts> {
+    Some(NodeParts {
+        rules: rules_of(alloc, rules).ok()?,
+        keys: KeyBook::read(alloc, KEYS).ok()?,
+        repo: NameBuf::from_uri(alloc, "/repo").ok()?,
+        cache,
+    })
+}
+
+/// The parts of a node under the sample rules.
 fn parts(alloc: Global) -> Option<NodeParts> {
-    let repo = NameBuf::from_uri(alloc, "/repo").ok()?;
-    Some(NodeParts { repo, cache: 1024 })
+    parts_of(alloc, SAMPLE, 1024)
 }
 
 /// What is written for a script, and then how it ended.
-fn outcome(alloc: Global, script: &str) -> Option<String> {
+fn outcome(alloc: Global, parts: NodeParts, script: &str) -> Option<String> {
     let mut output = Vec::new(alloc);
-    let end = run_script(alloc, &mut script.as_bytes(), &mut output, parts(alloc)?);
+    let end = run_script(alloc, &mut script.as_bytes(), &mut output, parts);
     write!(output, "{end:?}").ok()?;
     String::from_utf8(output).ok()
 }
 
-// A dialogue is a script in which each event is followed by its answer, with INTEREST and DATA for
-// their hexadecimal.
+// A dialogue is a script in which each event is followed by its answer, with words for packets.
 
 /// Whether a line of a dialogue belongs to an answer: `3 passed`, or `> 2 INTEREST`.
 fn is_answer(line: &str) -> bool {
@@ -54,21 +63,28 @@ fn script_of(alloc: Global, dialogue: &str) -> Option<String> {
     Some(script)
 }
 
-/// The text with the hexadecimal that INTEREST and DATA stand for.
-fn spelled(alloc: Global, text: &str) -> Option<String> {
-    let text = text.replace(alloc, "INTEREST", INTEREST).ok()?;
-    text.as_str().replace(alloc, "DATA", DATA).ok()
-}
-
-/// What the script of a dialogue comes to.
-fn dialogue_outcome(alloc: Global, dialogue: &str) -> Option<String> {
-    outcome(alloc, script_of(alloc, dialogue)?.as_str())
+/// A dialogue with the hexadecimal that its words stand for.
+fn spelled(alloc: Global, dialogue: &str) -> Option<String> {
+    let mut text = String::new(alloc);
+    for line in dialogue.lines() {
+        for (before, word) in line.split(' ').enumerate() {
+            if before > 0 {
+                text.push(' ').ok()?;
+            }
+            text.push_str(hexadecimal_of(word)).ok()?;
+        }
+        text.push('\n').ok()?;
+    }
+    Some(text)
 }
 
 /// Plays the script of a dialogue, and checks each answer. After the last one the script ends well.
-fn replies(rt: &(impl Abort + AllocGlobal), dialogue: &str) {
-    let dialogue = spelled(rt.alloc(), dialogue).expect(rt, "memory");
-    let outcome = dialogue_outcome(rt.alloc(), dialogue.as_str()).expect(rt, "memory");
+fn replies_under(rt: &(impl Abort + AllocGlobal), rules: &str, cache: u32, dialogue: &str) {
+    let alloc = rt.alloc();
+    let parts = parts_of(alloc, rules, cache).expect(rt, "parts");
+    let dialogue = spelled(alloc, dialogue).expect(rt, "memory");
+    let script = script_of(alloc, dialogue.as_str()).expect(rt, "memory");
+    let outcome = outcome(alloc, parts, script.as_str()).expect(rt, "memory");
     let mut answers = outcome.as_str().lines();
     for line in dialogue.as_str().lines() {
         assert!(rt;
@@ -77,4 +93,9 @@ fn replies(rt: &(impl Abort + AllocGlobal), dialogue: &str) {
         );
     }
     assert!(rt; answers.next() == Some("Ok(())"), "not the end");
+}
+
+/// The same under the sample rules, with a cache of 1,024 Data.
+fn replies(rt: &(impl Abort + AllocGlobal), dialogue: &str) {
+    replies_under(rt, SAMPLE, 1024, dialogue);
 }

@@ -1,2 +1,4 @@
 pub mod Fault
+pub mod Files
+pub mod Options
 pub mod Command

@@ -1,7 +1,6 @@
 //! Why the program stops: its message and its exit status.
-ghost use Rattle.std.specs.Prelude.{◌≡◌};
-ghost use Rattle.ndn_node.specs.Fault.{status_of};
-
+use hmac_keys::KeyFault;
+use info_rules::{RulesFault, RulesFaultKind};
 use node_core::{NodeFault, RunFault};
 use std::alloc::AllocError;
 use std::fmt;
@@ -11,24 +10,53 @@ use std::fmt;
 pub enum Fault {
     /// The command line is wrong.
     CommandLine(clap::Error),
+    /// The value of an option is not one that may be given there.
+    BadValue {
+        /// The option, as it is written.
+        place: &'static str,
+        /// What to give there.
+        wanted: &'static str,
+    },
     /// An argument is not UTF-8.
     NotText,
+    /// A file cannot be read.
+    Unread {
+        /// Which file it is.
+        file: &'static str,
+    },
+    /// The file is not a rule file.
+    Rules(RulesFault),
+    /// The file is not a key file.
+    Keys(KeyFault),
     /// The script did not run to its end.
     Script(RunFault),
 }
 
 impl Fault {
-    /// The exit status: 1 for a bad line, 2 for a wrong command line, 3 if reading, writing or
-    /// memory failed.
+    ghost use Rattle.std.specs.Prelude.{◌≡◌};
+    ghost use Rattle.ndn_node.specs.Fault.{status_of};
+
+    /// The exit status: 1 for a fault in a file or in the script, 2 for a wrong command line, 3 if
+    /// reading, writing or memory failed.
     pub fn exit_status(&self) -> u8
         ensures { result ≡ status_of self.now }
     {
         match self {
-            Fault::Script(RunFault::BadLine(_)) => 1,
             Fault::CommandLine(_)
+            | Fault::BadValue { .. }
             | Fault::NotText
             | Fault::Script(RunFault::Node(NodeFault::BadRepoPrefix | NodeFault::BadCapacity)) => 2,
-            Fault::Script(
+            Fault::Rules(RulesFault { kind, .. }) => {
+                match kind {
+                    RulesFaultKind::Memory => 3,
+                    _ => 1,
+                }
+            }
+            Fault::Keys(KeyFault::BadLine(_) | KeyFault::TwiceNamed(_) | KeyFault::TooMany)
+            | Fault::Script(RunFault::BadLine(_)) => 1,
+            Fault::Unread { .. }
+            | Fault::Keys(KeyFault::Memory)
+            | Fault::Script(
                 RunFault::Read
                 | RunFault::Write
                 | RunFault::Memory
@@ -47,7 +75,20 @@ impl fmt::Display for Fault {
     fn fmt<W: fmt::Write>(&self, f: &mut fmt::Formatter<W>) -> fmt::Result {
         match self {
             Fault::CommandLine(error) => error.fmt(f),
+            Fault::BadValue { place, wanted } => {
+                writeln!(f, "error: invalid value for {place}: give {wanted}")
+            }
             Fault::NotText => f.write_str("error: an argument is not UTF-8 text\n"),
+            Fault::Unread { file } => writeln!(f, "error: the {file} cannot be read"),
+            Fault::Rules(RulesFault { line, kind }) => {
+                match kind {
+                    RulesFaultKind::Memory => f.write_str("error: out of memory\n"),
+                    kind => writeln!(f, "rules:{line}: {}", kind.name()),
+                }
+            }
+            Fault::Keys(KeyFault::BadLine(line)) => writeln!(f, "keys:{line}: BadLine"),
+            Fault::Keys(KeyFault::TwiceNamed(line)) => writeln!(f, "keys:{line}: TwiceNamed"),
+            Fault::Keys(KeyFault::TooMany) => f.write_str("keys:0: TooMany\n"),
             Fault::Script(RunFault::BadLine(line)) => writeln!(f, "script:{line}: bad line"),
             Fault::Script(RunFault::Read) => {
                 f.write_str("error: standard input cannot be read\n")
@@ -61,7 +102,8 @@ impl fmt::Display for Fault {
             Fault::Script(RunFault::Node(NodeFault::BadCapacity)) => f.write_str(
                 "error: the cache's capacity is out of range: give a number from 1 to 65536\n",
             ),
-            Fault::Script(RunFault::Node(NodeFault::Memory) | RunFault::Memory) => {
+            Fault::Keys(KeyFault::Memory)
+            | Fault::Script(RunFault::Node(NodeFault::Memory) | RunFault::Memory) => {
                 f.write_str("error: out of memory\n")
             }
         }

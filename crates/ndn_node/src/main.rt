@@ -3,19 +3,19 @@
 
 mod command;
 mod fault;
-
-ghost use Rattle.std.specs.Prelude.{◌≡◌, [], ◌∷◌, codes, IfOk, IfErr};
+mod files;
+mod options;
 
 use command::{Request, request_of};
 use fault::Fault;
-use ndn_names::NameBuf;
-use ndn_names::component_type::GENERIC;
+use files::{read_keys, read_rules};
 use node_core::{NodeParts, RunFault, run_script};
-use std::alloc::Global;
+use options::Options;
 use std::env::Env;
 use std::io::Input;
 use std::process::ExitCode;
-use std::{env, io};
+use std::rt::Files;
+use std::{env, fs, io};
 
 fn main(rt: HostRuntime) -> ExitCode {
     let Err(fault) = run(&rt) else {
@@ -28,11 +28,11 @@ fn main(rt: HostRuntime) -> ExitCode {
 }
 
 /// Does what the command line asks for.
-fn run<R: Env + AllocGlobal + Input + Print>(rt: &R) -> Result<(), Fault> {
+fn run<R: Env + AllocGlobal + Files + Input + Print>(rt: &R) -> Result<(), Fault> {
     let arguments = arguments_of(rt)?;
     match request_of(rt.alloc(), arguments.as_slice())? {
         Request::Help(help) => rt.print(help).map_err(|_| Fault::Script(RunFault::Write)),
-        Request::Script => script(rt).map_err(Fault::Script),
+        Request::Script(options) => script(rt, options),
     }
 }
 
@@ -48,22 +48,35 @@ fn arguments_of<R: Env + AllocGlobal>(rt: &R) -> Result<Vec<String>, Fault> {
     }
 }
 
-/// The parts of the node: the repository's prefix is `/repo`, and the cache holds 1,024 Data.
-fn default_parts(alloc: Global) -> Result<NodeParts, RunFault>
-    ensures parts { IfOk result (λ parts.
-        parts ≡ record { repo = (8, codes "repo") ∷ []; cache = 1024 }) }
-    ensures memory { IfErr result (λ fault. fault ≡ RunFault.Memory) }
-{
-    let mut repo = NameBuf::new(alloc);
-    // This component can be refused for want of memory alone.
-    repo.append(GENERIC, b"repo").map_err(|_| RunFault::Memory)?;
-    Ok(NodeParts { repo, cache: 1024 })
+/// Runs the script on standard input, and writes each answer to standard output as it comes.
+fn script<R: AllocGlobal + Files + Input + Print>(rt: &R, options: Options) -> Result<(), Fault> {
+    let rules = read_rules(rt.alloc(), &contents(rt, &options.rules, "rule file")?)?;
+    let keys = read_keys(rt.alloc(), &contents(rt, &options.keys, "key file")?)?;
+    let parts = NodeParts {
+        rules,
+        keys,
+        repo: options.repo,
+        cache: options.cache,
+    };
+    run_script(rt.alloc(), &mut rt.reader(), &mut io::writer(rt), parts).map_err(Fault::Script)
 }
 
-/// Runs the script on standard input, and writes each answer to standard output as it comes.
-fn script<R: AllocGlobal + Input + Print>(rt: &R) -> Result<(), RunFault> {
-    let parts = default_parts(rt.alloc())?;
-    run_script(rt.alloc(), &mut rt.reader(), &mut io::writer(rt), parts)
+/// The octets of a file, or none where no file is named.
+fn contents<R: AllocGlobal + Files>(
+    rt: &R,
+    path: &Option<String>,
+    file: &'static str,
+) -> Result<Vec<u8>, Fault> {
+    let Some(path) = path else {
+        return Ok(Vec::new(rt.alloc()));
+    };
+    match fs::read(rt, path.as_str()) {
+        Ok(octets) => Ok(octets),
+        Err(error) if error.kind() == io::ErrorKind::OutOfMemory => {
+            Err(Fault::Script(RunFault::Memory))
+        }
+        Err(_) => Err(Fault::Unread { file }),
+    }
 }
 
 #[cfg(test)]

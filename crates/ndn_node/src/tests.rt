@@ -1,4 +1,8 @@
 use super::*;
+use hmac_keys::KeyFault;
+use info_rules::{RulesFault, RulesFaultKind};
+use node_core::NodeFault;
+use std::alloc::Global;
 use std::process::Abort;
 
 /// The status and the text that a command ends with, unless it runs a script.
@@ -8,7 +12,7 @@ fn ending(alloc: Global, command: &str) -> Option<(u8, String)> {
         words.push(word).ok()?;
     }
     match request_of(alloc, words.as_slice()) {
-        Ok(Request::Script) => None,
+        Ok(Request::Script(_)) => None,
         Ok(Request::Help(help)) => Some((0, help.to_string(alloc).ok()?)),
         Err(fault) => Some((fault.exit_status(), fault.to_string(alloc).ok()?)),
     }
@@ -36,6 +40,8 @@ fn check_parts(rt: &(impl Abort + AllocGlobal), status: u8, rows: &str) {
 const HELP: &str = "
 ndn_node --help => Usage: ndn_node <COMMAND>
 ndn_node script --help => in FACE MOMENT HEX
+ndn_node script --help => --cache <N>
+ndn_node --version => ndn_node 0.1.0
 ";
 
 const COMMAND_LINES: &str = "
@@ -45,12 +51,131 @@ ndn_node script x => error: unexpected argument 'x' found
 ndn_node script --x => error: unexpected argument '--x' found
 ndn_node script -- => error: unexpected argument '--' found
 ndn_node -- script => error: unexpected argument 'script' found
+ndn_node script --rules => error: a value is required for '--rules <FILE>'
+ndn_node script --keys a --keys b => error: the argument '--keys <FILE>' cannot be used multiple times
+ndn_node script --repo /%4 => error: invalid value for --repo: give the URI of a name, such as /repo
+ndn_node script --cache x => error: invalid value for --cache: give a decimal number below 2^32
+ndn_node script --cache +5 => error: invalid value for --cache: give a decimal number below 2^32
+ndn_node script --cache 4294967296 => error: invalid value for --cache: give a decimal number below 2^32
 ";
 
 #[test]
 fn command_lines(rt: HostRuntime) {
     let script = request_of(rt.alloc(), &["ndn_node", "script"]);
-    assert!(rt; matches!(script, Ok(Request::Script)));
+    assert!(rt; matches!(script, Ok(Request::Script(_))));
     check_parts(&rt, 0, HELP);
     check_parts(&rt, 2, COMMAND_LINES);
+}
+
+/// What the options of a command line are.
+fn options_of(alloc: Global, command: &str) -> Option<String> {
+    let mut words = Vec::new(alloc);
+    for word in command.split(' ') {
+        words.push(word).ok()?;
+    }
+    let Ok(Request::Script(options)) = request_of(alloc, words.as_slice()) else {
+        return None;
+    };
+    let rules = options.rules.as_deref().unwrap_or("none");
+    let keys = options.keys.as_deref().unwrap_or("none");
+    let repo = options.repo.view();
+    let cache = options.cache;
+    format!(in alloc; "{rules} {keys} {repo} {cache}").ok()
+}
+
+#[test]
+fn options(rt: HostRuntime) {
+    let alloc = rt.alloc();
+    let absent = options_of(alloc, "ndn_node script");
+    assert!(rt; absent.as_deref() == Some("none none /repo 1024"));
+    let given = options_of(
+        alloc,
+        "ndn_node script --cache 65536 --repo=/a/b --keys k --rules r",
+    );
+    assert!(rt; given.as_deref() == Some("r k /a/b 65536"));
+}
+
+/// The status and the text of a file that is refused.
+fn refused<T: Drop>(alloc: Global, read: Result<T, Fault>) -> Option<String> {
+    let fault = read.err()?;
+    format!(in alloc; "{} {fault}", fault.exit_status()).ok()
+}
+
+fn refused_rules(alloc: Global, octets: &[u8]) -> Option<String> {
+    refused(alloc, read_rules(alloc, octets))
+}
+
+fn refused_keys(alloc: Global, octets: &[u8]) -> Option<String> {
+    refused(alloc, read_keys(alloc, octets))
+}
+
+#[test]
+fn files(rt: HostRuntime) {
+    let alloc = rt.alloc();
+    assert!(rt; read_rules(alloc, b"").is_ok_and(|rules| rules.len() == 0));
+    assert!(rt; refused_rules(alloc, b"rule").as_deref() == Some("1 rules:1: BadValue\n"));
+    assert!(rt; refused_rules(alloc, b"\xff").as_deref() == Some("1 rules:0: Syntax\n"));
+    assert!(rt; read_keys(alloc, b"/k 6b6579\n").is_ok_and(|keys| !keys.is_empty()));
+    assert!(rt; refused_keys(alloc, b"\n/k").as_deref() == Some("1 keys:2: BadLine\n"));
+    let twice = b"/k 6b6579\n/k 6b6579\n";
+    assert!(rt; refused_keys(alloc, twice).as_deref() == Some("1 keys:2: TwiceNamed\n"));
+    assert!(rt; refused_keys(alloc, b"\xff").as_deref() == Some("1 keys:0: BadLine\n"));
+}
+
+/// Whether a fault has this status and this text.
+fn is_told(alloc: Global, fault: Fault, wanted: &str) -> bool {
+    format!(in alloc; "{} {fault}", fault.exit_status()).is_ok_and(|told| told.as_str() == wanted)
+}
+
+#[test]
+fn faults(rt: HostRuntime) {
+    let alloc = rt.alloc();
+    let file = "rule file";
+    assert!(rt;
+        is_told(
+            alloc,
+            Fault::Unread { file },
+            "3 error: the rule file cannot be read\n"
+        )
+    );
+    assert!(rt;
+        is_told(
+            alloc,
+            Fault::NotText,
+            "2 error: an argument is not UTF-8 text\n"
+        )
+    );
+    assert!(rt; is_told(alloc, Fault::Keys(KeyFault::TooMany), "1 keys:0: TooMany\n"));
+    assert!(rt;
+        is_told(
+            alloc,
+            Fault::Keys(KeyFault::Memory),
+            "3 error: out of memory\n"
+        )
+    );
+    let no_memory = Fault::Rules(RulesFault {
+        line: 0,
+        kind: RulesFaultKind::Memory,
+    });
+    assert!(rt; is_told(alloc, no_memory, "3 error: out of memory\n"));
+    let line = Fault::Script(RunFault::BadLine(7));
+    assert!(rt; is_told(alloc, line, "1 script:7: bad line\n"));
+    let read = Fault::Script(RunFault::Read);
+    assert!(rt; is_told(alloc, read, "3 error: standard input cannot be read\n"));
+    let written = Fault::Script(RunFault::Write);
+    assert!(rt;
+        is_told(
+            alloc,
+            written,
+            "3 error: standard output cannot be written\n"
+        )
+    );
+    let capacity = Fault::Script(RunFault::Node(NodeFault::BadCapacity));
+    assert!(rt;
+        is_told(
+            alloc,
+            capacity,
+            "2 error: the cache's capacity is out of range: give a number from 1 to 65536\n"
+        )
+    );
 }

@@ -9,8 +9,8 @@ use Rattle.info_rules.specs.declared.decision.Decision.TheVariants as decided
 use Rattle.pit_fib.specs.Records.{Pending}
 use Rattle.content_store.specs.Store.{CachedData}
 use Rattle.node_core.specs.Event.{PlainEvent, Packet, FaceUp, FaceDown, Tick}
-use Rattle.node_core.specs.State.{is_open}
-use Rattle.node_core.specs.Step.{moment}
+use Rattle.node_core.specs.Faces.{is_open}
+use Rattle.node_core.specs.Event.{moment}
 use Rattle.node_core.specs.Verdict.{Answer, DropReason, Verdict, DataAllowed, Dropped, WhereTrue, NoFace, Scope as OutOfScope, dropped}
 use Rattle.node_core.specs.Policy.{Policy, at_moment}
 use Rattle.node_core.specs.Request.{is_out_of_scope}

@@ -20,8 +20,8 @@ use Rattle.content_store.specs.Store.{CachedData}
 use Rattle.mgmt_core.specs.Writing.{segment_at}
 use Rattle.repo_core.specs.Objects.{served}
 use Rattle.node_core.specs.Event.{PlainEvent, Packet, FaceUp, FaceDown, Tick}
-use Rattle.node_core.specs.State.{is_open}
-use Rattle.node_core.specs.Step.{moment, to_each}
+use Rattle.node_core.specs.Faces.{is_open}
+use Rattle.node_core.specs.Event.{moment, to_each}
 use Rattle.node_core.specs.Verdict.{Answer, Verdict, Passed, Allowed, DataAllowed, Denied, NoRule, Dropped, WhereTrue, BadFace, FaceOpen, FacesFull, Loop, NoFace, NoSegment, PitFull, Scope as OutOfScope, dropped, passed}
 use Rattle.node_core.specs.Policy.{Policy}
 use Rattle.node_core.specs.Request.{ListAsked, Request, Refused, ForList, ForTables, ForRepository, ForData, is_command, is_out_of_scope, request_of}

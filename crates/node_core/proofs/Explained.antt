@@ -30,8 +30,8 @@ use Rattle.mgmt_core.specs.Writing.{segment_at}
 use Rattle.repo_core.specs.declared.reply.Want.{Want}
 use Rattle.repo_core.specs.Objects.{served}
 use Rattle.node_core.specs.Event.{PlainEvent, Packet, FaceUp, FaceDown, Tick, Send}
-use Rattle.node_core.specs.State.{is_open}
-use Rattle.node_core.specs.Step.{to_each}
+use Rattle.node_core.specs.Faces.{is_open}
+use Rattle.node_core.specs.Event.{to_each}
 use Rattle.node_core.specs.Verdict.{Answer, DropReason, Dropped, WhereTrue, BadFace, FaceOpen, FacesFull, Idle as IsIdle, Loop, Malformed, NoFace, NoSegment, PitFull, Scope as OutOfScope, dropped, passed}
 use Rattle.node_core.specs.Request.{ListAsked, Request, Refused, ForList, ForTables, ForRepository, ForData, is_command, is_out_of_scope, list_asked, request_of}
 use Rattle.node_core.specs.NextHops.{ask_for, ask_from, choice_for, sent_on}
@@ -74,7 +74,7 @@ set_is_no_data [] at octet low e = refl
 set_is_no_data (x ∷ text) zero octet low e = absurd (omega arith)
 set_is_no_data (x ∷ text) (suc at) octet low e = e
 
-hop_place_is_later : (text : List ℕ) → 0 < length text → 0 < hop_place text
+pub hop_place_is_later : (text : List ℕ) → 0 < length text → 0 < hop_place text
 hop_place_is_later text some = by_frame (frame_at text)
   where
     by_from : (from : Option (List ℕ)) → 0 < place_from text from

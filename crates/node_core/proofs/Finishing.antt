@@ -1,25 +1,47 @@
 -- From what was fed to what is known at the end of a run.
-use Rattle.std.proofs.Common.{◌≡◌, ℕ, zero, suc, ◌+◌, ◌≤◌, List, [], ◌∷◌, ◌++◌, length, sym, ap, ◌∙◌, arith, append_assoc, append-nil, subst, take}
-use Rattle.std.specs.Prelude.{Option, Some, None, IfSome}
+use Rattle.std.proofs.Common.{◌≡◌, ℕ, zero, suc, refl, ◌+◌, ◌≤◌, List, [], ◌∷◌, ◌++◌, length, sym, ap, ◌∙◌, arith, append_assoc, append-nil, subst, take}
+use Rattle.std.specs.Prelude.{Option, Some, None, IfSome, Result, Ok, Err, IfErr, MatchOption}
 use Rattle.std.specs.Io.KnownBytes.{Appends, Consumes, IsAtEnd}
 use Rattle.node_core.specs.Event.{PlainEvent}
-use Rattle.node_core.specs.State.{State, initial}
-use Rattle.node_core.specs.Line.{Lacks}
-use Rattle.node_core.specs.Past.{Run, Start, Then, IsRun, Stands}
-use Rattle.node_core.proofs.Runs.{step_keeps, initial_stands}
-use Rattle.node_core.proofs.Promise.{promise_kept}
+use Rattle.ndn_tlv.specs.Element.{Field}
+use Rattle.hmac_keys.specs.KeyFile.{NamedKey}
+use Rattle.info_rules.specs.Rule.{PlainRule}
+use Rattle.node_core.specs.Node.{NodeState}
+use Rattle.node_core.specs.Parts.{first_node}
+use Rattle.node_core.specs.Policy.{Policy, first_policy}
+use Rattle.node_core.specs.Script.Line.{Lacks}
+use Rattle.node_core.specs.Runs.{Run, Start, Then, IsRun, Stands}
+use Rattle.node_core.proofs.Standing.{new_stands, refused_stands, step_goes_on}
 use Rattle.node_core.specs.Script.{AreOutcomes, run_from, ended, joined, IsScript, BeginsWithEvents, IsBadAt, IsTextOfRun}
-use Rattle.node_core.specs.Ending.{Ends, Stops}
-use Rattle.node_core.specs.Writing.{Outcome, Answered, NoMemory}
-use Rattle.node_core.specs.Play.{Place, Plays, TurnsBad, FeedStops, LineStops}
+use Rattle.node_core.specs.Script.Ending.{Ends, Stops}
+use Rattle.node_core.specs.Script.Writing.{Outcome, Answered, NoMemory}
+use Rattle.node_core.specs.Script.Play.{IsNew, IsStart, Place, Plays, TurnsBad, FeedStops, LineStops}
+use Rattle.node_core.specs.declared.node.NodeFault.{NodeFault}
+use Rattle.node_core.specs.declared.node.NodeFault.TheVariants.{Memory}
 use Rattle.node_core.specs.declared.script.RunFault.{RunFault}
 use Rattle.node_core.specs.declared.script.RunFault.TheVariants as fault
 use Rattle.node_core.proofs.Known.{Appends-then, Appends-kept, AppendsFront-after, AppendsFront-all}
 use Rattle.node_core.proofs.Playing.{Fed, Fed-start, Plays-then, joined-append}
 
 -- where a run starts
-abbrev pub start : Place
-start = record { node = initial; lines = 0; events = 0 }
+abbrev pub start : NodeState → Place
+start first = record { node = first; lines = 0; events = 0 }
+
+pub start_is : (place : Place) → IsStart place → place ≡ start place.node
+start_is place h = λ i. record { node = place.node; lines = h.lines i; events = h.events i }
+
+-- a node of these parts
+pub first_is_new : (rules : List PlainRule) (keys : List NamedKey) (repo : List Field) (cache : ℕ) → IsNew (first_node rules keys repo cache)
+first_is_new rules keys repo cache = record {
+  now = refl;
+  stands = new_stands (first_policy rules keys repo) cache;
+}
+
+-- a node was made, so its parts are right
+pub made_of_good_parts : {N : Type 0} (P : Type 0) (Q : NodeFault → Type 0) (why : Option NodeFault) (made : Result N NodeFault) (node : N) → made ≡ Ok node
+    → MatchOption why (IfErr made (λ f. f ≡ Memory)) (λ f. made ≡ Err f) → P → MatchOption why P Q
+made_of_good_parts P Q None made node is h p = p
+made_of_good_parts P Q (Some f) made node is h p = let other : Ok node ≡ Err f = sym is ∙ h in absurd cc
 
 -- what is so of the octets that were read, whatever comes after them, is so of known octets
 known_text : (unread left : Option (List ℕ)) (P : List ℕ → Type 0) (front : List ℕ) → Consumes unread left front → ((more : List ℕ) → P (front ++ more)) → IfSome unread P
@@ -34,21 +56,19 @@ known_end (Some xs) None P front h e k = absurd h
 known_end (Some xs) (Some ys) P front h e k =
     subst P (sym (h ∙ ap (λ (t : List ℕ). front ++ t) e ∙ append-nil front)) k
 
--- a run of a script is a run, in which the node stands
-runs_stand : (past : Run) (old new : State) (events : List PlainEvent) (outcomes : List Outcome) → AreOutcomes old events outcomes new → IsRun past → Stands past old → IsRun (run_from past events outcomes) × Stands (run_from past events outcomes) new
-runs_stand past old new [] [] runs run stands = (run, subst (Stands past) (sym runs) stands)
-runs_stand past old new [] (outcome ∷ outcomes) runs run stands = absurd runs
-runs_stand past old new (event ∷ events) [] runs run stands = absurd runs
-runs_stand past old new (event ∷ events) (Answered answer ∷ outcomes) runs run stands =
-    let next = step_keeps past old event answer runs.0 run stands runs.1 in
-    runs_stand (Then past event answer) runs.0 new events outcomes runs.2 next.0 next.1
-runs_stand past old new (event ∷ events) (NoMemory ∷ outcomes) runs run stands =
-    runs_stand past runs.0 new events outcomes runs.2 run (subst (Stands past) (sym runs.1.0) stands)
+-- ---- runs
 
-IsTextOfRun-from_plays : (lines : List (List ℕ)) (to : Place) (text : List ℕ) → (plays : Plays lines start to text) → IsTextOfRun plays.events text
-IsTextOfRun-from_plays lines to text plays =
-    let stands = runs_stand Start initial to.node plays.events plays.outcomes plays.runs tt initial_stands in
-    record { outcomes = plays.outcomes; last = to.node; runs = plays.runs; written = plays.text_is; is_run = stands.0; stands = stands.1; promise = promise_kept (run_from Start plays.events plays.outcomes) stands.0 }
+-- a run of a script is a run, in which the node stands
+runs_stand : (first : Policy) (past : Run) (old new : NodeState) (events : List PlainEvent) (outcomes : List Outcome) → first.now ≡ 0 → AreOutcomes old events outcomes new → IsRun first past
+    → Stands first past old → IsRun first (run_from past events outcomes) × Stands first (run_from past events outcomes) new
+runs_stand first past old new [] [] begins runs run stands = (run, subst (Stands first past) (sym runs) stands)
+runs_stand first past old new [] (outcome ∷ outcomes) begins runs run stands = absurd runs
+runs_stand first past old new (event ∷ events) [] begins runs run stands = absurd runs
+runs_stand first past old new (event ∷ events) (Answered answer ∷ outcomes) begins runs run stands =
+    let next = step_goes_on first past old runs.0 event answer begins run stands runs.1 in
+    runs_stand first (Then past event answer) runs.0 new events outcomes begins runs.2 next.0 next.1
+runs_stand first past old new (event ∷ events) (NoMemory ∷ outcomes) begins runs run stands =
+    runs_stand first past runs.0 new events outcomes begins runs.2 run (refused_stands first past old runs.0 stands runs.1.0)
 
 -- ---- what comes after octets that were fed
 
@@ -121,49 +141,6 @@ FeedStops-after fault.Memory front chunk from mid line held holds new fed h = (
 shape_begins : (j r m : List ℕ) → ((j ++ r) ++ m) ++ (10 ∷ []) ≡ j ++ (r ++ (m ++ (10 ∷ [])))
 shape_begins j r m = simp append_assoc
 
-BeginsWith-known : (unread left : Option (List ℕ)) (stream : List ℕ) (lines : List (List ℕ)) (rest : List ℕ) (to : Place) (text : List ℕ) (plays : Plays lines start to text)
-    → Consumes unread left stream → stream ≡ joined lines ++ rest → IfSome unread (λ script. BeginsWithEvents script plays.events)
-BeginsWith-known unread left stream lines rest to text plays read is =
-    known_text unread left (λ script. BeginsWithEvents script plays.events) stream read
-    (λ more. (lines, rest ++ ended more, (plays.are_lines, ap (λ (s : List ℕ). ended (s ++ more)) is ∙ shape_begins (joined lines) rest more), plays.say))
-
-Stops-from_feed : (f : RunFault) (unread left held holds : Option (List ℕ)) (stream : List ℕ) → Consumes unread left stream → FeedStops f stream start held holds → Stops f unread left held holds
-Stops-from_feed (fault.BadLine n) unread left held holds stream read h =
-    let plays = h.3 in
-    let number : n ≡ length h.0 + 1 = let e = plays.numbered in let k = h.5 in omega arith in (
-      plays.events,
-      h.2,
-      IsTextOfRun-from_plays h.0 h.1 h.2 plays,
-      h.4,
-      known_text unread left (λ script. IsBadAt script n plays.events) stream read
-          (λ more. let t = h.6 more in (h.0, t.0, t.1, (plays.are_lines, t.2), t.3, number, plays.say, t.4)),
-    )
-Stops-from_feed fault.Read unread left held holds stream read h = absurd h
-Stops-from_feed fault.Write unread left held holds stream read h =
-    (h.4.events, h.2, IsTextOfRun-from_plays h.0 h.1 h.2 h.4, h.5, BeginsWith-known unread left stream h.0 h.3 h.1 h.2 h.4 read h.6)
-Stops-from_feed (fault.Node e) unread left held holds stream read h = absurd h
-Stops-from_feed fault.Memory unread left held holds stream read h =
-    (h.4.events, h.2, IsTextOfRun-from_plays h.0 h.1 h.2 h.4, h.5, BeginsWith-known unread left stream h.0 h.3 h.1 h.2 h.4 read h.6)
-
--- a refused chunk
-pub Stops-chunk : (f : RunFault) (unread left held holds new : Option (List ℕ)) (front chunk : List ℕ) (mid : Place) (line : List ℕ) → Fed front start mid line [] held holds
-    → Consumes unread left (front ++ chunk) → FeedStops f (line ++ chunk) mid holds new → Stops f unread left held new
-Stops-chunk f unread left held holds new front chunk mid line fed read h =
-    Stops-from_feed f unread left held new (front ++ chunk) read (FeedStops-after f front chunk start mid line held holds new fed h)
-
--- a refused read
-pub Stops-read : (unread left held holds : Option (List ℕ)) (front : List ℕ) (mid : Place) (line : List ℕ) → Fed front start mid line [] held holds
-    → Consumes unread left front → Lacks 10 line → Stops fault.Read unread left held holds
-Stops-read unread left held holds front mid line fed read lacks = (
-  fed.plays.events,
-  fed.text,
-  front,
-  IsTextOfRun-from_plays fed.lines mid fed.text fed.plays,
-  fed.written,
-  read,
-  (fed.lines, line, fed.plays.are_lines, lacks, fed.stream_is ∙ ap (λ (t : List ℕ). joined fed.lines ++ t) (append-nil line), fed.plays.say),
-)
-
 shape_end : (j l : List ℕ) → (j ++ (l ++ [])) ++ (10 ∷ []) ≡ j ++ ((l ++ (10 ∷ [])) ++ [])
 shape_end j l = rw (append-nil l, append-nil (l ++ (10 ∷ []))) (append_assoc j l (10 ∷ []))
 
@@ -176,58 +153,107 @@ ended_whole front line lines is =
     ap ended is ∙ shape_end (joined lines) line ∙ shape_all (joined lines) line
     ∙ ap (λ (t : List ℕ). t ++ []) (sym (joined-append lines (line ∷ [])))
 
--- the last line was refused
-pub Stops-last : (f : RunFault) (unread left held holds new : Option (List ℕ)) (front : List ℕ) (mid : Place) (line : List ℕ) → Fed front start mid line [] held holds
-    → Consumes unread left front → IsAtEnd left → Lacks 10 line → LineStops f line mid holds new → Stops f unread left held new
-Stops-last (fault.BadLine n) unread left held holds new front mid line fed read end lacks h =
-    let plays = fed.plays in
-    let number : n ≡ length fed.lines + 1 = let e = plays.numbered in let k = h.0 in omega arith in (
-      plays.events,
-      fed.text,
-      IsTextOfRun-from_plays fed.lines mid fed.text plays,
-      Appends-kept held holds new fed.text fed.written h.2,
-      known_end unread left (λ script. IsBadAt script n plays.events) front read end
-          (fed.lines, line, [], (plays.are_lines, ap ended fed.stream_is ∙ shape_end (joined fed.lines) line), lacks, number, plays.say, h.1),
-    )
-Stops-last fault.Read unread left held holds new front mid line fed read end lacks h = absurd h
-Stops-last fault.Write unread left held holds new front mid line fed read end lacks h =
-    let plays = Plays-then fed.lines (line ∷ []) start mid h.0 fed.text h.1 fed.plays h.2 in (
-      plays.events,
-      fed.text ++ h.1,
-      IsTextOfRun-from_plays (fed.lines ++ (line ∷ [])) h.0 (fed.text ++ h.1) plays,
-      AppendsFront-after held holds new fed.text h.1 fed.written h.3,
-      known_end unread left (λ script. BeginsWithEvents script plays.events) front read end
-          (fed.lines ++ (line ∷ []), [], (plays.are_lines, ended_whole front line fed.lines fed.stream_is), plays.say),
-    )
-Stops-last (fault.Node e) unread left held holds new front mid line fed read end lacks h = absurd h
-Stops-last fault.Memory unread left held holds new front mid line fed read end lacks h =
-    let plays = fed.plays in (
-      plays.events,
-      fed.text,
-      IsTextOfRun-from_plays fed.lines mid fed.text plays,
-      AppendsFront-all held new fed.text (Appends-kept held holds new fed.text fed.written h),
-      known_end unread left (λ script. BeginsWithEvents script plays.events) front read end
-          (fed.lines, ended line ++ [], (plays.are_lines, ap ended fed.stream_is ∙ shape_end (joined fed.lines) line), plays.say),
-    )
+module _ (first : NodeState) (fresh : IsNew first) where
+  IsTextOfRun-from_plays : (lines : List (List ℕ)) (to : Place) (text : List ℕ) → (plays : Plays lines (start first) to text) → IsTextOfRun first plays.events text
+  IsTextOfRun-from_plays lines to text plays =
+      let stands = runs_stand first.policy Start first to.node plays.events plays.outcomes fresh.now plays.runs tt fresh.stands in
+      record { outcomes = plays.outcomes; last = to.node; runs = plays.runs; written = plays.text_is; is_run = stands.0; stands = stands.1 }
 
--- the whole script was played
-pub Ends-last : (unread left held holds new : Option (List ℕ)) (front : List ℕ) (mid to : Place) (line text : List ℕ) → Fed front start mid line [] held holds
-    → Consumes unread left front → IsAtEnd left → Plays (line ∷ []) mid to text → Appends holds new text → Ends unread left held new
-Ends-last unread left held holds new front mid to line text fed read end last written =
-    let plays = Plays-then fed.lines (line ∷ []) start mid to fed.text text fed.plays last in (
-      plays.events,
-      fed.text ++ text,
-      IsTextOfRun-from_plays (fed.lines ++ (line ∷ [])) to (fed.text ++ text) plays,
-      Appends-then held holds new fed.text text fed.written written,
-      known_end unread left (λ script. IsScript script plays.events) front read end
-          (fed.lines ++ (line ∷ []), (plays.are_lines, ended_whole front line fed.lines fed.stream_is), plays.say),
-      end,
-    )
+  BeginsWith-known : (unread left : Option (List ℕ)) (stream : List ℕ) (lines : List (List ℕ)) (rest : List ℕ) (to : Place) (text : List ℕ) (plays : Plays lines (start first) to text)
+      → Consumes unread left stream → stream ≡ joined lines ++ rest → IfSome unread (λ script. BeginsWithEvents script plays.events)
+  BeginsWith-known unread left stream lines rest to text plays read is =
+      known_text unread left (λ script. BeginsWithEvents script plays.events) stream read
+      (λ more. (lines, rest ++ ended more, (plays.are_lines, ap (λ (s : List ℕ). ended (s ++ more)) is ∙ shape_begins (joined lines) rest more), plays.say))
 
-pub Fed-init : (place : Place) (line : List ℕ) (held : Option (List ℕ)) → place ≡ start → line ≡ [] → Fed [] start place line [] held held
+  Stops-from_feed : (f : RunFault) (unread left held holds : Option (List ℕ)) (stream : List ℕ) → Consumes unread left stream → FeedStops f stream (start first) held holds → Stops first f unread left held holds
+  Stops-from_feed (fault.BadLine n) unread left held holds stream read h =
+      let plays = h.3 in
+      let number : n ≡ length h.0 + 1 = let e = plays.numbered in let k = h.5 in omega arith in (
+        plays.events,
+        h.2,
+        IsTextOfRun-from_plays h.0 h.1 h.2 plays,
+        h.4,
+        known_text unread left (λ script. IsBadAt script n plays.events) stream read
+            (λ more. let t = h.6 more in (h.0, t.0, t.1, (plays.are_lines, t.2), t.3, number, plays.say, t.4)),
+      )
+  Stops-from_feed fault.Read unread left held holds stream read h = absurd h
+  Stops-from_feed fault.Write unread left held holds stream read h =
+      (h.4.events, h.2, IsTextOfRun-from_plays h.0 h.1 h.2 h.4, h.5, BeginsWith-known unread left stream h.0 h.3 h.1 h.2 h.4 read h.6)
+  Stops-from_feed (fault.Node e) unread left held holds stream read h = absurd h
+  Stops-from_feed fault.Memory unread left held holds stream read h =
+      (h.4.events, h.2, IsTextOfRun-from_plays h.0 h.1 h.2 h.4, h.5, BeginsWith-known unread left stream h.0 h.3 h.1 h.2 h.4 read h.6)
+
+  -- a refused chunk
+  pub Stops-chunk : (f : RunFault) (unread left held holds new : Option (List ℕ)) (front chunk : List ℕ) (mid : Place) (line : List ℕ) → Fed front (start first) mid line [] held holds
+      → Consumes unread left (front ++ chunk) → FeedStops f (line ++ chunk) mid holds new → Stops first f unread left held new
+  Stops-chunk f unread left held holds new front chunk mid line fed read h =
+      Stops-from_feed f unread left held new (front ++ chunk) read (FeedStops-after f front chunk (start first) mid line held holds new fed h)
+
+  -- a refused read
+  pub Stops-read : (unread left held holds : Option (List ℕ)) (front : List ℕ) (mid : Place) (line : List ℕ) → Fed front (start first) mid line [] held holds
+      → Consumes unread left front → Lacks 10 line → Stops first fault.Read unread left held holds
+  Stops-read unread left held holds front mid line fed read lacks = (
+    fed.plays.events,
+    fed.text,
+    front,
+    IsTextOfRun-from_plays fed.lines mid fed.text fed.plays,
+    fed.written,
+    read,
+    (fed.lines, line, fed.plays.are_lines, lacks, fed.stream_is ∙ ap (λ (t : List ℕ). joined fed.lines ++ t) (append-nil line), fed.plays.say),
+  )
+
+  -- the last line was refused
+  pub Stops-last : (f : RunFault) (unread left held holds new : Option (List ℕ)) (front : List ℕ) (mid : Place) (line : List ℕ) → Fed front (start first) mid line [] held holds
+      → Consumes unread left front → IsAtEnd left → Lacks 10 line → LineStops f line mid holds new → Stops first f unread left held new
+  Stops-last (fault.BadLine n) unread left held holds new front mid line fed read end lacks h =
+      let plays = fed.plays in
+      let number : n ≡ length fed.lines + 1 = let e = plays.numbered in let k = h.0 in omega arith in (
+        plays.events,
+        fed.text,
+        IsTextOfRun-from_plays fed.lines mid fed.text plays,
+        Appends-kept held holds new fed.text fed.written h.2,
+        known_end unread left (λ script. IsBadAt script n plays.events) front read end
+            (fed.lines, line, [], (plays.are_lines, ap ended fed.stream_is ∙ shape_end (joined fed.lines) line), lacks, number, plays.say, h.1),
+      )
+  Stops-last fault.Read unread left held holds new front mid line fed read end lacks h = absurd h
+  Stops-last fault.Write unread left held holds new front mid line fed read end lacks h =
+      let plays = Plays-then fed.lines (line ∷ []) (start first) mid h.0 fed.text h.1 fed.plays h.2 in (
+        plays.events,
+        fed.text ++ h.1,
+        IsTextOfRun-from_plays (fed.lines ++ (line ∷ [])) h.0 (fed.text ++ h.1) plays,
+        AppendsFront-after held holds new fed.text h.1 fed.written h.3,
+        known_end unread left (λ script. BeginsWithEvents script plays.events) front read end
+            (fed.lines ++ (line ∷ []), [], (plays.are_lines, ended_whole front line fed.lines fed.stream_is), plays.say),
+      )
+  Stops-last (fault.Node e) unread left held holds new front mid line fed read end lacks h = absurd h
+  Stops-last fault.Memory unread left held holds new front mid line fed read end lacks h =
+      let plays = fed.plays in (
+        plays.events,
+        fed.text,
+        IsTextOfRun-from_plays fed.lines mid fed.text plays,
+        AppendsFront-all held new fed.text (Appends-kept held holds new fed.text fed.written h),
+        known_end unread left (λ script. BeginsWithEvents script plays.events) front read end
+            (fed.lines, ended line ++ [], (plays.are_lines, ap ended fed.stream_is ∙ shape_end (joined fed.lines) line), plays.say),
+      )
+
+  -- the whole script was played
+  pub Ends-last : (unread left held holds new : Option (List ℕ)) (front : List ℕ) (mid to : Place) (line text : List ℕ) → Fed front (start first) mid line [] held holds
+      → Consumes unread left front → IsAtEnd left → Plays (line ∷ []) mid to text → Appends holds new text → Ends first unread left held new
+  Ends-last unread left held holds new front mid to line text fed read end last written =
+      let plays = Plays-then fed.lines (line ∷ []) (start first) mid to fed.text text fed.plays last in (
+        plays.events,
+        fed.text ++ text,
+        IsTextOfRun-from_plays (fed.lines ++ (line ∷ [])) to (fed.text ++ text) plays,
+        Appends-then held holds new fed.text text fed.written written,
+        known_end unread left (λ script. IsScript script plays.events) front read end
+            (fed.lines ++ (line ∷ []), (plays.are_lines, ended_whole front line fed.lines fed.stream_is), plays.say),
+        end,
+      )
+
+pub Fed-init : (place : Place) (line : List ℕ) (held : Option (List ℕ)) → IsStart place → line ≡ [] → Fed [] (start place.node) place line [] held held
 Fed-init place line held p l =
-    subst (λ (x : Place). Fed [] start x line [] held held) (sym p)
-    (subst (λ (x : List ℕ). Fed [] start start x [] held held) (sym l) (Fed-start start [] [] held))
+    subst (λ (x : Place). Fed [] (start place.node) x line [] held held) (sym (start_is place p))
+    (subst (λ (x : List ℕ). Fed [] (start place.node) (start place.node) x [] held held) (sym l) (Fed-start (start place.node) [] [] held))
 
 pub length_take-le : (n : ℕ) (xs : List ℕ) → length (take n xs) ≤ n
 length_take-le zero xs = omega arith

@@ -12,8 +12,8 @@ use Rattle.ndn_packets.specs.declared.fault.PacketFault.{PacketFault}
 use Rattle.info_rules.specs.declared.decision.Decision.{Decision}
 use Rattle.info_rules.specs.declared.decision.Decision.TheVariants as decided
 use Rattle.node_core.specs.Event.{PlainEvent, Packet, FaceUp, FaceDown, Tick}
-use Rattle.node_core.specs.State.{is_open}
-use Rattle.node_core.specs.Step.{moment}
+use Rattle.node_core.specs.Faces.{is_open}
+use Rattle.node_core.specs.Event.{moment}
 use Rattle.node_core.specs.Verdict.{Answer, WhereTrue, NoFace, Scope as OutOfScope, dropped}
 use Rattle.node_core.specs.Policy.{Policy, at_moment}
 use Rattle.node_core.specs.Request.{Request, Refused, ForList, ForTables, ForRepository, ForData, is_out_of_scope, request_of}

@@ -2,7 +2,7 @@
 use Rattle.std.proofs.Common.{ℕ, List, [], ◌++◌, refl, sym, ap, ◌∙◌, append_assoc, append-nil}
 use Rattle.std.specs.Prelude.{Option, Some, None}
 use Rattle.std.specs.Io.KnownBytes.{Appends, Consumes, Keeps}
-use Rattle.node_core.specs.Ending.{AppendsFront}
+use Rattle.node_core.specs.Script.Ending.{AppendsFront}
 
 pub Appends-start : (known : Option (List ℕ)) → Appends known known []
 Appends-start None = tt

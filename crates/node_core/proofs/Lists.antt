@@ -9,7 +9,7 @@ use Rattle.std.proofs.Common.{eqb}
 use Rattle.std.specs.Cmp.Lexicographic.{pointwise}
 use Rattle.std.proofs.lemmas.Slice.Eq.{slice_eq-Decides}
 use Rattle.std.proofs.lemmas.Bool.Decides.{Decides-eqb}
-use Rattle.node_core.specs.Line.{Lacks}
+use Rattle.node_core.specs.Script.Line.{Lacks}
 
 -- an octet that is at no place
 pub Lacks-from_places : (octet : ℕ) (text : List ℕ) → ((k : ℕ) → k < length text → get_or text k 0 ≡ octet → ⊥) → Lacks octet text

@@ -4,8 +4,14 @@ use Rattle.std.specs.Prelude.{filter, ◌||◌}
 use Rattle.std.specs.List.{list_any, AllByRecursion}
 use Rattle.std.proofs.lemmas.Bool.{eqb-true, eqb-false, ne_eqb, ltb-false, ltb-true}
 use Rattle.node_core.specs.declared.event.Scope.{Scope}
-use Rattle.node_core.specs.State.{FaceEntry, IsIn, IsRising, is_open, find_scope, numbers}
-use Rattle.node_core.specs.Step.{with_face, without_entry}
+use Rattle.pit_fib.specs.Faces.{IsRising}
+use Rattle.node_core.specs.Faces.{FaceEntry, is_open, find_scope, numbers}
+use Rattle.node_core.specs.Faces.{with_face, without_entry}
+
+-- is one of the list
+abbrev pub IsIn : {A : Type 0} → A → List A → Type 0
+IsIn x [] = ⊥
+IsIn x (y ∷ ys) = (y ≡ x) ⊎ IsIn x ys
 
 -- what passes a test, with the list it came from
 pub IsIn-filter_from : {A : Type 0} (p : A → Bool) (x : A) (xs : List A) → IsIn x (filter p xs) → IsIn x xs × (p x ≡ true)

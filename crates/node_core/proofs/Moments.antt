@@ -12,8 +12,9 @@ use Rattle.mgmt_core.specs.Reading.{PlainCommand, command_at}
 use Rattle.pit_fib.specs.Fib.{without_face}
 use Rattle.node_core.specs.declared.event.Scope.{Scope}
 use Rattle.node_core.specs.Event.{PlainEvent, Packet, FaceUp, FaceDown, Tick}
-use Rattle.node_core.specs.State.{is_open}
-use Rattle.node_core.specs.Step.{moment, with_face, without_entry}
+use Rattle.node_core.specs.Faces.{is_open}
+use Rattle.node_core.specs.Event.{moment}
+use Rattle.node_core.specs.Faces.{with_face, without_entry}
 use Rattle.node_core.specs.Policy.{Policy, at_moment, with_next_version}
 use Rattle.node_core.specs.Request.{Request, Refused, ForList, ForTables, ForRepository, ForData, request_of}
 use Rattle.node_core.specs.Said.{recorded_of}
@@ -87,6 +88,9 @@ after_now old new event h = ap (λ (l : Lasting). l.0) (after_lasts old new even
 
 pub after_keys : (old new : Policy) (event : PlainEvent) → IsAfter old event new → new.keys ≡ old.keys
 after_keys old new event h = ap (λ (l : Lasting). l.1.1.0) (after_lasts old new event h)
+
+pub after_rules : (old new : Policy) (event : PlainEvent) → IsAfter old event new → new.rules ≡ old.rules
+after_rules old new event h = ap (λ (l : Lasting). l.1.0) (after_lasts old new event h)
 
 pub policy_now : (first : Policy) (past : Run) (p : Policy) → first.now ≡ 0 → IsPolicyOf first past p → p.now ≡ now_of past
 policy_now first Start p zero h = ap (λ (q : Policy). q.now) h ∙ zero

@@ -14,7 +14,7 @@ use Rattle.info_rules.specs.declared.rule.Kind.TheVariants as kinds
 use Rattle.pit_fib.specs.Pit.{nacked_answer}
 use Rattle.pit_fib.specs.Records.{Records}
 use Rattle.node_core.specs.Event.{PlainEvent, Packet, FaceUp, FaceDown, Tick}
-use Rattle.node_core.specs.State.{is_open}
+use Rattle.node_core.specs.Faces.{is_open}
 use Rattle.node_core.specs.Verdict.{Answer, Verdict, Denied, NoRule, WhereTrue, Malformed, NoFace, Idle as IsIdle, Scope as OutOfScope, dropped, passed}
 use Rattle.node_core.specs.Policy.{Policy}
 use Rattle.node_core.specs.Request.{Request, Refused, ForList, ForTables, ForRepository, ForData, is_command, is_out_of_scope, request_of}

@@ -9,7 +9,7 @@ use Rattle.std.proofs.lemmas.Str.{IsUtf8-from_ascii}
 use Rattle.std.proofs.lemmas.Str.Parse.{IsNumeralModel, numerals_by_value, parse_plain, digit_at}
 use Rattle.std.proofs.lemmas.Fmt.{decimal_digit, first_decimal, IsAscii-decimal, decimal-digits_value, parse-decimal, digits_decimal}
 use Rattle.std.specs.Prelude.{◌⊎◌}
-use Rattle.node_core.specs.Line.{Lacks}
+use Rattle.node_core.specs.Script.Line.{Lacks}
 use Rattle.node_core.proofs.Lists.{Lacks-from_places}
 
 abbrev Digits : List ℕ → Type 0

@@ -18,9 +18,9 @@ use Rattle.replay_guard.proofs.Past.{one_more}
 use Rattle.replay_guard.proofs.Signers.{signer_cmp-total}
 use Rattle.mgmt_core.specs.Reading.{PlainCommand, command_at}
 use Rattle.node_core.specs.Event.{PlainEvent, Packet, FaceUp, FaceDown, Tick}
-use Rattle.node_core.specs.State.{is_open}
+use Rattle.node_core.specs.Faces.{is_open}
 use Rattle.node_core.specs.Verdict.{Answer}
-use Rattle.node_core.specs.Step.{moment}
+use Rattle.node_core.specs.Event.{moment}
 use Rattle.node_core.specs.Policy.{Policy, at_moment}
 use Rattle.node_core.specs.Request.{Request, Refused, ForList, ForTables, ForRepository, ForData, request_of}
 use Rattle.node_core.specs.Said.{IsSaid, recorded_of, recorded_with, signer_in}

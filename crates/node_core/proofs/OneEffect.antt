@@ -11,7 +11,7 @@ use Rattle.node_core.specs.Policy.{Policy}
 use Rattle.node_core.specs.Said.{IsSaid}
 use Rattle.node_core.specs.Effects.{IsEffect, IsAfter, after_said, decided_packet, face_in}
 use Rattle.node_core.specs.Policy.{at_moment}
-use Rattle.node_core.specs.Step.{moment}
+use Rattle.node_core.specs.Event.{moment}
 
 pub one_said : (p : Policy) (packet : PlainFrame) (a b : Decision) → AreApart p.keys → IsSaid p packet a → IsSaid p packet b → a ≡ b
 one_said p packet (Allowed m) (Allowed n) apart x y = one_decision p.rules p.keys packet (Allowed m) (Allowed n) apart x.0 y.0

@@ -7,7 +7,7 @@ use Rattle.hex.specs.Hex.{decode_of}
 use Rattle.node_core.specs.declared.event.Scope.{Scope}
 use Rattle.node_core.specs.declared.event.Scope.TheVariants.{Local, Far}
 use Rattle.node_core.specs.Event.{PlainEvent, Packet, FaceUp, FaceDown, Tick}
-use Rattle.node_core.specs.Line.{Lacks, scope_word, HexSpells, LineSpells, IsEventLine, IsSkipped, IsBadLine, SaysNothing}
+use Rattle.node_core.specs.Script.Line.{Lacks, scope_word, HexSpells, LineSpells, IsEventLine, IsSkipped, IsBadLine, SaysNothing}
 use Rattle.node_core.specs.Script.{ended, joined, AreLines, Say, IsScript, IsBadAt}
 use Rattle.node_core.proofs.Lists.{SameCut, cut_once}
 use Rattle.node_core.proofs.Words.{decoded_length, scope_word-Lacks, number-Lacks, up_words, down_words, in_words, tick_text}

@@ -1,13 +1,13 @@
 -- Sends in an outbox, and as text.
-use Rattle.std.proofs.Common.{◌≡◌, ℕ, zero, suc, ◌-◌, ◌<◌, ◌≤◌, List, [], ◌∷◌, ◌++◌, length, map, take, drop, refl, sym, ap, ◌∙◌, arith, append_assoc, length-append, false, Result, Ok, Err}
-use Rattle.std.specs.Prelude.{Some, None, slice_get, slice_range, OnOk, sum_by}
+use Rattle.std.proofs.Common.{◌≡◌, ℕ, zero, suc, ◌+◌, add-one, ◌-◌, ◌<◌, ◌≤◌, List, [], ◌∷◌, ◌++◌, length, map, take, drop, refl, sym, ap, ◌∙◌, arith, append_assoc, length-append, Result, Ok, Err}
+use Rattle.std.specs.Prelude.{Option, MatchOption, true, Some, None, slice_get, slice_range, OnOk, sum_by}
 use Rattle.std.proofs.lemmas.List.Sums.{sum_by-append, sum_by-cons}
-use Rattle.std.specs.Result.{is_err}
+use Rattle.std.specs.Result.{is_ok}
 use Rattle.std.specs.List.{flat_map}
 use Rattle.std.proofs.Math.Seq.{drop-append_seam}
 use Rattle.std.proofs.lemmas.List.{take-append-le, drop-append-le, map-append, append-nil, length-drop}
-use Rattle.node_core.specs.declared.outbox.Sent.{Sent}
-use Rattle.node_core.specs.Event.{Send}
+use Rattle.node_core.specs.declared.sends.Sent.{Sent}
+use Rattle.node_core.specs.Event.{Send, to_each}
 use Rattle.node_core.specs.Outbox.{AreWithin, AreOctetsOf, size_of, send_of, sends_of, placed}
 use Rattle.node_core.proofs.Lists.{take_whole}
 
@@ -22,10 +22,6 @@ pub slice_get-there : {X : Type 0} (xs : List X) (i : ℕ) → i < length xs →
 slice_get-there [] i lt h = omega arith
 slice_get-there (y ∷ ys) zero lt h = cc h
 slice_get-there (y ∷ ys) (suc i) lt h = slice_get-there ys i (omega arith) h
-
-pub ok_part : {E P : Type 0} (r : Result (Unit {0}) E) → is_err r ≡ false → OnOk r P → P
-ok_part (Ok u) e p = p
-ok_part (Err e) h p = cc h
 
 -- a range of octets stays where more octets come after them
 slice_range-more : (octets more : List ℕ) (i j : ℕ) → i ≤ j → j ≤ length octets → slice_range (octets ++ more) i j ≡ slice_range octets i j
@@ -54,7 +50,7 @@ sends_of-placed octets more (f ∷ faces) =
     let rest = sends_of-placed octets more faces in cc (one, rest)
 
 -- what an outbox holds after octets were added for some faces
-pub sends_of-added : (octets more : List ℕ) (sends : List Sent) (faces : List ℕ) → AreWithin octets sends
+sends_of-added : (octets more : List ℕ) (sends : List Sent) (faces : List ℕ) → AreWithin octets sends
     → sends_of (octets ++ more) (sends ++ map (placed (length octets) (length (octets ++ more))) faces) ≡ sends_of octets sends ++ map {A = ℕ} {B = Send} (λ f. (f, more)) faces
 sends_of-added octets more sends faces h =
     let new = map (placed (length octets) (length (octets ++ more))) faces in
@@ -74,7 +70,7 @@ AreWithin-append : (octets : List ℕ) (a b : List Sent) → AreWithin octets a 
 AreWithin-append octets [] b ha hb = hb
 AreWithin-append octets (s ∷ a) b ha hb = (ha.0, AreWithin-append octets a b ha.1 hb)
 
-pub AreWithin-added : (octets more : List ℕ) (sends : List Sent) (faces : List ℕ) → AreWithin octets sends
+AreWithin-added : (octets more : List ℕ) (sends : List Sent) (faces : List ℕ) → AreWithin octets sends
     → AreWithin (octets ++ more) (sends ++ map (placed (length octets) (length (octets ++ more))) faces)
 AreWithin-added octets more sends faces h =
     AreWithin-append (octets ++ more) sends _ (AreWithin-more octets more sends h)
@@ -94,7 +90,7 @@ no_more-added octets more sends faces h some =
     omega (arith, h, added, sum, length-append octets more)
 
 -- the same, for what code computed
-pub octets_after : (octets more all : List ℕ) (sends after : List Sent) (faces : List ℕ) (start end : ℕ)
+octets_after : (octets more all : List ℕ) (sends after : List Sent) (faces : List ℕ) (start end : ℕ)
     → start ≡ length octets → end ≡ length all → all ≡ octets ++ more → after ≡ sends ++ map (placed start end) faces
     → AreOctetsOf octets sends → 0 < length faces → AreOctetsOf all after
 octets_after octets more all sends after faces start end s e a n h some = rw (n, s, e, a) (record {
@@ -102,10 +98,48 @@ octets_after octets more all sends after faces start end s e a n h some = rw (n,
   no_more = no_more-added octets more sends faces h.no_more some;
 })
 
-pub sends_after : (octets more all : List ℕ) (sends after : List Sent) (faces : List ℕ) (start end : ℕ)
+sends_after : (octets more all : List ℕ) (sends after : List Sent) (faces : List ℕ) (start end : ℕ)
     → start ≡ length octets → end ≡ length all → all ≡ octets ++ more → after ≡ sends ++ map (placed start end) faces
     → AreWithin octets sends → sends_of all after ≡ sends_of octets sends ++ map {A = ℕ} {B = Send} (λ f. (f, more)) faces
 sends_after octets more all sends after faces start end s e a n h = rw (n, s, e, a) (sends_of-added octets more sends faces h)
 
 pub appended : (a b c d e : List ℕ) → a ≡ b ++ c → b ≡ d ++ e → a ≡ d ++ (e ++ c)
 appended a b c d e h k = h ∙ ap (λ (t : List ℕ). t ++ c) k ∙ append_assoc d e c
+
+-- where the places were kept, and the places of one send or more came after them
+pub octets_placed : {octets all : List ℕ} (more : List ℕ) (faces : List ℕ) {sends kept after : List Sent} {start end : ℕ}
+    → start ≡ length octets → end ≡ length all → all ≡ octets ++ more → kept ≡ sends → after ≡ kept ++ map (placed start end) faces
+    → AreOctetsOf octets sends → 0 < length faces → AreOctetsOf all after
+octets_placed {octets} {all} more faces {sends} {kept} {after} {start} {end} s e a k n h some =
+    octets_after octets more all sends after faces start end s e a (n ∙ ap (λ (old : List Sent). old ++ map (placed start end) faces) k) h some
+
+pub sends_placed : {octets all : List ℕ} (more : List ℕ) (faces : List ℕ) {sends kept after : List Sent} {start end : ℕ} {held : List Send}
+    → start ≡ length octets → end ≡ length all → all ≡ octets ++ more → kept ≡ sends → after ≡ kept ++ map (placed start end) faces
+    → AreOctetsOf octets sends → sends_of octets sends ≡ held → sends_of all after ≡ held ++ to_each faces more
+sends_placed {octets} {all} more faces {sends} {kept} {after} {start} {end} s e a k n h view =
+    sends_after octets more all sends after faces start end s e a (n ∙ ap (λ (old : List Sent). old ++ map (placed start end) faces) k) h.within
+    ∙ ap (λ (old : List Send). old ++ to_each faces more) view
+
+-- the places of one more send
+pub map-take_next : {X : Type 0} (f : ℕ → X) (xs : List ℕ) (i : ℕ) (x : ℕ) → slice_get xs i ≡ Some x → map f (take (suc i) xs) ≡ map f (take i xs) ++ f x ∷ []
+map-take_next f [] i x h = cc h
+map-take_next f (y ∷ ys) zero x h = let same : y ≡ x = cc h in ap (λ (z : ℕ). f z ∷ []) same
+map-take_next {X} f (y ∷ ys) (suc i) x h = ap (λ (t : List X). f y ∷ t) (map-take_next f ys i x h)
+
+pub one_more_placed : (before : List Sent) {now after : List Sent} (start end : ℕ) (faces : List ℕ) (i : ℕ) (face : ℕ) → slice_get faces i ≡ Some face
+    → now ≡ before ++ map (placed start end) (take i faces) → after ≡ now ++ placed start end face ∷ []
+    → after ≡ before ++ map (placed start end) (take (i + 1) faces)
+one_more_placed before start end faces i face h n a =
+    let next = map-take_next (placed start end) faces i face h in
+    a ∙ ap (λ (t : List Sent). t ++ placed start end face ∷ []) n ∙ append_assoc before (map (placed start end) (take i faces)) (placed start end face ∷ [])
+    ∙ ap (λ (t : List Sent). before ++ t) (sym next) ∙ rw add-one refl
+
+pub ok_done : {E P : Type 0} (r : Result (Unit {0}) E) → is_ok r ≡ true → OnOk r P → P
+ok_done (Ok u) e p = p
+ok_done (Err e) h p = cc h
+
+-- what was written had no fault
+pub no_refusal : (P : Type 0) {E : Type 0} (refusal : Option E) (r : Result (Unit {0}) E) → is_ok r ≡ true → MatchOption refusal P (λ fault. r ≡ Err fault) → refusal ≡ None
+no_refusal P None r done h = refl
+no_refusal P (Some fault) (Ok u) done h = cc h
+no_refusal P (Some fault) (Err e) done h = cc done

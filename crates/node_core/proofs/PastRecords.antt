@@ -7,7 +7,7 @@ use Rattle.pit_fib.specs.Cause.{Cause, Expires, records_after}
 use Rattle.pit_fib.specs.Past.{ask_of, sent_of, records_of as records_of_causes}
 use Rattle.pit_fib.specs.Records.{Records}
 use Rattle.pit_fib.proofs.PendingPast.{asks_of_run, asked_of_run}
-use Rattle.node_core.specs.Step.{moment}
+use Rattle.node_core.specs.Event.{moment}
 use Rattle.node_core.specs.Causes.{after_causes, before_earlier, causes_of}
 use Rattle.node_core.specs.Runs.{Run, Start, Then, now_of, past_causes, records_of}
 

@@ -6,50 +6,68 @@ use Rattle.node_core.proofs.Lists.{Lacks-append}
 use Rattle.std.specs.Prelude.{Option, IfOk, OnOk, OnErr}
 use Rattle.std.specs.Io.KnownBytes.{Appends}
 use Rattle.ndn_tlv.specs.declared.memory.Memory.{Memory}
-use Rattle.node_core.specs.declared.event.Verdict.{Verdict}
+use Rattle.info_rules.specs.Rule.{PlainRule}
+use Rattle.node_core.specs.declared.verdict.Verdict.{Verdict}
 use Rattle.node_core.specs.Event.{PlainEvent, Send}
-use Rattle.node_core.specs.State.{State}
-use Rattle.node_core.specs.Step.{Step, NeedsNoMemory}
+use Rattle.node_core.specs.Node.{NodeState, IsStep, Unharmed, AsksNoMemory}
+use Rattle.node_core.specs.Policy.{Policy}
+use Rattle.node_core.specs.Verdict.{verdict_of}
 use Rattle.std.specs.Prelude.{IsOk}
-use Rattle.node_core.specs.Line.{Lacks, IsSkipped, IsEventLine, IsBadLine}
-use Rattle.node_core.specs.Writing.{Outcome, Answered, NoMemory, said_text, lines_text, outcome_text, outcomes_text}
+use Rattle.node_core.specs.Script.Line.{Lacks, IsSkipped, IsEventLine, IsBadLine}
+use Rattle.node_core.specs.Script.Writing.{Outcome, Answered, NoMemory, said_text, lines_text, outcome_text, outcomes_text}
 use Rattle.node_core.specs.Script.{ended, joined, AreLines, Say, IsOutcome, AreOutcomes}
-use Rattle.node_core.specs.Play.{Place, IsPending, PlaysEvent, EventStops, AddStops, Plays, TurnsBad, FeedStops, LineStops}
+use Rattle.node_core.specs.Script.Play.{Place, IsPending, PlaysEvent, EventStops, AddStops, Plays, TurnsBad, FeedStops, LineStops}
 use Rattle.node_core.specs.declared.script.RunFault.{RunFault}
 use Rattle.node_core.specs.declared.script.RunFault.TheVariants as fault
+use Rattle.node_core.proofs.Moments.{after_rules}
 use Rattle.node_core.proofs.Known.{Appends-start, Appends-then, Appends-kept, AppendsFront-after, AppendsFront-all}
 
 -- ---- one reply
 
-pub record HasOutcome (old new : State) (event : PlainEvent) (outcome : Result Verdict Memory) (out : List Send) : Type 0 where
+pub record HasOutcome (old new : NodeState) (event : PlainEvent) (outcome : Result Verdict Memory) (out : List Send) : Type 0 where
   pub done_as : Outcome
   pub handled : IsOutcome old event done_as new
-  pub text_is : (n : ℕ) → lines_text n (said_text outcome) out ≡ outcome_text n done_as
+  pub text_is : (rules : List PlainRule) (n : ℕ) → lines_text n (said_text rules outcome) out ≡ outcome_text rules n done_as
 
 never_ok : (e : Memory) → IsOk {T = Verdict} {E = Memory} (Err e) → ⊥
 never_ok e h = cc
 
-pub outcome_from_step : (old new : State) (event : PlainEvent) (outcome : Result Verdict Memory) (held out : List Send) → held ≡ []
-    → IfOk outcome (λ verdict. (sends : List Send) × (out ≡ held ++ sends) × Step old event (record { verdict = verdict; sends = sends }) new)
-    → OnErr outcome ((new ≡ old) × (out ≡ held)) → (NeedsNoMemory old event → IsOk outcome) → HasOutcome old new event outcome out
+pub outcome_from_step : (old new : NodeState) (event : PlainEvent) (outcome : Result Verdict Memory) (held out : List Send) → held ≡ []
+    → IfOk outcome (λ verdict. (sends : List Send) × (out ≡ held ++ sends) × IsStep old event (record { verdict = verdict_of verdict; sends = sends }) new)
+    → OnErr outcome (Unharmed old new × (out ≡ held)) → (AsksNoMemory old event → IsOk outcome) → HasOutcome old new event outcome out
 outcome_from_step old new event (Ok verdict) held out none ok err quiet =
     let same : out ≡ ok.0 = ok.1 ∙ ap (λ (h : List Send). h ++ ok.0) none in
-    record { done_as = Answered (record { verdict = verdict; sends = ok.0 }); handled = ok.2; text_is = λ n. rw same refl }
+    record { done_as = Answered (record { verdict = verdict_of verdict; sends = ok.0 }); handled = ok.2; text_is = λ rules n. rw same refl }
 outcome_from_step old new event (Err e) held out none ok err quiet =
     let same : out ≡ [] = err.1 ∙ none in
-    record { done_as = NoMemory; handled = (err.0, λ h. never_ok e (quiet h)); text_is = λ n. rw same refl }
+    record { done_as = NoMemory; handled = (err.0, λ h. never_ok e (quiet h)); text_is = λ rules n. rw same refl }
 
-pub PlaysEvent-from_step : (from to : Place) (event : PlainEvent) (outcome : Result Verdict Memory) (held out : List Send) (before text : List ℕ) → held ≡ []
-    → IfOk outcome (λ verdict. (sends : List Send) × (out ≡ held ++ sends) × Step from.node event (record { verdict = verdict; sends = sends }) to.node)
-    → OnErr outcome ((to.node ≡ from.node) × (out ≡ held)) → (NeedsNoMemory from.node event → IsOk outcome)
-    → before ≡ [] → text ≡ before ++ lines_text (from.events + 1) (said_text outcome) out
+-- the rules stay
+rules_stay : (old new : NodeState) (event : PlainEvent) (outcome : Outcome) → IsOutcome old event outcome new → new.policy.rules ≡ old.policy.rules
+rules_stay old new event (Answered answer) h = after_rules old.policy new.policy event h.policy
+rules_stay old new event NoMemory h = ap (λ (p : Policy). p.rules) h.0.policy
+
+pub rules_kept : (old new : NodeState) (events : List PlainEvent) (outcomes : List Outcome) → AreOutcomes old events outcomes new → new.policy.rules ≡ old.policy.rules
+rules_kept old new [] [] h = ap (λ (n : NodeState). n.policy.rules) h
+rules_kept old new [] (outcome ∷ outcomes) h = absurd h
+rules_kept old new (event ∷ events) [] h = absurd h
+rules_kept old new (event ∷ events) (outcome ∷ outcomes) h =
+    rules_kept h.0 new events outcomes h.2 ∙ rules_stay old h.0 event outcome h.1
+
+pub PlaysEvent-from_step : (from to : Place) (event : PlainEvent) (outcome : Result Verdict Memory) (rules : List PlainRule) (held out : List Send) (before text : List ℕ) → held ≡ []
+    → IfOk outcome (λ verdict. (sends : List Send) × (out ≡ held ++ sends) × IsStep from.node event (record { verdict = verdict_of verdict; sends = sends }) to.node)
+    → OnErr outcome (Unharmed from.node to.node × (out ≡ held)) → (AsksNoMemory from.node event → IsOk outcome)
+    → rules ≡ to.node.policy.rules → before ≡ [] → text ≡ before ++ lines_text (from.events + 1) (said_text rules outcome) out
     → to.lines ≡ from.lines → to.events ≡ from.events + 1 → PlaysEvent event from to text
-PlaysEvent-from_step from to event outcome held out before text none ok err quiet empty is lines events =
+PlaysEvent-from_step from to event outcome rules held out before text none ok err quiet shown empty is lines events =
     let r = outcome_from_step from.node to.node event outcome held out none ok err quiet in
+    let same : rules ≡ from.node.policy.rules = shown ∙ rules_stay from.node to.node event r.done_as r.handled in
     record {
       done_as = r.done_as;
       handled = r.handled;
-      text_is = is ∙ ap (λ (b : List ℕ). b ++ lines_text (from.events + 1) (said_text outcome) out) empty ∙ r.text_is (from.events + 1);
+      text_is =
+          is ∙ ap (λ (b : List ℕ). b ++ lines_text (from.events + 1) (said_text rules outcome) out) empty
+          ∙ r.text_is rules (from.events + 1) ∙ ap (λ (l : List PlainRule). outcome_text l (from.events + 1) r.done_as) same;
       lines = lines;
       events = events;
     }
@@ -105,17 +123,17 @@ Say-append (l ∷ a) b [] (f ∷ fs) ha hb = inl (ha.0, Say-append a b [] (f ∷
 Say-append (l ∷ a) b (e ∷ es) fs (inl h) hb = inl (h.0, Say-append a b (e ∷ es) fs h.1 hb)
 Say-append (l ∷ a) b (e ∷ es) fs (inr h) hb = inr (h.0, Say-append a b es fs h.1 hb)
 
-AreOutcomes-append : (a b c : State) (es fs : List PlainEvent) (rs ss : List Outcome) → AreOutcomes a es rs b → AreOutcomes b fs ss c → AreOutcomes a (es ++ fs) (rs ++ ss) c
+AreOutcomes-append : (a b c : NodeState) (es fs : List PlainEvent) (rs ss : List Outcome) → AreOutcomes a es rs b → AreOutcomes b fs ss c → AreOutcomes a (es ++ fs) (rs ++ ss) c
 AreOutcomes-append a b c [] fs [] ss h k = rw h at k
 AreOutcomes-append a b c [] fs (r ∷ rs) ss h k = absurd h
 AreOutcomes-append a b c (e ∷ es) fs [] ss h k = absurd h
 AreOutcomes-append a b c (e ∷ es) fs (r ∷ rs) ss h k = (h.0, h.1, AreOutcomes-append h.0 b c es fs rs ss h.2 k)
 
-outcomes_text-append : (n : ℕ) (rs ss : List Outcome) → outcomes_text n (rs ++ ss) ≡ outcomes_text n rs ++ outcomes_text (n + length rs) ss
-outcomes_text-append n [] ss = let e : n + 0 ≡ n = omega arith in rw e refl
-outcomes_text-append n (r ∷ rs) ss =
+outcomes_text-append : (rules : List PlainRule) (n : ℕ) (rs ss : List Outcome) → outcomes_text rules n (rs ++ ss) ≡ outcomes_text rules n rs ++ outcomes_text rules (n + length rs) ss
+outcomes_text-append rules n [] ss = let e : n + 0 ≡ n = omega arith in rw e refl
+outcomes_text-append rules n (r ∷ rs) ss =
     let e : n + suc (length rs) ≡ n + 1 + length rs = omega arith in
-    rw e (ap (λ (t : List ℕ). outcome_text n r ++ t) (outcomes_text-append (n + 1) rs ss) ∙ sym (append_assoc (outcome_text n r) (outcomes_text (n + 1) rs) _))
+    rw e (ap (λ (t : List ℕ). outcome_text rules n r ++ t) (outcomes_text-append rules (n + 1) rs ss) ∙ sym (append_assoc (outcome_text rules n r) (outcomes_text rules (n + 1) rs) _))
 
 pub Plays-none : (place : Place) → Plays [] place place []
 Plays-none place = record {
@@ -132,6 +150,8 @@ Plays-none place = record {
 pub Plays-then : (a b : List (List ℕ)) (from mid to : Place) (x y : List ℕ) → Plays a from mid x → Plays b mid to y → Plays (a ++ b) from to (x ++ y)
 Plays-then a b from mid to x y h k =
     let at : mid.events + 1 ≡ from.events + 1 + length h.outcomes = let e = h.counted in omega arith in
+    let rules = from.node.policy.rules in
+    let kept : mid.node.policy.rules ≡ rules = rules_kept from.node mid.node h.events h.outcomes h.runs in
     record {
       events = h.events ++ k.events;
       outcomes = h.outcomes ++ k.outcomes;
@@ -140,8 +160,9 @@ Plays-then a b from mid to x y h k =
       runs = AreOutcomes-append from.node mid.node to.node h.events k.events h.outcomes k.outcomes h.runs k.runs;
       text_is =
           ap (λ (t : List ℕ). t ++ y) h.text_is
-          ∙ ap (λ (t : List ℕ). outcomes_text (from.events + 1) h.outcomes ++ t) (k.text_is ∙ ap (λ (n : ℕ). outcomes_text n k.outcomes) at)
-          ∙ sym (outcomes_text-append (from.events + 1) h.outcomes k.outcomes);
+          ∙ ap (λ (t : List ℕ). outcomes_text rules (from.events + 1) h.outcomes ++ t)
+          (k.text_is ∙ ap (λ (l : List PlainRule). outcomes_text l (mid.events + 1) k.outcomes) kept ∙ ap (λ (n : ℕ). outcomes_text rules n k.outcomes) at)
+          ∙ sym (outcomes_text-append rules (from.events + 1) h.outcomes k.outcomes);
       numbered = let e = h.numbered in let f = k.numbered in omega (arith, length-append a b);
       counted = let e = h.counted in let f = k.counted in omega (arith, length-append h.outcomes k.outcomes);
     }

@@ -22,8 +22,8 @@ use Rattle.mgmt_core.specs.Reading.{PlainCommand, command_at}
 use Rattle.mgmt_core.specs.Tables.{CachedAfter}
 use Rattle.mgmt_core.specs.Writing.{segment_at}
 use Rattle.node_core.specs.Event.{PlainEvent, Packet, FaceUp, FaceDown, Tick}
-use Rattle.node_core.specs.State.{is_open}
-use Rattle.node_core.specs.Step.{moment}
+use Rattle.node_core.specs.Faces.{is_open}
+use Rattle.node_core.specs.Event.{moment}
 use Rattle.node_core.specs.Verdict.{Answer, DropReason, NoFace, NoSegment, Verdict, Passed, Allowed, DataAllowed, Denied, NoRule, Dropped, WhereTrue, dropped}
 use Rattle.node_core.specs.Policy.{Policy, at_moment}
 use Rattle.node_core.specs.Request.{ListAsked, ForTables, management, request_of}

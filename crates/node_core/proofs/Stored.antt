@@ -25,8 +25,9 @@ use Rattle.repo_core.specs.Repo.{Held, want_key, after_delete, after_insert, aft
 use Rattle.repo_core.specs.Wants.{is_wanted, unfilled, want_deadline}
 use Rattle.repo_core.proofs.Kept.{get-kept}
 use Rattle.node_core.specs.Event.{PlainEvent, Packet, FaceUp, FaceDown, Tick}
-use Rattle.node_core.specs.State.{is_open}
-use Rattle.node_core.specs.Step.{moment, with_face, without_entry}
+use Rattle.node_core.specs.Faces.{is_open}
+use Rattle.node_core.specs.Event.{moment}
+use Rattle.node_core.specs.Faces.{with_face, without_entry}
 use Rattle.node_core.specs.Policy.{Policy, at_moment, with_next_version}
 use Rattle.node_core.specs.Request.{Request, Refused, ForList, ForTables, ForRepository, ForData, request_of}
 use Rattle.node_core.specs.Said.{IsSaid, recorded_of}

@@ -9,7 +9,7 @@ use Rattle.pit_fib.specs.Cause.{Cause, Expires, records_after}
 use Rattle.pit_fib.specs.Records.{Records, Pending, records_at}
 use Rattle.content_store.specs.Store.{CachedData}
 use Rattle.node_core.specs.Event.{PlainEvent, Tick}
-use Rattle.node_core.specs.Step.{moment}
+use Rattle.node_core.specs.Event.{moment}
 use Rattle.node_core.specs.Verdict.{Answer, passed}
 use Rattle.node_core.specs.Policy.{Policy, at_moment}
 use Rattle.node_core.specs.Effects.{IsAfter}

@@ -8,7 +8,7 @@ use Rattle.hex.proofs.HexLemmas.{decode_pairs-ok}
 use Rattle.node_core.specs.declared.event.Scope.{Scope}
 use Rattle.node_core.specs.declared.event.Scope.TheVariants.{Local, Far}
 use Rattle.node_core.specs.Event.{PlainEvent, Packet, FaceUp, FaceDown, Tick}
-use Rattle.node_core.specs.Line.{Lacks, scope_word, HexSpells, LineSpells, AreNumbers}
+use Rattle.node_core.specs.Script.Line.{Lacks, scope_word, HexSpells, LineSpells, AreNumbers}
 use Rattle.node_core.proofs.Lists.{Lacks-from_test, cut_once, cut_twice_once, Lacks-no_cut}
 use Rattle.node_core.proofs.Numbers.{decimal-Lacks}
 

@@ -4,7 +4,7 @@ use Rattle.ndn_packets.specs.Packet.{PlainFrame}
 use Rattle.info_rules.specs.declared.rules.RuleNo.{RuleNo}
 use Rattle.info_rules.specs.declared.decision.Decision.TheVariants.{Allowed}
 use Rattle.node_core.specs.Event.{PlainEvent}
-use Rattle.node_core.specs.Step.{moment}
+use Rattle.node_core.specs.Event.{moment}
 use Rattle.node_core.specs.Policy.{Policy, at_moment}
 use Rattle.node_core.specs.Said.{IsSaid}
 use Rattle.node_core.specs.Effects.{decided_packet}

@@ -1,6 +1,6 @@
 -- What an event and its answer do to the records of pending Interests (NFD Developer's Guide,
 -- "Pending Interest Table").
-use Rattle.std.specs.Prelude.{ℕ, List, [], ◌∷◌, map, Bool, false, Result, Ok, Err, ◌==◌, if◌then◌else◌}
+use Rattle.std.specs.Prelude.{ℕ, ◌+◌, ◌-◌, ◌^◌, List, [], ◌∷◌, map, min, Bool, false, Result, Ok, Err, ◌==◌, if◌then◌else◌}
 use Rattle.std.specs.List.{list_any}
 use Rattle.sha2.specs.Sha256.{sha256}
 use Rattle.ndn_packets.specs.FrameReading.{frame_at}
@@ -12,8 +12,11 @@ use Rattle.ndn_packets.specs.declared.types.TheConstants.{LINK_PACKET}
 use Rattle.pit_fib.specs.Cause.{Cause, Arrives, SentTo, Satisfied, NackCame, Withdrawn, Removed, Closed, records_after}
 use Rattle.pit_fib.specs.Records.{Ask, Records}
 use Rattle.node_core.specs.Event.{PlainEvent, Packet, FaceUp, FaceDown, Tick, Send}
-use Rattle.node_core.specs.Step.{deadline}
 use Rattle.node_core.specs.Verdict.{Verdict, Passed, Allowed, DataAllowed, Denied, NoRule, Dropped, Answer}
+
+-- a moment and a period after it, which stops at the last moment
+abbrev pub deadline : ℕ → ℕ → ℕ
+deadline now lifetime = min (now + lifetime) (2 ^ 64 - 1)
 
 -- an Interest as its asker sent it, until its lifetime is over
 abbrev pub ask_of : ℕ → List ℕ → PlainInterest → Ask
@@ -31,6 +34,10 @@ is_nack (octet ∷ octets) = octet == LINK_PACKET
 
 abbrev pub is_nacked : List Send → Bool
 is_nacked sends = list_any (λ sent. is_nack sent.1) sends
+
+-- an Interest of this Nonce was sent to each of these faces
+abbrev pub sent_causes : PlainKey → List ℕ → ℕ → List ℕ → List Cause
+sent_causes key nonce now faces = map (λ face. SentTo key face nonce now) faces
 
 -- An Interest that is passed is kept where nothing went back to its face: it waits there, and was
 -- sent to each of the faces. Where a Nack went back, the face waits under its key no more.

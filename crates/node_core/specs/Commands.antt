@@ -32,7 +32,7 @@ use Rattle.repo_core.specs.Reading.{repo_command_at}
 use Rattle.repo_core.specs.Repo.{after_command, reply_to}
 use Rattle.repo_core.specs.Writing.{repo_response}
 use Rattle.node_core.specs.Event.{Send}
-use Rattle.node_core.specs.Step.{to_each}
+use Rattle.node_core.specs.Event.{to_each}
 use Rattle.node_core.specs.Policy.{Policy, open_faces, with_next_version}
 use Rattle.node_core.specs.Request.{Request, Refused, ForList, ForTables, ForRepository, ForData, request_of}
 use Rattle.node_core.specs.Said.{recorded_of}

@@ -45,3 +45,8 @@ list_answer p face asked =
     then segment_answer face (segment_name asked.kind p.table_number asked.segment)
     (segment_at (dataset_text p asked.kind) asked.segment)
     else dropped NoSegment
+
+-- an answer with a segment's octets, if there are some
+abbrev pub answered_with : ℕ → Option (List ℕ) → Answer
+answered_with face None = dropped NoSegment
+answered_with face (Some octets) = passed ((face, octets) ∷ [])

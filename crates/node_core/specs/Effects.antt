@@ -11,8 +11,9 @@ use Rattle.pit_fib.specs.Fib.{without_face}
 use Rattle.repo_core.specs.Repo.{after_offer}
 use Rattle.node_core.specs.declared.event.Scope.{Scope}
 use Rattle.node_core.specs.Event.{PlainEvent, Packet, FaceUp, FaceDown, Tick}
-use Rattle.node_core.specs.State.{is_open}
-use Rattle.node_core.specs.Step.{moment, with_face, without_entry}
+use Rattle.node_core.specs.Faces.{is_open}
+use Rattle.node_core.specs.Event.{moment}
+use Rattle.node_core.specs.Faces.{with_face, without_entry}
 use Rattle.node_core.specs.Policy.{Policy, at_moment, with_next_version}
 use Rattle.node_core.specs.Request.{is_decided}
 use Rattle.node_core.specs.Said.{IsSaid}

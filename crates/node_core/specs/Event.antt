@@ -1,7 +1,6 @@
--- Events and answers as plain data.
-use Rattle.std.specs.Prelude.{ℕ, List}
+-- Events and what is sent, as plain data.
+use Rattle.std.specs.Prelude.{ℕ, List, map}
 use Rattle.node_core.specs.declared.event.Scope.{Scope}
-use Rattle.node_core.specs.declared.event.Verdict.{Verdict}
 use Rattle.node_core.specs.declared.event.Event.{Event}
 use Rattle.node_core.specs.declared.event.Event.TheVariants as code
 
@@ -18,10 +17,16 @@ plain (code.FaceUp face scope now) = FaceUp face scope now
 plain (code.FaceDown face now) = FaceDown face now
 plain (code.Tick now) = Tick now
 
+abbrev pub moment : PlainEvent → ℕ
+moment (Packet face now octets) = now
+moment (FaceUp face scope now) = now
+moment (FaceDown face now) = now
+moment (Tick now) = now
+
 -- octets that go to a face
 abbrev pub Send : Type 0
 Send = ℕ × List ℕ
 
-pub record Answer : Type 0 where
-  pub verdict : Verdict
-  pub sends : List Send
+-- the octets to each of these faces
+abbrev pub to_each : List ℕ → List ℕ → List Send
+to_each faces octets = map (λ face. (face, octets)) faces

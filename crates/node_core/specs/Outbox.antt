@@ -1,8 +1,8 @@
--- What an outbox holds.
+-- How an outbox keeps its sends.
 use Rattle.std.specs.Prelude.{ℕ, ◌≤◌, ◌-◌, List, map, length, slice_range, sum_by}
 use Rattle.std.specs.List.{AllByRecursion}
 use Rattle.node_core.specs.Event.{Send}
-use Rattle.node_core.specs.declared.outbox.Sent.{Sent}
+use Rattle.node_core.specs.declared.sends.Sent.{Sent}
 
 -- the places lie within the octets
 abbrev pub IsWithin : List ℕ → Sent → Type 0

@@ -3,6 +3,11 @@ use Rattle.std.specs.Prelude.{ℕ, List, [], ◌∷◌, Bool, true, Option, None
 use Rattle.std.specs.Cmp.Lexicographic.{pointwise}
 use Rattle.ndn_tlv.specs.Element.{Field}
 use Rattle.ndn_names.specs.declared.component_type.TheConstants.{GENERIC}
+use Rattle.std.specs.FinMap as map
+use Rattle.hmac_keys.specs.KeyFile.{NamedKey}
+use Rattle.info_rules.specs.Rule.{PlainRule}
+use Rattle.node_core.specs.Policy.{first_policy}
+use Rattle.node_core.specs.Node.{NodeState}
 use Rattle.node_core.specs.declared.node.NodeFault.{NodeFault}
 use Rattle.node_core.specs.declared.node.NodeFault.TheVariants.{BadRepoPrefix, BadCapacity}
 
@@ -21,3 +26,11 @@ parts_fault repo cache =
     if is_bad_prefix repo then Some BadRepoPrefix else (
     if (cache == 0) || nat_lt 65536 cache then Some BadCapacity else
     None)
+
+-- a node of these parts before its first event
+abbrev pub first_node : List PlainRule → List NamedKey → List Field → ℕ → NodeState
+first_node rules keys repo cache = record {
+  policy = first_policy rules keys repo;
+  pending = map.empty;
+  cache = record { cached = []; capacity = cache };
+}

@@ -23,8 +23,8 @@ use Rattle.strategies.specs.declared.strategy.Choice.{Choice}
 use Rattle.strategies.specs.declared.strategy.Choice.TheVariants as choices
 use Rattle.repo_core.specs.Objects.{served}
 use Rattle.node_core.specs.Event.{PlainEvent, Packet, FaceUp, FaceDown, Tick, Send}
-use Rattle.node_core.specs.State.{is_open}
-use Rattle.node_core.specs.Step.{to_each}
+use Rattle.node_core.specs.Faces.{is_open}
+use Rattle.node_core.specs.Event.{to_each}
 use Rattle.node_core.specs.Verdict.{WhereTrue, Answer, Dropped, NoFace, Malformed, Idle, Loop, PitFull, NoPending, BadFace, FaceOpen, FacesFull, Scope as OutOfScope, DataAllowed, Denied, NoRule, dropped, passed}
 use Rattle.node_core.specs.Policy.{Policy}
 use Rattle.node_core.specs.Request.{Request, Refused, ForList, ForTables, ForRepository, ForData, request_of, is_out_of_scope}

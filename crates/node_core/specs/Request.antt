@@ -11,6 +11,11 @@ use Rattle.ndn_packets.specs.Packet.{PlainInterest, PlainFrame, AnInterest, ADat
 use Rattle.repo_core.specs.Reading.{verb_at}
 use Rattle.node_core.specs.Verdict.{DropReason, HopLimit, Scope}
 use Rattle.node_core.specs.Policy.{Policy, is_far}
+use Rattle.node_core.specs.declared.request.NamedRequest.{NamedRequest}
+use Rattle.node_core.specs.declared.request.NamedRequest.TheVariants as named
+pub use Rattle.node_core.specs.declared.request.ListKind.{ListKind}
+pub use Rattle.node_core.specs.declared.request.ListKind.TheVariants.{RouteList, StrategyList}
+pub use Rattle.node_core.specs.declared.request.ListAsked.{ListAsked}
 
 abbrev pub generic : List ℕ → Field
 generic text = (GENERIC, text)
@@ -32,20 +37,10 @@ is_out_of_scope p face name = is_local_name name && is_far p face
 
 -- ---- lists
 
-pub data ListKind : Type 0 where
-  RouteList : ListKind
-  StrategyList : ListKind
-
 abbrev pub list_name : ListKind → List Field
 list_name RouteList = management ++ generic (codes "fib") ∷ generic (codes "list") ∷ []
 list_name StrategyList =
     management ++ generic (codes "strategy-choice") ∷ generic (codes "list") ∷ []
-
--- a list, its version, where one is asked for, and a segment of it
-pub record ListAsked : Type 0 where
-  pub kind : ListKind
-  pub version : Option ℕ
-  pub segment : ℕ
 
 -- a number in its shortest form
 abbrev pub shortest_number : List ℕ → Option ℕ
@@ -105,6 +100,13 @@ named_request p i None =
     if begins_with management i.name then ForTables else (
     if is_some (verb_at p.repo i.name) then ForRepository else
     ForData)
+
+-- the request that is read off a name
+abbrev pub request_named : NamedRequest → Request
+request_named (named.ForList asked) = ForList asked
+request_named named.ForTables = ForTables
+request_named named.ForRepository = ForRepository
+request_named named.ForData = ForData
 
 abbrev pub has_no_hops : Option ℕ → Bool
 has_no_hops None = false

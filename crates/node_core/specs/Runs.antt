@@ -15,7 +15,7 @@ use Rattle.mgmt_core.specs.declared.action.Action.TheVariants.{EraseCache}
 use Rattle.mgmt_core.specs.declared.types.TheConstants.{OK}
 use Rattle.mgmt_core.specs.Reading.{PlainCommand, command_at}
 use Rattle.node_core.specs.Event.{PlainEvent, Packet, FaceUp, FaceDown, Tick}
-use Rattle.node_core.specs.Step.{moment}
+use Rattle.node_core.specs.Event.{moment}
 use Rattle.node_core.specs.Verdict.{Verdict, Passed, Allowed, DataAllowed, Denied, NoRule, Dropped, Answer, passed}
 use Rattle.node_core.specs.Policy.{Policy, at_moment}
 use Rattle.node_core.specs.Request.{Request, Refused, ForList, ForTables, ForRepository, ForData, request_of}

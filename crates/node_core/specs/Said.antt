@@ -8,7 +8,8 @@ use Rattle.info_rules.specs.declared.decision.Decision.{Decision}
 use Rattle.info_rules.specs.declared.decision.Decision.TheVariants.{Allowed, Denied, NoRule}
 use Rattle.info_rules.specs.Decides.{Decides}
 use Rattle.replay_guard.specs.Freshness.{Signer, Recorded}
-use Rattle.replay_guard.specs.Guard.{IsFresh}
+use Rattle.replay_guard.specs.Guard.{IsFresh, signer_of}
+use Rattle.node_core.specs.declared.freshness.Signed.{Signed}
 use Rattle.node_core.specs.Policy.{Policy}
 
 -- the key that a signature names
@@ -33,6 +34,10 @@ recorded_of i = elim i.signature [
   | None ↦ None
   | Some signature ↦ recorded_with signature.info signature.info.time
 ]
+
+-- the same, as it is read off an Interest
+abbrev pub recorded_by : Signed → Recorded
+recorded_by s = record { signer = signer_of s.signer; time = s.time; number = s.seq }
 
 -- a command is near to now, and newer than all that was recorded of its signer
 abbrev pub IsFreshCommand : Policy → PlainInterest → Type 0

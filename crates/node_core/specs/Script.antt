@@ -2,11 +2,14 @@
 use Rattle.std.specs.Prelude.{◌≡◌, ℕ, ◌+◌, ◌⊎◌, List, [], ◌∷◌, ◌++◌, length}
 use Rattle.std.specs.List.{AllByRecursion, flat_map}
 use Rattle.node_core.specs.Event.{PlainEvent}
-use Rattle.node_core.specs.State.{State, initial}
-use Rattle.node_core.specs.Step.{Step, NeedsNoMemory}
-use Rattle.node_core.specs.Past.{Run, Start, Then, IsRun, Stands, KeepsPromise}
-use Rattle.node_core.specs.Line.{Lacks, IsSkipped, IsEventLine, IsBadLine}
-use Rattle.node_core.specs.Writing.{Outcome, Answered, NoMemory, script_text}
+use Rattle.node_core.specs.Node.{NodeState, IsStep, Unharmed, AsksNoMemory}
+use Rattle.node_core.specs.Runs.{Run, Start, Then, IsRun, Stands}
+use Rattle.node_core.specs.Script.Line.{Lacks, IsSkipped, IsEventLine, IsBadLine}
+use Rattle.node_core.specs.Script.Writing.{Outcome, Answered, NoMemory, script_text}
+pub mod Line
+pub mod Writing
+pub mod Ending
+pub mod Play
 
 -- a line with its LF
 abbrev pub ended : List ℕ → List ℕ
@@ -54,18 +57,19 @@ IsBadAt text n events =
     × BeginsWithLines text lines (ended line ++ rest) × Lacks 10 line × (n ≡ length lines + 1)
     × Say lines events × IsBadLine line
 
--- how an event is replied to: by a step, or not handled for want of memory
-abbrev pub IsOutcome : State → PlainEvent → Outcome → State → Type 0
-IsOutcome old event (Answered answer) new = Step old event answer new
-IsOutcome old event NoMemory new = (new ≡ old) × (NeedsNoMemory old event → ⊥)
+-- How an event is replied to: by a step, or not handled for want of memory. The cache may then have
+-- forgotten some.
+abbrev pub IsOutcome : NodeState → PlainEvent → Outcome → NodeState → Type 0
+IsOutcome old event (Answered answer) new = IsStep old event answer new
+IsOutcome old event NoMemory new = Unharmed old new × (AsksNoMemory old event → ⊥)
 
 -- the events are replied to in order
-abbrev pub AreOutcomes : State → List PlainEvent → List Outcome → State → Type 0
+abbrev pub AreOutcomes : NodeState → List PlainEvent → List Outcome → NodeState → Type 0
 AreOutcomes old [] [] new = new ≡ old
 AreOutcomes old [] (done_as ∷ outcomes) new = ⊥
 AreOutcomes old (event ∷ events) [] new = ⊥
 AreOutcomes old (event ∷ events) (done_as ∷ outcomes) new =
-    (next : State) × IsOutcome old event done_as next × AreOutcomes next events outcomes new
+    (next : NodeState) × IsOutcome old event done_as next × AreOutcomes next events outcomes new
 
 -- a run with these events and the answers to them. An event that had no memory counts as not having
 -- come.
@@ -76,13 +80,12 @@ run_from past (event ∷ events) (Answered answer ∷ outcomes) =
     run_from (Then past event answer) events outcomes
 run_from past (event ∷ events) (NoMemory ∷ outcomes) = run_from past events outcomes
 
--- the text that a run of the events from the start writes
-pub record IsTextOfRun (events : List PlainEvent) (text : List ℕ) : Type 0 where
+-- the text that the events write, from this node's first event on
+pub record IsTextOfRun (first : NodeState) (events : List PlainEvent) (text : List ℕ) : Type 0 where
   pub outcomes : List Outcome
-  pub last : State
-  pub runs : AreOutcomes initial events outcomes last
-  pub written : text ≡ script_text outcomes
-  pub is_run : IsRun (run_from Start events outcomes)
-  pub stands : Stands (run_from Start events outcomes) last
-  -- the forwarding theorem, of each event
-  pub promise : KeepsPromise (run_from Start events outcomes)
+  pub last : NodeState
+  pub runs : AreOutcomes first events outcomes last
+  pub written : text ≡ script_text first.policy.rules outcomes
+  -- what the laws say of runs holds of the events and their answers
+  pub is_run : IsRun first.policy (run_from Start events outcomes)
+  pub stands : Stands first.policy (run_from Start events outcomes) last

@@ -1,5 +1,3 @@
-use ndn_packets::PacketFault;
-
 /// Whether a face leads to a program on this machine or to another machine (NFD Developer's Guide,
 /// "Face Scope").
 #[derive(Clone, Copy, Debug, PartialEq, Eq)]
@@ -32,32 +30,4 @@ pub enum Event<'a> {
     Tick {
         now: u64,
     },
-}
-
-/// What a node says of one event.
-#[derive(Clone, Copy, Debug, PartialEq, Eq)]
-pub enum Verdict {
-    /// The event had its effect.
-    Passed,
-    /// The event had no effect but that of its moment.
-    Dropped(DropReason),
-}
-
-/// Why an event was dropped.
-#[derive(Clone, Copy, Debug, PartialEq, Eq)]
-pub enum DropReason {
-    /// The face is not open.
-    NoFace,
-    /// The octets are no packet.
-    Malformed(PacketFault),
-    /// The octets are a link packet that holds no packet.
-    Idle,
-    /// A Nack came for an Interest that is not known to have been sent there.
-    NoPending,
-    /// A face has the number 0.
-    BadFace,
-    /// The face is open already.
-    FaceOpen,
-    /// 64 faces are open.
-    FacesFull,
 }

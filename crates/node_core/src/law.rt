@@ -1,9 +1,9 @@
-ghost use Rattle.std.specs.Prelude.{◌≡◌, ◌<◌, ℕ, List, [], Some, All};
+ghost use Rattle.std.specs.Prelude.{◌≡◌, ◌⊎◌, ◌↔◌, ◌<◌, ℕ, List, [], Some, All, Contains, max};
 ghost use Rattle.std.specs.FinMap as map;
 ghost use Rattle.hmac_keys.specs.KeyFile.{AreApart};
 ghost use Rattle.node_core.specs.Event.{PlainEvent};
 ghost use Rattle.node_core.specs.Policy.{Policy, at_moment};
-ghost use Rattle.node_core.specs.Step.{moment};
+ghost use Rattle.node_core.specs.Event.{moment};
 ghost use Rattle.node_core.specs.Verdict.{Answer};
 ghost use Rattle.node_core.specs.Effects.{IsAfter, decided_packet};
 ghost use Rattle.info_rules.specs.declared.decision.Decision.TheVariants as decided;
@@ -17,14 +17,21 @@ ghost use Rattle.node_core.specs.Allowed.{AllowedIn, Allows};
 ghost use Rattle.ndn_packets.specs.Packet.{PlainData, PlainFrame, PlainInterest, AData, AnInterest};
 ghost use Rattle.ndn_packets.specs.Answers.{full_name};
 ghost use Rattle.content_store.specs.Store.{CachedData};
-ghost use Rattle.ndn_packets.specs.Key.{PlainKey};
+ghost use Rattle.ndn_packets.specs.Key.{PlainKey, key_of};
 ghost use Rattle.ndn_tlv.specs.Element.{Field};
+ghost use Rattle.pit_fib.specs.Cause.{Arrives};
+ghost use Rattle.pit_fib.specs.Fib.{costs_at};
 ghost use Rattle.pit_fib.specs.Past.{ask_of, sent_of};
+ghost use Rattle.pit_fib.specs.Records.{Ask};
 ghost use Rattle.sha2.specs.Sha256.{sha256};
 ghost use Rattle.replay_guard.specs.Freshness.{NumberRises, Recorded};
 ghost use Rattle.replay_guard.specs.Guard.{table_of};
+ghost use Rattle.node_core.specs.State.{IsSound};
 ghost use Rattle.node_core.specs.Node.{NodeState, IsStep, Unharmed};
-ghost use Rattle.node_core.specs.Runs.{Run, Start, Then, BringsData, BringsRequest, HasTicksFor, HaveOneHistory, IsPolicyOf, IsRun, MayHold, MayReply, Stands, past_causes, records_of, seen_after};
+ghost use Rattle.node_core.specs.Causes.{ask_of as asked_now, causes_of};
+ghost use Rattle.node_core.specs.Hops.{cost_of};
+ghost use Rattle.node_core.specs.Kept.{IsAnswered, IsKept, IsPassed, IsSentOn};
+ghost use Rattle.node_core.specs.Runs.{Run, Start, Then, BringsData, BringsRequest, HasTicksFor, HaveOneHistory, IsPolicyOf, IsRun, MayHold, MayReply, Stands, now_of, past_causes, records_of, seen_after};
 
 /// Law: what follows from events alone is a function of them, where the keys of a book have
 /// different names.
@@ -39,6 +46,13 @@ pub fn steps_have_one_effect()
     ensures { (old new other : NodeState) (event : PlainEvent) (answer another : Answer)
         → AreApart old.policy.keys → IsStep old event answer new → IsStep old event another other
         → new.policy ≡ other.policy }
+{}
+
+/// Law: a step leaves a sound node sound: whoever has a record or a route is an open face, and of
+/// those there are at most 64.
+pub fn steps_keep_nodes_sound()
+    ensures { (old new : NodeState) (event : PlainEvent) (answer : Answer) → IsSound old
+        → IsStep old event answer new → IsSound new }
 {}
 
 /// Law: where a node stands in a run that began at the moment 0, a step goes on with the run by its
@@ -149,6 +163,40 @@ pub fn records_are_read_off_the_run()
         → map.get (records_of past key).asks face ≡ ask_of (past_causes past) key face }
     ensures asked { (past : Run) (key : PlainKey) (face : ℕ)
         → map.get (records_of past key).asked face ≡ sent_of (past_causes past) key face }
+{}
+
+/// Law: an Interest becomes pending exactly where it was passed, and neither a Data nor a Nack went
+/// back to its face. Who waits after an event was kept by it, or waited before. Where the past
+/// allows the answer, a passed Interest is sent on to other faces and waits, or one Data or Nack
+/// goes back to its face.
+pub fn unanswered_interests_wait()
+    ensures arrives { (now : ℕ) (event : PlainEvent) (answer : Answer) (key : PlainKey) (face : ℕ)
+        (ask : Ask) → Contains (causes_of now event answer) (Arrives key face ask)
+        ↔ IsKept now event answer key face ask }
+    ensures waits { (past : Run) (event : PlainEvent) (answer : Answer) (key : PlainKey) (face : ℕ)
+        (ask : Ask) → IsKept (max (now_of past) (moment event)) event answer key face ask
+        → map.get (records_of (Then past event answer) key).asks face ≡ Some ask }
+    ensures others { (past : Run) (event : PlainEvent) (answer : Answer) (key : PlainKey) (face : ℕ)
+        (ask : Ask) → map.get (records_of (Then past event answer) key).asks face ≡ Some ask
+        → IsKept (max (now_of past) (moment event)) event answer key face ask
+        ⊎ (map.get (records_of past key).asks face ≡ Some ask) }
+    ensures answers { (first : Policy) (past : Run) (event : PlainEvent) (answer : Answer)
+        (face : ℕ) (whole : List ℕ) (i : PlainInterest) (reply : MayReply first past event answer)
+        → BringsOctets event → IsPassed event answer face whole i
+        → let now = max (now_of past) (moment event) in
+        let seen = seen_after past (at_moment reply.was (moment event)) reply.waiting in
+        (IsKept now event answer (key_of i) face (asked_now now whole i)
+        × IsSentOn face whole i answer.sends)
+        ⊎ IsAnswered seen face whole i answer.sends }
+{}
+
+/// Law: the cost of a hop of the routes after a run is that of the last add-nexthop of its name and
+/// face that was answered with status 200, where since then no remove-nexthop of the two was, and
+/// the face was not closed; and else there is no such hop.
+pub fn routes_are_read_off_the_run()
+    ensures { (first p : Policy) (past : Run) (name : List Field) (face : ℕ) → AreApart first.keys
+        → first.routes ≡ map.empty → IsRun first past → IsPolicyOf first past p
+        → map.get (costs_at p.routes name) face ≡ cost_of past name face }
 {}
 
 /// Law: a denial that the past allows is what is said of the event's packet, by the rule that it

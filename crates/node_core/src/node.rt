@@ -1,31 +1,37 @@
-ghost use Rattle.std.specs.Prelude.{◌≡◌, ◌++◌, List, [], length, drop, Err, IfOk, IfErr, OnOk, OnErr, IsOk, MatchOption};
-ghost use Rattle.ndn_packets.specs.View.{plain_interest, plain_data};
+ghost use Rattle.std.specs.Prelude.{◌≡◌, ◌++◌, List, length, drop, Err, IfOk, IfErr, OnErr, IsOk, MatchOption};
 ghost use Rattle.node_core.specs.Event.{plain, Send};
-ghost use Rattle.node_core.specs.State.{State, initial, IsRising, numbers};
-ghost use Rattle.node_core.specs.Step.{after_expiry, after_opening, after_closing, after_interest, after_data, NeedsNoMemory, Step, ReceivesNothing, IsPacketStep};
-ghost use Rattle.node_core.specs.Parts.{parts_fault, is_bad_prefix as is_bad_prefix_of};
-ghost use Rattle.node_core.specs.Past.{Run, Start, Then, IsRun, Stands, EachDataIsAsked};
+ghost use Rattle.node_core.specs.Node.{AsksNoMemory, IsStep, Unharmed};
+ghost use Rattle.node_core.specs.Parts.{first_node, is_bad_prefix as is_bad_prefix_of, parts_fault};
+ghost use Rattle.node_core.specs.Policy.{Policy};
+ghost use Rattle.node_core.specs.Runs.{Run, Start, Then, IsRun, Stands};
+ghost use Rattle.node_core.specs.Verdict.{verdict_of};
 
-use crate::event::{DropReason, Event, Scope, Verdict};
-use crate::face::{Face, MAX_FACES, add_face, is_face_open, list_askers, list_others, remove_face};
+use crate::event::Event;
+use crate::open_faces::OpenFaces;
 use crate::outbox::Outbox;
-use crate::pending::{
-    Pending, deadline_after, remove_expired, remove_of_face, remove_of_name, remove_one,
-};
+use crate::state::State;
+use crate::verdict::Verdict;
+use content_store::{Store, StoreFault};
+use hmac_keys::KeyBook;
+use info_rules::Rules;
+use mgmt_core::Tables;
 use ndn_names::NameBuf;
 use ndn_names::component_type::GENERIC;
-use ndn_packets::{Data, Frame, Interest, read_frame};
 use ndn_tlv::Memory;
+use pit_fib::{Fib, Pit, StrategyTable};
+use replay_guard::Guard;
+use repo_core::Repo;
 use std::alloc::{AllocError, Global};
 use std::marker::Model;
 use thiserror::Error;
 
-/// The greatest capacity of a cache, in Data.
-const MAX_CACHE: u32 = 65_536;
-
 /// What a node is made of.
 #[derive(Drop)]
 pub struct NodeParts {
+    /// Who may give commands, and whose Data may pass.
+    pub rules: Rules,
+    /// The keys that the rules name.
+    pub keys: KeyBook,
     /// The repository's prefix, neither empty nor under `/localhost`.
     pub repo: NameBuf,
     /// How many Data the cache holds, from 1 to 65,536.
@@ -43,34 +49,27 @@ pub enum NodeFault {
     Memory,
 }
 
-/// A forwarder: its open faces, and the Interests that are pending on them.
+/// A forwarder with a cache and a repository.
 #[derive(Drop)]
 pub struct Node {
-    alloc: Global,
-    now: u64,
-    // In rising order of their numbers, with room for as many as may be open.
-    faces: Vec<Face>,
-    pending: Vec<Pending>,
-    // The faces that the present packet goes to.
-    targets: Vec<u64>,
+    state: State,
 }
 
 impl Model for Node {
-    ghost use Rattle.std.specs.Prelude.{◌≤◌};
-    ghost use Rattle.std.specs.Vec.{vec_capacity};
-    ghost use Rattle.node_core.specs.State.{State, IsRising, numbers};
+    ghost use Rattle.node_core.specs.Node.{NodeState};
+    ghost use Rattle.node_core.specs.State.{IsSound, state_of};
+    ghost use Rattle.std.specs.Coded.{codes};
+    ghost use Rattle.content_store.specs.Store.{state_code as store_code};
+    ghost use Rattle.repo_core.specs.Repo.{held_code};
+    ghost use Rattle.node_core.specs.Coded.{routes_code, choices_code, guard_code, pending_code};
 
-    ghost Value = { State };
+    ghost Value = { NodeState };
 
-    ghost use Rattle.node_core.specs.Entries.{entries, pendings};
+    ghost coded = { Prim.hlevel (codes, routes_code, choices_code, guard_code, pending_code, held_code, store_code) };
 
-    ghost view = { λ n. record {
-      now = n.now;
-      faces = entries n.faces.items;
-      pending = pendings n.pending.items;
-    } };
+    ghost view = { λ n. state_of n.state };
 
-    ghost invariant = { λ n. (64 ≤ vec_capacity n.faces) × IsRising (numbers (entries n.faces.items)) };
+    ghost invariant = { λ n. IsSound (state_of n.state) };
 }
 
 impl From<AllocError> for NodeFault {
@@ -99,204 +98,78 @@ impl Node {
     ///
     /// Refuses parts by the first fault in the order of `NodeFault`.
     pub fn new(alloc: Global, parts: NodeParts) -> Result<Node, NodeFault>
-        ensures ok { IfOk result (λ node. node ≡ initial) }
+        ensures ok { IfOk result
+            (λ node. node ≡ first_node parts.rules parts.keys parts.repo parts.cache) }
         ensures fault { MatchOption (parts_fault parts.repo parts.cache)
             (IfErr result (λ fault. fault ≡ NodeFault.Memory))
             (λ fault. result ≡ Err fault) }
-        ensures stands { IfOk result (λ node. IsRun Start × Stands Start node) }
     {
         if is_bad_prefix(&parts.repo) {
             return Err(NodeFault::BadRepoPrefix);
         }
-        if parts.cache == 0 || parts.cache > MAX_CACHE {
-            return Err(NodeFault::BadCapacity);
-        }
-        Ok(Node {
+        let store = match Store::new(alloc, parts.cache as usize) {
+            Ok(store) => store,
+            Err(StoreFault::BadCapacity) => return Err(NodeFault::BadCapacity),
+            Err(StoreFault::Memory) => return Err(NodeFault::Memory),
+        };
+        let Ok(repo) = Repo::new(alloc, parts.repo) else {
+            return Err(NodeFault::Memory);
+        };
+        let state = State {
             alloc,
             now: 0,
-            faces: Vec::with_capacity(alloc, MAX_FACES)?,
-            pending: Vec::new(alloc),
-            targets: Vec::with_capacity(alloc, MAX_FACES)?,
-        })
+            table_number: 0,
+            rules: parts.rules,
+            keys: parts.keys,
+            faces: OpenFaces::new(),
+            pit: Pit::new(alloc),
+            tables: Tables::new(alloc, Fib::new(alloc), StrategyTable::new(alloc), store),
+            guard: Guard::new(alloc),
+            repo,
+        };
+        Ok(Node { state })
+    }
+
+    /// The rules that decide of commands and Data.
+    pub fn rules(&self) -> &Rules
+        ensures { result.now ≡ self.now.policy.rules }
+    {
+        &self.state.rules
     }
 
     /// Handles one event (NFD Developer's Guide, "Forwarding"): the verdict, and the sends at the
     /// end of the outbox.
     ///
-    /// An Interest on an open face becomes pending there, in place of an older one of its name, and
-    /// goes to every other face. Data goes to each other face on which an Interest of its name is
-    /// pending, and ends them. Both go on in their received octets, without a link packet around
-    /// them. A Nack and a link packet without a packet are dropped. `Memory` changes nothing; face
-    /// changes, moments and dropped packets take no memory.
+    /// On `Memory` the cache may have forgotten Data or changed their order of use, and nothing
+    /// else changes. Face changes, moments, packets on faces that are not open and what is no
+    /// packet take no memory.
     pub fn step(&mut self, event: Event<'_>, outbox: &mut Outbox) -> Result<Verdict, Memory>
         // One step, octets to octets.
         ensures answered { IfOk result
             (λ verdict. (sends : List Send) × (outbox.new ≡ outbox.old ++ sends)
-            × Step self.old (plain event.entry)
-            (record { verdict = verdict; sends = sends }) self.new) }
+            × IsStep self.old (plain event.entry)
+            (record { verdict = verdict_of verdict; sends = sends }) self.new) }
         // Every run in which the node stands goes on with this event and its answer.
         ensures run { IfOk result (λ verdict. let sends = drop (length outbox.old) outbox.new in
-            (past : Run) → IsRun past → Stands past self.old
-            → IsRun (Then past (plain event.entry) (record { verdict = verdict; sends = sends }))
-            × Stands (Then past (plain event.entry)
-            (record { verdict = verdict; sends = sends })) self.new) }
-        // In each such run, each Data sent answers an Interest that is pending on its face.
-        ensures promise { IfOk result (λ verdict. let sends = drop (length outbox.old) outbox.new in
-            (past : Run) → IsRun past → Stands past self.old
-            → EachDataIsAsked past (plain event.entry)
-            (record { verdict = verdict; sends = sends })) }
-        ensures memory { OnErr result ((self.new ≡ self.old) × (outbox.new ≡ outbox.old)) }
-        ensures without_memory { NeedsNoMemory self.old (plain event.entry) → IsOk result }
-        // The faces of every node are in rising order of their numbers.
-        ensures rising { IsRising (numbers self.new.faces) }
+            (first : Policy) (past : Run) → first.now ≡ 0 → IsRun first past
+            → Stands first past self.old
+            → IsRun first (Then past (plain event.entry)
+            (record { verdict = verdict_of verdict; sends = sends }))
+            × Stands first (Then past (plain event.entry)
+            (record { verdict = verdict_of verdict; sends = sends })) self.new) }
+        ensures memory { OnErr result (Unharmed self.old self.new × (outbox.new ≡ outbox.old)) }
+        ensures without_memory { AsksNoMemory self.old (plain event.entry) → IsOk result }
     {
         match event {
-            Event::Packet { face, now, octets } => self.receive(face, now, octets, outbox),
-            Event::FaceUp { face, scope, now } => Ok(self.open(face, scope, now)),
-            Event::FaceDown { face, now } => Ok(self.close(face, now)),
+            Event::Packet { face, now, octets } => {
+                self.state.receive(face, now, octets, &mut outbox.sends)
+            }
+            Event::FaceUp { face, scope, now } => Ok(self.state.open(face, scope, now)),
+            Event::FaceDown { face, now } => Ok(self.state.close(face, now)),
             Event::Tick { now } => {
-                self.advance(now);
+                self.state.pass_time(now);
                 Ok(Verdict::Passed)
             }
         }
-    }
-
-    /// Advances time, which is the greatest moment so far, and removes the Interests that expire.
-    fn advance(&mut self, now: u64)
-        ensures value { self.new ≡ after_expiry self.old now }
-        ensures rising { IsRising (numbers self.new.faces) }
-    {
-        self.now = self.now.max(now);
-        remove_expired(&mut self.pending, self.now);
-    }
-
-    fn open(&mut self, number: u64, scope: Scope, now: u64) -> Verdict
-        ensures value { after_opening (after_expiry self.old now) number scope
-            ≡ (record { verdict = result; sends = [] }, self.new) }
-        ensures rising { IsRising (numbers self.new.faces) }
-    {
-        self.advance(now);
-        if number == 0 {
-            return Verdict::Dropped(DropReason::BadFace);
-        }
-        if is_face_open(&self.faces, number) {
-            return Verdict::Dropped(DropReason::FaceOpen);
-        }
-        if self.faces.len() >= MAX_FACES {
-            return Verdict::Dropped(DropReason::FacesFull);
-        }
-        add_face(&mut self.faces, Face { number, scope });
-        Verdict::Passed
-    }
-
-    fn close(&mut self, number: u64, now: u64) -> Verdict
-        ensures value { after_closing (after_expiry self.old now) number
-            ≡ (record { verdict = result; sends = [] }, self.new) }
-        ensures rising { IsRising (numbers self.new.faces) }
-    {
-        self.advance(now);
-        if !is_face_open(&self.faces, number) {
-            return Verdict::Dropped(DropReason::NoFace);
-        }
-        remove_face(&mut self.faces, number);
-        remove_of_face(&mut self.pending, number);
-        Verdict::Passed
-    }
-
-    fn receive(
-        &mut self,
-        face: u64,
-        now: u64,
-        octets: &[u8],
-        outbox: &mut Outbox,
-    ) -> Result<Verdict, Memory>
-        ensures answered { IfOk result
-            (IsPacketStep self.old self.new outbox.old outbox.new face now octets.now) }
-        ensures memory { OnErr result ((self.new ≡ self.old) × (outbox.new ≡ outbox.old)) }
-        ensures without_memory { ReceivesNothing self.old face octets.now → IsOk result }
-        ensures rising { IsRising (numbers self.new.faces) }
-    {
-        if !is_face_open(&self.faces, face) {
-            self.advance(now);
-            return Ok(Verdict::Dropped(DropReason::NoFace));
-        }
-        let reason = match read_frame(octets) {
-            Ok(Frame::Interest(interest)) => {
-                self.forward_interest(face, now, &interest, outbox)?;
-                return Ok(Verdict::Passed);
-            }
-            Ok(Frame::Data(data)) => {
-                self.forward_data(face, now, &data, outbox)?;
-                return Ok(Verdict::Passed);
-            }
-            Ok(Frame::Nack { .. }) => DropReason::NoPending,
-            Ok(Frame::Idle) => DropReason::Idle,
-            Err(fault) => DropReason::Malformed(fault),
-        };
-        self.advance(now);
-        Ok(Verdict::Dropped(reason))
-    }
-
-    fn forward_interest(
-        &mut self,
-        face: u64,
-        now: u64,
-        interest: &Interest<'_>,
-        outbox: &mut Outbox,
-    ) -> Result<(), Memory>
-        ensures ok { OnOk result
-            (let done = after_interest (after_expiry self.old now) face interest.now.whole.now
-            (plain_interest interest.now) in
-            (outbox.new ≡ outbox.old ++ done.0.sends) × (self.new ≡ done.1)) }
-        ensures memory { OnErr result ((self.new ≡ self.old) × (outbox.new ≡ outbox.old)) }
-        ensures rising { IsRising (numbers self.new.faces) }
-    {
-        let now = self.now.max(now);
-        let name = NameBuf::from_name(self.alloc, interest.name)?;
-        self.pending.reserve(1)?;
-        list_others(&mut self.targets, &self.faces, face)?;
-        outbox.send_to(&self.targets, interest.whole)?;
-        // `advance`, in place: a call of it would lose sight of the room that was reserved.
-        self.now = now;
-        remove_expired(&mut self.pending, now);
-        remove_one(&mut self.pending, face, interest.name);
-        let deadline = deadline_after(now, interest.lifetime);
-        self.pending
-            .push(Pending {
-                face,
-                name,
-                deadline,
-            })
-            .unwrap();
-        Ok(())
-    }
-
-    fn forward_data(
-        &mut self,
-        face: u64,
-        now: u64,
-        arrived: &Data<'_>,
-        outbox: &mut Outbox,
-    ) -> Result<(), Memory>
-        ensures ok { OnOk result
-            (let done = after_data (after_expiry self.old now) face arrived.now.whole.now
-            (plain_data arrived.now) in
-            (outbox.new ≡ outbox.old ++ done.0.sends) × (self.new ≡ done.1)) }
-        ensures memory { OnErr result ((self.new ≡ self.old) × (outbox.new ≡ outbox.old)) }
-        ensures rising { IsRising (numbers self.new.faces) }
-    {
-        let now = self.now.max(now);
-        list_askers(
-            &mut self.targets,
-            &self.faces,
-            &self.pending,
-            face,
-            arrived.name,
-            now,
-        )?;
-        outbox.send_to(&self.targets, arrived.whole)?;
-        self.advance(now);
-        remove_of_name(&mut self.pending, arrived.name);
-        Ok(())
     }
 }

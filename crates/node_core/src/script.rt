@@ -1,12 +1,19 @@
 ghost use Rattle.std.specs.Prelude.{◌≡◌, ℕ, List, Err, OnOk, IfErr, MatchOption};
-ghost use Rattle.node_core.specs.Parts.{parts_fault};
+ghost use Rattle.node_core.specs.Parts.{first_node, parts_fault};
 ghost use Rattle.node_core.specs.Event.{PlainEvent};
 ghost use Rattle.node_core.specs.Script.{IsScript, IsBadAt};
-ghost use Rattle.node_core.specs.Ending.{Ends, Stops, ComesWithGoodParts};
+ghost use Rattle.node_core.specs.Script.Ending.{Ends, Stops, ComesWithGoodParts};
+
+mod answer;
+mod input;
+mod line;
+mod output;
+mod player;
+mod word;
 
 use crate::node::{Node, NodeFault, NodeParts};
 use crate::outbox::Outbox;
-use crate::player::Player;
+use crate::script::player::Player;
 use std::alloc::Global;
 use std::io::{Read, Write};
 use thiserror::Error;
@@ -36,7 +43,8 @@ pub enum RunFault {
 /// A line is `up FACE local|far MOMENT`, `down FACE MOMENT`, `tick MOMENT` or `in FACE MOMENT HEX`,
 /// with single spaces, decimal numbers without leading zeros, `-` for no octets, and an LF or the
 /// end of the input after at most 20,000 octets. Empty lines, and lines that begin with `#`, are
-/// skipped. An event for which a step has no memory is answered `memory`.
+/// skipped. An event for which a step has no memory is answered `memory`. The cache may then have
+/// forgotten Data, and nothing else changed.
 pub fn run_script<R: Read, W: Write>(
     alloc: Global,
     reader: &mut R,
@@ -44,18 +52,24 @@ pub fn run_script<R: Read, W: Write>(
     parts: NodeParts,
 ) -> Result<(), RunFault>
     ensures done { OnOk result
-        (Ends (R.remaining reader.old) (R.remaining reader.new) (W.contents writer.old)
+        (Ends (first_node parts.rules parts.keys parts.repo parts.cache)
+        (R.remaining reader.old) (R.remaining reader.new) (W.contents writer.old)
         (W.contents writer.new)) }
     ensures parts { MatchOption (parts_fault parts.repo parts.cache)
         (IfErr result ComesWithGoodParts)
         (λ fault. result ≡ Err (RunFault.Node fault)) }
     ensures stopped { IfErr result
-        (λ fault. Stops fault (R.remaining reader.old) (R.remaining reader.new)
-        (W.contents writer.old) (W.contents writer.new)) }
+        (λ fault. Stops (first_node parts.rules parts.keys parts.repo parts.cache) fault
+        (R.remaining reader.old) (R.remaining reader.new) (W.contents writer.old)
+        (W.contents writer.new)) }
 {
+    let node = match Node::new(alloc, parts) {
+        Ok(node) => node,
+        Err(fault) => return Err(RunFault::Node(fault)),
+    };
     let mut player = Player {
         alloc,
-        node: Node::new(alloc, parts).map_err(RunFault::Node)?,
+        node,
         outbox: Outbox::new(alloc),
         line: Vec::new(alloc),
         text: Vec::new(alloc),

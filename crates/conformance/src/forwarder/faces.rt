@@ -1,6 +1,30 @@
-use super::{outcome, replies};
+use super::{outcome, parts, replies};
 use std::alloc::Global;
 use std::fmt::Write;
+
+const A_CLOSED_FACE_ASKS_NO_MORE: &str = "
+up 1 local 1000000
+1 passed
+up 2 far 1000000
+2 passed
+in 1 1000000 ADD
+3 allowed 200 ops
+> 1 ADDED
+in 1 1001000 INTEREST
+4 passed
+> 2 INTEREST
+down 1 1001010
+5 passed
+up 1 local 1001020
+6 passed
+in 2 1001050 D_A
+7 data any-data
+";
+
+#[test]
+fn a_closed_face_asks_no_more(rt: HostRuntime) {
+    replies(&rt, A_CLOSED_FACE_ASKS_NO_MORE);
+}
 
 const FACE_EVENTS: &str = "
 up 1 local 0
@@ -13,36 +37,18 @@ up 0 far 0
 4 dropped BadFace
 in 3 1000 INTEREST
 5 dropped NoFace
-in 1 1000 -
-6 dropped Malformed Tlv Truncated
+down 3 1000
+6 dropped NoFace
 tick 900
 7 passed
+in 1 1000 INTEREST
+8 passed
+> 1 NO_ROUTE
 ";
 
 #[test]
 fn face_events(rt: HostRuntime) {
     replies(&rt, FACE_EVENTS);
-}
-
-const A_CLOSED_FACE_ASKS_NO_MORE: &str = "
-up 1 local 0
-1 passed
-up 2 far 0
-2 passed
-in 1 1000 INTEREST
-3 passed
-> 2 INTEREST
-down 1 1010
-4 passed
-up 1 local 1020
-5 passed
-in 2 1050 DATA
-6 passed
-";
-
-#[test]
-fn a_closed_face_asks_no_more(rt: HostRuntime) {
-    replies(&rt, A_CLOSED_FACE_ASKS_NO_MORE);
 }
 
 /// Whether 64 faces open, and a 65th only once one of them has closed.
@@ -59,7 +65,7 @@ fn opens_64_faces(alloc: Global) -> Option<bool> {
     wanted
         .push_str("65 dropped FacesFull\n66 passed\n67 passed\nOk(())")
         .ok()?;
-    Some(outcome(alloc, script.as_str())?.as_str() == wanted.as_str())
+    Some(outcome(alloc, parts(alloc)?, script.as_str())?.as_str() == wanted.as_str())
 }
 
 #[test]

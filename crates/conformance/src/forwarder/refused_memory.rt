@@ -1,74 +1,135 @@
 //! These also pass when any one allocation fails, as under `rt try --test --fail-alloc N`.
-use super::nodes::{DATA, INTEREST, node_of_three, packet};
-use super::parts;
+
+use super::kept::REPOSITORY_LIFE;
+use super::pending::LOOPS_AND_NACKS;
+use super::routes::{ROUTE_COMMAND_AND_LIST, STRATEGY_AND_CACHE};
 use super::streams::Room;
+use super::{is_answer, parts, spelled};
 use ndn_tlv::Memory;
-use node_core::{Node, NodeFault, Outbox, RunFault, Verdict, run_script};
+use node_core::{Event, Node, NodeFault, Outbox, RunFault, Scope, Verdict, run_script};
 use std::alloc::Global;
 
-/// Whether a packet passes. A step that had no memory is tried again, as if the packet had come for
-/// the first time.
-fn passes(node: &mut Node, outbox: &mut Outbox, face: u64, octets: &[u8]) -> bool {
-    let before = outbox.len();
-    match node.step(packet(face, octets), outbox) {
-        Ok(verdict) => verdict == Verdict::Passed,
-        Err(Memory) => {
-            outbox.len() == before && node.step(packet(face, octets), outbox) == Ok(Verdict::Passed)
-        }
+/// The word of a line at `i`, counted from 0.
+fn word(line: &str, i: usize) -> &str {
+    line.split(' ').nth(i).unwrap_or("")
+}
+
+/// The event of a line of a dialogue, whose packet has these octets.
+fn event_of<'a>(line: &str, octets: &'a [u8]) -> Option<Event<'a>> {
+    let face = word(line, 1).parse::<u64>().ok()?;
+    let scope = match word(line, 2) {
+        "local" => Scope::Local,
+        _ => Scope::Far,
+    };
+    let is_up = word(line, 0) == "up";
+    let now = word(line, if is_up { 3 } else { 2 }).parse::<u64>().ok()?;
+    match word(line, 0) {
+        "up" => Some(Event::FaceUp { face, scope, now }),
+        "down" => Some(Event::FaceDown { face, now }),
+        _ => Some(Event::Packet { face, now, octets }),
     }
 }
 
-fn steps(alloc: Global) -> bool {
-    let mut outbox = Outbox::new(alloc);
-    let mut node = match node_of_three(alloc, &mut outbox) {
-        Ok(node) => node,
-        Err(fault) => return fault == NodeFault::Memory,
+/// What is said of an event. One that had no memory is handled again, as if for the first time.
+fn verdict_on(node: &mut Node, outbox: &mut Outbox, event: Event<'_>) -> Result<Verdict, Memory> {
+    let before = outbox.len();
+    match node.step(event, outbox) {
+        Err(Memory) if outbox.len() == before => node.step(event, outbox),
+        answered => answered,
+    }
+}
+
+/// Whether a line of a dialogue has this verdict.
+fn is_line_of(line: &str, verdict: Verdict) -> bool {
+    let said = match verdict {
+        Verdict::Passed => "passed",
+        Verdict::Allowed(..) => "allowed",
+        Verdict::DataAllowed(_) => "data",
+        Verdict::Denied(..) => "denied",
+        Verdict::NoRule(_) => "no-rule",
+        Verdict::Dropped(_) => "dropped",
     };
-    passes(&mut node, &mut outbox, 1, &INTEREST)
-        && passes(&mut node, &mut outbox, 2, &DATA)
-        && outbox.len() == 3
-        && outbox.sent(0) == Some((2, INTEREST.as_slice()))
-        && outbox.sent(1) == Some((3, INTEREST.as_slice()))
-        && outbox.sent(2) == Some((1, DATA.as_slice()))
+    word(line, 1) == said
+}
+
+/// Whether a line of a dialogue is of this send.
+fn is_line_of_send(alloc: Global, line: &str, sent: Option<(u64, &[u8])>) -> Option<bool> {
+    let octets = hex::decode(alloc, word(line, 2)).ok()?;
+    let face = word(line, 1).parse::<u64>().ok()?;
+    Some(sent == Some((face, octets.as_slice())))
+}
+
+/// Whether the steps of a dialogue have its answers, unless a test's own allocation fails.
+fn steps(alloc: Global, dialogue: &str) -> Option<bool> {
+    let dialogue = spelled(alloc, dialogue)?;
+    let mut outbox = Outbox::new(alloc);
+    let mut node = Node::new(alloc, parts(alloc)?).ok()?;
+    let mut verdict = Verdict::Passed;
+    let mut sends = 0;
+    for line in dialogue.as_str().lines() {
+        let is_right = if line.starts_with('>') {
+            let sent = outbox.sent(sends);
+            sends = sends.saturating_add(1);
+            is_line_of_send(alloc, line, sent)?
+        } else if is_answer(line) {
+            is_line_of(line, verdict)
+        } else if line.is_empty() {
+            true
+        } else {
+            let were_all = outbox.len() == sends;
+            outbox.clear();
+            sends = 0;
+            let octets = hex::decode(alloc, word(line, 3)).unwrap_or(Vec::new(alloc));
+            match verdict_on(&mut node, &mut outbox, event_of(line, &octets)?) {
+                Ok(said) => {
+                    verdict = said;
+                    were_all
+                }
+                Err(Memory) => false,
+            }
+        };
+        if !is_right {
+            return Some(false);
+        }
+    }
+    Some(outbox.len() == sends)
 }
 
 #[test]
 fn steps_with_refused_memory(rt: HostRuntime) {
-    assert!(rt; steps(rt.alloc()));
+    assert!(rt; steps(rt.alloc(), ROUTE_COMMAND_AND_LIST) != Some(false));
+    assert!(rt; steps(rt.alloc(), STRATEGY_AND_CACHE) != Some(false));
+    assert!(rt; steps(rt.alloc(), LOOPS_AND_NACKS) != Some(false));
+    assert!(rt; steps(rt.alloc(), REPOSITORY_LIFE) != Some(false));
 }
 
 const SCRIPT: &str = "up 1 local 0
-up 2 far 0
 in 1 1000 050b07030801410a0401020304
-in 2 1050 060f070308014115017816031b01001700
+in 1 1050 060f070308014115017816031b01001700
 tick 1100
 ";
 
 /// The answers where no memory was refused.
 const ANSWERS: &str = "1 passed
 2 passed
-3 passed
-> 2 050b07030801410a0401020304
+> 1 6418fd032005fd03210196500d050b07030801410a0401020304
+3 denied data Tag any-data
 4 passed
-> 1 060f070308014115017816031b01001700
-5 passed
 ";
 
 /// The answers where the Interest had no memory.
 const ANSWERS_TO_DATA: &str = "1 passed
-2 passed
-3 memory
+2 memory
+3 denied data Tag any-data
 4 passed
-5 passed
 ";
 
 /// The answers where the Data had no memory.
 const ANSWERS_TO_INTEREST: &str = "1 passed
 2 passed
-3 passed
-> 2 050b07030801410a0401020304
-4 memory
-5 passed
+> 1 6418fd032005fd03210196500d050b07030801410a0401020304
+3 memory
+4 passed
 ";
 
 fn is_front(text: &[u8], whole: &str) -> bool {
@@ -94,7 +155,7 @@ fn script(alloc: Global) -> bool {
     let end = run_script(alloc, &mut SCRIPT.as_bytes(), &mut output, parts);
     let text = output.held.as_slice();
     match end {
-        Ok(()) => are_answers(text) && text.ends_with(b"5 passed\n"),
+        Ok(()) => are_answers(text) && text.ends_with(b"4 passed\n"),
         Err(RunFault::Memory) => are_answers(text),
         Err(fault) => fault == RunFault::Node(NodeFault::Memory),
     }

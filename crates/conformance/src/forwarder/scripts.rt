@@ -1,4 +1,4 @@
-use super::{outcome, replies};
+use super::{outcome, parts, replies};
 use crate::rows::check_rows;
 use std::alloc::Global;
 
@@ -40,7 +40,7 @@ up 1 local 0|up 2 far 0|in 1|tick 7| -> 1 passed|2 passed|Err(BadLine(3))
 /// What a script comes to, with `|` for each LF in both.
 fn played(alloc: Global, script: &str) -> Option<String> {
     let script = script.replace(alloc, '|', "\n").ok()?;
-    let came = outcome(alloc, script.as_str())?;
+    let came = outcome(alloc, parts(alloc)?, script.as_str())?;
     came.as_str().replace(alloc, '\n', "|").ok()
 }
 
@@ -77,14 +77,11 @@ fn longest_line(rt: HostRuntime) {
 const HEXADECIMAL_OF_BOTH_CASES: &str = "
 up 1 local 0
 1 passed
-up 2 far 0
-2 passed
 in 1 1000 050B07030801410A0401020304
-3 passed
-> 2 INTEREST
-in 2 1050 060F070308014115017816031b01001700
-4 passed
-> 1 DATA
+2 passed
+> 1 NO_ROUTE
+in 1 1000 060F070308014115017816031b01001700
+3 denied data Tag any-data
 ";
 
 #[test]

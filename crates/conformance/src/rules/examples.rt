@@ -328,7 +328,8 @@ fn a_shared_part_of_two_names(rt: HostRuntime) {
 }
 
 /// The file `examples/sample.rules`.
-const SAMPLE: &str = r"; Who may do what on this node. The first rule that is for a packet decides.
+pub const SAMPLE: &str =
+    r"; Who may do what on this node. The first rule that is for a packet decides.
 
 ; Commands that change routes, strategies or the cache: signed by the key of operators.
 rule

@@ -2,7 +2,7 @@ use Rattle.std.specs.Prelude.{nat_le}
 use Rattle.std.specs.FinMap as map
 use Rattle.pit_fib.specs.declared.pit.TheConstants.{MAX_PENDING}
 use Rattle.pit_fib.specs.Records.{records_at}
-use Rattle.node_core.specs.Step.{moment}
+use Rattle.node_core.specs.Event.{moment}
 use Rattle.node_core.specs.Policy.{at_moment}
 use Rattle.node_core.specs.Runs.{MayCache}
 use Rattle.node_core.proofs.Named.{denial_named, no_rule_named}

@@ -1,4 +1,4 @@
-use Rattle.node_core.specs.Step.{moment}
+use Rattle.node_core.specs.Event.{moment}
 use Rattle.node_core.specs.Policy.{at_moment}
 use Rattle.node_core.specs.Runs.{seen_after}
 use Rattle.node_core.proofs.Explained.{all_explained}

@@ -1,34 +1,56 @@
-use Rattle.std.proofs.Common.{ap, sym, []}
+use Rattle.std.proofs.Common.{[]}
 use Rattle.std.proofs.lemmas.Result.{IfOk-weaker}
-use Rattle.node_core.specs.declared.event.Verdict.TheVariants.{Passed}
-use Rattle.node_core.specs.Event.{plain, Packet, FaceUp, FaceDown, Tick}
-use Rattle.node_core.specs.Step.{pass_answer}
-use Rattle.node_core.proofs.Promise.{answer_promise}
-use Rattle.node_core.proofs.Runs.{run_goes_on, run_goes_on_quietly}
+use Rattle.node_core.specs.Event.{Packet, FaceUp, FaceDown, Tick}
+use Rattle.node_core.specs.State.{state_of}
+use Rattle.node_core.specs.Verdict.{passed}
+use Rattle.node_core.specs.declared.verdict.Verdict.TheVariants as said
+use Rattle.node_core.proofs.GoingOn.{goes_on, sound_after, stays_quiet, tick_step}
+use Rattle.node_core.proofs.Soundness.{step_sound}
 use Rattle.node_core.proofs.node.Node.step.Goals as goal
+
+pub invariant_of-self : goal.invariant_of-self
+invariant_of-self c =
+    sound_after (state_of c.self.inside.state) (state_of c.receive.new.self) _ _ (Packet c.in-Packet.face c.in-Packet.now c.in-Packet.octets.now)
+    c.receive.result c.self.invariant c.receive.ensures.handled c.receive.ensures.memory
+
+pub invariant_of-self-in-FaceUp : goal.invariant_of-self-in-FaceUp
+invariant_of-self-in-FaceUp c = step_sound _ _ _ _ c.self.invariant c.open.ensures
+
+pub invariant_of-self-in-FaceDown : goal.invariant_of-self-in-FaceDown
+invariant_of-self-in-FaceDown c = step_sound _ _ _ _ c.self.invariant c.close.ensures
+
+pub invariant_of-self-in-Tick : goal.invariant_of-self-in-Tick
+invariant_of-self-in-Tick c =
+    step_sound (state_of c.self.inside.state) (state_of c.pass_time.new.self) (Tick c.in-Tick.now) (passed []) c.self.invariant
+    (tick_step (state_of c.self.inside.state) (state_of c.pass_time.new.self) c.in-Tick.now c.pass_time.ensures.later)
 
 pub returns-in-Packet-clause-run : goal.returns-in-Packet-clause-run
 returns-in-Packet-clause-run c =
-    IfOk-weaker c.receive.result _ _ (λ verdict step. run_goes_on c.args.self.now c.receive.new.self (plain c.args.event) (Packet c.in-Packet.face c.in-Packet.now c.in-Packet.octets.now) verdict c.args.outbox.now c.receive.new.outbox (ap plain c.in-Packet.is) step) c.receive.ensures.answered
+    rw (← c.self.view_is, ← c.outbox.view_is, c.in-Packet.is)
+    (IfOk-weaker c.receive.result _ _
+    (λ verdict step. goes_on (state_of c.self.inside.state) (state_of c.receive.new.self) c.outbox.inside.sends.sends c.receive.new.out.sends
+    (Packet c.in-Packet.face c.in-Packet.now c.in-Packet.octets.now) verdict step) c.receive.ensures.handled)
 
 pub returns-in-FaceUp-clause-run : goal.returns-in-FaceUp-clause-run
-returns-in-FaceUp-clause-run c = run_goes_on_quietly c.args.self.now c.open.new.self (plain c.args.event) (FaceUp c.in-FaceUp.face c.in-FaceUp.scope c.in-FaceUp.now) c.open.result c.args.outbox.now (ap plain c.in-FaceUp.is) c.open.ensures.value
+returns-in-FaceUp-clause-run c =
+    rw (← c.self.view_is, ← c.outbox.view_is, c.in-FaceUp.is)
+    (goes_on (state_of c.self.inside.state) (state_of c.open.new.self) c.outbox.inside.sends.sends c.outbox.inside.sends.sends
+    (FaceUp c.in-FaceUp.face c.in-FaceUp.scope c.in-FaceUp.now) c.open.result (stays_quiet _ _ _ _ c.open.result c.open.ensures))
 
 pub returns-in-FaceDown-clause-run : goal.returns-in-FaceDown-clause-run
-returns-in-FaceDown-clause-run c = run_goes_on_quietly c.args.self.now c.close.new.self (plain c.args.event) (FaceDown c.in-FaceDown.face c.in-FaceDown.now) c.close.result c.args.outbox.now (ap plain c.in-FaceDown.is) c.close.ensures.value
+returns-in-FaceDown-clause-run c =
+    rw (← c.self.view_is, ← c.outbox.view_is, c.in-FaceDown.is)
+    (goes_on (state_of c.self.inside.state) (state_of c.close.new.self) c.outbox.inside.sends.sends c.outbox.inside.sends.sends
+    (FaceDown c.in-FaceDown.face c.in-FaceDown.now) c.close.result (stays_quiet _ _ _ _ c.close.result c.close.ensures))
+
+pub returns-in-Tick-clause-answered : goal.returns-in-Tick-clause-answered
+returns-in-Tick-clause-answered c =
+    rw (← c.self.view_is, ← c.outbox.view_is, c.in-Tick.is)
+    (stays_quiet (state_of c.self.inside.state) (state_of c.pass_time.new.self) c.outbox.inside.sends.sends (Tick c.in-Tick.now) said.Passed
+    (tick_step (state_of c.self.inside.state) (state_of c.pass_time.new.self) c.in-Tick.now c.pass_time.ensures.later))
 
 pub returns-in-Tick-clause-run : goal.returns-in-Tick-clause-run
-returns-in-Tick-clause-run c = run_goes_on_quietly c.args.self.now c.advance.new.self (plain c.args.event) (Tick c.in-Tick.now) Passed c.args.outbox.now (ap plain c.in-Tick.is) (ap (λ s. (pass_answer [], s)) (sym c.advance.ensures.value))
-
-pub returns-in-Packet-clause-promise : goal.returns-in-Packet-clause-promise
-returns-in-Packet-clause-promise c =
-    IfOk-weaker c.receive.result _ _ (λ verdict goes_on past run stands. answer_promise past (plain c.args.event) _ (goes_on past run stands).0) (returns-in-Packet-clause-run c)
-
-pub returns-in-FaceUp-clause-promise : goal.returns-in-FaceUp-clause-promise
-returns-in-FaceUp-clause-promise c = λ past run stands. answer_promise past (plain c.args.event) _ (returns-in-FaceUp-clause-run c past run stands).0
-
-pub returns-in-FaceDown-clause-promise : goal.returns-in-FaceDown-clause-promise
-returns-in-FaceDown-clause-promise c = λ past run stands. answer_promise past (plain c.args.event) _ (returns-in-FaceDown-clause-run c past run stands).0
-
-pub returns-in-Tick-clause-promise : goal.returns-in-Tick-clause-promise
-returns-in-Tick-clause-promise c = λ past run stands. answer_promise past (plain c.args.event) _ (returns-in-Tick-clause-run c past run stands).0
+returns-in-Tick-clause-run c =
+    rw (← c.self.view_is, ← c.outbox.view_is, c.in-Tick.is)
+    (goes_on (state_of c.self.inside.state) (state_of c.pass_time.new.self) c.outbox.inside.sends.sends c.outbox.inside.sends.sends (Tick c.in-Tick.now) said.Passed
+    (stays_quiet _ _ _ _ said.Passed (tick_step (state_of c.self.inside.state) (state_of c.pass_time.new.self) c.in-Tick.now c.pass_time.ensures.later)))

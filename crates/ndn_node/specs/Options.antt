@@ -1,0 +1,35 @@
+-- The values that options spell, and the fault of a text that spells none.
+use Rattle.std.specs.Prelude.{◌≡◌, ℕ, ◌<◌, ◌^◌, List, Option, None, Some, Result, Ok, Err, ⊤}
+use Rattle.std.specs.Str.Parse.{IsNumeral, digits_value}
+use Rattle.node_core.specs.declared.script.RunFault.TheVariants.{Memory}
+use Rattle.ndn_node.specs.declared.fault.Fault.{Fault}
+use Rattle.ndn_node.specs.declared.fault.Fault.TheVariants.{BadValue, Script}
+
+-- what is given, or else this text
+abbrev pub given_or : List ℕ → Option (List ℕ) → List ℕ
+given_or text None = text
+given_or text (Some given) = given
+
+-- decimal digits of a number below 2^32; leading zeros are allowed
+abbrev pub IsCapacity : List ℕ → ℕ → Type 0
+IsCapacity text n = IsNumeral 10 text × (digits_value 10 text ≡ n) × (n < 2 ^ 32)
+
+-- the fault of a text that spells nothing
+abbrev pub IsWrong : {A : Type 0} → (A → Type 0) → Fault → Type 0
+IsWrong {A} Spell (BadValue place wanted) = (x : A) → Spell x → ⊥
+IsWrong Spell why = ⊥
+
+-- the same, or memory was refused
+abbrev pub IsRefused : {A : Type 0} → (A → Type 0) → Fault → Type 0
+IsRefused Spell (Script Memory) = ⊤
+IsRefused Spell why = IsWrong Spell why
+
+-- the value that is spelled, or the fault if there is none
+abbrev pub Reads : {A : Type 0} → (A → Type 0) → Result A Fault → Type 0
+Reads Spell (Ok value) = Spell value
+Reads Spell (Err fault) = IsWrong Spell fault
+
+-- the same, or memory was refused
+abbrev pub ReadsInMemory : {A : Type 0} → (A → Type 0) → Result A Fault → Type 0
+ReadsInMemory Spell (Ok value) = Spell value
+ReadsInMemory Spell (Err fault) = IsRefused Spell fault

@@ -1,0 +1,37 @@
+use Rattle.std.proofs.Common.{◌≡◌, refl, sym, subst}
+use Rattle.std.specs.Prelude.{IfErr, OnOk}
+use Rattle.node_core.specs.Node.{NodeState}
+use Rattle.node_core.specs.Parts.{first_node, parts_fault}
+use Rattle.node_core.specs.Script.Ending.{Ends, Stops}
+use Rattle.node_core.specs.Script.Play.{IsNew}
+use Rattle.node_core.proofs.Finishing.{first_is_new, made_of_good_parts}
+use Rattle.node_core.proofs.script.run_script.Goals as goal
+
+pub play-requires-clause-start : goal.play-requires-clause-start
+play-requires-clause-start g c =
+    let p = c.args.parts in
+    let same : c.in-Ok.node ≡ first_node p.rules p.keys p.repo p.cache = c.in-Ok.ensures.ok in
+    record { node = subst IsNew (sym same) (first_is_new p.rules p.keys p.repo p.cache); lines = refl; events = refl }
+
+pub returns-clause-done : goal.returns-clause-done
+returns-clause-done g c =
+    let p = c.args.parts in
+    let same : c.in-Ok.node ≡ first_node p.rules p.keys p.repo p.cache = c.in-Ok.ensures.ok in
+    subst
+    (λ (node : NodeState). OnOk c.play.result
+    (Ends node (g.R.Read.remaining c.args.reader.now) (g.R.Read.remaining c.play.new.reader) (g.W.Write.contents c.args.writer.now) (g.W.Write.contents c.play.new.writer)))
+    same c.play.ensures.done
+
+pub returns-clause-parts : goal.returns-clause-parts
+returns-clause-parts g c =
+    made_of_good_parts _ _ (parts_fault c.args.parts.repo c.args.parts.cache) c.new.result c.in-Ok.node c.in-Ok.is c.new.ensures.fault c.play.ensures.parts
+
+pub returns-clause-stopped : goal.returns-clause-stopped
+returns-clause-stopped g c =
+    let p = c.args.parts in
+    let same : c.in-Ok.node ≡ first_node p.rules p.keys p.repo p.cache = c.in-Ok.ensures.ok in
+    subst
+    (λ (node : NodeState). IfErr c.play.result
+    (λ fault. Stops node fault (g.R.Read.remaining c.args.reader.now) (g.R.Read.remaining c.play.new.reader) (g.W.Write.contents c.args.writer.now)
+    (g.W.Write.contents c.play.new.writer)))
+    same c.play.ensures.stopped

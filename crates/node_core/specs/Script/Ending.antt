@@ -1,0 +1,48 @@
+-- How a run of a script ends, by the octets that a reader had and has left, and by those that
+-- a writer held and holds, where they are known.
+use Rattle.std.specs.Prelude.{◌≡◌, ℕ, Option, IfSome, List, ◌++◌}
+use Rattle.std.specs.Io.KnownBytes.{Appends, Consumes, Keeps, IsAtEnd}
+use Rattle.node_core.specs.Event.{PlainEvent}
+use Rattle.node_core.specs.Node.{NodeState}
+use Rattle.node_core.specs.Script.{IsScript, BeginsWithEvents, IsScriptSoFar, IsBadAt, IsTextOfRun}
+use Rattle.node_core.specs.declared.node.NodeFault.TheVariants as node
+use Rattle.node_core.specs.declared.script.RunFault.{RunFault}
+use Rattle.node_core.specs.declared.script.RunFault.TheVariants as fault
+
+-- known octets grow by a front of these
+abbrev pub AppendsFront : Option (List ℕ) → Option (List ℕ) → List ℕ → Type 0
+AppendsFront old new octets =
+    (front back : List ℕ) × (octets ≡ front ++ back) × Appends old new front
+
+-- a fault of a run whose node's parts are right
+abbrev pub ComesWithGoodParts : RunFault → Type 0
+ComesWithGoodParts (fault.Node f) = f ≡ node.Memory
+ComesWithGoodParts (fault.BadLine n) = Unit {0}
+ComesWithGoodParts fault.Read = Unit {0}
+ComesWithGoodParts fault.Write = Unit {0}
+ComesWithGoodParts fault.Memory = Unit {0}
+
+-- all was read, and this node's answers to its events were written
+abbrev pub Ends : NodeState → Option (List ℕ) → Option (List ℕ) → Option (List ℕ)
+    → Option (List ℕ) → Type 0
+Ends first unread left held holds =
+    (events : List PlainEvent) × (text : List ℕ) × IsTextOfRun first events text
+    × Appends held holds text × IfSome unread (λ script. IsScript script events) × IsAtEnd left
+
+-- A bad line: the answers to the lines before it were written. Read: those to the whole lines that
+-- were read. Write and Memory: a front of the answers to some first lines. Node: nothing.
+abbrev pub Stops : NodeState → RunFault → Option (List ℕ) → Option (List ℕ) → Option (List ℕ)
+    → Option (List ℕ) → Type 0
+Stops first (fault.BadLine n) unread left held holds =
+    (events : List PlainEvent) × (text : List ℕ) × IsTextOfRun first events text
+    × Appends held holds text × IfSome unread (λ script. IsBadAt script n events)
+Stops first fault.Read unread left held holds =
+    (events : List PlainEvent) × (text front : List ℕ) × IsTextOfRun first events text
+    × Appends held holds text × Consumes unread left front × IsScriptSoFar front events
+Stops first fault.Write unread left held holds =
+    (events : List PlainEvent) × (text : List ℕ) × IsTextOfRun first events text
+    × AppendsFront held holds text × IfSome unread (λ script. BeginsWithEvents script events)
+Stops first fault.Memory unread left held holds =
+    (events : List PlainEvent) × (text : List ℕ) × IsTextOfRun first events text
+    × AppendsFront held holds text × IfSome unread (λ script. BeginsWithEvents script events)
+Stops first (fault.Node _) unread left held holds = Keeps unread left × Keeps held holds

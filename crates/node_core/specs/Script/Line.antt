@@ -1,0 +1,77 @@
+-- The lines of a script.
+use Rattle.std.specs.Prelude.{◌≡◌, ◌≢◌, ℕ, ◌<◌, ◌≤◌, ◌^◌, List, [], ◌∷◌, length, codes, Ok}
+use Rattle.std.specs.List.{AllByRecursion, join_with_byte}
+use Rattle.std.specs.Fmt.{decimal}
+use Rattle.hex.specs.Hex.{decode_of}
+use Rattle.node_core.specs.declared.event.Scope.{Scope}
+use Rattle.node_core.specs.declared.event.Scope.TheVariants.{Local, Far}
+use Rattle.node_core.specs.declared.script.line.Line.{Line}
+use Rattle.node_core.specs.declared.script.line.Line.TheVariants as said
+use Rattle.node_core.specs.declared.script.line.LineEvent.{LineEvent}
+use Rattle.node_core.specs.declared.script.line.LineEvent.TheVariants as code
+use Rattle.node_core.specs.Event.{PlainEvent, Packet, FaceUp, FaceDown, Tick}
+
+-- the octet does not stand in the text
+abbrev pub Lacks : ℕ → List ℕ → Type 0
+Lacks octet text = AllByRecursion (λ o. o ≢ octet) text
+
+-- words with single spaces between them
+abbrev pub words : List (List ℕ) → List ℕ
+words parts = join_with_byte 32 parts
+
+abbrev pub scope_word : Scope → List ℕ
+scope_word Local = codes "local"
+scope_word Far = codes "far"
+
+-- hexadecimal of either case, or a dash for no octets
+abbrev pub HexSpells : List ℕ → List ℕ → Type 0
+HexSpells [] word = word ≡ codes "-"
+HexSpells (o ∷ octets) word = decode_of word ≡ Ok (o ∷ octets)
+
+-- the numbers of a script
+abbrev pub AreNumbers : ℕ → ℕ → Type 0
+AreNumbers face now = (face < 2 ^ 64) × (now < 2 ^ 64)
+
+-- the words of an event
+abbrev pub LineSpells : PlainEvent → List ℕ → Type 0
+LineSpells (FaceUp face scope now) line =
+    AreNumbers face now
+    × (line ≡ words (codes "up" ∷ decimal face ∷ scope_word scope ∷ decimal now ∷ []))
+LineSpells (FaceDown face now) line =
+    AreNumbers face now × (line ≡ words (codes "down" ∷ decimal face ∷ decimal now ∷ []))
+LineSpells (Tick now) line = (now < 2 ^ 64) × (line ≡ words (codes "tick" ∷ decimal now ∷ []))
+LineSpells (Packet face now octets) line =
+    AreNumbers face now × ((word : List ℕ) × HexSpells octets word
+    × (line ≡ words (codes "in" ∷ decimal face ∷ decimal now ∷ word ∷ [])))
+
+-- the longest line, in octets and without the LF at its end
+abbrev pub IsShort : List ℕ → Type 0
+IsShort line = length line ≤ 20000
+
+-- an empty line, or a comment
+abbrev pub SaysNothing : List ℕ → Type 0
+SaysNothing [] = Unit {0}
+SaysNothing (o ∷ line) = o ≡ 35
+
+abbrev pub IsSkipped : List ℕ → Type 0
+IsSkipped line = IsShort line × SaysNothing line
+
+abbrev pub IsEventLine : PlainEvent → List ℕ → Type 0
+IsEventLine event line = IsShort line × LineSpells event line
+
+-- a line that is neither
+abbrev pub IsBadLine : List ℕ → Type 0
+IsBadLine line = (IsSkipped line → ⊥) × ((event : PlainEvent) → IsEventLine event line → ⊥)
+
+-- an event without where its octets lie in memory
+abbrev pub plain_line : LineEvent → PlainEvent
+plain_line (code.Packet face now octets) = Packet face now octets.items
+plain_line (code.FaceUp face scope now) = FaceUp face scope now
+plain_line (code.FaceDown face now) = FaceDown face now
+plain_line (code.Tick now) = Tick now
+
+-- what a line says
+abbrev pub LineIs : Line → List ℕ → Type 0
+LineIs said.Skipped line = IsSkipped line
+LineIs (said.Event event) line = IsEventLine (plain_line event) line
+LineIs said.Bad line = IsBadLine line

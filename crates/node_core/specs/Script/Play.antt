@@ -1,0 +1,111 @@
+-- A script on its way: what lines that were read did.
+use Rattle.std.specs.Prelude.{◌≡◌, ℕ, ◌+◌, ◌<◌, ◌≤◌, ◌^◌, Option, List, [], ◌∷◌, ◌++◌, length}
+use Rattle.std.specs.Io.KnownBytes.{Appends, Keeps}
+use Rattle.node_core.specs.Event.{PlainEvent}
+use Rattle.node_core.specs.Node.{NodeState}
+use Rattle.node_core.specs.Runs.{Start, Stands}
+use Rattle.node_core.specs.Script.Line.{Lacks, IsBadLine}
+use Rattle.node_core.specs.Script.Writing.{Outcome, outcome_text, outcomes_text}
+use Rattle.node_core.specs.Script.{AreLines, IsOutcome, AreOutcomes, Say, ended, joined}
+use Rattle.node_core.specs.Script.Ending.{AppendsFront}
+use Rattle.node_core.specs.declared.script.player.Player.{Player}
+use Rattle.node_core.specs.declared.script.RunFault.{RunFault}
+use Rattle.node_core.specs.declared.script.RunFault.TheVariants as fault
+
+-- where a run stands: the node, and how many lines and events there were
+pub record Place : Type 0 where
+  pub node : NodeState
+  pub lines : ℕ
+  pub events : ℕ
+
+abbrev pub place_of : Player → Place
+place_of p = record { node = p.node; lines = p.lines; events = p.events }
+
+-- a node before its first event: it stands in the empty run of its own policy
+pub record IsNew (node : NodeState) : Type 0 where
+  pub now : node.policy.now ≡ 0
+  pub stands : Stands node.policy Start node
+
+-- where a script begins
+pub record IsStart (place : Place) : Type 0 where
+  pub node : IsNew place.node
+  pub lines : place.lines ≡ 0
+  pub events : place.events ≡ 0
+
+-- so many more lines and events can be counted
+abbrev pub HasRoom : Place → ℕ → Type 0
+HasRoom place n = (place.lines + n < 2 ^ 64) × (place.events + n < 2 ^ 64)
+
+-- the place is at most so many lines and events on
+abbrev pub IsNear : Place → ℕ → Place → Type 0
+IsNear from n to = (to.lines ≤ from.lines + n) × (to.events ≤ from.events + n)
+
+-- less than a line, which may yet be none that is too long
+abbrev pub IsPending : List ℕ → Type 0
+IsPending line = Lacks 10 line × (length line ≤ 20000)
+
+-- an event leads from one place to another, and its reply is this text
+pub record PlaysEvent (event : PlainEvent) (from to : Place) (text : List ℕ) : Type 0 where
+  pub done_as : Outcome
+  pub handled : IsOutcome from.node event done_as to.node
+  pub text_is : text ≡ outcome_text from.node.policy.rules (from.events + 1) done_as
+  pub lines : to.lines ≡ from.lines
+  pub events : to.events ≡ from.events + 1
+
+-- lines lead from one place to another, and the replies to their events are this text
+pub record Plays (lines : List (List ℕ)) (from to : Place) (text : List ℕ) : Type 0 where
+  pub events : List PlainEvent
+  pub outcomes : List Outcome
+  pub are_lines : AreLines lines
+  pub say : Say lines events
+  pub runs : AreOutcomes from.node events outcomes to.node
+  pub text_is : text ≡ outcomes_text from.node.policy.rules (from.events + 1) outcomes
+  pub numbered : to.lines ≡ from.lines + length lines
+  pub counted : to.events ≡ from.events + length outcomes
+
+-- what a refused reply wrote
+abbrev pub EventStops : RunFault → PlainEvent → Place → Option (List ℕ) → Option (List ℕ) → Type 0
+EventStops fault.Write event from held holds =
+    (to : Place) × (text : List ℕ) × PlaysEvent event from to text × AppendsFront held holds text
+EventStops fault.Memory event from held holds = Keeps held holds
+EventStops fault.Read event from held holds = ⊥
+EventStops (fault.BadLine n) event from held holds = ⊥
+EventStops (fault.Node _) event from held holds = ⊥
+
+-- why a line was refused, and what was written of its reply
+abbrev pub LineStops : RunFault → List ℕ → Place → Option (List ℕ) → Option (List ℕ) → Type 0
+LineStops (fault.BadLine n) line from held holds =
+    (n ≡ from.lines + 1) × IsBadLine line × Keeps held holds
+LineStops fault.Write line from held holds =
+    (to : Place) × (text : List ℕ) × Plays (line ∷ []) from to text × AppendsFront held holds text
+LineStops fault.Memory line from held holds = Keeps held holds
+LineStops fault.Read line from held holds = ⊥
+LineStops (fault.Node _) line from held holds = ⊥
+
+-- why octets cannot be added to a line
+abbrev pub AddStops : RunFault → List ℕ → Place → Type 0
+AddStops (fault.BadLine n) line from = (n ≡ from.lines + 1) × (20000 < length line)
+AddStops fault.Memory line from = Unit {0}
+AddStops fault.Write line from = ⊥
+AddStops fault.Read line from = ⊥
+AddStops (fault.Node _) line from = ⊥
+
+-- after these lines comes a bad one, whatever follows the octets
+abbrev pub TurnsBad : List ℕ → List (List ℕ) → Type 0
+TurnsBad stream lines = (more : List ℕ) → (line rest : List ℕ)
+    × (ended (stream ++ more) ≡ joined lines ++ (ended line ++ rest)) × Lacks 10 line
+    × IsBadLine line
+
+-- why octets that go on from a place were refused, and what was written
+abbrev pub FeedStops : RunFault → List ℕ → Place → Option (List ℕ) → Option (List ℕ) → Type 0
+FeedStops (fault.BadLine n) stream from held holds =
+    (lines : List (List ℕ)) × (to : Place) × (text : List ℕ) × Plays lines from to text
+    × Appends held holds text × (n ≡ to.lines + 1) × TurnsBad stream lines
+FeedStops fault.Write stream from held holds =
+    (lines : List (List ℕ)) × (to : Place) × (text rest : List ℕ) × Plays lines from to text
+    × AppendsFront held holds text × (stream ≡ joined lines ++ rest)
+FeedStops fault.Memory stream from held holds =
+    (lines : List (List ℕ)) × (to : Place) × (text rest : List ℕ) × Plays lines from to text
+    × AppendsFront held holds text × (stream ≡ joined lines ++ rest)
+FeedStops fault.Read stream from held holds = ⊥
+FeedStops (fault.Node _) stream from held holds = ⊥

@@ -1,0 +1,81 @@
+-- The text of answers.
+use Rattle.std.specs.Prelude.{ℕ, ◌+◌, List, [], ◌∷◌, ◌++◌, codes, Result, Ok, Err}
+use Rattle.std.specs.List.{flat_map}
+use Rattle.std.specs.Fmt.{decimal}
+use Rattle.hex.specs.Hex.{encode_lower}
+use Rattle.ndn_tlv.specs.declared.memory.Memory.{Memory}
+use Rattle.ndn_packets.specs.FaultName.{packet_name}
+use Rattle.info_rules.specs.Names.{reason_name}
+use Rattle.info_rules.specs.Rule.{PlainRule}
+use Rattle.info_rules.specs.declared.rule.Kind.{Kind}
+use Rattle.info_rules.specs.declared.rule.Kind.TheVariants as kinds
+use Rattle.node_core.specs.declared.verdict.Verdict as code
+use Rattle.node_core.specs.Commands.{id_of}
+use Rattle.node_core.specs.Event.{Send}
+use Rattle.node_core.specs.Verdict.{Answer, DropReason, NoFace, Malformed, Idle, HopLimit, Scope, Loop, PitFull, NoPending, NoSegment, BadFace, FaceOpen, FacesFull, Verdict, Passed, Allowed, DataAllowed, Denied, NoRule, Dropped, verdict_of}
+
+abbrev pub drop_name : DropReason → List ℕ
+drop_name NoFace = codes "NoFace"
+drop_name (Malformed fault) = codes "Malformed " ++ packet_name fault
+drop_name Idle = codes "Idle"
+drop_name HopLimit = codes "HopLimit"
+drop_name Scope = codes "Scope"
+drop_name Loop = codes "Loop"
+drop_name PitFull = codes "PitFull"
+drop_name NoPending = codes "NoPending"
+drop_name NoSegment = codes "NoSegment"
+drop_name BadFace = codes "BadFace"
+drop_name FaceOpen = codes "FaceOpen"
+drop_name FacesFull = codes "FacesFull"
+
+abbrev pub kind_name : Kind → List ℕ
+kind_name kinds.Data = codes "data"
+kind_name kinds.Interest = codes "interest"
+
+-- Rules stand by their ids.
+abbrev pub verdict_text : List PlainRule → Verdict → List ℕ
+verdict_text rules Passed = codes "passed"
+verdict_text rules (Allowed rule status) =
+    codes "allowed " ++ (decimal status ++ (32 ∷ id_of rules rule))
+verdict_text rules (DataAllowed rule) = codes "data " ++ id_of rules rule
+verdict_text rules (Denied kind rule reason) =
+    codes "denied " ++ (kind_name kind ++ (32 ∷ (reason_name reason ++ (32 ∷ id_of rules rule))))
+verdict_text rules (NoRule kind) = codes "no-rule " ++ kind_name kind
+verdict_text rules (Dropped why) = codes "dropped " ++ drop_name why
+
+-- how an event of a script was handled: answered, or refused for want of memory
+pub data Outcome : Type 0 where
+  Answered : (answer : Answer) → Outcome
+  NoMemory : Outcome
+
+abbrev pub said_text : List PlainRule → Result code.Verdict Memory → List ℕ
+said_text rules (Ok said) = verdict_text rules (verdict_of said)
+said_text rules (Err _) = codes "memory"
+
+-- hexadecimal in lower case, or a dash for no octets
+abbrev pub hex_word : List ℕ → List ℕ
+hex_word [] = codes "-"
+hex_word (o ∷ octets) = encode_lower (o ∷ octets)
+
+-- the line of a send
+abbrev pub send_text : Send → List ℕ
+send_text sent = codes "> " ++ (decimal sent.0 ++ (32 ∷ (hex_word sent.1 ++ (10 ∷ []))))
+
+-- the line of an event, by its number, and those of its sends
+abbrev pub lines_text : ℕ → List ℕ → List Send → List ℕ
+lines_text number said sends = decimal number ++ (32 ∷ (said ++ (10 ∷ flat_map send_text sends)))
+
+abbrev pub outcome_text : List PlainRule → ℕ → Outcome → List ℕ
+outcome_text rules number (Answered answer) =
+    lines_text number (verdict_text rules answer.verdict) answer.sends
+outcome_text rules number NoMemory = lines_text number (codes "memory") []
+
+-- the text of replies, from this number on
+abbrev pub outcomes_text : List PlainRule → ℕ → List Outcome → List ℕ
+outcomes_text rules number [] = []
+outcomes_text rules number (done_as ∷ outcomes) =
+    outcome_text rules number done_as ++ outcomes_text rules (number + 1) outcomes
+
+-- the text of a script's replies, by a node of these rules
+abbrev pub script_text : List PlainRule → List Outcome → List ℕ
+script_text rules outcomes = outcomes_text rules 1 outcomes

@@ -1,0 +1,49 @@
+use info_rules::{Kind, Reason, RuleNo};
+use ndn_packets::PacketFault;
+
+/// What a node says of one event.
+#[derive(Clone, Copy, Debug, PartialEq, Eq)]
+pub enum Verdict {
+    /// The event had its effect.
+    Passed,
+    /// This rule allowed the command, which was answered with this status (NFD Management, "Control
+    /// Response").
+    Allowed(RuleNo, u16),
+    /// This rule allowed the Data, whether it was sent on or not.
+    DataAllowed(RuleNo),
+    /// This rule denied the command or Data.
+    Denied(Kind, RuleNo, Reason),
+    /// No rule applies to the command or Data, which is denied.
+    NoRule(Kind),
+    /// The event had no effect but that of its moment.
+    Dropped(DropReason),
+}
+
+/// Why an event was dropped.
+#[derive(Clone, Copy, Debug, PartialEq, Eq)]
+pub enum DropReason {
+    /// The face is not open.
+    NoFace,
+    /// The octets are no packet.
+    Malformed(PacketFault),
+    /// The octets are a link packet that holds no packet.
+    Idle,
+    /// The HopLimit of the Interest is 0.
+    HopLimit,
+    /// A name under `/localhost` came from another machine.
+    Scope,
+    /// The Interest came back: its Nonce is known. The face got a Nack.
+    Loop,
+    /// Interests of 4,096 keys are pending.
+    PitFull,
+    /// A Nack came for an Interest that is not known to have been sent there.
+    NoPending,
+    /// The list has no such segment, or has another version by now.
+    NoSegment,
+    /// A face has the number 0.
+    BadFace,
+    /// The face is open already.
+    FaceOpen,
+    /// 64 faces are open.
+    FacesFull,
+}
