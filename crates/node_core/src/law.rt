@@ -165,10 +165,10 @@ pub fn records_are_read_off_the_run()
         → map.get (records_of past key).asked face ≡ sent_of (past_causes past) key face }
 {}
 
-/// Law: an Interest becomes pending exactly where it was passed, and neither a Data nor a Nack went
-/// back to its face. Who waits after an event was kept by it, or waited before. Where the past
-/// allows the answer, a passed Interest is sent on to other faces and waits, or one Data or Nack
-/// goes back to its face.
+/// Law: an Interest becomes pending exactly where it was passed, nothing went back to its face, and
+/// no Nack was sent. Who waits after an event was kept by it, or waited before. Where the past
+/// allows the answer, a passed Interest is sent on to other faces, or to none, and waits; or one
+/// packet goes back to its face: a Nack, or what is at hand.
 pub fn unanswered_interests_wait()
     ensures arrives { (now : ℕ) (event : PlainEvent) (answer : Answer) (key : PlainKey) (face : ℕ)
         (ask : Ask) → Contains (causes_of now event answer) (Arrives key face ask)
@@ -191,8 +191,8 @@ pub fn unanswered_interests_wait()
 {}
 
 /// Law: the cost of a hop of the routes after a run is that of the last add-nexthop of its name and
-/// face that was answered with status 200, where since then no remove-nexthop of the two was, and
-/// the face was not closed; and else there is no such hop.
+/// face that was answered with status 200, where since then no remove-nexthop of the two was so
+/// answered, and the face was not closed; and else there is no such hop.
 pub fn routes_are_read_off_the_run()
     ensures { (first p : Policy) (past : Run) (name : List Field) (face : ℕ) → AreApart first.keys
         → first.routes ≡ map.empty → IsRun first past → IsPolicyOf first past p
