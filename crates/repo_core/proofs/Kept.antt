@@ -48,7 +48,7 @@ is_equal Equal e = refl
 is_equal Greater e = absurd cc
 
 module _ {K X : Type 0} {R : K → K → Ordering} (anti : IsAntisymmetric R) (test : K × X → Bool) (k : K) where
-  lacks : (es : List (K × X)) → T (below_all R k es) → find R k es ≡ None
+  pub lacks : (es : List (K × X)) → T (below_all R k es) → find R k es ≡ None
   lacks [] h = refl
   lacks (e ∷ es) h = ap (λ o. cond (is_eq o) (Some e.1) (find R k es)) (is_less (R k e.0) (first_of _ _ h)) ∙ lacks es (second_of _ _ h)
 

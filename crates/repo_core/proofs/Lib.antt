@@ -1,5 +1,6 @@
 pub mod Singles
 pub mod Texts
+mod Removed
 pub mod Rows
 pub mod FullNames
 pub mod Places

@@ -137,6 +137,11 @@ is_insert Insert = true
 is_insert Delete = false
 is_insert Check = false
 
+-- the name is that of an insert
+abbrev pub is_insert_at : List Field → List Field → Bool
+is_insert_at start name =
+    elim (repo_command_at start name) [ None ↦ false | Some c ↦ is_insert c.verb ]
+
 abbrev pub IsCommandPrepared : RepoState → List Field → Type 0
 IsCommandPrepared s name =
     IfSome (repo_command_at s.start name)

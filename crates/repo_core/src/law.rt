@@ -12,7 +12,7 @@ ghost use Rattle.repo_core.specs.declared.verb.Verb.{Verb};
 ghost use Rattle.repo_core.specs.Commands.{repo_text_of, verb_row};
 ghost use Rattle.repo_core.specs.Objects.{AreObjects, Objects, full_name_answers, if_kept, kept};
 ghost use Rattle.repo_core.specs.Reading.{RepoCommand, verb_at};
-ghost use Rattle.repo_core.specs.Repo.{Held, IsWithinLimits, after_command, after_offer, after_time, reply_to};
+ghost use Rattle.repo_core.specs.Repo.{Held, IsWithinLimits, after_command, after_delete, after_offer, after_time, reply_to};
 ghost use Rattle.repo_core.specs.Wants.{WantKey, Wants, is_wanted, wants_after};
 ghost use Rattle.repo_core.specs.Writing.{repo_response};
 
@@ -25,12 +25,15 @@ pub fn full_names_answer_as_data()
         ≡ answers name digest asked can_be_prefix }
 {}
 
-/// Law: a Data that is not wanted is not wanted later, where wants only expire. So what is prepared
-/// stays prepared.
-pub fn expiry_keeps_preparations()
-    ensures { (now : ℕ) (name : List Field) (digest : List ℕ) (wants : Wants)
+/// Law: a Data that is not wanted is not wanted later, where wants only expire or are deleted. So
+/// what is prepared stays prepared.
+pub fn removals_keep_preparations()
+    ensures expiry { (now : ℕ) (name : List Field) (digest : List ℕ) (wants : Wants)
         → is_wanted name digest (wants_after now wants) ≡ true
         → is_wanted name digest wants ≡ true }
+    ensures delete { (c : RepoCommand) (name : List Field) (digest : List ℕ) (s : Held)
+        → is_wanted name digest (after_delete c s).wants ≡ true
+        → is_wanted name digest s.wants ≡ true }
 {}
 
 /// Law: a name has a verb exactly where it begins with the prefix and the verb's word.

@@ -16,8 +16,9 @@ mod wants;
 mod writing;
 
 pub use law::{
-    expiry_keeps_preparations, full_names_answer_as_data, kept_entries_by_key, limits_are_kept,
-    objects_stay_data, repo_replies_are_bounded, repo_statuses_have_texts, verbs_follow_the_prefix,
+    full_names_answer_as_data, kept_entries_by_key, limits_are_kept, objects_stay_data,
+    removals_keep_preparations, repo_replies_are_bounded, repo_statuses_have_texts,
+    verbs_follow_the_prefix,
 };
 pub use reply::{MAX_REPLY_LEN, RepoReply, Want, put_repo_reply, repo_status_text};
 pub use repo::{MAX_HELD, MAX_WANTS, Repo};

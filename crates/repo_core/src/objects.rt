@@ -82,8 +82,9 @@ impl Objects {
 
     /// Removes those that answer.
     pub fn remove(&mut self, name: Name<'_>, can_be_prefix: bool)
-        ensures { self.new.table
+        ensures table { self.new.table
             ≡ without_answering (components name.entry) can_be_prefix self.old.table }
+        ensures room { self.old.room ≤ self.new.room }
     {
         self.rows
             .retain(|object| !object.answers(name, can_be_prefix));

@@ -1,4 +1,4 @@
-ghost use Rattle.std.specs.Prelude.{◌≡◌, ◌+◌, ◌≤◌, true, None, Some, IfOk, IfSome, IsOk, OnErr, OnOk, length};
+ghost use Rattle.std.specs.Prelude.{◌≡◌, ◌+◌, ◌≤◌, true, false, None, Some, IfOk, IfSome, IsOk, OnErr, OnOk, length};
 ghost use Rattle.std.specs.FinMap as map;
 ghost use Rattle.std.specs.Option.{option_map};
 ghost use Rattle.sha2.specs.Sha256.{sha256};
@@ -6,7 +6,7 @@ ghost use Rattle.ndn_names.specs.Name.{octets_of};
 ghost use Rattle.ndn_names.specs.View.{components};
 ghost use Rattle.repo_core.specs.Objects.{AreObjects, object_of, served};
 ghost use Rattle.repo_core.specs.Reading.{plain, repo_command_at, verb_at};
-ghost use Rattle.repo_core.specs.Repo.{IsCommandPrepared, IsOfferPrepared, IsWithinLimits, after_command, after_delete, after_insert, after_offer, is_repo_full, reply_to, MakesWant};
+ghost use Rattle.repo_core.specs.Repo.{IsCommandPrepared, IsOfferPrepared, IsWithinLimits, after_command, after_delete, after_insert, after_offer, is_insert_at, is_repo_full, reply_to, MakesWant};
 ghost use Rattle.repo_core.specs.Room.{AreAlike};
 ghost use Rattle.repo_core.specs.Wants.{wants_after, is_wanted};
 
@@ -102,7 +102,8 @@ impl Repo {
     /// lifetime is over. A delete is answered 200 with the number of objects if there were any or
     /// an equal want, which then are gone, and else 404. A check is answered 200 with the number of
     /// objects that answer, 100 for an equal want, and else 404. Any other name is answered 400.
-    /// `Memory` comes of an insert alone, and changes nothing but that nothing is prepared.
+    /// `Memory` comes of an insert alone, and changes nothing but that nothing is prepared. An
+    /// insert ends what is prepared, and no other command does.
     pub fn command(&mut self, name: Name<'_>, now: u64) -> Result<RepoReply, Memory>
         ensures reply { IfOk result (λ r.
             r ≡ reply_to self.old.held (repo_command_at self.old.start (components name.entry))) }
@@ -112,27 +113,34 @@ impl Repo {
         ensures cause { OnErr result
             (MakesWant self.old.held (repo_command_at self.old.start (components name.entry))) }
         ensures start { self.new.start ≡ self.old.start }
-        ensures ended { (self.new.prepared_want ≡ None) × (self.new.prepared_object ≡ None) }
+        ensures ended { is_insert_at self.old.start (components name.entry) ≡ true
+            → (self.new.prepared_want ≡ None) × (self.new.prepared_object ≡ None) }
+        ensures kept { is_insert_at self.old.start (components name.entry) ≡ false
+            → (self.new.prepared_want ≡ self.old.prepared_want)
+            × (self.new.prepared_object ≡ self.old.prepared_object) }
         ensures promised { IsCommandPrepared self.old (components name.entry) → IsOk result }
         // What is fetched has no longer a name than the command.
         ensures fetched { IfOk result (λ r. IfSome r.fetch (λ want.
             length (octets_of want.name) ≤ length (octets_of (components name.entry)))) }
     {
-        let spare = self.names.take();
-        self.object = None;
         let Some(asked) = command_in(self.start.view(), name) else {
             return Ok(RepoReply::plain(BAD_PARAMETERS, 0));
         };
         match asked.verb {
-            Verb::Insert => self.insert(asked, now, spare),
+            Verb::Insert => {
+                let spare = self.names.take();
+                self.object = None;
+                self.insert(asked, now, spare)
+            }
             Verb::Delete => Ok(self.delete(asked)),
             Verb::Check => Ok(self.check(asked)),
         }
     }
 
     /// Offers a Data: where it is wanted, it is stored in place of one of its full name, and all
-    /// wants that it answers are gone. Answers whether it was. `Memory` comes only where it is
-    /// wanted, and changes nothing but that nothing is prepared.
+    /// wants that it answers are gone, and nothing is prepared. Answers whether it was. `Memory`
+    /// comes only where it is wanted, and changes nothing but that nothing is prepared. A Data that
+    /// is not wanted changes nothing.
     pub fn offer(&mut self, packet: &Data<'_>) -> Result<bool, Memory>
         ensures filled { IfOk result (λ filled. filled ≡ is_wanted (components packet.now.name)
             (sha256 packet.now.whole.now) self.old.held.wants) }
@@ -142,15 +150,19 @@ impl Repo {
         ensures cause { OnErr result (is_wanted (components packet.now.name)
             (sha256 packet.now.whole.now) self.old.held.wants ≡ true) }
         ensures start { self.new.start ≡ self.old.start }
-        ensures ended { (self.new.prepared_want ≡ None) × (self.new.prepared_object ≡ None) }
+        ensures ended { is_wanted (components packet.now.name) (sha256 packet.now.whole.now)
+            self.old.held.wants ≡ true
+            → (self.new.prepared_want ≡ None) × (self.new.prepared_object ≡ None) }
+        ensures kept { is_wanted (components packet.now.name) (sha256 packet.now.whole.now)
+            self.old.held.wants ≡ false → self.new ≡ self.old }
         ensures promised { IsOfferPrepared self.old (components packet.now.name)
             (sha256 packet.now.whole.now) packet.now.whole.now → IsOk result }
     {
-        let spare = self.object.take();
-        self.names = None;
         if !self.wants.are_filled_by(packet) {
             return Ok(false);
         }
+        let spare = self.object.take();
+        self.names = None;
         self.objects.reserve()?;
         let object = object_for(self.alloc, spare, packet)?;
         self.wants.fill(packet);
@@ -188,8 +200,9 @@ impl Repo {
         self.objects.len() + self.wants.len()
     }
 
-    /// Prepares the command of this name, its reply included: it is then not refused memory, while
-    /// wants only expire. Any command, offer or further preparation, a refused one too, ends it.
+    /// Prepares the command of this name, its reply included: it is then not refused memory. An
+    /// insert, a Data that is stored, or a further preparation, a refused one too, ends it. What
+    /// only removes does not: wants that expire, and deletes.
     pub fn prepare_command(&mut self, name: Name<'_>) -> Result<(), Memory>
         ensures held { self.new.held ≡ self.old.held }
         ensures start { self.new.start ≡ self.old.start }
@@ -278,7 +291,6 @@ impl Repo {
     /// The delete.
     fn delete(&mut self, asked: Asked<'_>) -> RepoReply
         requires verb { asked.verb ≡ Verb.Delete }
-        requires free { self.old.prepared_object ≡ None }
         ensures reply { result ≡ reply_to self.old.held (Some (plain asked.entry)) }
         ensures held { self.new
             ≡ record self.old { held = after_delete (plain asked.entry) self.old.held } }

@@ -12,8 +12,8 @@ invariant_of-self c =
     kept_sorted name_cmp (λ o. not (full_name_answers name c.args.can_be_prefix o.0)) c.self.inside.rows.items c.retain.new.self.items c.self.invariant
     (filter_same _ (λ o. not (full_name_answers name c.args.can_be_prefix o.0)) _ (λ x b f' k. search rules) c.self.inside.rows.items c.retain.new.self.items c.retain.ensures.filtered)
 
-pub returns : goal.returns
-returns c =
+pub returns-clause-table : goal.returns-clause-table
+returns-clause-table c =
     let name = components c.args.name in
     from_kept name_cmp (λ o. not (full_name_answers name c.args.can_be_prefix o.0)) c.self.inside.rows.items c.retain.new.self.items c.self.invariant
     (filter_same _ (λ o. not (full_name_answers name c.args.can_be_prefix o.0)) _ (λ x b f' k. search rules) c.self.inside.rows.items c.retain.new.self.items c.retain.ensures.filtered)
