@@ -1,10 +1,12 @@
 -- Full names by their octets.
-use Rattle.std.proofs.Common.{◌≡◌, ℕ, ◌+◌, ◌-◌, ◌<◌, ◌^◌, Bool, List, [], ◌∷◌, ◌++◌, length, take, drop, sym, ap, subst, ◌∙◌, arith, append_assoc}
+use Rattle.std.proofs.Common.{◌≡◌, ℕ, ◌+◌, ◌-◌, ◌<◌, ◌^◌, Bool, false, refl, List, [], ◌∷◌, ◌++◌, length, take, drop, sym, ap, subst, ◌∙◌, arith, append_assoc}
 use Rattle.std.specs.Prelude.{◌↔◌, IsTrue, nat_eq}
 use Rattle.std.specs.List.{AllByRecursion, starts_with}
 use Rattle.std.specs.Cmp.{unsigned_Decides}
 use Rattle.std.specs.Cmp.Lexicographic.{slice_cmp}
-use Rattle.std.specs.Ordering.{nat_cmp}
+use Rattle.std.specs.Ordering.{eq_by_cmp, is_eq, nat_cmp}
+use Rattle.std.specs.declared.cmp.Ordering.{Ordering}
+use Rattle.std.specs.declared.cmp.Ordering.TheVariants.{Less, Equal, Greater}
 use Rattle.std.proofs.lemmas.List.{length-append, append-nil, take_at, drop_at}
 use Rattle.std.proofs.lemmas.List.Concat.{flat_map-append}
 use Rattle.std.proofs.lemmas.Slice.Eq.{starts_is}
@@ -92,3 +94,12 @@ is_front u value name h g = (
   λ e. one_name name (name_in u) g.0.0 (fields_front (name_in u) (1, digest_in u) h.fields) (sym g.0.1 ∙ e ∙ h.name),
   λ e. g.0.1 ∙ ap octets_of e ∙ sym h.name,
 )
+
+-- full names of other digests do not tie
+pub other_digests : (u v : List ℕ) → IsFullName u → IsFullName v → (digest_in u ≡ digest_in v → ⊥) → eq_by_cmp name_cmp (full_name_in u) (full_name_in v) ≡ false
+other_digests u v h g other = by (name_cmp (full_name_in u) (full_name_in v)) refl
+  where
+    by : (o : Ordering) → name_cmp (full_name_in u) (full_name_in v) ≡ o → is_eq o ≡ false
+    by Less e = refl
+    by Equal e = absurd (other (ap digest_in (h.whole ∙ ap octets_of (name_cmp-antisymmetric (full_name_in u) (full_name_in v) e) ∙ sym g.whole)))
+    by Greater e = refl

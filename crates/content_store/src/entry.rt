@@ -1,7 +1,9 @@
-ghost use Rattle.std.specs.Prelude.{◌≡◌, ◌↔◌, ◌⊎◌, IsTrue, IfOk};
+ghost use Rattle.std.specs.Prelude.{◌≡◌, ◌≤◌, ◌↔◌, ◌⊎◌, length, IsTrue, IfOk};
+ghost use Rattle.std.specs.Ordering.{eq_by_cmp};
 ghost use Rattle.ndn_names.specs.Name.{IsPrefix};
 ghost use Rattle.ndn_names.specs.Order.{name_cmp};
 ghost use Rattle.ndn_names.specs.View.{components};
+ghost use Rattle.content_store.specs.Entry.{digest_in};
 ghost use Rattle.content_store.specs.Places.{begins_with};
 ghost use Rattle.ndn_packets.specs.Key.{plain_key};
 ghost use Rattle.content_store.specs.Store.{cached_at, full_name_of, IsFresh, CanServe};
@@ -14,7 +16,10 @@ use std::alloc::Global;
 use std::cmp::Ordering;
 use std::marker::Model;
 
-/// The octets of such a component: its type, its length and a digest of 32 octets.
+/// The octets of an implicit digest.
+const DIGEST_LEN: usize = 32;
+
+/// The octets of its component: its type, its length and the digest.
 const DIGEST_COMPONENT_LEN: usize = 34;
 
 /// A Data that is held.
@@ -74,6 +79,16 @@ impl Entry {
         self.full_name.as_slice().cmp(other.full_name.as_slice())
     }
 
+    /// Whether two have one full name. Digests of other Data differ, mostly in the first octet, so
+    /// they are compared before the names.
+    pub fn is_same(&self, other: &Entry) -> bool
+        ensures { result ≡ eq_by_cmp name_cmp (full_name_of self.now) (full_name_of other.now) }
+    {
+        let mine = self.full_name.as_slice();
+        let its = other.full_name.as_slice();
+        digest_of(mine) == digest_of(its) && self.compare(other).is_eq()
+    }
+
     /// Whether the full name begins with a name.
     pub fn is_under(&self, name: Name<'_>) -> bool
         ensures prefix { IsTrue result ↔ IsPrefix (components name.entry) (full_name_of self.now) }
@@ -106,4 +121,12 @@ impl Entry {
     {
         now < self.arrival.saturating_add(self.freshness)
     }
+}
+
+/// The implicit digest, which ends the octets of a full name.
+fn digest_of(full_name: &[u8]) -> &[u8]
+    requires { 34 ≤ length full_name.now }
+    ensures { result.now ≡ digest_in full_name.now }
+{
+    &full_name[full_name.len() - DIGEST_LEN..]
 }

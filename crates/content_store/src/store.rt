@@ -139,7 +139,7 @@ fn put_first(entries: &mut Vec<Entry>, entry: Entry, capacity: usize) -> bool
     ensures refused { result ≡ false → entries.new.items
         ≡ take (capacity - 1) (without (full_name_of entry) entries.old.items) }
 {
-    entries.retain(|other| !other.compare(&entry).is_eq());
+    entries.retain(|other| !other.is_same(&entry));
     entries.truncate(capacity - 1);
     entries.insert(0, entry).is_ok()
 }
