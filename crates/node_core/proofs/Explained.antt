@@ -36,7 +36,7 @@ use Rattle.node_core.specs.Verdict.{Answer, DropReason, Dropped, WhereTrue, BadF
 use Rattle.node_core.specs.Request.{ListAsked, Request, Refused, ForList, ForTables, ForRepository, ForData, is_command, is_out_of_scope, list_asked, request_of}
 use Rattle.node_core.specs.NextHops.{ask_for, ask_from, choice_for, sent_on}
 use Rattle.node_core.specs.Said.{IsSaid}
-use Rattle.node_core.specs.Commands.{repository_reply, allowed_reply, command_answer, fetch_sends, fetch_text, is_unwritable, to_chosen}
+use Rattle.node_core.specs.Commands.{repository_reply, allowed_reply, command_answer, fetch_sends, fetch_text, is_unwritable, reply_content, to_chosen}
 use Rattle.node_core.specs.Datasets.{is_present, list_answer, dataset_text, segment_answer, segment_data, segment_name}
 use Rattle.node_core.specs.Replies.{Seen, Replies, RepliesBySaid, RepliesForData, RepliesToData, RepliesToNack, RepliesToPacket, RepliesToRequest, by_cache, forwarded, nack_answer, opening_answer, unserved}
 use Rattle.node_core.specs.Sends.{BringsOctets, EachIsExplained, IsAtHand, IsExplained, is_data}
@@ -114,11 +114,12 @@ module _ (seen : Seen) (face now : ℕ) (octets whole : List ℕ) (i : PlainInte
   abbrev event : PlainEvent
   event = Packet face now octets
 
-  hand : (text : List ℕ) → IsAtHand seen face i text → IsExplained seen event (face, text)
+  hand : (text : List ℕ) → IsAtHand seen face whole i text → IsExplained seen event (face, text)
   hand text h = inr (inl (record { now = now; octets = octets; whole = whole; interest = i; brings = refl; read = read; at_hand = h }))
 
-  reply_explained : is_command (request_of seen.policy face i) ≡ true → (content : List ℕ) → IsExplained seen event (face, reply_text i.name content)
-  reply_explained is content = hand (reply_text i.name content) (inr (inr (inl (is, (content, refl)))))
+  reply_explained : is_command (request_of seen.policy face i) ≡ true → (said : Decision) → IsSaid seen.policy (AnInterest whole i) said
+      → IsExplained seen event (face, reply_text i.name (reply_content seen.policy face i said))
+  reply_explained is said says = hand _ (inr (inr (inl (is, (said, says, refl)))))
 
   chosen_explained : (choice : Choice) (want : Want) → All (IsExplained seen event) (to_chosen choice (fetch_text want i.nonce))
   chosen_explained choices.NoRoute want = All-nil (IsExplained seen event)
@@ -140,26 +141,33 @@ module _ (seen : Seen) (face now : ℕ) (octets whole : List ℕ) (i : PlainInte
   fetches_explained ForRepository = fetch_explained (repository_reply seen.policy i).fetch
   fetches_explained ForData = All-nil (IsExplained seen event)
 
-  command_explained : is_command (request_of seen.policy face i) ≡ true → (said : Decision) → EachIsExplained seen event (command_answer seen.policy face i said)
-  command_explained is (decided.Allowed rule) =
+  command_explained : is_command (request_of seen.policy face i) ≡ true → (said : Decision) → IsSaid seen.policy (AnInterest whole i) said
+      → EachIsExplained seen event (command_answer seen.policy face i said)
+  command_explained is (decided.Allowed rule) says =
       let reply = allowed_reply seen.policy face i (request_of seen.policy face i) in
-      All-cons (IsExplained seen event) (face, reply_text i.name reply.content) reply.fetches (reply_explained is reply.content) (fetches_explained (request_of seen.policy face i))
-  command_explained is (decided.Denied rule reason) = one_send (IsExplained seen event) _ (reply_explained is _)
-  command_explained is decided.NoRule = one_send (IsExplained seen event) _ (reply_explained is _)
+      All-cons (IsExplained seen event) (face, reply_text i.name reply.content) reply.fetches (reply_explained is (decided.Allowed rule) says) (fetches_explained (request_of seen.policy face i))
+  command_explained is (decided.Denied rule reason) says = one_send (IsExplained seen event) _ (reply_explained is (decided.Denied rule reason) says)
+  command_explained is decided.NoRule says = one_send (IsExplained seen event) _ (reply_explained is decided.NoRule says)
 
   part_explained : (asked : ListAsked) → list_asked i ≡ Some asked → (part : Option (List ℕ × ℕ))
-      → EachIsExplained seen event (segment_answer face (segment_name asked.kind seen.policy.table_number asked.segment) part)
-  part_explained asked is None = All-nil (IsExplained seen event)
-  part_explained asked is (Some part) =
-      let name = segment_name asked.kind seen.policy.table_number asked.segment in
-      one_send (IsExplained seen event) (face, segment_data name part.0 part.1) (hand (segment_data name part.0 part.1) (inr (inr (inr (asked, part.0, part.1, is, refl)))))
+      → list_answer seen.policy face asked ≡ segment_answer face (segment_name asked.kind seen.policy.table_number asked.segment) part
+      → EachIsExplained seen event (list_answer seen.policy face asked)
+  part_explained asked is None e = no_sends seen event (list_answer seen.policy face asked) NoSegment e
+  part_explained asked is (Some part) e =
+      let text = segment_data (segment_name asked.kind seen.policy.table_number asked.segment) part.0 part.1 in
+      each_is seen event (list_answer seen.policy face asked) _ e (one_send (IsExplained seen event) (face, text) (hand text (inr (inr (inr (asked, is, e))))))
+
+  -- the answer to an Interest for a list, by whether its version is the present one
+  abbrev by_present : ListAsked → Bool → Answer
+  by_present asked b =
+      if b then segment_answer face (segment_name asked.kind seen.policy.table_number asked.segment) (segment_at (dataset_text seen.policy asked.kind) asked.segment) else dropped NoSegment
 
   list_explained : (asked : ListAsked) → list_asked i ≡ Some asked → EachIsExplained seen event (list_answer seen.policy face asked)
-  list_explained asked is = by_version (is_present seen.policy asked.version)
+  list_explained asked is = by_version (is_present seen.policy asked.version) refl
     where
-      by_version : (b : Bool) → EachIsExplained seen event (if b then segment_answer face (segment_name asked.kind seen.policy.table_number asked.segment) (segment_at (dataset_text seen.policy asked.kind) asked.segment) else dropped NoSegment)
-      by_version true = part_explained asked is (segment_at (dataset_text seen.policy asked.kind) asked.segment)
-      by_version false = All-nil (IsExplained seen event)
+      by_version : (b : Bool) → is_present seen.policy asked.version ≡ b → EachIsExplained seen event (list_answer seen.policy face asked)
+      by_version true e = part_explained asked is (segment_at (dataset_text seen.policy asked.kind) asked.segment) (ap (by_present asked) e)
+      by_version false e = no_sends seen event (list_answer seen.policy face asked) NoSegment (ap (by_present asked) e)
 
   forwarded_explained : (key : PlainKey) (choice : Choice) → EachIsExplained seen event (forwarded seen key whole i face choice)
   forwarded_explained key choices.NoRoute = one_send (IsExplained seen event) (face, nack_text NO_ROUTE whole) (nack_explained seen event face NO_ROUTE whole)
@@ -192,8 +200,8 @@ module _ (seen : Seen) (face now : ℕ) (octets whole : List ℕ) (i : PlainInte
   pub interest_explained : (answer : Answer) (r : Request) → request_of seen.policy face i ≡ r → RepliesToRequest seen face whole i answer r → EachIsExplained seen event answer
   interest_explained answer (Refused reason) e h = no_sends seen event answer reason h
   interest_explained answer (ForList asked) e h = each_is seen event answer (list_answer seen.policy face asked) h (list_explained asked (for_list seen.policy face i asked e))
-  interest_explained answer ForTables e h = each_is seen event answer (command_answer seen.policy face i h.0) h.2 (command_explained (ap is_command e) h.0)
-  interest_explained answer ForRepository e h = each_is seen event answer (command_answer seen.policy face i h.0) h.2 (command_explained (ap is_command e) h.0)
+  interest_explained answer ForTables e h = each_is seen event answer (command_answer seen.policy face i h.0) h.2 (command_explained (ap is_command e) h.0 h.1)
+  interest_explained answer ForRepository e h = each_is seen event answer (command_answer seen.policy face i h.0) h.2 (command_explained (ap is_command e) h.0 h.1)
   interest_explained answer ForData e h = data_explained answer h
 
 -- ---- a Data, a Nack, and all events

@@ -2,19 +2,18 @@
 use Rattle.std.proofs.Common.{◌≡◌, ℕ, zero, suc, refl, ◌+◌, ◌≤◌, List, [], ◌∷◌, ◌++◌, length, sym, ap, ◌∙◌, arith, append_assoc, append-nil, subst, take}
 use Rattle.std.specs.Prelude.{Option, Some, None, IfSome, Result, Ok, Err, IfErr, MatchOption}
 use Rattle.std.specs.Io.KnownBytes.{Appends, Consumes, IsAtEnd}
-use Rattle.node_core.specs.Event.{PlainEvent}
 use Rattle.ndn_tlv.specs.Element.{Field}
 use Rattle.hmac_keys.specs.KeyFile.{NamedKey}
 use Rattle.info_rules.specs.Rule.{PlainRule}
 use Rattle.node_core.specs.Node.{NodeState}
 use Rattle.node_core.specs.Parts.{first_node}
-use Rattle.node_core.specs.Policy.{Policy, first_policy}
+use Rattle.node_core.specs.Policy.{first_policy}
 use Rattle.node_core.specs.Script.Line.{Lacks}
-use Rattle.node_core.specs.Runs.{Run, Start, Then, IsRun, Stands}
-use Rattle.node_core.proofs.Standing.{new_stands, refused_stands, step_goes_on}
-use Rattle.node_core.specs.Script.{AreOutcomes, run_from, ended, joined, IsScript, BeginsWithEvents, IsBadAt, IsTextOfRun}
+use Rattle.node_core.specs.Runs.{Start}
+use Rattle.node_core.proofs.Outcomes.{runs_stand}
+use Rattle.node_core.proofs.Standing.{new_stands}
+use Rattle.node_core.specs.Script.{ended, joined, IsScript, BeginsWithEvents, IsBadAt, IsTextOfRun}
 use Rattle.node_core.specs.Script.Ending.{Ends, Stops}
-use Rattle.node_core.specs.Script.Writing.{Outcome, Answered, NoMemory}
 use Rattle.node_core.specs.Script.Play.{IsNew, IsStart, Place, Plays, TurnsBad, FeedStops, LineStops}
 use Rattle.node_core.specs.declared.node.NodeFault.{NodeFault}
 use Rattle.node_core.specs.declared.node.NodeFault.TheVariants.{Memory}
@@ -55,20 +54,6 @@ known_end None left P front h e k = tt
 known_end (Some xs) None P front h e k = absurd h
 known_end (Some xs) (Some ys) P front h e k =
     subst P (sym (h ∙ ap (λ (t : List ℕ). front ++ t) e ∙ append-nil front)) k
-
--- ---- runs
-
--- a run of a script is a run, in which the node stands
-runs_stand : (first : Policy) (past : Run) (old new : NodeState) (events : List PlainEvent) (outcomes : List Outcome) → first.now ≡ 0 → AreOutcomes old events outcomes new → IsRun first past
-    → Stands first past old → IsRun first (run_from past events outcomes) × Stands first (run_from past events outcomes) new
-runs_stand first past old new [] [] begins runs run stands = (run, subst (Stands first past) (sym runs) stands)
-runs_stand first past old new [] (outcome ∷ outcomes) begins runs run stands = absurd runs
-runs_stand first past old new (event ∷ events) [] begins runs run stands = absurd runs
-runs_stand first past old new (event ∷ events) (Answered answer ∷ outcomes) begins runs run stands =
-    let next = step_goes_on first past old runs.0 event answer begins run stands runs.1 in
-    runs_stand first (Then past event answer) runs.0 new events outcomes begins runs.2 next.0 next.1
-runs_stand first past old new (event ∷ events) (NoMemory ∷ outcomes) begins runs run stands =
-    runs_stand first past runs.0 new events outcomes begins runs.2 run (refused_stands first past old runs.0 stands runs.1.0)
 
 -- ---- what comes after octets that were fed
 

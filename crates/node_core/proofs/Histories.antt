@@ -22,7 +22,7 @@ use Rattle.node_core.specs.Commands.{command_answer}
 use Rattle.node_core.specs.Replies.{Replies, RepliesBySaid, RepliesToCommand, RepliesToData, RepliesToPacket, RepliesToRequest}
 use Rattle.node_core.specs.Effects.{IsAfter}
 use Rattle.node_core.specs.Runs.{Run, Start, Then, BringsData, BringsRequest, HaveOneHistory, IsDataPacket, IsPolicyOf, IsRequestPacket, MayCache, MayReply, is_request, seen_after}
-use Rattle.node_core.proofs.Moments.{policy_keys}
+use Rattle.node_core.proofs.LaterMoments.{policy_keys}
 use Rattle.node_core.proofs.RunSteps.{seen_with}
 use Rattle.node_core.proofs.OneEffect.{one_effect, one_said}
 

@@ -255,21 +255,24 @@ module _ (seen : Seen) (event : PlainEvent) (answer : Answer) (face : ℕ) (whol
   never : {A : Type 0} (v : Verdict) → answer.verdict ≡ v → (v ≡ Passed → ⊥) → A
   never v e other = absurd (other (sym e ∙ is.passed))
 
-  hand : (octets : List ℕ) → answer ≡ passed ((face, octets) ∷ []) → IsAtHand seen face i octets → GoesOn answer.sends
+  hand : (octets : List ℕ) → answer ≡ passed ((face, octets) ∷ []) → IsAtHand seen face whole i octets → GoesOn answer.sends
   hand octets e h = inr (octets, ap (λ (a : Answer). a.sends) e, inr h)
 
-  on_list : (asked : ListAsked) → list_asked i ≡ Some asked → answer ≡ list_answer seen.policy face asked → GoesOn answer.sends
-  on_list asked found e = by_version (is_present seen.policy asked.version) e
-    where
-      by_part : (part : Option (List ℕ × ℕ)) → answer ≡ segment_answer face (segment_name asked.kind seen.policy.table_number asked.segment) part → GoesOn answer.sends
-      by_part None e = never (Dropped NoSegment) (ap (λ (a : Answer). a.verdict) e) (λ f. cc f)
-      by_part (Some part) e = hand _ e (inr (inr (inr (asked, part.0, part.1, found, refl))))
+  -- the answer to an Interest for a list, by whether its version is the present one
+  abbrev by_present : ListAsked → Bool → Answer
+  by_present asked b =
+      cond b (segment_answer face (segment_name asked.kind seen.policy.table_number asked.segment) (segment_at (dataset_text seen.policy asked.kind) asked.segment)) (dropped NoSegment)
 
-      by_version : (b : Bool)
-          → answer ≡ cond b (segment_answer face (segment_name asked.kind seen.policy.table_number asked.segment) (segment_at (dataset_text seen.policy asked.kind) asked.segment)) (dropped NoSegment)
-          → GoesOn answer.sends
-      by_version true e = by_part (segment_at (dataset_text seen.policy asked.kind) asked.segment) e
-      by_version false e = never (Dropped NoSegment) (ap (λ (a : Answer). a.verdict) e) (λ f. cc f)
+  on_list : (asked : ListAsked) → list_asked i ≡ Some asked → answer ≡ list_answer seen.policy face asked → GoesOn answer.sends
+  on_list asked found e = by_version (is_present seen.policy asked.version) refl
+    where
+      by_part : (part : Option (List ℕ × ℕ)) → list_answer seen.policy face asked ≡ segment_answer face (segment_name asked.kind seen.policy.table_number asked.segment) part → GoesOn answer.sends
+      by_part None is = never (Dropped NoSegment) (ap (λ (a : Answer). a.verdict) (e ∙ is)) (λ f. cc f)
+      by_part (Some part) is = hand _ (e ∙ is) (inr (inr (inr (asked, found, is))))
+
+      by_version : (b : Bool) → is_present seen.policy asked.version ≡ b → GoesOn answer.sends
+      by_version true is = by_part (segment_at (dataset_text seen.policy asked.kind) asked.segment) (ap (by_present asked) is)
+      by_version false is = never (Dropped NoSegment) (ap (λ (a : Answer). a.verdict) (e ∙ ap (by_present asked) is)) (λ f. cc f)
 
   on_command : (said : Decision) → answer ≡ command_answer seen.policy face i said → GoesOn answer.sends
   on_command (decided.Allowed rule) e = never _ (ap (λ (a : Answer). a.verdict) e) (λ f. cc f)

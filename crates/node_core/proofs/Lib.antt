@@ -3,7 +3,9 @@ pub mod Numbers
 pub mod Words
 pub mod Known
 pub mod Outboxes
+pub mod Outcomes
 pub mod Playing
+pub mod Serving
 pub mod Finishing
 pub mod Chosen
 pub mod Soundness
@@ -12,7 +14,7 @@ pub mod Members
 pub mod Shown
 pub mod OneReading
 mod OneEffect
-pub mod Moments
+pub mod LaterMoments
 pub mod Requests
 pub mod RunSteps
 pub mod RunCaches

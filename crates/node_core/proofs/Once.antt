@@ -29,7 +29,7 @@ use Rattle.node_core.specs.Effects.{IsAfter, IsEffect, after_packet, after_said,
 use Rattle.node_core.specs.Runs.{Run, Start, Then, IsPolicyOf}
 use Rattle.node_core.specs.Allowed.{Allows, AllowedIn}
 use Rattle.node_core.proofs.Histories.{one_history, one_policy}
-use Rattle.node_core.proofs.Moments.{policy_keys}
+use Rattle.node_core.proofs.LaterMoments.{policy_keys}
 use Rattle.node_core.proofs.OneEffect.{one_said}
 
 -- ---- what an event does to the guard: nothing, or it records an allowed command

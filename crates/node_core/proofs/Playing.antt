@@ -14,12 +14,14 @@ use Rattle.node_core.specs.Policy.{Policy}
 use Rattle.node_core.specs.Verdict.{verdict_of}
 use Rattle.std.specs.Prelude.{IsOk}
 use Rattle.node_core.specs.Script.Line.{Lacks, IsSkipped, IsEventLine, IsBadLine}
-use Rattle.node_core.specs.Script.Writing.{Outcome, Answered, NoMemory, said_text, lines_text, outcome_text, outcomes_text}
-use Rattle.node_core.specs.Script.{ended, joined, AreLines, Say, IsOutcome, AreOutcomes}
+use Rattle.node_core.specs.Outcomes.{Outcome, Answered, NoMemory, IsOutcome, AreOutcomes}
+use Rattle.node_core.specs.Script.Writing.{said_text, lines_text, outcome_text, outcomes_text}
+use Rattle.node_core.specs.Script.{ended, joined, AreLines, Say}
 use Rattle.node_core.specs.Script.Play.{Place, IsPending, PlaysEvent, EventStops, AddStops, Plays, TurnsBad, FeedStops, LineStops}
 use Rattle.node_core.specs.declared.script.RunFault.{RunFault}
 use Rattle.node_core.specs.declared.script.RunFault.TheVariants as fault
-use Rattle.node_core.proofs.Moments.{after_rules}
+use Rattle.node_core.proofs.LaterMoments.{after_rules}
+use Rattle.node_core.proofs.Outcomes.{AreOutcomes-append}
 use Rattle.node_core.proofs.Known.{Appends-start, Appends-then, Appends-kept, AppendsFront-after, AppendsFront-all}
 
 -- ---- one reply
@@ -122,12 +124,6 @@ Say-append (l ∷ a) b [] [] ha hb = (ha.0, Say-append a b [] [] ha.1 hb)
 Say-append (l ∷ a) b [] (f ∷ fs) ha hb = inl (ha.0, Say-append a b [] (f ∷ fs) ha.1 hb)
 Say-append (l ∷ a) b (e ∷ es) fs (inl h) hb = inl (h.0, Say-append a b (e ∷ es) fs h.1 hb)
 Say-append (l ∷ a) b (e ∷ es) fs (inr h) hb = inr (h.0, Say-append a b es fs h.1 hb)
-
-AreOutcomes-append : (a b c : NodeState) (es fs : List PlainEvent) (rs ss : List Outcome) → AreOutcomes a es rs b → AreOutcomes b fs ss c → AreOutcomes a (es ++ fs) (rs ++ ss) c
-AreOutcomes-append a b c [] fs [] ss h k = rw h at k
-AreOutcomes-append a b c [] fs (r ∷ rs) ss h k = absurd h
-AreOutcomes-append a b c (e ∷ es) fs [] ss h k = absurd h
-AreOutcomes-append a b c (e ∷ es) fs (r ∷ rs) ss h k = (h.0, h.1, AreOutcomes-append h.0 b c es fs rs ss h.2 k)
 
 outcomes_text-append : (rules : List PlainRule) (n : ℕ) (rs ss : List Outcome) → outcomes_text rules n (rs ++ ss) ≡ outcomes_text rules n rs ++ outcomes_text rules (n + length rs) ss
 outcomes_text-append rules n [] ss = let e : n + 0 ≡ n = omega arith in rw e refl

@@ -42,7 +42,7 @@ use Rattle.node_core.specs.Effects.{IsEffect, after_said, can_open, decided_pack
 use Rattle.node_core.specs.Runs.{Run, Start, Then, IsPolicyOf, IsRun, MayCache, seen_after}
 use Rattle.node_core.specs.Hops.{cost_after, cost_after_closing, cost_after_command, cost_after_packet, cost_of, is_done}
 use Rattle.node_core.proofs.Histories.{one_history, one_policy}
-use Rattle.node_core.proofs.Moments.{policy_keys}
+use Rattle.node_core.proofs.LaterMoments.{policy_keys}
 use Rattle.node_core.proofs.OneEffect.{one_said}
 use Rattle.node_core.proofs.Requests.{by_request, no_command}
 use Rattle.node_core.proofs.RunSteps.{seen_with}

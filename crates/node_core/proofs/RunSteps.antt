@@ -22,7 +22,7 @@ use Rattle.node_core.specs.Replies.{Seen, Replies, RepliesToPacket, RepliesToReq
 use Rattle.node_core.specs.Causes.{causes_of, after_causes}
 use Rattle.node_core.specs.Node.{NodeState, IsStep}
 use Rattle.node_core.specs.Runs.{Run, Then, IsWaiting, MayCache, MayHold, MayReply, Stands, now_of, records_of}
-use Rattle.node_core.proofs.Moments.{policy_now}
+use Rattle.node_core.proofs.LaterMoments.{policy_now}
 
 either_map : (b : Bool) {A B C D : Type 0} → (A → C) → (B → D) → WhereTrue b A B → WhereTrue b C D
 either_map true f g h = f h

@@ -16,7 +16,7 @@ use Rattle.node_core.specs.Effects.{IsAfter}
 use Rattle.node_core.specs.Replies.{Replies}
 use Rattle.node_core.specs.Causes.{causes_of, after_causes}
 use Rattle.node_core.specs.Runs.{Run, Start, Then, Brings, ErasesData, HasTicksFor, IsPolicyOf, IsRun, IsWaiting, MayCache, MayHold, MayReply, is_denied, now_of, records_of, seen_after}
-use Rattle.node_core.proofs.Moments.{policy_keys}
+use Rattle.node_core.proofs.LaterMoments.{policy_keys}
 use Rattle.node_core.proofs.Histories.{one_history, one_policy}
 use Rattle.node_core.proofs.Denials.{denied_brings, denied_causes, denied_effect}
 use Rattle.node_core.proofs.RunSteps.{more_replies}

@@ -149,23 +149,30 @@ denial_text p rule reason = reason_name reason ++ (codes " by " ++ id_of p.rules
 abbrev pub replied : ℕ → PlainInterest → List ℕ → Send
 replied face i content = (face, reply_text i.name content)
 
+-- the Content of the reply to a command, of which this is said
+abbrev pub reply_content : Policy → ℕ → PlainInterest → Decision → List ℕ
+reply_content p face i (decided.Allowed rule) =
+    (allowed_reply p face i (request_of p face i)).content
+reply_content p face i (decided.Denied rule reason) =
+    refused_content (request_of p face i) (denial_text p rule.0 reason)
+reply_content p face i decided.NoRule = refused_content (request_of p face i) (codes "no rule")
+
 -- how a command is answered, of which this is said
 abbrev pub command_answer : Policy → ℕ → PlainInterest → Decision → Answer
 command_answer p face i (decided.Allowed rule) =
     let reply = allowed_reply p face i (request_of p face i) in
     record {
       verdict = Allowed rule.0 reply.status;
-      sends = replied face i reply.content ∷ reply.fetches;
+      sends = replied face i (reply_content p face i (decided.Allowed rule)) ∷ reply.fetches;
     }
-command_answer p face i (decided.Denied rule reason) =
-    let content = refused_content (request_of p face i) (denial_text p rule.0 reason) in
-    record {
-      verdict = Denied kinds.Interest rule.0 reason;
-      sends = replied face i content ∷ [];
-    }
-command_answer p face i decided.NoRule =
-    let content = refused_content (request_of p face i) (codes "no rule") in
-    record { verdict = NoRule kinds.Interest; sends = replied face i content ∷ [] }
+command_answer p face i (decided.Denied rule reason) = record {
+  verdict = Denied kinds.Interest rule.0 reason;
+  sends = replied face i (reply_content p face i (decided.Denied rule reason)) ∷ [];
+}
+command_answer p face i decided.NoRule = record {
+  verdict = NoRule kinds.Interest;
+  sends = replied face i (reply_content p face i decided.NoRule) ∷ [];
+}
 
 -- the signer, time and number of an allowed command are recorded
 abbrev pub with_record : Policy → Option Recorded → Policy

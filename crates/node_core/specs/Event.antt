@@ -3,6 +3,8 @@ use Rattle.std.specs.Prelude.{ℕ, List, map}
 use Rattle.node_core.specs.declared.event.Scope.{Scope}
 use Rattle.node_core.specs.declared.event.Event.{Event}
 use Rattle.node_core.specs.declared.event.Event.TheVariants as code
+use Rattle.node_core.specs.declared.event.OwnedEvent.{OwnedEvent}
+use Rattle.node_core.specs.declared.event.OwnedEvent.TheVariants as owned
 
 pub data PlainEvent : Type 0 where
   Packet : (face now : ℕ) (octets : List ℕ) → PlainEvent
@@ -16,6 +18,12 @@ plain (code.Packet face now octets) = Packet face now octets.now
 plain (code.FaceUp face scope now) = FaceUp face scope now
 plain (code.FaceDown face now) = FaceDown face now
 plain (code.Tick now) = Tick now
+
+abbrev pub plain_owned : OwnedEvent → PlainEvent
+plain_owned (owned.Packet face now octets) = Packet face now octets.items
+plain_owned (owned.FaceUp face scope now) = FaceUp face scope now
+plain_owned (owned.FaceDown face now) = FaceDown face now
+plain_owned (owned.Tick now) = Tick now
 
 abbrev pub moment : PlainEvent → ℕ
 moment (Packet face now octets) = now

@@ -48,4 +48,4 @@ IsSentOn face whole i sends =
 abbrev pub IsAnswered : Seen → ℕ → List ℕ → PlainInterest → List Send → Type 0
 IsAnswered seen face whole i sends =
     (octets : List ℕ) × (sends ≡ (face, octets) ∷ [])
-    × ((octets ≡ nack_text NO_ROUTE whole) ⊎ IsAtHand seen face i octets)
+    × ((octets ≡ nack_text NO_ROUTE whole) ⊎ IsAtHand seen face whole i octets)

@@ -1,4 +1,6 @@
 pub mod Event
+pub mod Ports
+pub mod Udp
 pub mod Faces
 pub mod Parts
 pub mod Outbox
@@ -15,6 +17,7 @@ pub mod Effects
 pub mod Causes
 pub mod Node
 pub mod Runs
+pub mod Outcomes
 pub mod Sends
 pub mod Allowed
 pub mod Hops

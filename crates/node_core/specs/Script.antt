@@ -2,10 +2,11 @@
 use Rattle.std.specs.Prelude.{◌≡◌, ℕ, ◌+◌, ◌⊎◌, List, [], ◌∷◌, ◌++◌, length}
 use Rattle.std.specs.List.{AllByRecursion, flat_map}
 use Rattle.node_core.specs.Event.{PlainEvent}
-use Rattle.node_core.specs.Node.{NodeState, IsStep, Unharmed, AsksNoMemory}
-use Rattle.node_core.specs.Runs.{Run, Start, Then, IsRun, Stands}
+use Rattle.node_core.specs.Node.{NodeState}
+use Rattle.node_core.specs.Outcomes.{Outcome, AreOutcomes, run_from}
+use Rattle.node_core.specs.Runs.{Start, IsRun, Stands}
 use Rattle.node_core.specs.Script.Line.{Lacks, IsSkipped, IsEventLine, IsBadLine}
-use Rattle.node_core.specs.Script.Writing.{Outcome, Answered, NoMemory, script_text}
+use Rattle.node_core.specs.Script.Writing.{script_text}
 pub mod Line
 pub mod Writing
 pub mod Ending
@@ -56,29 +57,6 @@ IsBadAt text n events =
     (lines : List (List ℕ)) × (line rest : List ℕ)
     × BeginsWithLines text lines (ended line ++ rest) × Lacks 10 line × (n ≡ length lines + 1)
     × Say lines events × IsBadLine line
-
--- How an event is replied to: by a step, or not handled for want of memory. The cache may then have
--- forgotten some.
-abbrev pub IsOutcome : NodeState → PlainEvent → Outcome → NodeState → Type 0
-IsOutcome old event (Answered answer) new = IsStep old event answer new
-IsOutcome old event NoMemory new = Unharmed old new × (AsksNoMemory old event → ⊥)
-
--- the events are replied to in order
-abbrev pub AreOutcomes : NodeState → List PlainEvent → List Outcome → NodeState → Type 0
-AreOutcomes old [] [] new = new ≡ old
-AreOutcomes old [] (done_as ∷ outcomes) new = ⊥
-AreOutcomes old (event ∷ events) [] new = ⊥
-AreOutcomes old (event ∷ events) (done_as ∷ outcomes) new =
-    (next : NodeState) × IsOutcome old event done_as next × AreOutcomes next events outcomes new
-
--- a run with these events and the answers to them. An event that had no memory counts as not having
--- come.
-abbrev pub run_from : Run → List PlainEvent → List Outcome → Run
-run_from past [] outcomes = past
-run_from past (event ∷ events) [] = past
-run_from past (event ∷ events) (Answered answer ∷ outcomes) =
-    run_from (Then past event answer) events outcomes
-run_from past (event ∷ events) (NoMemory ∷ outcomes) = run_from past events outcomes
 
 -- the text that the events write, from this node's first event on
 pub record IsTextOfRun (first : NodeState) (events : List PlainEvent) (text : List ℕ) : Type 0 where

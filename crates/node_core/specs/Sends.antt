@@ -8,14 +8,17 @@ use Rattle.ndn_packets.specs.Packet.{PlainInterest, PlainData, AnInterest, AData
 use Rattle.ndn_packets.specs.Writing.{AreOctets, reply_text}
 use Rattle.ndn_packets.specs.declared.types.TheConstants.{DATA}
 use Rattle.info_rules.specs.declared.rules.RuleNo.{RuleNo}
+use Rattle.info_rules.specs.declared.decision.Decision.{Decision}
 use Rattle.info_rules.specs.declared.decision.Decision.TheVariants.{Allowed}
 use Rattle.repo_core.specs.Objects.{served}
 use Rattle.node_core.specs.Event.{PlainEvent, Packet, FaceUp, FaceDown, Tick, Send}
 use Rattle.node_core.specs.Said.{IsSaid}
-use Rattle.node_core.specs.Datasets.{segment_data, segment_name}
+use Rattle.node_core.specs.Commands.{reply_content}
+use Rattle.node_core.specs.Datasets.{list_answer}
+use Rattle.node_core.specs.Policy.{Policy}
 use Rattle.node_core.specs.Request.{ListAsked, is_command, list_asked, request_of}
 use Rattle.node_core.specs.Replies.{Seen, Waits}
-use Rattle.node_core.specs.Verdict.{Answer}
+use Rattle.node_core.specs.Verdict.{Answer, passed}
 
 -- The event brings a Data that is allowed. Its received octets go to another face, which waits for
 -- it: under some key that it answers, an Interest is pending there.
@@ -33,18 +36,27 @@ pub record IsForwardedData (seen : Seen) (event : PlainEvent) (sent : Send) : Ty
   pub waits : Waits seen packet.name (sha256 whole) sent.0
   pub received : sent.1 ≡ whole
 
+-- the reply to a command, by what is said of it
+abbrev pub IsReplyToCommand : Policy → ℕ → List ℕ → PlainInterest → List ℕ → Type 0
+IsReplyToCommand p face whole i octets =
+    (is_command (request_of p face i) ≡ true)
+    × ((said : Decision) × IsSaid p (AnInterest whole i) said
+    × (octets ≡ reply_text i.name (reply_content p face i said)))
+
+-- the segment that is asked for, of the list as it is now
+abbrev pub IsSegmentAskedFor : Policy → ℕ → PlainInterest → List ℕ → Type 0
+IsSegmentAskedFor p face i octets =
+    (asked : ListAsked) × (list_asked i ≡ Some asked)
+    × (list_answer p face asked ≡ passed ((face, octets) ∷ []))
+
 -- where a Data comes from that answers an Interest at once: the cache gives it, the repository
--- stores it, or the node makes it: a reply to a command, or the segment of the list that is asked
--- for
-abbrev pub IsAtHand : Seen → ℕ → PlainInterest → List ℕ → Type 0
-IsAtHand seen face i octets =
+-- stores it, or the node makes it
+abbrev pub IsAtHand : Seen → ℕ → List ℕ → PlainInterest → List ℕ → Type 0
+IsAtHand seen face whole i octets =
     seen.MayGive (key_of i) (Some octets)
     ⊎ ((served i.name i.can_be_prefix seen.policy.held.objects ≡ Some octets)
-    ⊎ (((is_command (request_of seen.policy face i) ≡ true)
-    × ((content : List ℕ) × (octets ≡ reply_text i.name content)))
-    ⊎ ((asked : ListAsked) × (content : List ℕ) × (last : ℕ) × (list_asked i ≡ Some asked)
-    × (octets ≡ segment_data (segment_name asked.kind seen.policy.table_number asked.segment)
-    content last))))
+    ⊎ (IsReplyToCommand seen.policy face whole i octets
+    ⊎ IsSegmentAskedFor seen.policy face i octets))
 
 -- the event brings an Interest, and such a Data goes back to its face
 pub record IsReply (seen : Seen) (event : PlainEvent) (sent : Send) : Type 0 where
@@ -54,7 +66,7 @@ pub record IsReply (seen : Seen) (event : PlainEvent) (sent : Send) : Type 0 whe
   pub interest : PlainInterest
   pub brings : event ≡ Packet sent.0 now octets
   pub read : frame_at octets ≡ Ok (AnInterest whole interest)
-  pub at_hand : IsAtHand seen sent.0 interest sent.1
+  pub at_hand : IsAtHand seen sent.0 whole interest sent.1
 
 -- whether octets are those of a Data, by their first one, which is its type
 abbrev pub is_data : List ℕ → Bool

@@ -1,6 +1,7 @@
 //! The forwarder as a machine over events.
 #![tactic(auto)]
 
+mod answer;
 mod command;
 mod data;
 mod dataset;
@@ -16,6 +17,7 @@ mod node;
 mod open_faces;
 mod outbox;
 mod packet;
+mod ports;
 mod reply;
 mod request;
 mod script;
@@ -23,7 +25,8 @@ mod sends;
 mod state;
 mod verdict;
 
-pub use event::{Event, Scope};
+pub use answer::{put_refused, put_sends, put_verdict};
+pub use event::{Event, OwnedEvent, Scope};
 pub use law::{
     cached_data_were_allowed, commands_are_allowed_once, denials_name_their_rule,
     denied_events_change_nothing, each_send_is_explained, events_have_one_effect,
@@ -34,5 +37,9 @@ pub use law::{
 };
 pub use node::{Node, NodeFault, NodeParts};
 pub use outbox::Outbox;
+pub use ports::{
+    ANSWER_SECONDS, Arrival, MemoryPorts, Moments, PortFault, Ports, ServeFault, Served, Turn,
+    UdpPorts, receive_one, send_from, send_one, serve, serve_turn,
+};
 pub use script::{RunFault, run_script, scripts_have_one_reading};
 pub use verdict::{DropReason, Verdict};

@@ -4,7 +4,6 @@ ghost use Rattle.node_core.specs.Event.{PlainEvent};
 ghost use Rattle.node_core.specs.Script.{IsScript, IsBadAt};
 ghost use Rattle.node_core.specs.Script.Ending.{Ends, Stops, ComesWithGoodParts};
 
-mod answer;
 mod input;
 mod line;
 mod output;

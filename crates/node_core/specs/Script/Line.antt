@@ -7,9 +7,7 @@ use Rattle.node_core.specs.declared.event.Scope.{Scope}
 use Rattle.node_core.specs.declared.event.Scope.TheVariants.{Local, Far}
 use Rattle.node_core.specs.declared.script.line.Line.{Line}
 use Rattle.node_core.specs.declared.script.line.Line.TheVariants as said
-use Rattle.node_core.specs.declared.script.line.LineEvent.{LineEvent}
-use Rattle.node_core.specs.declared.script.line.LineEvent.TheVariants as code
-use Rattle.node_core.specs.Event.{PlainEvent, Packet, FaceUp, FaceDown, Tick}
+use Rattle.node_core.specs.Event.{PlainEvent, Packet, FaceUp, FaceDown, Tick, plain_owned}
 
 -- the octet does not stand in the text
 abbrev pub Lacks : ℕ → List ℕ → Type 0
@@ -63,15 +61,8 @@ IsEventLine event line = IsShort line × LineSpells event line
 abbrev pub IsBadLine : List ℕ → Type 0
 IsBadLine line = (IsSkipped line → ⊥) × ((event : PlainEvent) → IsEventLine event line → ⊥)
 
--- an event without where its octets lie in memory
-abbrev pub plain_line : LineEvent → PlainEvent
-plain_line (code.Packet face now octets) = Packet face now octets.items
-plain_line (code.FaceUp face scope now) = FaceUp face scope now
-plain_line (code.FaceDown face now) = FaceDown face now
-plain_line (code.Tick now) = Tick now
-
 -- what a line says
 abbrev pub LineIs : Line → List ℕ → Type 0
 LineIs said.Skipped line = IsSkipped line
-LineIs (said.Event event) line = IsEventLine (plain_line event) line
+LineIs (said.Event event) line = IsEventLine (plain_owned event) line
 LineIs said.Bad line = IsBadLine line

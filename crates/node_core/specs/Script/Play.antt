@@ -3,10 +3,11 @@ use Rattle.std.specs.Prelude.{◌≡◌, ℕ, ◌+◌, ◌<◌, ◌≤◌, ◌^�
 use Rattle.std.specs.Io.KnownBytes.{Appends, Keeps}
 use Rattle.node_core.specs.Event.{PlainEvent}
 use Rattle.node_core.specs.Node.{NodeState}
+use Rattle.node_core.specs.Outcomes.{Outcome, IsOutcome, AreOutcomes}
 use Rattle.node_core.specs.Runs.{Start, Stands}
 use Rattle.node_core.specs.Script.Line.{Lacks, IsBadLine}
-use Rattle.node_core.specs.Script.Writing.{Outcome, outcome_text, outcomes_text}
-use Rattle.node_core.specs.Script.{AreLines, IsOutcome, AreOutcomes, Say, ended, joined}
+use Rattle.node_core.specs.Script.Writing.{outcome_text, outcomes_text}
+use Rattle.node_core.specs.Script.{AreLines, Say, ended, joined}
 use Rattle.node_core.specs.Script.Ending.{AppendsFront}
 use Rattle.node_core.specs.declared.script.player.Player.{Player}
 use Rattle.node_core.specs.declared.script.RunFault.{RunFault}

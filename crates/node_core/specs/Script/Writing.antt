@@ -12,7 +12,8 @@ use Rattle.info_rules.specs.declared.rule.Kind.TheVariants as kinds
 use Rattle.node_core.specs.declared.verdict.Verdict as code
 use Rattle.node_core.specs.Commands.{id_of}
 use Rattle.node_core.specs.Event.{Send}
-use Rattle.node_core.specs.Verdict.{Answer, DropReason, NoFace, Malformed, Idle, HopLimit, Scope, Loop, PitFull, NoPending, NoSegment, BadFace, FaceOpen, FacesFull, Verdict, Passed, Allowed, DataAllowed, Denied, NoRule, Dropped, verdict_of}
+use Rattle.node_core.specs.Outcomes.{Outcome, Answered, NoMemory}
+use Rattle.node_core.specs.Verdict.{DropReason, NoFace, Malformed, Idle, HopLimit, Scope, Loop, PitFull, NoPending, NoSegment, BadFace, FaceOpen, FacesFull, Verdict, Passed, Allowed, DataAllowed, Denied, NoRule, Dropped, verdict_of}
 
 abbrev pub drop_name : DropReason → List ℕ
 drop_name NoFace = codes "NoFace"
@@ -43,11 +44,6 @@ verdict_text rules (Denied kind rule reason) =
 verdict_text rules (NoRule kind) = codes "no-rule " ++ kind_name kind
 verdict_text rules (Dropped why) = codes "dropped " ++ drop_name why
 
--- how an event of a script was handled: answered, or refused for want of memory
-pub data Outcome : Type 0 where
-  Answered : (answer : Answer) → Outcome
-  NoMemory : Outcome
-
 abbrev pub said_text : List PlainRule → Result code.Verdict Memory → List ℕ
 said_text rules (Ok said) = verdict_text rules (verdict_of said)
 said_text rules (Err _) = codes "memory"
@@ -61,9 +57,13 @@ hex_word (o ∷ octets) = encode_lower (o ∷ octets)
 abbrev pub send_text : Send → List ℕ
 send_text sent = codes "> " ++ (decimal sent.0 ++ (32 ∷ (hex_word sent.1 ++ (10 ∷ []))))
 
--- the line of an event, by its number, and those of its sends
+-- the line of an event, by its number
+abbrev pub said_line : ℕ → List ℕ → List ℕ
+said_line number said = decimal number ++ (32 ∷ (said ++ (10 ∷ [])))
+
+-- the line of an event, and those of its sends
 abbrev pub lines_text : ℕ → List ℕ → List Send → List ℕ
-lines_text number said sends = decimal number ++ (32 ∷ (said ++ (10 ∷ flat_map send_text sends)))
+lines_text number said sends = said_line number said ++ flat_map send_text sends
 
 abbrev pub outcome_text : List PlainRule → ℕ → Outcome → List ℕ
 outcome_text rules number (Answered answer) =

@@ -1,16 +1,18 @@
 ghost use Rattle.std.specs.Prelude.{◌≡◌, ◌+◌, ◌≤◌, List, [], ◌∷◌, ◌++◌, ℕ, length, OnOk, IfErr};
 ghost use Rattle.std.specs.Io.KnownBytes.{Appends};
-ghost use Rattle.node_core.specs.Script.Line.{Lacks, plain_line};
+ghost use Rattle.node_core.specs.Event.{plain_owned};
+ghost use Rattle.node_core.specs.Script.Line.{Lacks};
 ghost use Rattle.node_core.specs.Script.{joined};
 ghost use Rattle.node_core.specs.Script.Ending.{Ends, Stops, ComesWithGoodParts};
 ghost use Rattle.node_core.specs.Script.Play.{place_of, HasRoom, IsNear, IsStart, IsPending, PlaysEvent, Plays, EventStops, LineStops, AddStops, FeedStops};
 
+use crate::answer::put_answer;
+use crate::event::OwnedEvent;
 use crate::node::Node;
 use crate::outbox::Outbox;
 use crate::script::RunFault;
-use crate::script::answer::put_answer;
 use crate::script::input::read_some;
-use crate::script::line::{LONGEST_LINE, Line, LineEvent, line_of};
+use crate::script::line::{LONGEST_LINE, Line, line_of};
 use crate::script::output::put_all;
 use crate::script::word::cut;
 use std::alloc::Global;
@@ -125,14 +127,14 @@ impl Player {
     }
 
     // Hands the event to the node, and writes its answer.
-    fn answer<W: Write>(&mut self, writer: &mut W, event: &LineEvent) -> Result<(), RunFault>
+    fn answer<W: Write>(&mut self, writer: &mut W, event: &OwnedEvent) -> Result<(), RunFault>
         requires room { HasRoom (place_of self.old) 1 }
         ensures line { self.new.line ≡ self.old.line }
         ensures handled { OnOk result ((text : List ℕ)
-            × PlaysEvent (plain_line event.now) (place_of self.old) (place_of self.new) text
+            × PlaysEvent (plain_owned event.now) (place_of self.old) (place_of self.new) text
             × Appends (W.contents writer.old) (W.contents writer.new) text) }
         ensures stopped { IfErr result
-            (λ fault. EventStops fault (plain_line event.now) (place_of self.old)
+            (λ fault. EventStops fault (plain_owned event.now) (place_of self.old)
             (W.contents writer.old) (W.contents writer.new)) }
     {
         self.outbox.clear();

@@ -1,7 +1,7 @@
 use Rattle.std.proofs.Common.{refl, []}
 use Rattle.std.proofs.lemmas.Result.{err_from_is_err_and}
 use Rattle.node_core.specs.Script.Play.{place_of}
-use Rattle.node_core.specs.Script.Line.{plain_line}
+use Rattle.node_core.specs.Event.{plain_owned}
 use Rattle.node_core.proofs.Known.{Appends-start}
 use Rattle.node_core.proofs.Playing.{LineStops-from_reply, Plays-skipped, Plays-event}
 use Rattle.node_core.proofs.script.player.Player.end_line.Goals as goal
@@ -12,7 +12,7 @@ returns-in_err-answer-in-Event-clause-stopped g c =
     let line = c.args.self.now.line.items in
     let p = err_from_is_err_and c.from_residual.result c.from_residual.ensures.1 in
     let said = rw (c.in-Event.is, c.as_slice.ensures.value) at c.in-Ok.ensures in
-    let stops = LineStops-from_reply c.in_err-answer-in-Event.field-0.0 line (plain_line c.in-Event.event) (place_of c.args.self.now) _ _ c.requires.whole said c.in_err-answer-in-Event.ensures.stopped in
+    let stops = LineStops-from_reply c.in_err-answer-in-Event.field-0.0 line (plain_owned c.in-Event.event) (place_of c.args.self.now) _ _ c.requires.whole said c.in_err-answer-in-Event.ensures.stopped in
     rw (p.1, p.2) stops
 
 pub returns-clause-played : goal.returns-clause-played
@@ -26,10 +26,10 @@ returns-clause-played g c =
           let said = rw (w.in-Event.is, c.as_slice.ensures.value) at c.in-Ok.ensures in
           let r = w.in_ok-answer-in-Event.ensures.handled in
           rw (w.self-is, w.writer-is)
-          (r.0, Plays-event line (plain_line w.in-Event.event) _ (place_of w.answer.new.self) _ r.0 c.requires.whole said r.1 refl refl refl, r.2)
+          (r.0, Plays-event line (plain_owned w.in-Event.event) _ (place_of w.answer.new.self) _ r.0 c.requires.whole said r.1 refl refl refl, r.2)
       | in-Event+in_ok-answer-in-Event+in-FaceUp-1 w ↦
           let said = rw (w.in-Event.is, c.as_slice.ensures.value) at c.in-Ok.ensures in
           let r = w.in_ok-answer-in-Event.ensures.handled in
           rw (w.self-is, w.writer-is)
-          (r.0, Plays-event line (plain_line w.in-Event.event) _ (place_of w.answer.new.self) _ r.0 c.requires.whole said r.1 refl refl refl, r.2)
+          (r.0, Plays-event line (plain_owned w.in-Event.event) _ (place_of w.answer.new.self) _ r.0 c.requires.whole said r.1 refl refl refl, r.2)
     ]

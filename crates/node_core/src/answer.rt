@@ -3,7 +3,7 @@ ghost use Rattle.std.specs.Fmt.{decimal};
 ghost use Rattle.std.specs.List.{flat_map};
 ghost use Rattle.info_rules.specs.Names.{reason_name};
 ghost use Rattle.node_core.specs.Commands.{id_of};
-ghost use Rattle.node_core.specs.Script.Writing.{drop_name, kind_name as kind_name_of, lines_text, said_text, send_text, verdict_text};
+ghost use Rattle.node_core.specs.Script.Writing.{drop_name, kind_name as kind_name_of, lines_text, said_line, said_text, send_text, verdict_text};
 ghost use Rattle.node_core.specs.Verdict.{reason_of, verdict_of};
 
 use crate::denial::id_of;
@@ -28,14 +28,57 @@ pub fn put_answer(
         (text.new.items ≡ text.old.items
         ++ lines_text number (said_text rules.now outcome.now) outbox.now) }
 {
-    put_number(text, number)?;
-    text.push(b' ')?;
-    put_outcome(text, rules, outcome)?;
-    text.push(b'\n')?;
+    put_outcome(text, number, rules, outcome)?;
     put_sends(alloc, text, outbox)
 }
 
-fn put_sends(alloc: Global, text: &mut Vec<u8>, outbox: &Outbox) -> Result<(), Memory>
+fn put_outcome(
+    text: &mut Vec<u8>,
+    number: u64,
+    rules: &Rules,
+    outcome: &Result<Verdict, Memory>,
+) -> Result<(), Memory>
+    ensures { OnOk result (text.new.items
+        ≡ text.old.items ++ said_line number (said_text rules.now outcome.now)) }
+{
+    match outcome {
+        Ok(verdict) => put_verdict(text, number, verdict, rules),
+        Err(_) => put_refused(text, number),
+    }
+}
+
+/// Appends the line of an event that was answered: its number and its verdict, as a script prints
+/// them. A rule stands by its id, which is empty where there is no rule of its number. After
+/// `Memory` a part of the line may stand there.
+pub fn put_verdict(
+    text: &mut Vec<u8>,
+    number: u64,
+    verdict: &Verdict,
+    rules: &Rules,
+) -> Result<(), Memory>
+    ensures { OnOk result (text.new.items ≡ text.old.items
+        ++ said_line number (verdict_text rules.now (verdict_of verdict.now))) }
+{
+    put_number(text, number)?;
+    text.push(b' ')?;
+    put_said(text, rules, *verdict)?;
+    text.push(b'\n')?;
+    Ok(())
+}
+
+/// Appends the line of an event for which a step had no memory, as a script prints it. After
+/// `Memory` a part of the line may stand there.
+pub fn put_refused(text: &mut Vec<u8>, number: u64) -> Result<(), Memory>
+    ensures { OnOk result
+        (text.new.items ≡ text.old.items ++ said_line number (codes "memory")) }
+{
+    put_number(text, number)?;
+    put_word(text, b" memory\n")
+}
+
+/// Appends a line for each send, as a script prints them: the face, and the octets in hexadecimal or
+/// a dash for none. After `Memory` a part of the lines may stand there.
+pub fn put_sends(alloc: Global, text: &mut Vec<u8>, outbox: &Outbox) -> Result<(), Memory>
     ensures { OnOk result (text.new.items ≡ text.old.items ++ flat_map send_text outbox.now) }
 {
     for i in 0..outbox.len() {
@@ -68,21 +111,7 @@ fn put_number(text: &mut Vec<u8>, number: u64) -> Result<(), Memory>
     write!(text, "{number}").map_err(|_| Memory)
 }
 
-fn put_outcome(
-    text: &mut Vec<u8>,
-    rules: &Rules,
-    outcome: &Result<Verdict, Memory>,
-) -> Result<(), Memory>
-    ensures { OnOk result
-        (text.new.items ≡ text.old.items ++ said_text rules.now outcome.now) }
-{
-    match outcome {
-        Ok(verdict) => put_verdict(text, rules, *verdict),
-        Err(_) => put_word(text, b"memory"),
-    }
-}
-
-fn put_verdict(text: &mut Vec<u8>, rules: &Rules, verdict: Verdict) -> Result<(), Memory>
+fn put_said(text: &mut Vec<u8>, rules: &Rules, verdict: Verdict) -> Result<(), Memory>
     ensures { OnOk result
         (text.new.items ≡ text.old.items ++ verdict_text rules.now (verdict_of verdict)) }
 {

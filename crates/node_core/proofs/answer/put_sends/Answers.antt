@@ -2,8 +2,8 @@ use Rattle.std.proofs.Common.{◌++◌, ◌∙◌, sym, ap, List, ℕ, length, a
 use Rattle.std.specs.List.{flat_map}
 use Rattle.node_core.specs.Script.Writing.{send_text}
 use Rattle.node_core.proofs.Outboxes.{appended, flat_map-take_next, slice_get-there}
-use Rattle.node_core.proofs.script.answer.put_sends.Goals as goal
-use Rattle.node_core.proofs.script.answer.put_sends.Goals.{in-Some+in_ok-put_send, in_default}
+use Rattle.node_core.proofs.answer.put_sends.Goals as goal
+use Rattle.node_core.proofs.answer.put_sends.Goals.{in-Some+in_ok-put_send, in_default}
 
 pub loop-i-preserved : goal.loop-i-preserved
 loop-i-preserved c =

@@ -1,0 +1,239 @@
+-- Turns at a port, one after another.
+use Rattle.std.proofs.Common.{◌≡◌, ℕ, zero, suc, ◌+◌, ◌-◌, ◌^◌, ◌<◌, inl, inr, List, [], ◌∷◌, ◌++◌, length, map, take, refl, sym, ap, ◌∙◌, subst, arith, add-one, add-zero, append_assoc, append-nil, length-append, zero-add}
+use Rattle.std.specs.Prelude.{Option, Some, None, slice_get, true, false, Result, Ok, Err, OnOk, OnErr, IsOk, min}
+use Rattle.std.specs.Result.{is_err}
+use Rattle.std.proofs.lemmas.List.{map-append}
+use Rattle.node_core.specs.Event.{PlainEvent, Send}
+use Rattle.ndn_tlv.specs.declared.memory.Memory.{Memory}
+use Rattle.node_core.specs.declared.ports.serving.TheConstants.{FRAME_ROOM}
+use Rattle.node_core.specs.declared.verdict.Verdict.{Verdict}
+use Rattle.node_core.specs.Node.{NodeState, IsStep, Unharmed, AsksNoMemory}
+use Rattle.node_core.specs.Verdict.{Answer, verdict_of}
+use Rattle.node_core.specs.Outcomes.{Outcome, Answered, NoMemory, IsOutcome, AreOutcomes}
+use Rattle.node_core.specs.Ports.{Gives, Takes, count_of, cut_to, one_more}
+use Rattle.node_core.specs.Ports.Serving.{Shown, HasEnded, GivesAll, AreTakenOf, many_more, sends_of, all_sends, refused_count, GoesOn, Handles, EndsNext, Serves}
+use Rattle.node_core.proofs.Outcomes.{AreOutcomes-append, runs_stand}
+
+-- ---- what was taken
+
+pub AreTakenOf-append : (a b : List Send) (m n : ℕ) (x y : List Send) → AreTakenOf a m x → AreTakenOf b n y → AreTakenOf (a ++ b) (m + n) (x ++ y)
+AreTakenOf-append [] b m n x y h k =
+    let e : m + n ≡ n = omega (arith, h.0) in
+    let f : x ++ y ≡ y = ap (λ (t : List Send). t ++ y) h.1 in
+    rw (e, f) k
+AreTakenOf-append (s ∷ a) b m n x y (inl h) k =
+    inl (h.0 ++ y, ap (λ (t : List Send). t ++ y) h.1, AreTakenOf-append a b m n h.0 y h.2 k)
+AreTakenOf-append (s ∷ a) b m n x y (inr h) k =
+    inr (h.0 + n, omega (arith, h.1), AreTakenOf-append a b h.0 n x y h.2 k)
+
+pub AreTakenOf-one : (sent : Send) → AreTakenOf (sent ∷ []) 0 (sent ∷ [])
+AreTakenOf-one sent = inl ([], refl, (refl, refl))
+
+pub AreTakenOf-failed : (sent : Send) → AreTakenOf (sent ∷ []) 1 []
+AreTakenOf-failed sent = inr (0, refl, (refl, refl))
+
+pub Takes-same : (old new : Option (List Send)) → new ≡ old → Takes old new []
+Takes-same None new e = e
+Takes-same (Some xs) new e = e ∙ ap (λ (t : List Send). Some t) (sym (append-nil xs))
+
+pub Takes-then : (a b c : Option (List Send)) (x y : List Send) → Takes a b x → Takes b c y → Takes a c (x ++ y)
+Takes-then None b c x y h k = let t : Takes None c y = subst (λ (o : Option (List Send)). Takes o c y) h k in t
+Takes-then (Some xs) b c x y h k =
+    let t : Takes (Some (xs ++ x)) c y = subst (λ (o : Option (List Send)). Takes o c y) h k in
+    t ∙ ap (λ (l : List Send). Some l) (append_assoc xs x y)
+
+-- ---- failures
+
+pub many_more-add : (n a b : ℕ) → many_more (many_more n a) b ≡ many_more n (a + b)
+many_more-add n a zero = let e : a + 0 ≡ a = omega arith in rw e refl
+many_more-add n a (suc b) = let e : a + suc b ≡ suc (a + b) = omega arith in rw e (ap one_more (many_more-add n a b))
+
+pub many_more-one : (n a : ℕ) → one_more (many_more n a) ≡ many_more n (a + 1)
+many_more-one n a = rw (add-one a) refl
+
+-- ---- what came
+
+pub GivesAll-none : (coming left : Option (List PlainEvent)) (size : ℕ) → left ≡ coming → GivesAll coming left size []
+GivesAll-none None left size e = e
+GivesAll-none (Some old) left size e = ([], old, refl, refl, e)
+
+one_given : (came left : List PlainEvent) (old : List PlainEvent) (new : Option (List PlainEvent)) (size : ℕ) (events : List PlainEvent) (event : PlainEvent)
+    → old ≡ came ++ left → events ≡ map (cut_to size) came → Gives (Some left) new size (Some event) → GivesAll (Some old) new size (events ++ (event ∷ []))
+one_given came [] old new size events event is cut h = let no : Some event ≡ None = h.0 in absurd cc
+one_given came (first ∷ rest) old new size events event is cut h =
+    let same : event ≡ cut_to size first = cc h.0 in (
+      came ++ (first ∷ []),
+      rest,
+      is ∙ sym (append_assoc came (first ∷ []) rest),
+      ap (λ (t : List PlainEvent). t ++ (event ∷ [])) cut
+          ∙ ap (λ (e : PlainEvent). map (cut_to size) came ++ (e ∷ [])) same
+          ∙ sym (map-append (cut_to size) came (first ∷ [])),
+      h.1,
+    )
+
+pub GivesAll-then : (a b c : Option (List PlainEvent)) (size : ℕ) (events : List PlainEvent) (event : PlainEvent) → GivesAll a b size events → Gives b c size (Some event)
+    → GivesAll a c size (events ++ (event ∷ []))
+GivesAll-then None b c size events event h k =
+    let t : Gives None c size (Some event) = subst (λ (o : Option (List PlainEvent)). Gives o c size (Some event)) h k in t
+GivesAll-then (Some old) b c size events event h k =
+    let t : Gives (Some h.1) c size (Some event) = subst (λ (o : Option (List PlainEvent)). Gives o c size (Some event)) h.4 k in
+    one_given h.0 h.1 old c size events event h.2 h.3 t
+
+pub Gives-none_left : (old new : Option (List PlainEvent)) (size : ℕ) → Gives old new size None → HasEnded new
+Gives-none_left None new size h = subst HasEnded (sym h) tt
+Gives-none_left (Some []) new size h = subst HasEnded (sym h.1) refl
+Gives-none_left (Some (first ∷ rest)) new size h = absurd cc
+
+pub Gives-none_same : (old new : Option (List PlainEvent)) (size : ℕ) → Gives old new size None → new ≡ old
+Gives-none_same None new size h = h
+Gives-none_same (Some []) new size h = h.1
+Gives-none_same (Some (first ∷ rest)) new size h = absurd cc
+
+-- ---- outcomes
+
+pub all_sends-append : (a b : List Outcome) → all_sends (a ++ b) ≡ all_sends a ++ all_sends b
+all_sends-append [] b = refl
+all_sends-append (o ∷ a) b = ap (λ (t : List Send). sends_of o ++ t) (all_sends-append a b) ∙ sym (append_assoc (sends_of o) (all_sends a) (all_sends b))
+
+pub refused_count-append : (a b : List Outcome) → refused_count (a ++ b) ≡ refused_count a + refused_count b
+refused_count-append [] b = sym (zero-add _)
+refused_count-append (Answered answer ∷ a) b = refused_count-append a b
+refused_count-append (NoMemory ∷ a) b = let e = refused_count-append a b in omega (arith, e)
+
+pub goes_on_from : (old new : NodeState) (events : List PlainEvent) (outcomes : List Outcome) → AreOutcomes old events outcomes new → GoesOn old events outcomes new
+goes_on_from old new events outcomes h = λ first past begins run stands. runs_stand first past old new events outcomes begins h run stands
+
+-- ---- turns
+
+pub Serves-none : (node : NodeState) (before : Shown) → Serves node node before before 0 0 0
+Serves-none node before = record {
+  arrivals = [];
+  outcomes = [];
+  came = GivesAll-none before.coming before.coming _ refl;
+  handled = refl;
+  goes_on = goes_on_from node node [] [] refl;
+  taken = [];
+  are_taken = (refl, refl);
+  takes = Takes-same before.taken before.taken refl;
+  failures = refl;
+  events_is = refl;
+  refused_is = refl;
+}
+
+pub Serves-then : (old mid new : NodeState) (before between after : Shown) (events refused failed more : ℕ) (done_as : Outcome) → Serves old mid before between events refused failed
+    → Handles mid new between after done_as more → Serves old new before after (events + 1) (refused + refused_count (done_as ∷ [])) (failed + more)
+Serves-then old mid new before between after events refused failed more done_as h k =
+    let outcomes = h.outcomes ++ (done_as ∷ []) in
+    let arrivals = h.arrivals ++ (k.event ∷ []) in
+    let handled = AreOutcomes-append old mid new h.arrivals (k.event ∷ []) h.outcomes (done_as ∷ []) h.handled (new, k.handled, refl) in
+    let sends : all_sends outcomes ≡ all_sends h.outcomes ++ sends_of done_as = all_sends-append h.outcomes (done_as ∷ []) ∙ ap (λ (t : List Send). all_sends h.outcomes ++ t) (append-nil (sends_of done_as)) in
+    record {
+      arrivals = arrivals;
+      outcomes = outcomes;
+      came = GivesAll-then before.coming between.coming after.coming _ h.arrivals k.event h.came k.came;
+      handled = handled;
+      goes_on = goes_on_from old new arrivals outcomes handled;
+      taken = h.taken ++ k.taken;
+      are_taken = rw sends (AreTakenOf-append (all_sends h.outcomes) (sends_of done_as) failed more h.taken k.taken h.are_taken k.are_taken);
+      takes = Takes-then before.taken between.taken after.taken h.taken k.taken h.takes k.takes;
+      failures = k.failures ∙ ap (λ (n : ℕ). many_more n more) h.failures ∙ many_more-add before.failures failed more;
+      events_is = let e = h.events_is in omega (arith, e, length-append h.arrivals (k.event ∷ []));
+      refused_is = ap (λ (n : ℕ). n + refused_count (done_as ∷ [])) h.refused_is ∙ sym (refused_count-append h.outcomes (done_as ∷ []));
+    }
+
+pub Serves-answered : (old mid new : NodeState) (before between after : Shown) (events refused failed more : ℕ) (answer : Answer) → Serves old mid before between events refused failed
+    → Handles mid new between after (Answered answer) more → Serves old new before after (events + 1) refused (failed + more)
+Serves-answered old mid new before between after events refused failed more answer h k =
+    let P : ℕ → Type 0 = λ n. Serves old new before after (events + 1) n (failed + more) in
+    subst P (add-zero refused) (Serves-then old mid new before between after events refused failed more (Answered answer) h k)
+
+pub Serves-refused : (old mid new : NodeState) (before between after : Shown) (events refused failed : ℕ) → Serves old mid before between events refused failed
+    → Handles mid new between after NoMemory 0 → Serves old new before after (events + 1) (refused + 1) failed
+Serves-refused old mid new before between after events refused failed h k =
+    let P : ℕ → Type 0 = λ n. Serves old new before after (events + 1) (refused + 1) n in
+    subst P (add-zero failed) (Serves-then old mid new before between after events refused failed 0 NoMemory h k)
+
+-- a count that stops goes on as if it did not
+pub count_of-add : (n m : ℕ) → min (count_of n + m) (2 ^ 64 - 1) ≡ count_of (n + m)
+count_of-add n m = omega arith
+
+pub Serves-end : (old new last : NodeState) (before between after : Shown) (events refused failed : ℕ) → Serves old new before between events refused failed → EndsNext between after → last ≡ new
+    → Serves old last before after events refused failed
+Serves-end old new last before between after events refused failed h k same =
+    let shown_same : after ≡ between = λ i. record { failures = k.failures i; coming = Gives-none_same between.coming after.coming _ k.coming i; taken = k.taken i } in
+    rw (same, shown_same) h
+
+-- ---- sends
+
+pub take-next : (xs : List Send) (i : ℕ) (x : Send) → slice_get xs i ≡ Some x → take (suc i) xs ≡ take i xs ++ (x ∷ [])
+take-next [] i x h = cc h
+take-next (y ∷ ys) zero x h = let same : y ≡ x = cc h in ap (λ (t : Send). t ∷ []) same
+take-next (y ∷ ys) (suc i) x h = ap (λ (t : List Send). y ∷ t) (take-next ys i x h)
+
+-- the sends so far, and one more
+pub sent_next : (xs : List Send) (i failed more : ℕ) (x : Send) (y : List Send) (a b c : Option (List Send)) → slice_get xs i ≡ Some x
+    → ((taken : List Send) × AreTakenOf (take i xs) failed taken × Takes a b taken) → AreTakenOf (x ∷ []) more y → Takes b c y
+    → (taken : List Send) × AreTakenOf (take (i + 1) xs) (failed + more) taken × Takes a c taken
+sent_next xs i failed more x y a b c is h one takes =
+    let e : take (i + 1) xs ≡ take i xs ++ (x ∷ []) = rw (add-one i) (take-next xs i x is) in
+    (h.0 ++ y, rw e (AreTakenOf-append (take i xs) (x ∷ []) failed more h.0 y h.1 one), Takes-then a b c h.0 y h.2 takes)
+
+pub when_err : {T E : Type 0} (P : Type 0) (r : Result T E) → is_err r ≡ true → OnErr r P → P
+when_err P (Ok t) e h = absurd cc
+when_err P (Err f) e h = h
+
+pub when_ok : {T E : Type 0} (P : Type 0) (r : Result T E) → is_err r ≡ false → OnOk r P → P
+when_ok P (Ok t) e h = h
+when_ok P (Err f) e h = absurd cc
+
+pub none_is_no_send : (xs : List Send) (i : ℕ) → i < length xs → slice_get xs i ≡ None → ⊥
+none_is_no_send [] i h e = absurd (omega arith)
+none_is_no_send (x ∷ xs) zero h e = absurd cc
+none_is_no_send (x ∷ xs) (suc i) h e = none_is_no_send xs i (omega arith) e
+
+-- ---- one turn
+
+came_in_room : (before after : Option (List PlainEvent)) (size : ℕ) (given : Option PlainEvent) (event : PlainEvent) → size ≡ FRAME_ROOM → Some event ≡ given → Gives before after size given
+    → Gives before after FRAME_ROOM (Some event)
+came_in_room before after size given event room is h =
+    let P : ℕ → Type 0 = λ n. Gives before after n (Some event) in
+    let Q : Option PlainEvent → Type 0 = λ o. Gives before after size o in
+    subst P room (subst Q (sym is) h)
+
+pub Handles-refused : (old new : NodeState) (before after : Shown) (size : ℕ) (given : Option PlainEvent) (event : PlainEvent) (e : Memory) → size ≡ FRAME_ROOM → Some event ≡ given
+    → Gives before.coming after.coming size given → Unharmed old new → (AsksNoMemory old event → IsOk {T = Verdict} {E = Memory} (Err e))
+    → after.taken ≡ before.taken → after.failures ≡ before.failures → Handles old new before after NoMemory 0
+Handles-refused old new before after size given event e room is gives unharmed quiet taken failures =
+    let handled : IsOutcome old event NoMemory new = (unharmed, λ h. let ok = quiet h in cc) in
+    record {
+      event = event;
+      came = came_in_room before.coming after.coming size given event room is gives;
+      handled = handled;
+      goes_on = goes_on_from old new (event ∷ []) (NoMemory ∷ []) (new, handled, refl);
+      taken = [];
+      are_taken = (refl, refl);
+      takes = Takes-same before.taken after.taken taken;
+      failures = failures;
+    }
+
+pub Handles-answered : (old new : NodeState) (before mid after : Shown) (size : ℕ) (given : Option PlainEvent) (event : PlainEvent) (verdict : Verdict) (held out : List Send) (failed : ℕ) → size ≡ FRAME_ROOM
+    → Some event ≡ given → Gives before.coming mid.coming size given → mid.taken ≡ before.taken → mid.failures ≡ before.failures → held ≡ []
+    → ((sends : List Send) × (out ≡ held ++ sends) × IsStep old event (record { verdict = verdict_of verdict; sends = sends }) new)
+    → ((taken : List Send) × AreTakenOf out failed taken × Takes mid.taken after.taken taken) → after.coming ≡ mid.coming → after.failures ≡ many_more mid.failures failed
+    → Handles old new before after (Answered (record { verdict = verdict_of verdict; sends = out })) failed
+Handles-answered old new before mid after size given event verdict held out failed room is gives taken failures none step sent coming counted =
+    let all : out ≡ step.0 = step.1 ∙ ap (λ (h : List Send). h ++ step.0) none in
+    let answer : Answer = record { verdict = verdict_of verdict; sends = out } in
+    let handled : IsOutcome old event (Answered answer) new = rw all step.2 in
+    let P : Option (List PlainEvent) → Type 0 = λ o. Gives before.coming o FRAME_ROOM (Some event) in
+    let Q : Option (List Send) → Type 0 = λ o. Takes o after.taken sent.0 in
+    record {
+      event = event;
+      came = subst P (sym coming) (came_in_room before.coming mid.coming size given event room is gives);
+      handled = handled;
+      goes_on = goes_on_from old new (event ∷ []) (Answered answer ∷ []) (new, handled, refl);
+      taken = sent.0;
+      are_taken = sent.1;
+      takes = subst Q taken sent.2;
+      failures = counted ∙ ap (λ (n : ℕ). many_more n failed) failures;
+    }

@@ -1,0 +1,77 @@
+ghost use Rattle.std.specs.Prelude.{◌≡◌, ℕ, List, [], ◌∷◌, Option, length, IfOk, OnOk, OnErr};
+ghost use Rattle.node_core.specs.Event.{PlainEvent, Send};
+ghost use Rattle.node_core.specs.Ports.{Gives, LiesWithin, Takes, arrived, one_more};
+
+mod datagram;
+mod known_ports;
+mod memory;
+mod serving;
+mod udp;
+
+use crate::event::Scope;
+pub use datagram::{ANSWER_SECONDS, receive_one, send_from, send_one};
+pub use memory::MemoryPorts;
+pub use serving::{ServeFault, Served, Turn, serve, serve_turn};
+use thiserror::Error;
+pub use udp::{Moments, UdpPorts};
+
+/// What a port gives for one turn. Moments are milliseconds since 1970.
+#[derive(Clone, Copy, Debug, PartialEq, Eq)]
+pub enum Arrival {
+    /// Nothing more will come.
+    End,
+    /// Octets came on a face: the first `len` of the buffer.
+    Packet { face: u64, now: u64, len: usize },
+    /// A face was opened.
+    FaceUp { face: u64, scope: Scope, now: u64 },
+    /// A face was closed.
+    FaceDown { face: u64, now: u64 },
+    /// Time passed.
+    Tick { now: u64 },
+}
+
+/// A port failed.
+#[derive(Clone, Copy, Debug, PartialEq, Eq, Error)]
+pub enum PortFault {
+    #[error("the port failed")]
+    Failed,
+}
+
+/// Where arrivals come from and packets go to. A port counts its calls that failed: one fails only
+/// where the count rises, or stands at the greatest u64.
+pub trait Ports {
+    // How many calls failed, up to the greatest u64.
+    ghost failures: { Self → ℕ };
+
+    // The events still to come, where the port knows them.
+    ghost coming: { Self → Option (List PlainEvent) };
+
+    // The packets that were taken, where the port keeps them.
+    ghost taken: { Self → Option (List Send) };
+
+    /// Gives the next arrival, and the octets of a packet at the front of the buffer. A longer
+    /// packet is cut to the buffer.
+    fn next(&mut self, buffer: &mut [u8]) -> Result<Arrival, PortFault>
+        ensures fits { IfOk result (LiesWithin (length buffer.new)) }
+        ensures gives { IfOk result (λ arrival. Gives (coming self.old) (coming self.new)
+            (length buffer.new) (arrived arrival buffer.new)) }
+        ensures takes_none { taken self.new ≡ taken self.old }
+        ensures works { OnOk result (failures self.new ≡ failures self.old) }
+        // What failed gave nothing, and is counted.
+        ensures failed { OnErr result ((coming self.new ≡ coming self.old)
+            × (failures self.new ≡ one_more (failures self.old))) };
+
+    /// Sends octets to a face.
+    fn send(&mut self, face: u64, octets: &[u8]) -> Result<(), PortFault>
+        ensures takes { OnOk result
+            (Takes (taken self.old) (taken self.new) ((face, octets.now) ∷ [])) }
+        ensures gives_none { coming self.new ≡ coming self.old }
+        ensures works { OnOk result (failures self.new ≡ failures self.old) }
+        // What failed took nothing, and is counted.
+        ensures failed { OnErr result ((taken self.new ≡ taken self.old)
+            × (failures self.new ≡ one_more (failures self.old))) };
+
+    /// How many calls failed. The count stops at the greatest u64.
+    fn failures(&self) -> u64
+        ensures { result ≡ failures self.now };
+}

@@ -1,0 +1,41 @@
+//! One datagram to a node on this machine, and the answer to it.
+ghost use Rattle.std.specs.Prelude.{◌≤◌, length, IfOk};
+
+use crate::ports::PortFault;
+use std::net::{Ipv4Addr, Net, UdpSocket};
+use std::time::Duration;
+
+/// How long an answer is waited for, in seconds.
+pub const ANSWER_SECONDS: u64 = 4;
+
+/// Sends the octets in one datagram to this port of 127.0.0.1, from a new socket that hears that
+/// port alone.
+pub fn send_one(rt: &impl Net, to: u16, octets: &[u8]) -> Result<UdpSocket, PortFault> {
+    send_from(rt, 0, to, octets)
+}
+
+/// The same, with the socket bound to this port; 0 stands for one that the system chooses.
+pub fn send_from(rt: &impl Net, from: u16, to: u16, octets: &[u8]) -> Result<UdpSocket, PortFault> {
+    let Ok(socket) = UdpSocket::bind(rt, (Ipv4Addr::LOCALHOST, from)) else {
+        return Err(PortFault::Failed);
+    };
+    let Ok(()) = socket.connect((Ipv4Addr::LOCALHOST, to)) else {
+        return Err(PortFault::Failed);
+    };
+    match socket.send(octets) {
+        Ok(sent) if sent == octets.len() => Ok(socket),
+        _ => Err(PortFault::Failed),
+    }
+}
+
+/// Receives one datagram, and answers its length. What is longer than the buffer is cut to it. It
+/// fails where none comes within `ANSWER_SECONDS`.
+pub fn receive_one(socket: &UdpSocket, buffer: &mut [u8]) -> Result<usize, PortFault>
+    ensures { IfOk result (λ len. len ≤ length buffer.new) }
+{
+    let wait = Duration::from_secs(ANSWER_SECONDS);
+    let Ok(()) = socket.set_read_timeout(Some(wait)) else {
+        return Err(PortFault::Failed);
+    };
+    socket.recv(buffer).map_err(|_| PortFault::Failed)
+}

@@ -1,0 +1,73 @@
+//! The ports that have faces.
+ghost use Rattle.std.specs.Prelude.{◌≡◌, ◌∷◌, ◌++◌, [], ◌<◌, ◌≤◌, ◌==◌, length, slice_get, position, IfSome};
+
+use std::marker::Model;
+
+/// The greatest number of ports that are known at once.
+pub const MAX_PORTS: usize = 64;
+
+/// At most 64 ports, in the order of their faces.
+#[derive(Drop)]
+pub struct KnownPorts {
+    ports: [u16; MAX_PORTS],
+    len: usize,
+}
+
+impl Model for KnownPorts {
+    ghost use Rattle.std.specs.Prelude.{List, ℕ, ◌≤◌, take};
+
+    ghost Value = { List ℕ };
+
+    ghost view = { λ k. take k.len k.ports };
+
+    ghost invariant = { λ k. k.len ≤ 64 };
+}
+
+impl KnownPorts {
+    /// These ports, of which there are at most 64.
+    pub fn new(ports: &[u16]) -> KnownPorts
+        requires { length ports.now ≤ 64 }
+        ensures { result ≡ ports.now }
+    {
+        let mut known = [0; MAX_PORTS];
+        known[..ports.len()].copy_from_slice(ports);
+        KnownPorts {
+            ports: known,
+            len: ports.len(),
+        }
+    }
+
+    /// Adds a port at the end.
+    pub fn push(&mut self, port: u16)
+        requires { length self.old < 64 }
+        ensures { self.new ≡ self.old ++ (port ∷ []) }
+    {
+        self.ports[self.len] = port;
+        self.len += 1;
+    }
+
+    /// The number of ports.
+    pub fn len(&self) -> usize
+        ensures exact { result ≡ length self.now }
+        ensures small { result ≤ 64 }
+    {
+        self.len
+    }
+
+    /// The port at a place, counted from 0.
+    pub fn get(&self, i: usize) -> Option<u16>
+        ensures { result ≡ slice_get self.now i }
+    {
+        self.ports[..self.len].get(i).copied()
+    }
+
+    /// The first place of a port, counted from 0.
+    pub fn place_of(&self, port: u16) -> Option<usize>
+        ensures first { result ≡ position (λ known. known == port) self.now }
+        ensures within { IfSome result (λ place. place < length self.now) }
+    {
+        self.ports[..self.len]
+            .iter()
+            .position(|known| *known == port)
+    }
+}

@@ -1,0 +1,173 @@
+ghost use Rattle.std.specs.Prelude.{◌≡◌, ◌≤◌, [], ℕ, List, length, IfOk, IfErr, OnErr};
+ghost use Rattle.std.specs.Option.{option_map};
+ghost use Rattle.node_core.specs.Event.{Send, plain};
+ghost use Rattle.node_core.specs.Ports.{LiesWithin, Takes, arrived, count_of};
+ghost use Rattle.node_core.specs.Ports.Serving.{AreTakenOf, EndsAfter, FailsNext, IsTurn, Serves, StopsServing, many_more, shown};
+
+use crate::event::Event;
+use crate::node::Node;
+use crate::outbox::Outbox;
+use crate::ports::{Arrival, Ports};
+use crate::verdict::Verdict;
+use std::alloc::Global;
+use thiserror::Error;
+
+/// The octets of a packet that a turn takes up: one more than a node accepts, so that the node drops
+/// a longer packet as too long.
+pub const FRAME_ROOM: usize = 9_001;
+
+/// What one turn did.
+#[derive(Clone, Copy, Debug, PartialEq, Eq)]
+pub enum Turn {
+    /// An event was answered. So many of its sends failed.
+    Done { verdict: Verdict, failed: u64 },
+    /// A step had no memory for an event, which counts as not having come.
+    Refused,
+    /// Nothing more will come.
+    End,
+}
+
+/// Why a port was not served to the end of its turns.
+#[derive(Clone, Copy, Debug, PartialEq, Eq, Error)]
+pub enum ServeFault {
+    /// The port gave no next arrival after so many events.
+    #[error("the port failed after {after} events")]
+    Next { after: u64 },
+}
+
+/// What turns came to.
+#[derive(Clone, Copy, Debug, PartialEq, Eq)]
+pub struct Served {
+    /// How many events came.
+    pub events: u64,
+    /// How many of them had no memory.
+    pub refused: u64,
+    /// How many sends failed, up to the greatest u64.
+    pub failed_sends: u64,
+    /// Whether the port had nothing more before the turns were over.
+    pub ended: bool,
+}
+
+/// Lets a node handle what a port gives, one arrival a turn, for so many turns or until nothing more
+/// comes.
+///
+/// A failed send is counted, and the other sends go on. An event for which a step has no memory is
+/// counted, and counts as not having come. Of a packet of more than 9,001 octets the first 9,001
+/// are taken up, and the node drops it as too long. Where the port gives no next arrival, what came
+/// before stands.
+pub fn serve<P: Ports>(
+    alloc: Global,
+    node: &mut Node,
+    ports: &mut P,
+    turns: u64,
+) -> Result<Served, ServeFault>
+    ensures served { IfOk result (λ served. (failed : ℕ)
+        × Serves node.old node.new
+        (shown (P.failures ports.old) (P.coming ports.old) (P.taken ports.old))
+        (shown (P.failures ports.new) (P.coming ports.new) (P.taken ports.new))
+        served.events served.refused failed
+        × (served.failed_sends ≡ count_of failed)) }
+    ensures ended { IfOk result
+        (λ served. EndsAfter turns served.ended served.events (P.coming ports.new)) }
+    ensures stopped { IfErr result (StopsServing node.old node.new
+        (shown (P.failures ports.old) (P.coming ports.old) (P.taken ports.old))
+        (shown (P.failures ports.new) (P.coming ports.new) (P.taken ports.new)) turns) }
+{
+    let mut outbox = Outbox::new(alloc);
+    let mut served = Served {
+        events: 0,
+        refused: 0,
+        failed_sends: 0,
+        ended: false,
+    };
+    for _ in 0..turns {
+        let Ok(turn) = serve_turn(node, ports, &mut outbox) else {
+            return Err(ServeFault::Next {
+                after: served.events,
+            });
+        };
+        match turn {
+            Turn::Done { verdict: _, failed } => {
+                served.failed_sends = served.failed_sends.saturating_add(failed);
+            }
+            Turn::Refused => served.refused += 1,
+            Turn::End => {
+                served.ended = true;
+                return Ok(served);
+            }
+        }
+        served.events += 1;
+    }
+    Ok(served)
+}
+
+/// Lets a node handle the next arrival of a port.
+///
+/// The outbox then holds the event's sends and no others, failed ones included. Its fault is `Next`
+/// after 0 events, and then nothing happened.
+pub fn serve_turn<P: Ports>(
+    node: &mut Node,
+    ports: &mut P,
+    outbox: &mut Outbox,
+) -> Result<Turn, ServeFault>
+    ensures turn { IfOk result (IsTurn node.old node.new
+        (shown (P.failures ports.old) (P.coming ports.old) (P.taken ports.old))
+        (shown (P.failures ports.new) (P.coming ports.new) (P.taken ports.new)) outbox.new) }
+    ensures fault { IfErr result (λ fault. fault ≡ ServeFault.Next 0) }
+    ensures stopped { OnErr result (FailsNext
+        (shown (P.failures ports.old) (P.coming ports.old) (P.taken ports.old))
+        (shown (P.failures ports.new) (P.coming ports.new) (P.taken ports.new))
+        × (node.new ≡ node.old) × (outbox.new ≡ [])) }
+{
+    outbox.clear();
+    let mut buffer = [0u8; FRAME_ROOM];
+    let Ok(arrival) = ports.next(&mut buffer) else {
+        return Err(ServeFault::Next { after: 0 });
+    };
+    let Some(event) = event_of(arrival, &buffer) else {
+        return Ok(Turn::End);
+    };
+    match node.step(event, outbox) {
+        Ok(verdict) => {
+            let failed = send_all(ports, outbox);
+            Ok(Turn::Done { verdict, failed })
+        }
+        Err(_) => Ok(Turn::Refused),
+    }
+}
+
+// The event that arrived, if any.
+fn event_of(arrival: Arrival, buffer: &[u8]) -> Option<Event<'_>>
+    requires { LiesWithin (length buffer.now) arrival }
+    ensures { option_map plain result ≡ arrived arrival buffer.now }
+{
+    match arrival {
+        Arrival::End => None,
+        Arrival::Packet { face, now, len } => Some(Event::Packet {
+            face,
+            now,
+            octets: &buffer[..len],
+        }),
+        Arrival::FaceUp { face, scope, now } => Some(Event::FaceUp { face, scope, now }),
+        Arrival::FaceDown { face, now } => Some(Event::FaceDown { face, now }),
+        Arrival::Tick { now } => Some(Event::Tick { now }),
+    }
+}
+
+// Sends what the outbox holds, and counts the sends that failed.
+fn send_all<P: Ports>(ports: &mut P, outbox: &Outbox) -> u64
+    ensures sent { (taken : List Send) × AreTakenOf outbox.now result taken
+        × Takes (P.taken ports.old) (P.taken ports.new) taken }
+    ensures coming { P.coming ports.new ≡ P.coming ports.old }
+    ensures failures { P.failures ports.new ≡ many_more (P.failures ports.old) result }
+{
+    let mut failed = 0;
+    for i in 0..outbox.len() {
+        if let Some((face, octets)) = outbox.sent(i) {
+            if ports.send(face, octets).is_err() {
+                failed += 1;
+            }
+        }
+    }
+    failed
+}
