@@ -10,7 +10,7 @@ use Rattle.node_core.specs.declared.node.NodeFault.TheVariants.{BadRepoPrefix, B
 use Rattle.node_core.specs.declared.script.RunFault.{RunFault}
 use Rattle.node_core.specs.declared.script.RunFault.TheVariants.{BadLine, Read, Write, Node, Memory}
 use Rattle.ndn_node.specs.declared.fault.Fault.{Fault}
-use Rattle.ndn_node.specs.declared.fault.Fault.TheVariants.{CommandLine, BadValue, NotText, Unread, Rules, Keys, Script}
+use Rattle.ndn_node.specs.declared.fault.Fault.TheVariants.{CommandLine, BadValue, NotText, Unread, Rules, Keys, Script, Unbound, Unreceived}
 
 abbrev pub rules_status : RulesFaultKind → ℕ
 rules_status kinds.Memory = 3
@@ -35,6 +35,8 @@ status_of (Script (Node BadRepoPrefix)) = 2
 status_of (Script (Node BadCapacity)) = 2
 status_of (Script (Node NodeMemory)) = 3
 status_of (Script Memory) = 3
+status_of (Unbound port) = 3
+status_of Unreceived = 3
 
 abbrev pub rules_fault_text : ℕ → RulesFaultKind → List ℕ
 rules_fault_text line kinds.Memory = codes "error: out of memory\n"
@@ -69,3 +71,6 @@ text_of (Unread file) = Some (codes "error: the " ++ file.now ++ codes " cannot 
 text_of (Rules fault) = Some (rules_fault_text fault.line fault.kind)
 text_of (Keys fault) = Some (key_fault_text fault)
 text_of (Script fault) = Some (run_fault_text fault)
+text_of (Unbound port) = Some (codes "error: port " ++ decimal port
+    ++ codes " of 127.0.0.1 cannot be bound: give one that no program has\n")
+text_of Unreceived = Some (codes "error: nothing can be received from the port\n")

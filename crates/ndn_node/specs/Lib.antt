@@ -1,4 +1,6 @@
 pub mod Fault
 pub mod Files
 pub mod Options
+pub mod UdpOptions
+pub mod Turn
 pub mod Command

@@ -1,12 +1,14 @@
 //! The command line, and its help.
-ghost use Rattle.std.specs.Prelude.{◌≡◌};
+ghost use Rattle.std.specs.Prelude.{◌≡◌, IfOk};
 ghost use Rattle.clap.specs.Words.{kind_of};
-ghost use Rattle.ndn_node.specs.Command.{reading_of};
+ghost use Rattle.ndn_node.specs.Options.{ReadsInMemory, rows_in};
+ghost use Rattle.ndn_node.specs.Command.{HasFewPeers, IsRequest, reading_of};
 
 use crate::fault::Fault;
 use crate::options::Options;
+use crate::udp_options::UdpOptions;
 use clap::error::ErrorKind;
-use clap::{Arg, Command, Error};
+use clap::{Arg, ArgMatches, Command, Error};
 use node_core::RunFault;
 use std::alloc::{AllocError, Global};
 use std::convert::AsStr;
@@ -18,6 +20,8 @@ pub enum Request {
     Help(Error),
     /// To run the script on standard input.
     Script(Options),
+    /// To run a node on a port.
+    Udp(Options, UdpOptions),
 }
 
 const VERSION: &str = "0.1.0";
@@ -62,8 +66,43 @@ Exit status: 0 at the end of the script, 1 for a fault in a file or a bad line (
 `keys:LINE: KIND` or `script:LINE: bad line` on standard error), 2 for a wrong command line, 3 if
 input, output or memory fails.";
 
+const ABOUT_UDP: &str = "Runs the node on a UDP port of this machine and prints its answers";
+
+const AFTER_UDP: &str =
+    "The node has one UDP socket, on 127.0.0.1, so that programs on this machine reach it. PEERS are
+the ports of programs that it knows from the start: they are faces 1, 2 and so on, in this order.
+The first K are Local, and may send commands under /localhost; the others are Far. At most 64 ports
+are given, each once.
+
+In each turn the node opens the face of the next peer, or takes one datagram, for which it waits. A
+datagram from another port opens the next face, which is Far, and is handled in the turn after that.
+While 64 ports are known, no more faces open. No face is closed.
+
+The answer to turn N is printed as `script` prints that to event N: a line `N VERDICT`, and a line
+`> FACE HEX` for each packet that goes out. Moments are those of the machine's clock.
+
+Example: a node that takes two turns. In the first it opens a face for the port that an Interest for
+/A comes from; in the second the answer is a Nack.
+  $ ndn_node udp --listen 6363 --turns 2 &
+  $ ndn_tool send 050b07030801410a0401020304 --to 6363
+  1 passed
+  2 passed
+  > 1 6418fd032005fd03210196500d050b07030801410a0401020304
+  6418fd032005fd03210196500d050b07030801410a0401020304
+
+Exit status: 0 after the turns, 1 for a fault in a file (`rules:LINE: KIND` or `keys:LINE: KIND` on
+standard error), 2 for a wrong command line, 3 if a file, the port, output or memory fails.";
+
+const AFTER: &str =
+    "`ndn_node script --help` and `ndn_node udp --help` say what each of them reads and prints.
+
+Exit status: 0 at the end, 1 for a fault in a file or a script, 2 for a wrong command line, 3 if a
+file, the port, input, output or memory fails.";
+
 /// Reads the arguments of a command line, the first of which is the program's name.
-pub(crate) fn request_of<S: AsStr>(alloc: Global, arguments: &[S]) -> Result<Request, Fault> {
+pub(crate) fn request_of<S: AsStr>(alloc: Global, arguments: &[S]) -> Result<Request, Fault>
+    ensures { IfOk result HasFewPeers }
+{
     let mut command = command(alloc)?;
     let matches = match command.try_get_matches_from_mut(arguments) {
         Ok(matches) => matches,
@@ -77,8 +116,20 @@ pub(crate) fn request_of<S: AsStr>(alloc: Global, arguments: &[S]) -> Result<Req
         )?);
     }
     match matches.subcommand() {
-        Some((_, options)) => Ok(Request::Script(Options::read(alloc, options)?)),
+        Some((name, found)) => named_request(alloc, name, found),
         None => answer_to(command.error(ErrorKind::MissingSubcommand, "a subcommand is missing")?),
+    }
+}
+
+/// What the options of the subcommand of this name ask for.
+fn named_request(alloc: Global, name: &str, found: &ArgMatches<'_>) -> Result<Request, Fault>
+    ensures { ReadsInMemory (IsRequest name.now (rows_in found.now)) result }
+{
+    if name == "udp" {
+        let node = Options::read(alloc, found)?;
+        Ok(Request::Udp(node, UdpOptions::read(alloc, found)?))
+    } else {
+        Ok(Request::Script(Options::read(alloc, found)?))
     }
 }
 
@@ -98,9 +149,52 @@ fn answer_to(error: Error) -> Result<Request, Fault>
 }
 
 fn command<'a>(alloc: Global) -> Result<Command<'a>, AllocError> {
-    let script = Command::new(alloc, "script")
+    Command::new(alloc, "ndn_node")
+        .version(VERSION)
+        .about(ABOUT)
+        .after_help(AFTER)
+        .disable_help_subcommand(true)
+        .subcommand_required(true)
+        .arg_required_else_help(true)
+        .subcommand(script_command(alloc)?)?
+        .subcommand(udp_command(alloc)?)
+}
+
+fn script_command<'a>(alloc: Global) -> Result<Command<'a>, AllocError> {
+    let command = Command::new(alloc, "script")
         .about(ABOUT_SCRIPT)
-        .after_help(SCRIPTS)
+        .after_help(SCRIPTS);
+    with_node(alloc, command)
+}
+
+fn udp_command<'a>(alloc: Global) -> Result<Command<'a>, AllocError> {
+    let command = Command::new(alloc, "udp")
+        .about(ABOUT_UDP)
+        .after_help(AFTER_UDP)
+        .arg(required_option(
+            alloc,
+            "listen",
+            "PORT",
+            "The port of 127.0.0.1 that the node listens on",
+        ))?
+        .arg(required_option(
+            alloc,
+            "turns",
+            "N",
+            "How many turns the node takes, with one arrival in each",
+        ))?
+        .arg(option(
+            alloc,
+            "local",
+            "K",
+            "How many of the first peers are Local; 0 if absent",
+        ))?;
+    with_node(alloc, command)?.arg(peers(alloc))
+}
+
+/// The command with the options of a node.
+fn with_node<'a>(alloc: Global, command: Command<'a>) -> Result<Command<'a>, AllocError> {
+    command
         .arg(option(
             alloc,
             "rules",
@@ -119,15 +213,19 @@ fn command<'a>(alloc: Global) -> Result<Command<'a>, AllocError> {
             "cache",
             "N",
             "How many Data the cache holds, from 1 to 65536; 1024 if absent",
-        ))?;
-    Command::new(alloc, "ndn_node")
-        .version(VERSION)
-        .about(ABOUT)
-        .after_help(SCRIPTS)
-        .disable_help_subcommand(true)
-        .subcommand_required(true)
-        .arg_required_else_help(true)
-        .subcommand(script)
+        ))
+}
+
+/// The ports of the peers.
+fn peers<'a>(alloc: Global) -> Arg<'a> {
+    Arg::new(alloc, "PEERS")
+        .num_args(0..)
+        .help("The ports of the peers, which are faces 1, 2 and so on")
+}
+
+/// A required option with a value.
+fn required_option<'a>(alloc: Global, id: &'a str, value: &'a str, help: &'a str) -> Arg<'a> {
+    option(alloc, id, value, help).required(true)
 }
 
 /// An option with a value.

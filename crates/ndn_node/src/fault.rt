@@ -30,6 +30,13 @@ pub enum Fault {
     Keys(KeyFault),
     /// The script did not run to its end.
     Script(RunFault),
+    /// A port cannot be bound.
+    Unbound {
+        /// The port.
+        port: u16,
+    },
+    /// Nothing can be received from the port.
+    Unreceived,
 }
 
 impl Fault {
@@ -55,6 +62,8 @@ impl Fault {
             Fault::Keys(KeyFault::BadLine(_) | KeyFault::TwiceNamed(_) | KeyFault::TooMany)
             | Fault::Script(RunFault::BadLine(_)) => 1,
             Fault::Unread { .. }
+            | Fault::Unbound { .. }
+            | Fault::Unreceived
             | Fault::Keys(KeyFault::Memory)
             | Fault::Script(
                 RunFault::Read
@@ -90,6 +99,11 @@ impl fmt::Display for Fault {
             Fault::Keys(KeyFault::TwiceNamed(line)) => writeln!(f, "keys:{line}: TwiceNamed"),
             Fault::Keys(KeyFault::TooMany) => f.write_str("keys:0: TooMany\n"),
             Fault::Script(RunFault::BadLine(line)) => writeln!(f, "script:{line}: bad line"),
+            Fault::Unbound { port } => writeln!(
+                f,
+                "error: port {port} of 127.0.0.1 cannot be bound: give one that no program has"
+            ),
+            Fault::Unreceived => f.write_str("error: nothing can be received from the port\n"),
             Fault::Script(RunFault::Read) => {
                 f.write_str("error: standard input cannot be read\n")
             }

@@ -1,21 +1,29 @@
-//! A Named Data Networking node that runs scripts.
+//! A Named Data Networking node that runs scripts, or on a UDP port.
 #![tactic(auto)]
+
+ghost use Rattle.std.specs.Prelude.{◌≤◌, length};
 
 mod command;
 mod fault;
 mod files;
 mod options;
+mod port;
+mod udp_options;
 
 use command::{Request, request_of};
 use fault::Fault;
 use files::{read_keys, read_rules};
 use node_core::{NodeParts, RunFault, run_script};
 use options::Options;
+use port::run_on_port;
 use std::env::Env;
 use std::io::Input;
+use std::net::Net;
 use std::process::ExitCode;
 use std::rt::Files;
+use std::time::Clock;
 use std::{env, fs, io};
+use udp_options::UdpOptions;
 
 fn main(rt: HostRuntime) -> ExitCode {
     let Err(fault) = run(&rt) else {
@@ -28,11 +36,12 @@ fn main(rt: HostRuntime) -> ExitCode {
 }
 
 /// Does what the command line asks for.
-fn run<R: Env + AllocGlobal + Files + Input + Print>(rt: &R) -> Result<(), Fault> {
+fn run<R: Clock + Env + AllocGlobal + Files + Input + Net + Print>(rt: &R) -> Result<(), Fault> {
     let arguments = arguments_of(rt)?;
     match request_of(rt.alloc(), arguments.as_slice())? {
         Request::Help(help) => rt.print(help).map_err(|_| Fault::Script(RunFault::Write)),
         Request::Script(options) => script(rt, options),
+        Request::Udp(node, options) => udp(rt, node, &options),
     }
 }
 
@@ -50,15 +59,32 @@ fn arguments_of<R: Env + AllocGlobal>(rt: &R) -> Result<Vec<String>, Fault> {
 
 /// Runs the script on standard input, and writes each answer to standard output as it comes.
 fn script<R: AllocGlobal + Files + Input + Print>(rt: &R, options: Options) -> Result<(), Fault> {
+    let parts = parts_of(rt, options)?;
+    run_script(rt.alloc(), &mut rt.reader(), &mut io::writer(rt), parts).map_err(Fault::Script)
+}
+
+/// Runs the node on its port, and writes each answer to standard output as it comes.
+fn udp<R: AllocGlobal + Clock + Files + Net + Print>(
+    rt: &R,
+    node: Options,
+    options: &UdpOptions,
+) -> Result<(), Fault>
+    requires { length options.now.peers.items ≤ 64 }
+{
+    let parts = parts_of(rt, node)?;
+    run_on_port(rt, parts, options)
+}
+
+/// The parts of a node, with the rules and the keys of the files that are named.
+fn parts_of<R: AllocGlobal + Files>(rt: &R, options: Options) -> Result<NodeParts, Fault> {
     let rules = read_rules(rt.alloc(), &contents(rt, &options.rules, "rule file")?)?;
     let keys = read_keys(rt.alloc(), &contents(rt, &options.keys, "key file")?)?;
-    let parts = NodeParts {
+    Ok(NodeParts {
         rules,
         keys,
         repo: options.repo,
         cache: options.cache,
-    };
-    run_script(rt.alloc(), &mut rt.reader(), &mut io::writer(rt), parts).map_err(Fault::Script)
+    })
 }
 
 /// The octets of a file, or none where no file is named.

@@ -1,7 +1,7 @@
 //! The values of the options, or those that stand for them where they are absent.
 ghost use Rattle.std.specs.Prelude.{◌≡◌, option_map};
 ghost use Rattle.ndn_names.specs.ReadsAs.{ReadsAs};
-ghost use Rattle.ndn_node.specs.Options.{IsCapacity, Reads, ReadsInMemory, given_or};
+ghost use Rattle.ndn_node.specs.Options.{IsCapacity, IsOptions, MayBePath, Reads, ReadsInMemory, given_or, rows_in, value_at};
 
 use crate::fault::Fault;
 use clap::ArgMatches;
@@ -9,7 +9,7 @@ use ndn_names::{NameBuf, NameFault};
 use node_core::RunFault;
 use std::alloc::Global;
 
-/// How a script is to be run.
+/// How a node is made.
 #[derive(Debug, Drop)]
 pub struct Options {
     /// The path of the rule file. Without one no rule allows anything.
@@ -24,17 +24,28 @@ pub struct Options {
 
 impl Options {
     /// The options that the parser found.
-    pub fn read(alloc: Global, found: &ArgMatches<'_>) -> Result<Options, Fault> {
+    pub fn read(alloc: Global, found: &ArgMatches<'_>) -> Result<Options, Fault>
+        ensures { ReadsInMemory (IsOptions (rows_in found.now)) result }
+    {
         Ok(Options {
-            rules: path_of(alloc, found.get_str("rules"))?,
-            keys: path_of(alloc, found.get_str("keys"))?,
-            repo: repo_of(alloc, given_or("/repo", found.get_str("repo")))?,
-            cache: cache_of(given_or("1024", found.get_str("cache")))?,
+            rules: path_of(alloc, value(found, "rules"))?,
+            keys: path_of(alloc, value(found, "keys"))?,
+            repo: repo_of(alloc, given_or("/repo", value(found, "repo")))?,
+            cache: cache_of(given_or("1024", value(found, "cache")))?,
         })
     }
 }
 
-fn path_of(alloc: Global, path: Option<&str>) -> Result<Option<String>, Fault> {
+/// The value of an option, if it is there.
+pub fn value<'a>(found: &ArgMatches<'a>, id: &str) -> Option<&'a str>
+    ensures { option_map (λ value. value.now) result ≡ value_at (rows_in found.now) id.now }
+{
+    found.get_str(id)
+}
+
+fn path_of(alloc: Global, path: Option<&str>) -> Result<Option<String>, Fault>
+    ensures { ReadsInMemory (MayBePath (option_map (λ path. path.now) path.entry)) result }
+{
     match path {
         Some(path) => Ok(Some(String::from_str(alloc, path)?)),
         None => Ok(None),
@@ -42,7 +53,7 @@ fn path_of(alloc: Global, path: Option<&str>) -> Result<Option<String>, Fault> {
 }
 
 /// The text that is given, or else this one.
-fn given_or<'a>(text: &'a str, given: Option<&'a str>) -> &'a str
+pub fn given_or<'a>(text: &'a str, given: Option<&'a str>) -> &'a str
     ensures { result.now ≡ given_or text.entry.now (option_map (λ given. given.now) given.entry) }
 {
     match given {

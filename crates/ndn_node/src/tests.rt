@@ -3,16 +3,17 @@ use hmac_keys::KeyFault;
 use info_rules::{RulesFault, RulesFaultKind};
 use node_core::NodeFault;
 use std::alloc::Global;
+use std::io::Write;
 use std::process::Abort;
 
-/// The status and the text that a command ends with, unless it runs a script.
+/// The status and the text that a command ends with, unless it runs a node.
 fn ending(alloc: Global, command: &str) -> Option<(u8, String)> {
     let mut words = Vec::new(alloc);
     for word in command.split(' ') {
         words.push(word).ok()?;
     }
     match request_of(alloc, words.as_slice()) {
-        Ok(Request::Script(_)) => None,
+        Ok(Request::Script(_) | Request::Udp(_, _)) => None,
         Ok(Request::Help(help)) => Some((0, help.to_string(alloc).ok()?)),
         Err(fault) => Some((fault.exit_status(), fault.to_string(alloc).ok()?)),
     }
@@ -58,6 +59,102 @@ ndn_node script --cache x => error: invalid value for --cache: give a decimal nu
 ndn_node script --cache +5 => error: invalid value for --cache: give a decimal number below 2^32
 ndn_node script --cache 4294967296 => error: invalid value for --cache: give a decimal number below 2^32
 ";
+
+const UDP_HELP: &str = "
+ndn_node --help => udp     Runs the node on a UDP port
+ndn_node udp --help => Usage: ndn_node udp [OPTIONS] --listen <PORT> --turns <N> [PEERS]...
+ndn_node udp --help => --local <K>
+ndn_node udp --help => --cache <N>
+";
+
+const UDP_COMMAND_LINES: &str = "
+ndn_node udp => error: the following required arguments were not provided
+ndn_node udp --turns 1 => --listen <PORT>
+ndn_node udp --listen 6363 => --turns <N>
+ndn_node udp --listen 0 --turns 1 => error: invalid value for --listen: give a decimal port from 1 to 65535
+ndn_node udp --listen 65536 --turns 1 => error: invalid value for --listen: give a decimal port from 1 to 65535
+ndn_node udp --listen +1 --turns 1 => error: invalid value for --listen: give a decimal port from 1 to 65535
+ndn_node udp --listen 0x1 --turns 1 => error: invalid value for --listen: give a decimal port from 1 to 65535
+ndn_node udp --listen 1 --turns x => error: invalid value for --turns: give a decimal number below 2^64
+ndn_node udp --listen 1 --turns +1 => error: invalid value for --turns: give a decimal number below 2^64
+ndn_node udp --listen 1 --turns 18446744073709551616 => error: invalid value for --turns: give a decimal number below 2^64
+ndn_node udp --listen 1 --turns 1 --local x => error: invalid value for --local: give a decimal number below 2^64
+ndn_node udp --listen 1 --turns 1 --local 1 => error: invalid value for --local: give a number that is at most that of the peers
+ndn_node udp --listen 1 --turns 1 --local 3 7 8 => error: invalid value for --local: give a number that is at most that of the peers
+ndn_node udp --listen 1 --turns 1 7 0 => error: invalid value for PEERS: give a decimal port from 1 to 65535
+ndn_node udp --listen 1 --turns 1 7 65536 => error: invalid value for PEERS: give a decimal port from 1 to 65535
+ndn_node udp --listen 1 --turns 1 7 x => error: invalid value for PEERS: give a decimal port from 1 to 65535
+ndn_node udp --listen 1 --turns 1 7 8 07 => error: invalid value for PEERS: give each port once
+ndn_node udp --listen 1 --turns 1 --cache x => error: invalid value for --cache: give a decimal number below 2^32
+ndn_node udp --listen 1 --turns 1 -- 7 => error: unexpected argument '--' found
+ndn_node script 7 => error: unexpected argument '7' found
+";
+
+/// A command of so many peers, ports from 1 on.
+fn command_of_peers(alloc: Global, peers: u16) -> Option<String> {
+    let mut command = String::from_str(alloc, "ndn_node udp --listen 1 --turns 1").ok()?;
+    for port in 0..peers {
+        write!(command, " {}", port.saturating_add(1)).ok()?;
+    }
+    Some(command)
+}
+
+/// Whether a command of so many peers runs a node.
+fn runs(alloc: Global, peers: u16) -> bool {
+    command_of_peers(alloc, peers).is_some_and(|command| ending(alloc, command.as_str()).is_none())
+}
+
+/// Whether a command of so many peers is wrong.
+fn is_wrong(alloc: Global, peers: u16) -> bool {
+    let part = "error: invalid value for PEERS: give at most 64 ports";
+    command_of_peers(alloc, peers).is_some_and(|command| ends_with(
+        alloc,
+        command.as_str(),
+        2,
+        part,
+    ))
+}
+
+#[test]
+fn udp_command_lines(rt: HostRuntime) {
+    check_parts(&rt, 0, UDP_HELP);
+    check_parts(&rt, 2, UDP_COMMAND_LINES);
+    assert!(rt; runs(rt.alloc(), 0));
+    assert!(rt; runs(rt.alloc(), 64));
+    assert!(rt; is_wrong(rt.alloc(), 65));
+}
+
+/// What the options of a node on a port are.
+fn udp_options_of(alloc: Global, command: &str) -> Option<String> {
+    let mut words = Vec::new(alloc);
+    for word in command.split(' ') {
+        words.push(word).ok()?;
+    }
+    let Ok(Request::Udp(node, udp)) = request_of(alloc, words.as_slice()) else {
+        return None;
+    };
+    let cache = node.cache;
+    let listen = udp.listen;
+    let turns = udp.turns;
+    let local = udp.local;
+    let mut text = format!(in alloc; "{cache} {listen} {turns} {local}").ok()?;
+    for port in udp.peers.as_slice() {
+        write!(text, " {port}").ok()?;
+    }
+    Some(text)
+}
+
+#[test]
+fn udp_options(rt: HostRuntime) {
+    let alloc = rt.alloc();
+    let absent = udp_options_of(alloc, "ndn_node udp --listen 6363 --turns 0");
+    assert!(rt; absent.as_deref() == Some("1024 6363 0 0"));
+    let given = udp_options_of(
+        alloc,
+        "ndn_node udp 7 --cache 5 --turns 18446744073709551615 8 --listen 065535 --local 2 9",
+    );
+    assert!(rt; given.as_deref() == Some("5 65535 18446744073709551615 2 7 8 9"));
+}
 
 #[test]
 fn command_lines(rt: HostRuntime) {
@@ -160,6 +257,21 @@ fn faults(rt: HostRuntime) {
     assert!(rt; is_told(alloc, no_memory, "3 error: out of memory\n"));
     let line = Fault::Script(RunFault::BadLine(7));
     assert!(rt; is_told(alloc, line, "1 script:7: bad line\n"));
+    let unbound = Fault::Unbound { port: 6363 };
+    assert!(rt;
+        is_told(
+            alloc,
+            unbound,
+            "3 error: port 6363 of 127.0.0.1 cannot be bound: give one that no program has\n"
+        )
+    );
+    assert!(rt;
+        is_told(
+            alloc,
+            Fault::Unreceived,
+            "3 error: nothing can be received from the port\n"
+        )
+    );
     let read = Fault::Script(RunFault::Read);
     assert!(rt; is_told(alloc, read, "3 error: standard input cannot be read\n"));
     let written = Fault::Script(RunFault::Write);
