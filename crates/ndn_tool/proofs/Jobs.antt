@@ -1,137 +1,133 @@
--- Which job a subcommand has, by its name.
-use Rattle.std.proofs.Common.{◌≡◌, ◌≢◌, ℕ, List, sym, ap, ◌∙◌, arith, codes, slice_index, Vec, Global, inl, inr}
+-- Which job a subcommand has.
+use Rattle.std.proofs.Common.{◌≡◌, ◌⊎◌, ℕ, List, Vec, Global, inl, inr, subst}
 use Rattle.clap.specs.Walk.{Row}
 use Rattle.ndn_tool.specs.declared.job.InterestJob.{InterestJob}
 use Rattle.ndn_tool.specs.declared.job.DataJob.{DataJob}
 use Rattle.ndn_tool.specs.declared.job.CommandJob.{CommandJob}
 use Rattle.ndn_tool.specs.declared.job.TagJob.{TagJob}
+use Rattle.ndn_tool.specs.declared.job.ExplainJob.{ExplainJob}
+use Rattle.ndn_tool.specs.declared.job.SendJob.{SendJob}
 use Rattle.ndn_tool.specs.declared.job.Job.{Job}
-use Rattle.ndn_tool.specs.declared.job.Job.TheVariants.{Help, Interest, Data, Command, Tag, Show, Explain}
-use Rattle.ndn_tool.specs.Options.{IsInterestJob, IsDataJob, IsCommandJob, IsTagJob, IsShowJob}
+use Rattle.ndn_tool.specs.declared.job.Job.TheVariants.{Help, Interest, Data, Command, Tag, Show, Explain, Send}
+use Rattle.ndn_tool.specs.declared.subcommand.Subcommand.{Subcommand}
+use Rattle.ndn_tool.specs.declared.subcommand.Subcommand.TheVariants as sub
+use Rattle.ndn_tool.specs.Options.{IsInterestJob, IsDataJob, IsCommandJob, IsTagJob, IsShowJob, IsExplainJob, IsSendJob}
 use Rattle.ndn_tool.specs.ShortForm.{IsShortJob}
 use Rattle.ndn_tool.specs.RepositoryForm.{IsRepositoryJob}
-use Rattle.ndn_tool.specs.Command.{IsNamedJob, IsNamedCommand, IsShortName}
-
--- two names with other octets at a place
-differ : (s t name : List ℕ) (at : ℕ) → name ≡ s → name ≡ t → slice_index s at ≢ slice_index t at → ⊥
-differ s t name at a b h = h (ap (λ l. slice_index l at) (sym a ∙ b))
-
-no_short : (name : List ℕ) → name ≢ codes "route" → name ≢ codes "strategy" → name ≢ codes "cache" → IsShortName name → ⊥
-no_short name r s c (inl e) = r e
-no_short name r s c (inr (inl e)) = s e
-no_short name r s c (inr (inr e)) = c e
-
--- a short form's name, where each of the three differs from this one at a place
-unlike_short : (t name : List ℕ) (i j k : ℕ) → IsShortName name → name ≡ t
-    → slice_index (codes "route") i ≢ slice_index t i → slice_index (codes "strategy") j ≢ slice_index t j → slice_index (codes "cache") k ≢ slice_index t k → ⊥
-unlike_short t name i j k (inl e) is r s c = differ _ _ name i e is r
-unlike_short t name i j k (inr (inl e)) is r s c = differ _ _ name j e is s
-unlike_short t name i j k (inr (inr e)) is r s c = differ _ _ name k e is c
+use Rattle.ndn_tool.specs.Command.{IsJobFor}
 
 module _ (now : ℕ) (words name : List ℕ) (rows : List Row) where
-  no_named : name ≢ codes "command" → (IsShortName name → ⊥) → name ≢ codes "repo" → (job : CommandJob) → IsNamedCommand now words name rows job → ⊥
-  no_named c short repo job (inl h) = c h.0
-  no_named c short repo job (inr (inl h)) = short h.0
-  no_named c short repo job (inr (inr h)) = repo h.0
+  pub an_interest : (job : Job) → IsJobFor sub.Interest now words name rows job → (x : InterestJob) × IsInterestJob rows x
+  an_interest (Help error) h = absurd h
+  an_interest (Interest job) h = (job, h)
+  an_interest (Data job) h = absurd h
+  an_interest (Command job) h = absurd h
+  an_interest (Tag job) h = absurd h
+  an_interest (Show octets) h = absurd h
+  an_interest (Explain job) h = absurd h
+  an_interest (Send job) h = absurd h
 
-  pub an_interest : name ≡ codes "interest" → (job : Job) → IsNamedJob now words name rows job → (x : InterestJob) × IsInterestJob rows x
-  an_interest e (Help error) h = absurd h
-  an_interest e (Interest job) h = (job, h.1)
-  an_interest e (Data job) h = absurd (differ _ _ name 0 e h.0 (λ n. omega arith))
-  an_interest e (Command job) h =
-      absurd (no_named (λ c. differ _ _ name 0 e c (λ n. omega arith)) (λ s. unlike_short _ name 0 0 0 s e (λ n. omega arith) (λ n. omega arith) (λ n. omega arith)) (λ r. differ _ _ name 0 e r (λ n. omega arith)) job h)
-  an_interest e (Tag job) h = absurd (differ _ _ name 0 e h.0 (λ n. omega arith))
-  an_interest e (Show octets) h = absurd (differ _ _ name 0 e h.0 (λ n. omega arith))
-  an_interest e (Explain octets) h = absurd (differ _ _ name 0 e h.0 (λ n. omega arith))
+  pub a_data : (job : Job) → IsJobFor sub.Data now words name rows job → (x : DataJob) × IsDataJob rows x
+  a_data (Help error) h = absurd h
+  a_data (Interest job) h = absurd h
+  a_data (Data job) h = (job, h)
+  a_data (Command job) h = absurd h
+  a_data (Tag job) h = absurd h
+  a_data (Show octets) h = absurd h
+  a_data (Explain job) h = absurd h
+  a_data (Send job) h = absurd h
 
-  pub a_data : name ≡ codes "data" → (job : Job) → IsNamedJob now words name rows job → (x : DataJob) × IsDataJob rows x
-  a_data e (Help error) h = absurd h
-  a_data e (Interest job) h = absurd (differ _ _ name 0 e h.0 (λ n. omega arith))
-  a_data e (Data job) h = (job, h.1)
-  a_data e (Command job) h =
-      absurd (no_named (λ c. differ _ _ name 0 e c (λ n. omega arith)) (λ s. unlike_short _ name 0 0 0 s e (λ n. omega arith) (λ n. omega arith) (λ n. omega arith)) (λ r. differ _ _ name 0 e r (λ n. omega arith)) job h)
-  a_data e (Tag job) h = absurd (differ _ _ name 0 e h.0 (λ n. omega arith))
-  a_data e (Show octets) h = absurd (differ _ _ name 0 e h.0 (λ n. omega arith))
-  a_data e (Explain octets) h = absurd (differ _ _ name 0 e h.0 (λ n. omega arith))
+  pub a_command : (job : Job) → IsJobFor sub.Command now words name rows job → (x : CommandJob) × IsCommandJob rows x
+  a_command (Help error) h = absurd h
+  a_command (Interest job) h = absurd h
+  a_command (Data job) h = absurd h
+  a_command (Command job) h = (job, h)
+  a_command (Tag job) h = absurd h
+  a_command (Show octets) h = absurd h
+  a_command (Explain job) h = absurd h
+  a_command (Send job) h = absurd h
 
-  pub a_tag : name ≡ codes "tag" → (job : Job) → IsNamedJob now words name rows job → (x : TagJob) × IsTagJob rows x
-  a_tag e (Help error) h = absurd h
-  a_tag e (Interest job) h = absurd (differ _ _ name 0 e h.0 (λ n. omega arith))
-  a_tag e (Data job) h = absurd (differ _ _ name 0 e h.0 (λ n. omega arith))
-  a_tag e (Command job) h =
-      absurd (no_named (λ c. differ _ _ name 0 e c (λ n. omega arith)) (λ s. unlike_short _ name 0 0 0 s e (λ n. omega arith) (λ n. omega arith) (λ n. omega arith)) (λ r. differ _ _ name 0 e r (λ n. omega arith)) job h)
-  a_tag e (Tag job) h = (job, h.1)
-  a_tag e (Show octets) h = absurd (differ _ _ name 0 e h.0 (λ n. omega arith))
-  a_tag e (Explain octets) h = absurd (differ _ _ name 0 e h.0 (λ n. omega arith))
+  a_route : (job : Job) → IsJobFor sub.Route now words name rows job → (x : CommandJob) × IsShortJob now words name rows x
+  a_route (Help error) h = absurd h
+  a_route (Interest job) h = absurd h
+  a_route (Data job) h = absurd h
+  a_route (Command job) h = (job, h)
+  a_route (Tag job) h = absurd h
+  a_route (Show octets) h = absurd h
+  a_route (Explain job) h = absurd h
+  a_route (Send job) h = absurd h
 
-  pub a_show : name ≡ codes "show" → (job : Job) → IsNamedJob now words name rows job → (x : Vec ℕ Global) × IsShowJob rows x
-  a_show e (Help error) h = absurd h
-  a_show e (Interest job) h = absurd (differ _ _ name 0 e h.0 (λ n. omega arith))
-  a_show e (Data job) h = absurd (differ _ _ name 0 e h.0 (λ n. omega arith))
-  a_show e (Command job) h =
-      absurd (no_named (λ c. differ _ _ name 0 e c (λ n. omega arith)) (λ s. unlike_short _ name 0 1 0 s e (λ n. omega arith) (λ n. omega arith) (λ n. omega arith)) (λ r. differ _ _ name 0 e r (λ n. omega arith)) job h)
-  a_show e (Tag job) h = absurd (differ _ _ name 0 e h.0 (λ n. omega arith))
-  a_show e (Show octets) h = (octets, h.1)
-  a_show e (Explain octets) h = absurd (differ _ _ name 0 e h.0 (λ n. omega arith))
+  a_strategy : (job : Job) → IsJobFor sub.Strategy now words name rows job → (x : CommandJob) × IsShortJob now words name rows x
+  a_strategy (Help error) h = absurd h
+  a_strategy (Interest job) h = absurd h
+  a_strategy (Data job) h = absurd h
+  a_strategy (Command job) h = (job, h)
+  a_strategy (Tag job) h = absurd h
+  a_strategy (Show octets) h = absurd h
+  a_strategy (Explain job) h = absurd h
+  a_strategy (Send job) h = absurd h
 
-  pub an_explanation : name ≡ codes "explain" → (job : Job) → IsNamedJob now words name rows job → (x : Vec ℕ Global) × IsShowJob rows x
-  an_explanation e (Help error) h = absurd h
-  an_explanation e (Interest job) h = absurd (differ _ _ name 0 e h.0 (λ n. omega arith))
-  an_explanation e (Data job) h = absurd (differ _ _ name 0 e h.0 (λ n. omega arith))
-  an_explanation e (Command job) h =
-      absurd (no_named (λ c. differ _ _ name 0 e c (λ n. omega arith)) (λ s. unlike_short _ name 0 0 0 s e (λ n. omega arith) (λ n. omega arith) (λ n. omega arith)) (λ r. differ _ _ name 0 e r (λ n. omega arith)) job h)
-  an_explanation e (Tag job) h = absurd (differ _ _ name 0 e h.0 (λ n. omega arith))
-  an_explanation e (Show octets) h = absurd (differ _ _ name 0 e h.0 (λ n. omega arith))
-  an_explanation e (Explain octets) h = (octets, h.1)
+  a_cache : (job : Job) → IsJobFor sub.Cache now words name rows job → (x : CommandJob) × IsShortJob now words name rows x
+  a_cache (Help error) h = absurd h
+  a_cache (Interest job) h = absurd h
+  a_cache (Data job) h = absurd h
+  a_cache (Command job) h = (job, h)
+  a_cache (Tag job) h = absurd h
+  a_cache (Show octets) h = absurd h
+  a_cache (Explain job) h = absurd h
+  a_cache (Send job) h = absurd h
 
-  command_here : name ≡ codes "command" → (job : CommandJob) → IsNamedCommand now words name rows job → IsCommandJob rows job
-  command_here e job (inl h) = h.1
-  command_here e job (inr (inl h)) = absurd (unlike_short _ name 0 0 1 h.0 e (λ n. omega arith) (λ n. omega arith) (λ n. omega arith))
-  command_here e job (inr (inr h)) = absurd (differ _ _ name 0 e h.0 (λ n. omega arith))
+  pub a_repository : (job : Job) → IsJobFor sub.Repository now words name rows job → (x : CommandJob) × IsRepositoryJob now words rows x
+  a_repository (Help error) h = absurd h
+  a_repository (Interest job) h = absurd h
+  a_repository (Data job) h = absurd h
+  a_repository (Command job) h = (job, h)
+  a_repository (Tag job) h = absurd h
+  a_repository (Show octets) h = absurd h
+  a_repository (Explain job) h = absurd h
+  a_repository (Send job) h = absurd h
 
-  short_here : IsShortName name → (job : CommandJob) → IsNamedCommand now words name rows job → IsShortJob now words name rows job
-  short_here s job (inl h) = absurd (unlike_short _ name 0 0 1 s h.0 (λ n. omega arith) (λ n. omega arith) (λ n. omega arith))
-  short_here s job (inr (inl h)) = h.1
-  short_here s job (inr (inr h)) = absurd (unlike_short _ name 1 0 0 s h.0 (λ n. omega arith) (λ n. omega arith) (λ n. omega arith))
+  pub a_tag : (job : Job) → IsJobFor sub.Tag now words name rows job → (x : TagJob) × IsTagJob rows x
+  a_tag (Help error) h = absurd h
+  a_tag (Interest job) h = absurd h
+  a_tag (Data job) h = absurd h
+  a_tag (Command job) h = absurd h
+  a_tag (Tag job) h = (job, h)
+  a_tag (Show octets) h = absurd h
+  a_tag (Explain job) h = absurd h
+  a_tag (Send job) h = absurd h
 
-  repository_here : name ≡ codes "repo" → (job : CommandJob) → IsNamedCommand now words name rows job → IsRepositoryJob now words rows job
-  repository_here e job (inl h) = absurd (differ _ _ name 0 e h.0 (λ n. omega arith))
-  repository_here e job (inr (inl h)) = absurd (unlike_short _ name 1 0 0 h.0 e (λ n. omega arith) (λ n. omega arith) (λ n. omega arith))
-  repository_here e job (inr (inr h)) = h.1
+  pub a_show : (job : Job) → IsJobFor sub.Show now words name rows job → (x : Vec ℕ Global) × IsShowJob rows x
+  a_show (Help error) h = absurd h
+  a_show (Interest job) h = absurd h
+  a_show (Data job) h = absurd h
+  a_show (Command job) h = absurd h
+  a_show (Tag job) h = absurd h
+  a_show (Show octets) h = (octets, h)
+  a_show (Explain job) h = absurd h
+  a_show (Send job) h = absurd h
 
-  pub a_command : name ≡ codes "command" → (job : Job) → IsNamedJob now words name rows job → (x : CommandJob) × IsCommandJob rows x
-  a_command e (Help error) h = absurd h
-  a_command e (Interest job) h = absurd (differ _ _ name 0 e h.0 (λ n. omega arith))
-  a_command e (Data job) h = absurd (differ _ _ name 0 e h.0 (λ n. omega arith))
-  a_command e (Command job) h = (job, command_here e job h)
-  a_command e (Tag job) h = absurd (differ _ _ name 0 e h.0 (λ n. omega arith))
-  a_command e (Show octets) h = absurd (differ _ _ name 0 e h.0 (λ n. omega arith))
-  a_command e (Explain octets) h = absurd (differ _ _ name 0 e h.0 (λ n. omega arith))
+  pub an_explanation : (job : Job) → IsJobFor sub.Explain now words name rows job → (x : ExplainJob) × IsExplainJob rows x
+  an_explanation (Help error) h = absurd h
+  an_explanation (Interest job) h = absurd h
+  an_explanation (Data job) h = absurd h
+  an_explanation (Command job) h = absurd h
+  an_explanation (Tag job) h = absurd h
+  an_explanation (Show octets) h = absurd h
+  an_explanation (Explain job) h = (job, h)
+  an_explanation (Send job) h = absurd h
 
-  pub a_repository : name ≡ codes "repo" → (job : Job) → IsNamedJob now words name rows job → (x : CommandJob) × IsRepositoryJob now words rows x
-  a_repository e (Help error) h = absurd h
-  a_repository e (Interest job) h = absurd (differ _ _ name 0 e h.0 (λ n. omega arith))
-  a_repository e (Data job) h = absurd (differ _ _ name 0 e h.0 (λ n. omega arith))
-  a_repository e (Command job) h = (job, repository_here e job h)
-  a_repository e (Tag job) h = absurd (differ _ _ name 0 e h.0 (λ n. omega arith))
-  a_repository e (Show octets) h = absurd (differ _ _ name 0 e h.0 (λ n. omega arith))
-  a_repository e (Explain octets) h = absurd (differ _ _ name 0 e h.0 (λ n. omega arith))
+  pub a_send : (job : Job) → IsJobFor sub.Send now words name rows job → (x : SendJob) × IsSendJob rows x
+  a_send (Help error) h = absurd h
+  a_send (Interest job) h = absurd h
+  a_send (Data job) h = absurd h
+  a_send (Command job) h = absurd h
+  a_send (Tag job) h = absurd h
+  a_send (Show octets) h = absurd h
+  a_send (Explain job) h = absurd h
+  a_send (Send job) h = (job, h)
 
-  pub a_short : IsShortName name → (job : Job) → IsNamedJob now words name rows job → (x : CommandJob) × IsShortJob now words name rows x
-  a_short s (Help error) h = absurd h
-  a_short s (Interest job) h = absurd (unlike_short _ name 0 0 0 s h.0 (λ n. omega arith) (λ n. omega arith) (λ n. omega arith))
-  a_short s (Data job) h = absurd (unlike_short _ name 0 0 0 s h.0 (λ n. omega arith) (λ n. omega arith) (λ n. omega arith))
-  a_short s (Command job) h = (job, short_here s job h)
-  a_short s (Tag job) h = absurd (unlike_short _ name 0 0 0 s h.0 (λ n. omega arith) (λ n. omega arith) (λ n. omega arith))
-  a_short s (Show octets) h = absurd (unlike_short _ name 0 1 0 s h.0 (λ n. omega arith) (λ n. omega arith) (λ n. omega arith))
-  a_short s (Explain octets) h = absurd (unlike_short _ name 0 0 0 s h.0 (λ n. omega arith) (λ n. omega arith) (λ n. omega arith))
-
-  pub no_job : name ≢ codes "interest" → name ≢ codes "data" → name ≢ codes "command" → (IsShortName name → ⊥) → name ≢ codes "repo" → name ≢ codes "tag" → name ≢ codes "show" → name ≢ codes "explain"
-      → (job : Job) → IsNamedJob now words name rows job → ⊥
-  no_job i d c short r t s x (Help error) h = h
-  no_job i d c short r t s x (Interest job) h = i h.0
-  no_job i d c short r t s x (Data job) h = d h.0
-  no_job i d c short r t s x (Command job) h = no_named c short r job h
-  no_job i d c short r t s x (Tag job) h = t h.0
-  no_job i d c short r t s x (Show octets) h = s h.0
-  no_job i d c short r t s x (Explain octets) h = x h.0
+  pub a_short : (s : Subcommand) → (s ≡ sub.Route) ⊎ ((s ≡ sub.Strategy) ⊎ (s ≡ sub.Cache)) → (job : Job) → IsJobFor s now words name rows job → (x : CommandJob) × IsShortJob now words name rows x
+  a_short s (inl e) job h = a_route job (subst (λ (t : Subcommand). IsJobFor t now words name rows job) e h)
+  a_short s (inr (inl e)) job h = a_strategy job (subst (λ (t : Subcommand). IsJobFor t now words name rows job) e h)
+  a_short s (inr (inr e)) job h = a_cache job (subst (λ (t : Subcommand). IsJobFor t now words name rows job) e h)

@@ -7,3 +7,4 @@ pub mod Jobs
 pub mod ShortForms
 pub mod Singles
 pub mod RepositoryForms
+pub mod Inputs

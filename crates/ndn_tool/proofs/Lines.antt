@@ -11,22 +11,24 @@ use Rattle.clap.specs.Faults.{fault_of, is_simple_and_free}
 use Rattle.clap.specs.Kinds.{HasKind, IsAmong}
 use Rattle.clap.proofs.OnLiterals.{clap_on_literals}
 use Rattle.ndn_tool.specs.declared.job.Job.{Job}
-use Rattle.ndn_tool.specs.declared.job.Job.TheVariants.{Help, Interest, Data, Command, Tag, Show, Explain}
+use Rattle.ndn_tool.specs.declared.job.Job.TheVariants.{Help, Interest, Data, Command, Tag, Show, Explain, Send}
+use Rattle.ndn_tool.specs.declared.subcommand.Subcommand.{Subcommand}
+use Rattle.ndn_tool.specs.declared.subcommand.Subcommand.TheVariants as sub
 use Rattle.ndn_tool.specs.declared.fault.Usage.TheVariants.{CommandLine, BadValue}
 use Rattle.ndn_tool.specs.declared.fault.ToolFault.{ToolFault}
 use Rattle.ndn_tool.specs.declared.fault.ToolFault.TheVariants as fault
 use Rattle.ndn_tool.specs.Value.{ReadsInMemory}
 use Rattle.ndn_tool.specs.Nonce.{words_of}
-use Rattle.ndn_tool.specs.CommandLine.{interest_app, data_app, command_app, route_app, strategy_app, cache_app, repository_app, tag_app, show_app, explain_app, tool}
-use Rattle.ndn_tool.specs.Command.{reading_of, faults, IsJob, IsJobOf, Asks, IsWrongLine, IsRefusedLine}
+use Rattle.ndn_tool.specs.CommandLine.{interest_app, data_app, command_app, route_app, strategy_app, cache_app, repository_app, tag_app, show_app, explain_app, send_app, subcommand_named, tool}
+use Rattle.ndn_tool.specs.Command.{reading_of, faults, IsJob, IsFoundJob, IsJobOf, Asks, IsWrongLine, IsRefusedLine}
 
 -- the program's command line is of those whose matches are stated
 pub simple : is_simple tool ≡ true
-unfolding tool interest_app data_app command_app route_app strategy_app cache_app repository_app tag_app show_app explain_app clap_on_literals
+unfolding tool interest_app data_app command_app route_app strategy_app cache_app repository_app tag_app show_app explain_app send_app clap_on_literals
 simple = refl
 
 pub simple_and_free : is_simple_and_free tool ≡ true
-unfolding tool interest_app data_app command_app route_app strategy_app cache_app repository_app tag_app show_app explain_app clap_on_literals
+unfolding tool interest_app data_app command_app route_app strategy_app cache_app repository_app tag_app show_app explain_app send_app clap_on_literals
 simple_and_free = refl
 
 -- ---- an error
@@ -68,9 +70,23 @@ module _ (now : ℕ) (arguments : List (List ℕ)) (error : Error) (has : HasKin
 
 -- ---- matches
 
+no_help_of : (now : ℕ) (words name : List ℕ) (rows : List Row) (error : Error) (found : Option Subcommand) → IsFoundJob found now words name rows (Help error) → ⊥
+no_help_of now words name rows error None h = h
+no_help_of now words name rows error (Some sub.Interest) h = h
+no_help_of now words name rows error (Some sub.Data) h = h
+no_help_of now words name rows error (Some sub.Command) h = h
+no_help_of now words name rows error (Some sub.Route) h = h
+no_help_of now words name rows error (Some sub.Strategy) h = h
+no_help_of now words name rows error (Some sub.Cache) h = h
+no_help_of now words name rows error (Some sub.Repository) h = h
+no_help_of now words name rows error (Some sub.Tag) h = h
+no_help_of now words name rows error (Some sub.Show) h = h
+no_help_of now words name rows error (Some sub.Explain) h = h
+no_help_of now words name rows error (Some sub.Send) h = h
+
 no_help : (now : ℕ) (words : List ℕ) (used : Option (List ℕ × List Row)) (error : Error) → IsJob now words used (Help error) → ⊥
 no_help now words None error h = h
-no_help now words (Some used) error h = h
+no_help now words (Some used) error h = no_help_of now words used.0 used.1 error (subcommand_named used.0) h
 
 pub asked : (now : ℕ) (arguments : List (List ℕ)) → faults arguments ≡ [] → (r : Result Job ToolFault) → ReadsInMemory (IsJobOf now arguments) r → MatchResult r (Asks now arguments) (IsRefusedLine now arguments)
 asked now arguments none (Ok (Help error)) h = absurd (no_help now (words_of (drop 1 arguments)) (subcommand_of tool arguments) error h)
@@ -79,7 +95,8 @@ asked now arguments none (Ok (Data job)) h = (none, h)
 asked now arguments none (Ok (Command job)) h = (none, h)
 asked now arguments none (Ok (Tag job)) h = (none, h)
 asked now arguments none (Ok (Show octets)) h = (none, h)
-asked now arguments none (Ok (Explain octets)) h = (none, h)
+asked now arguments none (Ok (Explain job)) h = (none, h)
+asked now arguments none (Ok (Send job)) h = (none, h)
 asked now arguments none (Err (fault.Usage (CommandLine error))) h = absurd h
 asked now arguments none (Err (fault.Usage (BadValue place wanted))) h = (none, h)
 asked now arguments none (Err fault.NoKey) h = h

@@ -1,5 +1,5 @@
 -- What the program prints for a job, and why it prints nothing.
-use Rattle.std.specs.Prelude.{◌≡◌, ◌⊎◌, ℕ, List, ◌++◌, false, codes, Option, None, Some, ⊤}
+use Rattle.std.specs.Prelude.{◌≡◌, ◌⊎◌, ℕ, List, [], ◌++◌, false, codes, Option, None, Some, ⊤}
 use Rattle.std.specs.Option.{option_map}
 use Rattle.hex.specs.Hex.{encode_lower}
 use Rattle.ndn_tlv.specs.Element.{Field}
@@ -19,11 +19,14 @@ use Rattle.ndn_tool.specs.declared.job.InterestJob.{InterestJob}
 use Rattle.ndn_tool.specs.declared.job.DataJob.{DataJob}
 use Rattle.ndn_tool.specs.declared.job.CommandJob.{CommandJob}
 use Rattle.ndn_tool.specs.declared.job.TagJob.{TagJob}
+use Rattle.ndn_tool.specs.declared.job.ExplainJob.{ExplainJob}
+use Rattle.ndn_tool.specs.declared.tag_check.TagCheck.{TagCheck}
 use Rattle.ndn_tool.specs.declared.job.Job.{Job}
 use Rattle.ndn_tool.specs.declared.job.Job.TheVariants as job
 use Rattle.ndn_tool.specs.declared.fault.ToolFault.{ToolFault}
 use Rattle.ndn_tool.specs.declared.fault.ToolFault.TheVariants as fault
 use Rattle.ndn_tool.specs.Show.{frame_lines}
+use Rattle.ndn_tool.specs.TagCheck.{MayBeChecked}
 use Rattle.ndn_tool.specs.Explain.{explanation}
 use Rattle.ndn_tool.specs.Parameters.{command_name, IsTooLong}
 
@@ -114,10 +117,14 @@ IsDataAnswer job book text =
     (w : DataWriter) × AsksData job book w × (data_refusal w ≡ None)
     × (text ≡ hex_line (data_text w))
 
+abbrev pub IsCommandPacket : CommandJob → List NamedKey → List ℕ → Type 0
+IsCommandPacket job book packet =
+    (w : InterestWriter) × AsksCommand job book w × (interest_refusal w ≡ None)
+    × (packet ≡ interest_text w)
+
 abbrev pub IsCommandAnswer : CommandJob → List NamedKey → List ℕ → Type 0
 IsCommandAnswer job book text =
-    (w : InterestWriter) × AsksCommand job book w × (interest_refusal w ≡ None)
-    × (text ≡ hex_line (interest_text w))
+    (packet : List ℕ) × IsCommandPacket job book packet × (text ≡ hex_line packet)
 
 -- the line of the tag of the octets under the key
 abbrev pub IsTagAnswer : TagJob → List NamedKey → List ℕ → Type 0
@@ -128,10 +135,28 @@ IsTagAnswer job book text =
 abbrev pub IsShown : List ℕ → List ℕ → Type 0
 IsShown octets text = (frame : PlainFrame) × IsFrame octets frame × (text ≡ frame_lines frame)
 
--- the same, in words
-abbrev pub IsExplained : List ℕ → List ℕ → Type 0
-IsExplained octets text =
-    (frame : PlainFrame) × IsFrame octets frame × (text ≡ explanation frame)
+-- the same, in words, and whether the signature is right where keys are given
+abbrev pub IsExplained : Option (List NamedKey) → List ℕ → List ℕ → Type 0
+IsExplained keys octets text =
+    (frame : PlainFrame) × (check : Option TagCheck) × IsFrame octets frame
+    × MayBeChecked frame keys check × (text ≡ explanation frame check)
+
+-- keys are given by a key file
+abbrev pub with_file : {A : Type 0} → Option A → List NamedKey → Option (List NamedKey)
+with_file None book = None
+with_file (Some path) book = Some book
+
+abbrev pub keys_given : ExplainJob → List NamedKey → Option (List NamedKey)
+keys_given job book = with_file job.keys book
+
+-- nothing of packets of standard input, which are said when they are read
+abbrev pub IsPacketExplained : Option (List NamedKey) → Option (List ℕ) → List ℕ → Type 0
+IsPacketExplained keys None text = text ≡ []
+IsPacketExplained keys (Some octets) text = IsExplained keys octets text
+
+abbrev pub IsExplainAnswer : ExplainJob → List NamedKey → List ℕ → Type 0
+IsExplainAnswer job book text =
+    IsPacketExplained (keys_given job book) (option_map (λ p. p.items) job.packet) text
 
 -- what help says, the reader of the command line knows
 abbrev pub IsAnswer : Job → List NamedKey → List ℕ → Type 0
@@ -141,7 +166,8 @@ IsAnswer (job.Data asked) book text = IsDataAnswer asked book text
 IsAnswer (job.Command asked) book text = IsCommandAnswer asked book text
 IsAnswer (job.Tag asked) book text = IsTagAnswer asked book text
 IsAnswer (job.Show octets) book text = IsShown octets.items text
-IsAnswer (job.Explain octets) book text = IsExplained octets.items text
+IsAnswer (job.Explain asked) book text = IsExplainAnswer asked book text
+IsAnswer (job.Send asked) book text = text ≡ []
 
 -- ---- refusals: each but that for memory has its cause
 
@@ -186,6 +212,14 @@ IsNotShown octets (fault.Write why) = ⊥
 IsNotShown octets (fault.Packet why) = FaultOf octets why
 IsNotShown octets fault.Memory = ⊤
 
+abbrev pub IsPacketRefusal : Option (List ℕ) → ToolFault → Type 0
+IsPacketRefusal None why = ⊥
+IsPacketRefusal (Some octets) why = IsNotShown octets why
+
+abbrev pub IsExplainRefusal : ExplainJob → ToolFault → Type 0
+IsExplainRefusal job fault.Memory = ⊤
+IsExplainRefusal job why = IsPacketRefusal (option_map (λ p. p.items) job.packet) why
+
 abbrev pub IsRefusal : Job → List NamedKey → ToolFault → Type 0
 IsRefusal (job.Help help) book why = why ≡ fault.Memory
 IsRefusal (job.Interest asked) book why = IsInterestRefusal asked book why
@@ -193,4 +227,5 @@ IsRefusal (job.Data asked) book why = IsDataRefusal asked book why
 IsRefusal (job.Command asked) book why = IsCommandRefusal asked book why
 IsRefusal (job.Tag asked) book why = IsTagRefusal asked book why
 IsRefusal (job.Show octets) book why = IsNotShown octets.items why
-IsRefusal (job.Explain octets) book why = IsNotShown octets.items why
+IsRefusal (job.Explain asked) book why = IsExplainRefusal asked why
+IsRefusal (job.Send asked) book why = why ≡ fault.Memory

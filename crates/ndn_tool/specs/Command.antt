@@ -1,5 +1,5 @@
 -- What the arguments of a command line ask for, and what is refused.
-use Rattle.std.specs.Prelude.{◌≡◌, ◌≢◌, ◌⊎◌, ℕ, List, [], drop, Option, None, Some, Result, Ok, Err, codes, ⊤}
+use Rattle.std.specs.Prelude.{◌≡◌, ◌≢◌, ℕ, List, [], drop, Option, None, Some, Result, Ok, Err, codes, ⊤}
 use Rattle.clap.specs.Walk.{Row}
 use Rattle.clap.specs.Words.{kind_of}
 use Rattle.clap.specs.Simple.{subcommand_of}
@@ -9,17 +9,18 @@ use Rattle.clap.specs.declared.error.Error.{Error}
 use Rattle.clap.specs.declared.error.kind.ErrorKind.{ErrorKind}
 use Rattle.clap.specs.declared.error.kind.ErrorKind.TheVariants.{DisplayHelp, OutOfMemory}
 use Rattle.ndn_tool.specs.declared.job.Job.{Job}
-use Rattle.ndn_tool.specs.declared.job.Job.TheVariants.{Help, Interest, Data, Command, Tag, Show, Explain}
+use Rattle.ndn_tool.specs.declared.job.Job.TheVariants.{Help, Interest, Data, Command, Tag, Show, Explain, Send}
+use Rattle.ndn_tool.specs.declared.subcommand.Subcommand.{Subcommand}
+use Rattle.ndn_tool.specs.declared.subcommand.Subcommand.TheVariants as sub
 use Rattle.ndn_tool.specs.declared.fault.Usage.{Usage as WrongUsage}
 use Rattle.ndn_tool.specs.declared.fault.Usage.TheVariants.{CommandLine, BadValue}
 use Rattle.ndn_tool.specs.declared.fault.ToolFault.{ToolFault}
 use Rattle.ndn_tool.specs.declared.fault.ToolFault.TheVariants.{Usage, Memory}
-use Rattle.ndn_tool.specs.declared.job.CommandJob.{CommandJob}
-use Rattle.ndn_tool.specs.Options.{IsInterestJob, IsDataJob, IsCommandJob, IsTagJob, IsShowJob}
+use Rattle.ndn_tool.specs.Options.{IsInterestJob, IsDataJob, IsCommandJob, IsTagJob, IsShowJob, IsExplainJob, IsSendJob}
 use Rattle.ndn_tool.specs.ShortForm.{IsShortJob}
 use Rattle.ndn_tool.specs.RepositoryForm.{IsRepositoryJob}
 use Rattle.ndn_tool.specs.Nonce.{words_of}
-use Rattle.ndn_tool.specs.CommandLine.{tool}
+use Rattle.ndn_tool.specs.CommandLine.{subcommand_named, tool}
 
 -- help was asked for, memory was refused, or the command line is wrong
 abbrev pub reading_of : ErrorKind → Error → Result Job ToolFault
@@ -29,27 +30,29 @@ reading_of kind error = Err (Usage (CommandLine error))
 
 -- ---- jobs
 
--- the subcommands that have short forms
-abbrev pub IsShortName : List ℕ → Type 0
-IsShortName name = (name ≡ codes "route") ⊎ ((name ≡ codes "strategy") ⊎ (name ≡ codes "cache"))
+-- what the options of a subcommand, which goes by this name, ask for at this time and in these
+-- words; `route`, `strategy` and `cache` are short forms of `command`, and so is `repo`
+abbrev pub IsJobFor : Subcommand → ℕ → List ℕ → List ℕ → List Row → Job → Type 0
+IsJobFor sub.Interest now words name rows (Interest job) = IsInterestJob rows job
+IsJobFor sub.Data now words name rows (Data job) = IsDataJob rows job
+IsJobFor sub.Command now words name rows (Command job) = IsCommandJob rows job
+IsJobFor sub.Route now words name rows (Command job) = IsShortJob now words name rows job
+IsJobFor sub.Strategy now words name rows (Command job) = IsShortJob now words name rows job
+IsJobFor sub.Cache now words name rows (Command job) = IsShortJob now words name rows job
+IsJobFor sub.Repository now words name rows (Command job) = IsRepositoryJob now words rows job
+IsJobFor sub.Tag now words name rows (Tag job) = IsTagJob rows job
+IsJobFor sub.Show now words name rows (Show octets) = IsShowJob rows octets
+IsJobFor sub.Explain now words name rows (Explain job) = IsExplainJob rows job
+IsJobFor sub.Send now words name rows (Send job) = IsSendJob rows job
+IsJobFor subcommand now words name rows job = ⊥
 
--- `command`, or a short form: of the node's commands, or of a repository's
-abbrev pub IsNamedCommand : ℕ → List ℕ → List ℕ → List Row → CommandJob → Type 0
-IsNamedCommand now words name rows job =
-    ((name ≡ codes "command") × IsCommandJob rows job)
-    ⊎ ((IsShortName name × IsShortJob now words name rows job)
-    ⊎ ((name ≡ codes "repo") × IsRepositoryJob now words rows job))
+abbrev pub IsFoundJob : Option Subcommand → ℕ → List ℕ → List ℕ → List Row → Job → Type 0
+IsFoundJob None now words name rows job = ⊥
+IsFoundJob (Some subcommand) now words name rows job = IsJobFor subcommand now words name rows job
 
--- what the options of the subcommand of this name ask for, at this time and in these words
+-- the same, of the subcommand of this name, if there is one
 abbrev pub IsNamedJob : ℕ → List ℕ → List ℕ → List Row → Job → Type 0
-IsNamedJob now words name rows (Help error) = ⊥
-IsNamedJob now words name rows (Interest job) = (name ≡ codes "interest") × IsInterestJob rows job
-IsNamedJob now words name rows (Data job) = (name ≡ codes "data") × IsDataJob rows job
-IsNamedJob now words name rows (Command job) = IsNamedCommand now words name rows job
-IsNamedJob now words name rows (Tag job) = (name ≡ codes "tag") × IsTagJob rows job
-IsNamedJob now words name rows (Show octets) = (name ≡ codes "show") × IsShowJob rows octets
-IsNamedJob now words name rows (Explain octets) =
-    (name ≡ codes "explain") × IsShowJob rows octets
+IsNamedJob now words name rows job = IsFoundJob (subcommand_named name) now words name rows job
 
 -- the same, of the subcommand that was found, if one was
 abbrev pub IsJob : ℕ → List ℕ → Option (List ℕ × List Row) → Job → Type 0

@@ -1,11 +1,15 @@
 -- The command line that the program has, as `clap` reads commands.
-use Rattle.std.specs.Prelude.{◌≡◌, ℕ, List, [], ◌∷◌, Some, true, false, codes}
+use Rattle.std.specs.Prelude.{◌≡◌, ℕ, List, [], ◌∷◌, Option, None, Some, true, false, codes, bytes_eq, if◌then◌else◌}
 use Rattle.clap.specs.declared.builder.action.ArgAction.TheVariants.{SetTrue}
 use Rattle.clap.specs.declared.builder.arg.Arg.{Arg}
 use Rattle.clap.specs.declared.builder.command.Command.{Command}
 use Rattle.clap.specs.declared.builder.command.Command.TheViews.{out-Command}
 use Rattle.clap.specs.Walk.{Rule, rule_of}
-use Rattle.clap.specs.Simple.{App, app_of, new_rule, new_shape, with_rule}
+use Rattle.clap.specs.Simple.{App, app_of, new_app, new_rule, new_shape, with_rule, with_subcommand}
+use Rattle.ndn_tool.specs.declared.argument.Argument.{Argument}
+use Rattle.ndn_tool.specs.declared.argument.Argument.TheVariants.{Positional, MaybePositional, Optional, Required, Flag}
+use Rattle.ndn_tool.specs.declared.subcommand.Subcommand.{Subcommand}
+use Rattle.ndn_tool.specs.declared.subcommand.Subcommand.TheVariants.{Interest, Data, Command as AnyCommand, Route, Strategy, Cache, Repository, Tag, Show, Explain, Send}
 
 -- ---- arguments
 
@@ -28,11 +32,29 @@ a_required_option id = record (new_rule id) { long = Some id; value_names = 1; r
 abbrev pub a_flag : List ℕ → Rule
 a_flag id = record (new_rule id) { long = Some id; action = Some SetTrue }
 
+-- by the row of a table
+abbrev pub rule_for : Argument → Rule
+rule_for (Positional id help) = a_positional id.now
+rule_for (MaybePositional id help) = an_optional_positional id.now
+rule_for (Optional id value help) = an_option id.now
+rule_for (Required id value help) = a_required_option id.now
+rule_for (Flag id help) = a_flag id.now
+
 -- ---- commands
 
--- a subcommand with its arguments in turn
+-- a command with more arguments in turn
+abbrev pub with_rules : App → List Rule → App
+with_rules app [] = app
+with_rules app (rule ∷ rules) = with_rules (with_rule app rule) rules
+
+-- a command with more subcommands in turn
+abbrev pub with_subcommands : App → List App → App
+with_subcommands app [] = app
+with_subcommands app (below ∷ more) = with_subcommands (with_subcommand app below.top) more
+
+-- a subcommand with its arguments
 abbrev pub a_subcommand : List ℕ → List Rule → App
-a_subcommand name rules = record { top = record (new_shape name) { rules = rules }; subs = [] }
+a_subcommand name rules = with_rules (new_app name) rules
 
 unfoldable pub interest_app : App
 interest_app = a_subcommand (codes "interest") (
@@ -75,15 +97,18 @@ command_app = a_subcommand (codes "command") (
     ∷ an_option (codes "key")
     ∷ [])
 
--- a short form, with the options of its time, its Nonce and its key
+-- a short form, with the options of its time, its Nonce, its key and the ports that it is sent to and
+-- from
 abbrev pub stamped : App → App
-stamped app =
-    with_rule (with_rule (with_rule (with_rule (with_rule app
-    (an_option (codes "time")))
-    (an_option (codes "nonce")))
-    (an_option (codes "seq")))
-    (an_option (codes "keys")))
-    (an_option (codes "key"))
+stamped app = with_rules app (
+    an_option (codes "time")
+    ∷ an_option (codes "nonce")
+    ∷ an_option (codes "seq")
+    ∷ an_option (codes "keys")
+    ∷ an_option (codes "key")
+    ∷ an_option (codes "send")
+    ∷ an_option (codes "from")
+    ∷ [])
 
 unfoldable pub route_app : App
 route_app = stamped (a_subcommand (codes "route") (
@@ -127,7 +152,47 @@ unfoldable pub show_app : App
 show_app = a_subcommand (codes "show") (a_positional (codes "HEX") ∷ [])
 
 unfoldable pub explain_app : App
-explain_app = a_subcommand (codes "explain") (a_positional (codes "HEX") ∷ [])
+explain_app = a_subcommand (codes "explain") (
+    a_positional (codes "HEX")
+    ∷ an_option (codes "keys")
+    ∷ [])
+
+unfoldable pub send_app : App
+send_app = a_subcommand (codes "send") (
+    a_positional (codes "HEX")
+    ∷ a_required_option (codes "to")
+    ∷ an_option (codes "from")
+    ∷ [])
+
+-- ---- the subcommands by their names
+
+abbrev pub app_for : Subcommand → App
+app_for Interest = interest_app
+app_for Data = data_app
+app_for AnyCommand = command_app
+app_for Route = route_app
+app_for Strategy = strategy_app
+app_for Cache = cache_app
+app_for Repository = repository_app
+app_for Tag = tag_app
+app_for Show = show_app
+app_for Explain = explain_app
+app_for Send = send_app
+
+abbrev pub subcommand_named : List ℕ → Option Subcommand
+subcommand_named word =
+    if bytes_eq word (codes "interest") then Some Interest else (
+    if bytes_eq word (codes "data") then Some Data else (
+    if bytes_eq word (codes "command") then Some AnyCommand else (
+    if bytes_eq word (codes "route") then Some Route else (
+    if bytes_eq word (codes "strategy") then Some Strategy else (
+    if bytes_eq word (codes "cache") then Some Cache else (
+    if bytes_eq word (codes "repo") then Some Repository else (
+    if bytes_eq word (codes "tag") then Some Tag else (
+    if bytes_eq word (codes "show") then Some Show else (
+    if bytes_eq word (codes "explain") then Some Explain else (
+    if bytes_eq word (codes "send") then Some Send else
+    None))))))))))
 
 -- one of these is required, and none is named `help`
 unfoldable pub tool : App
@@ -141,7 +206,7 @@ tool = record {
   subs =
       interest_app.top ∷ data_app.top ∷ command_app.top ∷ route_app.top ∷ strategy_app.top
       ∷ cache_app.top ∷ repository_app.top ∷ tag_app.top ∷ show_app.top
-      ∷ explain_app.top ∷ [];
+      ∷ explain_app.top ∷ send_app.top ∷ [];
 }
 
 -- ---- what is built

@@ -1,14 +1,17 @@
 -- What a packet says to whoever looks for a fault, as lines of text: the lines of `show`, what its
--- SignatureInfo holds (NDN Packet Format 0.3, "Signature"), and the command, the reply or the
--- entries of a list that it holds.
+-- SignatureInfo holds (NDN Packet Format 0.3, "Signature"), whether the signature is right, and the
+-- segment, the command, the reply or the entries of a list that it is.
 use Rattle.std.specs.Prelude.{ℕ, List, [], ◌++◌, codes, Option, None, Some}
 use Rattle.std.specs.Option.{option_map}
 use Rattle.std.specs.Fmt.{decimal}
 use Rattle.ndn_names.specs.Uri.{uri_of}
-use Rattle.ndn_packets.specs.Packet.{PlainLocator, Missing, KeyName, Digest, Other, PlainSignature, PlainSignatureInfo, PlainFrame, AnInterest, AData, ANack, Idle}
+use Rattle.ndn_packets.specs.Packet.{PlainLocator, Missing, KeyName, Digest, Other, PlainSignature, PlainSignatureInfo, PlainData, PlainFrame, AnInterest, AData, ANack, Idle}
 use Rattle.ndn_tool.specs.Show.{optional_line, frame_lines}
 use Rattle.ndn_tool.specs.Meaning.{command_lines, reply_lines}
 use Rattle.ndn_tool.specs.Dataset.{dataset_lines}
+use Rattle.ndn_tool.specs.Segment.{segment_lines}
+use Rattle.ndn_tool.specs.declared.tag_check.TagCheck.{TagCheck}
+use Rattle.ndn_tool.specs.TagCheck.{check_lines}
 
 -- a URI, or which other kind of KeyLocator it is
 abbrev pub locator_text : PlainLocator → Option (List ℕ)
@@ -38,11 +41,17 @@ abbrev pub content_lines : Option (List ℕ) → List ℕ
 content_lines None = []
 content_lines (Some content) = reply_lines content ++ dataset_lines content
 
+-- of a Data with these octets
+abbrev pub data_meaning : List ℕ → PlainData → List ℕ
+data_meaning whole d = segment_lines d.name whole ++ content_lines d.content
+
 abbrev pub meaning : PlainFrame → List ℕ
 meaning (AnInterest whole i) = command_lines i.name
-meaning (AData whole d) = content_lines d.content
+meaning (AData whole d) = data_meaning whole d
 meaning (ANack reason whole i) = command_lines i.name
 meaning Idle = []
 
-abbrev pub explanation : PlainFrame → List ℕ
-explanation frame = frame_lines frame ++ (signer_lines (signature_of frame) ++ meaning frame)
+abbrev pub explanation : PlainFrame → Option TagCheck → List ℕ
+explanation frame check =
+    frame_lines frame
+    ++ (signer_lines (signature_of frame) ++ (check_lines check ++ meaning frame))

@@ -43,6 +43,9 @@ status_of (fault.Keys why) = key_status why
 status_of fault.Read = 3
 status_of fault.Clock = 3
 status_of fault.Write = 3
+status_of fault.Input = 3
+status_of fault.Send = 3
+status_of fault.NoAnswer = 3
 
 abbrev pub out_of_memory : List ℕ
 out_of_memory = codes "error: out of memory\n"
@@ -77,3 +80,7 @@ text_of (fault.Keys why) = Some (key_text why)
 text_of fault.Read = Some (codes "error: the key file cannot be read\n")
 text_of fault.Clock = Some (codes "error: the clock cannot be read\n")
 text_of fault.Write = Some (codes "error: standard output cannot be written\n")
+text_of fault.Input = Some (codes "error: standard input cannot be read as UTF-8 text\n")
+text_of fault.Send = Some (codes "error: the packet cannot be sent to this port\n")
+text_of fault.NoAnswer =
+    Some (codes "error: no answer came; see that a node listens on this port\n")

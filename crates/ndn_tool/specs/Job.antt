@@ -2,7 +2,7 @@
 use Rattle.std.specs.Prelude.{ℕ, List, Option, None, Some, string_bytes}
 use Rattle.std.specs.Option.{option_map}
 use Rattle.ndn_tool.specs.declared.job.Job.{Job}
-use Rattle.ndn_tool.specs.declared.job.Job.TheVariants.{Help, Interest, Data, Command, Tag, Show, Explain}
+use Rattle.ndn_tool.specs.declared.job.Job.TheVariants.{Help, Interest, Data, Command, Tag, Show, Explain, Send}
 
 -- the path of the key file that a job names
 abbrev pub key_file_of : Job → Option (List ℕ)
@@ -12,4 +12,5 @@ key_file_of (Data job) = option_map string_bytes job.key.keys
 key_file_of (Command job) = option_map string_bytes job.stamp.key.keys
 key_file_of (Tag job) = Some (string_bytes job.keys)
 key_file_of (Show octets) = None
-key_file_of (Explain octets) = None
+key_file_of (Explain job) = option_map string_bytes job.keys
+key_file_of (Send job) = None

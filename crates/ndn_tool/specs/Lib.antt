@@ -12,6 +12,9 @@ pub mod Show
 pub mod Fields
 pub mod Meaning
 pub mod Dataset
+pub mod Segment
+pub mod TagCheck
 pub mod Explain
+pub mod Input
 pub mod Parameters
 pub mod Answer

@@ -12,7 +12,9 @@ use Rattle.ndn_tool.specs.declared.job.Parameters.{Parameters}
 use Rattle.ndn_tool.specs.declared.job.Stamp.{Stamp}
 use Rattle.ndn_tool.specs.declared.job.CommandJob.{CommandJob}
 use Rattle.ndn_tool.specs.declared.job.TagJob.{TagJob}
-use Rattle.ndn_tool.specs.Value.{IsNumber, IsHops, AreOctets, IsNonce}
+use Rattle.ndn_tool.specs.declared.job.ExplainJob.{ExplainJob}
+use Rattle.ndn_tool.specs.declared.job.SendJob.{SendJob}
+use Rattle.ndn_tool.specs.Value.{IsNumber, IsHops, IsPort, AreOctets, IsPacket, IsNonce}
 
 -- what was found, option by option
 abbrev pub rows_in : ArgMatches → List Row
@@ -92,6 +94,8 @@ pub record IsStamp (rows : List Row) (stamp : Stamp) : Type 0 where
   pub time : Has (value_at rows (codes "time")) IsNumber stamp.time
   pub seq : MayHave (value_at rows (codes "seq")) IsNumber stamp.seq
   pub key : IsKeyChoice rows stamp.key
+  pub to : stamp.to ≡ None
+  pub from : stamp.from ≡ None
 
 pub record IsCommandJob (rows : List Row) (job : CommandJob) : Type 0 where
   pub name : Has (value_at rows (codes "URI")) ReadsAs job.name
@@ -103,6 +107,15 @@ pub record IsTagJob (rows : List Row) (job : TagJob) : Type 0 where
   pub keys : Has (value_at rows (codes "keys")) IsPath job.keys
   pub key : Has (value_at rows (codes "key")) ReadsAs job.key
 
--- the octets to show or to explain
+pub record IsExplainJob (rows : List Row) (job : ExplainJob) : Type 0 where
+  pub packet : Has (value_at rows (codes "HEX")) IsPacket job.packet
+  pub keys : MayHave (value_at rows (codes "keys")) IsPath job.keys
+
+pub record IsSendJob (rows : List Row) (job : SendJob) : Type 0 where
+  pub packet : Has (value_at rows (codes "HEX")) IsPacket job.packet
+  pub to : Has (value_at rows (codes "to")) IsPort job.to
+  pub from : MayHave (value_at rows (codes "from")) IsPort job.from
+
+-- the octets to show
 abbrev pub IsShowJob : {Z : Type 0} → List Row → Vec ℕ Z → Type 0
 IsShowJob rows octets = Has (value_at rows (codes "HEX")) AreOctets octets

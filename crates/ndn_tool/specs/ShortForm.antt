@@ -7,7 +7,7 @@ use Rattle.ndn_tool.specs.declared.job.Stamp.{Stamp}
 use Rattle.ndn_tool.specs.declared.job.CommandJob.{CommandJob}
 use Rattle.ndn_tool.specs.declared.short_form.ShortForm.{ShortForm}
 use Rattle.ndn_tool.specs.declared.short_form.ShortForm.TheVariants.{AddRoute, RemoveRoute, SetStrategy, UnsetStrategy, EraseCache}
-use Rattle.ndn_tool.specs.Value.{IsNumber, IsNonce}
+use Rattle.ndn_tool.specs.Value.{IsNumber, IsPort, IsNonce}
 use Rattle.ndn_tool.specs.Options.{value_at, Has, MayHave, IsKeyChoice, SpellsStrategy}
 use Rattle.ndn_tool.specs.Nonce.{nonce_of}
 
@@ -72,6 +72,10 @@ pub record IsShortStamp (now : ℕ) (words : List ℕ) (rows : List Row) (stamp 
   pub nonce : HasOr (nonce_of stamp.time words) (value_at rows (codes "nonce")) IsNonce stamp.nonce
   pub seq : MayHave (value_at rows (codes "seq")) IsNumber stamp.seq
   pub key : IsKeyChoice rows stamp.key
+  pub to : MayHave (value_at rows (codes "send")) IsPort stamp.to
+  pub from : MayHave (value_at rows (codes "from")) IsPort stamp.from
+  -- a port to send from wants one to send to
+  pub pair : is_none stamp.to && is_some stamp.from ≡ false
 
 pub record IsFormJob (form : ShortForm) (now : ℕ) (words : List ℕ) (rows : List Row)
     (job : CommandJob) : Type 0 where

@@ -1,5 +1,5 @@
 -- The values that texts of a command line spell, and the fault of a text that spells none.
-use Rattle.std.specs.Prelude.{◌≡◌, ℕ, ◌<◌, ◌^◌, List, length, Result, Ok, Err, Vec, ⊤}
+use Rattle.std.specs.Prelude.{◌≡◌, ℕ, ◌<◌, ◌^◌, List, length, codes, Option, None, Some, Result, Ok, Err, Vec, ⊤}
 use Rattle.std.specs.Str.Parse.{IsNumeral, digits_value}
 use Rattle.hex.specs.Hex.{decode_of}
 use Rattle.ndn_tool.specs.declared.fault.Usage.TheVariants.{BadValue}
@@ -14,6 +14,10 @@ IsNumber text n = IsNumeral 10 text × (digits_value 10 text ≡ n) × (n < 2 ^ 
 abbrev pub IsHops : List ℕ → ℕ → Type 0
 IsHops text n = IsNumeral 10 text × (digits_value 10 text ≡ n) × (n < 256)
 
+-- the same, from 1 to 65535
+abbrev pub IsPort : List ℕ → ℕ → Type 0
+IsPort text n = IsNumeral 10 text × (digits_value 10 text ≡ n) × (0 < n) × (n < 65536)
+
 -- two hexadecimal digits of either case for each octet
 abbrev pub IsOctets : List ℕ → List ℕ → Type 0
 IsOctets text octets = decode_of text ≡ Ok octets
@@ -21,7 +25,12 @@ IsOctets text octets = decode_of text ≡ Ok octets
 abbrev pub AreOctets : {Z : Type 0} → List ℕ → Vec ℕ Z → Type 0
 AreOctets text octets = IsOctets text octets.items
 
--- the same, of 4 octets
+-- the octets of a packet, or a dash for none
+abbrev pub IsPacket : {Z : Type 0} → List ℕ → Option (Vec ℕ Z) → Type 0
+IsPacket text None = text ≡ codes "-"
+IsPacket text (Some octets) = AreOctets text octets
+
+-- the 4 octets of a Nonce
 abbrev pub IsNonce : List ℕ → List ℕ → Type 0
 IsNonce text octets = IsOctets text octets × (length octets ≡ 4)
 

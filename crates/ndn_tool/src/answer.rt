@@ -2,12 +2,12 @@
 ghost use Rattle.std.specs.Prelude.{◌≡◌, ◌++◌, List, ℕ, IfOk, OnErr, MatchResult, option_map};
 ghost use Rattle.ndn_packets.specs.Link.{IsFrame};
 ghost use Rattle.ndn_packets.specs.View.{plain_frame};
-ghost use Rattle.ndn_tool.specs.Answer.{IsAnswer, IsRefusal, IsInterestAnswer, IsInterestRefusal, IsDataAnswer, IsDataRefusal, IsCommandAnswer, IsCommandRefusal, IsTagAnswer, IsTagRefusal, IsShown, IsExplained, IsNotShown, IsHmac, SignsInterest, SignsData, IsNoKey, hex_line};
+ghost use Rattle.ndn_tool.specs.Answer.{IsAnswer, IsRefusal, IsInterestAnswer, IsInterestRefusal, IsDataAnswer, IsDataRefusal, IsCommandPacket, IsCommandAnswer, IsCommandRefusal, IsTagAnswer, IsTagRefusal, IsShown, IsExplained, IsExplainAnswer, IsExplainRefusal, IsNotShown, keys_given, IsHmac, SignsInterest, SignsData, IsNoKey, hex_line};
 ghost use Rattle.ndn_tool.specs.Parameters.{command_name};
 
-use crate::explain::put_explanation;
+use crate::explain::{check_of, put_explanation};
 use crate::fault::ToolFault;
-use crate::job::{CommandJob, DataJob, InterestJob, Job, TagJob};
+use crate::job::{CommandJob, DataJob, ExplainJob, InterestJob, Job, TagJob};
 use crate::parameters::command_name;
 use crate::show::put_frame;
 use hmac_keys::{KeyBook, hmac_sha256};
@@ -16,7 +16,8 @@ use ndn_packets::{DataWriter, Frame, InterestWriter, Sign, read_frame};
 use ndn_tlv::Memory;
 use std::alloc::{AllocError, Global};
 
-/// Appends what the program prints for a job, with the keys of its key file.
+/// Appends what the program prints for a job, with the keys of its key file; nothing for a packet
+/// to send, nor for packets of standard input.
 ///
 /// Refuses a job by its cause or by `Memory`, never by `Usage`, and then appends nothing.
 pub fn answer(alloc: Global, job: &Job, book: &KeyBook, out: &mut Vec<u8>) -> Result<(), ToolFault>
@@ -43,7 +44,8 @@ fn text_of(alloc: Global, job: &Job, book: &KeyBook) -> Result<Vec<u8>, ToolFaul
         Job::Command(job) => command_text(alloc, job, book),
         Job::Tag(job) => tag_text(alloc, job, book),
         Job::Show(octets) => shown_text(alloc, octets),
-        Job::Explain(octets) => explained_text(alloc, octets),
+        Job::Explain(job) => explain_text(alloc, job, book),
+        Job::Send(_) => Ok(Vec::new(alloc)),
     }
 }
 
@@ -93,6 +95,16 @@ fn command_text(alloc: Global, job: &CommandJob, book: &KeyBook) -> Result<Vec<u
         (λ text. IsCommandAnswer job.now book.now text.items)
         (IsCommandRefusal job.now book.now) }
 {
+    let packet = command_packet(alloc, job, book)?;
+    Ok(hex_line(alloc, &packet)?)
+}
+
+/// The packet of a command, with the keys of its key file.
+pub fn command_packet(alloc: Global, job: &CommandJob, book: &KeyBook) -> Result<Vec<u8>, ToolFault>
+    ensures { MatchResult result
+        (λ packet. IsCommandPacket job.now book.now packet.items)
+        (IsCommandRefusal job.now book.now) }
+{
     match command_name(alloc, job) {
         Ok(name) => named_command(alloc, job, &name, book),
         Err(fault) => {
@@ -103,7 +115,7 @@ fn command_text(alloc: Global, job: &CommandJob, book: &KeyBook) -> Result<Vec<u
     }
 }
 
-/// The line of a command whose Interest has this name, but for its digest.
+/// The packet of a command whose Interest has this name, but for its digest.
 fn named_command<'a>(
     alloc: Global,
     job: &'a CommandJob,
@@ -112,7 +124,7 @@ fn named_command<'a>(
 ) -> Result<Vec<u8>, ToolFault>
     requires { name.now ≡ command_name job.now }
     ensures { MatchResult result
-        (λ text. IsCommandAnswer job.now book.now text.items)
+        (λ packet. IsCommandPacket job.now book.now packet.items)
         (IsCommandRefusal job.now book.now) }
 {
     let sign = data_sign(&job.stamp.key.key, book)?;
@@ -131,7 +143,7 @@ fn named_command<'a>(
     };
     let mut packet = Vec::new(alloc);
     writer.write(&mut packet)?;
-    Ok(hex_line(alloc, &packet)?)
+    Ok(packet)
 }
 
 fn tag_text(alloc: Global, job: &TagJob, book: &KeyBook) -> Result<Vec<u8>, ToolFault>
@@ -154,14 +166,41 @@ fn shown_text(alloc: Global, octets: &[u8]) -> Result<Vec<u8>, ToolFault>
     Ok(text)
 }
 
-fn explained_text(alloc: Global, octets: &[u8]) -> Result<Vec<u8>, ToolFault>
+fn explain_text(alloc: Global, job: &ExplainJob, book: &KeyBook) -> Result<Vec<u8>, ToolFault>
     ensures { MatchResult result
-        (λ text. IsExplained octets.now text.items)
+        (λ text. IsExplainAnswer job.now book.now text.items)
+        (IsExplainRefusal job.now) }
+{
+    match &job.packet {
+        None => Ok(Vec::new(alloc)),
+        Some(octets) => explained_text(alloc, octets, keys_given(job, book)),
+    }
+}
+
+/// The keys to check signatures with, where the job names a key file.
+pub fn keys_given<'a>(job: &ExplainJob, book: &'a KeyBook) -> Option<&'a KeyBook>
+    ensures { option_map (λ b. b.now) result ≡ keys_given job.now book.entry.now }
+{
+    match &job.keys {
+        None => None,
+        Some(_) => Some(book),
+    }
+}
+
+/// The octets of a packet in words. With keys its signature is checked.
+pub fn explained_text(
+    alloc: Global,
+    octets: &[u8],
+    keys: Option<&KeyBook>,
+) -> Result<Vec<u8>, ToolFault>
+    ensures { MatchResult result
+        (λ text. IsExplained (option_map (λ b. b.now) keys.entry) octets.now text.items)
         (IsNotShown octets.now) }
 {
     let frame = frame_of(octets)?;
+    let check = check_of(&frame, keys);
     let mut text = Vec::new(alloc);
-    put_explanation(alloc, &mut text, &frame)?;
+    put_explanation(alloc, &mut text, &frame, check)?;
     Ok(text)
 }
 
@@ -221,7 +260,7 @@ fn octets_in(octets: &Option<Vec<u8>>) -> Option<&[u8]>
 }
 
 /// A line of hexadecimal.
-fn hex_line(alloc: Global, octets: &[u8]) -> Result<Vec<u8>, AllocError>
+pub fn hex_line(alloc: Global, octets: &[u8]) -> Result<Vec<u8>, AllocError>
     ensures { IfOk result (λ text. text.items ≡ hex_line octets.now) }
 {
     let mut text = hex::encode(alloc, octets)?;

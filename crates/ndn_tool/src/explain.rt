@@ -3,39 +3,90 @@
 ghost use Rattle.std.specs.Prelude.{◌≡◌, ◌++◌, OnOk, Some, option_map, codes};
 ghost use Rattle.std.specs.Fmt.{decimal};
 ghost use Rattle.ndn_packets.specs.Packet.{plain_signature, plain_locator};
-ghost use Rattle.ndn_packets.specs.View.{plain_frame};
+ghost use Rattle.ndn_packets.specs.View.{plain_frame, plain_data};
 ghost use Rattle.ndn_tool.specs.Show.{optional_line};
-ghost use Rattle.ndn_tool.specs.Explain.{locator_text, info_lines, signer_lines, signature_of, content_lines, meaning, explanation};
+ghost use Rattle.ndn_tool.specs.TagCheck.{MayBeChecked, check_words, check_lines};
+ghost use Rattle.ndn_tool.specs.Explain.{locator_text, info_lines, signer_lines, signature_of, content_lines, data_meaning, meaning, explanation};
 
 use crate::dataset::put_entries;
 use crate::meaning::{put_command, put_reply};
-use crate::show::{put_frame, put_name, put_number, put_value};
-use ndn_packets::{Frame, Locator, Signature};
+use crate::segment::put_segment;
+use crate::show::{put_frame, put_label, put_name, put_number, put_value};
+use crate::tag_check::{TagCheck, check_tag};
+use hmac_keys::KeyBook;
+use ndn_packets::{Data, Frame, Locator, Signature};
 use ndn_tlv::Memory;
 use std::alloc::Global;
 
-/// Appends the lines of `show`, those of the SignatureInfo, and those of a command or a reply. After `Memory` some of them may have
-/// been appended.
-pub fn put_explanation(alloc: Global, text: &mut Vec<u8>, frame: &Frame<'_>) -> Result<(), Memory>
-    ensures { OnOk result (text.new.items ≡ text.old.items ++ explanation (plain_frame frame.now)) }
+/// Checks the signature of a packet, if it is signed and keys are given.
+pub fn check_of(frame: &Frame<'_>, keys: Option<&KeyBook>) -> Option<TagCheck>
+    ensures { MayBeChecked (plain_frame frame.now) (option_map (λ b. b.now) keys.entry) result }
+{
+    match keys {
+        None => None,
+        Some(book) => check_tag(frame, book),
+    }
+}
+
+/// Appends the lines of `show`, those of the SignatureInfo and of the check of the signature, and
+/// those of a segment, a command, a reply or a list. After `Memory` some of them may have been
+/// appended.
+pub fn put_explanation(
+    alloc: Global,
+    text: &mut Vec<u8>,
+    frame: &Frame<'_>,
+    check: Option<TagCheck>,
+) -> Result<(), Memory>
+    ensures { OnOk result (text.new.items
+        ≡ text.old.items ++ explanation (plain_frame frame.now) check) }
 {
     put_frame(alloc, text, frame)?;
     put_signer(alloc, text, signature_of(frame))?;
+    put_check(text, check)?;
     put_meaning(alloc, text, frame)
 }
 
-/// Appends the lines of the command or of the reply that the packet is.
+/// Appends the line of a check.
+fn put_check(text: &mut Vec<u8>, check: Option<TagCheck>) -> Result<(), Memory>
+    ensures { OnOk result (text.new.items ≡ text.old.items ++ check_lines check) }
+{
+    match check {
+        None => Ok(()),
+        Some(check) => put_label(text, check_words(check)),
+    }
+}
+
+fn check_words(check: TagCheck) -> &'static str
+    ensures { result.now ≡ check_words check }
+{
+    match check {
+        TagCheck::Right => "tag right",
+        TagCheck::Wrong => "tag wrong",
+        TagCheck::UnknownKey => "key unknown",
+        TagCheck::Unchecked => "tag not checked",
+    }
+}
+
+/// Appends the lines of the segment, the command, the reply or the list that the packet is.
 fn put_meaning(alloc: Global, text: &mut Vec<u8>, frame: &Frame<'_>) -> Result<(), Memory>
     ensures { OnOk result (text.new.items ≡ text.old.items ++ meaning (plain_frame frame.now)) }
 {
     match frame {
         Frame::Interest(interest) => put_command(alloc, text, interest.name),
-        Frame::Data(data) => match data.content {
-            None => Ok(()),
-            Some(content) => put_content(alloc, text, content),
-        },
+        Frame::Data(packet) => put_data_meaning(alloc, text, packet),
         Frame::Nack { interest, .. } => put_command(alloc, text, interest.name),
         Frame::Idle => Ok(()),
+    }
+}
+
+fn put_data_meaning(alloc: Global, text: &mut Vec<u8>, packet: &Data<'_>) -> Result<(), Memory>
+    ensures { OnOk result (text.new.items ≡ text.old.items
+        ++ data_meaning packet.now.whole.now (plain_data packet.now)) }
+{
+    put_segment(text, packet.name, packet.whole)?;
+    match packet.content {
+        None => Ok(()),
+        Some(content) => put_content(alloc, text, content),
     }
 }
 

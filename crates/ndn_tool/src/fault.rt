@@ -49,6 +49,12 @@ pub enum Fault {
     Clock,
     /// Standard output cannot be written.
     Write,
+    /// Standard input cannot be read, or is not UTF-8.
+    Input,
+    /// The packet cannot be sent.
+    Send,
+    /// No answer came in time.
+    NoAnswer,
 }
 
 impl ToolFault {
@@ -75,7 +81,7 @@ impl Fault {
     ghost use Rattle.ndn_tool.specs.Fault.{status_of};
 
     /// The exit status: that of the job's fault, or 1 for a bad key file, 2 for a wrong command
-    /// line, 3 if reading, writing or memory failed.
+    /// line, 3 if reading, writing, sending, receiving or memory failed.
     pub fn exit_status(&self) -> u8
         ensures { result ≡ status_of self.now }
     {
@@ -83,7 +89,13 @@ impl Fault {
             Fault::Tool(fault) => fault.exit_status(),
             Fault::NotText => 2,
             Fault::Keys(KeyFault::BadLine(_) | KeyFault::TwiceNamed(_) | KeyFault::TooMany) => 1,
-            Fault::Keys(KeyFault::Memory) | Fault::Read | Fault::Clock | Fault::Write => 3,
+            Fault::Keys(KeyFault::Memory)
+            | Fault::Read
+            | Fault::Clock
+            | Fault::Write
+            | Fault::Input
+            | Fault::Send
+            | Fault::NoAnswer => 3,
         }
     }
 }
@@ -127,6 +139,11 @@ impl fmt::Display for Fault {
             Fault::Read => f.write_str("error: the key file cannot be read\n"),
             Fault::Clock => f.write_str("error: the clock cannot be read\n"),
             Fault::Write => f.write_str("error: standard output cannot be written\n"),
+            Fault::Input => f.write_str("error: standard input cannot be read as UTF-8 text\n"),
+            Fault::Send => f.write_str("error: the packet cannot be sent to this port\n"),
+            Fault::NoAnswer => {
+                f.write_str("error: no answer came; see that a node listens on this port\n")
+            }
         }
     }
 }
@@ -175,6 +192,18 @@ impl From<ToolFault> for Fault {
 
     fn from(fault: ToolFault) -> Fault {
         Fault::Tool(fault)
+    }
+}
+
+impl From<Memory> for Fault {
+    ghost use Rattle.std.specs.Prelude.{◌≡◌};
+    ghost use Rattle.ndn_tool.specs.declared.fault.Fault.TheVariants.{Tool};
+    ghost use Rattle.ndn_tool.specs.declared.fault.ToolFault.TheVariants.{Memory};
+
+    ghost from_gives = { λ _ fault. fault ≡ Tool Memory };
+
+    fn from(_memory: Memory) -> Fault {
+        Fault::Tool(ToolFault::Memory)
     }
 }
 

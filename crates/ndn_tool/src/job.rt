@@ -1,10 +1,12 @@
 //! What a command line asks for.
 
+ghost use Rattle.std.specs.Prelude.{◌≡◌, option_map, string_bytes};
+
 use crate::fault::ToolFault;
 use crate::nonce::nonce_of;
 use crate::options;
 use crate::repository_form::repository_name;
-use crate::short_form::ShortForm;
+use crate::short_form::{ShortForm, refusal};
 use clap::{ArgMatches, Error};
 use ndn_names::NameBuf;
 use std::alloc::Global;
@@ -24,8 +26,10 @@ pub enum Job {
     Tag(TagJob),
     /// To show what a packet holds.
     Show(Vec<u8>),
-    /// To say in words what a packet is.
-    Explain(Vec<u8>),
+    /// To say in words what packets are.
+    Explain(ExplainJob),
+    /// To send a packet, and to print the answer to it.
+    Send(SendJob),
 }
 
 /// The key of a signature: the file that it is in, and its name.
@@ -110,6 +114,11 @@ pub struct Stamp {
     pub seq: Option<u64>,
     /// The key of the signature; without one it is DigestSha256.
     pub key: KeyChoice,
+    /// The port of 127.0.0.1 that the command is sent to, if it is sent, and the answer said in
+    /// words.
+    pub to: Option<u16>,
+    /// The port that it is sent from; without one it is a new one.
+    pub from: Option<u16>,
 }
 
 /// Octets, and the key to compute their tag with.
@@ -120,6 +129,26 @@ pub struct TagJob {
     pub keys: String,
     /// The name of the key.
     pub key: NameBuf,
+}
+
+/// Packets to say in words.
+#[derive(Drop)]
+pub struct ExplainJob {
+    /// The packet; without one, those of standard input.
+    pub packet: Option<Vec<u8>>,
+    /// The path of the key file that signatures are checked with; without one they are not.
+    pub keys: Option<String>,
+}
+
+/// A packet to send.
+#[derive(Drop)]
+pub struct SendJob {
+    /// The packet; without one, that of standard input.
+    pub packet: Option<Vec<u8>>,
+    /// The port of 127.0.0.1 that it is sent to.
+    pub to: u16,
+    /// The port that it is sent from; without one it is a new one.
+    pub from: Option<u16>,
 }
 
 impl Job {
@@ -135,7 +164,8 @@ impl Job {
             Job::Data(job) => job.key.path(),
             Job::Command(job) => job.stamp.key.path(),
             Job::Tag(job) => Some(job.keys.as_str()),
-            Job::Help(_) | Job::Show(_) | Job::Explain(_) => None,
+            Job::Explain(job) => path_in(&job.keys),
+            Job::Help(_) | Job::Show(_) | Job::Send(_) => None,
         }
     }
 }
@@ -315,6 +345,8 @@ impl Stamp {
             time: options::required_number(options, "time")?,
             seq: options::number(options, "seq")?,
             key: KeyChoice::read(alloc, options)?,
+            to: None,
+            from: None,
         })
     }
 
@@ -332,11 +364,18 @@ impl Stamp {
             Some(nonce) => nonce,
             None => nonce_of(alloc, time, words)?,
         };
+        let to = options::port(options, "send")?;
+        let from = options::port(options, "from")?;
+        if to.is_none() && from.is_some() {
+            return Err(refusal("from", "--send as well"));
+        }
         Ok(Stamp {
             nonce,
             time,
             seq: options::number(options, "seq")?,
             key: KeyChoice::read(alloc, options)?,
+            to,
+            from,
         })
     }
 }
@@ -353,6 +392,37 @@ impl TagJob {
             octets: options::required_octets(alloc, options, "HEX")?,
             keys: options::required_path(alloc, options, "keys")?,
             key: options::required_name(alloc, options, "key")?,
+        })
+    }
+}
+
+impl ExplainJob {
+    ghost use Rattle.ndn_tool.specs.Value.{ReadsInMemory};
+    ghost use Rattle.ndn_tool.specs.Options.{rows_in, IsExplainJob};
+
+    /// The packets and the key file that the options of `explain` name.
+    pub fn read(alloc: Global, options: &ArgMatches<'_>) -> Result<ExplainJob, ToolFault>
+        ensures { ReadsInMemory (IsExplainJob (rows_in options.now)) result }
+    {
+        Ok(ExplainJob {
+            packet: options::packet(alloc, options, "HEX")?,
+            keys: options::path(alloc, options, "keys")?,
+        })
+    }
+}
+
+impl SendJob {
+    ghost use Rattle.ndn_tool.specs.Value.{ReadsInMemory};
+    ghost use Rattle.ndn_tool.specs.Options.{rows_in, IsSendJob};
+
+    /// The packet and the port that the options of `send` name.
+    pub fn read(alloc: Global, options: &ArgMatches<'_>) -> Result<SendJob, ToolFault>
+        ensures { ReadsInMemory (IsSendJob (rows_in options.now)) result }
+    {
+        Ok(SendJob {
+            packet: options::packet(alloc, options, "HEX")?,
+            to: options::required_port(options, "to")?,
+            from: options::port(options, "from")?,
         })
     }
 }
@@ -374,9 +444,15 @@ impl KeyChoice {
     fn path(&self) -> Option<&str>
         ensures { option_map (λ path. path.now) result ≡ option_map string_bytes self.now.keys }
     {
-        match &self.keys {
-            None => None,
-            Some(path) => Some(path.as_str()),
-        }
+        path_in(&self.keys)
+    }
+}
+
+fn path_in(path: &Option<String>) -> Option<&str>
+    ensures { option_map (λ path. path.now) result ≡ option_map string_bytes path.now }
+{
+    match path {
+        None => None,
+        Some(path) => Some(path.as_str()),
     }
 }

@@ -1,12 +1,14 @@
 //! The options of a subcommand, by their ids.
 ghost use Rattle.std.specs.Prelude.{◌≡◌, Some, None, option_map, MatchResult};
 ghost use Rattle.ndn_names.specs.ReadsAs.{ReadsAs};
-ghost use Rattle.ndn_tool.specs.Value.{IsNumber, IsHops, AreOctets, IsNonce, IsUsage, Reads, ReadsInMemory};
+ghost use Rattle.ndn_tool.specs.Value.{IsNumber, IsHops, IsPort, AreOctets, IsPacket, IsNonce, IsUsage, Reads, ReadsInMemory};
 ghost use Rattle.ndn_tool.specs.Options.{rows_in, value_at, Has, MayHave, IsPath, IsFlag, flag_at, SpellsStrategy};
 
 use crate::fault::{ToolFault, Usage};
 use crate::short_form::strategy_uri;
-use crate::value::{parse_hops, parse_name, parse_nonce, parse_number, parse_octets};
+use crate::value::{
+    parse_hops, parse_name, parse_nonce, parse_number, parse_octets, parse_packet, parse_port,
+};
 use clap::ArgMatches;
 use ndn_names::NameBuf;
 use std::alloc::Global;
@@ -54,6 +56,17 @@ pub fn required_octets(
     parse_octets(alloc, id, required(options, id)?)
 }
 
+/// The packet that a required option spells, or none where that is a dash.
+pub fn packet(
+    alloc: Global,
+    options: &ArgMatches<'_>,
+    id: &'static str,
+) -> Result<Option<Vec<u8>>, ToolFault>
+    ensures { ReadsInMemory (Has (value_at (rows_in options.now) id.now) IsPacket) result }
+{
+    parse_packet(alloc, id, required(options, id)?)
+}
+
 /// The path that a required option gives.
 pub fn required_path(
     alloc: Global,
@@ -77,6 +90,13 @@ pub fn required_number(options: &ArgMatches<'_>, id: &'static str) -> Result<u64
     ensures { Reads (Has (value_at (rows_in options.now) id.now) IsNumber) result }
 {
     parse_number(id, required(options, id)?)
+}
+
+/// The port that a required option spells.
+pub fn required_port(options: &ArgMatches<'_>, id: &'static str) -> Result<u16, ToolFault>
+    ensures { Reads (Has (value_at (rows_in options.now) id.now) IsPort) result }
+{
+    parse_port(id, required(options, id)?)
 }
 
 /// Whether a flag is there.
@@ -103,6 +123,16 @@ pub fn hops(options: &ArgMatches<'_>, id: &'static str) -> Result<Option<u8>, To
     match value(options, id) {
         None => Ok(None),
         Some(value) => Ok(Some(parse_hops(id, value)?)),
+    }
+}
+
+/// The port that an option spells, if it is there.
+pub fn port(options: &ArgMatches<'_>, id: &'static str) -> Result<Option<u16>, ToolFault>
+    ensures { Reads (MayHave (value_at (rows_in options.now) id.now) IsPort) result }
+{
+    match value(options, id) {
+        None => Ok(None),
+        Some(value) => Ok(Some(parse_port(id, value)?)),
     }
 }
 

@@ -175,7 +175,7 @@ pub fn put_value(text: &mut Vec<u8>, label: &str, value: &[u8]) -> Result<(), Me
     Ok(())
 }
 
-fn put_label(text: &mut Vec<u8>, label: &str) -> Result<(), Memory>
+pub fn put_label(text: &mut Vec<u8>, label: &str) -> Result<(), Memory>
     ensures { OnOk result (text.new.items ≡ text.old.items ++ line label.now) }
 {
     text.extend_from_slice(label.as_bytes())?;

@@ -574,10 +574,116 @@ NoNonce
 status 1
 ";
 
-/// Packets in words.
+const CHECKED_PACKETS: &str = "
+$ ndn_tool explain 0640070308014115017816141b01041c0f070d08036f707308034b455908013117209da68165d14c74abf0d3f4f40da0924777657490283d0bd394af1f64855c8b00 --keys F
+data /A
+freshness 0
+content 78
+signature 4 9da68165d14c74abf0d3f4f40da0924777657490283d0bd394af1f64855c8b00
+key-locator /ops/KEY/1
+tag right
+$ ndn_tool explain 0640070308014115017916141b01041c0f070d08036f707308034b455908013117209da68165d14c74abf0d3f4f40da0924777657490283d0bd394af1f64855c8b00 --keys F
+data /A
+freshness 0
+content 79
+signature 4 9da68165d14c74abf0d3f4f40da0924777657490283d0bd394af1f64855c8b00
+key-locator /ops/KEY/1
+tag wrong
+$ ndn_tool explain 0640070308014115017816141b01041c0f070d08036f707308034b45590801321720e2324d7a941228a8ec28b74d6eef02a49fcf18a2ecb5c9ac75a9292d93a32696 --keys F
+data /A
+freshness 0
+content 78
+signature 4 e2324d7a941228a8ec28b74d6eef02a49fcf18a2ecb5c9ac75a9292d93a32696
+key-locator /ops/KEY/2
+key unknown
+$ ndn_tool explain 062f070308014115017816031b01001720e4f0b5aed03446e702356a360c7194c208b8b6a28ff30de430f1baa08ba29266 --keys F
+data /A
+freshness 0
+content 78
+signature 0 e4f0b5aed03446e702356a360c7194c208b8b6a28ff30de430f1baa08ba29266
+tag right
+$ ndn_tool explain 062f070308014115017816031b01031720b5897c07ef75a0977b8687418cdde580985644d189e019989b1f07f35d37d77b --keys F
+data /A
+freshness 0
+content 78
+signature 3 b5897c07ef75a0977b8687418cdde580985644d189e019989b1f07f35d37d77b
+tag not checked
+$ ndn_tool explain 056d07250801410220f7941a6b4d9f43a320f470097b2c6c701ad95cf361a450fb9a053a19956e0e7c0a040102030424002c1a1b01041c0f070d08036f707308034b45590801312804000f42402e20983c3321a438bf1c3afb280c205c6134cc50c7c6f85af82c7682460c83e5663f --keys F
+interest /A/params-sha256=f7941a6b4d9f43a320f470097b2c6c701ad95cf361a450fb9a053a19956e0e7c
+nonce 01020304
+lifetime 4000
+parameters -
+signature 4 983c3321a438bf1c3afb280c205c6134cc50c7c6f85af82c7682460c83e5663f
+key-locator /ops/KEY/1
+time 1000000
+tag right
+$ ndn_tool explain 050b07030801410a0401020304 --keys F
+interest /A
+nonce 01020304
+lifetime 4000
+$ ndn_tool explain 0666072108096c6f63616c686f737408036e6664080366696208046c6973743601013201001409190203e81a03320100150f800d070308014181066901076a010016031b010017203b825cca92998a106cd70c7791089057f0697822910ebe29e0dbe97b78d028f1 --keys F
+data /localhost/nfd/fib/list/v=1/seg=0
+freshness 1000
+content 800d070308014181066901076a0100
+signature 0 3b825cca92998a106cd70c7791089057f0697822910ebe29e0dbe97b78d028f1
+tag right
+segment 0 last 0
+route /A face 7 cost 0
+$ ndn_tool explain 063807070801413202010014061a043202020016031b01001720fa313d550315660a9c294bf36c03ce9edad090aa308d78b96edf3866e69fa976
+data /A/seg=256
+freshness 0
+signature 0 fa313d550315660a9c294bf36c03ce9edad090aa308d78b96edf3866e69fa976
+segment 256 last 512
+$ ndn_tool explain - --keys F
+";
+
+/// Packets in words; the signed ones were made by a program of its own.
 #[test]
 fn explained_packets(rt: HostRuntime) {
     check_session(&rt, "", EXPLAINED_PACKETS);
+    check_session(&rt, OPS, CHECKED_PACKETS);
+}
+
+const INPUT: &str = "1 passed
+> 2 050b07030801410a0401020304
+
+050b07030801410a0401020304
+2 dropped Malformed NoNonce
+0505070308014
+
+> 1 05050703080141
+> 1 -
+ab cd
+6400";
+
+const SAID: &str = "1 passed
+> 2
+interest /A
+nonce 01020304
+lifetime 4000
+interest /A
+nonce 01020304
+lifetime 4000
+2 dropped Malformed NoNonce
+0505070308014
+> 1
+malformed NoNonce
+> 1 -
+ab cd
+idle
+";
+
+/// Whether this is said of the lines of a text.
+fn says(alloc: Global, input: &str, keys: Option<&KeyBook>, wanted: &str) -> bool {
+    let mut text = Vec::new(alloc);
+    put_input(alloc, &mut text, input, keys).is_ok() && text.as_slice() == wanted.as_bytes()
+}
+
+/// Lines of standard input: packets in words, and other lines as they are.
+#[test]
+fn input_lines(rt: HostRuntime) {
+    assert!(rt; says(rt.alloc(), INPUT, None, SAID));
+    assert!(rt; says(rt.alloc(), "", None, ""));
 }
 
 const REFUSALS_WITH_KEYS: &str = "
@@ -652,6 +758,16 @@ ndn_tool interest /A --nonce 01020304 --lifetime 18446744073709551616 => lifetim
 ndn_tool data /A --content zz => content
 ndn_tool tag 00 --key /k => --keys <FILE>
 ndn_tool tag 00 --keys F --key k => key: give the URI of a name
+ndn_tool send 00 => --to <PORT>
+ndn_tool send --to 1 => <HEX>
+ndn_tool send 0 --to 1 => HEX: give two hexadecimal digits
+ndn_tool send 00 --to 0 => to: give a port
+ndn_tool send 00 --to 65536 => to: give a port
+ndn_tool send 00 --to +1 => to: give a port
+ndn_tool send 00 --to 1 --from 0 => from: give a port
+ndn_tool route add /A --face 1 --send x => send: give a port
+ndn_tool route add /A --face 1 --send 1 --from x => from: give a port
+ndn_tool route add /A --face 1 --from 1 => from: give --send as well
 ";
 
 /// A wrong command line ends with status 2, and with a text of which this is a part.
@@ -667,6 +783,7 @@ ndn_tool data -h => |  $ ndn_tool data /A --content 78|  062f0703080141150178160
 ndn_tool tag --help => 5bdcc146bf60754e6a042426089575c75a003f089d2739839dec58b964ec3843|
 ndn_tool show --help => |  signature 0 -|
 ndn_tool explain --help => |  key-locator /ops/KEY/1
+ndn_tool send --help => |  $ ndn_tool interest /A --nonce 01020304 
 ndn_tool command --help => |      --nonce 01020304 --time 1000000 --keys ops.keys --key /ops/KEY/1|
 ndn_tool route --help => |  $ ndn_tool route remove /A --face 2
 ndn_tool strategy --help => |  $ ndn_tool strategy set /A multicast
@@ -756,6 +873,9 @@ fn statuses(rt: HostRuntime) {
     assert!(rt; ends_with(Fault::Read, 3));
     assert!(rt; ends_with(Fault::Clock, 3));
     assert!(rt; ends_with(Fault::Write, 3));
+    assert!(rt; ends_with(Fault::Input, 3));
+    assert!(rt; ends_with(Fault::Send, 3));
+    assert!(rt; ends_with(Fault::NoAnswer, 3));
     assert!(rt; ends_with(Fault::NotText, 2));
     assert!(rt; ends_with(Fault::Keys(KeyFault::TooMany), 1));
     assert!(rt; ends_with(Fault::Keys(KeyFault::Memory), 3));

@@ -1,7 +1,7 @@
 //! The values that the texts of a command line spell.
 ghost use Rattle.std.specs.Prelude.{◌≡◌, ℕ, MatchOption};
 ghost use Rattle.ndn_names.specs.ReadsAs.{ReadsAs};
-ghost use Rattle.ndn_tool.specs.Value.{IsNumber, IsHops, AreOctets, IsNonce, Reads, ReadsInMemory};
+ghost use Rattle.ndn_tool.specs.Value.{IsNumber, IsHops, IsPort, AreOctets, IsPacket, IsNonce, Reads, ReadsInMemory};
 
 use crate::fault::{ToolFault, Usage};
 use hex::FromHexError;
@@ -30,6 +30,20 @@ pub fn parse_octets(alloc: Global, place: &'static str, text: &str) -> Result<Ve
         Err(FromHexError::OutOfMemory) => Err(ToolFault::Memory),
         Err(_) => Err(bad_value(place, "two hexadecimal digits for each octet")),
     }
+}
+
+/// The packet that a text spells in hexadecimal, or none where the text is a dash.
+pub fn parse_packet(
+    alloc: Global,
+    place: &'static str,
+    text: &str,
+) -> Result<Option<Vec<u8>>, ToolFault>
+    ensures { ReadsInMemory (IsPacket text.now) result }
+{
+    if text == "-" {
+        return Ok(None);
+    }
+    Ok(Some(parse_octets(alloc, place, text)?))
 }
 
 /// The value of a Nonce that a text spells.
@@ -63,6 +77,19 @@ pub fn parse_hops(place: &'static str, text: &str) -> Result<u8, ToolFault>
         return Ok(hops);
     }
     Err(bad_value(place, "a decimal number from 0 to 255"))
+}
+
+/// The port, from 1 to 65535, that a text spells in decimal digits.
+pub fn parse_port(place: &'static str, text: &str) -> Result<u16, ToolFault>
+    ensures { Reads (IsPort text.now) result }
+{
+    if let Some(number) = parse_digits(text)
+        && let Ok(port) = u16::try_from(number)
+        && port > 0
+    {
+        return Ok(port);
+    }
+    Err(bad_value(place, "a port, a decimal number from 1 to 65535"))
 }
 
 /// The number that decimal digits spell, if there are any and it is below 2^64.

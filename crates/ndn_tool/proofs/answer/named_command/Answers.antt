@@ -2,7 +2,7 @@ use Rattle.std.proofs.Common.{◌++◌, ℕ, List, refl, false, None, Some, Ok, 
 use Rattle.std.proofs.lemmas.Result.{err_from_is_err_and}
 use Rattle.ndn_packets.specs.declared.interest_writer.InterestWriter.{InterestWriter}
 use Rattle.ndn_packets.specs.Writing.{interest_text, interest_refusal}
-use Rattle.ndn_tool.specs.Answer.{AsksCommand, hex_line}
+use Rattle.ndn_tool.specs.Answer.{AsksCommand}
 use Rattle.ndn_tool.proofs.Refusals.{answered_error, none_told, command_refused}
 use Rattle.ndn_tool.proofs.answer.named_command.Goals as goal
 
@@ -21,5 +21,5 @@ returns c =
       w,
       asks,
       none_told (interest_refusal w) (Ok tt) refl c.in_ok-write.ensures.fault,
-      c.in_ok-hex_line.ensures ∙ ap hex_line (c.deref.ensures.value ∙ (c.in_ok-write.ensures.ok ∙ ap (λ (t : List ℕ). t ++ interest_text w) c.new-packet.ensures.items)),
+      c.in_ok-write.ensures.ok ∙ ap (λ (t : List ℕ). t ++ interest_text w) c.new-packet.ensures.items,
     )
