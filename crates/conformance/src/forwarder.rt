@@ -2,11 +2,13 @@
 
 mod decisions;
 mod faces;
+mod full_pending;
 mod kept;
 mod nodes;
 mod octets;
 mod packets;
 mod pending;
+mod ports;
 mod refused_memory;
 mod routes;
 mod scripts;

@@ -2,11 +2,11 @@
 
 use super::kept::REPOSITORY_LIFE;
 use super::pending::LOOPS_AND_NACKS;
+use super::ports::{FIRST_PATH, node_of, ports_of};
 use super::routes::{ROUTE_COMMAND_AND_LIST, STRATEGY_AND_CACHE};
 use super::streams::Room;
 use super::{is_answer, parts, spelled};
-use ndn_tlv::Memory;
-use node_core::{Event, Node, NodeFault, Outbox, RunFault, Scope, Verdict, run_script};
+use node_core::{Event, Node, NodeFault, Outbox, RunFault, Scope, Verdict, run_script, serve};
 use std::alloc::Global;
 
 /// The word of a line at `i`, counted from 0.
@@ -30,13 +30,19 @@ fn event_of<'a>(line: &str, octets: &'a [u8]) -> Option<Event<'a>> {
     }
 }
 
+/// What is said of an event, unless it had no memory.
+fn said_of(node: &mut Node, outbox: &mut Outbox, event: Event<'_>) -> Option<Verdict> {
+    node.step(event, outbox).ok()
+}
+
 /// What is said of an event. One that had no memory is handled again, as if for the first time.
-fn verdict_on(node: &mut Node, outbox: &mut Outbox, event: Event<'_>) -> Result<Verdict, Memory> {
+fn verdict_on(node: &mut Node, outbox: &mut Outbox, event: Event<'_>) -> Option<Verdict> {
     let before = outbox.len();
-    match node.step(event, outbox) {
-        Err(Memory) if outbox.len() == before => node.step(event, outbox),
-        answered => answered,
+    let said = said_of(node, outbox, event);
+    if said.is_none() && outbox.len() == before {
+        return said_of(node, outbox, event);
     }
+    said
 }
 
 /// Whether a line of a dialogue has this verdict.
@@ -81,11 +87,11 @@ fn steps(alloc: Global, dialogue: &str) -> Option<bool> {
             sends = 0;
             let octets = hex::decode(alloc, word(line, 3)).unwrap_or(Vec::new(alloc));
             match verdict_on(&mut node, &mut outbox, event_of(line, &octets)?) {
-                Ok(said) => {
+                Some(said) => {
                     verdict = said;
                     were_all
                 }
-                Err(Memory) => false,
+                None => false,
             }
         };
         if !is_right {
@@ -164,4 +170,18 @@ fn script(alloc: Global) -> bool {
 #[test]
 fn script_with_refused_memory(rt: HostRuntime) {
     assert!(rt; script(rt.alloc()));
+}
+
+/// Whether all events of the first path come, and what had no memory is counted.
+fn serves(alloc: Global) -> Option<bool> {
+    let mut node = node_of(alloc)?;
+    let mut ports = ports_of(alloc, FIRST_PATH)?;
+    let served = serve(alloc, &mut node, &mut ports, 10).ok()?;
+    let lost = served.refused.saturating_add(served.failed_sends);
+    Some(served.events == 5 && served.ended && lost < 2)
+}
+
+#[test]
+fn served_turns_with_refused_memory(rt: HostRuntime) {
+    assert!(rt; serves(rt.alloc()) != Some(false));
 }
