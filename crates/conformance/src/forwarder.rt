@@ -13,6 +13,7 @@ mod refused_memory;
 mod routes;
 mod scripts;
 mod streams;
+mod udp;
 
 use crate::rules::{KEYS, SAMPLE, rules_of};
 use hmac_keys::KeyBook;

@@ -46,14 +46,15 @@ fn verdict_on(node: &mut Node, outbox: &mut Outbox, event: Event<'_>) -> Option<
 }
 
 /// Whether a line of a dialogue has this verdict.
-fn is_line_of(line: &str, verdict: Verdict) -> bool {
+fn is_line_of(line: &str, verdict: Option<Verdict>) -> bool {
     let said = match verdict {
-        Verdict::Passed => "passed",
-        Verdict::Allowed(..) => "allowed",
-        Verdict::DataAllowed(_) => "data",
-        Verdict::Denied(..) => "denied",
-        Verdict::NoRule(_) => "no-rule",
-        Verdict::Dropped(_) => "dropped",
+        None => "memory",
+        Some(Verdict::Passed) => "passed",
+        Some(Verdict::Allowed(..)) => "allowed",
+        Some(Verdict::DataAllowed(_)) => "data",
+        Some(Verdict::Denied(..)) => "denied",
+        Some(Verdict::NoRule(_)) => "no-rule",
+        Some(Verdict::Dropped(_)) => "dropped",
     };
     word(line, 1) == said
 }
@@ -65,40 +66,46 @@ fn is_line_of_send(alloc: Global, line: &str, sent: Option<(u64, &[u8])>) -> Opt
     Some(sent == Some((face, octets.as_slice())))
 }
 
-/// Whether the steps of a dialogue have its answers, unless a test's own allocation fails.
-fn steps(alloc: Global, dialogue: &str) -> Option<bool> {
-    let dialogue = spelled(alloc, dialogue)?;
+/// The octets of a packet's line, and none for another line.
+fn octets_of(alloc: Global, line: &str) -> Option<Vec<u8>> {
+    if line.starts_with("in ") {
+        return hex::decode(alloc, word(line, 3)).ok();
+    }
+    Some(Vec::new(alloc))
+}
+
+/// Whether a node has the answers of a dialogue, unless a test's own allocation fails.
+fn plays(alloc: Global, node: &mut Node, dialogue: &str) -> Option<bool> {
     let mut outbox = Outbox::new(alloc);
-    let mut node = Node::new(alloc, parts(alloc)?).ok()?;
-    let mut verdict = Verdict::Passed;
+    let mut verdict = None;
     let mut sends = 0;
-    for line in dialogue.as_str().lines() {
-        let is_right = if line.starts_with('>') {
-            let sent = outbox.sent(sends);
-            sends = sends.saturating_add(1);
-            is_line_of_send(alloc, line, sent)?
-        } else if is_answer(line) {
-            is_line_of(line, verdict)
-        } else if line.is_empty() {
-            true
-        } else {
-            let were_all = outbox.len() == sends;
-            outbox.clear();
-            sends = 0;
-            let octets = hex::decode(alloc, word(line, 3)).unwrap_or(Vec::new(alloc));
-            match verdict_on(&mut node, &mut outbox, event_of(line, &octets)?) {
-                Some(said) => {
-                    verdict = said;
-                    were_all
-                }
-                None => false,
+    for line in dialogue.lines() {
+        if line.starts_with('>') {
+            if !is_line_of_send(alloc, line, outbox.sent(sends))? {
+                return Some(false);
             }
-        };
-        if !is_right {
-            return Some(false);
+            sends = sends.saturating_add(1);
+        } else if is_answer(line) {
+            if !is_line_of(line, verdict) {
+                return Some(false);
+            }
+        } else if !line.is_empty() {
+            if outbox.len() != sends {
+                return Some(false);
+            }
+            sends = 0;
+            outbox.clear();
+            let octets = octets_of(alloc, line)?;
+            verdict = verdict_on(node, &mut outbox, event_of(line, &octets)?);
         }
     }
     Some(outbox.len() == sends)
+}
+
+/// Whether the steps of a dialogue have its answers, unless a test's own allocation fails.
+fn steps(alloc: Global, dialogue: &str) -> Option<bool> {
+    let dialogue = spelled(alloc, dialogue)?;
+    plays(alloc, &mut node_of(alloc)?, dialogue.as_str())
 }
 
 #[test]
