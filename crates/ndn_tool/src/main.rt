@@ -2,47 +2,20 @@
 //! packets hold.
 #![tactic(auto)]
 
-ghost use Rattle.std.specs.Prelude.{MatchResult};
-ghost use Rattle.ndn_tool.specs.KeyFile.{AreKeys, IsFileFault};
-
-mod answer;
-mod argument;
-mod command;
-mod dataset;
-mod explain;
-mod fault;
-mod fields;
-mod help;
-mod input;
-mod job;
-mod meaning;
-mod nonce;
-mod options;
-mod parameters;
-mod repository_form;
-mod segment;
-mod short_form;
-mod show;
-mod subcommand;
-mod tag_check;
-mod value;
-
-use answer::{answer, command_packet, explained_text, hex_line, keys_given};
-use command::parse_words;
-use fault::{Fault, ToolFault};
-use hmac_keys::{KeyBook, KeyFault};
-use input::{packet_in, put_input};
-use job::{Job, SendJob};
+use hmac_keys::KeyBook;
+use ndn_client::{
+    Fault, Job, SendJob, ToolFault, command_packet, explained_text, hex_line, keys_given,
+    packet_in, parse_words, put_answer, put_input, read_book,
+};
 use ndn_packets::MAX_FRAME;
 use node_core::{receive_one, send_from};
-use std::alloc::Global;
 use std::env::Env;
 use std::io::{Input, Write};
 use std::net::Net;
 use std::process::ExitCode;
 use std::rt::Files;
 use std::time::{Clock, SystemTime};
-use std::{env, fs, io, str};
+use std::{env, fs, io};
 
 fn main(rt: HostRuntime) -> ExitCode {
     let Err(fault) = run(&rt) else {
@@ -91,7 +64,7 @@ fn answer_to<R: AllocGlobal + Files + Input + Net>(rt: &R, job: &Job) -> Result<
             keys_given(explain, &book),
         )?;
     } else {
-        answer(rt.alloc(), job, &book, &mut text)?;
+        put_answer(rt.alloc(), job, &book, &mut text)?;
     }
     Ok(text)
 }
@@ -167,19 +140,6 @@ fn book_of<R: AllocGlobal + Files>(rt: &R, job: &Job) -> Result<KeyBook, Fault> 
             Err(Fault::Tool(ToolFault::Memory))
         }
         Err(_) => Err(Fault::Read),
-    }
-}
-
-/// The keys of a key file. One that is not UTF-8 is reported as a bad line with the number 0.
-fn read_book(alloc: Global, octets: &[u8]) -> Result<KeyBook, Fault>
-    ensures { MatchResult result (AreKeys octets.now) (IsFileFault octets.now) }
-{
-    let Ok(text) = str::from_utf8(octets) else {
-        return Err(Fault::Keys(KeyFault::BadLine(0)));
-    };
-    match KeyBook::read(alloc, text) {
-        Ok(book) => Ok(book),
-        Err(fault) => Err(Fault::Keys(fault)),
     }
 }
 

@@ -1,7 +1,8 @@
 use super::*;
-use crate::fault::Usage;
 use hmac_keys::KeyFault;
+use ndn_client::Usage;
 use ndn_packets::{PacketFault, WriteFault};
+use std::alloc::Global;
 use std::process::Abort;
 
 /// The name `/ops/KEY/1` and its key, the text `key`.
@@ -25,7 +26,7 @@ fn answered(alloc: Global, command: &str, keys: &str) -> Result<String, ToolFaul
     let job = job_of(alloc, command)?;
     let book = KeyBook::read(alloc, keys).map_err(|_| ToolFault::Memory)?;
     let mut out = Vec::new(alloc);
-    answer(alloc, &job, &book, &mut out)?;
+    put_answer(alloc, &job, &book, &mut out)?;
     String::from_utf8(out).map_err(|_| ToolFault::NoKey)
 }
 

@@ -1,0 +1,140 @@
+-- What a command asks for and what a reply answers, as lines of text (NFD Management, "Control
+-- Command"; the elements of a repository are this profile's).
+use Rattle.std.specs.Prelude.{ℕ, ◌-◌, List, [], ◌++◌, length, take, Bool, false, is_some, nat_le, ◌==◌, ◌&&◌, codes, Option, None, Some, slice_get, if◌then◌else◌}
+use Rattle.std.specs.Option.{option_map}
+use Rattle.std.specs.List.{list_all}
+use Rattle.std.specs.Fmt.{decimal}
+use Rattle.ndn_tlv.specs.Element.{Field}
+use Rattle.ndn_tlv.specs.Reading.{elements_of, nni_at, on_result}
+use Rattle.ndn_names.specs.declared.component_type.TheConstants.{GENERIC, PARAMETERS_SHA256_DIGEST}
+use Rattle.ndn_names.specs.Reading.{name_at}
+use Rattle.ndn_names.specs.Uri.{uri_of}
+use Rattle.ndn_client.specs.declared.parameters.TheConstants.{PARAMETERS, REPOSITORY_PARAMETERS, NAME, INTEREST_LIFETIME, CAN_BE_PREFIX, FACE_ID, COST, STRATEGY, COUNT}
+use Rattle.ndn_client.specs.declared.meaning.Form.{Form}
+use Rattle.ndn_client.specs.declared.meaning.Form.TheVariants.{Number, Name, Strategy}
+use Rattle.ndn_client.specs.declared.meaning.TheConstants.{RESPONSE, STATUS_CODE, STATUS_TEXT, REPOSITORY_RESPONSE, REPOSITORY_STATUS_CODE}
+use Rattle.ndn_client.specs.Fields.{Elements, first_of, single}
+use Rattle.ndn_client.specs.Show.{named_line, flag_line, optional_line, hex_or_dash}
+
+-- ---- fields
+
+-- a value of a wrong form
+abbrev pub bad_text : List ℕ → List ℕ
+bad_text value = codes "bad " ++ hex_or_dash value
+
+abbrev pub number_text : List ℕ → List ℕ
+number_text value = on_result decimal (λ _. bad_text value) (nni_at value)
+
+abbrev pub name_text : List ℕ → List ℕ
+name_text value = on_result uri_of (λ _. bad_text value) (name_at value)
+
+-- a Strategy holds one Name
+abbrev pub held_name : List ℕ → Option (List ℕ) → List ℕ
+held_name value None = bad_text value
+held_name value (Some name) = name_text name
+
+abbrev pub strategy_text : List ℕ → List ℕ
+strategy_text value = held_name value (single NAME (elements_of value))
+
+abbrev pub form_text : Form → List ℕ → List ℕ
+form_text Number value = number_text value
+form_text Name value = name_text value
+form_text Strategy value = strategy_text value
+
+-- a field that is there, by its form
+abbrev pub field_line : List ℕ → Form → ℕ → Elements → List ℕ
+field_line label form kind es = optional_line label (option_map (form_text form) (first_of kind es))
+
+abbrev pub hop_lines : Elements → List ℕ
+hop_lines es =
+    field_line (codes "face") Number FACE_ID es
+    ++ field_line (codes "cost") Number COST es
+
+abbrev pub wanted_lines : Elements → List ℕ
+wanted_lines es =
+    flag_line (codes "can-be-prefix") (is_some (first_of CAN_BE_PREFIX es))
+    ++ field_line (codes "lifetime") Number INTEREST_LIFETIME es
+
+abbrev pub field_lines : Elements → List ℕ
+field_lines es =
+    field_line (codes "name") Name NAME es
+    ++ (hop_lines es
+    ++ (field_line (codes "strategy") Strategy STRATEGY es
+    ++ (field_line (codes "count") Number COUNT es
+    ++ wanted_lines es)))
+
+-- ---- commands
+
+abbrev pub or_else : {X : Type 0} → Option X → Option X → Option X
+or_else None other = other
+or_else (Some x) other = Some x
+
+-- the fields of parameters, which are one element
+abbrev pub parameters_of : List ℕ → Option (List ℕ)
+parameters_of value =
+    or_else (single PARAMETERS (elements_of value))
+    (single REPOSITORY_PARAMETERS (elements_of value))
+
+abbrev pub has_kind : ℕ → Option Field → Bool
+has_kind kind None = false
+has_kind kind (Some c) = c.0 == kind
+
+abbrev pub generic_parameters : Option Field → Option (List ℕ)
+generic_parameters None = None
+generic_parameters (Some c) = if c.0 == GENERIC then parameters_of c.1 else None
+
+-- the parameters stand before the digest of the Interest's own parameters
+abbrev pub parameters_in : List Field → Option (List ℕ)
+parameters_in name =
+    if has_kind PARAMETERS_SHA256_DIGEST (slice_get name (length name - 1))
+    then generic_parameters (slice_get name (length name - 2)) else None
+
+abbrev pub asked_lines : List Field → Option (List ℕ) → List ℕ
+asked_lines name None = []
+asked_lines name (Some fields) =
+    named_line (codes "command") (uri_of (take (length name - 2) name))
+    ++ field_lines (elements_of fields)
+
+-- of an Interest of this name, if it is a command
+abbrev pub command_lines : List Field → List ℕ
+command_lines name = asked_lines name (parameters_in name)
+
+-- ---- replies
+
+-- a text of one line as it is, and any other in hexadecimal
+abbrev pub is_printable : ℕ → Bool
+is_printable octet = nat_le 32 octet && nat_le octet 126
+
+abbrev pub status_text : Option (List ℕ) → List ℕ
+status_text None = codes "-"
+status_text (Some text) = if list_all is_printable text then text else hex_or_dash text
+
+-- the code and the text
+abbrev pub status_words : Option (List ℕ) → Option (List ℕ) → List ℕ
+status_words None text = []
+status_words (Some code) text =
+    named_line (codes "status") (number_text code ++ (codes " " ++ status_text text))
+
+abbrev pub status_line : ℕ → Elements → List ℕ
+status_line kind es = status_words (first_of kind es) (first_of STATUS_TEXT es)
+
+abbrev pub body_lines : Option (List ℕ) → List ℕ
+body_lines None = []
+body_lines (Some fields) = field_lines (elements_of fields)
+
+abbrev pub node_reply_lines : Elements → List ℕ
+node_reply_lines es = status_line STATUS_CODE es ++ body_lines (first_of PARAMETERS es)
+
+abbrev pub repository_reply_lines : Elements → List ℕ
+repository_reply_lines es = status_line REPOSITORY_STATUS_CODE es ++ field_lines es
+
+-- of a Data with this Content, if it is a reply
+abbrev pub or_repository : Option (List ℕ) → Option (List ℕ) → List ℕ
+or_repository (Some fields) other = node_reply_lines (elements_of fields)
+or_repository None (Some fields) = repository_reply_lines (elements_of fields)
+or_repository None None = []
+
+abbrev pub reply_lines : List ℕ → List ℕ
+reply_lines content =
+    or_repository (single RESPONSE (elements_of content))
+    (single REPOSITORY_RESPONSE (elements_of content))

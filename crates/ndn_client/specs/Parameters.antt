@@ -1,0 +1,71 @@
+-- The parameters of a command, as the last component of its name (NFD Management, "Control
+-- Command").
+use Rattle.std.specs.Prelude.{◌≡◌, ◌≤◌, ℕ, List, [], ◌∷◌, ◌++◌, length, Bool, false, ◌==◌, ◌&&◌, Option, None, Some, codes, slice_get, bytes_eq, if◌then◌else◌, ⊤}
+use Rattle.std.specs.Option.{option_map}
+use Rattle.ndn_tlv.specs.Element.{Field, element}
+use Rattle.ndn_names.specs.declared.component_type.TheConstants.{GENERIC}
+use Rattle.ndn_names.specs.Name.{octets_of}
+use Rattle.ndn_packets.specs.Fields.{optional, flag}
+use Rattle.ndn_packets.specs.Writing.{octets, number}
+use Rattle.ndn_packets.specs.declared.fault.WriteFault.{WriteFault}
+use Rattle.ndn_packets.specs.declared.fault.WriteFault.TheVariants.{TooLong}
+use Rattle.ndn_client.specs.declared.parameters.TheConstants.{PARAMETERS, REPOSITORY_PARAMETERS, NAME, INTEREST_LIFETIME, CAN_BE_PREFIX, FACE_ID, COST, STRATEGY, COUNT}
+use Rattle.ndn_client.specs.declared.job.Parameters.{Parameters}
+use Rattle.ndn_client.specs.declared.job.CommandJob.{CommandJob}
+use Rattle.ndn_client.specs.declared.fault.ToolFault.{ToolFault}
+use Rattle.ndn_client.specs.declared.fault.ToolFault.TheVariants as fault
+
+-- a GenericNameComponent of these octets
+abbrev pub is_generic : Option Field → List ℕ → Bool
+is_generic None value = false
+is_generic (Some c) value = c.0 == GENERIC && bytes_eq c.1 value
+
+abbrev pub is_generic_at : List Field → ℕ → List ℕ → Bool
+is_generic_at name at value = is_generic (slice_get name at) value
+
+-- a name under `/localhost/nfd`
+abbrev pub is_of_node : List Field → Bool
+is_of_node name = is_generic_at name 0 (codes "localhost") && is_generic_at name 1 (codes "nfd")
+
+abbrev pub name_field : List Field → Field
+name_field name = (NAME, octets_of name)
+
+-- a strategy's field holds its name as an element
+abbrev pub strategy_value : Option (List Field) → Option (List ℕ)
+strategy_value strategy = option_map (λ name. element (name_field name)) strategy
+
+-- the fields of a command of the node
+abbrev pub node_fields : Parameters → List Field
+node_fields p =
+    name_field p.name
+    ∷ (number FACE_ID p.face
+    ++ (number COST p.cost
+    ++ (optional STRATEGY (strategy_value p.strategy)
+    ++ number COUNT p.count)))
+
+-- the fields of a command of a repository
+abbrev pub repository_fields : Parameters → List Field
+repository_fields p =
+    name_field p.name
+    ∷ (flag CAN_BE_PREFIX p.can_be_prefix
+    ++ number INTEREST_LIFETIME p.lifetime)
+
+-- the parameters of a command: those of the node where its name is under `/localhost/nfd`
+abbrev pub parameters_element : CommandJob → List ℕ
+parameters_element job =
+    if is_of_node job.name
+    then element (PARAMETERS, octets (node_fields job.parameters))
+    else element (REPOSITORY_PARAMETERS, octets (repository_fields job.parameters))
+
+-- the name of the command's Interest, without its digest
+abbrev pub command_name : CommandJob → List Field
+command_name job = job.name ++ (GENERIC, parameters_element job) ∷ []
+
+-- a name of 64 components has no room for the parameters
+abbrev pub IsTooLong : CommandJob → WriteFault → Type 0
+IsTooLong job why = (why ≡ TooLong) × (64 ≤ length job.name)
+
+abbrev pub IsNameRefusal : CommandJob → ToolFault → Type 0
+IsNameRefusal job (fault.Write why) = IsTooLong job why
+IsNameRefusal job fault.Memory = ⊤
+IsNameRefusal job why = ⊥

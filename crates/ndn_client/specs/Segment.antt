@@ -1,0 +1,41 @@
+-- Which segment a Data is, and which is the last one (NDN Packet Format 0.3, "Data Packet",
+-- "MetaInfo"; NDN Naming Conventions, "Segment").
+use Rattle.std.specs.Prelude.{ℕ, ◌-◌, List, [], ◌++◌, length, codes, Option, None, Some, ◌==◌, if◌then◌else◌, slice_get, option_and_then}
+use Rattle.std.specs.Result.{result_ok}
+use Rattle.std.specs.Fmt.{decimal}
+use Rattle.ndn_tlv.specs.Element.{Field}
+use Rattle.ndn_tlv.specs.Reading.{elements_of, nni_at}
+use Rattle.ndn_names.specs.declared.component_type.TheConstants.{SEGMENT}
+use Rattle.ndn_client.specs.declared.segment.TheConstants.{DATA, META_INFO, FINAL_BLOCK_ID}
+use Rattle.ndn_client.specs.Fields.{first_of, single}
+use Rattle.ndn_client.specs.Show.{named_line}
+
+abbrev pub number_in : List ℕ → Option ℕ
+number_in value = result_ok (nni_at value)
+
+-- the number of a component that is a segment
+abbrev pub number_of : Option Field → Option ℕ
+number_of None = None
+number_of (Some c) = if c.0 == SEGMENT then number_in c.1 else None
+
+-- the number of the last component, if it is a segment
+abbrev pub segment_of : List Field → Option ℕ
+segment_of name = number_of (slice_get name (length name - 1))
+
+-- the last segment, which the FinalBlockId of the MetaInfo of a Data gives as a component
+abbrev pub last_segment : List ℕ → Option ℕ
+last_segment whole =
+    option_and_then (λ component. number_in component)
+    (option_and_then (λ last. single SEGMENT (elements_of last))
+    (option_and_then (λ meta. first_of FINAL_BLOCK_ID (elements_of meta))
+    (option_and_then (λ fields. first_of META_INFO (elements_of fields))
+    (single DATA (elements_of whole)))))
+
+abbrev pub segment_line : Option ℕ → Option ℕ → List ℕ
+segment_line (Some segment) (Some last) =
+    named_line (codes "segment") (decimal segment ++ (codes " last " ++ decimal last))
+segment_line segment last = []
+
+-- of a Data of this name and these octets, if it is a segment and tells the last one
+abbrev pub segment_lines : List Field → List ℕ → List ℕ
+segment_lines name whole = segment_line (segment_of name) (last_segment whole)

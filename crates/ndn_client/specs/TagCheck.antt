@@ -1,0 +1,91 @@
+-- Whether the value of a packet's signature is the one that its covered octets have (NDN Packet
+-- Format 0.3, "Signature"), and the line that says so.
+use Rattle.std.specs.Prelude.{◌≡◌, ◌≢◌, ◌⊎◌, ℕ, List, [], ◌++◌, codes, Option, None, Some}
+use Rattle.sha2.specs.Sha256.{sha256}
+use Rattle.ndn_tlv.specs.Element.{Field}
+use Rattle.hmac_keys.specs.Mac.{Mac}
+use Rattle.hmac_keys.specs.KeyFile.{NamedKey, IsAmong}
+use Rattle.ndn_packets.specs.declared.covered.Parts.{Parts}
+use Rattle.ndn_packets.specs.declared.types.TheConstants.{DIGEST_SHA256, HMAC_WITH_SHA256}
+use Rattle.ndn_packets.specs.Packet.{PlainLocator, KeyName, PlainSignature, PlainFrame, AnInterest, AData, ANack, Idle}
+use Rattle.ndn_packets.specs.Covered.{Covered}
+use Rattle.ndn_client.specs.declared.tag_check.TagCheck.{TagCheck}
+use Rattle.ndn_client.specs.declared.tag_check.TagCheck.TheVariants.{Right, Wrong, UnknownKey, Unchecked}
+use Rattle.ndn_client.specs.Show.{line}
+
+-- the covered octets, one part after the other
+abbrev pub parts_of : Parts → List ℕ
+parts_of parts = parts.first.now ++ parts.second.now
+
+-- of a value, where this is the right one
+abbrev pub IsValueCheck : List ℕ → List ℕ → TagCheck → Type 0
+IsValueCheck value right Right = value ≡ right
+IsValueCheck value right Wrong = value ≢ right
+IsValueCheck value right UnknownKey = ⊥
+IsValueCheck value right Unchecked = ⊥
+
+-- of an HMAC, where the key has this name
+abbrev pub IsNamedCheck : List Field → List NamedKey → List ℕ → List ℕ → TagCheck → Type 0
+IsNamedCheck name book value octets UnknownKey = (key : List ℕ) → IsAmong (name, key) book → ⊥
+IsNamedCheck name book value octets check =
+    (key : List ℕ) × IsAmong (name, key) book × IsValueCheck value (Mac key octets) check
+
+-- a KeyLocator that is no name names no key
+abbrev pub IsLocatorCheck : PlainLocator → List NamedKey → List ℕ → List ℕ → TagCheck → Type 0
+IsLocatorCheck (KeyName name) book value octets check = IsNamedCheck name book value octets check
+IsLocatorCheck locator book value octets check = check ≡ UnknownKey
+
+-- of a signature over these octets: a digest, an HMAC, or of another type
+abbrev pub IsKindCheck : PlainSignature → List NamedKey → List ℕ → TagCheck → Type 0
+IsKindCheck s book octets check =
+    ((s.info.kind ≡ DIGEST_SHA256) × IsValueCheck s.value (sha256 octets) check)
+    ⊎ (((s.info.kind ≡ HMAC_WITH_SHA256)
+    × IsLocatorCheck s.info.locator book s.value octets check)
+    ⊎ ((s.info.kind ≢ DIGEST_SHA256) × (s.info.kind ≢ HMAC_WITH_SHA256) × (check ≡ Unchecked)))
+
+-- the same, where there may be no covered octets
+abbrev pub IsPartsCheck : PlainSignature → List NamedKey → Option (List ℕ) → TagCheck → Type 0
+IsPartsCheck s book None check = check ≡ Unchecked
+IsPartsCheck s book (Some octets) check = IsKindCheck s book octets check
+
+-- the octets that the signature of a packet covers, if it covers any
+abbrev pub AreCovered : PlainFrame → Option (List ℕ) → Type 0
+AreCovered packet None = (first second : List ℕ) → Covered packet first second → ⊥
+AreCovered packet (Some octets) =
+    (first : List ℕ) × (second : List ℕ) × Covered packet first second
+    × (octets ≡ first ++ second)
+
+-- a packet that is not signed has no such check
+abbrev pub IsSignedCheck : PlainFrame → Option PlainSignature → List NamedKey
+    → Option TagCheck → Type 0
+IsSignedCheck packet None book check = check ≡ None
+IsSignedCheck packet (Some s) book None = ⊥
+IsSignedCheck packet (Some s) book (Some check) =
+    (octets : Option (List ℕ)) × AreCovered packet octets × IsPartsCheck s book octets check
+
+-- of a packet, with the keys of a book; of the Interest that came back as a Nack
+abbrev pub IsTagCheck : PlainFrame → List NamedKey → Option TagCheck → Type 0
+IsTagCheck (AnInterest whole i) book check =
+    IsSignedCheck (AnInterest whole i) i.signature book check
+IsTagCheck (AData whole d) book check =
+    IsSignedCheck (AData whole d) (Some d.signature) book check
+IsTagCheck (ANack reason whole i) book check =
+    IsSignedCheck (AnInterest whole i) i.signature book check
+IsTagCheck Idle book check = check ≡ None
+
+-- the same, where keys may be given; without any nothing is checked
+abbrev pub MayBeChecked : PlainFrame → Option (List NamedKey) → Option TagCheck → Type 0
+MayBeChecked frame None check = check ≡ None
+MayBeChecked frame (Some book) check = IsTagCheck frame book check
+
+-- ---- the line
+
+abbrev pub check_words : TagCheck → List ℕ
+check_words Right = codes "tag right"
+check_words Wrong = codes "tag wrong"
+check_words UnknownKey = codes "key unknown"
+check_words Unchecked = codes "tag not checked"
+
+abbrev pub check_lines : Option TagCheck → List ℕ
+check_lines None = []
+check_lines (Some check) = line (check_words check)

@@ -1,0 +1,274 @@
+//! The answer to a job.
+ghost use Rattle.std.specs.Prelude.{◌≡◌, ◌++◌, List, ℕ, IfOk, OnErr, MatchResult, option_map};
+ghost use Rattle.ndn_packets.specs.Link.{IsFrame};
+ghost use Rattle.ndn_packets.specs.View.{plain_frame};
+ghost use Rattle.ndn_client.specs.Answer.{IsAnswer, IsRefusal, IsInterestAnswer, IsInterestRefusal, IsDataAnswer, IsDataRefusal, IsCommandPacket, IsCommandAnswer, IsCommandRefusal, IsTagAnswer, IsTagRefusal, IsShown, IsExplained, IsExplainAnswer, IsExplainRefusal, IsNotShown, keys_given, IsHmac, SignsInterest, SignsData, IsNoKey, hex_line};
+ghost use Rattle.ndn_client.specs.Parameters.{command_name};
+
+use crate::explain::{check_of, put_explanation};
+use crate::fault::ToolFault;
+use crate::job::{CommandJob, DataJob, ExplainJob, InterestJob, Job, TagJob};
+use crate::parameters::command_name;
+use crate::show::put_frame;
+use hmac_keys::{KeyBook, hmac_sha256};
+use ndn_names::NameBuf;
+use ndn_packets::{DataWriter, Frame, InterestWriter, Sign, read_frame};
+use ndn_tlv::Memory;
+use std::alloc::{AllocError, Global};
+
+/// Appends what the program prints for a job, with the keys of its key file; nothing for a packet
+/// to send, nor for packets of standard input.
+///
+/// Refuses a job by its cause or by `Memory`, never by `Usage`, and then appends nothing.
+pub fn put_answer(
+    alloc: Global,
+    job: &Job,
+    book: &KeyBook,
+    out: &mut Vec<u8>,
+) -> Result<(), ToolFault>
+    ensures answered { MatchResult result
+        (λ _. (text : List ℕ) × IsAnswer job.now book.now text
+        × (out.new.items ≡ out.old.items ++ text))
+        (IsRefusal job.now book.now) }
+    ensures err { OnErr result (out.new.items ≡ out.old.items) }
+{
+    let text = text_of(alloc, job, book)?;
+    out.extend_from_slice(&text)?;
+    Ok(())
+}
+
+fn text_of(alloc: Global, job: &Job, book: &KeyBook) -> Result<Vec<u8>, ToolFault>
+    ensures { MatchResult result
+        (λ text. IsAnswer job.now book.now text.items)
+        (IsRefusal job.now book.now) }
+{
+    match job {
+        Job::Help(help) => Ok(help.to_string(alloc)?.into_bytes()),
+        Job::Interest(job) => interest_text(alloc, job, book),
+        Job::Data(job) => data_text(alloc, job, book),
+        Job::Command(job) => command_text(alloc, job, book),
+        Job::Tag(job) => tag_text(alloc, job, book),
+        Job::Show(octets) => shown_text(alloc, octets),
+        Job::Explain(job) => explain_text(alloc, job, book),
+        Job::Send(_) => Ok(Vec::new(alloc)),
+    }
+}
+
+fn interest_text(alloc: Global, job: &InterestJob, book: &KeyBook) -> Result<Vec<u8>, ToolFault>
+    ensures { MatchResult result
+        (λ text. IsInterestAnswer job.now book.now text.items)
+        (IsInterestRefusal job.now book.now) }
+{
+    let sign = interest_sign(&job.key.key, book)?;
+    let writer = InterestWriter {
+        name: job.name.view(),
+        can_be_prefix: job.can_be_prefix,
+        must_be_fresh: job.must_be_fresh,
+        nonce: job.nonce,
+        lifetime: job.lifetime,
+        hop_limit: job.hop_limit,
+        parameters: octets_in(&job.parameters),
+        sign,
+        time: job.time,
+        seq: job.seq,
+    };
+    let mut packet = Vec::new(alloc);
+    writer.write(&mut packet)?;
+    Ok(hex_line(alloc, &packet)?)
+}
+
+fn data_text(alloc: Global, job: &DataJob, book: &KeyBook) -> Result<Vec<u8>, ToolFault>
+    ensures { MatchResult result
+        (λ text. IsDataAnswer job.now book.now text.items)
+        (IsDataRefusal job.now book.now) }
+{
+    let sign = data_sign(&job.key.key, book)?;
+    let writer = DataWriter {
+        name: job.name.view(),
+        freshness: job.freshness,
+        last: None,
+        content: octets_in(&job.content),
+        sign,
+    };
+    let mut packet = Vec::new(alloc);
+    writer.write(&mut packet)?;
+    Ok(hex_line(alloc, &packet)?)
+}
+
+fn command_text(alloc: Global, job: &CommandJob, book: &KeyBook) -> Result<Vec<u8>, ToolFault>
+    ensures { MatchResult result
+        (λ text. IsCommandAnswer job.now book.now text.items)
+        (IsCommandRefusal job.now book.now) }
+{
+    let packet = command_packet(alloc, job, book)?;
+    Ok(hex_line(alloc, &packet)?)
+}
+
+/// The packet of a command, with the keys of its key file.
+pub fn command_packet(alloc: Global, job: &CommandJob, book: &KeyBook) -> Result<Vec<u8>, ToolFault>
+    ensures { MatchResult result
+        (λ packet. IsCommandPacket job.now book.now packet.items)
+        (IsCommandRefusal job.now book.now) }
+{
+    match command_name(alloc, job) {
+        Ok(name) => named_command(alloc, job, &name, book),
+        Err(fault) => {
+            // A missing key is reported before a name that has no room.
+            data_sign(&job.stamp.key.key, book)?;
+            Err(fault)
+        }
+    }
+}
+
+/// The packet of a command whose Interest has this name, but for its digest.
+fn named_command<'a>(
+    alloc: Global,
+    job: &'a CommandJob,
+    name: &'a NameBuf,
+    book: &'a KeyBook,
+) -> Result<Vec<u8>, ToolFault>
+    requires { name.now ≡ command_name job.now }
+    ensures { MatchResult result
+        (λ packet. IsCommandPacket job.now book.now packet.items)
+        (IsCommandRefusal job.now book.now) }
+{
+    let sign = data_sign(&job.stamp.key.key, book)?;
+    let writer = InterestWriter {
+        name: name.view(),
+        can_be_prefix: false,
+        must_be_fresh: false,
+        nonce: job.stamp.nonce,
+        lifetime: None,
+        hop_limit: None,
+        // A signed Interest without any gets empty ones.
+        parameters: None,
+        sign: Some(sign),
+        time: Some(job.stamp.time),
+        seq: job.stamp.seq,
+    };
+    let mut packet = Vec::new(alloc);
+    writer.write(&mut packet)?;
+    Ok(packet)
+}
+
+fn tag_text(alloc: Global, job: &TagJob, book: &KeyBook) -> Result<Vec<u8>, ToolFault>
+    ensures { MatchResult result
+        (λ text. IsTagAnswer job.now book.now text.items)
+        (IsTagRefusal job.now book.now) }
+{
+    match book.find(job.key.view()) {
+        None => Err(ToolFault::NoKey),
+        Some(key) => Ok(hex_line(alloc, &hmac_sha256(key, &job.octets, &[]))?),
+    }
+}
+
+fn shown_text(alloc: Global, octets: &[u8]) -> Result<Vec<u8>, ToolFault>
+    ensures { MatchResult result (λ text. IsShown octets.now text.items) (IsNotShown octets.now) }
+{
+    let frame = frame_of(octets)?;
+    let mut text = Vec::new(alloc);
+    put_frame(alloc, &mut text, &frame)?;
+    Ok(text)
+}
+
+fn explain_text(alloc: Global, job: &ExplainJob, book: &KeyBook) -> Result<Vec<u8>, ToolFault>
+    ensures { MatchResult result
+        (λ text. IsExplainAnswer job.now book.now text.items)
+        (IsExplainRefusal job.now) }
+{
+    match &job.packet {
+        None => Ok(Vec::new(alloc)),
+        Some(octets) => explained_text(alloc, octets, keys_given(job, book)),
+    }
+}
+
+/// The keys to check signatures with, where the job names a key file.
+pub fn keys_given<'a>(job: &ExplainJob, book: &'a KeyBook) -> Option<&'a KeyBook>
+    ensures { option_map (λ b. b.now) result ≡ keys_given job.now book.entry.now }
+{
+    match &job.keys {
+        None => None,
+        Some(_) => Some(book),
+    }
+}
+
+/// The octets of a packet in words. With keys its signature is checked.
+pub fn explained_text(
+    alloc: Global,
+    octets: &[u8],
+    keys: Option<&KeyBook>,
+) -> Result<Vec<u8>, ToolFault>
+    ensures { MatchResult result
+        (λ text. IsExplained (option_map (λ b. b.now) keys.entry) octets.now text.items)
+        (IsNotShown octets.now) }
+{
+    let frame = frame_of(octets)?;
+    let check = check_of(&frame, keys);
+    let mut text = Vec::new(alloc);
+    put_explanation(alloc, &mut text, &frame, check)?;
+    Ok(text)
+}
+
+/// The frame that the octets are.
+fn frame_of(octets: &[u8]) -> Result<Frame<'_>, ToolFault>
+    ensures { MatchResult result
+        (λ frame. IsFrame octets.now (plain_frame frame))
+        (IsNotShown octets.now) }
+{
+    match read_frame(octets) {
+        Ok(frame) => Ok(frame),
+        Err(fault) => Err(ToolFault::Packet(fault)),
+    }
+}
+
+/// The signature of an Interest: with its key, or none.
+fn interest_sign<'a>(
+    key: &'a Option<NameBuf>,
+    book: &'a KeyBook,
+) -> Result<Option<Sign<'a>>, ToolFault>
+    ensures { MatchResult result (SignsInterest key.now book.now) (IsNoKey key.now book.now) }
+{
+    match key {
+        None => Ok(None),
+        Some(name) => Ok(Some(hmac_of(name, book)?)),
+    }
+}
+
+/// The signature of a Data or of a command: with its key, or by DigestSha256.
+fn data_sign<'a>(key: &'a Option<NameBuf>, book: &'a KeyBook) -> Result<Sign<'a>, ToolFault>
+    ensures { MatchResult result (SignsData key.now book.now) (IsNoKey key.now book.now) }
+{
+    match key {
+        None => Ok(Sign::Digest),
+        Some(name) => hmac_of(name, book),
+    }
+}
+
+/// A signature with the key of this name.
+fn hmac_of<'a>(name: &'a NameBuf, book: &'a KeyBook) -> Result<Sign<'a>, ToolFault>
+    ensures { MatchResult result (IsHmac name.now book.now) (IsNoKey (Some name.now) book.now) }
+{
+    let name = name.view();
+    match book.find(name) {
+        None => Err(ToolFault::NoKey),
+        Some(key) => Ok(Sign::Hmac { name, key }),
+    }
+}
+
+fn octets_in(octets: &Option<Vec<u8>>) -> Option<&[u8]>
+    ensures { option_map (λ o. o.now) result ≡ option_map (λ o. o.items) octets.now }
+{
+    match octets {
+        None => None,
+        Some(octets) => Some(octets.as_slice()),
+    }
+}
+
+/// A line of hexadecimal.
+pub fn hex_line(alloc: Global, octets: &[u8]) -> Result<Vec<u8>, AllocError>
+    ensures { IfOk result (λ text. text.items ≡ hex_line octets.now) }
+{
+    let mut text = hex::encode(alloc, octets)?;
+    text.push('\n')?;
+    Ok(text.into_bytes())
+}

@@ -1,0 +1,153 @@
+//! The entries of a list of routes or of strategies, as lines of text.
+
+ghost use Rattle.std.specs.Prelude.{◌≡◌, ◌++◌, OnOk, Ok, flat_map};
+ghost use Rattle.std.specs.Option.{option_map};
+ghost use Rattle.ndn_tlv.specs.Reading.{elements_of};
+ghost use Rattle.ndn_client.specs.Fields.{first_of};
+ghost use Rattle.ndn_client.specs.Dataset.{short_strategy, choice_line, number_word, hop_words, hop_line, entry_name, named_entry, entry_lines, dataset_lines};
+
+use crate::fields::first_field;
+use crate::meaning::{Form, put_form};
+use crate::parameters::{COST, FACE_ID, NAME, STRATEGY};
+use ndn_tlv::{Memory, first_element};
+use std::alloc::Global;
+
+/// An entry of a list, and a next hop in it (NFD Management, "FIB Dataset", "Strategy Choice
+/// Dataset").
+pub const ENTRY: u32 = 128;
+
+pub const NEXT_HOP: u32 = 129;
+
+/// Appends the lines of the entries that a content holds; nothing for a content without any.
+pub fn put_entries(alloc: Global, text: &mut Vec<u8>, content: &[u8]) -> Result<(), Memory>
+    ensures { OnOk result (text.new.items ≡ text.old.items ++ dataset_lines content.now) }
+{
+    let mut rest = content;
+    while !rest.is_empty() {
+        let Ok((element, after)) = first_element(rest) else {
+            return Ok(());
+        };
+        put_entry(alloc, text, element.kind, element.value)?;
+        rest = after;
+    }
+    Ok(())
+}
+
+/// Appends the lines of an element that is an entry; nothing for another one.
+fn put_entry(alloc: Global, text: &mut Vec<u8>, kind: u32, value: &[u8]) -> Result<(), Memory>
+    ensures { OnOk result (text.new.items ≡ text.old.items ++ entry_lines (Ok (kind, value.now))) }
+{
+    if kind != ENTRY {
+        return Ok(());
+    }
+    let mut name = Vec::new(alloc);
+    put_entry_name(alloc, &mut name, first_field(value, NAME))?;
+    put_choice(alloc, text, &name, first_field(value, STRATEGY))?;
+    put_hops(alloc, text, &name, value)
+}
+
+fn put_entry_name(alloc: Global, text: &mut Vec<u8>, name: Option<&[u8]>) -> Result<(), Memory>
+    ensures { OnOk result (text.new.items ≡ text.old.items
+        ++ entry_name (option_map (λ n. n.now) name.entry)) }
+{
+    match name {
+        None => Ok(text.push(b'-')?),
+        Some(name) => put_form(alloc, text, Form::Name, name),
+    }
+}
+
+/// Appends the line of an entry that has a strategy.
+fn put_choice(
+    alloc: Global,
+    text: &mut Vec<u8>,
+    name: &[u8],
+    strategy: Option<&[u8]>,
+) -> Result<(), Memory>
+    ensures { OnOk result (text.new.items ≡ text.old.items
+        ++ choice_line name.now (option_map (λ s. s.now) strategy.entry)) }
+{
+    let Some(strategy) = strategy else {
+        return Ok(());
+    };
+    let mut uri = Vec::new(alloc);
+    put_form(alloc, &mut uri, Form::Strategy, strategy)?;
+    text.extend_from_slice(b"strategy ")?;
+    text.extend_from_slice(name)?;
+    text.push(b' ')?;
+    text.extend_from_slice(short_strategy(&uri))?;
+    text.push(b'\n')?;
+    Ok(())
+}
+
+/// The word for one of the two strategies, or the URI of another one.
+fn short_strategy(uri: &[u8]) -> &[u8]
+    ensures { result.now ≡ short_strategy uri.now }
+{
+    if uri == b"/localhost/nfd/strategy/best-route".as_slice() {
+        return b"best-route";
+    }
+    if uri == b"/localhost/nfd/strategy/multicast".as_slice() {
+        return b"multicast";
+    }
+    uri
+}
+
+/// Appends a line for each next hop of an entry of this name.
+fn put_hops(alloc: Global, text: &mut Vec<u8>, name: &[u8], entry: &[u8]) -> Result<(), Memory>
+    ensures { OnOk result (text.new.items ≡ text.old.items
+        ++ flat_map (hop_line name.now) (elements_of entry.now)) }
+{
+    let mut rest = entry;
+    while !rest.is_empty() {
+        let Ok((element, after)) = first_element(rest) else {
+            return Ok(());
+        };
+        put_hop(alloc, text, name, element.kind, element.value)?;
+        rest = after;
+    }
+    Ok(())
+}
+
+/// Appends the line of an element that is a next hop; nothing for another one.
+fn put_hop(
+    alloc: Global,
+    text: &mut Vec<u8>,
+    name: &[u8],
+    kind: u32,
+    value: &[u8],
+) -> Result<(), Memory>
+    ensures { OnOk result (text.new.items
+        ≡ text.old.items ++ hop_line name.now (Ok (kind, value.now))) }
+{
+    if kind != NEXT_HOP {
+        return Ok(());
+    }
+    text.extend_from_slice(b"route ")?;
+    text.extend_from_slice(name)?;
+    put_hop_words(alloc, text, value)?;
+    text.push(b'\n')?;
+    Ok(())
+}
+
+fn put_hop_words(alloc: Global, text: &mut Vec<u8>, fields: &[u8]) -> Result<(), Memory>
+    ensures { OnOk result (text.new.items ≡ text.old.items ++ hop_words (elements_of fields.now)) }
+{
+    put_number_word(alloc, text, b" face ", first_field(fields, FACE_ID))?;
+    put_number_word(alloc, text, b" cost ", first_field(fields, COST))
+}
+
+fn put_number_word(
+    alloc: Global,
+    text: &mut Vec<u8>,
+    label: &[u8],
+    number: Option<&[u8]>,
+) -> Result<(), Memory>
+    ensures { OnOk result (text.new.items ≡ text.old.items
+        ++ number_word label.now (option_map (λ n. n.now) number.entry)) }
+{
+    let Some(number) = number else {
+        return Ok(());
+    };
+    text.extend_from_slice(label)?;
+    put_form(alloc, text, Form::Number, number)
+}

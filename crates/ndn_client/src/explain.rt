@@ -1,0 +1,158 @@
+//! What a packet says to whoever looks for a fault, as lines of text.
+
+ghost use Rattle.std.specs.Prelude.{◌≡◌, ◌++◌, OnOk, Some, option_map, codes};
+ghost use Rattle.std.specs.Fmt.{decimal};
+ghost use Rattle.ndn_packets.specs.Packet.{plain_signature, plain_locator};
+ghost use Rattle.ndn_packets.specs.View.{plain_frame, plain_data};
+ghost use Rattle.ndn_client.specs.Show.{optional_line};
+ghost use Rattle.ndn_client.specs.TagCheck.{MayBeChecked, check_words, check_lines};
+ghost use Rattle.ndn_client.specs.Explain.{locator_text, info_lines, signer_lines, signature_of, content_lines, data_meaning, meaning, explanation};
+
+use crate::dataset::put_entries;
+use crate::meaning::{put_command, put_reply};
+use crate::segment::put_segment;
+use crate::show::{put_frame, put_label, put_name, put_number, put_value};
+use crate::tag_check::{TagCheck, check_tag};
+use hmac_keys::KeyBook;
+use ndn_packets::{Data, Frame, Locator, Signature};
+use ndn_tlv::Memory;
+use std::alloc::Global;
+
+/// Checks the signature of a packet, if it is signed and keys are given.
+pub fn check_of(frame: &Frame<'_>, keys: Option<&KeyBook>) -> Option<TagCheck>
+    ensures { MayBeChecked (plain_frame frame.now) (option_map (λ b. b.now) keys.entry) result }
+{
+    match keys {
+        None => None,
+        Some(book) => check_tag(frame, book),
+    }
+}
+
+/// Appends the lines of `show`, those of the SignatureInfo and of the check of the signature, and
+/// those of a segment, a command, a reply or a list. After `Memory` some of them may have been
+/// appended.
+pub fn put_explanation(
+    alloc: Global,
+    text: &mut Vec<u8>,
+    frame: &Frame<'_>,
+    check: Option<TagCheck>,
+) -> Result<(), Memory>
+    ensures { OnOk result (text.new.items
+        ≡ text.old.items ++ explanation (plain_frame frame.now) check) }
+{
+    put_frame(alloc, text, frame)?;
+    put_signer(alloc, text, signature_of(frame))?;
+    put_check(text, check)?;
+    put_meaning(alloc, text, frame)
+}
+
+/// Appends the line of a check.
+fn put_check(text: &mut Vec<u8>, check: Option<TagCheck>) -> Result<(), Memory>
+    ensures { OnOk result (text.new.items ≡ text.old.items ++ check_lines check) }
+{
+    match check {
+        None => Ok(()),
+        Some(check) => put_label(text, check_words(check)),
+    }
+}
+
+fn check_words(check: TagCheck) -> &'static str
+    ensures { result.now ≡ check_words check }
+{
+    match check {
+        TagCheck::Right => "tag right",
+        TagCheck::Wrong => "tag wrong",
+        TagCheck::UnknownKey => "key unknown",
+        TagCheck::Unchecked => "tag not checked",
+    }
+}
+
+/// Appends the lines of the segment, the command, the reply or the list that the packet is.
+fn put_meaning(alloc: Global, text: &mut Vec<u8>, frame: &Frame<'_>) -> Result<(), Memory>
+    ensures { OnOk result (text.new.items ≡ text.old.items ++ meaning (plain_frame frame.now)) }
+{
+    match frame {
+        Frame::Interest(interest) => put_command(alloc, text, interest.name),
+        Frame::Data(packet) => put_data_meaning(alloc, text, packet),
+        Frame::Nack { interest, .. } => put_command(alloc, text, interest.name),
+        Frame::Idle => Ok(()),
+    }
+}
+
+fn put_data_meaning(alloc: Global, text: &mut Vec<u8>, packet: &Data<'_>) -> Result<(), Memory>
+    ensures { OnOk result (text.new.items ≡ text.old.items
+        ++ data_meaning packet.now.whole.now (plain_data packet.now)) }
+{
+    put_segment(text, packet.name, packet.whole)?;
+    match packet.content {
+        None => Ok(()),
+        Some(content) => put_content(alloc, text, content),
+    }
+}
+
+/// Appends the lines of a reply, or of the entries of a list.
+fn put_content(alloc: Global, text: &mut Vec<u8>, content: &[u8]) -> Result<(), Memory>
+    ensures { OnOk result (text.new.items
+        ≡ text.old.items ++ content_lines (Some content.now)) }
+{
+    put_reply(alloc, text, content)?;
+    put_entries(alloc, text, content)
+}
+
+/// Appends the lines of the SignatureInfo of a packet that is signed.
+fn put_signer(
+    alloc: Global,
+    text: &mut Vec<u8>,
+    signature: Option<Signature<'_>>,
+) -> Result<(), Memory>
+    ensures { OnOk result (text.new.items ≡ text.old.items
+        ++ signer_lines (option_map plain_signature signature.entry)) }
+{
+    match signature {
+        None => Ok(()),
+        Some(signature) => put_info(alloc, text, &signature),
+    }
+}
+
+fn signature_of<'a>(frame: &Frame<'a>) -> Option<Signature<'a>>
+    ensures { option_map plain_signature result ≡ signature_of (plain_frame frame.now) }
+{
+    match frame {
+        Frame::Interest(interest) => interest.signature,
+        Frame::Data(data) => Some(data.signature),
+        Frame::Nack { interest, .. } => interest.signature,
+        Frame::Idle => None,
+    }
+}
+
+/// Appends the lines of a SignatureInfo.
+fn put_info(alloc: Global, text: &mut Vec<u8>, signature: &Signature<'_>) -> Result<(), Memory>
+    ensures { OnOk result (text.new.items ≡ text.old.items
+        ++ info_lines (plain_signature signature.now).info) }
+{
+    put_locator(alloc, text, signature.locator)?;
+    put_optional_number(text, "time", signature.time)?;
+    put_optional_number(text, "seq", signature.seq)
+}
+
+fn put_locator(alloc: Global, text: &mut Vec<u8>, locator: Locator<'_>) -> Result<(), Memory>
+    ensures { OnOk result (text.new.items ≡ text.old.items
+        ++ optional_line (codes "key-locator") (locator_text (plain_locator locator.entry))) }
+{
+    match locator {
+        Locator::Missing => Ok(()),
+        Locator::Name(name) => put_name(alloc, text, "key-locator", name),
+        Locator::Digest => put_value(text, "key-locator", b"digest"),
+        Locator::Other => put_value(text, "key-locator", b"other"),
+    }
+}
+
+fn put_optional_number(text: &mut Vec<u8>, label: &str, number: Option<u64>) -> Result<(), Memory>
+    ensures { OnOk result (text.new.items ≡ text.old.items
+        ++ optional_line label.now (option_map decimal number)) }
+{
+    match number {
+        None => Ok(()),
+        Some(number) => put_number(text, label, number),
+    }
+}

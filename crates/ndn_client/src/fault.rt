@@ -1,0 +1,220 @@
+//! Why the program stops: its message and its exit status.
+use hmac_keys::KeyFault;
+use ndn_packets::{PacketFault, WriteFault};
+use ndn_tlv::Memory;
+use std::alloc::AllocError;
+use std::fmt;
+
+/// What is wrong with a command line.
+#[derive(Debug, Drop)]
+pub enum Usage {
+    /// The arguments are not a command line.
+    CommandLine(clap::Error),
+    /// A value is not one that may be given there.
+    BadValue {
+        /// The option or argument, as the help names it.
+        place: &'static str,
+        /// What to give there.
+        wanted: &'static str,
+    },
+}
+
+/// Why a job was not done.
+#[derive(Debug, Drop)]
+pub enum ToolFault {
+    /// The command line is wrong.
+    Usage(Usage),
+    /// The key is not in the key file.
+    NoKey,
+    /// The packet cannot be written.
+    Write(WriteFault),
+    /// The octets to show are not a packet.
+    Packet(PacketFault),
+    /// A growth of memory was refused.
+    Memory,
+}
+
+/// Why the program did not do what it was asked.
+#[derive(Debug, Drop)]
+pub enum Fault {
+    /// The job was not done.
+    Tool(ToolFault),
+    /// An argument is not UTF-8.
+    NotText,
+    /// The file is not a key file.
+    Keys(KeyFault),
+    /// The key file cannot be read.
+    Read,
+    /// The clock cannot be read.
+    Clock,
+    /// Standard output cannot be written.
+    Write,
+    /// Standard input cannot be read, or is not UTF-8.
+    Input,
+    /// The packet cannot be sent.
+    Send,
+    /// No answer came in time.
+    NoAnswer,
+}
+
+impl ToolFault {
+    ghost use Rattle.std.specs.Prelude.{◌≡◌};
+    ghost use Rattle.ndn_client.specs.Fault.{tool_status};
+
+    /// The exit status: 1 for a missing key or a bad packet, 2 for a wrong command line, 3 if
+    /// memory was refused.
+    pub fn exit_status(&self) -> u8
+        ensures { result ≡ tool_status self.now }
+    {
+        match self {
+            ToolFault::Usage(_) => 2,
+            ToolFault::NoKey
+            | ToolFault::Write(WriteFault::BadName | WriteFault::TooLong)
+            | ToolFault::Packet(_) => 1,
+            ToolFault::Write(WriteFault::Memory) | ToolFault::Memory => 3,
+        }
+    }
+}
+
+impl Fault {
+    ghost use Rattle.std.specs.Prelude.{◌≡◌};
+    ghost use Rattle.ndn_client.specs.Fault.{status_of};
+
+    /// The exit status: that of the job's fault, or 1 for a bad key file, 2 for a wrong command
+    /// line, 3 if reading, writing, sending, receiving or memory failed.
+    pub fn exit_status(&self) -> u8
+        ensures { result ≡ status_of self.now }
+    {
+        match self {
+            Fault::Tool(fault) => fault.exit_status(),
+            Fault::NotText => 2,
+            Fault::Keys(KeyFault::BadLine(_) | KeyFault::TwiceNamed(_) | KeyFault::TooMany) => 1,
+            Fault::Keys(KeyFault::Memory)
+            | Fault::Read
+            | Fault::Clock
+            | Fault::Write
+            | Fault::Input
+            | Fault::Send
+            | Fault::NoAnswer => 3,
+        }
+    }
+}
+
+impl fmt::Display for ToolFault {
+    ghost use Rattle.ndn_client.specs.Fault.{tool_text};
+
+    // Each message ends with an LF.
+    ghost output = { tool_text };
+
+    fn fmt<W: fmt::Write>(&self, f: &mut fmt::Formatter<W>) -> fmt::Result {
+        match self {
+            ToolFault::Usage(Usage::CommandLine(error)) => error.fmt(f),
+            ToolFault::Usage(Usage::BadValue { place, wanted }) => {
+                writeln!(f, "error: invalid value for {place}: give {wanted}")
+            }
+            ToolFault::NoKey => f.write_str("key not found\n"),
+            ToolFault::Write(WriteFault::Memory) | ToolFault::Memory => {
+                f.write_str("error: out of memory\n")
+            }
+            ToolFault::Write(fault) => writeln!(f, "{}", fault.name()),
+            ToolFault::Packet(fault) => writeln!(f, "{}", fault.name()),
+        }
+    }
+}
+
+impl fmt::Display for Fault {
+    ghost use Rattle.ndn_client.specs.Fault.{text_of};
+
+    // Each message ends with an LF.
+    ghost output = { text_of };
+
+    fn fmt<W: fmt::Write>(&self, f: &mut fmt::Formatter<W>) -> fmt::Result {
+        match self {
+            Fault::Tool(fault) => fault.fmt(f),
+            Fault::NotText => f.write_str("error: an argument is not UTF-8 text\n"),
+            Fault::Keys(KeyFault::BadLine(line)) => writeln!(f, "keys:{line}: BadLine"),
+            Fault::Keys(KeyFault::TwiceNamed(line)) => writeln!(f, "keys:{line}: TwiceNamed"),
+            Fault::Keys(KeyFault::TooMany) => f.write_str("keys:0: TooMany\n"),
+            Fault::Keys(KeyFault::Memory) => f.write_str("error: out of memory\n"),
+            Fault::Read => f.write_str("error: the key file cannot be read\n"),
+            Fault::Clock => f.write_str("error: the clock cannot be read\n"),
+            Fault::Write => f.write_str("error: standard output cannot be written\n"),
+            Fault::Input => f.write_str("error: standard input cannot be read as UTF-8 text\n"),
+            Fault::Send => f.write_str("error: the packet cannot be sent to this port\n"),
+            Fault::NoAnswer => {
+                f.write_str("error: no answer came; see that a node listens on this port\n")
+            }
+        }
+    }
+}
+
+impl From<WriteFault> for ToolFault {
+    ghost use Rattle.std.specs.Prelude.{◌≡◌};
+    ghost use Rattle.ndn_client.specs.Fault.{fault_of_write};
+
+    ghost from_gives = { λ why fault. fault ≡ fault_of_write why };
+
+    fn from(fault: WriteFault) -> ToolFault {
+        match fault {
+            WriteFault::BadName | WriteFault::TooLong => ToolFault::Write(fault),
+            WriteFault::Memory => ToolFault::Memory,
+        }
+    }
+}
+
+impl From<Memory> for ToolFault {
+    ghost use Rattle.std.specs.Prelude.{◌≡◌};
+    ghost use Rattle.ndn_client.specs.declared.fault.ToolFault.TheVariants.{Memory};
+
+    ghost from_gives = { λ _ fault. fault ≡ Memory };
+
+    fn from(_memory: Memory) -> ToolFault {
+        ToolFault::Memory
+    }
+}
+
+impl From<AllocError> for ToolFault {
+    ghost use Rattle.std.specs.Prelude.{◌≡◌};
+    ghost use Rattle.ndn_client.specs.declared.fault.ToolFault.TheVariants.{Memory};
+
+    ghost from_gives = { λ _ fault. fault ≡ Memory };
+
+    fn from(_error: AllocError) -> ToolFault {
+        ToolFault::Memory
+    }
+}
+
+impl From<ToolFault> for Fault {
+    ghost use Rattle.std.specs.Prelude.{◌≡◌};
+    ghost use Rattle.ndn_client.specs.declared.fault.Fault.TheVariants.{Tool};
+
+    ghost from_gives = { λ why fault. fault ≡ Tool why };
+
+    fn from(fault: ToolFault) -> Fault {
+        Fault::Tool(fault)
+    }
+}
+
+impl From<Memory> for Fault {
+    ghost use Rattle.std.specs.Prelude.{◌≡◌};
+    ghost use Rattle.ndn_client.specs.declared.fault.Fault.TheVariants.{Tool};
+    ghost use Rattle.ndn_client.specs.declared.fault.ToolFault.TheVariants.{Memory};
+
+    ghost from_gives = { λ _ fault. fault ≡ Tool Memory };
+
+    fn from(_memory: Memory) -> Fault {
+        Fault::Tool(ToolFault::Memory)
+    }
+}
+
+impl From<AllocError> for Fault {
+    ghost use Rattle.std.specs.Prelude.{◌≡◌};
+    ghost use Rattle.ndn_client.specs.declared.fault.Fault.TheVariants.{Tool};
+    ghost use Rattle.ndn_client.specs.declared.fault.ToolFault.TheVariants.{Memory};
+
+    ghost from_gives = { λ _ fault. fault ≡ Tool Memory };
+
+    fn from(_error: AllocError) -> Fault {
+        Fault::Tool(ToolFault::Memory)
+    }
+}

@@ -1,0 +1,261 @@
+//! What a command asks for and what a reply answers, as lines of text.
+
+ghost use Rattle.std.specs.Prelude.{◌≡◌, ◌++◌, OnOk, Some, codes};
+ghost use Rattle.std.specs.Option.{option_map};
+ghost use Rattle.std.specs.List.{list_all};
+ghost use Rattle.ndn_tlv.specs.Reading.{elements_of};
+ghost use Rattle.ndn_names.specs.View.{components};
+ghost use Rattle.ndn_client.specs.Fields.{first_of};
+ghost use Rattle.ndn_client.specs.Show.{named_line, optional_line};
+ghost use Rattle.ndn_client.specs.Meaning.{bad_text, number_text, name_text, form_text, field_line, hop_lines, wanted_lines, field_lines, parameters_of, parameters_in, command_lines, is_printable, status_text, status_line, body_lines, node_reply_lines, repository_reply_lines, reply_lines};
+
+use crate::fields::{first_field, single_element};
+use crate::parameters::{
+    CAN_BE_PREFIX, COST, COUNT, FACE_ID, INTEREST_LIFETIME, NAME, PARAMETERS,
+    REPOSITORY_PARAMETERS, STRATEGY,
+};
+use crate::show::{put_flag, put_hex, put_name};
+use ndn_names::component_type::{GENERIC, PARAMETERS_SHA256_DIGEST};
+use ndn_names::{Name, NameBuf};
+use ndn_tlv::{Memory, nni_of};
+use std::alloc::Global;
+use std::io::Write;
+
+/// A reply of the node (NFD Management, "Control Command", ControlResponse).
+pub const RESPONSE: u32 = 101;
+
+pub const STATUS_CODE: u32 = 102;
+
+pub const STATUS_TEXT: u32 = 103;
+
+/// A reply of a repository.
+pub const REPOSITORY_RESPONSE: u32 = 207;
+
+pub const REPOSITORY_STATUS_CODE: u32 = 208;
+
+/// What the value of a field is.
+#[derive(Clone, Copy, Debug, PartialEq, Eq)]
+pub enum Form {
+    /// A NonNegativeInteger.
+    Number,
+    /// The components of a name.
+    Name,
+    /// One Name, as a Strategy holds it.
+    Strategy,
+}
+
+/// Appends the lines of a command of this name; nothing for the name of another Interest.
+pub fn put_command(alloc: Global, text: &mut Vec<u8>, name: Name<'_>) -> Result<(), Memory>
+    ensures { OnOk result (text.new.items
+        ≡ text.old.items ++ command_lines (components name.entry)) }
+{
+    let Some(fields) = parameters_in(name) else {
+        return Ok(());
+    };
+    put_name(
+        alloc,
+        text,
+        "command",
+        name.prefix(name.len().saturating_sub(2)),
+    )?;
+    put_fields(alloc, text, fields)
+}
+
+/// The fields of a command of this name.
+fn parameters_in<'a>(name: Name<'a>) -> Option<&'a [u8]>
+    ensures { option_map (λ v. v.now) result ≡ parameters_in (components name.entry) }
+{
+    let digest = name.component(name.len().saturating_sub(1))?;
+    if digest.kind != PARAMETERS_SHA256_DIGEST {
+        return None;
+    }
+    let component = name.component(name.len().saturating_sub(2))?;
+    if component.kind != GENERIC {
+        return None;
+    }
+    parameters_of(component.value)
+}
+
+/// The fields of parameters, which are one element.
+fn parameters_of(value: &[u8]) -> Option<&[u8]>
+    ensures { option_map (λ v. v.now) result ≡ parameters_of value.now }
+{
+    match single_element(value, PARAMETERS) {
+        Some(fields) => Some(fields),
+        None => single_element(value, REPOSITORY_PARAMETERS),
+    }
+}
+
+/// Appends the lines of a reply with this content; nothing for another content.
+pub fn put_reply(alloc: Global, text: &mut Vec<u8>, content: &[u8]) -> Result<(), Memory>
+    ensures { OnOk result (text.new.items ≡ text.old.items ++ reply_lines content.now) }
+{
+    if let Some(fields) = single_element(content, RESPONSE) {
+        return put_node_reply(alloc, text, fields);
+    }
+    match single_element(content, REPOSITORY_RESPONSE) {
+        Some(fields) => put_repository_reply(alloc, text, fields),
+        None => Ok(()),
+    }
+}
+
+fn put_node_reply(alloc: Global, text: &mut Vec<u8>, fields: &[u8]) -> Result<(), Memory>
+    ensures { OnOk result (text.new.items
+        ≡ text.old.items ++ node_reply_lines (elements_of fields.now)) }
+{
+    put_status(alloc, text, fields, STATUS_CODE)?;
+    match first_field(fields, PARAMETERS) {
+        Some(body) => put_fields(alloc, text, body),
+        None => Ok(()),
+    }
+}
+
+fn put_repository_reply(alloc: Global, text: &mut Vec<u8>, fields: &[u8]) -> Result<(), Memory>
+    ensures { OnOk result (text.new.items
+        ≡ text.old.items ++ repository_reply_lines (elements_of fields.now)) }
+{
+    put_status(alloc, text, fields, REPOSITORY_STATUS_CODE)?;
+    put_fields(alloc, text, fields)
+}
+
+/// Appends the line of the status, whose code is the field of this type.
+fn put_status(alloc: Global, text: &mut Vec<u8>, fields: &[u8], kind: u32) -> Result<(), Memory>
+    ensures { OnOk result (text.new.items
+        ≡ text.old.items ++ status_line kind (elements_of fields.now)) }
+{
+    let Some(code) = first_field(fields, kind) else {
+        return Ok(());
+    };
+    text.extend_from_slice(b"status ")?;
+    put_number_text(alloc, text, code)?;
+    text.push(b' ')?;
+    put_status_text(alloc, text, first_field(fields, STATUS_TEXT))?;
+    text.push(b'\n')?;
+    Ok(())
+}
+
+/// Appends the text of a status in one line, or a dash where it is missing.
+fn put_status_text(alloc: Global, text: &mut Vec<u8>, status: Option<&[u8]>) -> Result<(), Memory>
+    ensures { OnOk result (text.new.items ≡ text.old.items
+        ++ status_text (option_map (λ s. s.now) status.entry)) }
+{
+    match status {
+        None => text.push(b'-')?,
+        Some(octets) if is_one_line(octets) => text.extend_from_slice(octets)?,
+        Some(octets) => put_hex(alloc, text, octets)?,
+    }
+    Ok(())
+}
+
+/// Whether all octets are printable ASCII.
+fn is_one_line(octets: &[u8]) -> bool
+    ensures { result ≡ list_all is_printable octets.now }
+{
+    octets.iter().all(|&octet| 32 <= octet && octet <= 126)
+}
+
+/// Appends the lines of fields, each where it is there.
+fn put_fields(alloc: Global, text: &mut Vec<u8>, fields: &[u8]) -> Result<(), Memory>
+    ensures { OnOk result (text.new.items
+        ≡ text.old.items ++ field_lines (elements_of fields.now)) }
+{
+    put_field(alloc, text, "name", Form::Name, fields, NAME)?;
+    put_hop(alloc, text, fields)?;
+    put_field(alloc, text, "strategy", Form::Strategy, fields, STRATEGY)?;
+    put_field(alloc, text, "count", Form::Number, fields, COUNT)?;
+    put_wanted(alloc, text, fields)
+}
+
+/// Appends the lines of a next hop.
+fn put_hop(alloc: Global, text: &mut Vec<u8>, fields: &[u8]) -> Result<(), Memory>
+    ensures { OnOk result (text.new.items ≡ text.old.items ++ hop_lines (elements_of fields.now)) }
+{
+    put_field(alloc, text, "face", Form::Number, fields, FACE_ID)?;
+    put_field(alloc, text, "cost", Form::Number, fields, COST)
+}
+
+/// Appends the lines of what a repository is asked for.
+fn put_wanted(alloc: Global, text: &mut Vec<u8>, fields: &[u8]) -> Result<(), Memory>
+    ensures { OnOk result (text.new.items
+        ≡ text.old.items ++ wanted_lines (elements_of fields.now)) }
+{
+    put_flag(
+        text,
+        "can-be-prefix",
+        first_field(fields, CAN_BE_PREFIX).is_some(),
+    )?;
+    put_field(
+        alloc,
+        text,
+        "lifetime",
+        Form::Number,
+        fields,
+        INTEREST_LIFETIME,
+    )
+}
+
+/// Appends the line of a field, if it is there.
+fn put_field(
+    alloc: Global,
+    text: &mut Vec<u8>,
+    label: &str,
+    form: Form,
+    fields: &[u8],
+    kind: u32,
+) -> Result<(), Memory>
+    ensures { OnOk result (text.new.items ≡ text.old.items
+        ++ field_line label.now form kind (elements_of fields.now)) }
+{
+    let Some(value) = first_field(fields, kind) else {
+        return Ok(());
+    };
+    text.extend_from_slice(label.as_bytes())?;
+    text.push(b' ')?;
+    put_form(alloc, text, form, value)?;
+    text.push(b'\n')?;
+    Ok(())
+}
+
+/// Appends the text of a value of this form.
+pub fn put_form(alloc: Global, text: &mut Vec<u8>, form: Form, value: &[u8]) -> Result<(), Memory>
+    ensures { OnOk result (text.new.items ≡ text.old.items ++ form_text form value.now) }
+{
+    match form {
+        Form::Number => put_number_text(alloc, text, value),
+        Form::Name => put_name_text(alloc, text, value),
+        Form::Strategy => match single_element(value, NAME) {
+            Some(name) => put_name_text(alloc, text, name),
+            None => put_bad(alloc, text, value),
+        },
+    }
+}
+
+fn put_number_text(alloc: Global, text: &mut Vec<u8>, value: &[u8]) -> Result<(), Memory>
+    ensures { OnOk result (text.new.items ≡ text.old.items ++ number_text value.now) }
+{
+    match nni_of(value) {
+        Ok(number) => write!(text, "{number}").map_err(|_| Memory),
+        Err(_) => put_bad(alloc, text, value),
+    }
+}
+
+fn put_name_text(alloc: Global, text: &mut Vec<u8>, value: &[u8]) -> Result<(), Memory>
+    ensures { OnOk result (text.new.items ≡ text.old.items ++ name_text value.now) }
+{
+    match Name::read(value) {
+        Ok(name) => {
+            let uri = NameBuf::from_name(alloc, name)?.to_uri(alloc)?;
+            text.extend_from_slice(uri.as_bytes())?;
+            Ok(())
+        }
+        Err(_) => put_bad(alloc, text, value),
+    }
+}
+
+/// Appends what is said of a value of a wrong form.
+fn put_bad(alloc: Global, text: &mut Vec<u8>, value: &[u8]) -> Result<(), Memory>
+    ensures { OnOk result (text.new.items ≡ text.old.items ++ bad_text value.now) }
+{
+    text.extend_from_slice(b"bad ")?;
+    put_hex(alloc, text, value)
+}

@@ -1,0 +1,158 @@
+//! The parameters of a command, as the last component of its name (NFD Management, "Control
+//! Command").
+
+ghost use Rattle.std.specs.Prelude.{◌≡◌, ◌++◌, ◌⊎◌, ◌≤◌, [], ◌∷◌, IfOk, OnOk, MatchResult, length};
+ghost use Rattle.ndn_tlv.specs.Element.{element};
+ghost use Rattle.ndn_tlv.specs.Number.{shortest_nni};
+ghost use Rattle.ndn_names.specs.View.{components};
+ghost use Rattle.ndn_packets.specs.Fields.{optional, flag};
+ghost use Rattle.ndn_packets.specs.Writing.{octets, number};
+ghost use Rattle.ndn_client.specs.Parameters.{is_generic_at, is_of_node, name_field, strategy_value, node_fields, repository_fields, parameters_element, command_name, IsNameRefusal};
+
+use crate::fault::ToolFault;
+use crate::job::{CommandJob, Parameters};
+use ndn_names::component_type::GENERIC;
+use ndn_names::{Name, NameBuf, NameFault};
+use ndn_packets::WriteFault;
+use ndn_tlv::{Memory, nni_len, put_element, put_nni, put_number};
+use std::alloc::{AllocError, Global};
+
+/// The parameters of a command of the node.
+pub const PARAMETERS: u32 = 104;
+
+/// The parameters of a command of a repository.
+pub const REPOSITORY_PARAMETERS: u32 = 201;
+
+/// The fields of parameters.
+pub const NAME: u32 = 7;
+
+pub const INTEREST_LIFETIME: u32 = 12;
+
+pub const CAN_BE_PREFIX: u32 = 33;
+
+pub const FACE_ID: u32 = 105;
+
+pub const COST: u32 = 106;
+
+pub const STRATEGY: u32 = 107;
+
+pub const COUNT: u32 = 132;
+
+/// The name of the command's Interest without its digest: the command's own, and its parameters as
+/// the last component.
+///
+/// Refuses by `TooLong` a name that has no room for them, and any other by `Memory` alone.
+pub fn command_name(alloc: Global, job: &CommandJob) -> Result<NameBuf, ToolFault>
+    ensures { MatchResult result (λ name. name ≡ command_name job.now) (IsNameRefusal job.now) }
+{
+    let element = parameters_element(alloc, job)?;
+    let mut name = job.name.try_clone(alloc)?;
+    match name.append(GENERIC, &element) {
+        Ok(()) => Ok(name),
+        Err(NameFault::Memory) => Err(ToolFault::Memory),
+        Err(_) => Err(ToolFault::Write(WriteFault::TooLong)),
+    }
+}
+
+/// The element of the parameters.
+fn parameters_element(alloc: Global, job: &CommandJob) -> Result<Vec<u8>, Memory>
+    ensures { IfOk result (λ text. text.items ≡ parameters_element job.now) }
+{
+    let mut fields = Vec::new(alloc);
+    let mut text = Vec::new(alloc);
+    if is_of_node(job.name.view()) {
+        put_node_fields(alloc, &mut fields, &job.parameters)?;
+        put_element(&mut text, PARAMETERS, &fields)?;
+    } else {
+        put_repository_fields(&mut fields, &job.parameters)?;
+        put_element(&mut text, REPOSITORY_PARAMETERS, &fields)?;
+    }
+    Ok(text)
+}
+
+/// Whether the name is one of the node's own commands, under `/localhost/nfd`.
+fn is_of_node(name: Name<'_>) -> bool
+    ensures { result ≡ is_of_node (components name.entry) }
+{
+    is_generic_at(name, 0, b"localhost") && is_generic_at(name, 1, b"nfd")
+}
+
+/// Whether a component is a GenericNameComponent of these octets.
+fn is_generic_at(name: Name<'_>, at: usize, octets: &[u8]) -> bool
+    ensures { result ≡ is_generic_at (components name.entry) at octets.now }
+{
+    match name.component(at) {
+        Some(component) => component.kind == GENERIC && component.value == octets,
+        None => false,
+    }
+}
+
+/// Appends the fields of a command of the node.
+fn put_node_fields(alloc: Global, out: &mut Vec<u8>, parameters: &Parameters) -> Result<(), Memory>
+    ensures { OnOk result (out.new.items ≡ out.old.items ++ octets (node_fields parameters.now)) }
+{
+    put_name(out, &parameters.name)?;
+    put_number_field(out, FACE_ID, parameters.face)?;
+    put_number_field(out, COST, parameters.cost)?;
+    put_strategy(alloc, out, &parameters.strategy)?;
+    put_number_field(out, COUNT, parameters.count)
+}
+
+/// Appends the fields of a command of a repository.
+fn put_repository_fields(out: &mut Vec<u8>, parameters: &Parameters) -> Result<(), Memory>
+    ensures { OnOk result (out.new.items
+        ≡ out.old.items ++ octets (repository_fields parameters.now)) }
+{
+    put_name(out, &parameters.name)?;
+    put_flag(out, CAN_BE_PREFIX, parameters.can_be_prefix)?;
+    put_number_field(out, INTEREST_LIFETIME, parameters.lifetime)
+}
+
+fn put_name(out: &mut Vec<u8>, name: &NameBuf) -> Result<(), Memory>
+    ensures { OnOk result (out.new.items ≡ out.old.items ++ element (name_field name.now)) }
+{
+    put_element(out, NAME, name.view().as_octets())
+}
+
+/// Appends the field of a strategy, where it is there.
+fn put_strategy(alloc: Global, out: &mut Vec<u8>, name: &Option<NameBuf>) -> Result<(), Memory>
+    ensures { OnOk result (out.new.items
+        ≡ out.old.items ++ octets (optional STRATEGY (strategy_value name.now))) }
+{
+    let Some(name) = name else {
+        return Ok(());
+    };
+    let mut value = Vec::new(alloc);
+    put_name(&mut value, name)?;
+    put_element(out, STRATEGY, &value)
+}
+
+fn put_flag(out: &mut Vec<u8>, kind: u32, is_there: bool) -> Result<(), Memory>
+    requires { 1 ≤ kind }
+    ensures { OnOk result (out.new.items ≡ out.old.items ++ octets (flag kind is_there)) }
+{
+    if is_there {
+        put_element(out, kind, &[])
+    } else {
+        Ok(())
+    }
+}
+
+/// Appends a number's field, where it is there.
+fn put_number_field(out: &mut Vec<u8>, kind: u32, given: Option<u64>) -> Result<(), Memory>
+    ensures { OnOk result (out.new.items ≡ out.old.items ++ octets (number kind given)) }
+{
+    match given {
+        None => Ok(()),
+        Some(number) => put_nni_element(out, kind, number),
+    }
+}
+
+/// Appends an element whose value is a number.
+fn put_nni_element(out: &mut Vec<u8>, kind: u32, number: u64) -> Result<(), Memory>
+    ensures { OnOk result (out.new.items ≡ out.old.items ++ element (kind, shortest_nni number)) }
+{
+    put_number(out, u64::from(kind))?;
+    put_number(out, nni_len(number) as u64)?;
+    put_nni(out, number)
+}

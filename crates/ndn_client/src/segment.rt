@@ -1,0 +1,65 @@
+//! Which segment a Data is, and which is the last one, as a line of text.
+
+ghost use Rattle.std.specs.Prelude.{◌≡◌, ◌++◌, OnOk, Some};
+ghost use Rattle.ndn_names.specs.View.{components};
+ghost use Rattle.ndn_client.specs.Segment.{number_in, segment_of, last_segment, segment_line, segment_lines};
+
+use crate::fields::{first_field, single_element};
+use ndn_names::Name;
+use ndn_names::component_type::SEGMENT;
+use ndn_tlv::{Memory, nni_of};
+use std::io::Write;
+
+/// A Data, and what gives the last segment in it (NDN Packet Format 0.3, "Data Packet",
+/// "MetaInfo").
+pub const DATA: u32 = 6;
+
+pub const META_INFO: u32 = 20;
+
+pub const FINAL_BLOCK_ID: u32 = 26;
+
+/// Appends the line of a segment, of a Data with this name and these received octets; nothing for
+/// another Data.
+pub fn put_segment(text: &mut Vec<u8>, name: Name<'_>, whole: &[u8]) -> Result<(), Memory>
+    ensures { OnOk result (text.new.items ≡ text.old.items
+        ++ segment_lines (components name.entry) whole.now) }
+{
+    match (segment_of(name), last_segment(whole)) {
+        (Some(segment), Some(last)) => put_numbers(text, segment, last),
+        _ => Ok(()),
+    }
+}
+
+fn put_numbers(text: &mut Vec<u8>, segment: u64, last: u64) -> Result<(), Memory>
+    ensures { OnOk result (text.new.items ≡ text.old.items
+        ++ segment_line (Some segment) (Some last)) }
+{
+    writeln!(text, "segment {segment} last {last}").map_err(|_| Memory)
+}
+
+/// The number of the last component, if it is a segment.
+fn segment_of(name: Name<'_>) -> Option<u64>
+    ensures { result ≡ segment_of (components name.entry) }
+{
+    let last = name.component(name.len().saturating_sub(1))?;
+    if last.kind != SEGMENT {
+        return None;
+    }
+    number_in(last.value)
+}
+
+/// The last segment, which the FinalBlockId of the MetaInfo gives as a component.
+fn last_segment(whole: &[u8]) -> Option<u64>
+    ensures { result ≡ last_segment whole.now }
+{
+    let fields = single_element(whole, DATA)?;
+    let meta = first_field(fields, META_INFO)?;
+    let last = first_field(meta, FINAL_BLOCK_ID)?;
+    number_in(single_element(last, u32::from(SEGMENT))?)
+}
+
+fn number_in(value: &[u8]) -> Option<u64>
+    ensures { result ≡ number_in value.now }
+{
+    nni_of(value).ok()
+}

@@ -1,0 +1,107 @@
+//! Whether the signature of a packet is right.
+
+ghost use Rattle.std.specs.Prelude.{◌≡◌, ◌++◌, option_map};
+ghost use Rattle.sha2.specs.Sha256.{sha256};
+ghost use Rattle.hmac_keys.specs.Mac.{Mac};
+ghost use Rattle.ndn_packets.specs.Packet.{AnInterest, plain_signature, plain_locator};
+ghost use Rattle.ndn_packets.specs.View.{plain_frame, plain_interest};
+ghost use Rattle.ndn_client.specs.TagCheck.{IsValueCheck, IsLocatorCheck, IsKindCheck, IsPartsCheck, IsSignedCheck, IsTagCheck, parts_of};
+
+use hmac_keys::{KeyBook, hmac_sha256, tags_equal};
+use ndn_packets::{DIGEST_SHA256, Frame, HMAC_WITH_SHA256, Interest, Locator, Parts, Signature};
+use sha2::{Digest, Sha256};
+
+/// What is known of a signature's value.
+#[derive(Clone, Copy, Debug, PartialEq, Eq)]
+pub enum TagCheck {
+    /// It is the one that the covered octets have.
+    Right,
+    /// It is another one.
+    Wrong,
+    /// The KeyLocator names no key of the key file.
+    UnknownKey,
+    /// The signature is of another type, or no octets are covered.
+    Unchecked,
+}
+
+/// Checks the signature of a packet with the keys of a book, if the packet is signed.
+pub fn check_tag(frame: &Frame<'_>, book: &KeyBook) -> Option<TagCheck>
+    ensures { IsTagCheck (plain_frame frame.now) book.now result }
+{
+    match frame {
+        Frame::Interest(interest) => check_interest(interest, book),
+        Frame::Data(packet) => { Some(check_parts(packet.signature, packet.signed_parts(), book)) }
+        Frame::Nack { interest, .. } => check_interest(interest, book),
+        Frame::Idle => None,
+    }
+}
+
+fn check_interest(interest: &Interest<'_>, book: &KeyBook) -> Option<TagCheck>
+    ensures { IsSignedCheck (AnInterest interest.now.whole.now (plain_interest interest.now))
+        (plain_interest interest.now).signature book.now result }
+{
+    match interest.signature {
+        None => None,
+        Some(signature) => Some(check_parts(signature, interest.signed_parts(), book)),
+    }
+}
+
+/// Checks a signature over the octets that it covers, if there are any.
+fn check_parts(signature: Signature<'_>, parts: Option<Parts<'_>>, book: &KeyBook) -> TagCheck
+    ensures { IsPartsCheck (plain_signature signature.entry) book.now
+        (option_map parts_of parts.entry) result }
+{
+    match parts {
+        None => TagCheck::Unchecked,
+        Some(parts) => check_value(signature, parts, book),
+    }
+}
+
+fn check_value(signature: Signature<'_>, parts: Parts<'_>, book: &KeyBook) -> TagCheck
+    ensures { IsKindCheck (plain_signature signature.entry) book.now
+        (parts_of parts.entry) result }
+{
+    match signature.kind {
+        DIGEST_SHA256 => compared(signature.value, &digest_of(parts)),
+        HMAC_WITH_SHA256 => check_hmac(signature, parts, book),
+        _ => TagCheck::Unchecked,
+    }
+}
+
+/// Checks an HMAC with the key that the KeyLocator names.
+fn check_hmac(signature: Signature<'_>, parts: Parts<'_>, book: &KeyBook) -> TagCheck
+    ensures { IsLocatorCheck (plain_locator signature.entry.locator) book.now
+        signature.entry.value.now (parts_of parts.entry) result }
+{
+    let Locator::Name(name) = signature.locator else {
+        return TagCheck::UnknownKey;
+    };
+    match book.find(name) {
+        None => TagCheck::UnknownKey,
+        Some(key) => compared(
+            signature.value,
+            &hmac_sha256(key, parts.first, parts.second),
+        ),
+    }
+}
+
+/// SHA-256 of the covered octets.
+fn digest_of(parts: Parts<'_>) -> [u8; 32]
+    ensures { result ≡ sha256 (parts_of parts.entry) }
+{
+    let mut hasher = Sha256::new();
+    hasher.update(parts.first);
+    hasher.update(parts.second);
+    hasher.finalize()
+}
+
+/// What a value is, where this is the right one.
+fn compared(value: &[u8], right: &[u8; 32]) -> TagCheck
+    ensures { IsValueCheck value.now right.now result }
+{
+    if tags_equal(value, right) {
+        TagCheck::Right
+    } else {
+        TagCheck::Wrong
+    }
+}

@@ -1,6 +1,0 @@
-use Rattle.std.proofs.Common.{ap, ◌∙◌}
-use Rattle.ndn_tool.specs.Answer.{hex_line}
-use Rattle.ndn_tool.proofs.answer.command_text.Goals as goal
-
-pub returns : goal.returns
-returns c = (c.in_ok-packet.packet.items, c.in_ok-packet.ensures, c.in_ok-hex_line.ensures ∙ ap hex_line c.deref.ensures.value)
