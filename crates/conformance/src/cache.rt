@@ -2,11 +2,12 @@
 
 mod random_sequences;
 
-use crate::rows::{check_rows, octets};
+use crate::rows::check_rows;
 use content_store::*;
 use ndn_names::{Name, NameBuf};
 use ndn_packets::*;
 use std::alloc::Global;
+use test_support::octets;
 
 /// A Data of a name, a Content in hexadecimal and a FreshnessPeriod.
 fn data_of(alloc: Global, name: &str, content: &str, freshness: &str) -> Option<Vec<u8>> {

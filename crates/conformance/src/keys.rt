@@ -1,10 +1,11 @@
 //! HMAC (RFC 2104) and books of named keys.
 
-use crate::rows::{check_rows, octets};
+use crate::rows::check_rows;
 use hmac_keys::*;
 use ndn_names::NameBuf;
 use std::alloc::Global;
 use std::test::*;
+use test_support::octets;
 
 /// The HMAC of a text under a key, the same wherever the text is parted.
 fn tag(alloc: Global, input: &str) -> Option<String> {

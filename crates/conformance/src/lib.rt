@@ -6,8 +6,6 @@ mod cache;
 #[cfg(test)]
 mod choices;
 #[cfg(test)]
-mod forwarder;
-#[cfg(test)]
 mod guard;
 #[cfg(test)]
 mod keys;

@@ -5,12 +5,13 @@ mod effects;
 ghost use Rattle.std.specs.Prelude.{◌≡◌, IfSome};
 ghost use Rattle.std.specs.FinMap as map;
 
-use crate::rows::{check_rows, octets};
+use crate::rows::check_rows;
 use content_store::Store;
 use mgmt_core::*;
 use ndn_names::NameBuf;
 use pit_fib::{Faces, Fib, StrategyTable};
 use std::alloc::Global;
+use test_support::octets;
 
 /// Appends a number, or `-`, after a space.
 fn put_number(alloc: Global, text: &mut String, number: Option<u64>) -> Option<()> {

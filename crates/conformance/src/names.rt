@@ -1,10 +1,11 @@
 //! Names: components, canonical order, URI text (NDN Packet Format 0.3, "Name", "NDN URI Scheme").
 
-use crate::rows::{check_rows, octets};
+use crate::rows::check_rows;
 use ndn_names::*;
 use std::alloc::Global;
 use std::hash::{DefaultHasher, Hash, Hasher};
 use std::test::*;
+use test_support::octets;
 
 fn fault_text(alloc: Global, fault: NameFault) -> Option<String> {
     format!(in alloc; "{fault:?}").ok()

@@ -9,10 +9,10 @@ mod link;
 mod reading;
 mod writers;
 
-use crate::rows::octets;
 use ndn_packets::*;
 use ndn_tlv::put_element;
 use std::alloc::Global;
+use test_support::octets;
 
 /// Octets, inside elements of the types that stand before a bar, the outermost first.
 fn packet(alloc: Global, input: &str) -> Option<Vec<u8>> {

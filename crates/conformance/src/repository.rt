@@ -3,11 +3,12 @@
 mod full;
 mod random_sequences;
 
-use crate::rows::{check_rows, octets};
+use crate::rows::check_rows;
 use ndn_names::{Name, NameBuf};
 use ndn_packets::*;
 use repo_core::*;
 use std::alloc::Global;
+use test_support::octets;
 
 /// A Data of a name and a Content in hexadecimal.
 fn data_of(alloc: Global, name: &str, content: &str) -> Option<Vec<u8>> {

@@ -1,4 +1,4 @@
-//! Tests as rows of a text, of which each is a case. Lines that begin with `#` are comments.
+//! Tests of rows: a row that is wrong ends the test.
 
 use std::alloc::Global;
 use std::process::Abort;
@@ -26,58 +26,7 @@ pub fn check_rows(
     assert!(rt; has_rows, "no rows");
 }
 
-/// Octets in hexadecimal words: `0800x64` is two octets 64 times.
-pub fn octets(alloc: Global, text: &str) -> Option<Vec<u8>> {
-    let mut octets = Vec::new(alloc);
-    for word in text.split_ascii_whitespace() {
-        let (digits, times) = word.split_once('x').unwrap_or((word, "1"));
-        let part = hex::decode(alloc, digits.as_bytes()).ok()?;
-        for _ in 0..times.parse::<u16>().ok()? {
-            octets.extend_from_slice(&part).ok()?;
-        }
-    }
-    Some(octets)
-}
-
-/// The first line, counted from 1, that a check refuses, or 0 where it refuses none. A line that is
-/// empty or begins with `#` is no row, and a text without rows is refused at line 1.
-pub fn first_wrong<F: Fn(Global, &str) -> bool>(alloc: Global, rows: &str, is_right: F) -> usize
-    requires { F.IsAlwaysCallable is_right }
-{
-    let mut without_rows = 1;
-    for (before, row) in rows.lines().enumerate() {
-        if row.is_empty() || row.starts_with('#') {
-            continue;
-        }
-        if !is_right(alloc, row) {
-            return before.saturating_add(1);
-        }
-        without_rows = 0;
-    }
-    without_rows
-}
-
 /// Ends the test where a row was refused, and says on which line.
 pub fn assert_right(rt: &impl Abort, wrong: usize) {
     assert!(rt; wrong == 0, "the row on line {wrong} is refused");
-}
-
-/// A row with the signs that its symbols stand for: a tab for `␉`, an LF for `␊`, a VT for `␋`, a CR
-/// for `␍`, a unit separator for `␟`, a delete for `␡`, and a space that does not break for `⍽`.
-pub fn typed(alloc: Global, row: &str) -> Option<String> {
-    let mut text = String::new(alloc);
-    for symbol in row.chars() {
-        let sign = match symbol {
-            '␉' => '\t',
-            '␊' => '\n',
-            '␋' => '\u{b}',
-            '␍' => '\r',
-            '␟' => '\u{1f}',
-            '␡' => '\u{7f}',
-            '⍽' => '\u{a0}',
-            sign => sign,
-        };
-        text.push(sign).ok()?;
-    }
-    Some(text)
 }

@@ -1,9 +1,10 @@
 //! Numbers and elements (NDN Packet Format 0.3, "Type-Length-Value (TLV) Encoding").
 
-use crate::rows::{check_rows, octets};
+use crate::rows::check_rows;
 use ndn_tlv::*;
 use std::alloc::Global;
 use std::test::*;
+use test_support::octets;
 
 /// The spelling of a number, which reads as that number.
 fn spelling(alloc: Global, number: &str) -> Option<String> {

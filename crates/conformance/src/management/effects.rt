@@ -3,7 +3,7 @@
 ghost use Rattle.std.specs.Prelude.{◌≡◌};
 
 use super::{name_in, put_hex};
-use crate::rows::{check_rows, octets};
+use crate::rows::check_rows;
 use crate::tables::routes_in;
 use content_store::Store;
 use mgmt_core::*;
@@ -12,6 +12,7 @@ use ndn_packets::*;
 use pit_fib::{Faces, Fib, StrategyTable};
 use std::alloc::Global;
 use std::marker::Model;
+use test_support::octets;
 
 /// Tables, and the faces that are up, among them each face that has a route.
 #[derive(Drop)]

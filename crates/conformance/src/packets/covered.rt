@@ -1,11 +1,12 @@
 //! What signatures cover, HopLimits in place, and which Data answer.
 
 use crate::packets::packet;
-use crate::rows::{check_rows, octets};
+use crate::rows::check_rows;
 use ndn_names::NameBuf;
 use ndn_packets::*;
 use std::alloc::Global;
 use std::test::*;
+use test_support::octets;
 
 /// The two parts that a packet's signature covers.
 fn covered(alloc: Global, input: &str) -> Option<String> {

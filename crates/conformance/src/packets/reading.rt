@@ -1,10 +1,11 @@
 //! Interests and Data (NDN Packet Format 0.3, "Interest Packet", "Data Packet", "Signed Interest").
 
 use crate::packets::{carried, cut, fields, outcome, outcome_of, packet};
-use crate::rows::{check_rows, octets};
+use crate::rows::check_rows;
 use ndn_packets::*;
 use std::alloc::Global;
 use std::test::*;
+use test_support::octets;
 
 #[test]
 fn smallest_interest(rt: HostRuntime) {

@@ -1,11 +1,12 @@
 //! Writers of packets.
 
 use crate::packets::{carried, fields, outcome_of};
-use crate::rows::{check_rows, octets};
+use crate::rows::check_rows;
 use ndn_names::Name;
 use ndn_packets::*;
 use std::alloc::Global;
 use std::test::*;
+use test_support::octets;
 
 /// What a writer appended to an octet, or its fault where that is nothing.
 fn appended(alloc: Global, fault: Option<&str>, out: &[u8]) -> Option<String> {

@@ -2,10 +2,11 @@
 
 use super::reading::is_read_so;
 use super::templates::is_made_so;
-use crate::rows::{assert_right, first_wrong};
+use crate::rows::assert_right;
 use name_patterns::{Captures, Pattern, PatternFault};
 use ndn_names::{Name, NameBuf};
 use std::alloc::Global;
+use test_support::first_wrong;
 
 /// What the groups hold, from group 0 on: the places of the first component of each and of the one
 /// after its last, as in `0-5 0-3 4-5`.

@@ -1,8 +1,9 @@
 //! Which texts are patterns, and which faults the others have.
 
-use crate::rows::{assert_right, first_wrong};
+use crate::rows::assert_right;
 use name_patterns::{Pattern, PatternFault};
 use std::alloc::Global;
+use test_support::first_wrong;
 
 /// Whether a row `TEXT → FAULT` or `TEXT → 2 groups` is right.
 pub fn is_read_so(alloc: Global, row: &str) -> bool {

@@ -1,9 +1,10 @@
 //! Which texts are templates, and what they make of names.
 
-use crate::rows::{assert_right, first_wrong};
+use crate::rows::assert_right;
 use name_patterns::{Pattern, PatternFault, Template};
 use ndn_names::{Name, NameBuf, NameFault};
 use std::alloc::Global;
+use test_support::first_wrong;
 
 /// What a template, read for a pattern, makes of a name, if the pattern matches it and the template
 /// tells rightly whether the name is too long.

@@ -1,36 +1,13 @@
 //! What rules decide of packets.
 
 use super::reading::rules_of;
-use crate::rows::{assert_right, first_wrong, typed};
+use crate::rows::assert_right;
 use hmac_keys::KeyBook;
 use info_rules::{Decision, Kind, Packet, Rules};
 use ndn_names::{Name, NameBuf};
 use ndn_packets::{DataWriter, Frame, InterestWriter, Sign, read_frame};
 use std::alloc::Global;
-
-/// The keys of these tests. The octets of each are those of the text `key`.
-pub const KEYS: &str = r"/ops/KEY/1 6b6579
-/archive/KEY/1 6b6579
-/lab/roof/KEY/7 6b6579
-/sensors/roof/KEY/7 6b6579
-/keys/roof/KEY/7 6b6579
-/a/b/KEY/1 6b6579
-/k/b 6b6579
-/l/b 6b6579
-/1/2/3/4/5/6/7/8 6b6579
-/ops/KEY/1/2 6b6579
-/ops/KEY/1/2/3 6b6579
-/ops/KEY/1/2/3/4 6b6579
-/ops/KEY 6b6579
-/ops/1 6b6579
-/KEY/1 6b6579
-/ops/9=KEY/1 6b6579
-/ops/KE/1 6b6579
-/a/KEY/b/KEY/c 6b6579
-/a/KEY/b/KEY 6b6579
-/a/KEY/KEY/1 6b6579
-/a/KEY/KEY 6b6579
-";
+use test_support::{KEYS, first_wrong, typed};
 
 /// The octets of a Data, or of a signed Interest of the time 1.
 fn written<'a>(alloc: Global, kind: &str, name: Name<'a>, sign: Sign<'a>) -> Option<Vec<u8>> {

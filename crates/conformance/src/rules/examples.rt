@@ -1,10 +1,11 @@
 //! The files of `docs/RULES.md` and `examples`, and what they decide.
 
-use super::decisions::{KEYS, first_wrong_under, told_of};
+use super::decisions::{first_wrong_under, told_of};
 use super::reading::rules_of;
 use crate::rows::assert_right;
 use info_rules::RuleNo;
 use std::alloc::Global;
+use test_support::{KEYS, SAMPLE};
 
 /// The whole file of `docs/RULES.md`.
 const WHOLE: &str = r"; Who may change routes and strategies.
@@ -326,71 +327,6 @@ fn a_shared_part_of_two_names(rt: HostRuntime) {
         first_wrong_under(rt.alloc(), SHARED_PART, OF_SHARED_PART),
     );
 }
-
-/// The file `examples/sample.rules`.
-pub const SAMPLE: &str =
-    r"; Who may do what on this node. The first rule that is for a packet decides.
-
-; Commands that change routes, strategies or the cache: signed by the key of operators.
-rule
-{
-  id ops
-  for interest
-  filter
-  {
-    type name
-    name /localhost/nfd
-    relation is-prefix-of
-  }
-  checker
-  {
-    type customized
-    sig-type hmac-sha256
-    key-locator
-    {
-      type name
-      name /ops/KEY/1
-      relation equal
-    }
-  }
-}
-
-; Commands of the repository: the same key.
-rule
-{
-  id repo-ops
-  for interest
-  filter
-  {
-    type name
-    name /repo
-    relation is-prefix-of
-  }
-  checker
-  {
-    type customized
-    sig-type hmac-sha256
-    key-locator
-    {
-      type name
-      name /ops/KEY/1
-      relation equal
-    }
-  }
-}
-
-; Data of any name, with a digest as its signature.
-rule
-{
-  id any-data
-  for data
-  checker
-  {
-    type customized
-    sig-type sha256
-  }
-}
-";
 
 const OF_SAMPLE: &str = r"
 interest /localhost/nfd/fib/add-nexthop/P by /ops/KEY/1 key → allowed 0

@@ -1,8 +1,9 @@
 //! Which texts are rule files, and which faults the others have.
 
-use crate::rows::{assert_right, check_rows, first_wrong, typed};
+use crate::rows::{assert_right, check_rows};
 use info_rules::{InfoTree, Reason, Rules, RulesFault, RulesFaultKind};
 use std::alloc::Global;
+use test_support::{first_wrong, typed};
 
 /// The rules of a text.
 pub fn rules_of(alloc: Global, text: &str) -> Result<Rules, RulesFault> {

@@ -1,8 +1,9 @@
 //! Which entries texts have, and which faults.
 
-use crate::rows::{assert_right, first_wrong, typed};
+use crate::rows::assert_right;
 use info_rules::{InfoTree, RulesFault, RulesFaultKind};
 use std::alloc::Global;
+use test_support::{first_wrong, typed};
 
 /// An entry as `Debug` shows it, by its depth, its line, its key, `=` and its value where it has one,
 /// and a brace where it has a block.

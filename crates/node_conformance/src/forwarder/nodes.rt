@@ -1,9 +1,10 @@
 use super::parts;
-use crate::rows::check_rows;
+use super::ports::node_of;
 use hmac_keys::KeyBook;
 use ndn_names::NameBuf;
 use node_core::{Event, Node, NodeFault, NodeParts, Outbox, Scope, Verdict};
 use std::alloc::Global;
+use test_support::first_wrong;
 
 /// The Interest `/A` with the Nonce 01020304.
 const INTEREST: [u8; 13] = [5, 11, 7, 3, 8, 1, 0x41, 10, 4, 1, 2, 3, 4];
@@ -38,21 +39,25 @@ fn made(alloc: Global, row: &str) -> Option<String> {
     format!(in alloc; "{made:?}").ok()
 }
 
-#[test]
-fn parts_of_a_node(rt: HostRuntime) {
-    check_rows(&rt, rt.alloc(), PARTS, made);
+/// Whether making a node of a row's parts comes to what stands after its arrow.
+fn is_made(alloc: Global, row: &str) -> bool {
+    let (parts, wanted) = row.split_once(" -> ").unwrap_or((row, "no arrow"));
+    made(alloc, parts).as_deref() == Some(wanted)
 }
 
-/// A node with the face 1 open.
-fn node_of_one(alloc: Global, outbox: &mut Outbox) -> Option<Node> {
-    let mut node = Node::new(alloc, parts(alloc)?).ok()?;
+#[test]
+fn parts_of_a_node(rt: HostRuntime) {
+    assert!(rt; first_wrong(rt.alloc(), PARTS, is_made) == 0);
+}
+
+/// Opens the face 1.
+fn opens(node: &mut Node, outbox: &mut Outbox) -> bool {
     let up = Event::FaceUp {
         face: 1,
         scope: Scope::Far,
         now: 0,
     };
-    node.step(up, outbox).ok()?;
-    Some(node)
+    node.step(up, outbox).is_ok()
 }
 
 /// An Interest that comes on face 1.
@@ -64,28 +69,40 @@ fn interest<'a>() -> Event<'a> {
     }
 }
 
-/// Whether a Nack stands after an earlier one in the outbox, until it is cleared.
-fn sends_in_order(alloc: Global) -> Option<bool> {
-    let mut outbox = Outbox::new(alloc);
-    let mut node = node_of_one(alloc, &mut outbox)?;
-    let was_empty = outbox.is_empty();
-    let first = node.step(interest(), &mut outbox).ok()?;
-    let second = node.step(interest(), &mut outbox).ok()?;
-    let passed = first == Verdict::Passed && second == Verdict::Passed;
-    let are_two = outbox.len() == 2 && outbox.sent(2).is_none();
+/// Whether an Interest on face 1 is passed.
+fn passes(node: &mut Node, outbox: &mut Outbox) -> bool {
+    node.step(interest(), outbox).ok() == Some(Verdict::Passed)
+}
+
+/// Whether an outbox holds two sends, and the second is the Nack.
+fn ends_with_nack(outbox: &Outbox) -> bool {
     let is_second = outbox.sent(1) == Some((1, NO_ROUTE.as_slice()));
+    is_second && outbox.len() == 2 && outbox.sent(2).is_none()
+}
+
+/// Whether a Nack stands after an earlier one in the outbox, until it is cleared.
+fn sends_in_order(node: &mut Node, outbox: &mut Outbox) -> bool {
+    let was_empty = outbox.is_empty();
+    let passed = opens(node, outbox) && passes(node, outbox) && passes(node, outbox);
+    let ended = ends_with_nack(outbox);
     outbox.clear();
-    Some(was_empty && passed && are_two && is_second && outbox.is_empty())
+    was_empty && passed && ended && outbox.is_empty()
+}
+
+/// The same of a new node.
+fn new_node_sends_in_order(alloc: Global) -> Option<bool> {
+    let mut node = node_of(alloc)?;
+    Some(sends_in_order(&mut node, &mut Outbox::new(alloc)))
 }
 
 #[test]
 fn sends(rt: HostRuntime) {
-    assert!(rt; sends_in_order(rt.alloc()) == Some(true));
+    assert!(rt; new_node_sends_in_order(rt.alloc()) == Some(true));
 }
 
 /// Whether a node tells the ids of its rules.
 fn tells_rules(alloc: Global) -> Option<bool> {
-    let node = Node::new(alloc, parts(alloc)?).ok()?;
+    let node = node_of(alloc)?;
     let rules = node.rules();
     Some(rules.len() == 3 && rules.id(info_rules::RuleNo(1)) == "repo-ops")
 }

@@ -15,19 +15,20 @@ mod scripts;
 mod streams;
 mod udp;
 
-use crate::rules::{KEYS, SAMPLE, rules_of};
 use hmac_keys::KeyBook;
+use info_rules::{InfoTree, Rules};
 use ndn_names::NameBuf;
 use node_core::{NodeParts, run_script};
 use octets::hexadecimal_of;
 use std::alloc::Global;
 use std::io::Write;
 use std::process::Abort;
+use test_support::{KEYS, SAMPLE};
 
 /// The parts of a node whose repository is at `/repo`.
 fn parts_of(alloc: Global, rules: &str, cache: u32) -> Option<NodeParts> {
     Some(NodeParts {
-        rules: rules_of(alloc, rules).ok()?,
+        rules: Rules::read(alloc, &InfoTree::read(alloc, rules).ok()?).ok()?,
         keys: KeyBook::read(alloc, KEYS).ok()?,
         repo: NameBuf::from_uri(alloc, "/repo").ok()?,
         cache,

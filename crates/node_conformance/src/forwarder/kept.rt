@@ -1,5 +1,5 @@
 use super::{replies, replies_under};
-use crate::rules::SAMPLE;
+use test_support::SAMPLE;
 
 const CACHE_FRESHNESS: &str = "
 up 1 local 1000000
