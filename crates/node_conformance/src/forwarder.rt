@@ -20,6 +20,7 @@ use info_rules::{InfoTree, Rules};
 use ndn_names::NameBuf;
 use node_core::{NodeParts, run_script};
 use octets::hexadecimal_of;
+use ports::prints;
 use std::alloc::Global;
 use std::io::Write;
 use std::process::Abort;
@@ -83,6 +84,7 @@ fn spelled(alloc: Global, dialogue: &str) -> Option<String> {
 }
 
 /// Plays the script of a dialogue, and checks each answer. After the last one the script ends well.
+/// The same events at a port have the same answers.
 fn replies_under(rt: &(impl Abort + AllocGlobal), rules: &str, cache: u32, dialogue: &str) {
     let alloc = rt.alloc();
     let parts = parts_of(alloc, rules, cache).expect(rt, "parts");
@@ -97,6 +99,12 @@ fn replies_under(rt: &(impl Abort + AllocGlobal), rules: &str, cache: u32, dialo
         );
     }
     assert!(rt; answers.next() == Some("Ok(())"), "not the end");
+    let answers = outcome.as_str().strip_suffix("Ok(())").unwrap_or("");
+    let parts = parts_of(alloc, rules, cache).expect(rt, "parts");
+    assert!(rt;
+        prints(alloc, parts, dialogue.as_str(), answers) == Some(true),
+        "not at a port"
+    );
 }
 
 /// The same under the sample rules, with a cache of 1,024 Data.

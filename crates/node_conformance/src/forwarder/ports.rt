@@ -1,5 +1,8 @@
 use super::{parts, replies, script_of, spelled};
-use node_core::{MemoryPorts, Node, OwnedEvent, Scope, ServeFault, Served, put_refused, serve};
+use node_core::{
+    MemoryPorts, Node, NodeParts, Outbox, OwnedEvent, Scope, ServeFault, Served, Turn, put_refused,
+    put_sends, put_verdict, serve, serve_turn,
+};
 use std::alloc::Global;
 
 /// Two faces, an Interest without a route, and Data that nobody asked for.
@@ -20,6 +23,11 @@ in 2 1060 060f070308014115017816031b01001700
 /// The word of a line at `i`, counted from 0.
 fn word(line: &str, i: usize) -> &str {
     line.split(' ').nth(i).unwrap_or("")
+}
+
+/// The octets of a packet's word: hexadecimal, or a dash for none.
+fn packet_of(alloc: Global, word: &str) -> Option<Vec<u8>> {
+    hex::decode(alloc, if word == "-" { "" } else { word }).ok()
 }
 
 /// The event of a line of a script.
@@ -43,7 +51,7 @@ fn event_of(alloc: Global, line: &str) -> Option<OwnedEvent> {
         _ => Some(OwnedEvent::Packet {
             face,
             now: word(line, 2).parse::<u64>().ok()?,
-            octets: hex::decode(alloc, word(line, 3)).ok()?,
+            octets: packet_of(alloc, word(line, 3))?,
         }),
     }
 }
@@ -64,6 +72,41 @@ pub fn ports_of(alloc: Global, dialogue: &str) -> Option<MemoryPorts> {
 /// A node under the sample rules.
 pub fn node_of(alloc: Global) -> Option<Node> {
     Node::new(alloc, parts(alloc)?).ok()
+}
+
+/// Appends what is printed of one turn. It is false where no event was answered.
+fn put_turn(
+    alloc: Global,
+    node: &mut Node,
+    ports: &mut MemoryPorts,
+    number: u64,
+    text: &mut Vec<u8>,
+) -> bool {
+    let mut outbox = Outbox::new(alloc);
+    let Ok(Turn::Done { verdict, .. }) = serve_turn(node, ports, &mut outbox) else {
+        return false;
+    };
+    put_verdict(text, number, &verdict, node.rules()).is_ok()
+        && put_sends(alloc, text, &outbox).is_ok()
+}
+
+/// What is printed of a node's turns at a port, until nothing more comes.
+fn put_turns(alloc: Global, node: &mut Node, ports: &mut MemoryPorts) -> Vec<u8> {
+    let mut text = Vec::new(alloc);
+    for number in 1..1000 {
+        if !put_turn(alloc, node, ports, number, &mut text) {
+            break;
+        }
+    }
+    text
+}
+
+/// Whether a node that gets the events of a dialogue at a port prints this.
+pub fn prints(alloc: Global, parts: NodeParts, dialogue: &str, wanted: &str) -> Option<bool> {
+    let mut ports = ports_of(alloc, dialogue)?;
+    let mut node = Node::new(alloc, parts).ok()?;
+    let text = put_turns(alloc, &mut node, &mut ports);
+    Some(text.as_slice() == wanted.as_bytes())
 }
 
 /// What the first path comes to in so many turns, where these calls are told to fail.
