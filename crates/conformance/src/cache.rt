@@ -2,48 +2,29 @@
 
 mod random_sequences;
 
+use crate::packets::{content_shown, data_of};
 use crate::rows::check_rows;
 use content_store::*;
-use ndn_names::{Name, NameBuf};
+use ndn_names::NameBuf;
 use ndn_packets::*;
 use std::alloc::Global;
-use test_support::octets;
-
-/// A Data of a name, a Content in hexadecimal and a FreshnessPeriod.
-fn data_of(alloc: Global, name: &str, content: &str, freshness: &str) -> Option<Vec<u8>> {
-    let name = NameBuf::from_uri(alloc, name).ok()?;
-    let content = octets(alloc, content)?;
-    written(alloc, name.view(), &content, freshness.parse().ok()?)
-}
-
-fn written<'a>(
-    alloc: Global,
-    name: Name<'a>,
-    content: &'a [u8],
-    freshness: u64,
-) -> Option<Vec<u8>> {
-    let writer = DataWriter {
-        name,
-        freshness: Some(freshness),
-        last: None,
-        content: Some(content),
-        sign: Sign::Digest,
-    };
-    let mut out = Vec::new(alloc);
-    writer.write(&mut out).ok()?;
-    Some(out)
-}
 
 /// Puts a Data: its name, Content, FreshnessPeriod and arrival.
 fn put(alloc: Global, store: &mut Store, words: &str) -> Option<()> {
     let (name, rest) = words.split_once(' ')?;
     let (content, rest) = rest.split_once(' ')?;
     let (freshness, arrival) = rest.split_once(' ')?;
-    let packet = data_of(alloc, name, content, freshness)?;
-    let Frame::Data(data) = read_frame(&packet).ok()? else {
-        return None;
-    };
-    store.put(&data, arrival.parse().ok()?).then_some(())
+    let arrival = arrival.parse().ok()?;
+    let packet = data_of(alloc, name, content, Some(freshness.parse().ok()?))?;
+    put_packet(store, &packet, arrival)?.then_some(())
+}
+
+/// Whether the store keeps a Data.
+fn put_packet(store: &mut Store, packet: &[u8], arrival: u64) -> Option<bool> {
+    match read_frame(packet).ok()? {
+        Frame::Data(data) => Some(store.put(&data, arrival)),
+        _ => None,
+    }
 }
 
 /// The Content of what an Interest gets: its name, its flags (`p` CanBePrefix, `f` MustBeFresh) and
@@ -51,30 +32,24 @@ fn put(alloc: Global, store: &mut Store, words: &str) -> Option<()> {
 fn find(alloc: Global, store: &mut Store, words: &str) -> Option<String> {
     let (name, rest) = words.split_once(' ')?;
     let (flags, now) = rest.split_once(' ')?;
+    let now = now.parse().ok()?;
     let name = NameBuf::from_uri(alloc, name).ok()?;
     let key = Key {
         name: name.view(),
         can_be_prefix: flags.contains('p'),
         must_be_fresh: flags.contains('f'),
     };
-    let Some(packet) = store.find(key, now.parse().ok()?) else {
-        return String::from_str(alloc, "none").ok();
-    };
-    let Frame::Data(data) = read_frame(packet).ok()? else {
-        return None;
-    };
-    hex::encode(alloc, data.content?).ok()
+    content_shown(alloc, store.find(key, now))
 }
 
 /// How many Data go: those under a name, at most a count, or `all`.
 fn erase(alloc: Global, store: &mut Store, words: &str) -> Option<String> {
     let (name, count) = words.split_once(' ')?;
-    let name = NameBuf::from_uri(alloc, name).ok()?;
-    let count = if count == "all" {
-        None
-    } else {
-        Some(count.parse().ok()?)
+    let count = match count {
+        "all" => None,
+        count => Some(count.parse().ok()?),
     };
+    let name = NameBuf::from_uri(alloc, name).ok()?;
     let erased = store.erase(name.view(), count);
     format!(in alloc; "{erased}").ok()
 }
@@ -93,19 +68,28 @@ fn answer(alloc: Global, store: &mut Store, call: &str) -> Option<Option<String>
 /// The answers of the calls after a capacity, and how many Data are then held.
 fn answers(alloc: Global, row: &str) -> Option<String> {
     let (capacity, calls) = row.split_once(": ")?;
-    let Ok(mut store) = Store::new(alloc, capacity.parse().ok()?) else {
-        return String::from_str(alloc, "BadCapacity").ok();
-    };
+    match Store::new(alloc, capacity.parse().ok()?) {
+        Ok(mut store) => answers_of(alloc, &mut store, calls),
+        Err(_) => String::from_str(alloc, "BadCapacity").ok(),
+    }
+}
+
+fn answers_of(alloc: Global, store: &mut Store, calls: &str) -> Option<String> {
     let mut shown = String::new(alloc);
     for call in calls.split_terminator(", ") {
-        if let Some(text) = answer(alloc, &mut store, call)? {
-            shown.push_str(&text).ok()?;
-            shown.push(' ').ok()?;
-        }
+        put_answer(alloc, &mut shown, store, call)?;
     }
     let held = format!(in alloc; "({} of {})", store.len(), store.capacity()).ok()?;
     shown.push_str(&held).ok()?;
     Some(shown)
+}
+
+fn put_answer(alloc: Global, shown: &mut String, store: &mut Store, call: &str) -> Option<()> {
+    if let Some(text) = answer(alloc, store, call)? {
+        shown.push_str(&text).ok()?;
+        shown.push(' ').ok()?;
+    }
+    Some(())
 }
 
 #[test]
@@ -181,13 +165,10 @@ fn cache_kept(rt: HostRuntime) {
 
 /// Whether a Data is found exactly where it was kept, which a refusal of memory prevents.
 fn is_found_where_kept(alloc: Global) -> Option<bool> {
-    let name = NameBuf::from_uri(alloc, "/A").ok()?;
-    let packet = data_of(alloc, "/A", "01", "0")?;
-    let Frame::Data(data) = read_frame(&packet).ok()? else {
-        return None;
-    };
+    let packet = data_of(alloc, "/A", "01", Some(0))?;
     let mut store = Store::new(alloc, 2).ok()?;
-    let was_kept = store.put(&data, 0);
+    let was_kept = put_packet(&mut store, &packet, 0)?;
+    let name = NameBuf::from_uri(alloc, "/A").ok()?;
     let key = Key {
         name: name.view(),
         can_be_prefix: false,

@@ -36,10 +36,9 @@ fn record(alloc: Global, guard: &mut Guard, command: &str) -> Option<()> {
         return guard.prepare(signer_of(&key)).ok();
     }
     let (time, number) = rest.split_once(' ')?;
+    let (time, number) = (time.parse().ok()?, number_in(number)?);
     let key = key_in(alloc, signer)?;
-    guard
-        .record(signer_of(&key), time.parse().ok()?, number_in(number)?)
-        .ok()
+    guard.record(signer_of(&key), time, number).ok()
 }
 
 /// Whether a command, its signer, time and number, is fresh at a moment.
@@ -47,9 +46,9 @@ fn is_fresh(alloc: Global, guard: &Guard, command: &str) -> Option<bool> {
     let (signer, rest) = command.split_once(' ')?;
     let (time, rest) = rest.split_once(' ')?;
     let (number, now) = rest.split_once(' ')?;
+    let (time, number, now) = (time.parse().ok()?, number_in(number)?, now.parse().ok()?);
     let key = key_in(alloc, signer)?;
-    let (time, now) = (time.parse().ok()?, now.parse().ok()?);
-    Some(guard.check(signer_of(&key), time, number_in(number)?, now))
+    Some(guard.check(signer_of(&key), time, number, now))
 }
 
 /// Whether a command is fresh after others that were recorded.

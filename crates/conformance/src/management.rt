@@ -2,24 +2,12 @@
 
 mod effects;
 
-ghost use Rattle.std.specs.Prelude.{◌≡◌, IfSome};
-ghost use Rattle.std.specs.FinMap as map;
-
 use crate::rows::check_rows;
-use content_store::Store;
+use effects::Station;
 use mgmt_core::*;
 use ndn_names::NameBuf;
-use pit_fib::{Faces, Fib, StrategyTable};
 use std::alloc::Global;
 use test_support::octets;
-
-/// Appends a number, or `-`, after a space.
-fn put_number(alloc: Global, text: &mut String, number: Option<u64>) -> Option<()> {
-    match number {
-        None => text.push_str(" -").ok(),
-        Some(number) => text.push_str(&format!(in alloc; " {number}").ok()?).ok(),
-    }
-}
 
 fn action_shown(action: Action) -> &'static str {
     match action {
@@ -33,36 +21,42 @@ fn action_shown(action: Action) -> &'static str {
 
 /// A name: a URI, and the octets of components after it, in hexadecimal. The word `digest` stands
 /// for a digest of 32 zeros.
-fn name_in(alloc: Global, text: &str) -> Option<NameBuf> {
+pub fn name_in(alloc: Global, text: &str) -> Option<NameBuf> {
     let mut words = text.split(' ');
     let mut name = NameBuf::from_uri(alloc, words.next()?).ok()?;
     for word in words {
-        if word == "digest" {
-            name.append(2, &[0; 32]).ok()?;
-        } else {
-            name.append(8, &octets(alloc, word)?).ok()?;
-        }
+        append(alloc, &mut name, word)?;
     }
     Some(name)
+}
+
+fn append(alloc: Global, name: &mut NameBuf, word: &str) -> Option<()> {
+    if word == "digest" {
+        return name.append(2, &[0; 32]).ok();
+    }
+    name.append(8, &octets(alloc, word)?).ok()
 }
 
 /// What a command asks for: its action, name, face, cost, count and strategy, or the status that
 /// refuses it.
 fn command_shown(alloc: Global, row: &str) -> Option<String> {
     let name = name_in(alloc, row)?;
-    let command = match Command::read(name.view()) {
-        Ok(command) => command,
-        Err(status) => return format!(in alloc; "{status}").ok(),
-    };
-    let action = action_shown(command.action);
-    let about = NameBuf::from_name(alloc, command.name).ok()?;
-    let mut text = format!(in alloc; "{action} {about}").ok()?;
-    put_number(alloc, &mut text, Some(command.face))?;
-    put_number(alloc, &mut text, Some(command.cost))?;
-    put_number(alloc, &mut text, command.count)?;
+    match Command::read(name.view()) {
+        Ok(command) => fields_shown(alloc, &command),
+        Err(status) => format!(in alloc; "{status}").ok(),
+    }
+}
+
+fn fields_shown(alloc: Global, command: &Command<'_>) -> Option<String> {
+    let (action, name) = (action_shown(command.action), command.name);
+    let (face, cost) = (command.face, command.cost);
+    let mut text = format!(in alloc; "{action} {name} {face} {cost}").ok()?;
+    match command.count {
+        None => text.push_str(" -").ok()?,
+        Some(count) => write!(text, " {count}").ok()?,
+    }
     if let Some(strategy) = command.strategy {
-        let strategy = NameBuf::from_name(alloc, strategy).ok()?;
-        text.push_str(&format!(in alloc; " {strategy}").ok()?).ok()?;
+        write!(text, " {strategy}").ok()?;
     }
     Some(text)
 }
@@ -162,46 +156,24 @@ fn parameters(rt: HostRuntime) {
     check_rows(&rt, rt.alloc(), rows, command_shown);
 }
 
-/// Octets in hexadecimal.
-fn put_hex(alloc: Global, text: &mut String, octets: &[u8]) -> Option<()> {
-    text.push_str(&hex::encode(alloc, octets).ok()?).ok()
-}
-
-/// Tables without routes, with best-route at `/`, and with no Data.
-fn new_tables(alloc: Global) -> Option<Tables>
-    ensures { IfSome result (λ tables. tables.fib.table ≡ map.empty) }
-{
-    let store = Store::new(alloc, 8).ok()?;
-    let tables = Tables::new(alloc, Fib::new(alloc), StrategyTable::new(alloc), store);
-    Some(tables)
-}
-
 /// What becomes of a command from face 9, while the faces 2 and 9 are up: its status, the body of
-/// its reply, and the list of routes or, of a command on strategies, that of strategies.
+/// its reply, and the list of routes or, of a command that sets a strategy, that of strategies.
 fn applied_shown(alloc: Global, row: &str) -> Option<String> {
     let name = name_in(alloc, row)?;
-    let command = Command::read(name.view()).ok()?;
-    let mut up = Faces::new();
-    up.insert(2);
-    up.insert(9);
-    let mut tables = new_tables(alloc)?;
-    tables.prepare(&command).ok()?;
-    let applied = apply(&mut tables, &command, 9, &up).ok()?;
+    let mut station = Station::new(alloc)?;
+    let applied = station.apply_prepared(&Command::read(name.view()).ok()?)?;
+    let list = station.list(
+        alloc,
+        row.starts_with("/localhost/nfd/strategy-choice/set "),
+    )?;
+    reply_and_list(alloc, &applied, &list)
+}
+
+fn reply_and_list(alloc: Global, applied: &Applied, list: &[u8]) -> Option<String> {
     let status = applied.status;
-    let mut text = format!(in alloc; "{status} ").ok()?;
-    put_hex(alloc, &mut text, applied.body.as_slice())?;
-    text.push(' ').ok()?;
-    match command.action {
-        Action::SetStrategy => {
-            put_hex(
-                alloc,
-                &mut text,
-                &strategy_dataset(alloc, &tables.strategies).ok()?,
-            )?;
-        }
-        _ => put_hex(alloc, &mut text, &fib_dataset(alloc, &tables.fib).ok()?)?,
-    }
-    Some(text)
+    let body = hex::encode(alloc, applied.body.as_slice()).ok()?;
+    let list = hex::encode(alloc, list).ok()?;
+    format!(in alloc; "{status} {body} {list}").ok()
 }
 
 #[test]

@@ -3,6 +3,7 @@
 use crate::rows::check_rows;
 use ndn_names::*;
 use std::alloc::Global;
+use std::cmp::Ordering;
 use std::hash::{DefaultHasher, Hash, Hasher};
 use std::test::*;
 use test_support::octets;
@@ -14,10 +15,14 @@ fn fault_text(alloc: Global, fault: NameFault) -> Option<String> {
 /// The number of a name's components and the last of them, or the fault of its octets.
 fn components(alloc: Global, input: &str) -> Option<String> {
     let octets = octets(alloc, input)?;
-    let name = match Name::read(&octets) {
-        Ok(name) => name,
-        Err(fault) => return fault_text(alloc, fault),
-    };
+    match Name::read(&octets) {
+        Ok(name) => number_and_last(alloc, name),
+        Err(fault) => fault_text(alloc, fault),
+    }
+}
+
+/// The number of a name's components and the last of them.
+fn number_and_last(alloc: Global, name: Name<'_>) -> Option<String> {
     let len = name.len();
     if name.iter().count() != len || name.component(len).is_some() {
         return None;
@@ -25,7 +30,10 @@ fn components(alloc: Global, input: &str) -> Option<String> {
     if name.is_empty() {
         return len.to_string(alloc).ok();
     }
-    let last = name.component(len - 1)?;
+    last_shown(alloc, len, name.component(len - 1)?)
+}
+
+fn last_shown(alloc: Global, len: usize, last: Component<'_>) -> Option<String> {
     let value = hex::encode(alloc, last.value).ok()?;
     format!(in alloc; "{len}, the last {}:{value}", last.kind).ok()
 }
@@ -78,24 +86,42 @@ fn digest_lengths(rt: HostRuntime) {
 fn name_of(alloc: Global, input: &str) -> Option<NameBuf> {
     let mut name = NameBuf::new(alloc);
     for component in input.split_ascii_whitespace() {
-        let (kind, value) = component.split_once(':')?;
-        let value = octets(alloc, value)?;
-        name.append(kind.parse().ok()?, &value).ok()?;
+        append(alloc, &mut name, component)?;
     }
     Some(name)
+}
+
+fn append(alloc: Global, name: &mut NameBuf, component: &str) -> Option<()> {
+    let (kind, value) = component.split_once(':')?;
+    let kind = kind.parse().ok()?;
+    name.append(kind, &octets(alloc, value)?).ok()
 }
 
 /// The octets of a name with a component appended, or the fault, which changes nothing.
 fn appended(alloc: Global, input: &str) -> Option<String> {
     let (start, component) = input.split_once("+ ")?;
     let (kind, value) = component.split_once(':')?;
+    let kind = kind.parse().ok()?;
     let start = octets(alloc, start)?;
-    let value = octets(alloc, value)?;
-    let mut name = NameBuf::from_name(alloc, Name::read(&start).ok()?).ok()?;
-    match name.append(kind.parse().ok()?, &value) {
-        Ok(()) => hex::encode(alloc, name.view().as_octets()).ok(),
-        Err(fault) if name.view().as_octets() == start.as_slice() => fault_text(alloc, fault),
-        Err(_) => None,
+    appended_to(alloc, &start, kind, &octets(alloc, value)?)
+}
+
+fn appended_to(alloc: Global, start: &[u8], kind: u16, value: &[u8]) -> Option<String> {
+    let mut name = NameBuf::from_name(alloc, Name::read(start).ok()?).ok()?;
+    let fault = name.append(kind, value).err();
+    name_or_fault(alloc, start, name.view(), fault)
+}
+
+fn name_or_fault(
+    alloc: Global,
+    start: &[u8],
+    name: Name<'_>,
+    fault: Option<NameFault>,
+) -> Option<String> {
+    match fault {
+        None => hex::encode(alloc, name.as_octets()).ok(),
+        Some(fault) if name.as_octets() == start => fault_text(alloc, fault),
+        Some(_) => None,
     }
 }
 
@@ -485,22 +511,26 @@ fn hash_of<T: Hash>(value: &T) -> u64 {
     state.finish()
 }
 
-/// How a name stands to another one, in both directions, as a key and as a view.
+/// The order of two names, where that in the other direction, equality and hashes agree with it, of
+/// keys and of views.
+fn order_of(left: &NameBuf, right: &NameBuf) -> Option<Ordering> {
+    let order = left.cmp(right);
+    let is_equal = order.is_eq();
+    let agree = right.view().compare(left.view()) == order.reverse()
+        && (left == right) == is_equal
+        && (hash_of(left) == hash_of(right)) == is_equal
+        && right.view().cmp(&left.view()) == order.reverse()
+        && (left.view() == right.view()) == is_equal
+        && hash_of(&left.view()) == hash_of(left);
+    agree.then_some(order)
+}
+
+/// How a name stands to another one.
 fn relation(alloc: Global, input: &str) -> Option<String> {
     let (left, right) = input.split_once(' ')?;
     let left = NameBuf::from_uri(alloc, left).ok()?;
     let right = NameBuf::from_uri(alloc, right).ok()?;
-    let order = left.cmp(&right);
-    let is_equal = order.is_eq();
-    if right.view().compare(left.view()) != order.reverse()
-        || (left == right) != is_equal
-        || (hash_of(&left) == hash_of(&right)) != is_equal
-        || right.view().cmp(&left.view()) != order.reverse()
-        || (left.view() == right.view()) != is_equal
-        || hash_of(&left.view()) != hash_of(&left)
-    {
-        return None;
-    }
+    let order = order_of(&left, &right)?;
     let prefix = if left.view().is_prefix_of(right.view()) {
         ", a prefix"
     } else {

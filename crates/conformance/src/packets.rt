@@ -9,6 +9,7 @@ mod link;
 mod reading;
 mod writers;
 
+use ndn_names::{Name, NameBuf};
 use ndn_packets::*;
 use ndn_tlv::put_element;
 use std::alloc::Global;
@@ -19,15 +20,62 @@ fn packet(alloc: Global, input: &str) -> Option<Vec<u8>> {
     let (kinds, value) = input.split_once('|').unwrap_or(("", input));
     let mut octets = octets(alloc, value)?;
     for kind in kinds.split_ascii_whitespace().rev() {
-        let kind = kind.parse().ok()?;
-        if kind == 0 {
-            return None;
-        }
-        let mut outer = Vec::new(alloc);
-        put_element(&mut outer, kind, &octets).ok()?;
-        octets = outer;
+        octets = element(alloc, kind, &octets)?;
     }
     Some(octets)
+}
+
+fn element(alloc: Global, kind: &str, value: &[u8]) -> Option<Vec<u8>> {
+    let kind = kind.parse().ok()?;
+    if kind == 0 {
+        return None;
+    }
+    let mut out = Vec::new(alloc);
+    put_element(&mut out, kind, value).ok()?;
+    Some(out)
+}
+
+/// A Data of a URI and a Content in hexadecimal, signed by its digest.
+pub fn data_of(alloc: Global, uri: &str, content: &str, freshness: Option<u64>) -> Option<Vec<u8>> {
+    let name = NameBuf::from_uri(alloc, uri).ok()?;
+    written_data(alloc, name.view(), &octets(alloc, content)?, freshness)
+}
+
+fn written_data<'a>(
+    alloc: Global,
+    name: Name<'a>,
+    content: &'a [u8],
+    freshness: Option<u64>,
+) -> Option<Vec<u8>> {
+    let writer = DataWriter {
+        name,
+        freshness,
+        last: None,
+        content: Some(content),
+        sign: Sign::Digest,
+    };
+    let mut out = Vec::new(alloc);
+    writer.write(&mut out).ok()?;
+    Some(out)
+}
+
+/// The Content of a Data, or `none` for no Data.
+pub fn content_shown(alloc: Global, packet: Option<&[u8]>) -> Option<String> {
+    let Some(packet) = packet else {
+        return String::from_str(alloc, "none").ok();
+    };
+    match read_frame(packet).ok()? {
+        Frame::Data(data) => hex::encode(alloc, data.content?).ok(),
+        _ => None,
+    }
+}
+
+/// The implicit digest of a Data.
+pub fn digest_of(packet: &[u8]) -> Option<[u8; 32]> {
+    match read_frame(packet).ok()? {
+        Frame::Data(data) => Some(data.digest()),
+        _ => None,
+    }
 }
 
 /// Whether octets are read, or the name of their fault.

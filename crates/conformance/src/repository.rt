@@ -3,32 +3,14 @@
 mod full;
 mod random_sequences;
 
+use crate::management::name_in;
+use crate::packets::{content_shown, data_of};
 use crate::rows::check_rows;
 use ndn_names::{Name, NameBuf};
 use ndn_packets::*;
 use repo_core::*;
 use std::alloc::Global;
 use test_support::octets;
-
-/// A Data of a name and a Content in hexadecimal.
-fn data_of(alloc: Global, name: &str, content: &str) -> Option<Vec<u8>> {
-    let name = NameBuf::from_uri(alloc, name).ok()?;
-    let content = octets(alloc, content)?;
-    written(alloc, name.view(), &content)
-}
-
-fn written<'a>(alloc: Global, name: Name<'a>, content: &'a [u8]) -> Option<Vec<u8>> {
-    let writer = DataWriter {
-        name,
-        freshness: None,
-        last: None,
-        content: Some(content),
-        sign: Sign::Digest,
-    };
-    let mut out = Vec::new(alloc);
-    writer.write(&mut out).ok()?;
-    Some(out)
-}
 
 /// The octets of an Interest's Name and flag, as fields of parameters.
 fn fields_of(alloc: Global, name: &str, can_be_prefix: bool) -> Option<Vec<u8>> {
@@ -95,16 +77,27 @@ fn command(alloc: Global, repo: &mut Repo, verb: &str, words: &str) -> Option<St
 /// Offers a Data: its name and its Content.
 fn offer(alloc: Global, repo: &mut Repo, words: &str) -> Option<String> {
     let (name, content) = words.split_once(' ')?;
-    let packet = data_of(alloc, name, content)?;
-    let Frame::Data(data) = read_frame(&packet).ok()? else {
-        return None;
-    };
-    let filled = repo.offer(&data).ok()?;
+    let filled = offer_packet(repo, &data_of(alloc, name, content, None)?)?;
     format!(in alloc; "{filled}").ok()
+}
+
+fn offer_packet(repo: &mut Repo, packet: &[u8]) -> Option<bool> {
+    match read_frame(packet).ok()? {
+        Frame::Data(data) => repo.offer(&data).ok(),
+        _ => None,
+    }
 }
 
 /// The Content of what an Interest gets; `!` after its name is MustBeFresh.
 fn serve(alloc: Global, repo: &Repo, asked: &str) -> Option<String> {
+    let packet = asking(alloc, asked)?;
+    match read_frame(&packet).ok()? {
+        Frame::Interest(interest) => content_shown(alloc, repo.serve(&interest)),
+        _ => None,
+    }
+}
+
+fn asking(alloc: Global, asked: &str) -> Option<Vec<u8>> {
     let (asked, must_be_fresh) = match asked.strip_suffix('!') {
         Some(asked) => (asked, true),
         None => (asked, false),
@@ -128,16 +121,7 @@ fn serve(alloc: Global, repo: &Repo, asked: &str) -> Option<String> {
     };
     let mut packet = Vec::new(alloc);
     writer.write(&mut packet).ok()?;
-    let Frame::Interest(interest) = read_frame(&packet).ok()? else {
-        return None;
-    };
-    let Some(served) = repo.serve(&interest) else {
-        return String::from_str(alloc, "none").ok();
-    };
-    let Frame::Data(data) = read_frame(served).ok()? else {
-        return None;
-    };
-    hex::encode(alloc, data.content?).ok()
+    Some(packet)
 }
 
 /// What a call answers, if that is shown.
@@ -158,16 +142,25 @@ fn answer(alloc: Global, repo: &mut Repo, call: &str) -> Option<Option<String>> 
 fn answers(alloc: Global, calls: &str) -> Option<String> {
     let prefix = NameBuf::from_uri(alloc, "/repo").ok()?;
     let mut repo = Repo::new(alloc, prefix).ok()?;
+    answers_of(alloc, &mut repo, calls)
+}
+
+fn answers_of(alloc: Global, repo: &mut Repo, calls: &str) -> Option<String> {
     let mut shown = String::new(alloc);
     for call in calls.split_terminator(", ") {
-        if let Some(text) = answer(alloc, &mut repo, call)? {
-            if !shown.is_empty() {
-                shown.push_str(", ").ok()?;
-            }
-            shown.push_str(&text).ok()?;
-        }
+        put_answer(alloc, &mut shown, repo, call)?;
     }
     Some(shown)
+}
+
+fn put_answer(alloc: Global, shown: &mut String, repo: &mut Repo, call: &str) -> Option<()> {
+    let Some(text) = answer(alloc, repo, call)? else {
+        return Some(());
+    };
+    if !shown.is_empty() {
+        shown.push_str(", ").ok()?;
+    }
+    shown.push_str(&text).ok()
 }
 
 #[test]
@@ -209,15 +202,7 @@ insert /A 5 0, check /A 5, expire 5, check /A 5 -> 100:0 /A 0, 100:0, 404:0
 /// What a command answers on an empty repository of the prefix `/repo`: a URI, and components after
 /// it in hexadecimal; the word `digest` stands for a digest of zeros.
 fn first_answer(alloc: Global, text: &str) -> Option<String> {
-    let mut words = text.split(' ');
-    let mut name = NameBuf::from_uri(alloc, words.next()?).ok()?;
-    for word in words {
-        if word == "digest" {
-            name.append(2, &[0; 32]).ok()?;
-        } else {
-            name.append(8, &octets(alloc, word)?).ok()?;
-        }
-    }
+    let name = name_in(alloc, text)?;
     let prefix = NameBuf::from_uri(alloc, "/repo").ok()?;
     let mut repo = Repo::new(alloc, prefix).ok()?;
     let reply = repo.command(name.view(), 1000000).ok()?;
@@ -358,20 +343,29 @@ fn is_prepared(alloc: Global) -> Option<bool> {
     let prefix = NameBuf::from_uri(alloc, "/repo").ok()?;
     let insert = command_on(alloc, "insert", "/A", None)?;
     let check = command_on(alloc, "check", "/A", None)?;
-    let packet = data_of(alloc, "/A", "01")?;
-    let Frame::Data(data) = read_frame(&packet).ok()? else {
+    let packet = data_of(alloc, "/A", "01", None)?;
+    let mut repo = Repo::new(alloc, prefix).ok()?;
+    keeps_its_promises(&mut repo, insert.view(), check.view(), &packet)
+}
+
+fn keeps_its_promises(
+    repo: &mut Repo,
+    insert: Name<'_>,
+    check: Name<'_>,
+    packet: &[u8],
+) -> Option<bool> {
+    let Frame::Data(data) = read_frame(packet).ok()? else {
         return None;
     };
-    let mut repo = Repo::new(alloc, prefix).ok()?;
-    repo.prepare_command(insert.view()).ok()?;
+    repo.prepare_command(insert).ok()?;
     repo.expire(0);
-    if repo.command(insert.view(), 0).is_err() {
+    if repo.command(insert, 0).is_err() {
         return Some(false);
     }
     let was_prepared = repo.prepare_offer(&data).is_ok();
     repo.expire(0);
     let filled = repo.offer(&data);
-    let status = repo.command(check.view(), 0).ok()?.status;
+    let status = repo.command(check, 0).ok()?.status;
     match filled {
         Ok(filled) => Some(filled && status == 200),
         Err(_) => Some(!was_prepared && status == 100),
@@ -384,15 +378,24 @@ fn stores_or_leaves(alloc: Global) -> Option<bool> {
     let prefix = NameBuf::from_uri(alloc, "/repo").ok()?;
     let insert = command_on(alloc, "insert", "/A", None)?;
     let check = command_on(alloc, "check", "/A", None)?;
-    let packet = data_of(alloc, "/A", "01")?;
-    let Frame::Data(data) = read_frame(&packet).ok()? else {
+    let packet = data_of(alloc, "/A", "01", None)?;
+    let mut repo = Repo::new(alloc, prefix).ok()?;
+    has_effects_or_none(&mut repo, insert.view(), check.view(), &packet)
+}
+
+fn has_effects_or_none(
+    repo: &mut Repo,
+    insert: Name<'_>,
+    check: Name<'_>,
+    packet: &[u8],
+) -> Option<bool> {
+    let Frame::Data(data) = read_frame(packet).ok()? else {
         return None;
     };
-    let mut repo = Repo::new(alloc, prefix).ok()?;
-    let inserted = repo.command(insert.view(), 0).is_ok();
-    let before = repo.command(check.view(), 0).ok()?.status;
+    let inserted = repo.command(insert, 0).is_ok();
+    let before = repo.command(check, 0).ok()?.status;
     let filled = repo.offer(&data);
-    let after = repo.command(check.view(), 0).ok()?.status;
+    let after = repo.command(check, 0).ok()?.status;
     Some(match (inserted, filled) {
         (true, Ok(true)) => before == 100 && after == 200,
         (true, Err(_)) => before == 100 && after == 100,

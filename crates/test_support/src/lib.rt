@@ -3,6 +3,8 @@
 
 mod rows;
 mod samples;
+mod sequences;
 
 pub use rows::{first_wrong, octets, typed};
 pub use samples::{KEYS, SAMPLE};
+pub use sequences::random;

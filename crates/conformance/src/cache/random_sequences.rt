@@ -1,11 +1,12 @@
 //! Random calls of a store, beside a plain list that is searched from end to end.
 
-use super::data_of;
+use crate::packets::{data_of, digest_of};
 use content_store::*;
 use ndn_names::NameBuf;
 use ndn_packets::*;
 use std::alloc::Global;
 use std::cmp::Ordering;
+use test_support::random;
 
 /// Names in canonical order.
 const NAMES: [&str; 6] = ["/", "/A", "/A/B", "/A/C", "/B", "/AA"];
@@ -35,20 +36,9 @@ struct Asked {
     now: u64,
 }
 
-/// The next number of a sequence without a pattern (xorshift), below a limit.
-fn random(state: &mut u64, limit: u64) -> u64 {
-    *state ^= state.wrapping_shl(13);
-    *state ^= state.wrapping_shr(7);
-    *state ^= state.wrapping_shl(17);
-    state.checked_rem(limit).unwrap_or(0)
-}
-
 fn written_data(alloc: Global, name: usize, uri: &str, content: &str) -> Option<Made> {
-    let packet = data_of(alloc, uri, content, "5")?;
-    let Frame::Data(data) = read_frame(&packet).ok()? else {
-        return None;
-    };
-    let digest = data.digest();
+    let packet = data_of(alloc, uri, content, Some(5))?;
+    let digest = digest_of(&packet)?;
     Some(Made {
         packet,
         name,
@@ -113,6 +103,10 @@ fn least<'a>(all: &'a [Made], held: &[Held], asked: Asked) -> Option<(Held, &'a 
     least
 }
 
+fn forget(held: &mut Vec<Held>, made: usize) {
+    held.retain(|other| other.made != made);
+}
+
 /// Whether a `put` is true, which it has to be with ample memory.
 fn put_agrees(
     all: &[Made],
@@ -127,7 +121,7 @@ fn put_agrees(
     let Frame::Data(data) = read_frame(&all.get(one.made)?.packet).ok()? else {
         return None;
     };
-    held.retain(|other| other.made != one.made);
+    forget(held, one.made);
     held.insert(0, one).ok()?;
     held.truncate(store.capacity());
     Some(store.put(&data, one.arrival))
@@ -156,7 +150,7 @@ fn find_agrees(
     let Some((one, made)) = least(all, held, asked) else {
         return Some(found.is_none());
     };
-    held.retain(|other| other.made != one.made);
+    forget(held, one.made);
     held.insert(0, one).ok()?;
     Some(found == Some(made.packet.as_slice()))
 }
@@ -184,7 +178,7 @@ fn erase_agrees(
         let Some((one, _)) = least(all, held, asked) else {
             break;
         };
-        held.retain(|other| other.made != one.made);
+        forget(held, one.made);
     }
     let erased = store.erase(names.get(asked.name)?.view(), count);
     Some(before.checked_sub(held.len())? as u64 == erased)

@@ -2,7 +2,7 @@
 
 ghost use Rattle.std.specs.Prelude.{◌≡◌};
 
-use super::{name_in, put_hex};
+use super::name_in;
 use crate::rows::check_rows;
 use crate::tables::routes_in;
 use content_store::Store;
@@ -16,7 +16,7 @@ use test_support::octets;
 
 /// Tables, and the faces that are up, among them each face that has a route.
 #[derive(Drop)]
-struct Station {
+pub struct Station {
     tables: Tables,
     up: Faces,
 }
@@ -39,7 +39,7 @@ impl Model for Station {
 
 impl Station {
     /// Without routes and Data. The faces 2 and 9 are up.
-    fn new(alloc: Global) -> Option<Station> {
+    pub fn new(alloc: Global) -> Option<Station> {
         let store = Store::new(alloc, 8).ok()?;
         let mut up = Faces::new();
         up.insert(2);
@@ -55,8 +55,32 @@ impl Station {
         apply(&mut self.tables, command, 9, &self.up).ok()
     }
 
+    /// The status of a command from face 9, 0 where it is refused memory.
+    fn status_of(&mut self, command: &Command<'_>) -> u16 {
+        match self.apply(command) {
+            Some(applied) => applied.status,
+            None => 0,
+        }
+    }
+
     fn prepare(&mut self, command: &Command<'_>) -> bool {
         self.tables.prepare(command).is_ok()
+    }
+
+    pub fn apply_prepared(&mut self, command: &Command<'_>) -> Option<Applied> {
+        if !self.prepare(command) {
+            return None;
+        }
+        self.apply(command)
+    }
+
+    /// The list of strategies, or that of routes.
+    pub fn list(&self, alloc: Global, of_strategies: bool) -> Option<Vec<u8>> {
+        if of_strategies {
+            strategy_dataset(alloc, &self.tables.strategies).ok()
+        } else {
+            fib_dataset(alloc, &self.tables.fib).ok()
+        }
     }
 
     fn put(&mut self, packet: &[u8]) -> Option<bool> {
@@ -95,62 +119,48 @@ fn verb_of(call: &str) -> Option<&'static str> {
 
 /// Octets in hexadecimal, `-` for none.
 fn hex_shown(alloc: Global, octets: &[u8]) -> Option<String> {
-    let mut text = String::new(alloc);
-    put_hex(alloc, &mut text, octets)?;
     if octets.is_empty() {
-        text.push('-').ok()?;
+        return String::from_str(alloc, "-").ok();
     }
-    Some(text)
+    hex::encode(alloc, octets).ok()
 }
 
 /// A command by its call and parameters: its status, and the body of its reply.
 fn command_shown(alloc: Global, station: &mut Station, call: &str, rest: &str) -> Option<String> {
-    let mut text = String::from_str(alloc, verb_of(call)?).ok()?;
-    text.push_str(rest).ok()?;
-    let name = name_in(alloc, &text)?;
-    let applied = station.apply(&Command::read(name.view()).ok()?)?;
+    let verb = verb_of(call)?;
+    let name = name_in(alloc, &format!(in alloc; "{verb}{rest}").ok()?)?;
+    status_and_body(alloc, &station.apply(&Command::read(name.view()).ok()?)?)
+}
+
+fn status_and_body(alloc: Global, applied: &Applied) -> Option<String> {
     let (status, body) = (applied.status, hex_shown(alloc, applied.body.as_slice())?);
     format!(in alloc; "{status} {body}").ok()
+}
+
+/// Whether a Data of this name is kept.
+fn put_data(alloc: Global, station: &mut Station, uri: &str) -> Option<&'static str> {
+    let name = NameBuf::from_uri(alloc, uri).ok()?;
+    let mut packet = Vec::new(alloc);
+    put_reply(&mut packet, name.view(), &[]).ok()?;
+    let is_kept = station.put(&packet)?;
+    Some(if is_kept { "kept" } else { "lost" })
 }
 
 /// `data` and `find` with a URI, `routes`, `strategies`, or a command.
 fn answer(alloc: Global, station: &mut Station, call: &str) -> Option<String> {
     let (call, rest) = call.split_once(' ').unwrap_or((call, "/"));
     match call {
-        "routes" => hex_shown(alloc, &fib_dataset(alloc, &station.tables.fib).ok()?),
-        "strategies" => hex_shown(
-            alloc,
-            &strategy_dataset(alloc, &station.tables.strategies).ok()?,
-        ),
-        "data" => {
-            let mut packet = Vec::new(alloc);
-            put_reply(
-                &mut packet,
-                NameBuf::from_uri(alloc, rest).ok()?.view(),
-                &[],
-            )
-            .ok()?;
-            String::from_str(
-                alloc,
-                if station.put(&packet)? {
-                    "kept"
-                } else {
-                    "lost"
-                },
-            )
-            .ok()
-        }
+        "routes" => hex_shown(alloc, &station.list(alloc, false)?),
+        "strategies" => hex_shown(alloc, &station.list(alloc, true)?),
+        "data" => String::from_str(alloc, put_data(alloc, station, rest)?).ok(),
         "find" => {
             let name = NameBuf::from_uri(alloc, rest).ok()?;
-            String::from_str(
-                alloc,
-                if station.has(name.view()) {
-                    "there"
-                } else {
-                    "gone"
-                },
-            )
-            .ok()
+            let found = if station.has(name.view()) {
+                "there"
+            } else {
+                "gone"
+            };
+            String::from_str(alloc, found).ok()
         }
         _ => command_shown(alloc, station, call, rest),
     }
@@ -159,14 +169,22 @@ fn answer(alloc: Global, station: &mut Station, call: &str) -> Option<String> {
 /// The answers to calls that `, ` parts.
 fn answers(alloc: Global, row: &str) -> Option<String> {
     let mut station = Station::new(alloc)?;
+    answers_of(alloc, &mut station, row)
+}
+
+fn answers_of(alloc: Global, station: &mut Station, row: &str) -> Option<String> {
     let mut text = String::new(alloc);
     for call in row.split(", ") {
-        if !text.is_empty() {
-            text.push_str(", ").ok()?;
-        }
-        text.push_str(&answer(alloc, &mut station, call)?).ok()?;
+        put_answer(alloc, &mut text, station, call)?;
     }
     Some(text)
+}
+
+fn put_answer(alloc: Global, text: &mut String, station: &mut Station, call: &str) -> Option<()> {
+    if !text.is_empty() {
+        text.push_str(", ").ok()?;
+    }
+    text.push_str(&answer(alloc, station, call)?).ok()
 }
 
 const ROWS: &str = "\
@@ -225,71 +243,94 @@ fn deep(alloc: Global, depth: usize) -> Option<NameBuf> {
 
 /// The status of a new hop.
 fn added(station: &mut Station, name: &NameBuf, face: u64) -> u16 {
-    station
-        .apply(&adds(name.view(), face))
-        .map(|applied| applied.status)
-        .unwrap_or(0)
+    station.status_of(&adds(name.view(), face))
 }
 
 /// Tables with 4,096 routes to face 2.
 fn filled(alloc: Global) -> Option<Station> {
     let mut station = Station::new(alloc)?;
+    add_4096(alloc, &mut station)?;
+    Some(station)
+}
+
+fn add_4096(alloc: Global, station: &mut Station) -> Option<()> {
     for number in (0..4096).rev() {
-        if added(&mut station, &numbered(alloc, number)?, 2) != 200 {
+        if added(station, &numbered(alloc, number)?, 2) != 200 {
             return None;
         }
     }
-    Some(station)
+    Some(())
 }
 
 /// Whether a name more is refused, after a name that is too long and a face that is not up, and a
 /// hop more is not.
 fn refuses_one_name_more(alloc: Global) -> Option<bool> {
-    let mut station = filled(alloc)?;
     let (more, known) = (numbered(alloc, 4096)?, numbered(alloc, 4095)?);
-    Some(
-        added(&mut station, &deep(alloc, 33)?, 7) == 414
-            && added(&mut station, &more, 7) == 410
-            && added(&mut station, &more, 2) == 503
-            && added(&mut station, &known, 9) == 200
-            && station.hops(more.view()) == 0
-            && station.hops(known.view()) == 2,
-    )
+    let too_deep = deep(alloc, 33)?;
+    let mut station = filled(alloc)?;
+    Some(is_full(&mut station, &too_deep, &more, &known))
+}
+
+fn is_full(station: &mut Station, too_deep: &NameBuf, more: &NameBuf, known: &NameBuf) -> bool {
+    added(station, too_deep, 7) == 414
+        && added(station, more, 7) == 410
+        && added(station, more, 2) == 503
+        && added(station, known, 9) == 200
+        && station.hops(more.view()) == 0
+        && station.hops(known.view()) == 2
 }
 
 /// Whether the list of 4,096 routes has 16 octets for each, the first and the last as expected, and
 /// 16 segments.
 fn lists_4096_routes(alloc: Global) -> Option<bool> {
-    let text = fib_dataset(alloc, &filled(alloc)?.tables.fib).ok()?;
-    let first = octets(alloc, "800e07040802000081066901026a0100")?;
-    let last = octets(alloc, "800e070408020fff81066901026a0100")?;
-    let (segment, number) = segment_of(&text, 15)?;
-    Some(
-        text.len() == 65_536
-            && text.starts_with(&first)
-            && segment.len() == 4096
-            && segment.ends_with(&last)
-            && number == 15
-            && segment_of(&text, 16).is_none(),
-    )
+    let text = filled(alloc)?.list(alloc, false)?;
+    Some(are_4096_routes(&text))
+}
+
+fn are_4096_routes(text: &[u8]) -> bool {
+    let Some((segment, 15)) = segment_of(text, 15) else {
+        return false;
+    };
+    text.len() == 65_536
+        && text.starts_with(b"\x80\x0e\x07\x04\x08\x02\x00\x00\x81\x06\x69\x01\x02\x6a\x01\x00")
+        && segment.len() == 4096
+        && segment.ends_with(b"\x80\x0e\x07\x04\x08\x02\x0f\xff\x81\x06\x69\x01\x02\x6a\x01\x00")
+        && segment_of(text, 16).is_none()
 }
 
 /// Whether 4,095 names find a strategy beside `/`, and one more does not, but comes after an unknown
 /// strategy.
 fn refuses_one_strategy_more(alloc: Global) -> Option<bool> {
-    let mut station = Station::new(alloc)?;
     let multicast = NameBuf::from_uri(alloc, "/localhost/nfd/strategy/multicast").ok()?;
+    let (more, known) = (numbered(alloc, 4096)?, numbered(alloc, 1)?);
+    let mut station = Station::new(alloc)?;
+    Some(
+        sets_4095(alloc, &mut station, &multicast)
+            && refuses_strategy(&mut station, &more, &known, &multicast),
+    )
+}
+
+fn sets_4095(alloc: Global, station: &mut Station, strategy: &NameBuf) -> bool {
     for number in (1..4096).rev() {
-        if set(&mut station, &numbered(alloc, number)?, &multicast) != 200 {
-            return Some(false);
+        let Some(name) = numbered(alloc, number) else {
+            return false;
+        };
+        if set(station, &name, strategy) != 200 {
+            return false;
         }
     }
-    let (more, known) = (numbered(alloc, 4096)?, numbered(alloc, 1)?);
-    Some(
-        set(&mut station, &more, &known) == 404
-            && set(&mut station, &more, &multicast) == 503
-            && set(&mut station, &known, &multicast) == 200,
-    )
+    true
+}
+
+fn refuses_strategy(
+    station: &mut Station,
+    more: &NameBuf,
+    known: &NameBuf,
+    multicast: &NameBuf,
+) -> bool {
+    set(station, more, known) == 404
+        && set(station, more, multicast) == 503
+        && set(station, known, multicast) == 200
 }
 
 /// The status of a strategy for a name.
@@ -302,10 +343,7 @@ fn set(station: &mut Station, name: &NameBuf, strategy: &NameBuf) -> u16 {
         strategy: Some(strategy.view()),
         count: None,
     };
-    station
-        .apply(&command)
-        .map(|applied| applied.status)
-        .unwrap_or(0)
+    station.status_of(&command)
 }
 
 #[test]
@@ -318,16 +356,32 @@ fn full_tables(rt: HostRuntime) {
 /// Whether a list of one route, whose name's component makes it so long, has these segments: the
 /// length of the last one, and its number.
 fn is_cut(alloc: Global, len: usize, last_len: usize, last: u64) -> Option<bool> {
-    let mut station = Station::new(alloc)?;
+    let text = list_of_route(alloc, &long_name(alloc, len)?)?;
+    let (segment, number) = segment_of(&text, last)?;
+    Some(text.len() == len && segment.len() == last_len && number == last)
+}
+
+/// A name that makes the list of its one route so long.
+fn long_name(alloc: Global, len: usize) -> Option<NameBuf> {
     let mut value = Vec::new(alloc);
     // Three headers of four octets each stand before the value, and a hop of 8 octets after it.
     value.resize(len.saturating_sub(20), 7).ok()?;
     let mut name = NameBuf::new(alloc);
     name.append(8, &value).ok()?;
-    let is_added = added(&mut station, &name, 2) == 200;
-    let text = fib_dataset(alloc, &station.tables.fib).ok()?;
-    let (segment, number) = segment_of(&text, last)?;
-    Some(is_added && text.len() == len && segment.len() == last_len && number == last)
+    Some(name)
+}
+
+/// The list of one route of this name.
+fn list_of_route(alloc: Global, name: &NameBuf) -> Option<Vec<u8>> {
+    let mut station = Station::new(alloc)?;
+    list_after(alloc, &mut station, name)
+}
+
+fn list_after(alloc: Global, station: &mut Station, name: &NameBuf) -> Option<Vec<u8>> {
+    if added(station, name, 2) != 200 {
+        return None;
+    }
+    station.list(alloc, false)
 }
 
 #[test]
@@ -394,21 +448,29 @@ fn packets_of_management(rt: HostRuntime) {
 fn applies_what_is_prepared(alloc: Global) -> Option<bool> {
     let name = numbered(alloc, 1)?;
     let mut station = Station::new(alloc)?;
+    Some(keeps_its_promise(&mut station, &name))
+}
+
+fn keeps_its_promise(station: &mut Station, name: &NameBuf) -> bool {
     if !station.prepare(&adds(name.view(), 2)) {
-        return Some(station.hops(name.view()) == 0);
+        return station.hops(name.view()) == 0;
     }
-    Some(added(&mut station, &name, 2) == 200 && station.hops(name.view()) == 1)
+    added(station, name, 2) == 200 && station.hops(name.view()) == 1
 }
 
 /// Whether a command that nothing prepares has its effect, or none where it is refused memory.
 fn applies_or_leaves(alloc: Global) -> Option<bool> {
     let name = numbered(alloc, 1)?;
     let mut station = Station::new(alloc)?;
-    let hops = match added(&mut station, &name, 2) {
+    Some(adds_or_leaves(&mut station, &name))
+}
+
+fn adds_or_leaves(station: &mut Station, name: &NameBuf) -> bool {
+    let hops = match added(station, name, 2) {
         200 => 1,
         _ => 0,
     };
-    Some(station.hops(name.view()) == hops)
+    station.hops(name.view()) == hops
 }
 
 /// Whether a reply for which there is no memory leaves what stood before it.
@@ -429,9 +491,18 @@ fn lists_or_refuses(alloc: Global) -> Option<bool> {
     if added(&mut station, &name, 2) != 200 {
         return None;
     }
-    let routes = fib_dataset(alloc, &station.tables.fib).map(|text| text.len());
-    let strategies = strategy_dataset(alloc, &station.tables.strategies).map(|text| text.len());
-    Some(routes.unwrap_or(16) == 16 && strategies.unwrap_or(46) == 46)
+    Some(
+        is_long_or_refused(&station, alloc, false, 16)
+            && is_long_or_refused(&station, alloc, true, 46),
+    )
+}
+
+/// Whether a list has so many octets, or is refused for want of memory.
+fn is_long_or_refused(station: &Station, alloc: Global, of_strategies: bool, len: usize) -> bool {
+    match station.list(alloc, of_strategies) {
+        Some(text) => text.len() == len,
+        None => true,
+    }
 }
 
 #[test]

@@ -1,8 +1,8 @@
 //! What signatures cover, HopLimits in place, and which Data answer.
 
-use crate::packets::packet;
+use crate::packets::{digest_of, packet};
 use crate::rows::check_rows;
-use ndn_names::NameBuf;
+use ndn_names::{Name, NameBuf};
 use ndn_packets::*;
 use std::alloc::Global;
 use std::test::*;
@@ -16,11 +16,15 @@ fn covered(alloc: Global, input: &str) -> Option<String> {
         Frame::Data(data) => data.signed_parts(),
         _ => return None,
     };
-    let Some(parts) = parts else {
-        return String::from_str(alloc, "none").ok();
-    };
-    let first = hex::encode(alloc, parts.first).ok()?;
-    let second = hex::encode(alloc, parts.second).ok()?;
+    match parts {
+        None => String::from_str(alloc, "none").ok(),
+        Some(parts) => both_in_hex(alloc, parts.first, parts.second),
+    }
+}
+
+fn both_in_hex(alloc: Global, first: &[u8], second: &[u8]) -> Option<String> {
+    let first = hex::encode(alloc, first).ok()?;
+    let second = hex::encode(alloc, second).ok()?;
     format!(in alloc; "{first} + {second}").ok()
 }
 
@@ -98,17 +102,18 @@ const DATA: &str = "060f0703080141150178 16031b0100 1700";
 fn answers(alloc: Global, input: &str) -> Option<String> {
     let asked = NameBuf::from_uri(alloc, input).ok()?;
     let octets = octets(alloc, DATA)?;
-    let Frame::Data(data) = read_frame(&octets).ok()? else {
-        return None;
-    };
-    let (exactly, as_prefix) = (
-        data.answers(asked.view(), false),
-        data.answers(asked.view(), true),
-    );
+    match read_frame(&octets).ok()? {
+        Frame::Data(data) => answers_shown(alloc, data, asked.view()),
+        _ => None,
+    }
+}
+
+fn answers_shown(alloc: Global, data: Data<'_>, asked: Name<'_>) -> Option<String> {
+    let (exactly, as_prefix) = (data.answers(asked, false), data.answers(asked, true));
     let digest = data.digest();
-    let same = data.answers_with(&digest, asked.view(), false) == exactly
-        && data.answers_with(&digest, asked.view(), true) == as_prefix;
-    let wanted = match data.asked_digest(asked.view()) {
+    let same = data.answers_with(&digest, asked, false) == exactly
+        && data.answers_with(&digest, asked, true) == as_prefix;
+    let wanted = match data.asked_digest(asked) {
         Some(_) => "digest",
         None => "name",
     };
@@ -117,10 +122,8 @@ fn answers(alloc: Global, input: &str) -> Option<String> {
 
 /// The implicit digest of a Data.
 fn digest(alloc: Global, input: &str) -> Option<String> {
-    match read_frame(&octets(alloc, input)?).ok()? {
-        Frame::Data(data) => hex::encode(alloc, data.digest().as_slice()).ok(),
-        _ => None,
-    }
+    let digest = digest_of(&octets(alloc, input)?)?;
+    hex::encode(alloc, digest.as_slice()).ok()
 }
 
 #[test]

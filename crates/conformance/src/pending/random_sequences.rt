@@ -5,6 +5,7 @@ use ndn_names::NameBuf;
 use ndn_packets::*;
 use pit_fib::*;
 use std::alloc::Global;
+use test_support::random;
 
 /// Keys, of which the last asks for a Data by its digest.
 const KEYS: [&str; 6] = [
@@ -45,14 +46,6 @@ struct Asked {
 struct Records {
     asks: Vec<Asks>,
     asked: Vec<Asked>,
-}
-
-/// The next number of a sequence without a pattern (xorshift), below a limit.
-fn random(state: &mut u64, limit: u64) -> u64 {
-    *state ^= state.wrapping_shl(13);
-    *state ^= state.wrapping_shr(7);
-    *state ^= state.wrapping_shl(17);
-    state.checked_rem(limit).unwrap_or(0)
 }
 
 fn octets_of(nonce: u64) -> [u8; 4] {

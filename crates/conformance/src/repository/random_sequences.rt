@@ -1,10 +1,12 @@
 //! Random calls of a repository, beside plain lists that are searched from end to end.
 
-use super::{command_on, data_of};
+use super::command_on;
+use crate::packets::{data_of, digest_of};
 use ndn_names::NameBuf;
 use ndn_packets::*;
 use repo_core::*;
 use std::alloc::Global;
+use test_support::random;
 
 /// Names in canonical order, of which the first begins the next two.
 const NAMES: [&str; 5] = ["/A", "/A/B", "/A/C", "/B", "/AA"];
@@ -36,20 +38,9 @@ struct Plain {
     wants: Vec<Wanted>,
 }
 
-/// The next number of a sequence without a pattern (xorshift), below a limit.
-fn random(state: &mut u64, limit: u64) -> u64 {
-    *state ^= state.wrapping_shl(13);
-    *state ^= state.wrapping_shr(7);
-    *state ^= state.wrapping_shl(17);
-    state.checked_rem(limit).unwrap_or(0)
-}
-
 fn written(alloc: Global, name: usize, uri: &str, content: &str) -> Option<Made> {
-    let packet = data_of(alloc, uri, content)?;
-    let Frame::Data(data) = read_frame(&packet).ok()? else {
-        return None;
-    };
-    let digest = data.digest();
+    let packet = data_of(alloc, uri, content, None)?;
+    let digest = digest_of(&packet)?;
     Some(Made {
         name,
         packet,

@@ -1,0 +1,9 @@
+//! Random sequences that are the same in each run.
+
+/// The next number of a sequence without a pattern (xorshift), below a limit.
+pub fn random(state: &mut u64, limit: u64) -> u64 {
+    *state ^= state.wrapping_shl(13);
+    *state ^= state.wrapping_shr(7);
+    *state ^= state.wrapping_shl(17);
+    state.checked_rem(limit).unwrap_or(0)
+}
