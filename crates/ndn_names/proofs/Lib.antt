@@ -15,3 +15,4 @@ pub mod ReadBack
 pub mod UriCaused
 pub mod NameReading
 pub mod TextEquality
+pub mod Findings

@@ -133,32 +133,43 @@ components_of-found value cs fits e =
 abbrev pub IsOn : ℕ → List ℕ → List ℕ → Type 0
 IsOn n rest value = (front : List Field) × (name_at value ≡ (components_after n (elements_of rest) >>= λ cs. Ok (front ++ cs)))
 
-pub begins : (value : List ℕ) → IsOn 0 value value
+-- with these components in front
+abbrev pub Reads : ℕ → List ℕ → List ℕ → List Field → Type 0
+Reads n rest value front = name_at value ≡ (components_after n (elements_of rest) >>= λ cs. Ok (front ++ cs))
+
+pub reads_none : (value : List ℕ) → Reads 0 value value []
 unfolding name_at
-begins value = ([], same (components_after 0 (elements_of value)))
+reads_none value = same (components_after 0 (elements_of value))
   where
     same : (r : Result (List Field) NameFault) → r ≡ (r >>= λ cs. Ok ([] ++ cs))
     same (Ok x) = refl
     same (Err e) = refl
 
-pub goes_on : (n : ℕ) (rest after value : List ℕ) (c : Field) → n < 64 → elements_of rest ≡ read_element c ∷ elements_of after → component_of c ≡ Ok c → IsOn n rest value → IsOn (n + 1) after value
-goes_on n rest after value c lt walk is on = (
-  on.0 ++ c ∷ [],
-  on.1 ∙ ap (λ (es : List (Result Field TlvFault)). components_after n es >>= λ cs. Ok (on.0 ++ cs)) walk
-      ∙ rw (lt-ltb n 64 lt, is) (regrouped on.0 c (components_after (n + 1) (elements_of after))),
-)
+pub begins : (value : List ℕ) → IsOn 0 value value
+begins value = ([], reads_none value)
+
+pub reads_on : (n : ℕ) (rest after value : List ℕ) (c : Field) (front : List Field) → n < 64 → elements_of rest ≡ read_element c ∷ elements_of after → component_of c ≡ Ok c → Reads n rest value front → Reads (n + 1) after value (front ++ c ∷ [])
+reads_on n rest after value c front lt walk is on =
+    on ∙ ap (λ (es : List (Result Field TlvFault)). components_after n es >>= λ cs. Ok (front ++ cs)) walk
+    ∙ rw (lt-ltb n 64 lt, is) (regrouped front c (components_after (n + 1) (elements_of after)))
   where
     regrouped : (front : List Field) (c : Field) (r : Result (List Field) NameFault) → ((r >>= λ cs. Ok (c ∷ cs)) >>= λ cs. Ok (front ++ cs)) ≡ (r >>= λ cs. Ok ((front ++ c ∷ []) ++ cs))
     regrouped front c (Ok cs) = ap done (sym (append_assoc front (c ∷ []) cs))
     regrouped front c (Err e) = refl
+
+pub reads_all : (n : ℕ) (rest value : List ℕ) (front : List Field) → rest ≡ [] → Reads n rest value front → name_at value ≡ Ok front
+reads_all n rest value front e on =
+    on ∙ ap (λ (es : List (Result Field TlvFault)). components_after n es >>= λ cs. Ok (front ++ cs)) (ap elements_of e ∙ elements_of-nil) ∙ ap done (append-nil front)
+
+pub goes_on : (n : ℕ) (rest after value : List ℕ) (c : Field) → n < 64 → elements_of rest ≡ read_element c ∷ elements_of after → component_of c ≡ Ok c → IsOn n rest value → IsOn (n + 1) after value
+goes_on n rest after value c lt walk is on = (on.0 ++ c ∷ [], reads_on n rest after value c on.0 lt walk is on.1)
 
 pub ends : (n : ℕ) (rest value : List ℕ) (at : Result Field TlvFault) (others : List (Result Field TlvFault)) (e : NameFault) → elements_of rest ≡ at ∷ others → component_after n at ≡ Err e → IsOn n rest value → name_at value ≡ Err e
 ends n rest value at others e walk is on =
     on.1 ∙ ap (λ (es : List (Result Field TlvFault)). components_after n es >>= λ cs. Ok (on.0 ++ cs)) walk ∙ rw is refl
 
 pub is_done : (n : ℕ) (rest value : List ℕ) → rest ≡ [] → IsOn n rest value → (cs : List Field) × (name_at value ≡ Ok cs)
-is_done n rest value e on =
-    (on.0 ++ [], on.1 ∙ ap (λ (es : List (Result Field TlvFault)). components_after n es >>= λ cs. Ok (on.0 ++ cs)) (ap elements_of e ∙ elements_of-nil))
+is_done n rest value e on = (on.0, reads_all n rest value on.0 e on.1)
 
 pub refused : (value : List ℕ) (e : NameFault) → name_at value ≡ Err e → (cs : List Field) → IsNameValue value cs → ⊥
 refused value e is cs h = let read = name_again value cs h in let no : Err e ≡ done cs = sym is ∙ read in absurd cc

@@ -9,3 +9,4 @@ pub mod Uri
 pub mod ReadsAs
 pub mod UriReading
 pub mod ComponentText
+pub mod FirstOfType

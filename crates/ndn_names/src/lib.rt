@@ -6,6 +6,7 @@ mod component_text;
 pub mod component_type;
 mod components;
 mod fault;
+mod first_of_type;
 mod key;
 mod name;
 mod name_buf;
@@ -18,6 +19,7 @@ mod uri_reader;
 pub use component::Component;
 pub use components::Components;
 pub use fault::NameFault;
+pub use first_of_type::FirstOfType;
 pub use name::{MAX_COMPONENTS, Name, names_have_one_reading};
 pub use name_buf::NameBuf;
 pub use order::{

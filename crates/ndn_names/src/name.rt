@@ -6,6 +6,7 @@ ghost use Rattle.ndn_names.specs.Name.{IsNameValue, IsNameOctets, IsNameOctets-p
 use crate::component::{Component, first_component};
 use crate::components::Components;
 use crate::fault::NameFault;
+use crate::first_of_type::{FirstOfType, first_of_type};
 use std::cmp::Ordering;
 
 /// The greatest number of components of a name.
@@ -42,6 +43,7 @@ impl<'a> Name<'a> {
     ghost use Rattle.ndn_tlv.specs.Element.{element};
     ghost use Rattle.ndn_tlv.specs.Reading.{on_result};
     ghost use Rattle.ndn_names.specs.Name.{octets_of, IsPrefix};
+    ghost use Rattle.ndn_names.specs.FirstOfType.{FindsFirst};
     ghost use Rattle.ndn_names.specs.Order.{Less, name_cmp};
     ghost use Rattle.ndn_names.specs.View.{components, field_of, components_left};
 
@@ -60,6 +62,19 @@ impl<'a> Name<'a> {
     {
         check_components(value)?;
         Ok(Name { octets: value })
+    }
+
+    /// Reads as `read` does, and also gives the first component of this type.
+    #[inline(always)]
+    pub fn read_finding(
+        value: &'a [u8],
+        kind: u16,
+    ) -> Result<(Name<'a>, Option<FirstOfType<'a>>), NameFault>
+        ensures exact { on_result (λ x. Ok (components x.0)) Err result ≡ name_at value.now }
+        ensures first { IfOk result (λ x. FindsFirst kind (components x.0) x.1) }
+    {
+        let first = first_of_type(value, kind)?;
+        Ok((Name { octets: value }, first))
     }
 
     /// The TLV-VALUE of the name.

@@ -1,0 +1,31 @@
+-- The first component of a type in a name.
+use Rattle.std.specs.Prelude.{Bool, true, false, ◌≡◌, ◌≢◌, ◌↔◌, ℕ, List, [], ◌∷◌, ◌++◌, Option, None, Some, IsTrue}
+use Rattle.std.specs.List.{AllByRecursion}
+use Rattle.ndn_tlv.specs.Element.{Field}
+use Rattle.ndn_names.specs.declared.first_of_type.FirstOfType.{FirstOfType}
+
+-- no component has this type
+abbrev pub NoneOfType : ℕ → List Field → Type 0
+NoneOfType kind cs = AllByRecursion (λ c. c.0 ≢ kind) cs
+
+-- it is the first of this type among these components
+pub record IsFirstOfType (kind : ℕ) (cs : List Field) (first : FirstOfType) : Type 0 where
+  pub front : List Field
+  pub back : List Field
+  pub components_are : cs ≡ front ++ (kind, first.value.now) ∷ back
+  pub first_one : NoneOfType kind front
+  pub only : IsTrue first.is_only ↔ NoneOfType kind back
+  pub last : IsTrue first.is_last ↔ (back ≡ [])
+
+-- the first component of this type, where there is one
+abbrev pub FindsFirst : ℕ → List Field → Option FirstOfType → Type 0
+FindsFirst kind cs None = NoneOfType kind cs
+FindsFirst kind cs (Some first) = IsFirstOfType kind cs first
+
+-- the first component, where one of these octets comes after what was found
+abbrev pub Further : Option FirstOfType → List ℕ → Bool → FirstOfType → Type 0
+Further None value is_last first =
+    (first.value.now ≡ value) × (first.is_only ≡ true) × (first.is_last ≡ is_last)
+Further (Some found) value is_last first =
+    (first.value.now ≡ found.value.now) × (first.is_only ≡ false)
+    × (first.is_last ≡ found.is_last)

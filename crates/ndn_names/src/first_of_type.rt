@@ -1,0 +1,65 @@
+ghost use Rattle.std.specs.Prelude.{◌≡◌, List, Ok, Err, MatchResult};
+ghost use Rattle.ndn_tlv.specs.Element.{Field};
+ghost use Rattle.ndn_names.specs.Reading.{name_at};
+ghost use Rattle.ndn_names.specs.FirstOfType.{FindsFirst, Further};
+
+use crate::component::first_component;
+use crate::fault::NameFault;
+use crate::name::MAX_COMPONENTS;
+
+/// The first component of a type in a name.
+#[derive(Clone, Copy, Debug)]
+pub struct FirstOfType<'a> {
+    /// The octets of its TLV-VALUE.
+    pub value: &'a [u8],
+    /// Whether no other component of the name has the type.
+    pub is_only: bool,
+    /// Whether it is the last component of the name.
+    pub is_last: bool,
+}
+
+/// The first component of this type, where the octets are a name's.
+#[inline(always)]
+pub(crate) fn first_of_type(octets: &[u8], kind: u16) -> Result<Option<FirstOfType<'_>>, NameFault>
+    ensures { MatchResult result
+        (λ first. (cs : List Field) × (name_at octets.now ≡ Ok cs) × FindsFirst kind cs first)
+        (λ fault. name_at octets.now ≡ Err fault) }
+{
+    let mut rest = octets;
+    let mut count = 0;
+    let mut found = None;
+    while !rest.is_empty() {
+        if count == MAX_COMPONENTS {
+            return Err(NameFault::TooManyComponents);
+        }
+        let (component, after) = first_component(rest)?;
+        if component.kind == kind {
+            found = Some(with_another(found, component.value, after.is_empty()));
+        }
+        rest = after;
+        count += 1;
+    }
+    Ok(found)
+}
+
+/// The first component, where this is one more of the type.
+#[inline(always)]
+fn with_another<'a>(
+    found: Option<FirstOfType<'a>>,
+    value: &'a [u8],
+    is_last: bool,
+) -> FirstOfType<'a>
+    ensures { Further found.entry value.entry.now is_last result }
+{
+    match found {
+        None => FirstOfType {
+            value,
+            is_only: true,
+            is_last,
+        },
+        Some(first) => FirstOfType {
+            is_only: false,
+            ..first
+        },
+    }
+}
