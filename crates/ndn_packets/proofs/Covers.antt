@@ -1,10 +1,10 @@
 -- Which packets have octets that a signature covers, and which octets these are.
-use Rattle.std.proofs.Common.{◌≡◌, ◌≢◌, ℕ, ◌-◌, ◌⊎◌, Bool, eqb, List, [], ◌∷◌, ◌++◌, length, take, Option, None, Some, refl, sym, ap, subst, ◌∙◌, append_assoc, arith, inl, inr}
-use Rattle.std.specs.Prelude.{◌↔◌, IsSome, IsSomeAnd, is_some, option_map}
+use Rattle.std.proofs.Common.{◌≡◌, ◌≢◌, ℕ, suc, ◌+◌, ◌-◌, ◌≤◌, ◌⊎◌, Bool, true, false, cond, eqb, List, [], ◌∷◌, ◌++◌, length, take, Option, None, Some, refl, sym, ap, subst, ◌∙◌, append_assoc, arith, inl, inr}
+use Rattle.std.specs.Prelude.{◌↔◌, IsSome, OnSome, IsSomeAnd, is_some, option_map}
 use Rattle.std.specs.List.{flat_map, AllByRecursion}
-use Rattle.std.proofs.lemmas.Bool.{eqb-false, ne_eqb}
-use Rattle.std.proofs.lemmas.List.{length-append, take_at, append_cancel_right}
-use Rattle.std.proofs.lemmas.List.Concat.{flat_map-cons}
+use Rattle.std.proofs.lemmas.Bool.{eqb-true, eqb-false, ne_eqb}
+use Rattle.std.proofs.lemmas.List.{append-nil, length-append, take_at, append_cancel_right}
+use Rattle.std.proofs.lemmas.List.Concat.{flat_map-cons, flat_map-append}
 use Rattle.std.proofs.lemmas.List.Elements.{filter-append}
 use Rattle.sha2.specs.Sha256.{sha256}
 use Rattle.ndn_tlv.specs.Element.{Field, IsField, element, IsElement, IsElements}
@@ -12,10 +12,16 @@ use Rattle.ndn_packets.specs.declared.covered.Parts.{Parts}
 use Rattle.ndn_packets.specs.Packet.{PlainSignature, PlainInterest, PlainData, PlainFrame, AnInterest, AData, ANack, Idle, digests_in}
 use Rattle.ndn_packets.specs.Fields.{Fields, optional, flag, is_even_high, interest_schema}
 use Rattle.ndn_packets.specs.Grammar.{IsSigned, IsDigested, from_parameters, IsInterest, IsData}
-use Rattle.ndn_packets.specs.Covered.{IsCut, from_first, CoversData, CoversInterest, Covered, AreParts, EndsInDigest, EndsAtSignature}
+use Rattle.ndn_packets.specs.Covered.{IsCut, from_first, CoversData, CoversInterest, Covered, AreParts, EndsInDigest, EndsAtSignature, HoldsSecond, IsSignedAt, second_part}
 use Rattle.ndn_packets.proofs.Steps.{ok_is, some_is, none_is_not_some}
+use Rattle.ndn_names.specs.declared.first_of_type.FirstOfType.{FirstOfType}
+use Rattle.ndn_tlv.specs.Number.{spelling}
+use Rattle.ndn_names.specs.Name.{IsComponent, IsNameValue}
+use Rattle.ndn_names.specs.FirstOfType.{NoneOfType, FindsFirst}
+use Rattle.ndn_packets.proofs.Digests.{none_left, digests_from}
 use Rattle.ndn_packets.proofs.Packets.{only_again}
-use Rattle.ndn_packets.proofs.Cuts.{cut_read, cut_is, never_cut, never_in, all_front, cut_among}
+use Rattle.ndn_tlv.proofs.Numbers.{IsBytes, IsBytes-back}
+use Rattle.ndn_packets.proofs.Cuts.{cut_found, cut_within, cut_read, cut_is, never_cut, never_in, all_front, cut_among}
 use Rattle.ndn_packets.proofs.Places.{Others, Met, meet_parameters, meet_info, meet_signature, meet_value, Has, has_following, has_back, others_lack, earlier_others, front_fields, back_fields, fields_are, earlier_front, other_optional, hop_apart, all_both}
 
 -- ---- what a reader has to find
@@ -70,6 +76,16 @@ data_covered text d h =
           has_following 23 (optional 20 h.meta_value) _ (has_following 23 (optional 21 d.content) ((22, h.info_value) ∷ (23, d.signature.value) ∷ []) (inr (inl refl))) in
           absurd (others_lack 23 _ (earlier_others [] [] 23 _ m.1) signed)
     ]
+
+-- those before the place where a reader noted the value
+pub data_covers : (text value covered from : List ℕ) (d : PlainData) → IsData text d → IsElement text 6 value → from_first 23 value ≡ Some from → covered ≡ take (length value - length from) value → CoversData text covered
+data_covers text value covered from d h outer mark is =
+    let there = data_covered text d h in
+    let at : from ≡ there.1.from_signature = some_is from there.1.from_signature (sym mark ∙ value_read text value there.0 outer there.1) in
+    let all : value ≡ there.0 ++ from = outer_one text 6 value there.1.value outer there.1.outer ∙ there.1.cut.octets_are ∙ ap (λ (t : List ℕ). there.0 ++ t) (sym at) in
+    let len : length there.0 ≡ length value - length from = omega (arith, ap length all, length-append there.0 from) in
+    let front : take (length value - length from) value ≡ there.0 = ap (take (length value - length from)) all ∙ take_at there.0 from (length value - length from) len in
+    subst (CoversData text) (sym (is ∙ front)) there.1
 
 -- ---- an Interest
 
@@ -435,6 +451,10 @@ same_last (a ∷ xs) (b ∷ ys) x y e =
     let r = same_last xs ys x y rest in
     ((λ k. first k ∷ r.0 k), r.1)
 
+not_empty : {A : Type 0} (xs ys : List A) (x : A) → xs ++ x ∷ ys ≡ [] → ⊥
+not_empty [] ys x e = cc
+not_empty (a ∷ xs) ys x e = cc
+
 never_empty : {A : Type 0} (xs : List A) (x : A) → xs ++ x ∷ [] ≡ [] → ⊥
 never_empty [] x e = cc
 never_empty (a ∷ xs) x e = cc
@@ -467,6 +487,113 @@ interest_ends text i s first second h signed c =
       outer = subst (IsElement text 5) (c.parameters.octets_are ∙ ap (λ (t : List ℕ). c.early ++ t) from) c.outer;
     }
 
+-- ---- the part that a reader of an Interest notes
+
+-- where no component before a digest is one, nor after it, and a digest is the last one, it is that
+last_one : (front back components : List Field) (v d : List ℕ) → NoneOfType 2 back → front ++ (2, v) ∷ back ≡ components ++ (2, d) ∷ [] → back ≡ []
+last_one [] back [] v d none e = cc
+last_one [] back (c ∷ components) v d none e =
+    let rest : back ≡ components ++ (2, d) ∷ [] = cc in
+    absurd ((all_front (λ f. f.0 ≢ 2) components ((2, d) ∷ []) (subst (NoneOfType 2) rest none)).1.0 refl)
+last_one (f ∷ front) back [] v d none e = let rest : front ++ (2, v) ∷ back ≡ [] = cc in absurd (not_empty front back (2, v) rest)
+last_one (f ∷ front) back (c ∷ components) v d none e =
+    let rest : front ++ (2, v) ∷ back ≡ components ++ (2, d) ∷ [] = cc in
+    last_one front back components v d none rest
+
+-- of the digests in a name there is one
+only_one : (name elements : List Field) (parameters : Option (List ℕ)) (x : Field) (others : List Field) → digests_in name ≡ x ∷ others → IsDigested name elements parameters → others ≡ []
+only_one name elements None x others is h = absurd (let no : x ∷ others ≡ [] = sym is ∙ h in cc)
+only_one name elements (Some p) x others is h = (let same = sym is ∙ h in cc)
+
+no_digest : (name : List Field) (text first second : List ℕ) → NoneOfType 2 name → CoversInterest name text first second → ⊥
+no_digest name text first second none c = (all_front (λ f. f.0 ≢ 2) c.components ((2, c.digest) ∷ []) (subst (NoneOfType 2) c.named none)).1.0 refl
+
+not_both : (b : Bool) → b ≡ false → b ≡ true → ⊥
+not_both b e t = cc
+
+pub second_noted : (text value : List ℕ) (i : PlainInterest) (digest : Option FirstOfType) (p v : List ℕ) → IsInterest text i → IsElement text 5 value → FindsFirst 2 i.name digest → OnSome i.signature (IsSignedAt value p v)
+    → HoldsSecond i.name text (second_part i.signature digest p v)
+second_noted text value i digest p v h outer found at =
+    elim (i.signature) as (λ s. i.signature ≡ s → OnSome s (IsSignedAt value p v) → HoldsSecond i.name text (second_part s digest p v)) [
+      | None ↦ λ is _. λ first second c. (let some : IsSome {T = PlainSignature} None = subst IsSome is ((interest_covered text i h).0 (first, second, c)).0 in absurd cc)
+      | Some s ↦ λ is at. of_digest digest found s is at
+    ] refl at
+  where
+    of_digest : (digest : Option FirstOfType) → FindsFirst 2 i.name digest → (s : PlainSignature) → i.signature ≡ Some s → IsSignedAt value p v → HoldsSecond i.name text (second_part (Some s) digest p v)
+    of_digest None none s is at = λ first second c. no_digest i.name text first second none c
+    of_digest (Some d) there s is at =
+        elim (d.is_last) as (λ b. d.is_last ≡ b → HoldsSecond i.name text (cond b (Some (take (length p - length v) p)) None)) [
+          | true ↦ λ last.
+              let end : i.name ≡ there.front ++ (2, d.value.now) ∷ [] = there.components_are ∙ ap (λ (cs : List Field). there.front ++ (2, d.value.now) ∷ cs) (there.last.0 last) in
+              let c = (interest_covered text i h).1 (subst IsSome (sym is) refl, (there.front, d.value.now, end)) in
+              let parameters : p ≡ c.2.from_parameters = some_is p c.2.from_parameters (sym at.1 ∙ parameters_read i.name text value c.0 c.1 outer c.2) in
+              let value_at : v ≡ c.2.from_signature = some_is v c.2.from_signature (sym at.3 ∙ signature_read i.name text value c.0 c.1 p at.0 outer at.1 at.2 c.2) in
+              let second : c.1 ≡ take (length p - length v) p = c.2.second_is ∙ sym (between c.2.from_parameters c.2.to_info c.2.from_info c.2.to_signature c.2.from_signature c.2.info.octets_are c.2.signature.octets_are)
+              ∙ (λ k. take (length (sym parameters k) - length (sym value_at k)) (sym parameters k)) in
+              (c.0, subst (λ (t : List ℕ). CoversInterest i.name text c.0 t) second c.2)
+          | false ↦ λ others. λ first second c.
+              let alone : digests_in there.back ≡ [] = only_one i.name h.fields.elements i.parameters (2, d.value.now) (digests_in there.back) (digests_from i.name d there) h.digested in
+              let last = there.last.1 (last_one there.front there.back c.components d.value.now c.digest (none_left there.back alone) (sym there.components_are ∙ c.named)) in
+              not_both d.is_last others last
+        ] refl
+
+-- whether a digest of parameters is the last component
+ends_in_digest : (name : List Field) → EndsInDigest name ⊎ (EndsInDigest name → ⊥)
+ends_in_digest [] = inr (λ e. never_empty e.0 (2, e.1) (sym e.2))
+ends_in_digest (c ∷ []) =
+    elim (eqb c.0 2) as (λ b. eqb c.0 2 ≡ b → EndsInDigest (c ∷ []) ⊎ (EndsInDigest (c ∷ []) → ⊥)) [
+      | true ↦ λ is. inl ([], c.1, (λ k. (eqb-true c.0 2 is k, c.1) ∷ []))
+      | false ↦ λ other. inr (λ e. eqb-false c.0 2 other (ap (λ (f : Field). f.0) (same_last [] e.0 c (2, e.1) e.2).1))
+    ] refl
+ends_in_digest (c ∷ d ∷ name) =
+    elim (ends_in_digest (d ∷ name)) [
+      | inl e ↦ inl (c ∷ e.0, e.1, ap (λ (cs : List Field). c ∷ cs) e.2)
+      | inr n ↦ inr (λ e. following e.0 e.1 n e.2)
+    ]
+  where
+    following : (front : List Field) (digest : List ℕ) → (EndsInDigest (d ∷ name) → ⊥) → c ∷ d ∷ name ≡ front ++ (2, digest) ∷ [] → ⊥
+    following [] digest n e = cc
+    following (f ∷ front) digest n e = let rest : d ∷ name ≡ front ++ (2, digest) ∷ [] = cc in n (front, digest, rest)
+
+-- whether a signature of an Interest covers octets
+pub covers_any : (text : List ℕ) (i : PlainInterest) → IsInterest text i → ((first second : List ℕ) × CoversInterest i.name text first second) ⊎ ((first second : List ℕ) → CoversInterest i.name text first second → ⊥)
+covers_any text i h =
+    elim (ends_in_digest i.name) [
+      | inr n ↦ inr (λ first second c. n (c.components, c.digest, c.named))
+      | inl e ↦
+          elim (i.signature) as (λ s. i.signature ≡ s → ((first second : List ℕ) × CoversInterest i.name text first second) ⊎ ((first second : List ℕ) → CoversInterest i.name text first second → ⊥)) [
+            | None ↦ λ is. inr (λ first second c. (let some : IsSome {T = PlainSignature} None = subst IsSome is ((interest_covered text i h).0 (first, second, c)).0 in absurd cc))
+            | Some s ↦ λ is. inl ((interest_covered text i h).1 (subst IsSome (sym is) refl, e))
+          ] refl
+    ]
+
+digest_len : (digest : List ℕ) → length digest ≡ 32 → length (element (2, digest)) ≡ 34
+unfolding spelling
+digest_len digest is = rw is (ap (λ n. suc (suc n)) is)
+
+-- the first part is all of the name but 34 octets
+pub first_is_front : (octets text first second : List ℕ) (name : List Field) → IsNameValue octets name → CoversInterest name text first second → (34 ≤ length octets) × (first ≡ take (length octets - 34) octets)
+first_is_front octets text first second name h c =
+    let digest : length c.digest ≡ 32 = (all_front IsComponent c.components ((2, c.digest) ∷ []) (subst (AllByRecursion IsComponent) c.named h.1.1)).1.0.2 (omega arith) in
+    let all : octets ≡ first ++ element (2, c.digest) = h.0.1 ∙ ap (flat_map element) c.named ∙ flat_map-append element c.components ((2, c.digest) ∷ []) ∙ (λ k. sym c.first_is k ++ append-nil (element (2, c.digest)) k) in
+    let len : length octets ≡ length first + 34 = ap length all ∙ length-append first (element (2, c.digest)) ∙ ap (λ n. length first + n) (digest_len c.digest digest) in
+    let front : length first ≡ length octets - 34 = omega arith in
+    (omega arith, sym (ap (take (length octets - 34)) all ∙ take_at first (element (2, c.digest)) (length octets - 34) front))
+
+-- the places are in the value, where the name was before the fields
+pub noted_after : (value rest p v : List ℕ) → ((kind : ℕ) → kind ≢ 7 → from_first kind value ≡ from_first kind rest) → IsSignedAt rest p v → IsSignedAt value p v
+noted_after value rest p v place at = (at.0, place 36 (eqb-false 36 7 refl) ∙ at.1, at.2, at.3)
+
+pub second_within : (octets p v : List ℕ) → IsBytes octets → IsSignedAt octets p v → length v ≤ length p
+second_within octets p v fits at =
+    let whole = cut_found 36 octets p fits at.1 in
+    let from_p = IsBytes-back whole.0 p (subst IsBytes whole.1.octets_are fits) in
+    let info = cut_found 44 p at.0 from_p at.2 in
+    let from_info = IsBytes-back info.0 at.0 (subst IsBytes info.1.octets_are from_p) in
+    let in_p = cut_within 44 p at.0 from_p at.2 in
+    let in_info = cut_within 46 at.0 v from_info at.3 in
+    omega arith
+
 -- ---- covered octets are given by the packet
 
 -- octets are cut in one place
@@ -486,16 +613,6 @@ one_covered (AData whole d) first second other_first other_second c e =
     ((one_cut 23 c.0.value e.0.value first c.0.from_signature other_first e.0.from_signature (outer_one whole 6 c.0.value e.0.value c.0.outer e.0.outer) c.0.cut e.0.cut).0, c.1 ∙ sym e.1)
 one_covered (ANack reason whole i) first second other_first other_second c d = absurd c
 one_covered Idle first second other_first other_second c d = absurd c
-
--- ---- where there is something covered
-
-pub always_there : (packet : PlainFrame) (r : Option Parts) (first second : List ℕ) → AreParts packet r → Covered packet first second → IsSomeAnd r (λ parts. Covered packet parts.first.now parts.second.now)
-always_there packet None first second h covers = absurd (h first second covers)
-always_there packet (Some parts) first second h covers = h
-
-pub there_where : (packet : PlainFrame) (r : Option Parts) (E : Type 0) → AreParts packet r → (((first second : List ℕ) → Covered packet first second → ⊥) → ¬ E) → ((parts : Parts) → Covered packet parts.first.now parts.second.now → E) → IsSome r ↔ E
-there_where packet None E h never given = (λ s. absurd cc, λ e. absurd (never h e))
-there_where packet (Some parts) E h never given = (λ s. given parts h, λ e. refl)
 
 pub is_some_map : {A B : Type 0} (f : A → B) (o : Option A) → is_some (option_map f o) ≡ is_some o
 is_some_map f None = refl

@@ -1,6 +1,7 @@
 -- Octets that are cut in front of the first element of a type: there is one place for it, and the reader finds it.
 use Rattle.std.proofs.Common.{◌≡◌, ◌≢◌, ℕ, zero, suc, ◌<◌, ◌≤◌, true, false, cond, eqb, List, [], ◌∷◌, ◌++◌, length, Option, None, Some, Result, Ok, Err, refl, sym, ap, subst, ◌∙◌, append_assoc, arith, eq-eqb}
 use Rattle.std.specs.List.{flat_map, AllByRecursion}
+use Rattle.std.proofs.lemmas.List.{length-append}
 use Rattle.std.proofs.lemmas.Grind.{flat_map-append}
 use Rattle.std.proofs.lemmas.Bool.{eqb-true, eqb-false, ne_eqb}
 use Rattle.ndn_tlv.specs.declared.fault.TlvFault.{TlvFault}
@@ -123,6 +124,11 @@ found_within (suc n) kind octets from fits e =
 pub cut_found : (kind : ℕ) (octets from : List ℕ) → IsBytes octets → from_first kind octets ≡ Some from → SomeCut kind octets from
 unfolding from_first
 cut_found kind octets from fits e = found_within (length octets) kind octets from fits e
+
+pub cut_within : (kind : ℕ) (octets from : List ℕ) → IsBytes octets → from_first kind octets ≡ Some from → length from ≤ length octets
+cut_within kind octets from fits e =
+    let cut = cut_found kind octets from fits e in
+    omega (arith, ap length cut.1.octets_are, length-append cut.0 from)
 
 -- ---- among elements
 

@@ -1,24 +1,23 @@
 -- The digest of parameters that a name has to have.
-use Rattle.std.proofs.Common.{◌≡◌, ◌≢◌, ℕ, true, false, cond, eqb, List, [], ◌∷◌, ◌++◌, map, Option, Some, None, Result, Err, refl, sym, ap, subst, ◌∙◌, eq-eqb, append_assoc}
+use Rattle.std.proofs.Common.{◌≡◌, ◌≢◌, ℕ, Bool, true, false, cond, eqb, List, [], ◌∷◌, ◌++◌, map, Option, Some, None, Result, Err, refl, sym, ap, subst, ◌∙◌, eq-eqb, append_assoc}
+use Rattle.std.specs.Prelude.{OnSome, option_map}
 use Rattle.std.specs.List.{AllByRecursion, flat_map}
 use Rattle.std.specs.Str.{bytes_eq}
-use Rattle.std.proofs.lemmas.Bool.{eqb-true, ne_eqb}
-use Rattle.std.proofs.lemmas.List.{append-nil}
-use Rattle.ndn_packets.specs.declared.interest.Digests.{Digests}
-use Rattle.ndn_packets.specs.declared.interest.Digests.TheVariants as digests
-use Rattle.ndn_packets.specs.SoFar.{AreDigests}
+use Rattle.std.proofs.lemmas.Bool.{eqb-true, eqb-false, ne_eqb}
+use Rattle.std.proofs.lemmas.List.Elements.{filter-append}
 use Rattle.std.proofs.lemmas.Slice.Eq.{bytes_eq-Decides}
 use Rattle.sha2.specs.Sha256.{sha256}
 use Rattle.ndn_tlv.specs.declared.fault.TlvFault.{TlvFault}
 use Rattle.ndn_tlv.specs.Element.{Field, element}
 use Rattle.ndn_tlv.specs.Reading.{elements_of}
 use Rattle.ndn_tlv.proofs.Fields.{elements_exact, elements_of-nil}
-use Rattle.ndn_names.specs.Name.{IsNameValue}
+use Rattle.ndn_names.specs.declared.first_of_type.FirstOfType.{FirstOfType}
+use Rattle.ndn_names.specs.FirstOfType.{NoneOfType, IsFirstOfType, FindsFirst}
 use Rattle.ndn_packets.specs.declared.fault.PacketFault.{PacketFault}
 use Rattle.ndn_packets.specs.declared.fault.PacketFault.TheVariants.{DigestWrong}
 use Rattle.ndn_packets.specs.Packet.{digests_in}
 use Rattle.ndn_packets.specs.Grammar.{from_parameters, IsDigested}
-use Rattle.ndn_packets.specs.Reading.{parameters_on, octets_of_read, digest_fault}
+use Rattle.ndn_packets.specs.Reading.{parameters_on, octets_of_read, digest_fault, fault_by}
 use Rattle.ndn_packets.proofs.Steps.{read}
 use Rattle.ndn_packets.proofs.Parameters.{parameters_octets}
 
@@ -77,89 +76,46 @@ digest_again name elements parameters h =
     right_again parameters (digests_in name) (sha256 (octets_of_read (parameters_on (map read elements))))
     (subst (λ (octets : List ℕ). AreRight parameters (digests_in name) (sha256 octets)) (sym (parameters_octets elements)) (right_of name elements parameters h))
 
--- ---- digests one after the other
+-- ---- the first digest
 
-one_more : (name : List Field) (c : Field) → c.0 ≡ 2 → digests_in (name ++ c ∷ []) ≡ digests_in name ++ c ∷ []
-one_more [] c is = rw (eq-eqb c.0 2 is) refl
-one_more (d ∷ name) c is =
-    elim (eqb d.0 2) as (λ b. cond b (d ∷ digests_in (name ++ c ∷ [])) (digests_in (name ++ c ∷ [])) ≡ cond b (d ∷ digests_in name) (digests_in name) ++ c ∷ []) [
-      | true ↦ ap (λ (ds : List Field). d ∷ ds) (one_more name c is)
-      | false ↦ one_more name c is
-    ]
+digests_none : (cs : List Field) → NoneOfType 2 cs → digests_in cs ≡ []
+digests_none [] h = refl
+digests_none (c ∷ cs) h = rw (ne_eqb c.0 2 h.0) (digests_none cs h.1)
 
-none_more : (name : List Field) (c : Field) → c.0 ≢ 2 → digests_in (name ++ c ∷ []) ≡ digests_in name
-none_more [] c other = rw (ne_eqb c.0 2 other) refl
-none_more (d ∷ name) c other =
-    elim (eqb d.0 2) as (λ b. cond b (d ∷ digests_in (name ++ c ∷ [])) (digests_in (name ++ c ∷ [])) ≡ cond b (d ∷ digests_in name) (digests_in name)) [
-      | true ↦ ap (λ (ds : List Field). d ∷ ds) (none_more name c other)
-      | false ↦ none_more name c other
-    ]
+pub none_left : (cs : List Field) → digests_in cs ≡ [] → NoneOfType 2 cs
+none_left [] e = tt
+none_left (c ∷ cs) e =
+    elim (eqb c.0 2) as (λ b. eqb c.0 2 ≡ b → cond b (c ∷ digests_in cs) (digests_in cs) ≡ [] → (c.0 ≢ 2) × NoneOfType 2 cs) [
+      | true ↦ λ _ e. absurd cc
+      | false ↦ λ other e. (eqb-false c.0 2 other, none_left cs e)
+    ] refl e
 
-pub first_digest : (all : List Field) (x : Field) → all ≡ [] → all ++ x ∷ [] ≡ x ∷ []
-first_digest all x none = ap (λ (ds : List Field). ds ++ x ∷ []) none
+pub digests_from : (name : List Field) (d : FirstOfType) (h : IsFirstOfType 2 name d) → digests_in name ≡ (2, d.value.now) ∷ digests_in h.back
+digests_from name d h =
+    ap digests_in h.components_are ∙ filter-append (λ (c : Field). eqb c.0 2) h.front ((2, d.value.now) ∷ h.back) ∙ ap (λ (ds : List Field). ds ++ digests_in ((2, d.value.now) ∷ h.back)) (digests_none h.front h.first_one)
 
-pub further_digest : (found : Digests) (all : List Field) (x : Field) → (found ≡ digests.None → ⊥) → AreDigests found all → AreDigests digests.Many (all ++ x ∷ [])
-further_digest digests.None all x some h = absurd (some refl)
-further_digest (digests.One digest) all x some h = ((2, digest.now), x, [], first_two all h)
+pub fault_is : (name : List Field) (parameters : Option (List ℕ)) (digest : Option FirstOfType) (right : List ℕ) → FindsFirst 2 name digest → digest_fault parameters (digests_in name) right ≡ fault_by parameters digest right
+fault_is name None None right h = ap (λ (ds : List Field). digest_fault None ds right) (digests_none name h)
+fault_is name None (Some d) right h = ap (λ (ds : List Field). digest_fault None ds right) (digests_from name d h)
+fault_is name (Some p) None right h = ap (λ (ds : List Field). digest_fault (Some p) ds right) (digests_none name h)
+fault_is name (Some p) (Some d) right h =
+    ap (λ (ds : List Field). digest_fault (Some p) ds right) (digests_from name d h)
+    ∙ elim (d.is_only) as (λ b. d.is_only ≡ b → digest_fault (Some p) ((2, d.value.now) ∷ digests_in h.back) right ≡ cond b (cond (bytes_eq d.value.now right) None (Some DigestWrong)) (Some DigestWrong)) [
+      | true ↦ λ only. ap (λ (ds : List Field). digest_fault (Some p) ((2, d.value.now) ∷ ds) right) (digests_none h.back (h.only.0 only))
+      | false ↦ λ others. more (digests_in h.back) (λ none. not_both d.is_only others (h.only.1 (none_left h.back none)))
+    ] refl
   where
-    first_two : (all : List Field) → all ≡ (2, digest.now) ∷ [] → all ++ x ∷ [] ≡ (2, digest.now) ∷ x ∷ []
-    first_two all is = ap (λ (ds : List Field). ds ++ x ∷ []) is
-further_digest digests.Many all x some h = (h.0, h.1, h.2 ++ x ∷ [], ap (λ (ds : List Field). ds ++ x ∷ []) h.3)
+    not_both : (b : Bool) → b ≡ false → b ≡ true → ⊥
+    not_both b e t = cc
 
--- the components before the octets that are left have these digests
-pub record Walked (name : List Field) (rest : List ℕ) (found : Digests) : Type 0 where
-  pub front : List Field
-  pub back : List Field
-  pub all : name ≡ front ++ back
-  pub left : elements_of rest ≡ map read back
-  pub digests_are : AreDigests found (digests_in front)
+    more : (ds : List Field) → (ds ≡ [] → ⊥) → digest_fault (Some p) ((2, d.value.now) ∷ ds) right ≡ Some DigestWrong
+    more [] some = absurd (some refl)
+    more (e ∷ ds) some = refl
 
-pub walk_begins : (octets : List ℕ) (name : List Field) → IsNameValue octets name → Walked name octets digests.None
-walk_begins octets name h = record { front = []; back = name; all = refl; left = elements_exact octets name h.0; digests_are = refl }
-
-step : (back : List Field) (c : Field) (later : List (Result Field TlvFault)) → map read back ≡ read c ∷ later → (after : List Field) × (back ≡ c ∷ after) × (later ≡ map read after)
-step [] c later e = absurd cc
-step (d ∷ back) c later e = (back, first d back e, last d back e)
-  where
-    first : (d : Field) (back : List Field) → map read (d ∷ back) ≡ read c ∷ later → d ∷ back ≡ c ∷ back
-    first d back e = cc
-
-    last : (d : Field) (back : List Field) → map read (d ∷ back) ≡ read c ∷ later → later ≡ map read back
-    last d back e = cc
-
--- one component on, of which the digest is the right one
-walk : (name : List Field) (rest after : List ℕ) (found more : Digests) (c : Field) → elements_of rest ≡ read c ∷ elements_of after → (h : Walked name rest found) → AreDigests more (digests_in (h.front ++ c ∷ [])) → Walked name after more
-walk name rest after found more c next h are =
-    let s = step h.back c (elements_of after) (sym h.left ∙ next) in
-    record {
-      front = h.front ++ c ∷ [];
-      back = s.0;
-      all = h.all ∙ ap (λ (fs : List Field). h.front ++ fs) s.1 ∙ sym (append_assoc h.front (c ∷ []) s.0);
-      left = s.2;
-      digests_are = are;
-    }
-
-pub walk_past : (name : List Field) (rest after : List ℕ) (found : Digests) (c : Field) → elements_of rest ≡ read c ∷ elements_of after → c.0 ≢ 2 → Walked name rest found → Walked name after found
-walk_past name rest after found c next other h = walk name rest after found found c next h (subst (AreDigests found) (sym (none_more h.front c other)) h.digests_are)
-
-pub walk_over : (name : List Field) (rest after : List ℕ) (found more : Digests) (c : Field) → elements_of rest ≡ read c ∷ elements_of after → c.0 ≡ 2 → ((all : List Field) → AreDigests found all → AreDigests more (all ++ (2, c.1) ∷ [])) → Walked name rest found → Walked name after more
-walk_over name rest after found more c next is grows h =
-    walk name rest after found more c next h
-    (subst (AreDigests more) (ap (λ (k : ℕ). digests_in h.front ++ (k, c.1) ∷ []) (sym is) ∙ sym (one_more h.front c is)) (grows (digests_in h.front) h.digests_are))
-
-pub walk_ends : (name : List Field) (rest : List ℕ) (found : Digests) (fault : TlvFault) → (rest ≢ [] → elements_of rest ≡ Err fault ∷ []) → Walked name rest found → AreDigests found (digests_in name)
-walk_ends name rest found fault none h =
-    subst (λ (cs : List Field). AreDigests found (digests_in cs)) (sym (h.all ∙ ap (λ (fs : List Field). h.front ++ fs) (nothing h.back h.left) ∙ append-nil h.front)) h.digests_are
-  where
-    nothing : (back : List Field) → elements_of rest ≡ map read back → back ≡ []
-    nothing [] e = refl
-    nothing (c ∷ back) e = absurd (refused (none some))
-      where
-        empty : [] ≡ read c ∷ map read back → ⊥
-        empty is = cc
-
-        some : rest ≢ []
-        some is = empty (sym elements_of-nil ∙ ap elements_of (sym is) ∙ e)
-
-        refused : elements_of rest ≡ Err fault ∷ [] → ⊥
-        refused is = (let both = sym is ∙ e in cc)
+-- of the octets that a reader noted, where there are parameters
+pub fault_read : {A : Type 0} (view : A → List ℕ) (name : List Field) (parameters : Option A) (digest : Option FirstOfType) (from octets : List ℕ) → FindsFirst 2 name digest → OnSome parameters (from ≡ octets)
+    → digest_fault (option_map view parameters) (digests_in name) (sha256 octets) ≡ fault_by (option_map view parameters) digest (sha256 from)
+fault_read view name None None from octets h e = fault_is name None None (sha256 octets) h
+fault_read view name None (Some d) from octets h e = fault_is name None (Some d) (sha256 octets) h
+fault_read view name (Some p) digest from octets h e =
+    fault_is name (Some (view p)) digest (sha256 octets) h ∙ ap (λ (t : List ℕ). fault_by (Some (view p)) digest (sha256 t)) (sym e)

@@ -21,6 +21,7 @@ pub mod Wholes
 pub mod Cuts
 pub mod Places
 pub mod Covers
+pub mod Marks
 pub mod HopLimits
 pub mod Lengths
 pub mod DataWriting

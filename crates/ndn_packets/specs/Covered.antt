@@ -1,12 +1,13 @@
 -- The octets that a signature covers (NDN Packet Format 0.3, "Data Packet" and "Signed Interest").
-use Rattle.std.specs.Prelude.{◌≡◌, ◌≢◌, ℕ, zero, suc, List, [], ◌∷◌, ◌++◌, length, flat_map, Option, None, Some, ◌==◌, if◌then◌else◌}
+use Rattle.std.specs.Prelude.{◌≡◌, ◌≢◌, ℕ, zero, suc, List, [], ◌∷◌, ◌++◌, length, take, ◌-◌, flat_map, Option, None, Some, ◌==◌, if◌then◌else◌}
 use Rattle.std.specs.List.{AllByRecursion}
 use Rattle.sha2.specs.Sha256.{sha256}
 use Rattle.ndn_tlv.specs.Element.{Field, IsField, element, IsElement}
 use Rattle.ndn_tlv.specs.Reading.{on_result, element_at}
 use Rattle.ndn_names.specs.declared.component_type.TheConstants.{PARAMETERS_SHA256_DIGEST}
 use Rattle.ndn_packets.specs.declared.covered.Parts.{Parts}
-use Rattle.ndn_packets.specs.Packet.{PlainFrame, AnInterest, AData, ANack, Idle}
+use Rattle.ndn_names.specs.declared.first_of_type.FirstOfType.{FirstOfType}
+use Rattle.ndn_packets.specs.Packet.{PlainSignature, PlainFrame, AnInterest, AData, ANack, Idle}
 use Rattle.ndn_packets.specs.declared.types.TheConstants.{APPLICATION_PARAMETERS, DATA, INTEREST, INTEREST_SIGNATURE_INFO, INTEREST_SIGNATURE_VALUE, SIGNATURE_VALUE}
 
 -- Octets are cut in front of the first element of this type: before it stand whole elements of
@@ -79,13 +80,6 @@ EndsInDigest name =
     (front : List Field) × (digest : List ℕ)
     × (name ≡ front ++ (PARAMETERS_SHA256_DIGEST, digest) ∷ [])
 
--- the octets are those of the components before such a one
-abbrev pub IsBeforeDigest : List Field → Option (List ℕ) → Type 0
-IsBeforeDigest name None = EndsInDigest name → ⊥
-IsBeforeDigest name (Some octets) =
-    (front : List Field) × (digest : List ℕ)
-    × (name ≡ front ++ (PARAMETERS_SHA256_DIGEST, digest) ∷ []) × (octets ≡ flat_map element front)
-
 -- The octets are those of a Data up to the element of its signature's value.
 abbrev pub EndsBeforeValue : List ℕ → List ℕ → List ℕ → Type 0
 EndsBeforeValue value text covered =
@@ -107,3 +101,28 @@ pub record EndsAtSignature (name : List Field) (value text first second : List �
   pub first_is : first ≡ flat_map element components
   pub outer : IsElement text INTEREST
       (early ++ (second ++ (element (INTEREST_SIGNATURE_VALUE, value) ++ after)))
+
+-- ---- as a reader notes it
+
+-- the second part is what a signature of an Interest of this name covers after the first one, or
+-- there is no such
+abbrev pub HoldsSecond : List Field → List ℕ → Option (List ℕ) → Type 0
+HoldsSecond name text None = (first second : List ℕ) → CoversInterest name text first second → ⊥
+HoldsSecond name text (Some second) = (first : List ℕ) × CoversInterest name text first second
+
+-- the octets are from the ApplicationParameters, and from the InterestSignatureValue on
+abbrev pub IsSignedAt : List ℕ → List ℕ → List ℕ → Type 0
+IsSignedAt octets from_parameters from_value =
+    (from_info : List ℕ)
+    × (from_first APPLICATION_PARAMETERS octets ≡ Some from_parameters)
+    × (from_first INTEREST_SIGNATURE_INFO from_parameters ≡ Some from_info)
+    × (from_first INTEREST_SIGNATURE_VALUE from_info ≡ Some from_value)
+
+-- the octets between, where there is a signature and the digest is the last component
+abbrev pub second_part : Option PlainSignature → Option FirstOfType → List ℕ → List ℕ
+    → Option (List ℕ)
+second_part None digest from_parameters from_value = None
+second_part (Some s) None from_parameters from_value = None
+second_part (Some s) (Some digest) from_parameters from_value =
+    if digest.is_last
+    then Some (take (length from_parameters - length from_value) from_parameters) else None

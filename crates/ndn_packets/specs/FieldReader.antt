@@ -1,15 +1,16 @@
 -- What a reader of fields has left.
-use Rattle.std.specs.Prelude.{◌≡◌, [], ◌∷◌, ℕ, Bool, List, Result, Ok, Err, Option, None, Some, IsSome}
+use Rattle.std.specs.Prelude.{◌≡◌, ◌≢◌, [], ◌∷◌, ℕ, Bool, List, Result, Ok, Err, Option, None, Some, IsSome}
 use Rattle.ndn_tlv.specs.Element.{Field}
-use Rattle.ndn_tlv.specs.Reading.{elements_of}
+use Rattle.ndn_tlv.specs.Reading.{element_at, elements_of}
 use Rattle.ndn_packets.specs.declared.fault.PacketFault.{PacketFault}
 use Rattle.ndn_packets.specs.declared.field_reader.FieldReader.{FieldReader}
 use Rattle.ndn_packets.specs.declared.schema.Rules.{Rules}
 use Rattle.ndn_packets.specs.declared.schema.Rules.TheVariants as rules
 use Rattle.ndn_tlv.specs.declared.element.Element.{Element}
 use Rattle.ndn_packets.specs.Fields.{is_even_high, is_ignored_in_meta_info, is_ignored_in_signature_info}
-use Rattle.ndn_packets.specs.Reading.{schema_after, parameters_on, fields_from}
-use Rattle.ndn_packets.specs.declared.types.TheConstants.{APPLICATION_PARAMETERS}
+use Rattle.ndn_packets.specs.Reading.{schema_after, fields_from}
+use Rattle.ndn_packets.specs.Covered.{from_first}
+use Rattle.ndn_packets.specs.declared.types.TheConstants.{NAME}
 
 abbrev pub ignored_by : Rules → ℕ → Bool
 ignored_by rules.Packet = is_even_high
@@ -27,9 +28,13 @@ Gives before after (Ok (Some e)) =
 Gives before after (Err fault) = fields_left before ≡ Err fault ∷ []
 
 -- where the field e stands that a reader just gave: its octets and those after it; nothing before
--- it is ApplicationParameters, where these could still come
+-- it is of a type that could still come
 pub record StandsHere (before after : FieldReader) (e : Element) : Type 0 where
-  pub here : elements_of after.here.now ≡ Ok (e.kind, e.value.now) ∷ elements_of after.rest.now
+  pub here : Ok ((e.kind, e.value.now), after.rest.now) ≡ element_at after.here.now
   pub schema : schema_after e.kind before.schema.now ≡ Some after.schema.now
-  pub parameters : IsSome (schema_after APPLICATION_PARAMETERS before.schema.now)
-      → parameters_on (elements_of before.rest.now) ≡ parameters_on (elements_of after.here.now)
+  pub place : (kind : ℕ) → IsSome (schema_after kind before.schema.now)
+      → from_first kind before.rest.now ≡ from_first kind after.here.now
+
+-- after a Name stands the rest of the octets, with the first element of each other type
+abbrev pub OthersAfter : List ℕ → List ℕ → Type 0
+OthersAfter octets rest = (kind : ℕ) → kind ≢ NAME → from_first kind octets ≡ from_first kind rest

@@ -8,6 +8,7 @@ use Rattle.sha2.specs.Sha256.{sha256}
 use Rattle.ndn_tlv.specs.declared.fault.TlvFault.{TlvFault}
 use Rattle.ndn_tlv.specs.Element.{Field, element}
 use Rattle.ndn_tlv.specs.Reading.{◌>>=◌, on_result, element_at, elements_of, nni_at}
+use Rattle.ndn_names.specs.declared.first_of_type.FirstOfType.{FirstOfType}
 use Rattle.ndn_names.specs.Reading.{name_at}
 use Rattle.ndn_packets.specs.declared.fault.PacketFault.{PacketFault}
 use Rattle.ndn_packets.specs.declared.fault.PacketFault.TheVariants.{Tlv, NoName, CriticalUnknown, BadField, NoNonce, DigestMissing, DigestWrong, DigestWithout}
@@ -191,6 +192,15 @@ digest_fault (Some parameters) [] right = Some DigestMissing
 digest_fault (Some parameters) (d ∷ []) right =
     if bytes_eq d.1 right then None else Some DigestWrong
 digest_fault (Some parameters) (d ∷ e ∷ digests) right = Some DigestWrong
+
+-- the same, where this is the first of them
+abbrev pub fault_by : Option (List ℕ) → Option FirstOfType → List ℕ → Option PacketFault
+fault_by None None right = None
+fault_by None (Some first) right = Some DigestWithout
+fault_by (Some parameters) None right = Some DigestMissing
+fault_by (Some parameters) (Some first) right =
+    if first.is_only then (if bytes_eq first.value.now right then None else Some DigestWrong)
+    else Some DigestWrong
 
 abbrev pub signature_of : Option PlainSignatureInfo → Option (List ℕ) → Option PlainSignature
 signature_of None value = None

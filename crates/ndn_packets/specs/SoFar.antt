@@ -1,11 +1,6 @@
 -- What readers have found so far, without where it lies in memory.
-use Rattle.std.specs.Prelude.{◌≡◌, List, [], ◌∷◌}
 use Rattle.std.specs.Option.{option_map}
-use Rattle.ndn_names.specs.declared.component_type.TheConstants.{PARAMETERS_SHA256_DIGEST}
 use Rattle.ndn_packets.specs.declared.data.DataFields.{DataFields}
-use Rattle.ndn_tlv.specs.Element.{Field}
-use Rattle.ndn_packets.specs.declared.interest.Digests.{Digests}
-use Rattle.ndn_packets.specs.declared.interest.Digests.TheVariants as digests
 use Rattle.ndn_packets.specs.declared.interest.InterestFields.{InterestFields}
 use Rattle.ndn_packets.specs.declared.link.Headers.{Headers}
 use Rattle.ndn_packets.specs.declared.signature.InfoFields.{InfoFields}
@@ -58,9 +53,3 @@ interest_so_far f = record {
   info = option_map plain_info f.info;
   value = option_map (λ v. v.now) f.value;
 }
-
--- the digests of parameters in a name
-abbrev pub AreDigests : Digests → List Field → Type 0
-AreDigests digests.None all = all ≡ []
-AreDigests (digests.One digest) all = all ≡ (PARAMETERS_SHA256_DIGEST, digest.now) ∷ []
-AreDigests digests.Many all = (d e : Field) × (others : List Field) × (all ≡ d ∷ e ∷ others)

@@ -1,22 +1,16 @@
 //! The octets that a signature covers (NDN Packet Format 0.3, "Data Packet" and "Signed Interest").
 
-ghost use Rattle.std.specs.Prelude.{◌≡◌, ◌≤◌, ◌-◌, ◌↔◌, ◌++◌, ◌∷◌, [], List, ℕ, Some, length, take, flat_map, option_map, IsSome, IfSome, IsSomeAnd, MatchOption};
-ghost use Rattle.ndn_tlv.specs.Element.{Field, element, IsElement};
-ghost use Rattle.ndn_names.specs.View.{components};
+ghost use Rattle.std.specs.Prelude.{◌≡◌, ◌≤◌, ◌-◌, ◌↔◌, [], List, ℕ, Some, length, take, option_map, IsSome, IfSome};
 ghost use Rattle.ndn_packets.specs.Packet.{PlainSignature, PlainInterest, PlainData, PlainFrame, AnInterest, AData};
 ghost use Rattle.ndn_packets.specs.Grammar.{IsInterest, IsData};
-ghost use Rattle.ndn_packets.specs.Covered.{IsCut, from_first, Covered, EndsInDigest, IsBeforeDigest, EndsBeforeValue, EndsAtSignature};
+ghost use Rattle.ndn_packets.specs.Covered.{from_first, Covered, EndsInDigest, EndsBeforeValue, EndsAtSignature};
 
 use crate::data::Data;
-use crate::frame::only_element;
 use crate::interest::Interest;
-use crate::types::{
-    APPLICATION_PARAMETERS, DATA, INTEREST, INTEREST_SIGNATURE_INFO, INTEREST_SIGNATURE_VALUE,
-    SIGNATURE_VALUE,
-};
-use ndn_names::Name;
-use ndn_names::component_type::PARAMETERS_SHA256_DIGEST;
 use ndn_tlv::first_element;
+
+/// The octets of the component that is a digest: its type, its length and 32 more.
+const DIGEST_LEN: usize = 34;
 
 /// The covered octets, which are the first ones and then the second ones.
 #[derive(Clone, Copy, Debug, PartialEq, Eq)]
@@ -29,7 +23,7 @@ impl<'a> Data<'a> {
     ghost use Rattle.std.specs.Prelude.{IsSomeAnd};
     ghost use Rattle.ndn_packets.specs.Packet.{AData};
     ghost use Rattle.ndn_packets.specs.View.{plain_data};
-    ghost use Rattle.ndn_packets.specs.Covered.{Covered, AreParts};
+    ghost use Rattle.ndn_packets.specs.Covered.{Covered};
 
     /// The octets that the signature covers, as they were received: those from the Name up to the
     /// SignatureValue. The second part is empty. A Data always has them.
@@ -37,16 +31,8 @@ impl<'a> Data<'a> {
         ensures { IsSomeAnd result (λ parts. Covered
             (AData self.now.whole.now (plain_data self.now)) parts.first.now parts.second.now) }
     {
-        self.cut_parts()
-    }
-
-    fn cut_parts(&self) -> Option<Parts<'a>>
-        ensures { AreParts (AData self.now.whole.now (plain_data self.now)) result }
-    {
-        let value = value_of(self.whole, DATA)?;
-        let from_signature = from_first(value, SIGNATURE_VALUE)?;
         Some(Parts {
-            first: octets_before(value, from_signature),
+            first: self.covered,
             second: &[],
         })
     }
@@ -68,58 +54,19 @@ impl<'a> Interest<'a> {
         ensures when { IsSome result
             ↔ (IsSome self.now.signature × EndsInDigest (components self.now.name)) }
     {
-        self.cut_parts()
-    }
-
-    fn cut_parts(&self) -> Option<Parts<'a>>
-        ensures { AreParts (AnInterest self.now.whole.now (plain_interest self.now)) result }
-    {
-        let first = before_digest(self.name)?;
-        let value = value_of(self.whole, INTEREST)?;
-        let from_parameters = from_first(value, APPLICATION_PARAMETERS)?;
-        let from_info = from_first(from_parameters, INTEREST_SIGNATURE_INFO)?;
-        let from_signature = from_first(from_info, INTEREST_SIGNATURE_VALUE)?;
+        let second = self.covered?;
+        let name = self.name.as_octets();
         Some(Parts {
-            first,
-            second: octets_before(from_parameters, from_signature),
+            first: &name[..name.len() - DIGEST_LEN],
+            second,
         })
     }
-}
-
-/// The octets of the components before the last one, where that is a digest of parameters.
-fn before_digest(name: Name<'_>) -> Option<&[u8]>
-    ensures { IsBeforeDigest (components name.entry) (option_map (λ octets. octets.now) result) }
-{
-    let count = name.len().checked_sub(1)?;
-    let last = name.component(count)?;
-    if last.kind != PARAMETERS_SHA256_DIGEST {
-        return None;
-    }
-    Some(name.prefix(count).as_octets())
-}
-
-/// The value of the one element of this type that the octets are.
-fn value_of(octets: &[u8], kind: u32) -> Option<&[u8]>
-    ensures { MatchOption result
-        ((value : List ℕ) → IsElement octets.now kind value → ⊥)
-        (λ value. IsElement octets.now kind value.now) }
-{
-    let Ok(outer) = only_element(octets) else {
-        return None;
-    };
-    if outer.kind != kind {
-        return None;
-    }
-    Some(outer.value)
 }
 
 /// The octets from the first element of this type on.
 pub(crate) fn from_first(octets: &[u8], kind: u32) -> Option<&[u8]>
     ensures exact { option_map (λ from. from.now) result ≡ from_first kind octets.now }
-    ensures found { IfSome result
-        (λ from. (before : List ℕ) × IsCut kind octets.now before from.now) }
-    ensures only { (before from : List ℕ) → IsCut kind octets.now before from
-        → IsSomeAnd result (λ given. given.now ≡ from) }
+    ensures within { IfSome result (λ from. length from.now ≤ length octets.now) }
 {
     let mut rest = octets;
     while let Ok((element, after)) = first_element(rest) {
@@ -132,7 +79,8 @@ pub(crate) fn from_first(octets: &[u8], kind: u32) -> Option<&[u8]>
 }
 
 /// The octets before their end.
-fn octets_before<'a>(octets: &'a [u8], end: &[u8]) -> &'a [u8]
+#[inline(always)]
+pub(crate) fn octets_before<'a>(octets: &'a [u8], end: &[u8]) -> &'a [u8]
     requires { length end.now ≤ length octets.now }
     ensures { result.now ≡ take (length octets.entry.now - length end.now) octets.entry.now }
 {

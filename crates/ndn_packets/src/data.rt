@@ -1,4 +1,4 @@
-ghost use Rattle.std.specs.Prelude.{◌≡◌, [], ◌∷◌, Ok, Err, option_map};
+ghost use Rattle.std.specs.Prelude.{◌≡◌, [], ◌∷◌, Ok, Err, Some, IfOk, OnSome, option_map};
 ghost use Rattle.ndn_tlv.specs.Reading.{elements_of, on_result};
 ghost use Rattle.ndn_packets.specs.Fields.{data_schema, is_even_high};
 ghost use Rattle.ndn_packets.specs.Reading.{read_fields, take_data_field, nothing_yet, fields_from};
@@ -6,7 +6,9 @@ ghost use Rattle.ndn_packets.specs.SoFar.{so_far};
 ghost use Rattle.ndn_names.specs.View.{components};
 ghost use Rattle.ndn_packets.specs.Packet.{plain_signature};
 ghost use Rattle.ndn_packets.specs.Grammar.{IsData};
+ghost use Rattle.ndn_packets.specs.Covered.{from_first, CoversData};
 
+use crate::covered::octets_before;
 use crate::fault::PacketFault;
 use crate::field_reader::{FieldReader, leading_name};
 use crate::frame::is_too_long;
@@ -30,6 +32,9 @@ pub struct Data<'a> {
     pub signature: Signature<'a>,
     /// The received octets of the whole packet, its type and length among them, at most 8,800.
     pub whole: &'a [u8],
+    /// The octets that the signature covers: those from the Name up to the SignatureValue.
+    pub(crate) covered: &'a [u8],
+    ghost covers: { ∥ CoversData whole.now covered.now ∥₁ },
     ghost spelled: { ∥ IsData whole.now (record {
       name = components name;
       freshness = freshness;
@@ -47,6 +52,8 @@ struct DataFields<'a> {
     content: Option<&'a [u8]>,
     info: Option<SignatureInfo<'a>>,
     value: Option<&'a [u8]>,
+    /// The octets from the SignatureValue on, where it is there.
+    from_value: &'a [u8],
 }
 
 impl<'a> Data<'a> {
@@ -79,16 +86,20 @@ impl<'a> Data<'a> {
             content: found.content,
             signature: info.with_value(value),
             whole: outer.whole,
+            covered: octets_before(outer.value, found.from_value),
         })
     }
 }
 
+#[tactic(auto, using(crate::proofs::Marks::data_first, crate::proofs::Marks::data_still, crate::proofs::Marks::data_value))]
 /// The fields after the Name.
 #[inline(always)]
 fn fields_of(rest: &[u8]) -> Result<DataFields<'_>, PacketFault>
-    ensures { on_result (λ f. Ok (so_far f)) Err result
+    ensures walk { on_result (λ f. Ok (so_far f)) Err result
         ≡ read_fields take_data_field nothing_yet
         (fields_from is_even_high data_schema (elements_of rest.now)) }
+    ensures value { IfOk result
+        (λ f. OnSome f.value (from_first SIGNATURE_VALUE rest.now ≡ Some f.from_value.now)) }
 {
     let mut fields = FieldReader::new(Rules::Packet, rest, &FIELDS);
     let mut found = DataFields {
@@ -96,13 +107,17 @@ fn fields_of(rest: &[u8]) -> Result<DataFields<'_>, PacketFault>
         content: None,
         info: None,
         value: None,
+        from_value: rest,
     };
     while let Some(field) = fields.next()? {
         match field.kind {
             META_INFO => found.freshness = freshness_of(field.value)?,
             CONTENT => found.content = Some(field.value),
             SIGNATURE_INFO => found.info = Some(signature_info(field.value)?),
-            _ => found.value = Some(field.value),
+            _ => {
+                found.value = Some(field.value);
+                found.from_value = fields.here;
+            }
         }
     }
     Ok(found)

@@ -1,19 +1,21 @@
 ghost use Rattle.std.specs.Prelude.{◌≡◌, ◌↔◌, ◌<◌, ℕ, List, [], ◌∷◌, length, Ok, Err, MatchResult, MatchOption, IfOk, IfSome, OnSome, option_map};
 ghost use Rattle.ndn_tlv.specs.Reading.{elements_of, on_result};
 ghost use Rattle.ndn_names.specs.View.{components};
+ghost use Rattle.ndn_names.specs.FirstOfType.{FindsFirst};
 ghost use Rattle.ndn_packets.specs.Fields.{is_even_high, is_ignored_in_meta_info, is_ignored_in_signature_info, interest_schema, data_schema, meta_schema, info_schema};
 ghost use Rattle.ndn_packets.specs.Link.{nack_schema};
 ghost use Rattle.ndn_packets.specs.declared.fault.PacketFault.{PacketFault};
 ghost use Rattle.ndn_packets.specs.FirstFault.{TellsFirstFault};
 ghost use Rattle.ndn_packets.specs.PacketFaults.{InfoFault, InterestFault, DataFault};
 ghost use Rattle.ndn_packets.specs.FrameReading.{take_nack_field};
-ghost use Rattle.ndn_packets.specs.Reading.{schema_after, fields_from, leading_name_at, nni_value_at, interest_at, data_at, info_at, take_interest_field, take_data_field, take_meta_field, take_info_field, no_fields_yet, nothing_yet, no_info_yet};
-ghost use Rattle.ndn_packets.specs.FieldReader.{ignored_by, fields_left, Gives, StandsHere};
+ghost use Rattle.ndn_packets.specs.Reading.{schema_after, fields_from, name_first, leading_name_at, nni_value_at, interest_at, data_at, info_at, take_interest_field, take_data_field, take_meta_field, take_info_field, no_fields_yet, nothing_yet, no_info_yet};
+ghost use Rattle.ndn_packets.specs.FieldReader.{ignored_by, fields_left, Gives, StandsHere, OthersAfter};
 
 use crate::fault::PacketFault;
 use crate::schema::{Rules, needs_previous_field};
 use crate::types::NAME;
-use ndn_names::Name;
+use ndn_names::component_type::PARAMETERS_SHA256_DIGEST;
+use ndn_names::{FirstOfType, Name};
 use ndn_tlv::{Element, first_element, nni_of};
 
 /// Goes over the fields of a schema among the elements of a value, in the schema's order.
@@ -82,11 +84,12 @@ fn rest_of_schema(schema: &[u32], kind: u32) -> Option<&[u32]>
     None
 }
 
-/// The name that the first element has to be, and the octets after it.
+/// The value of the Name that the first element has to be, and the octets after it.
 #[inline(always)]
-pub fn leading_name(value: &[u8]) -> Result<(Name<'_>, &[u8]), PacketFault>
-    ensures { on_result (λ x. Ok (components x.0, elements_of x.1.now)) Err result
-        ≡ leading_name_at (elements_of value.now) }
+fn leading_value(value: &[u8]) -> Result<(&[u8], &[u8]), PacketFault>
+    ensures exact { on_result (λ x. Ok (x.0.now, elements_of x.1.now)) Err result
+        ≡ name_first (elements_of value.now) }
+    ensures place { IfOk result (λ x. OthersAfter value.now x.1.now) }
 {
     if value.is_empty() {
         return Err(PacketFault::NoName);
@@ -95,8 +98,38 @@ pub fn leading_name(value: &[u8]) -> Result<(Name<'_>, &[u8]), PacketFault>
     if first.kind != NAME {
         return Err(PacketFault::NoName);
     }
-    match Name::read(first.value) {
+    Ok((first.value, rest))
+}
+
+/// The name that the first element has to be, and the octets after it.
+#[inline(always)]
+pub fn leading_name(value: &[u8]) -> Result<(Name<'_>, &[u8]), PacketFault>
+    ensures exact { on_result (λ x. Ok (components x.0, elements_of x.1.now)) Err result
+        ≡ leading_name_at (elements_of value.now) }
+    ensures place { IfOk result (λ x. OthersAfter value.now x.1.now) }
+{
+    let (first, rest) = leading_value(value)?;
+    match Name::read(first) {
         Ok(name) => Ok((name, rest)),
+        Err(_) => Err(PacketFault::BadField),
+    }
+}
+
+/// The name that the first element has to be, its first digest of parameters, and the octets after
+/// it.
+#[inline(always)]
+pub fn digested_name(
+    value: &[u8],
+) -> Result<(Name<'_>, Option<FirstOfType<'_>>, &[u8]), PacketFault>
+    ensures exact { on_result (λ x. Ok (components x.0, elements_of x.2.now)) Err result
+        ≡ leading_name_at (elements_of value.now) }
+    ensures digest { IfOk result
+        (λ x. FindsFirst PARAMETERS_SHA256_DIGEST (components x.0) x.1) }
+    ensures place { IfOk result (λ x. OthersAfter value.now x.2.now) }
+{
+    let (first, rest) = leading_value(value)?;
+    match Name::read_finding(first, PARAMETERS_SHA256_DIGEST) {
+        Ok((name, digest)) => Ok((name, digest, rest)),
         Err(_) => Err(PacketFault::BadField),
     }
 }

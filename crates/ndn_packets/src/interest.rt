@@ -1,16 +1,18 @@
-ghost use Rattle.std.specs.Prelude.{◌≡◌, Ok, Err, IfOk, OnSome, option_map, true, length, ◌==◌, if◌then◌else◌};
+ghost use Rattle.std.specs.Prelude.{◌≡◌, ◌≤◌, Ok, Err, IfOk, OnSome, option_map, true, length, ◌==◌, if◌then◌else◌};
 ghost use Rattle.ndn_packets.specs.Fields.{interest_schema, is_even_high};
 ghost use Rattle.ndn_packets.specs.declared.fault.PacketFault.TheVariants.{BadField};
 ghost use Rattle.ndn_tlv.specs.Reading.{elements_of, on_result};
 ghost use Rattle.ndn_names.specs.View.{components};
 ghost use Rattle.sha2.specs.Sha256.{sha256};
-ghost use Rattle.ndn_packets.specs.Packet.{digests_in, plain_signature};
+ghost use Rattle.ndn_packets.specs.Packet.{plain_signature};
 ghost use Rattle.ndn_packets.specs.Grammar.{IsInterest};
-ghost use Rattle.ndn_packets.specs.Reading.{read_fields, take_interest_field, no_fields_yet, fields_from, octet_at, is_nil, parameters_on, octets_of_read, digest_fault, signature_of};
-ghost use Rattle.ndn_packets.specs.SoFar.{AreDigests, plain_info, interest_so_far};
+ghost use Rattle.ndn_packets.specs.Covered.{HoldsSecond, IsSignedAt, second_part};
+ghost use Rattle.ndn_packets.specs.Reading.{read_fields, take_interest_field, no_fields_yet, fields_from, octet_at, is_nil, parameters_on, octets_of_read, fault_by, signature_of};
+ghost use Rattle.ndn_packets.specs.SoFar.{plain_info, interest_so_far};
 
+use crate::covered::octets_before;
 use crate::fault::PacketFault;
-use crate::field_reader::{FieldReader, leading_name, number};
+use crate::field_reader::{FieldReader, digested_name, number};
 use crate::frame::is_too_long;
 use crate::key::Key;
 use crate::schema::Rules;
@@ -19,9 +21,9 @@ use crate::types::{
     APPLICATION_PARAMETERS, CAN_BE_PREFIX, FORWARDING_HINT, HOP_LIMIT, INTEREST_LIFETIME,
     INTEREST_SIGNATURE_INFO, INTEREST_SIGNATURE_VALUE, MUST_BE_FRESH, NONCE,
 };
-use ndn_names::Name;
 use ndn_names::component_type::PARAMETERS_SHA256_DIGEST;
-use ndn_tlv::{Element, first_element};
+use ndn_names::{FirstOfType, Name};
+use ndn_tlv::Element;
 use sha2::{Digest, Sha256};
 
 /// An Interest, a view of the octets that it was read from (NDN Packet Format 0.3, "Interest
@@ -46,6 +48,9 @@ pub struct Interest<'a> {
     pub signature: Option<Signature<'a>>,
     /// The received octets of the whole packet, its type and length among them, at most 8,800.
     pub whole: &'a [u8],
+    /// The octets that the signature covers from the ApplicationParameters on, where it covers any.
+    pub(crate) covered: Option<&'a [u8]>,
+    ghost covers: { ∥ HoldsSecond (components name) whole.now (option_map (λ c. c.now) covered) ∥₁ },
     ghost spelled: { ∥ IsInterest whole.now (record {
       name = components name;
       can_be_prefix = can_be_prefix;
@@ -86,54 +91,8 @@ struct InterestFields<'a> {
     from_parameters: &'a [u8],
     info: Option<SignatureInfo<'a>>,
     value: Option<&'a [u8]>,
-}
-
-impl<'a> InterestFields<'a> {
-    ghost use Rattle.std.specs.Prelude.{◌≡◌, ℕ, ◌<◌, slice_index};
-    ghost use Rattle.ndn_packets.specs.Reading.{with_parameters};
-    ghost use Rattle.ndn_packets.specs.SoFar.{interest_so_far};
-
-    /// With the ApplicationParameters and the octets from these on.
-    #[inline(always)]
-    fn with_parameters(self, value: &'a [u8], here: &'a [u8]) -> InterestFields<'a>
-        ensures read { interest_so_far result
-            ≡ with_parameters (interest_so_far self.entry) value.entry.now }
-        ensures here { result.from_parameters.now ≡ here.entry.now }
-        // The proof of `fields_of` needs that octets are below 256.
-        ensures octets { (i : ℕ) → slice_index here.entry.now i < 256 }
-    {
-        InterestFields {
-            parameters: Some(value),
-            from_parameters: here,
-            ..self
-        }
-    }
-}
-
-/// The digests of parameters in a name: none, the only one, or more.
-#[derive(Clone, Copy)]
-pub enum Digests<'a> {
-    None,
-    One(&'a [u8]),
-    Many,
-}
-
-impl<'a> Digests<'a> {
-    ghost use Rattle.std.specs.Prelude.{List, [], ◌∷◌, ◌++◌};
-    ghost use Rattle.ndn_tlv.specs.Element.{Field};
-    ghost use Rattle.ndn_packets.specs.SoFar.{AreDigests};
-
-    /// These and one more.
-    #[inline(always)]
-    fn and(self, digest: &'a [u8]) -> Digests<'a>
-        ensures { (all : List Field) → AreDigests self.entry all
-            → AreDigests result (all ++ (PARAMETERS_SHA256_DIGEST, digest.entry.now) ∷ []) }
-    {
-        match self {
-            Digests::None => Digests::One(digest),
-            _ => Digests::Many,
-        }
-    }
+    /// The octets from the InterestSignatureValue on, where it is there.
+    from_value: &'a [u8],
 }
 
 impl<'a> Interest<'a> {
@@ -167,7 +126,7 @@ impl<'a> Interest<'a> {
         if is_too_long(outer.whole) {
             return Err(PacketFault::TooLong);
         }
-        let (name, rest) = leading_name(outer.value)?;
+        let (name, digest, rest) = digested_name(outer.value)?;
         if name.is_empty() {
             return Err(PacketFault::NoName);
         }
@@ -175,9 +134,10 @@ impl<'a> Interest<'a> {
         let Some(nonce) = found.nonce else {
             return Err(PacketFault::NoNonce);
         };
-        if let Some(fault) = digest_fault(name, found.parameters, found.from_parameters) {
+        if let Some(fault) = digest_fault(digest, found.parameters, found.from_parameters) {
             return Err(fault);
         }
+        let signature = signature_of(found.info, found.value);
         Ok(Interest {
             name,
             can_be_prefix: found.can_be_prefix,
@@ -186,50 +146,60 @@ impl<'a> Interest<'a> {
             lifetime: found.lifetime,
             hop_limit: found.hop_limit,
             parameters: found.parameters,
-            signature: signature_of(found.info, found.value),
+            signature,
             whole: outer.whole,
+            covered: second_part(signature, digest, found.from_parameters, found.from_value),
         })
     }
 }
 
-/// The digests of parameters in a name.
-#[inline(always)]
-pub fn digests_of(name: Name<'_>) -> Digests<'_>
-    ensures { AreDigests result (digests_in (components name.entry)) }
-{
-    let mut found = Digests::None;
-    let mut rest = name.as_octets();
-    // By elements, since `Name::iter` tests each component once more.
-    while let Ok((component, after)) = first_element(rest) {
-        if component.kind == u32::from(PARAMETERS_SHA256_DIGEST) {
-            found = found.and(component.value);
-        }
-        rest = after;
-    }
-    found
-}
-
-/// What is wrong with the digests of parameters in a name, where these are the octets from the
-/// parameters on.
+/// What is wrong with the digests of parameters in a name, of which this is the first one. These
+/// are the octets from the parameters on.
 #[inline(always)]
 fn digest_fault(
-    name: Name<'_>,
+    digest: Option<FirstOfType<'_>>,
     parameters: Option<&[u8]>,
     from_parameters: &[u8],
 ) -> Option<PacketFault>
     ensures { result
-        ≡ digest_fault (option_map (λ p. p.now) parameters.entry)
-        (digests_in (components name.entry)) (sha256 from_parameters.now) }
+        ≡ fault_by (option_map (λ p. p.now) parameters.entry) digest.entry
+        (sha256 from_parameters.now) }
 {
-    match (parameters, digests_of(name)) {
-        (None, Digests::None) => None,
-        (None, _) => Some(PacketFault::DigestWithout),
-        (Some(_), Digests::None) => Some(PacketFault::DigestMissing),
-        (Some(_), Digests::One(digest)) => {
+    match (parameters, digest) {
+        (None, None) => None,
+        (None, Some(_)) => Some(PacketFault::DigestWithout),
+        (Some(_), None) => Some(PacketFault::DigestMissing),
+        (Some(_), Some(digest)) => {
+            if !digest.is_only {
+                return Some(PacketFault::DigestWrong);
+            }
             let right = Sha256::digest(from_parameters);
-            (digest != right.as_slice()).then_some(PacketFault::DigestWrong)
+            (digest.value != right.as_slice()).then_some(PacketFault::DigestWrong)
         }
-        (Some(_), Digests::Many) => Some(PacketFault::DigestWrong),
+    }
+}
+
+/// The octets that a signature covers from the ApplicationParameters on: those before its value,
+/// where the digest of parameters is the name's last component.
+#[inline(always)]
+fn second_part<'a>(
+    signature: Option<Signature<'_>>,
+    digest: Option<FirstOfType<'_>>,
+    from_parameters: &'a [u8],
+    from_value: &'a [u8],
+) -> Option<&'a [u8]>
+    requires { OnSome signature (length from_value.now ≤ length from_parameters.now) }
+    ensures { option_map (λ c. c.now) result
+        ≡ second_part (option_map plain_signature signature.entry) digest.entry
+        from_parameters.entry.now from_value.entry.now }
+{
+    let (Some(_), Some(digest)) = (signature, digest) else {
+        return None;
+    };
+    if digest.is_last {
+        Some(octets_before(from_parameters, from_value))
+    } else {
+        None
     }
 }
 
@@ -248,7 +218,7 @@ fn signature_of<'a>(
     Some(info.with_value(value))
 }
 
-#[tactic(auto, using(crate::proofs::Parameters::stand_first, crate::proofs::Parameters::stand_still, crate::proofs::Parameters::stand_there))]
+#[tactic(auto, using(crate::proofs::Marks::interest_first, crate::proofs::Marks::interest_still, crate::proofs::Marks::interest_parameters, crate::proofs::Marks::interest_info, crate::proofs::Marks::interest_value))]
 /// The fields after the Name.
 #[inline(always)]
 fn fields_of(rest: &[u8]) -> Result<InterestFields<'_>, PacketFault>
@@ -258,6 +228,8 @@ fn fields_of(rest: &[u8]) -> Result<InterestFields<'_>, PacketFault>
     ensures parameters { IfOk result
         (λ f. OnSome f.parameters
         (f.from_parameters.now ≡ octets_of_read (parameters_on (elements_of rest.now)))) }
+    ensures value { IfOk result
+        (λ f. OnSome f.value (IsSignedAt rest.now f.from_parameters.now f.from_value.now)) }
 {
     let mut fields = FieldReader::new(Rules::Packet, rest, &FIELDS);
     let mut found = InterestFields {
@@ -270,6 +242,7 @@ fn fields_of(rest: &[u8]) -> Result<InterestFields<'_>, PacketFault>
         from_parameters: rest,
         info: None,
         value: None,
+        from_value: rest,
     };
     while let Some(field) = fields.next()? {
         match field.kind {
@@ -278,9 +251,15 @@ fn fields_of(rest: &[u8]) -> Result<InterestFields<'_>, PacketFault>
             NONCE => found.nonce = Some(nonce_of(field.value)?),
             INTEREST_LIFETIME => found.lifetime = number(field.value)?,
             HOP_LIMIT => found.hop_limit = Some(octet(field.value)?),
-            APPLICATION_PARAMETERS => found = found.with_parameters(field.value, fields.here),
+            APPLICATION_PARAMETERS => {
+                found.parameters = Some(field.value);
+                found.from_parameters = fields.here;
+            }
             INTEREST_SIGNATURE_INFO => found.info = Some(signature_info(field.value)?),
-            INTEREST_SIGNATURE_VALUE => found.value = Some(field.value),
+            INTEREST_SIGNATURE_VALUE => {
+                found.value = Some(field.value);
+                found.from_value = fields.here;
+            }
             _ => {}
         }
     }

@@ -4,13 +4,13 @@ use Rattle.ndn_packets.specs.Fields.{interest_schema, is_even_high}
 use Rattle.ndn_packets.specs.FieldReader.{fields_left}
 use Rattle.ndn_packets.specs.SoFar.{interest_so_far}
 use Rattle.ndn_packets.specs.Reading.{read_fields, take_interest_field, no_fields_yet, fields_from}
-use Rattle.ndn_packets.proofs.Parameters.{Stand}
+use Rattle.ndn_packets.proofs.Marks.{InterestMark}
 use Rattle.ndn_packets.proofs.interest.fields_of.Given as goal
 
 abbrev pub invariant-loop-field : goal.invariant-loop-field
 invariant-loop-field l =
     (read_fields take_interest_field (interest_so_far l.found) (fields_left l.fields) ≡ read_fields take_interest_field no_fields_yet (fields_from is_even_high interest_schema (elements_of l.fn.rest)))
-    × Stand l.fn.rest l.fields (interest_so_far l.found).parameters l.found.from_parameters.now
+    × InterestMark l.fn.rest l.fields (interest_so_far l.found).parameters (interest_so_far l.found).info (interest_so_far l.found).value l.found.from_parameters.now l.found.from_value.now
 
 abbrev pub decreases-loop-field : goal.decreases-loop-field
 decreases-loop-field l = length l.fields.rest.now

@@ -1,15 +1,32 @@
-use Rattle.std.proofs.Common.{sym, ◌∙◌}
-use Rattle.ndn_packets.specs.Packet.{AnInterest, plain_signature}
-use Rattle.ndn_packets.specs.View.{plain_interest}
-use Rattle.ndn_packets.proofs.Covers.{interest_covered, there_where, is_some_map}
-use Rattle.ndn_packets.proofs.Held.{interest_read}
+use Rattle.std.proofs.Common.{rules, ◌≡◌, List, ℕ, Some, None, refl}
+use Rattle.std.specs.Prelude.{option_map}
+use Rattle.ndn_packets.proofs.Held.{parts_none, parts_some, covers_where}
 use Rattle.ndn_packets.proofs.interest.Interest.signed_parts.Goals as goal
+
+pub returns-in_err-second-clause-exact : goal.returns-in_err-second-clause-exact
+returns-in_err-second-clause-exact c =
+    let none : c.args.self.now.covered ≡ None = search rules in
+    rw c.from_residual.ensures (parts_none c.args.self.now none)
+
+pub returns-in_err-second-clause-when : goal.returns-in_err-second-clause-when
+returns-in_err-second-clause-when c =
+    let none : c.args.self.now.covered ≡ None = search rules in
+    rw c.from_residual.ensures (λ s. absurd cc, λ e. (let there = (covers_where c.args.self.now).1 e in absurd (parts_none c.args.self.now none there.0 there.1 there.2)))
+
+pub slice_bounds-result-count : goal.slice_bounds-result-count
+slice_bounds-result-count c =
+    let i = c.args.self.now in
+    let some : option_map (λ x. x.now) i.covered ≡ Some c.in_ok-second.second.now = search rules in
+    (parts_some i c.as_octets-name.result.now c.in_ok-second.second.now some c.as_octets-name.ensures).0
+
+pub returns-clause-exact : goal.returns-clause-exact
+returns-clause-exact c =
+    let i = c.args.self.now in
+    let some : option_map (λ x. x.now) i.covered ≡ Some c.in_ok-second.second.now = search rules in
+    (parts_some i c.as_octets-name.result.now c.in_ok-second.second.now some c.as_octets-name.ensures).1
 
 pub returns-clause-when : goal.returns-clause-when
 returns-clause-when c =
     let i = c.args.self.now in
-    let signed = is_some_map plain_signature i.signature in
-    let covered = interest_covered i.whole.now (plain_interest i) (interest_read i) in
-    there_where (AnInterest i.whole.now (plain_interest i)) c.cut_parts.result _ c.cut_parts.ensures
-    (λ none e. let there = covered.1 (signed ∙ e.0, e.1) in none there.0 there.1 there.2)
-    (λ parts covers. let e = covered.0 (parts.first.now, parts.second.now, covers) in (sym signed ∙ e.0, e.1))
+    let some : option_map (λ x. x.now) i.covered ≡ Some c.in_ok-second.second.now = search rules in
+    (λ t. (covers_where i).0 _ _ (parts_some i c.as_octets-name.result.now c.in_ok-second.second.now some c.as_octets-name.ensures).1, λ e. refl)
