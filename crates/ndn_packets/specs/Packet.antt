@@ -23,6 +23,9 @@ pub record PlainSignature : Type 0 where
   pub info : PlainSignatureInfo
   pub value : List ℕ
 
+abbrev pub signed_with : PlainSignatureInfo → List ℕ → PlainSignature
+signed_with info value = record { info = info; value = value }
+
 pub record PlainInterest : Type 0 where
   pub name : List Field
   pub can_be_prefix : Bool

@@ -2,10 +2,12 @@
 -- Interest"; NDNLPv2, "Network Nack"): the fields that are asked for, each in its shortest form.
 use Rattle.std.specs.Prelude.{◌≡◌, ℕ, ◌<◌, List, [], ◌∷◌, ◌++◌, ◌-◌, ◌^◌, min, length, replicate, Option, None, Some, IfSome, OnSome, slice_index, Bool, nat_lt, flat_map, unwrap_or, ⊤, ◌||◌, not, if◌then◌else◌}
 use Rattle.std.specs.Option.{option_map}
+use Rattle.std.specs.Borrow.{Bor}
 use Rattle.sha2.specs.Sha256.{sha256}
 use Rattle.ndn_tlv.specs.Number.{shortest_nni}
 use Rattle.ndn_tlv.specs.Element.{Field, element}
 use Rattle.ndn_names.specs.declared.component_type.TheConstants.{SEGMENT}
+use Rattle.ndn_names.specs.declared.name.Name.{Name}
 use Rattle.ndn_names.specs.View.{components}
 use Rattle.ndn_names.specs.declared.component_type.TheConstants.{PARAMETERS_SHA256_DIGEST}
 use Rattle.ndn_packets.specs.declared.fault.WriteFault.{WriteFault}
@@ -15,8 +17,9 @@ use Rattle.ndn_packets.specs.declared.signature.Sign.{Sign}
 use Rattle.ndn_packets.specs.declared.signature.Sign.TheVariants as sign
 use Rattle.ndn_packets.specs.declared.interest_writer.InterestWriter.{InterestWriter}
 use Rattle.ndn_packets.specs.declared.data_writer.DataWriter.{DataWriter}
-use Rattle.ndn_packets.specs.Packet.{digests_in, PlainLocator, Missing, KeyName, PlainSignatureInfo, PlainInterest, PlainData}
+use Rattle.ndn_packets.specs.Packet.{digests_in, PlainLocator, Missing, KeyName, PlainSignatureInfo, PlainInterest, PlainData, AnInterest, AData}
 use Rattle.ndn_packets.specs.Fields.{optional, flag}
+use Rattle.ndn_packets.specs.Covered.{Covered}
 use Rattle.ndn_packets.specs.Reading.{is_nil}
 use Rattle.ndn_packets.specs.declared.types.TheConstants.{DIGEST_SHA256, HMAC_WITH_SHA256, APPLICATION_PARAMETERS, CAN_BE_PREFIX, CONTENT, DATA, FINAL_BLOCK_ID, FRAGMENT, FRESHNESS_PERIOD, HOP_LIMIT, INTEREST, INTEREST_LIFETIME, INTEREST_SIGNATURE_INFO, INTEREST_SIGNATURE_VALUE, KEY_LOCATOR, LINK_PACKET, META_INFO, MUST_BE_FRESH, NACK, NACK_REASON, NAME, NONCE, SIGNATURE_INFO, SIGNATURE_SEQ_NUM, SIGNATURE_TIME, SIGNATURE_TYPE, SIGNATURE_VALUE}
 
@@ -129,6 +132,12 @@ interest_asked w = record {
   }) w.sign;
 }
 
+-- a signature of it is of the octets that it covers
+abbrev pub SignsInterest : InterestWriter → Sign → Type 0
+SignsInterest w signed =
+    Covered (AnInterest (interest_text w) (interest_asked w)) (octets (components w.name))
+    (octets (covered_fields w signed))
+
 abbrev pub is_bad_name : List Field → Bool
 is_bad_name name = is_nil name || not (is_nil (digests_in name))
 
@@ -221,6 +230,21 @@ reply_text name content = signed_data sign.Digest name None (Some content)
 
 abbrev pub reply_asked : List Field → List ℕ → PlainData
 reply_asked name content = plain_data_of sign.Digest name 0 None (Some content)
+
+abbrev pub reply_of : Name → Bor (List ℕ) → DataWriter
+reply_of name content = record {
+  name = name;
+  freshness = None;
+  last = None;
+  content = Some content;
+  sign = sign.Digest;
+}
+
+-- its signature is of the octets that it covers
+abbrev pub SignsReply : List Field → List ℕ → Type 0
+SignsReply name content =
+    Covered (AData (reply_text name content) (reply_asked name content))
+    (octets (data_fields sign.Digest name None (Some content))) []
 
 -- ---- Nacks
 

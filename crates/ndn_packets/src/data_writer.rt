@@ -1,14 +1,11 @@
 ghost use Rattle.std.specs.Vec.{vec_capacity};
-ghost use Rattle.std.specs.Prelude.{◌≡◌, ◌+◌, ◌≤◌, ◌++◌, [], IsOk, None, Some, length, take, vec_len, option_map, OnOk, OnErr};
+ghost use Rattle.std.specs.Prelude.{◌≡◌, ◌+◌, ◌≤◌, ◌++◌, IsOk, length, take, vec_len, option_map, OnOk, OnErr};
 ghost use Rattle.ndn_tlv.specs.Number.{shortest_nni};
 ghost use Rattle.ndn_tlv.specs.Element.{element};
 ghost use Rattle.ndn_names.specs.View.{components};
-ghost use Rattle.ndn_packets.specs.Packet.{AData};
 ghost use Rattle.ndn_packets.specs.Grammar.{IsData};
-ghost use Rattle.ndn_packets.specs.Covered.{Covered};
 ghost use Rattle.ndn_packets.specs.Fields.{optional};
-ghost use Rattle.ndn_packets.specs.declared.signature.Sign.TheVariants as sign;
-ghost use Rattle.ndn_packets.specs.Writing.{octets, data_fields, last_fields, reply_text, reply_asked, IsU64};
+ghost use Rattle.ndn_packets.specs.Writing.{octets, last_fields, reply_text, reply_asked, reply_of, SignsReply, IsU64};
 
 use crate::fault::WriteFault;
 use crate::frame::MAX_PACKET;
@@ -247,9 +244,7 @@ pub fn put_reply(out: &mut Vec<u8>, name: Name<'_>, content: &[u8]) -> Result<()
         (reply_asked (components name.entry) content.now) }
     // The signature is of the octets that it covers.
     ensures signed { length (reply_text (components name.entry) content.now) ≤ 8800
-        → Covered (AData (reply_text (components name.entry) content.now)
-        (reply_asked (components name.entry) content.now))
-        (octets (data_fields sign.Digest (components name.entry) None (Some content.now))) [] }
+        → SignsReply (components name.entry) content.now }
 {
     let reply = reply(name, content);
     reply.put(out, reply.value_len())
@@ -257,13 +252,7 @@ pub fn put_reply(out: &mut Vec<u8>, name: Name<'_>, content: &[u8]) -> Result<()
 
 /// A Data of a name and a Content, without MetaInfo, signed with DigestSha256.
 fn reply<'a>(name: Name<'a>, content: &'a [u8]) -> DataWriter<'a>
-    ensures { result ≡ record {
-      name = name.entry;
-      freshness = None;
-      last = None;
-      content = Some content.entry;
-      sign = sign.Digest;
-    } }
+    ensures { result ≡ reply_of name.entry content.entry }
 {
     DataWriter {
         name,

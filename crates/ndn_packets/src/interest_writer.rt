@@ -58,9 +58,7 @@ impl InterestWriter<'_> {
     ghost use Rattle.std.specs.Prelude.{◌≡◌, ◌<◌, ◌≤◌, ◌+◌, ◌++◌, [], ◌∷◌, true, false, length, take, vec_len, IsOk, not, unwrap_or, option_map, None, OnOk, OnErr, Err, MatchOption, IfErr, IfSome, OnSome};
     ghost use Rattle.ndn_names.specs.View.{components};
     ghost use Rattle.ndn_packets.specs.Grammar.{IsInterest};
-    ghost use Rattle.ndn_packets.specs.Packet.{AnInterest};
-    ghost use Rattle.ndn_packets.specs.Covered.{Covered};
-    ghost use Rattle.ndn_packets.specs.Writing.{octets, is_bad_name, early_fields, later_fields, covered_fields, interest_value, interest_name, interest_fields, zeroed_name, interest_text, interest_asked, interest_refusal, IsLength, AreOctets, IsU64, IsSoundSign, SoundInterest};
+    ghost use Rattle.ndn_packets.specs.Writing.{octets, is_bad_name, early_fields, later_fields, covered_fields, interest_value, interest_name, interest_fields, zeroed_name, interest_text, interest_asked, interest_refusal, IsLength, AreOctets, IsU64, IsSoundSign, SignsInterest, SoundInterest};
     ghost use Rattle.ndn_packets.specs.Reading.{is_nil};
     ghost use Rattle.ndn_tlv.specs.Element.{element};
 
@@ -86,9 +84,7 @@ impl InterestWriter<'_> {
             → IsInterest (interest_text self.now) (interest_asked self.now) }
         // A signature is of the octets that it covers.
         ensures signed { interest_refusal self.now ≡ None
-            → IfSome self.now.sign
-            (λ signed. Covered (AnInterest (interest_text self.now) (interest_asked self.now))
-            (octets (components self.now.name)) (octets (covered_fields self.now signed))) }
+            → IfSome self.now.sign (SignsInterest self.now) }
     {
         let lengths = self.lengths();
         if let Some(fault) = self.refusal(lengths) {

@@ -92,16 +92,13 @@ pub struct SignatureInfo<'a> {
 
 impl<'a> SignatureInfo<'a> {
     ghost use Rattle.std.specs.Prelude.{◌≡◌};
-    ghost use Rattle.ndn_packets.specs.Packet.{plain_signature};
+    ghost use Rattle.ndn_packets.specs.Packet.{plain_signature, signed_with};
     ghost use Rattle.ndn_packets.specs.SoFar.{plain_info};
 
     /// The signature of this SignatureInfo and the value of a SignatureValue.
     #[inline(always)]
     pub fn with_value(self, value: &'a [u8]) -> Signature<'a>
-        ensures { plain_signature result ≡ record {
-          info = plain_info self.entry;
-          value = value.entry.now;
-        } }
+        ensures { plain_signature result ≡ signed_with (plain_info self.entry) value.entry.now }
     {
         Signature {
             kind: self.kind,
