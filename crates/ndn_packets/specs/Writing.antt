@@ -1,8 +1,11 @@
 -- What writers write (NDN Packet Format 0.3, "Interest Packet", "Data Packet", "Signature", "Signed
 -- Interest"; NDNLPv2, "Network Nack"): the fields that are asked for, each in its shortest form.
-use Rattle.std.specs.Prelude.{◌≡◌, ℕ, ◌<◌, List, [], ◌∷◌, ◌++◌, ◌-◌, ◌^◌, min, length, replicate, Option, None, Some, IfSome, OnSome, slice_index, Bool, nat_lt, flat_map, unwrap_or, ⊤, ◌||◌, not, if◌then◌else◌}
+use Rattle.std.specs.Prelude.{◌≡◌, ℕ, ◌<◌, ◌≤◌, ◌+◌, take, vec_len, Result, OnOk, IsOk, List, [], ◌∷◌, ◌++◌, ◌-◌, ◌^◌, min, length, replicate, Option, None, Some, IfSome, OnSome, slice_index, Bool, nat_lt, flat_map, unwrap_or, ⊤, ◌||◌, not, if◌then◌else◌}
 use Rattle.std.specs.Option.{option_map}
 use Rattle.std.specs.Borrow.{Bor}
+use Rattle.std.specs.Global.{Vec}
+use Rattle.std.specs.Vec.{vec_capacity}
+use Rattle.ndn_tlv.specs.declared.memory.Memory.{Memory}
 use Rattle.sha2.specs.Sha256.{sha256}
 use Rattle.ndn_tlv.specs.Number.{shortest_nni}
 use Rattle.ndn_tlv.specs.Element.{Field, element}
@@ -28,6 +31,15 @@ octets fields = flat_map element fields
 
 abbrev pub number : ℕ → Option ℕ → List Field
 number kind n = optional kind (option_map shortest_nni n)
+
+-- These octets are appended, where memory is not refused; else some octets of them may be. Where
+-- there is room, memory is not refused.
+pub record Puts (old new : Vec ℕ) (result : Result (Unit {0}) Memory) (octets : List ℕ) : Type 0
+  where
+    pub ok : OnOk result (new.items ≡ old.items ++ octets)
+    pub begins : take (vec_len old) new.items ≡ old.items
+    pub room : vec_len old + length octets ≤ vec_capacity old → IsOk result
+    pub capacity : vec_capacity old ≤ vec_capacity new
 
 -- ---- signatures
 

@@ -5,7 +5,7 @@ ghost use Rattle.ndn_tlv.specs.Element.{element};
 ghost use Rattle.ndn_names.specs.View.{components};
 ghost use Rattle.ndn_packets.specs.Grammar.{IsData};
 ghost use Rattle.ndn_packets.specs.Fields.{optional};
-ghost use Rattle.ndn_packets.specs.Writing.{octets, last_fields, reply_text, reply_asked, reply_of, SignsReply, IsU64};
+ghost use Rattle.ndn_packets.specs.Writing.{octets, last_fields, reply_text, reply_asked, reply_of, SignsReply, IsU64, Puts};
 
 use crate::fault::WriteFault;
 use crate::frame::MAX_PACKET;
@@ -45,7 +45,7 @@ impl DataWriter<'_> {
     ghost use Rattle.ndn_packets.specs.Packet.{AData};
     ghost use Rattle.ndn_packets.specs.Covered.{Covered};
     ghost use Rattle.ndn_packets.specs.Fields.{optional};
-    ghost use Rattle.ndn_packets.specs.Writing.{octets, fields_covered, fields_asked, meta_fields, meta_asked, data_text, data_asked, data_refusal, IsLength, IsU64, SoundData};
+    ghost use Rattle.ndn_packets.specs.Writing.{octets, fields_covered, fields_asked, meta_fields, meta_asked, data_text, data_asked, data_refusal, IsLength, IsU64, SoundData, Puts};
 
     /// Appends the Data, its fields in the standard's order and in their shortest forms, and none
     /// that is not asked for: without a FreshnessPeriod and a last segment there is no MetaInfo.
@@ -128,12 +128,7 @@ impl DataWriter<'_> {
     #[tactic(auto, using(crate::proofs::DataWriting::meta_absent, crate::proofs::DataWriting::meta_put))]
     /// Appends the MetaInfo, where there is one, or some octets of it.
     fn put_meta(&self, out: &mut Vec<u8>) -> Result<(), Memory>
-        ensures ok { OnOk result
-            (out.new.items ≡ out.old.items ++ octets (optional META_INFO (meta_asked self.now))) }
-        ensures begins { take (vec_len out.old) out.new.items ≡ out.old.items }
-        ensures room { vec_len out.old + length (octets (optional META_INFO (meta_asked self.now)))
-            ≤ vec_capacity out.old → IsOk result }
-        ensures capacity { vec_capacity out.old ≤ vec_capacity out.new }
+        ensures { Puts out.old out.new result (octets (optional META_INFO (meta_asked self.now))) }
     {
         let len = self.meta_len();
         if len == 0 {
@@ -148,12 +143,7 @@ impl DataWriter<'_> {
     #[tactic(auto, using(crate::proofs::DataWriting::covered_put))]
     /// Appends what the signature covers, or some octets of it.
     fn put_covered(&self, out: &mut Vec<u8>) -> Result<(), Memory>
-        ensures ok { OnOk result
-            (out.new.items ≡ out.old.items ++ octets (fields_covered self.now)) }
-        ensures begins { take (vec_len out.old) out.new.items ≡ out.old.items }
-        ensures room { vec_len out.old + length (octets (fields_covered self.now))
-            ≤ vec_capacity out.old → IsOk result }
-        ensures capacity { vec_capacity out.old ≤ vec_capacity out.new }
+        ensures { Puts out.old out.new result (octets (fields_covered self.now)) }
     {
         put_element(out, NAME, self.name.as_octets())?;
         self.put_meta(out)?;
@@ -166,11 +156,7 @@ impl DataWriter<'_> {
     /// than any memory has, that is refused.
     fn put_parts(&self, out: &mut Vec<u8>, value_len: usize) -> Result<(), Memory>
         requires { IsLength value_len (octets (fields_asked self.now)) }
-        ensures ok { OnOk result (out.new.items ≡ out.old.items ++ data_text self.now) }
-        ensures begins { take (vec_len out.old) out.new.items ≡ out.old.items }
-        ensures room { vec_len out.old + length (data_text self.now) ≤ vec_capacity out.old
-            → IsOk result }
-        ensures capacity { vec_capacity out.old ≤ vec_capacity out.new }
+        ensures { Puts out.old out.new result (data_text self.now) }
     {
         out.reserve(element_len(DATA, value_len))?;
         put_header(out, DATA, value_len)?;
@@ -214,11 +200,7 @@ fn last_len(last: Option<u64>) -> usize
 
 /// Appends a FinalBlockId, where there is one, or some octets of it.
 fn put_last(out: &mut Vec<u8>, last: Option<u64>) -> Result<(), Memory>
-    ensures ok { OnOk result (out.new.items ≡ out.old.items ++ octets (last_fields last)) }
-    ensures begins { take (vec_len out.old) out.new.items ≡ out.old.items }
-    ensures room { vec_len out.old + length (octets (last_fields last)) ≤ vec_capacity out.old
-        → IsOk result }
-    ensures capacity { vec_capacity out.old ≤ vec_capacity out.new }
+    ensures { Puts out.old out.new result (octets (last_fields last)) }
 {
     if let Some(last) = last {
         let kind = u32::from(SEGMENT);

@@ -5,7 +5,7 @@ ghost use Rattle.ndn_names.specs.View.{components};
 ghost use Rattle.ndn_packets.specs.Fields.{optional, flag};
 ghost use Rattle.ndn_packets.specs.Packet.{digests_in};
 ghost use Rattle.ndn_packets.specs.Reading.{is_nil};
-ghost use Rattle.ndn_packets.specs.Writing.{octets, IsLength};
+ghost use Rattle.ndn_packets.specs.Writing.{octets, IsLength, Puts};
 
 use crate::fault::WriteFault;
 use crate::frame::MAX_PACKET;
@@ -58,7 +58,7 @@ impl InterestWriter<'_> {
     ghost use Rattle.std.specs.Prelude.{◌≡◌, ◌<◌, ◌≤◌, ◌+◌, ◌++◌, [], ◌∷◌, true, false, length, take, vec_len, IsOk, not, unwrap_or, option_map, None, OnOk, OnErr, Err, MatchOption, IfErr, IfSome, OnSome};
     ghost use Rattle.ndn_names.specs.View.{components};
     ghost use Rattle.ndn_packets.specs.Grammar.{IsInterest};
-    ghost use Rattle.ndn_packets.specs.Writing.{octets, is_bad_name, early_fields, later_fields, covered_fields, interest_value, interest_name, interest_fields, zeroed_name, interest_text, interest_asked, interest_refusal, IsLength, AreOctets, IsU64, IsSoundSign, SignsInterest, SoundInterest};
+    ghost use Rattle.ndn_packets.specs.Writing.{octets, is_bad_name, early_fields, later_fields, covered_fields, interest_value, interest_name, interest_fields, zeroed_name, interest_text, interest_asked, interest_refusal, IsLength, AreOctets, IsU64, IsSoundSign, SignsInterest, SoundInterest, Puts};
     ghost use Rattle.ndn_packets.specs.Reading.{is_nil};
     ghost use Rattle.ndn_tlv.specs.Element.{element};
 
@@ -216,12 +216,7 @@ impl InterestWriter<'_> {
     /// Appends the fields from the ApplicationParameters on, or some octets of them.
     #[inline(always)]
     fn put_later(&self, out: &mut Vec<u8>) -> Result<(), Memory>
-        ensures ok { OnOk result
-            (out.new.items ≡ out.old.items ++ octets (later_fields self.now self.now.sign)) }
-        ensures begins { take (vec_len out.old) out.new.items ≡ out.old.items }
-        ensures room { vec_len out.old + length (octets (later_fields self.now self.now.sign))
-            ≤ vec_capacity out.old → IsOk result }
-        ensures capacity { vec_capacity out.old ≤ vec_capacity out.new }
+        ensures { Puts out.old out.new result (octets (later_fields self.now self.now.sign)) }
     {
         match self.sign {
             None => put_optional(out, APPLICATION_PARAMETERS, self.parameters),
@@ -261,12 +256,7 @@ impl InterestWriter<'_> {
     fn put_name(&self, out: &mut Vec<u8>, name_len: usize) -> Result<(), Memory>
         requires len { IsLength name_len (octets (interest_name self.now)) }
         requires short { length (octets (interest_name self.now)) ≤ 8800 }
-        ensures ok { OnOk result
-            (out.new.items ≡ out.old.items ++ element (NAME, octets (zeroed_name self.now))) }
-        ensures begins { take (vec_len out.old) out.new.items ≡ out.old.items }
-        ensures room { vec_len out.old + length (element (NAME, octets (zeroed_name self.now)))
-            ≤ vec_capacity out.old → IsOk result }
-        ensures capacity { vec_capacity out.old ≤ vec_capacity out.new }
+        ensures { Puts out.old out.new result (element (NAME, octets (zeroed_name self.now))) }
     {
         put_header(out, NAME, name_len)?;
         out.extend_from_slice(self.name.as_octets())?;
@@ -279,11 +269,7 @@ impl InterestWriter<'_> {
     /// Appends the fields between the name and the ApplicationParameters, or some octets of them.
     #[inline(always)]
     fn put_early(&self, out: &mut Vec<u8>) -> Result<(), Memory>
-        ensures ok { OnOk result (out.new.items ≡ out.old.items ++ octets (early_fields self.now)) }
-        ensures begins { take (vec_len out.old) out.new.items ≡ out.old.items }
-        ensures room { vec_len out.old + length (octets (early_fields self.now))
-            ≤ vec_capacity out.old → IsOk result }
-        ensures capacity { vec_capacity out.old ≤ vec_capacity out.new }
+        ensures { Puts out.old out.new result (octets (early_fields self.now)) }
     {
         put_flag(out, CAN_BE_PREFIX, self.can_be_prefix)?;
         put_flag(out, MUST_BE_FRESH, self.must_be_fresh)?;
@@ -298,12 +284,7 @@ impl InterestWriter<'_> {
     fn put_fields(&self, out: &mut Vec<u8>, name_len: usize) -> Result<(), Memory>
         requires len { IsLength name_len (octets (interest_name self.now)) }
         requires short { length (octets (interest_name self.now)) ≤ 8800 }
-        ensures ok { OnOk result
-            (out.new.items ≡ out.old.items ++ octets (interest_fields self.now)) }
-        ensures begins { take (vec_len out.old) out.new.items ≡ out.old.items }
-        ensures room { vec_len out.old + length (octets (interest_fields self.now))
-            ≤ vec_capacity out.old → IsOk result }
-        ensures capacity { vec_capacity out.old ≤ vec_capacity out.new }
+        ensures { Puts out.old out.new result (octets (interest_fields self.now)) }
     {
         self.put_name(out, name_len)?;
         let digest_end = out.len();
@@ -389,13 +370,8 @@ fn octet_field_len(kind: u32, octet: Option<u8>) -> usize
 #[inline(always)]
 fn put_octet_field(out: &mut Vec<u8>, kind: u32, octet: Option<u8>) -> Result<(), Memory>
     requires { 1 ≤ kind }
-    ensures ok { OnOk result
-        (out.new.items ≡ out.old.items ++ octets (optional kind (option_map (λ n. n ∷ []) octet))) }
-    ensures begins { take (vec_len out.old) out.new.items ≡ out.old.items }
-    ensures room { vec_len out.old + length
-        (octets (optional kind (option_map (λ n. n ∷ []) octet))) ≤ vec_capacity out.old
-        → IsOk result }
-    ensures capacity { vec_capacity out.old ≤ vec_capacity out.new }
+    ensures { Puts out.old out.new result
+        (octets (optional kind (option_map (λ n. n ∷ []) octet))) }
 {
     match octet {
         None => Ok(()),
@@ -411,11 +387,7 @@ fn put_octet_field(out: &mut Vec<u8>, kind: u32, octet: Option<u8>) -> Result<()
 #[inline(always)]
 fn put_flag(out: &mut Vec<u8>, kind: u32, set: bool) -> Result<(), Memory>
     requires { 1 ≤ kind }
-    ensures ok { OnOk result (out.new.items ≡ out.old.items ++ octets (flag kind set)) }
-    ensures begins { take (vec_len out.old) out.new.items ≡ out.old.items }
-    ensures room { vec_len out.old + length (octets (flag kind set)) ≤ vec_capacity out.old
-        → IsOk result }
-    ensures capacity { vec_capacity out.old ≤ vec_capacity out.new }
+    ensures { Puts out.old out.new result (octets (flag kind set)) }
 {
     if set {
         return put_header(out, kind, 0);

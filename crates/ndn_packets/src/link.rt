@@ -10,7 +10,7 @@ ghost use Rattle.ndn_packets.specs.View.{plain_frame};
 ghost use Rattle.ndn_packets.specs.Grammar.{IsInterest};
 ghost use Rattle.ndn_packets.specs.Link.{IsFrame, is_ignored_header};
 ghost use Rattle.ndn_packets.specs.FrameReading.{LinkSoFar, at_most, nack_at, fragment_at, last_of, link_at};
-ghost use Rattle.ndn_packets.specs.Writing.{nack_field, nack_text, IsLength};
+ghost use Rattle.ndn_packets.specs.Writing.{nack_field, nack_text, IsLength, Puts};
 
 use crate::fault::PacketFault;
 use crate::field_reader::{FieldReader, number};
@@ -226,11 +226,7 @@ fn nack_value_len(reason: u64, interest: &[u8]) -> usize
 #[tactic(auto, using(crate::proofs::Lengths::element_put))]
 /// Appends the header field of a Nack of a reason, or some octets of it.
 fn put_reason(out: &mut Vec<u8>, reason: u64) -> Result<(), Memory>
-    ensures ok { OnOk result (out.new.items ≡ out.old.items ++ nack_field reason) }
-    ensures begins { take (vec_len out.old) out.new.items ≡ out.old.items }
-    ensures room { vec_len out.old + length (nack_field reason) ≤ vec_capacity out.old
-        → IsOk result }
-    ensures capacity { vec_capacity out.old ≤ vec_capacity out.new }
+    ensures { Puts out.old out.new result (nack_field reason) }
 {
     put_header(out, NACK, nni_element_len(NACK_REASON, reason))?;
     put_nni_element(out, NACK_REASON, reason)?;

@@ -7,7 +7,7 @@ ghost use Rattle.ndn_tlv.specs.Number.{spelling, shortest_nni};
 ghost use Rattle.ndn_tlv.specs.Element.{element};
 ghost use Rattle.ndn_names.specs.View.{components};
 ghost use Rattle.ndn_packets.specs.Fields.{optional};
-ghost use Rattle.ndn_packets.specs.Writing.{octets, number, kind_of, locator_fields, info_fields, IsLength, AreOctets, IsU64, IsSoundSign};
+ghost use Rattle.ndn_packets.specs.Writing.{octets, number, kind_of, locator_fields, info_fields, IsLength, AreOctets, IsU64, IsSoundSign, Puts};
 
 use crate::signature::Sign;
 use crate::types::{
@@ -126,12 +126,7 @@ pub fn info_len(sign: Sign<'_>, time: Option<u64>, seq: Option<u64>) -> usize
 /// Appends the type of an element and the length of its value, or some octets of them.
 #[inline(always)]
 pub fn put_header(out: &mut Vec<u8>, kind: u32, value_len: usize) -> Result<(), Memory>
-    ensures ok { OnOk result
-        (out.new.items ≡ out.old.items ++ (spelling kind ++ spelling value_len)) }
-    ensures begins { take (vec_len out.old) out.new.items ≡ out.old.items }
-    ensures room { vec_len out.old + length ((spelling kind ++ spelling value_len))
-        ≤ vec_capacity out.old → IsOk result }
-    ensures capacity { vec_capacity out.old ≤ vec_capacity out.new }
+    ensures { Puts out.old out.new result (spelling kind ++ spelling value_len) }
 {
     put_number(out, u64::from(kind))?;
     put_number(out, value_len as u64)?;
@@ -141,12 +136,7 @@ pub fn put_header(out: &mut Vec<u8>, kind: u32, value_len: usize) -> Result<(), 
 /// Appends an element whose value is a number, or some octets of it.
 #[inline(always)]
 pub fn put_nni_element(out: &mut Vec<u8>, kind: u32, number: u64) -> Result<(), Memory>
-    ensures ok { OnOk result
-        (out.new.items ≡ out.old.items ++ element (kind, shortest_nni number)) }
-    ensures begins { take (vec_len out.old) out.new.items ≡ out.old.items }
-    ensures room { vec_len out.old + length (element (kind, shortest_nni number))
-        ≤ vec_capacity out.old → IsOk result }
-    ensures capacity { vec_capacity out.old ≤ vec_capacity out.new }
+    ensures { Puts out.old out.new result (element (kind, shortest_nni number)) }
 {
     put_header(out, kind, nni_len(number))?;
     put_nni(out, number)?;
@@ -156,11 +146,7 @@ pub fn put_nni_element(out: &mut Vec<u8>, kind: u32, number: u64) -> Result<(), 
 /// Appends a number's field, where it is there, or some octets of it.
 #[inline(always)]
 pub fn put_number_field(out: &mut Vec<u8>, kind: u32, asked: Option<u64>) -> Result<(), Memory>
-    ensures ok { OnOk result (out.new.items ≡ out.old.items ++ octets (number kind asked)) }
-    ensures begins { take (vec_len out.old) out.new.items ≡ out.old.items }
-    ensures room { vec_len out.old + length (octets (number kind asked)) ≤ vec_capacity out.old
-        → IsOk result }
-    ensures capacity { vec_capacity out.old ≤ vec_capacity out.new }
+    ensures { Puts out.old out.new result (octets (number kind asked)) }
 {
     match asked {
         None => Ok(()),
@@ -172,14 +158,8 @@ pub fn put_number_field(out: &mut Vec<u8>, kind: u32, asked: Option<u64>) -> Res
 #[inline(always)]
 pub fn put_optional(out: &mut Vec<u8>, kind: u32, value: Option<&[u8]>) -> Result<(), Memory>
     requires { 1 ≤ kind }
-    ensures ok { OnOk result
-        (out.new.items
-        ≡ out.old.items ++ octets (optional kind (option_map (λ v. v.now) value.entry))) }
-    ensures begins { take (vec_len out.old) out.new.items ≡ out.old.items }
-    ensures room { vec_len out.old + length
-        (octets (optional kind (option_map (λ v. v.now) value.entry))) ≤ vec_capacity out.old
-        → IsOk result }
-    ensures capacity { vec_capacity out.old ≤ vec_capacity out.new }
+    ensures { Puts out.old out.new result
+        (octets (optional kind (option_map (λ v. v.now) value.entry))) }
 {
     match value {
         None => Ok(()),
@@ -189,12 +169,7 @@ pub fn put_optional(out: &mut Vec<u8>, kind: u32, value: Option<&[u8]>) -> Resul
 
 /// Appends the KeyLocator, where there is one, or some octets of it.
 fn put_locator(out: &mut Vec<u8>, sign: Sign<'_>) -> Result<(), Memory>
-    ensures ok { OnOk result
-        (out.new.items ≡ out.old.items ++ octets (locator_fields sign.entry)) }
-    ensures begins { take (vec_len out.old) out.new.items ≡ out.old.items }
-    ensures room { vec_len out.old + length (octets (locator_fields sign.entry))
-        ≤ vec_capacity out.old → IsOk result }
-    ensures capacity { vec_capacity out.old ≤ vec_capacity out.new }
+    ensures { Puts out.old out.new result (octets (locator_fields sign.entry)) }
 {
     if let Sign::Hmac { name, .. } = sign {
         put_header(out, KEY_LOCATOR, name_element_len(name))?;
@@ -211,14 +186,8 @@ pub fn put_info(
     time: Option<u64>,
     seq: Option<u64>,
 ) -> Result<(), Memory>
-    ensures ok { OnOk result
-        (out.new.items
-        ≡ out.old.items ++ element (kind, octets (info_fields sign.entry time seq))) }
-    ensures begins { take (vec_len out.old) out.new.items ≡ out.old.items }
-    ensures room { vec_len out.old + length
-        (element (kind, octets (info_fields sign.entry time seq))) ≤ vec_capacity out.old
-        → IsOk result }
-    ensures capacity { vec_capacity out.old ≤ vec_capacity out.new }
+    ensures { Puts out.old out.new result
+        (element (kind, octets (info_fields sign.entry time seq))) }
 {
     put_header(out, kind, info_len(sign, time, seq))?;
     put_nni_element(out, SIGNATURE_TYPE, kind_of(sign))?;
