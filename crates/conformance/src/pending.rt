@@ -5,7 +5,7 @@ mod random_sequences;
 ghost use Rattle.std.specs.Prelude.{◌≡◌, ℕ, IfSome, IsSome, length};
 
 use crate::rows::check_rows;
-use ndn_names::NameBuf;
+use ndn_names::{Name, NameBuf};
 use ndn_packets::*;
 use pit_fib::*;
 use std::alloc::Global;
@@ -133,14 +133,24 @@ fn used_shown(alloc: Global, used: &Used) -> Option<String> {
 }
 
 /// Data of this name, with empty Content.
+fn empty_data(alloc: Global, name: Name<'_>) -> Option<Vec<u8>> {
+    let mut packet = Vec::new(alloc);
+    put_reply(&mut packet, name, &[]).ok()?;
+    Some(packet)
+}
+
+/// The faces to which a Data goes.
+fn faces_answered(table: &mut Table, packet: &[u8]) -> Option<Faces> {
+    match read_frame(packet).ok()? {
+        Frame::Data(data) => Some(table.satisfy(&data)),
+        _ => None,
+    }
+}
+
 fn satisfied(alloc: Global, table: &mut Table, uri: &str) -> Option<String> {
     let name = NameBuf::from_uri(alloc, uri).ok()?;
-    let mut packet = Vec::new(alloc);
-    put_reply(&mut packet, name.view(), &[]).ok()?;
-    let Frame::Data(data) = read_frame(&packet).ok()? else {
-        return None;
-    };
-    faces_shown(alloc, &table.satisfy(&data))
+    let packet = empty_data(alloc, name.view())?;
+    faces_shown(alloc, &faces_answered(table, &packet)?)
 }
 
 fn nacked_shown(alloc: Global, answer: Nacked) -> Option<String> {
@@ -308,87 +318,124 @@ fn exact_key(name: &NameBuf) -> Key<'_> {
     }
 }
 
-/// Interests under 4,096 keys, one more, and one under a key that stands.
-fn fills(alloc: Global) -> Option<bool> {
-    let mut table = Table::new(alloc);
-    for number in 0..4096 {
-        let name = numbered(alloc, number)?;
-        if table.ask(exact_key(&name), 1, [0; 4], 9).is_some() {
-            return Some(false);
-        }
-    }
-    let (known, new) = (numbered(alloc, 4095)?, numbered(alloc, 4096)?);
-    let is_full = table.ask(exact_key(&new), 1, [0; 4], 9) == Some(PitFault::PitFull);
-    Some(is_full && table.ask(exact_key(&known), 2, [0; 4], 9).is_none() && table.pit.len() == 4096)
+/// Keeps an Interest under the key of a number.
+fn ask_numbered(alloc: Global, table: &mut Table, number: u16, face: u64) -> Option<bool> {
+    let name = numbered(alloc, number)?;
+    Some(table.ask(exact_key(&name), face, [0; 4], 9).is_none())
 }
 
-/// Interests of 64 faces, all sent to 64 faces, and Data for all.
-fn holds_64_faces(alloc: Global) -> Option<bool> {
-    let mut table = Table::new(alloc);
-    let key = OwnedKey::read(alloc, "/A")?;
-    for face in 0..64 {
-        table.ask(key.view(), face, [0; 4], 9);
-    }
-    for face in 0..64 {
-        if !table.sent(key.view(), 0, face, [0; 4], 9) {
+/// Interests under 4,096 keys, one more, and one under a key that stands.
+fn fills(alloc: Global, table: &mut Table) -> Option<bool> {
+    for number in 0..4096 {
+        if !ask_numbered(alloc, table, number, 1)? {
             return Some(false);
         }
     }
-    let used = table.pit.used(key.view()).len();
-    let mut packet = Vec::new(alloc);
-    put_reply(&mut packet, key.name.view(), &[]).ok()?;
-    let Frame::Data(data) = read_frame(&packet).ok()? else {
-        return None;
-    };
-    Some(used == 64 && table.satisfy(&data).len() == 64)
+    let takes_new = ask_numbered(alloc, table, 4096, 1)?;
+    let takes_known = ask_numbered(alloc, table, 4095, 2)?;
+    Some(!takes_new && takes_known && table.pit.len() == 4096)
+}
+
+fn is_filled(alloc: Global) -> Option<bool> {
+    let mut table = Table::new(alloc);
+    fills(alloc, &mut table)
+}
+
+/// Whether Interests of 64 faces are all sent to 64 faces.
+fn sends_to_64_faces(table: &mut Table, key: Key<'_>) -> bool {
+    for face in 0..64 {
+        table.ask(key, face, [0; 4], 9);
+    }
+    for face in 0..64 {
+        if !table.sent(key, 0, face, [0; 4], 9) {
+            return false;
+        }
+    }
+    table.pit.used(key).len() == 64
+}
+
+/// Whether Interests of 64 faces are held, sent to all of them, and answered.
+fn holds_64_faces(alloc: Global, table: &mut Table, key: Key<'_>, _other: Key<'_>) -> Option<bool> {
+    let holds = sends_to_64_faces(table, key);
+    let packet = empty_data(alloc, key.name)?;
+    Some(holds && faces_answered(table, &packet)?.len() == 64)
+}
+
+/// Plays calls on an empty table, with the keys of `/A` and `/B`.
+fn played<F: Fn(Global, &mut Table, Key<'_>, Key<'_>) -> Option<bool>>(
+    alloc: Global,
+    play: &F,
+) -> Option<bool>
+    requires { F.IsAlwaysCallable play.now }
+{
+    let mut table = Table::new(alloc);
+    played_on(alloc, &mut table, play)
+}
+
+fn played_on<F: Fn(Global, &mut Table, Key<'_>, Key<'_>) -> Option<bool>>(
+    alloc: Global,
+    table: &mut Table,
+    play: &F,
+) -> Option<bool>
+    requires { F.IsAlwaysCallable play.now }
+{
+    let key = OwnedKey::read(alloc, "/A")?;
+    let other = OwnedKey::read(alloc, "/B")?;
+    play(alloc, table, key.view(), other.view())
 }
 
 #[test]
 fn full_tables(rt: HostRuntime) {
-    assert!(rt; fills(rt.alloc()) == Some(true));
-    assert!(rt; holds_64_faces(rt.alloc()) == Some(true));
+    assert!(rt; is_filled(rt.alloc()) == Some(true));
+    assert!(rt; played(rt.alloc(), &holds_64_faces) == Some(true));
 }
 
 /// Whether an Interest that is prepared is kept, removals between, and is sent on; and whether a
 /// preparation that is refused leaves the records.
-fn keeps_what_is_prepared(alloc: Global) -> Option<bool> {
-    let mut table = Table::new(alloc);
-    let (key, other) = (OwnedKey::read(alloc, "/A")?, OwnedKey::read(alloc, "/B")?);
-    if table.ask(other.view(), 1, [1; 4], 5).is_some() {
+fn keeps_what_is_prepared(
+    _alloc: Global,
+    table: &mut Table,
+    key: Key<'_>,
+    other: Key<'_>,
+) -> Option<bool> {
+    if table.ask(other, 1, [1; 4], 5).is_some() {
         return Some(table.pit.is_empty());
     }
-    if !table.prepare(key.view(), 4) {
-        return Some(table.pit.len() == 1 && table.pit.interest_of(other.view(), 1).is_some());
+    if !table.prepare(key, 4) {
+        return Some(table.pit.len() == 1 && table.pit.interest_of(other, 1).is_some());
     }
     table.expire(5);
-    let is_kept = table.ask(key.view(), 1, [2; 4], 9).is_none();
-    Some(is_kept && table.sent(key.view(), 1, 2, [2; 4], 6) && table.pit.len() == 1)
+    let is_kept = table.ask(key, 1, [2; 4], 9).is_none();
+    Some(is_kept && table.sent(key, 1, 2, [2; 4], 6) && table.pit.len() == 1)
 }
 
 /// Whether an Interest that is refused memory leaves the older one.
-fn leaves_the_older_one(alloc: Global) -> Option<bool> {
-    let mut table = Table::new(alloc);
-    let key = OwnedKey::read(alloc, "/A")?;
-    if table.ask(key.view(), 1, [1; 4], 5).is_some() {
+fn leaves_the_older_one(
+    _alloc: Global,
+    table: &mut Table,
+    key: Key<'_>,
+    _other: Key<'_>,
+) -> Option<bool> {
+    if table.ask(key, 1, [1; 4], 5).is_some() {
         return Some(table.pit.is_empty());
     }
-    let sent = table.sent(key.view(), 1, 2, [1; 4], 3);
-    let nonce = match table.ask(key.view(), 1, [2; 4], 5) {
+    let sent = table.sent(key, 1, 2, [1; 4], 3);
+    let nonce = match table.ask(key, 1, [2; 4], 5) {
         None => [2; 4],
         Some(_) => [1; 4],
     };
-    let kept = table.pit.interest_of(key.view(), 1) == Some(nonce.as_slice());
-    Some(sent && kept && table.pit.len() == 1 && table.pit.used(key.view()).get(2) == Some(3))
+    let kept = table.pit.interest_of(key, 1) == Some(nonce.as_slice());
+    Some(sent && kept && table.pit.len() == 1 && table.pit.used(key).get(2) == Some(3))
 }
 
 #[test]
 fn prepared_records(rt: HostRuntime) {
-    assert!(rt; keeps_what_is_prepared(rt.alloc()) == Some(true));
-    assert!(rt; leaves_the_older_one(rt.alloc()) == Some(true));
+    assert!(rt; played(rt.alloc(), &keeps_what_is_prepared) == Some(true));
+    assert!(rt; played(rt.alloc(), &leaves_the_older_one) == Some(true));
 }
 
 #[test]
 fn refused_memory_for_records(rt: HostRuntime) {
-    assert!(rt; keeps_what_is_prepared(rt.alloc()) != Some(false));
-    assert!(rt; leaves_the_older_one(rt.alloc()) != Some(false));
+    assert!(rt; played(rt.alloc(), &keeps_what_is_prepared) != Some(false));
+    assert!(rt; played(rt.alloc(), &leaves_the_older_one) != Some(false));
 }

@@ -60,6 +60,11 @@ fn reply_shown(alloc: Global, reply: &RepoReply) -> Option<String> {
     format!(in alloc; "{status}:{count} {name}{flag} {lifetime}").ok()
 }
 
+/// Gives a command of a name.
+fn answered(alloc: Global, repo: &mut Repo, name: Name<'_>, now: u64) -> Option<String> {
+    reply_shown(alloc, &repo.command(name, now).ok()?)
+}
+
 /// Gives a command: its verb, what it asks, the moment and perhaps a lifetime.
 fn command(alloc: Global, repo: &mut Repo, verb: &str, words: &str) -> Option<String> {
     let mut words = words.split(' ');
@@ -70,8 +75,7 @@ fn command(alloc: Global, repo: &mut Repo, verb: &str, words: &str) -> Option<St
         None => None,
     };
     let name = command_on(alloc, verb, asked, lifetime)?;
-    let reply = repo.command(name.view(), now).ok()?;
-    reply_shown(alloc, &reply)
+    answered(alloc, repo, name.view(), now)
 }
 
 /// Offers a Data: its name and its Content.
@@ -138,11 +142,14 @@ fn answer(alloc: Global, repo: &mut Repo, call: &str) -> Option<Option<String>> 
     }
 }
 
+/// A repository of the prefix `/repo` that holds nothing.
+fn empty_repo(alloc: Global) -> Option<Repo> {
+    Repo::new(alloc, NameBuf::from_uri(alloc, "/repo").ok()?).ok()
+}
+
 /// The answers of calls, one after the other.
 fn answers(alloc: Global, calls: &str) -> Option<String> {
-    let prefix = NameBuf::from_uri(alloc, "/repo").ok()?;
-    let mut repo = Repo::new(alloc, prefix).ok()?;
-    answers_of(alloc, &mut repo, calls)
+    answers_of(alloc, &mut empty_repo(alloc)?, calls)
 }
 
 fn answers_of(alloc: Global, repo: &mut Repo, calls: &str) -> Option<String> {
@@ -203,10 +210,7 @@ insert /A 5 0, check /A 5, expire 5, check /A 5 -> 100:0 /A 0, 100:0, 404:0
 /// it in hexadecimal; the word `digest` stands for a digest of zeros.
 fn first_answer(alloc: Global, text: &str) -> Option<String> {
     let name = name_in(alloc, text)?;
-    let prefix = NameBuf::from_uri(alloc, "/repo").ok()?;
-    let mut repo = Repo::new(alloc, prefix).ok()?;
-    let reply = repo.command(name.view(), 1000000).ok()?;
-    reply_shown(alloc, &reply)
+    answered(alloc, &mut empty_repo(alloc)?, name.view(), 1000000)
 }
 
 #[test]
@@ -278,18 +282,19 @@ fn repository_replies(rt: HostRuntime) {
     assert!(rt; repo_status_text(403).is_none());
 }
 
-/// The verb of a name, in a repository of the prefix `/repo`.
-fn verb_shown(alloc: Global, uri: &str) -> Option<String> {
-    let prefix = NameBuf::from_uri(alloc, "/repo").ok()?;
-    let repo = Repo::new(alloc, prefix).ok()?;
-    let name = NameBuf::from_uri(alloc, uri).ok()?;
-    let text = match repo.verb_of(name.view()) {
+fn verb_in(repo: &Repo, name: Name<'_>) -> &'static str {
+    match repo.verb_of(name) {
         Some(Verb::Insert) => "insert",
         Some(Verb::Delete) => "delete",
         Some(Verb::Check) => "check",
         None => "none",
-    };
-    String::from_str(alloc, text).ok()
+    }
+}
+
+/// The verb of a name, in a repository of the prefix `/repo`.
+fn verb_shown(alloc: Global, uri: &str) -> Option<String> {
+    let name = NameBuf::from_uri(alloc, uri).ok()?;
+    String::from_str(alloc, verb_in(&empty_repo(alloc)?, name.view())).ok()
 }
 
 #[test]
@@ -316,20 +321,22 @@ fn status_of(alloc: Global, repo: &mut Repo, verb: &str, number: usize) -> Optio
 }
 
 /// Whether 64 wants fit, no other does, and an equal one does.
-fn wants_are_limited(alloc: Global) -> Option<bool> {
-    let prefix = NameBuf::from_uri(alloc, "/repo").ok()?;
-    let mut repo = Repo::new(alloc, prefix).ok()?;
+fn limits_wants(alloc: Global, repo: &mut Repo) -> Option<bool> {
     for number in 0..64 {
-        if status_of(alloc, &mut repo, "insert", number)? != 100 {
+        if status_of(alloc, repo, "insert", number)? != 100 {
             return Some(false);
         }
     }
-    let new = status_of(alloc, &mut repo, "insert", 64)?;
-    let equal = status_of(alloc, &mut repo, "insert", 5)?;
-    let absent = status_of(alloc, &mut repo, "check", 64)?;
+    let new = status_of(alloc, repo, "insert", 64)?;
+    let equal = status_of(alloc, repo, "insert", 5)?;
+    let absent = status_of(alloc, repo, "check", 64)?;
     repo.expire(4000);
-    let later = status_of(alloc, &mut repo, "insert", 64)?;
+    let later = status_of(alloc, repo, "insert", 64)?;
     Some(new == 503 && equal == 100 && absent == 404 && later == 100)
+}
+
+fn wants_are_limited(alloc: Global) -> Option<bool> {
+    limits_wants(alloc, &mut empty_repo(alloc)?)
 }
 
 #[test]
@@ -337,34 +344,49 @@ fn sixty_four_wants(rt: HostRuntime) {
     assert!(rt; wants_are_limited(rt.alloc()) == Some(true));
 }
 
-/// Whether a command and an offer answer as prepared, or say that memory was refused, and a refusal
-/// changes nothing.
-fn is_prepared(alloc: Global) -> Option<bool> {
-    let prefix = NameBuf::from_uri(alloc, "/repo").ok()?;
+/// Calls on an empty repository, with an insert and a check of `/A` and a Data of that name.
+fn played<F: Fn(&mut Repo, Name<'_>, Name<'_>, &Data<'_>) -> Option<bool>>(
+    alloc: Global,
+    play: &F,
+) -> Option<bool>
+    requires { F.IsAlwaysCallable play.now }
+{
+    let mut repo = empty_repo(alloc)?;
+    played_on(alloc, &mut repo, play)
+}
+
+fn played_on<F: Fn(&mut Repo, Name<'_>, Name<'_>, &Data<'_>) -> Option<bool>>(
+    alloc: Global,
+    repo: &mut Repo,
+    play: &F,
+) -> Option<bool>
+    requires { F.IsAlwaysCallable play.now }
+{
     let insert = command_on(alloc, "insert", "/A", None)?;
     let check = command_on(alloc, "check", "/A", None)?;
     let packet = data_of(alloc, "/A", "01", None)?;
-    let mut repo = Repo::new(alloc, prefix).ok()?;
-    keeps_its_promises(&mut repo, insert.view(), check.view(), &packet)
+    match read_frame(&packet).ok()? {
+        Frame::Data(data) => play(repo, insert.view(), check.view(), &data),
+        _ => None,
+    }
 }
 
+/// Whether a command and an offer answer as prepared, or say that memory was refused, and a refusal
+/// changes nothing.
 fn keeps_its_promises(
     repo: &mut Repo,
     insert: Name<'_>,
     check: Name<'_>,
-    packet: &[u8],
+    data: &Data<'_>,
 ) -> Option<bool> {
-    let Frame::Data(data) = read_frame(packet).ok()? else {
-        return None;
-    };
     repo.prepare_command(insert).ok()?;
     repo.expire(0);
     if repo.command(insert, 0).is_err() {
         return Some(false);
     }
-    let was_prepared = repo.prepare_offer(&data).is_ok();
+    let was_prepared = repo.prepare_offer(data).is_ok();
     repo.expire(0);
-    let filled = repo.offer(&data);
+    let filled = repo.offer(data);
     let status = repo.command(check, 0).ok()?.status;
     match filled {
         Ok(filled) => Some(filled && status == 200),
@@ -374,27 +396,15 @@ fn keeps_its_promises(
 
 /// Whether an insert and an offer that nothing prepares have their effects, or none where memory is
 /// refused.
-fn stores_or_leaves(alloc: Global) -> Option<bool> {
-    let prefix = NameBuf::from_uri(alloc, "/repo").ok()?;
-    let insert = command_on(alloc, "insert", "/A", None)?;
-    let check = command_on(alloc, "check", "/A", None)?;
-    let packet = data_of(alloc, "/A", "01", None)?;
-    let mut repo = Repo::new(alloc, prefix).ok()?;
-    has_effects_or_none(&mut repo, insert.view(), check.view(), &packet)
-}
-
 fn has_effects_or_none(
     repo: &mut Repo,
     insert: Name<'_>,
     check: Name<'_>,
-    packet: &[u8],
+    data: &Data<'_>,
 ) -> Option<bool> {
-    let Frame::Data(data) = read_frame(packet).ok()? else {
-        return None;
-    };
     let inserted = repo.command(insert, 0).is_ok();
     let before = repo.command(check, 0).ok()?.status;
-    let filled = repo.offer(&data);
+    let filled = repo.offer(data);
     let after = repo.command(check, 0).ok()?.status;
     Some(match (inserted, filled) {
         (true, Ok(true)) => before == 100 && after == 200,
@@ -417,14 +427,14 @@ fn replies_or_leaves(alloc: Global) -> Option<bool> {
 
 #[test]
 fn repository_with_refused_memory(rt: HostRuntime) {
-    assert!(rt; is_prepared(rt.alloc()) != Some(false));
-    assert!(rt; stores_or_leaves(rt.alloc()) != Some(false));
+    assert!(rt; played(rt.alloc(), &keeps_its_promises) != Some(false));
+    assert!(rt; played(rt.alloc(), &has_effects_or_none) != Some(false));
     assert!(rt; replies_or_leaves(rt.alloc()) != Some(false));
 }
 
 #[test]
 fn repository_prepared(rt: HostRuntime) {
-    assert!(rt; is_prepared(rt.alloc()) == Some(true));
-    assert!(rt; stores_or_leaves(rt.alloc()) == Some(true));
+    assert!(rt; played(rt.alloc(), &keeps_its_promises) == Some(true));
+    assert!(rt; played(rt.alloc(), &has_effects_or_none) == Some(true));
     assert!(rt; replies_or_leaves(rt.alloc()) == Some(true));
 }

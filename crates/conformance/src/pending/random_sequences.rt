@@ -1,6 +1,6 @@
 //! Random calls of a table, beside plain lists of records that are filtered for each answer.
 
-use super::{OwnedKey, Table};
+use super::{OwnedKey, Table, faces_answered};
 use ndn_names::NameBuf;
 use ndn_packets::*;
 use pit_fib::*;
@@ -156,6 +156,24 @@ fn shows_all(table: &Table, records: &Records, keys: &[OwnedKey]) -> bool {
     table.pit.len() == records.len()
 }
 
+/// Whether a face asks for what is answered.
+fn is_asking(records: &Records, answered: &[bool], face: u64) -> bool {
+    records.asks.iter().any(|ask| ask.face == face && answered.get(ask.key) == Some(&true))
+}
+
+/// Whether these of three faces ask for what is answered.
+fn are_asking(records: &Records, answered: &[bool], faces: &Faces) -> bool {
+    let mut asking: usize = 0;
+    for face in 0..3 {
+        let asks = is_asking(records, answered, face);
+        if faces.contains(face) != asks {
+            return false;
+        }
+        asking = asking.saturating_add(usize::from(asks));
+    }
+    faces.len() == asking
+}
+
 /// Whether a Data goes to the faces that the records have.
 fn satisfy_agrees(
     table: &mut Table,
@@ -164,24 +182,12 @@ fn satisfy_agrees(
     at: usize,
 ) -> Option<bool> {
     let (_, answered) = ANSWERED.get(at)?;
-    let Frame::Data(data) = read_frame(packets.get(at)?).ok()? else {
-        return None;
-    };
-    let faces = table.satisfy(&data);
-    let mut agrees = true;
-    let mut asking: usize = 0;
-    for face in 0..3 {
-        let asks = records.asks.iter().any(|ask| ask.face == face
-            && answered.get(ask.key) == Some(&true));
-        agrees = agrees && faces.contains(face) == asks;
-        if asks {
-            asking = asking.saturating_add(1);
-        }
-    }
+    let faces = faces_answered(table, packets.get(at)?)?;
+    let agrees = are_asking(records, answered, &faces);
     records
         .asks
         .retain(|ask| answered.get(ask.key) != Some(&true));
-    Some(agrees && faces.len() == asking)
+    Some(agrees)
 }
 
 /// How often a Nack came to each answer but the first, and an Interest looped.

@@ -1,6 +1,7 @@
 //! A repository that is full.
 
-use ndn_names::{Name, NameBuf};
+use super::empty_repo;
+use ndn_names::Name;
 use ndn_packets::{Frame, read_frame};
 use repo_core::Repo;
 use std::alloc::Global;
@@ -36,27 +37,25 @@ fn fills(repo: &mut Repo, number: u32) -> bool {
 }
 
 /// Whether 65,536 objects and wants fit and no other, while an equal want does.
-fn holds_so_many(alloc: Global) -> bool {
-    let Ok(prefix) = NameBuf::from_uri(alloc, "/repo") else {
-        return false;
-    };
-    let Ok(mut repo) = Repo::new(alloc, prefix) else {
-        return false;
-    };
+fn holds_so_many(repo: &mut Repo) -> bool {
     for number in 0..65_535 {
-        if !inserts(&mut repo, number, 100) || !fills(&mut repo, number) {
+        if !inserts(repo, number, 100) || !fills(repo, number) {
             return false;
         }
     }
-    inserts(&mut repo, 65_535, 100)
-        && inserts(&mut repo, 65_536, 503)
-        && inserts(&mut repo, 65_535, 100)
-        && fills(&mut repo, 65_535)
-        && inserts(&mut repo, 65_536, 503)
-        && inserts(&mut repo, 65_535, 200)
+    inserts(repo, 65_535, 100)
+        && inserts(repo, 65_536, 503)
+        && inserts(repo, 65_535, 100)
+        && fills(repo, 65_535)
+        && inserts(repo, 65_536, 503)
+        && inserts(repo, 65_535, 200)
+}
+
+fn is_filled(alloc: Global) -> Option<bool> {
+    Some(holds_so_many(&mut empty_repo(alloc)?))
 }
 
 #[test]
 fn full_repository(rt: HostRuntime) {
-    assert!(rt; holds_so_many(rt.alloc()));
+    assert!(rt; is_filled(rt.alloc()) == Some(true));
 }

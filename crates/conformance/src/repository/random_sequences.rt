@@ -1,8 +1,7 @@
 //! Random calls of a repository, beside plain lists that are searched from end to end.
 
-use super::command_on;
+use super::{asking, command_on, empty_repo};
 use crate::packets::{data_of, digest_of};
-use ndn_names::NameBuf;
 use ndn_packets::*;
 use repo_core::*;
 use std::alloc::Global;
@@ -66,9 +65,8 @@ fn answers(made: &Made, name: usize, can_be_prefix: bool) -> bool {
 fn number(all: &[Made], plain: &Plain, name: usize, can_be_prefix: bool) -> Option<u64> {
     let mut count: u64 = 0;
     for place in &plain.objects {
-        if answers(all.get(*place)?, name, can_be_prefix) {
-            count = count.checked_add(1)?;
-        }
+        let is_one = answers(all.get(*place)?, name, can_be_prefix);
+        count = count.saturating_add(u64::from(is_one));
     }
     Some(count)
 }
@@ -173,6 +171,14 @@ fn offer_agrees(all: &[Made], repo: &mut Repo, plain: &mut Plain, state: &mut u6
     Some(repo.offer(&data).ok()? == is_filled)
 }
 
+/// Whether an Interest is served these octets.
+fn is_served(repo: &Repo, packet: &[u8], expected: Option<&[u8]>) -> Option<bool> {
+    match read_frame(packet).ok()? {
+        Frame::Interest(interest) => Some(repo.serve(&interest) == expected),
+        _ => None,
+    }
+}
+
 /// Whether an Interest is served as expected.
 fn serve_agrees(
     alloc: Global,
@@ -182,56 +188,62 @@ fn serve_agrees(
     state: &mut u64,
 ) -> Option<bool> {
     let (name, flag) = (random(state, 5) as usize, random(state, 2) == 1);
-    let uri = NameBuf::from_uri(alloc, NAMES.get(name)?).ok()?;
-    let writer = InterestWriter {
-        name: uri.view(),
-        can_be_prefix: flag,
-        must_be_fresh: random(state, 2) == 1,
-        nonce: [0; 4],
-        lifetime: None,
-        hop_limit: None,
-        parameters: None,
-        sign: None,
-        time: None,
-        seq: None,
+    let prefix_mark = if flag { "*" } else { "" };
+    let fresh_mark = if random(state, 2) == 1 { "!" } else { "" };
+    let uri = NAMES.get(name)?;
+    let asked = format!(in alloc; "{uri}{prefix_mark}{fresh_mark}").ok()?;
+    let packet = asking(alloc, &asked)?;
+    let expected = match least(all, plain, name, flag)? {
+        Some(one) => Some(one.packet.as_slice()),
+        None => None,
     };
-    let mut packet = Vec::new(alloc);
-    writer.write(&mut packet).ok()?;
-    let Frame::Interest(interest) = read_frame(&packet).ok()? else {
-        return None;
-    };
-    let served = repo.serve(&interest);
-    Some(match least(all, plain, name, flag)? {
-        Some(one) => served == Some(one.packet.as_slice()),
-        None => served.is_none(),
-    })
+    is_served(repo, &packet, expected)
 }
 
-/// Whether ten random calls answer as the lists do.
-fn sequence_agrees(alloc: Global, all: &[Made], state: &mut u64) -> Option<bool> {
-    let prefix = NameBuf::from_uri(alloc, "/repo").ok()?;
-    let mut repo = Repo::new(alloc, prefix).ok()?;
-    let mut plain = Plain {
-        objects: Vec::new(alloc),
-        wants: Vec::new(alloc),
-    };
+/// Whether a random call answers as the lists do.
+fn call_agrees(
+    alloc: Global,
+    all: &[Made],
+    repo: &mut Repo,
+    plain: &mut Plain,
+    state: &mut u64,
+) -> Option<bool> {
+    match random(state, 8) {
+        0 => serve_agrees(alloc, all, repo, plain, state),
+        1 => {
+            let now = random(state, 30);
+            plain.wants.retain(|want| want.deadline > now);
+            repo.expire(now);
+            Some(true)
+        }
+        2 | 3 => offer_agrees(all, repo, plain, state),
+        _ => command_agrees(alloc, all, repo, plain, state),
+    }
+}
+
+/// Whether ten random calls do.
+fn calls_agree(
+    alloc: Global,
+    all: &[Made],
+    repo: &mut Repo,
+    plain: &mut Plain,
+    state: &mut u64,
+) -> Option<bool> {
     for _ in 0..10 {
-        let agrees = match random(state, 8) {
-            0 => serve_agrees(alloc, all, &repo, &plain, state)?,
-            1 => {
-                let now = random(state, 30);
-                plain.wants.retain(|want| want.deadline > now);
-                repo.expire(now);
-                true
-            }
-            2 | 3 => offer_agrees(all, &mut repo, &mut plain, state)?,
-            _ => command_agrees(alloc, all, &mut repo, &mut plain, state)?,
-        };
-        if !agrees {
+        if !call_agrees(alloc, all, repo, plain, state)? {
             return Some(false);
         }
     }
     Some(true)
+}
+
+/// Whether they do on an empty repository.
+fn sequence_agrees(alloc: Global, all: &[Made], state: &mut u64) -> Option<bool> {
+    let mut plain = Plain {
+        objects: Vec::new(alloc),
+        wants: Vec::new(alloc),
+    };
+    calls_agree(alloc, all, &mut empty_repo(alloc)?, &mut plain, state)
 }
 
 /// Whether ten thousand sequences do.
