@@ -264,11 +264,13 @@ fn add_4096(alloc: Global, station: &mut Station) -> Option<()> {
 
 /// Whether a name more is refused, after a name that is too long and a face that is not up, and a
 /// hop more is not.
-fn refuses_one_name_more(alloc: Global) -> Option<bool> {
+fn refuses_one_name_more(alloc: Global, station: &mut Station) -> Option<bool> {
     let (more, known) = (numbered(alloc, 4096)?, numbered(alloc, 4095)?);
-    let too_deep = deep(alloc, 33)?;
-    let mut station = filled(alloc)?;
-    Some(is_full(&mut station, &too_deep, &more, &known))
+    Some(is_full(station, &deep(alloc, 33)?, &more, &known))
+}
+
+fn names_are_limited(alloc: Global) -> Option<bool> {
+    refuses_one_name_more(alloc, &mut filled(alloc)?)
 }
 
 fn is_full(station: &mut Station, too_deep: &NameBuf, more: &NameBuf, known: &NameBuf) -> bool {
@@ -300,14 +302,15 @@ fn are_4096_routes(text: &[u8]) -> bool {
 
 /// Whether 4,095 names find a strategy beside `/`, and one more does not, but comes after an unknown
 /// strategy.
-fn refuses_one_strategy_more(alloc: Global) -> Option<bool> {
+fn refuses_one_strategy_more(alloc: Global, station: &mut Station) -> Option<bool> {
     let multicast = NameBuf::from_uri(alloc, "/localhost/nfd/strategy/multicast").ok()?;
     let (more, known) = (numbered(alloc, 4096)?, numbered(alloc, 1)?);
-    let mut station = Station::new(alloc)?;
-    Some(
-        sets_4095(alloc, &mut station, &multicast)
-            && refuses_strategy(&mut station, &more, &known, &multicast),
-    )
+    let is_set = sets_4095(alloc, station, &multicast);
+    Some(is_set && refuses_strategy(station, &more, &known, &multicast))
+}
+
+fn strategies_are_limited(alloc: Global) -> Option<bool> {
+    refuses_one_strategy_more(alloc, &mut Station::new(alloc)?)
 }
 
 fn sets_4095(alloc: Global, station: &mut Station, strategy: &NameBuf) -> bool {
@@ -348,8 +351,8 @@ fn set(station: &mut Station, name: &NameBuf, strategy: &NameBuf) -> u16 {
 
 #[test]
 fn full_tables(rt: HostRuntime) {
-    assert!(rt; refuses_one_name_more(rt.alloc()) == Some(true));
-    assert!(rt; refuses_one_strategy_more(rt.alloc()) == Some(true));
+    assert!(rt; names_are_limited(rt.alloc()) == Some(true));
+    assert!(rt; strategies_are_limited(rt.alloc()) == Some(true));
     assert!(rt; lists_4096_routes(rt.alloc()) == Some(true));
 }
 
@@ -428,13 +431,20 @@ fn segment_packet<'a>(
     Some(packet)
 }
 
+/// The Data of a list's first segment.
+fn first_segment(alloc: Global, text: &[u8]) -> Option<Vec<u8>> {
+    let (segment, last) = segment_of(text, 0)?;
+    let name = NameBuf::from_uri(alloc, "/localhost/nfd/fib/list/v=2/seg=0").ok()?;
+    segment_packet(alloc, name.view(), segment, last)
+}
+
+fn one_route_listed(alloc: Global) -> Option<Vec<u8>> {
+    fib_dataset(alloc, &routes_in(alloc, "/A 7 0")?).ok()
+}
+
 /// Whether the segment is written as it stands there.
 fn writes_the_segment(alloc: Global) -> Option<bool> {
-    let fib = routes_in(alloc, "/A 7 0")?;
-    let text = fib_dataset(alloc, &fib).ok()?;
-    let (segment, last) = segment_of(&text, 0)?;
-    let name = NameBuf::from_uri(alloc, "/localhost/nfd/fib/list/v=2/seg=0").ok()?;
-    let packet = segment_packet(alloc, name.view(), segment, last)?;
+    let packet = first_segment(alloc, &one_route_listed(alloc)?)?;
     Some(packet.as_slice() == octets(alloc, LIST_OF_ONE_ROUTE)?.as_slice())
 }
 
