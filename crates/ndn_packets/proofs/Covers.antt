@@ -1,6 +1,6 @@
 -- Which packets have octets that a signature covers, and which octets these are.
 use Rattle.std.proofs.Common.{◌≡◌, ◌≢◌, ℕ, suc, ◌+◌, ◌-◌, ◌≤◌, ◌⊎◌, Bool, true, false, cond, eqb, List, [], ◌∷◌, ◌++◌, length, take, Option, None, Some, refl, sym, ap, subst, ◌∙◌, append_assoc, arith, inl, inr}
-use Rattle.std.specs.Prelude.{◌↔◌, IsSome, OnSome, IsSomeAnd, is_some, option_map}
+use Rattle.std.specs.Prelude.{IsSome, OnSome, is_some, option_map}
 use Rattle.std.specs.List.{flat_map, AllByRecursion}
 use Rattle.std.proofs.lemmas.Bool.{eqb-true, eqb-false, ne_eqb}
 use Rattle.std.proofs.lemmas.List.{append-nil, length-append, take_at, append_cancel_right}
@@ -8,11 +8,10 @@ use Rattle.std.proofs.lemmas.List.Concat.{flat_map-cons, flat_map-append}
 use Rattle.std.proofs.lemmas.List.Elements.{filter-append}
 use Rattle.sha2.specs.Sha256.{sha256}
 use Rattle.ndn_tlv.specs.Element.{Field, IsField, element, IsElement, IsElements}
-use Rattle.ndn_packets.specs.declared.covered.Parts.{Parts}
 use Rattle.ndn_packets.specs.Packet.{PlainSignature, PlainInterest, PlainData, PlainFrame, AnInterest, AData, ANack, Idle, digests_in}
 use Rattle.ndn_packets.specs.Fields.{Fields, optional, flag, is_even_high, interest_schema}
 use Rattle.ndn_packets.specs.Grammar.{IsSigned, IsDigested, from_parameters, IsInterest, IsData}
-use Rattle.ndn_packets.specs.Covered.{IsCut, from_first, CoversData, CoversInterest, Covered, AreParts, EndsInDigest, EndsAtSignature, HoldsSecond, IsSignedAt, second_part}
+use Rattle.ndn_packets.specs.Covered.{IsCut, from_first, CoversData, CoversInterest, Covered, EndsInDigest, EndsAtSignature, HoldsSecond, IsSignedAt, second_part}
 use Rattle.ndn_packets.proofs.Steps.{ok_is, some_is, none_is_not_some}
 use Rattle.ndn_names.specs.declared.first_of_type.FirstOfType.{FirstOfType}
 use Rattle.ndn_tlv.specs.Number.{spelling}

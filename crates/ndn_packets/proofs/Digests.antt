@@ -1,5 +1,5 @@
 -- The digest of parameters that a name has to have.
-use Rattle.std.proofs.Common.{◌≡◌, ◌≢◌, ℕ, Bool, true, false, cond, eqb, List, [], ◌∷◌, ◌++◌, map, Option, Some, None, Result, Err, refl, sym, ap, subst, ◌∙◌, eq-eqb, append_assoc}
+use Rattle.std.proofs.Common.{◌≡◌, ◌≢◌, ℕ, Bool, true, false, cond, eqb, List, [], ◌∷◌, ◌++◌, map, Option, Some, None, refl, sym, ap, subst, ◌∙◌}
 use Rattle.std.specs.Prelude.{OnSome, option_map}
 use Rattle.std.specs.List.{AllByRecursion, flat_map}
 use Rattle.std.specs.Str.{bytes_eq}
@@ -7,10 +7,7 @@ use Rattle.std.proofs.lemmas.Bool.{eqb-true, eqb-false, ne_eqb}
 use Rattle.std.proofs.lemmas.List.Elements.{filter-append}
 use Rattle.std.proofs.lemmas.Slice.Eq.{bytes_eq-Decides}
 use Rattle.sha2.specs.Sha256.{sha256}
-use Rattle.ndn_tlv.specs.declared.fault.TlvFault.{TlvFault}
 use Rattle.ndn_tlv.specs.Element.{Field, element}
-use Rattle.ndn_tlv.specs.Reading.{elements_of}
-use Rattle.ndn_tlv.proofs.Fields.{elements_exact, elements_of-nil}
 use Rattle.ndn_names.specs.declared.first_of_type.FirstOfType.{FirstOfType}
 use Rattle.ndn_names.specs.FirstOfType.{NoneOfType, IsFirstOfType, FindsFirst}
 use Rattle.ndn_packets.specs.declared.fault.PacketFault.{PacketFault}

@@ -4,7 +4,6 @@ use Rattle.std.specs.Prelude.{IsSome, OnSome, option_map}
 use Rattle.std.specs.List.{AllByRecursion}
 use Rattle.std.proofs.lemmas.Bool.{eqb-true, eqb-false, ne_eqb}
 use Rattle.ndn_tlv.specs.declared.element.Element.{Element}
-use Rattle.ndn_tlv.specs.Element.{Field}
 use Rattle.ndn_tlv.specs.Reading.{element_at}
 use Rattle.ndn_packets.specs.declared.field_reader.FieldReader.{FieldReader}
 use Rattle.ndn_packets.specs.Fields.{needs_previous_field, interest_schema}

@@ -1,20 +1,18 @@
-use Rattle.std.proofs.Common.{rules, ◌≡◌, ◌≢◌, ◌≤◌, ◌∙◌, ℕ, false, ltb, List, length, Option, None, Some, Result, Ok, refl, sym, ap, subst, arith}
+use Rattle.std.proofs.Common.{rules, ◌≡◌, ◌∙◌, ℕ, false, ltb, List, length, Option, None, Some, Result, Ok, refl, sym, ap, subst}
 use Rattle.std.specs.Prelude.{OnSome}
 use Rattle.std.specs.Option.{option_map}
-use Rattle.std.proofs.lemmas.Bool.{eqb-false}
 use Rattle.sha2.specs.Sha256.{sha256}
 use Rattle.ndn_tlv.specs.declared.fault.TlvFault.{TlvFault}
 use Rattle.ndn_tlv.specs.Element.{Field, IsElement}
 use Rattle.ndn_tlv.specs.Reading.{elements_of}
-use Rattle.ndn_tlv.proofs.Numbers.{IsBytes}
 use Rattle.ndn_names.specs.View.{components}
 use Rattle.ndn_packets.specs.Packet.{PlainInterest, PlainSignature, PlainSignatureInfo, plain_signature, digests_in}
 use Rattle.ndn_packets.specs.Fields.{interest_schema, is_even_high}
 use Rattle.ndn_packets.specs.SoFar.{interest_so_far, plain_info}
-use Rattle.ndn_packets.specs.Covered.{from_first, IsSignedAt, HoldsSecond}
+use Rattle.ndn_packets.specs.Covered.{HoldsSecond}
 use Rattle.ndn_packets.specs.Reading.{InterestSoFar, leading_name_at, is_nil, read_fields, take_interest_field, no_fields_yet, fields_from, digest_fault, parameters_on, octets_of_read, interest_made, signature_of, interest_at}
 use Rattle.ndn_packets.specs.FrameReading.{interest_of}
-use Rattle.ndn_packets.proofs.Rules.{nil_tests, is_nil-false}
+use Rattle.ndn_packets.proofs.Rules.{nil_tests}
 use Rattle.ndn_packets.proofs.Steps.{IsBytes-inside}
 use Rattle.ndn_packets.proofs.Digests.{fault_is, fault_read}
 use Rattle.ndn_packets.proofs.Covers.{second_noted, second_within, noted_after}

@@ -1,4 +1,4 @@
-use Rattle.std.proofs.Common.{rules, ◌≡◌, List, ℕ, Some, None, refl}
+use Rattle.std.proofs.Common.{rules, ◌≡◌, Some, None, refl}
 use Rattle.std.specs.Prelude.{option_map}
 use Rattle.ndn_packets.proofs.Held.{parts_none, parts_some, covers_where}
 use Rattle.ndn_packets.proofs.interest.Interest.signed_parts.Goals as goal
