@@ -1,4 +1,4 @@
-ghost use Rattle.std.specs.Prelude.{◌≡◌, [], ◌∷◌, Ok, Err, Some, IfOk, OnSome, option_map};
+ghost use Rattle.std.specs.Prelude.{◌≡◌, Ok, Err, Some, IfOk, OnSome, option_map};
 ghost use Rattle.ndn_tlv.specs.Reading.{elements_of, on_result};
 ghost use Rattle.ndn_packets.specs.Fields.{data_schema, is_even_high};
 ghost use Rattle.ndn_packets.specs.Reading.{read_fields, take_data_field, nothing_yet, fields_from};

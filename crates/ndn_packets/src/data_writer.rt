@@ -1,7 +1,5 @@
 ghost use Rattle.std.specs.Vec.{vec_capacity};
-ghost use Rattle.std.specs.Prelude.{◌≡◌, ◌+◌, ◌≤◌, ◌++◌, IsOk, length, take, vec_len, option_map, OnOk, OnErr};
-ghost use Rattle.ndn_tlv.specs.Number.{shortest_nni};
-ghost use Rattle.ndn_tlv.specs.Element.{element};
+ghost use Rattle.std.specs.Prelude.{◌≡◌, ◌+◌, ◌≤◌, ◌++◌, IsOk, length, vec_len, OnOk, OnErr};
 ghost use Rattle.ndn_names.specs.View.{components};
 ghost use Rattle.ndn_packets.specs.Grammar.{IsData};
 ghost use Rattle.ndn_packets.specs.Fields.{optional};
@@ -39,7 +37,7 @@ pub struct DataWriter<'a> {
 
 impl DataWriter<'_> {
     ghost use Rattle.std.specs.Vec.{vec_capacity};
-    ghost use Rattle.std.specs.Prelude.{◌≡◌, ◌+◌, ◌≤◌, ◌++◌, IsOk, [], ◌∷◌, length, take, vec_len, None, OnOk, OnErr, Err, MatchOption, IfErr};
+    ghost use Rattle.std.specs.Prelude.{◌≡◌, ◌+◌, ◌≤◌, ◌++◌, IsOk, [], length, vec_len, None, OnOk, OnErr, Err, MatchOption, IfErr};
     ghost use Rattle.ndn_names.specs.View.{components};
     ghost use Rattle.ndn_packets.specs.Grammar.{IsData};
     ghost use Rattle.ndn_packets.specs.Packet.{AData};

@@ -1,4 +1,4 @@
-ghost use Rattle.std.specs.Prelude.{◌≡◌, ◌↔◌, ◌<◌, ℕ, List, [], ◌∷◌, length, Ok, Err, MatchResult, MatchOption, IfOk, IfSome, OnSome, option_map};
+ghost use Rattle.std.specs.Prelude.{◌≡◌, ◌↔◌, ◌<◌, ℕ, List, length, Ok, Err, IfOk, IfSome, OnSome, option_map};
 ghost use Rattle.ndn_tlv.specs.Reading.{elements_of, on_result};
 ghost use Rattle.ndn_names.specs.View.{components};
 ghost use Rattle.ndn_names.specs.FirstOfType.{FindsFirst};

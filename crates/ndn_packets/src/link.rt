@@ -2,7 +2,6 @@
 
 ghost use Rattle.std.specs.Prelude.{◌≡◌, ◌+◌, ◌≤◌, ◌++◌, length, take, vec_len, Ok, Err, OnOk, OnErr, IsOk};
 ghost use Rattle.std.specs.Vec.{vec_capacity};
-ghost use Rattle.ndn_tlv.specs.Number.{shortest_nni};
 ghost use Rattle.ndn_tlv.specs.Element.{element};
 ghost use Rattle.ndn_tlv.specs.Reading.{on_result, elements_of};
 ghost use Rattle.ndn_packets.specs.Packet.{PlainInterest, PlainFrame, ANack};
