@@ -50,7 +50,8 @@ pub struct Interest<'a> {
     pub whole: &'a [u8],
     /// The octets that the signature covers from the ApplicationParameters on, where it covers any.
     pub(crate) covered: Option<&'a [u8]>,
-    ghost covers: { ∥ HoldsSecond (components name) whole.now (option_map (λ c. c.now) covered) ∥₁ },
+    ghost covers: { ∥ HoldsSecond (components name) whole.now
+        (option_map (λ c. c.now) covered) ∥₁ },
     ghost spelled: { ∥ IsInterest whole.now (record {
       name = components name;
       can_be_prefix = can_be_prefix;
