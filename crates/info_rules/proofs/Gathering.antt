@@ -1,13 +1,13 @@
 -- Parts that are gathered one after the other.
-use Rattle.std.proofs.Common.{◌≡◌, ℕ, Bool, true, false, cond, eqb, ltb, List, [], ◌∷◌, map, refl, sym, ap, ◌∙◌, append_assoc, arith}
+use Rattle.std.proofs.Common.{◌≡◌, ℕ, Bool, true, false, cond, eqb, ltb, List, [], ◌∷◌, refl, sym, ap, ◌∙◌, append_assoc, arith}
 use Rattle.std.specs.Prelude.{Option, Some, None, Ok, Err, ◌&&◌, ◌||◌}
-use Rattle.std.proofs.lemmas.List.{append-nil, map-append}
+use Rattle.std.proofs.lemmas.List.{append-nil}
 use Rattle.std.proofs.lemmas.Bool.Decides.{nat_tests}
 use Rattle.info_rules.specs.declared.fault.RulesFault.{RulesFault}
 use Rattle.info_rules.specs.Tree.{Block}
 use Rattle.info_rules.specs.Faults.{kind_number, sooner}
 use Rattle.info_rules.specs.Keys.{is_word, named}
-use Rattle.info_rules.specs.Found.{Found, sooner_of, followed, each, gathered, and_one, joined, shown}
+use Rattle.info_rules.specs.Found.{Found, sooner_of, followed, each, gathered, and_one, joined}
 
 -- which of three is told does not hang on the order of the two choices
 abbrev less : ℕ → ℕ → ℕ → ℕ → Bool
@@ -64,27 +64,3 @@ unfolding each
 loop_done f word keys all before read none is h =
     let empty : each f (named word keys) ≡ Ok [] = rw none refl in
     is ∙ (sym (done before) ∙ (ap (λ g. joined before g) (sym empty) ∙ h))
-
--- parts as they are shown
-gathered_shown : {A B : Type 0} (r : A → B) (parts : List A) (fault : Option RulesFault) → gathered (map r parts) fault ≡ shown (map r) (gathered parts fault)
-gathered_shown r parts None = refl
-gathered_shown r parts (Some fault) = refl
-
-and_one_shown : {A B : Type 0} (r : A → B) (g : Found (List A)) (one : Found A) → shown (map r) (and_one g one) ≡ and_one (shown (map r) g) (shown r one)
-and_one_shown r (Ok parts) (Ok part) = ap Ok (map-append r parts (part ∷ []))
-and_one_shown r (Ok parts) (Err e) = refl
-and_one_shown r (Err e) (Ok part) = refl
-and_one_shown r (Err e) (Err f) = refl
-
-pub step_shown : {A B : Type 0} (r : A → B) (parts more : List A) (fault next : Option RulesFault) (one : Found A) → gathered more next ≡ and_one (gathered parts fault) one
-    → gathered (map r more) next ≡ and_one (gathered (map r parts) fault) (shown r one)
-step_shown r parts more fault next one e =
-    gathered_shown r more next ∙ (ap (shown (map r)) e ∙ (and_one_shown r (gathered parts fault) one ∙ ap (λ g. and_one g (shown r one)) (sym (gathered_shown r parts fault))))
-
-pub all_shown : {A B C : Type 0} (r : A → B) (items : C → List A) (parts : List A) (fault : Option RulesFault) (read : Found C) → shown items read ≡ gathered parts fault
-    → shown (λ all. map r (items all)) read ≡ gathered (map r parts) fault
-all_shown {C = C} r items parts fault read e = within read ∙ (ap (shown (map r)) e ∙ sym (gathered_shown r parts fault))
-  where
-    within : (x : Found C) → shown (λ all. map r (items all)) x ≡ shown (map r) (shown items x)
-    within (Ok all) = refl
-    within (Err fault) = refl

@@ -2,13 +2,11 @@
 use Rattle.std.specs.Prelude.{ℕ, map, string_bytes, List, ◌++◌}
 use Rattle.std.specs.Option.{option_map}
 use Rattle.info_rules.specs.declared.entry.Entry.{Entry}
-use Rattle.info_rules.specs.declared.rule.Rule.{Rule}
 use Rattle.info_rules.specs.declared.tree_draft.Draft.{Draft}
 use Rattle.info_rules.specs.declared.words.Token.{Token as TokenView}
 use Rattle.info_rules.specs.Tree.{PlainEntry, Block, blocks_of}
 use Rattle.info_rules.specs.Words.{Token, Word, Open, Close, Broken}
 use Rattle.info_rules.specs.TreeReading.{PlainDraft}
-use Rattle.info_rules.specs.Rule.{PlainRule}
 use Rattle.info_rules.specs.declared.table.Form.{Form}
 use Rattle.info_rules.specs.declared.table.Block.{Block as BlockView}
 use Rattle.info_rules.specs.declared.table.Block.TheVariants as block_views
@@ -43,14 +41,6 @@ entry_of entry = record {
   key = string_bytes entry.key;
   value = option_map string_bytes entry.value;
   has_block = entry.has_block;
-}
-
-abbrev pub rule_of : Rule → PlainRule
-rule_of rule = record {
-  id = string_bytes rule.id;
-  kind = rule.kind;
-  filters = rule.filters.items;
-  checkers = rule.checkers.items;
 }
 
 abbrev pub token_of : TokenView → Token

@@ -1,25 +1,23 @@
 //! Blocks of checkers.
 
-ghost use Rattle.std.specs.Prelude.{◌≡◌, IfOk, codes};
-ghost use Rattle.info_rules.specs.Found.{each, shown, then_made, both as spec_both};
-ghost use Rattle.info_rules.specs.Keys.{first_of, named};
-ghost use Rattle.info_rules.specs.Shown.{key_of, keys_of, block_kind_of};
+ghost use Rattle.std.specs.Prelude.{◌≡◌, IfOk};
+ghost use Rattle.info_rules.specs.Found.{shown, then_made, both as spec_both};
+ghost use Rattle.info_rules.specs.Keys.{first_of};
+ghost use Rattle.info_rules.specs.Shown.{keys_of, block_kind_of};
 ghost use Rattle.info_rules.specs.CheckerBlock as spec;
-ghost use Rattle.info_rules.specs.CheckerBlock.{block_of, locators_of, checker_of, checker_in};
+ghost use Rattle.info_rules.specs.CheckerBlock.{block_of, locators_of, checker_of};
 
+use crate::block_reader::{BlockReader, read_blocks};
 use crate::fault::RulesFaultKind;
-use crate::found::{Found, Read, add, beside, both, gathered, missing_unless, needed};
-use crate::keys::{Key, Keys};
-use crate::locator_block::read_locators;
-use crate::readers::{read_checker_type, read_signature_type};
+use crate::found::{Found, Read, beside, both, missing_unless, needed};
+use crate::keys::Keys;
+use crate::locator_block::LocatorReader;
+use crate::readers::read_value;
 use crate::rule::{Checker, LocatorTest};
 use crate::table::Block;
 use crate::value_words::{CheckerType, SignatureType};
 use crate::walk::walk;
 use std::alloc::Global;
-
-/// How many blocks the keys of a checker are in.
-const DEPTH: usize = 2;
 
 /// What a block gives as the type of a checker.
 type FoundType = Found<Option<CheckerType>>;
@@ -68,6 +66,7 @@ fn checker_with(
 }
 
 /// The key locators of a checker: a hierarchical one has none.
+#[tactic(auto, unfolding(crate::specs::LocatorBlock::locator_in))]
 fn locators_of(alloc: Global, hierarchical: bool, keys: Keys<'_>) -> Read<Vec<LocatorTest>>
     ensures { IfOk result (λ found. shown (λ all. all.items) found
         ≡ locators_of hierarchical (keys_of keys.entry)) }
@@ -75,7 +74,7 @@ fn locators_of(alloc: Global, hierarchical: bool, keys: Keys<'_>) -> Read<Vec<Lo
     if hierarchical {
         return Ok(Ok(Vec::new(alloc)));
     }
-    read_locators(alloc, keys)
+    read_blocks(alloc, &LocatorReader, "key-locator", keys)
 }
 
 /// The keys of a checker: a hierarchical one has no key locator.
@@ -140,40 +139,22 @@ fn read_by(
     Ok(beside(fault, beside(missing, checker)))
 }
 
-#[tactic(auto, unfolding(crate::specs::CheckerBlock::checker_of))]
-fn read_keys(alloc: Global, line: u32, keys: Keys<'_>) -> Read<Checker>
-    ensures { IfOk result (λ found. found ≡ checker_of line (keys_of keys.entry)) }
-{
-    let checker_type = read_checker_type(keys, "type");
-    let signature = read_signature_type(keys, "sig-type");
-    read_by(alloc, line, keys, checker_type, signature)
-}
+/// Reads what checkers ask of a signature.
+pub struct CheckerReader;
 
-/// What a checker asks of a signature.
-#[tactic(auto, unfolding(crate::specs::CheckerBlock::checker_in))]
-fn read_checker(alloc: Global, key: Key<'_>) -> Read<Checker>
-    ensures { IfOk result (λ found. found ≡ checker_in (key_of key.entry)) }
-{
-    if !key.has_block() {
-        return Ok(Err(key.fault(RulesFaultKind::BadValue)));
-    }
-    let checker = read_keys(alloc, key.line(), key.keys(DEPTH))?;
-    Ok(beside(key.shape_fault(), checker))
-}
+impl BlockReader for CheckerReader {
+    type Part = Checker;
 
-/// What each checker asks of a signature.
-pub fn read_checkers(alloc: Global, keys: Keys<'_>) -> Read<Vec<Checker>>
-    ensures { IfOk result (λ found. shown (λ all. all.items) found
-        ≡ each checker_in (named (codes "checker") (keys_of keys.entry))) }
-{
-    let mut all = Vec::new(alloc);
-    let mut fault = None;
-    let mut left = keys;
-    while let Some((key, others)) = left.split_first() {
-        if key.is("checker") {
-            add(&mut all, &mut fault, read_checker(alloc, key)?)?;
-        }
-        left = others;
+    ghost DEPTH = { 2 };
+
+    const DEPTH: usize = 2;
+
+    ghost part_of = { λ _ line keys. checker_of line keys };
+
+    #[tactic(auto, unfolding(crate::specs::CheckerBlock::checker_of))]
+    fn read(&self, alloc: Global, line: u32, keys: Keys<'_>) -> Read<Checker> {
+        let checker_type = read_value(alloc, keys, "type", RulesFaultKind::BadValue)?;
+        let signature = read_value(alloc, keys, "sig-type", RulesFaultKind::BadValue)?;
+        read_by(alloc, line, keys, checker_type, signature)
     }
-    Ok(gathered(all, fault))
 }

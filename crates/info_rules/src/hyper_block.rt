@@ -1,25 +1,21 @@
 //! Blocks of hyper-relations.
 
-ghost use Rattle.std.specs.Prelude.{◌≡◌, IfOk, IfSome, MatchOption, Some, length, codes};
-ghost use Rattle.name_patterns.specs.Template.{NeedAtMost};
-ghost use Rattle.info_rules.specs.Found.{each, shown, then_made};
-ghost use Rattle.info_rules.specs.Keys.{named};
-ghost use Rattle.info_rules.specs.Shown.{key_of, keys_of};
+ghost use Rattle.std.specs.Prelude.{◌≡◌, IfOk};
+ghost use Rattle.info_rules.specs.Found.{then_made};
+ghost use Rattle.info_rules.specs.Shown.{keys_of};
 ghost use Rattle.info_rules.specs.HyperBlock as spec;
-ghost use Rattle.info_rules.specs.HyperBlock.{groups_of, half_in, is_whole, hyper_of, hyper_in};
+ghost use Rattle.info_rules.specs.HyperBlock.{groups_of, half_in, is_whole, hyper_of};
 
+use crate::block_reader::BlockReader;
 use crate::fault::RulesFaultKind;
-use crate::found::{Found, Read, add, beside, both, gathered, missing_unless};
-use crate::keys::{Key, Keys};
-use crate::readers::{read_pattern, read_relation, read_template};
+use crate::found::{Found, Read, beside, both, missing_unless};
+use crate::keys::Keys;
+use crate::readers::{read_template, read_value};
 use crate::rule::{HyperRelation, Relation};
 use crate::table::Block;
 use crate::walk::walk;
 use name_patterns::{Pattern, Template};
 use std::alloc::Global;
-
-/// How many blocks the keys of a hyper-relation are in.
-const DEPTH: usize = 4;
 
 /// The greatest number of groups of a pattern.
 const MAX_GROUPS: u8 = 9;
@@ -45,7 +41,7 @@ fn read_half(alloc: Global, keys: Keys<'_>, pattern_word: &str, template_word: &
     // The template needs none but the pattern's groups.
     ensures groups { IfOk result (λ found. IfOk found spec.HasGroups) }
 {
-    let pattern = read_pattern(alloc, keys, pattern_word)?;
+    let pattern = read_value(alloc, keys, pattern_word, RulesFaultKind::Pattern)?;
     let template = read_template(alloc, keys, template_word, groups_of(&pattern))?;
     Ok(both(pattern, template))
 }
@@ -93,7 +89,7 @@ fn read_parts(alloc: Global, keys: Keys<'_>) -> Read<Parts>
     ensures groups { IfOk result (λ found. IfOk found spec.HaveGroups) }
 {
     let key = read_half(alloc, keys, "k-regex", "k-expand")?;
-    let relation = read_relation(keys, "h-relation");
+    let relation = read_value(alloc, keys, "h-relation", RulesFaultKind::BadValue)?;
     let packet = read_half(alloc, keys, "p-regex", "p-expand")?;
     Ok(both(both(key, relation), packet))
 }
@@ -107,41 +103,26 @@ fn made_of(parts: Found<Parts>) -> Found<Option<HyperRelation>>
     Ok(hyper_with(key, relation, packet))
 }
 
-#[tactic(auto, unfolding(crate::specs::HyperBlock::hyper_of))]
-fn read_keys(alloc: Global, needed: bool, line: u32, keys: Keys<'_>) -> Read<Option<HyperRelation>>
-    ensures { IfOk result (λ found. found ≡ hyper_of needed line (keys_of keys.entry)) }
-{
-    let fault = walk(alloc, Block::Hyper, keys)?.first();
-    let hyper = made_of(read_parts(alloc, keys)?);
-    let missing = missing_unless(!needed || is_whole(keys), line);
-    Ok(beside(fault, beside(missing, hyper)))
+/// Reads hyper-relations, whose own keys may be needed.
+#[derive(Drop)]
+pub struct HyperReader {
+    pub needed: bool,
 }
 
-/// A hyper-relation, whose own keys may be needed.
-#[tactic(auto, unfolding(crate::specs::HyperBlock::hyper_in))]
-fn read_hyper(alloc: Global, needed: bool, key: Key<'_>) -> Read<Option<HyperRelation>>
-    ensures { IfOk result (λ found. found ≡ hyper_in needed (key_of key.entry)) }
-{
-    if !key.has_block() {
-        return Ok(Err(key.fault(RulesFaultKind::BadValue)));
-    }
-    let hyper = read_keys(alloc, needed, key.line(), key.keys(DEPTH))?;
-    Ok(beside(key.shape_fault(), hyper))
-}
+impl BlockReader for HyperReader {
+    type Part = Option<HyperRelation>;
 
-/// Each hyper-relation, whose own keys may be needed.
-pub fn read_hypers(alloc: Global, needed: bool, keys: Keys<'_>) -> Read<Vec<Option<HyperRelation>>>
-    ensures { IfOk result (λ found. shown (λ all. all.items) found
-        ≡ each (hyper_in needed) (named (codes "hyper-relation") (keys_of keys.entry))) }
-{
-    let mut all = Vec::new(alloc);
-    let mut fault = None;
-    let mut left = keys;
-    while let Some((key, others)) = left.split_first() {
-        if key.is("hyper-relation") {
-            add(&mut all, &mut fault, read_hyper(alloc, needed, key)?)?;
-        }
-        left = others;
+    ghost DEPTH = { 4 };
+
+    const DEPTH: usize = 4;
+
+    ghost part_of = { λ reader line keys. hyper_of reader.needed line keys };
+
+    #[tactic(auto, unfolding(crate::specs::HyperBlock::hyper_of))]
+    fn read(&self, alloc: Global, line: u32, keys: Keys<'_>) -> Read<Option<HyperRelation>> {
+        let fault = walk(alloc, Block::Hyper, keys)?.first();
+        let hyper = made_of(read_parts(alloc, keys)?);
+        let missing = missing_unless(!self.needed || is_whole(keys), line);
+        Ok(beside(fault, beside(missing, hyper)))
     }
-    Ok(gathered(all, fault))
 }

@@ -2,6 +2,7 @@
 #![tactic(auto)]
 
 mod anchor_block;
+mod block_reader;
 mod checker_block;
 mod checks;
 mod decision;

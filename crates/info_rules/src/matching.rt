@@ -4,7 +4,6 @@ ghost use Rattle.std.specs.Prelude.{◌↔◌, IsTrue, Any};
 ghost use Rattle.ndn_names.specs.View.{components};
 ghost use Rattle.info_rules.specs.Related.{Related};
 ghost use Rattle.info_rules.specs.First.{Passes, Applies};
-ghost use Rattle.info_rules.specs.Shown.{rule_of};
 
 use crate::rule::{Kind, NameTest, Relation, Rule};
 use ndn_names::Name;
@@ -44,7 +43,7 @@ fn passes_any(tests: &[NameTest], name: Name<'_>) -> bool
 
 /// Whether a rule is for the packets of this kind and name.
 pub fn applies(rule: &Rule, kind: Kind, name: Name<'_>) -> bool
-    ensures { IsTrue result ↔ Applies (rule_of rule.now) kind (components name.entry) }
+    ensures { IsTrue result ↔ Applies rule.now kind (components name.entry) }
 {
     rule.kind == kind && (rule.filters.is_empty() || passes_any(&rule.filters, name))
 }

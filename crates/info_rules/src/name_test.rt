@@ -8,7 +8,7 @@ use crate::fault::{RulesFault, RulesFaultKind};
 use crate::form::{Form, Tested, first_other};
 use crate::found::{Found, Read, beside, both, missing_unless, needed, second};
 use crate::keys::Keys;
-use crate::readers::{read_name, read_name_word, read_pattern, read_relation};
+use crate::readers::{read_name_word, read_value};
 use crate::rule::{NameTest, Relation};
 use name_patterns::Pattern;
 use ndn_names::NameBuf;
@@ -56,9 +56,9 @@ fn form_fault(tested: Tested, line: u32, keys: Keys<'_>) -> Option<RulesFault>
 fn read_names(alloc: Global, keys: Keys<'_>) -> Read<Names>
     ensures { IfOk result (λ found. found ≡ spec.names_in (keys_of keys.entry)) }
 {
-    let name = read_name(alloc, keys, "name")?;
-    let relation = read_relation(keys, "relation");
-    let pattern = read_pattern(alloc, keys, "regex")?;
+    let name = read_value::<NameBuf>(alloc, keys, "name", RulesFaultKind::BadValue)?;
+    let relation = read_value::<Relation>(alloc, keys, "relation", RulesFaultKind::BadValue)?;
+    let pattern = read_value::<Pattern>(alloc, keys, "regex", RulesFaultKind::Pattern)?;
     Ok(both(both(name, relation), pattern))
 }
 

@@ -1,65 +1,21 @@
-//! Names, patterns and templates in values.
+//! The values of keys.
 
-ghost use Rattle.std.specs.Prelude.{◌≡◌, IfOk, IfSome, Ok};
+ghost use Rattle.std.specs.Prelude.{◌≡◌, IfOk, IfSome, codes};
+ghost use Rattle.std.specs.Option.{option_map};
 ghost use Rattle.name_patterns.specs.Template.{NeedAtMost};
-ghost use Rattle.ndn_names.specs.UriReading.{name_in};
-ghost use Rattle.name_patterns.specs.PatternReading.{pattern_in};
 ghost use Rattle.name_patterns.specs.TemplateReading.{template_in};
 ghost use Rattle.info_rules.specs.declared.fault.RulesFaultKind.TheVariants.{BadValue, Pattern as PatternFaultKind};
-ghost use Rattle.info_rules.specs.ValueWords.{kind_in, relation_in, checker_type_in, signature_type_in};
 ghost use Rattle.info_rules.specs.Values.{ok_of, read_at, value_in, name_word_in, id_in, anchor_value_in};
-ghost use Rattle.std.specs.Option.{option_map};
-ghost use Rattle.std.specs.Prelude.{codes};
 ghost use Rattle.info_rules.specs.Found.{shown};
 ghost use Rattle.info_rules.specs.Shown.{keys_of};
 
 use crate::fault::{RulesFault, RulesFaultKind};
 use crate::found::{Found, Read};
 use crate::keys::Keys;
-use crate::rule::{Kind, Relation};
-use crate::value_words::{
-    CheckerType, SignatureType, checker_type_of, is_anchor_type, is_id, kind_of, relation_of,
-    signature_type_of,
-};
-use name_patterns::{Pattern, PatternFault, Template};
-use ndn_names::{NameBuf, NameFault};
+use crate::value_words::{Value, is_anchor_type, is_id};
+use name_patterns::{PatternFault, Template};
 use ndn_tlv::Memory;
 use std::alloc::Global;
-
-/// The name of a URI, if it is one. Only memory is refused.
-pub fn name_of(alloc: Global, uri: &str) -> Result<Option<NameBuf>, Memory>
-    ensures { IfOk result (λ name. name ≡ ok_of (name_in uri.now)) }
-{
-    match NameBuf::from_uri(alloc, uri) {
-        Ok(name) => Ok(Some(name)),
-        Err(NameFault::Memory) => Err(Memory),
-        Err(_) => Ok(None),
-    }
-}
-
-/// The pattern of a text, if it is one. Only memory is refused.
-pub fn pattern_of(alloc: Global, text: &str) -> Result<Option<Pattern>, Memory>
-    ensures { IfOk result (λ pattern. pattern ≡ ok_of (pattern_in text.now)) }
-{
-    match Pattern::read(alloc, text) {
-        Ok(pattern) => Ok(Some(pattern)),
-        Err(PatternFault::Memory) => Err(Memory),
-        Err(_) => Ok(None),
-    }
-}
-
-/// The template of a text for a pattern of so many groups, if it is one. Only memory is refused.
-pub fn template_of(alloc: Global, text: &str, groups: u8) -> Result<Option<Template>, Memory>
-    ensures read { IfOk result (λ template. template ≡ ok_of (template_in groups text.now)) }
-    // It needs none but these groups.
-    ensures groups { IfOk result (λ template. IfSome template (NeedAtMost groups)) }
-{
-    match Template::read(alloc, text, groups) {
-        Ok(template) => Ok(Some(template)),
-        Err(PatternFault::Memory) => Err(Memory),
-        Err(_) => Ok(None),
-    }
-}
 
 /// A value that was read on a line, or else this fault.
 fn read_at<A: Drop>(kind: RulesFaultKind, line: u32, read: Option<A>) -> Found<Option<A>>
@@ -71,100 +27,38 @@ fn read_at<A: Drop>(kind: RulesFaultKind, line: u32, read: Option<A>) -> Found<O
     }
 }
 
-/// The kind of packet that the first key of this word gives, if there is one.
+/// What the first key of this word stands for, if there is one. A text that stands for nothing is
+/// this fault.
 #[tactic(auto, unfolding(crate::specs::Values::value_in))]
-pub fn read_kind(keys: Keys<'_>, word: &str) -> Found<Option<Kind>>
-    ensures { result ≡ value_in BadValue kind_in word.now (keys_of keys.entry) }
-{
-    let Some(key) = keys.first_named(word) else {
-        return Ok(None);
-    };
-    match key.value() {
-        Some(text) => read_at(RulesFaultKind::BadValue, key.line(), kind_of(text)),
-        None => Err(key.fault(RulesFaultKind::BadValue)),
-    }
-}
-
-/// The relation that the first key of this word gives, if there is one.
-#[tactic(auto, unfolding(crate::specs::Values::value_in))]
-pub fn read_relation(keys: Keys<'_>, word: &str) -> Found<Option<Relation>>
-    ensures { result ≡ value_in BadValue relation_in word.now (keys_of keys.entry) }
-{
-    let Some(key) = keys.first_named(word) else {
-        return Ok(None);
-    };
-    match key.value() {
-        Some(text) => read_at(RulesFaultKind::BadValue, key.line(), relation_of(text)),
-        None => Err(key.fault(RulesFaultKind::BadValue)),
-    }
-}
-
-/// The type of a checker that the first key of this word gives, if there is one.
-#[tactic(auto, unfolding(crate::specs::Values::value_in))]
-pub fn read_checker_type(keys: Keys<'_>, word: &str) -> Found<Option<CheckerType>>
-    ensures { result ≡ value_in BadValue checker_type_in word.now (keys_of keys.entry) }
-{
-    let Some(key) = keys.first_named(word) else {
-        return Ok(None);
-    };
-    match key.value() {
-        Some(text) => read_at(RulesFaultKind::BadValue, key.line(), checker_type_of(text)),
-        None => Err(key.fault(RulesFaultKind::BadValue)),
-    }
-}
-
-/// The type of signatures that the first key of this word gives, if there is one.
-#[tactic(auto, unfolding(crate::specs::Values::value_in))]
-pub fn read_signature_type(keys: Keys<'_>, word: &str) -> Found<Option<SignatureType>>
-    ensures { result ≡ value_in BadValue signature_type_in word.now (keys_of keys.entry) }
-{
-    let Some(key) = keys.first_named(word) else {
-        return Ok(None);
-    };
-    match key.value() {
-        Some(text) => read_at(
-            RulesFaultKind::BadValue,
-            key.line(),
-            signature_type_of(text),
-        ),
-        None => Err(key.fault(RulesFaultKind::BadValue)),
-    }
-}
-
-/// The name that the first key of this word gives, if there is one.
-#[tactic(auto, unfolding(crate::specs::Values::value_in))]
-pub fn read_name(alloc: Global, keys: Keys<'_>, word: &str) -> Read<Option<NameBuf>>
+pub fn read_value<V: Value>(
+    alloc: Global,
+    keys: Keys<'_>,
+    word: &str,
+    kind: RulesFaultKind,
+) -> Read<Option<V>>
     ensures { IfOk result
-        (λ found. found ≡ value_in BadValue (λ text. ok_of (name_in text))
-        word.now (keys_of keys.entry)) }
+        (λ found. found ≡ value_in kind V.meant word.now (keys_of keys.entry)) }
 {
     let Some(key) = keys.first_named(word) else {
         return Ok(Ok(None));
     };
     Ok(match key.value() {
-        Some(text) => read_at(RulesFaultKind::BadValue, key.line(), name_of(alloc, text)?),
+        Some(text) => read_at(kind, key.line(), V::of_text(alloc, text)?),
         None => Err(key.fault(RulesFaultKind::BadValue)),
     })
 }
 
-/// The pattern that the first key of this word gives, if there is one.
-#[tactic(auto, unfolding(crate::specs::Values::value_in))]
-pub fn read_pattern(alloc: Global, keys: Keys<'_>, word: &str) -> Read<Option<Pattern>>
-    ensures { IfOk result
-        (λ found. found ≡ value_in PatternFaultKind (λ text. ok_of (pattern_in text))
-        word.now (keys_of keys.entry)) }
+/// The template of a text for a pattern of so many groups, if it is one. Only memory is refused.
+fn template_of(alloc: Global, text: &str, groups: u8) -> Result<Option<Template>, Memory>
+    ensures read { IfOk result (λ template. template ≡ ok_of (template_in groups text.now)) }
+    // It needs none but these groups.
+    ensures groups { IfOk result (λ template. IfSome template (NeedAtMost groups)) }
 {
-    let Some(key) = keys.first_named(word) else {
-        return Ok(Ok(None));
-    };
-    Ok(match key.value() {
-        Some(text) => read_at(
-            RulesFaultKind::Pattern,
-            key.line(),
-            pattern_of(alloc, text)?,
-        ),
-        None => Err(key.fault(RulesFaultKind::BadValue)),
-    })
+    match Template::read(alloc, text, groups) {
+        Ok(template) => Ok(Some(template)),
+        Err(PatternFault::Memory) => Err(Memory),
+        Err(_) => Ok(None),
+    }
 }
 
 /// The template for so many groups that the first key of this word gives, if there is one.
@@ -186,11 +80,10 @@ pub fn read_template(
         return Ok(Ok(None));
     };
     Ok(match key.value() {
-        Some(text) => read_at(
-            RulesFaultKind::Pattern,
-            key.line(),
-            template_of(alloc, text, groups)?,
-        ),
+        Some(text) => {
+            let template = template_of(alloc, text, groups)?;
+            read_at(RulesFaultKind::Pattern, key.line(), template)
+        }
         None => Err(key.fault(RulesFaultKind::BadValue)),
     })
 }

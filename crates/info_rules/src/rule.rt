@@ -126,3 +126,17 @@ pub struct Rule {
     pub filters: Vec<NameTest>,
     pub checkers: Vec<Checker>,
 }
+
+impl Model for Rule {
+    ghost use Rattle.std.specs.Prelude.{string_bytes};
+    ghost use Rattle.info_rules.specs.Rule.{PlainRule};
+
+    ghost Value = { PlainRule };
+
+    ghost view = { λ rule. record {
+      id = string_bytes rule.id;
+      kind = rule.kind;
+      filters = rule.filters.items;
+      checkers = rule.checkers.items;
+    } };
+}

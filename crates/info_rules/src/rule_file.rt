@@ -1,9 +1,9 @@
 //! Rule files: their rules, or else the fault to report.
 
-ghost use Rattle.std.specs.Prelude.{◌≡◌, ◌⊎◌, ◌↔◌, ◌++◌, List, None, Ok, Err, IfOk, MatchResult, map};
+ghost use Rattle.std.specs.Prelude.{◌≡◌, ◌⊎◌, ◌↔◌, ◌++◌, List, None, Ok, Err, IfOk, MatchResult};
 ghost use Rattle.std.specs.List.{flat_map};
 ghost use Rattle.std.specs.Option.{option_map};
-ghost use Rattle.info_rules.specs.Shown.{key_of, keys_of, rule_of};
+ghost use Rattle.info_rules.specs.Shown.{key_of, keys_of};
 ghost use Rattle.info_rules.specs.Faults.{after, memory_fault};
 ghost use Rattle.info_rules.specs.Found.{shown};
 ghost use Rattle.info_rules.specs.Tree.{PlainEntry};
@@ -13,13 +13,14 @@ ghost use Rattle.info_rules.specs.Blocks.{File};
 ghost use Rattle.info_rules.specs.Walk.{walk_faults};
 ghost use Rattle.info_rules.specs.RuleFile.{id_key, same_id_faults, repeated_faults, id_faults, shared_faults, rules_of_keys, rules_in};
 
-use crate::anchor_block::read_anchors;
+use crate::anchor_block::AnchorReader;
+use crate::block_reader::{BlockReader, read_blocks};
 use crate::fault::{MEMORY, RulesFault, RulesFaultKind};
 use crate::found::{Read, beside, both, first};
 use crate::keys::{Key, Keys};
 use crate::report::Report;
 use crate::rule::Rule;
-use crate::rule_block::{self, read_rules};
+use crate::rule_block::RuleReader;
 use crate::rules::Rules;
 use crate::table::Block;
 use crate::tree::InfoTree;
@@ -36,7 +37,7 @@ fn id_key(key: Key<'_>) -> Option<Key<'_>>
     ensures { option_map key_of result ≡ id_key (key_of key.entry) }
 {
     if key.is("rule") {
-        return key.keys(rule_block::DEPTH).first_named("id");
+        return key.keys(RuleReader::DEPTH).first_named("id");
     }
     None
 }
@@ -107,14 +108,14 @@ fn judge_file(alloc: Global, keys: Keys<'_>) -> Result<Option<RulesFault>, Memor
     Ok(report.first())
 }
 
-#[tactic(auto, unfolding(crate::specs::RuleFile::rules_of_keys))]
+#[tactic(auto, unfolding(crate::specs::RuleFile::rules_of_keys, crate::specs::RuleBlock::rule_in, crate::specs::AnchorBlock::anchor_in))]
 fn read_keys(alloc: Global, keys: Keys<'_>) -> Read<Vec<Rule>>
-    ensures { IfOk result (λ found. shown (λ all. map rule_of all.items) found
-        ≡ rules_of_keys (keys_of keys.entry)) }
+    ensures { IfOk result
+        (λ found. shown (λ all. all.items) found ≡ rules_of_keys (keys_of keys.entry)) }
 {
     let fault = judge_file(alloc, keys)?;
-    let rules = read_rules(alloc, keys)?;
-    let anchors = read_anchors(alloc, keys)?;
+    let rules = read_blocks(alloc, &RuleReader, "rule", keys)?;
+    let anchors = read_blocks(alloc, &AnchorReader, "trust-anchor", keys)?;
     Ok(beside(fault, first(both(rules, anchors))))
 }
 

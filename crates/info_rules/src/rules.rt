@@ -14,13 +14,12 @@ pub struct Rules {
 }
 
 impl Model for Rules {
-    ghost use Rattle.std.specs.Prelude.{List, map};
+    ghost use Rattle.std.specs.Prelude.{List};
     ghost use Rattle.info_rules.specs.Rule.{PlainRule};
-    ghost use Rattle.info_rules.specs.Shown.{rule_of};
 
     ghost Value = { List PlainRule };
 
-    ghost view = { λ rules. map rule_of rules.rules.items };
+    ghost view = { λ rules. rules.rules.items };
 }
 
 impl Rules {

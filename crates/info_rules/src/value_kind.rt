@@ -4,10 +4,9 @@ ghost use Rattle.std.specs.Prelude.{◌≡◌, IfOk};
 ghost use Rattle.info_rules.specs.Values.{is_value};
 ghost use Rattle.info_rules.specs.Shown.{value_kind_of};
 
-use crate::readers::name_of;
-use crate::value_words::{
-    checker_type_of, is_anchor_type, is_id, kind_of, relation_of, signature_type_of,
-};
+use crate::rule::{Kind, Relation};
+use crate::value_words::{CheckerType, SignatureType, Value, is_anchor_type, is_id};
+use ndn_names::NameBuf;
 use ndn_tlv::Memory;
 use std::alloc::Global;
 
@@ -45,13 +44,13 @@ impl ValueKind {
     {
         Ok(match self {
             ValueKind::Id => is_id(text),
-            ValueKind::PacketKind => kind_of(text).is_some(),
+            ValueKind::PacketKind => Kind::of_text(alloc, text)?.is_some(),
             ValueKind::NameWord => text == "name",
-            ValueKind::Uri => name_of(alloc, text)?.is_some(),
-            ValueKind::Relation => relation_of(text).is_some(),
+            ValueKind::Uri => NameBuf::of_text(alloc, text)?.is_some(),
+            ValueKind::Relation => Relation::of_text(alloc, text)?.is_some(),
             ValueKind::Pattern | ValueKind::Template => true,
-            ValueKind::CheckerType => checker_type_of(text).is_some(),
-            ValueKind::SignatureType => signature_type_of(text).is_some(),
+            ValueKind::CheckerType => CheckerType::of_text(alloc, text)?.is_some(),
+            ValueKind::SignatureType => SignatureType::of_text(alloc, text)?.is_some(),
             ValueKind::AnchorType => text == "any" || is_anchor_type(text),
         })
     }

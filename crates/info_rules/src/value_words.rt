@@ -1,10 +1,17 @@
-//! Words for values.
+//! What texts stand for as the values of keys.
 
-ghost use Rattle.std.specs.Prelude.{◌≡◌, nat_le};
+ghost use Rattle.std.specs.Prelude.{◌≡◌, ◌&&◌, IfOk, List, ℕ, Option, nat_le};
 ghost use Rattle.std.specs.List.{list_all};
+ghost use Rattle.ndn_names.specs.UriReading.{name_in};
+ghost use Rattle.name_patterns.specs.PatternReading.{pattern_in};
+ghost use Rattle.info_rules.specs.Values.{ok_of};
 ghost use Rattle.info_rules.specs.ValueWords.{kind_in, relation_in, checker_type_in, signature_type_in, is_id, is_anchor_type};
 
 use crate::rule::{Kind, Relation};
+use name_patterns::{Pattern, PatternFault};
+use ndn_names::{NameBuf, NameFault};
+use ndn_tlv::Memory;
+use std::alloc::Global;
 
 /// The greatest length of a rule's id, in octets.
 const MAX_ID_LEN: usize = 100;
@@ -27,62 +34,87 @@ pub enum SignatureType {
     Asymmetric,
 }
 
-/// The kind of packet for a word.
-pub fn kind_of(text: &str) -> Option<Kind>
-    ensures { result ≡ kind_in text.now }
-{
-    if text == "data" {
-        return Some(Kind::Data);
-    }
-    if text == "interest" {
-        return Some(Kind::Interest);
-    }
-    None
+/// What the text of a value stands for.
+pub trait Value: Drop {
+    ghost meant: { List ℕ → Option Self };
+
+    /// What this text stands for, if it is such a value. Only memory is refused.
+    fn of_text(alloc: Global, text: &str) -> Result<Option<Self>, Memory>
+        ensures { IfOk result (λ value. value ≡ meant text.now) };
 }
 
-/// The relation for a word.
-pub fn relation_of(text: &str) -> Option<Relation>
-    ensures { result ≡ relation_in text.now }
-{
-    if text == "equal" {
-        return Some(Relation::Equal);
+impl Value for Kind {
+    ghost meant = { kind_in };
+
+    fn of_text(_alloc: Global, text: &str) -> Result<Option<Kind>, Memory> {
+        Ok(match text {
+            "data" => Some(Kind::Data),
+            "interest" => Some(Kind::Interest),
+            _ => None,
+        })
     }
-    if text == "is-prefix-of" {
-        return Some(Relation::IsPrefixOf);
-    }
-    if text == "is-strict-prefix-of" {
-        return Some(Relation::IsStrictPrefixOf);
-    }
-    None
 }
 
-/// The type of checker for a word.
-pub fn checker_type_of(text: &str) -> Option<CheckerType>
-    ensures { result ≡ checker_type_in text.now }
-{
-    if text == "customized" {
-        return Some(CheckerType::Customized);
+impl Value for Relation {
+    ghost meant = { relation_in };
+
+    fn of_text(_alloc: Global, text: &str) -> Result<Option<Relation>, Memory> {
+        Ok(match text {
+            "equal" => Some(Relation::Equal),
+            "is-prefix-of" => Some(Relation::IsPrefixOf),
+            "is-strict-prefix-of" => Some(Relation::IsStrictPrefixOf),
+            _ => None,
+        })
     }
-    if text == "hierarchical" {
-        return Some(CheckerType::Hierarchical);
-    }
-    None
 }
 
-/// The type of signatures for a word.
-pub fn signature_type_of(text: &str) -> Option<SignatureType>
-    ensures { result ≡ signature_type_in text.now }
-{
-    if text == "hmac-sha256" {
-        return Some(SignatureType::HmacSha256);
+impl Value for CheckerType {
+    ghost meant = { checker_type_in };
+
+    fn of_text(_alloc: Global, text: &str) -> Result<Option<CheckerType>, Memory> {
+        Ok(match text {
+            "customized" => Some(CheckerType::Customized),
+            "hierarchical" => Some(CheckerType::Hierarchical),
+            _ => None,
+        })
     }
-    if text == "sha256" {
-        return Some(SignatureType::Sha256);
+}
+
+impl Value for SignatureType {
+    ghost meant = { signature_type_in };
+
+    fn of_text(_alloc: Global, text: &str) -> Result<Option<SignatureType>, Memory> {
+        Ok(match text {
+            "hmac-sha256" => Some(SignatureType::HmacSha256),
+            "sha256" => Some(SignatureType::Sha256),
+            "rsa-sha256" | "ecdsa-sha256" => Some(SignatureType::Asymmetric),
+            _ => None,
+        })
     }
-    if text == "rsa-sha256" || text == "ecdsa-sha256" {
-        return Some(SignatureType::Asymmetric);
+}
+
+impl Value for NameBuf {
+    ghost meant = { λ text. ok_of (name_in text) };
+
+    fn of_text(alloc: Global, text: &str) -> Result<Option<NameBuf>, Memory> {
+        match NameBuf::from_uri(alloc, text) {
+            Ok(name) => Ok(Some(name)),
+            Err(NameFault::Memory) => Err(Memory),
+            Err(_) => Ok(None),
+        }
     }
-    None
+}
+
+impl Value for Pattern {
+    ghost meant = { λ text. ok_of (pattern_in text) };
+
+    fn of_text(alloc: Global, text: &str) -> Result<Option<Pattern>, Memory> {
+        match Pattern::read(alloc, text) {
+            Ok(pattern) => Ok(Some(pattern)),
+            Err(PatternFault::Memory) => Err(Memory),
+            Err(_) => Ok(None),
+        }
+    }
 }
 
 /// Whether no octet is a control character of ASCII below the space.
@@ -104,5 +136,5 @@ pub fn is_id(text: &str) -> bool
 pub fn is_anchor_type(text: &str) -> bool
     ensures { result ≡ is_anchor_type text.now }
 {
-    text == "file" || text == "dir" || text == "base64"
+    matches!(text, "file" | "dir" | "base64")
 }

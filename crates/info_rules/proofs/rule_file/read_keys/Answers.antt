@@ -1,17 +1,18 @@
-use Rattle.std.proofs.Common.{refl, map}
+use Rattle.std.proofs.Common.{refl}
+use Rattle.info_rules.specs.RuleBlock.{rule_in}
+use Rattle.info_rules.specs.AnchorBlock.{anchor_in}
 use Rattle.info_rules.specs.RuleFile.{rules_of_keys}
-use Rattle.info_rules.specs.Shown.{rule_of}
 use Rattle.info_rules.proofs.FoundParts.{first_shown}
 use Rattle.info_rules.proofs.rule_file.read_keys.Goals as goal
 
 pub returns : goal.returns
-unfolding rules_of_keys
+unfolding rules_of_keys rule_in anchor_in
 returns c =
     rw (
       c.beside.ensures,
       c.first.ensures,
       c.both.ensures,
-      first_shown (λ all. map rule_of all.items) (λ all. all.items) c.in_ok-fault.fault c.in_ok-rules.rules c.in_ok-anchors.anchors,
+      first_shown (λ all. all.items) (λ all. all.items) c.in_ok-fault.fault c.in_ok-rules.rules c.in_ok-anchors.anchors,
       c.in_ok-fault.ensures,
       c.in_ok-rules.ensures,
       c.in_ok-anchors.ensures,

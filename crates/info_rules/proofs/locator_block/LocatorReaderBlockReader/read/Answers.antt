@@ -1,0 +1,8 @@
+use Rattle.std.proofs.Common.{refl}
+use Rattle.info_rules.specs.HyperBlock.{hyper_in}
+use Rattle.info_rules.specs.LocatorBlock.{locator_of}
+use Rattle.info_rules.proofs.locator_block.LocatorReaderBlockReader.read.Goals as goal
+
+pub returns : goal.returns
+unfolding locator_of hyper_in
+returns c = rw (c.beside.ensures, c.first-fault.ensures, c.in_ok-walk.ensures, c.made_of.ensures, c.in_ok-names.ensures, c.in_ok-hypers.ensures, c.is_hyper_alone-needed.ensures) refl

@@ -1,0 +1,63 @@
+//! Reading the blocks of one word, each by its keys.
+
+ghost use Rattle.std.specs.Prelude.{◌≡◌, ℕ, List, IfOk};
+ghost use Rattle.info_rules.specs.Tree.{Block};
+ghost use Rattle.info_rules.specs.Found.{Found, each, shown};
+ghost use Rattle.info_rules.specs.Keys.{named, block_in};
+ghost use Rattle.info_rules.specs.Shown.{key_of, keys_of};
+
+use crate::fault::RulesFaultKind;
+use crate::found::{Read, add, beside, gathered};
+use crate::keys::{Key, Keys};
+use std::alloc::Global;
+
+/// What reads the keys of a kind of block.
+pub trait BlockReader {
+    /// What such a block gives.
+    type Part: Drop;
+
+    ghost DEPTH: { ℕ };
+
+    /// How many blocks its keys are in.
+    const DEPTH: usize;
+
+    ghost part_of: { Self → ℕ → List Block → Found Self.Part };
+
+    /// What these keys give, in the block of a key on this line.
+    fn read(&self, alloc: Global, line: u32, keys: Keys<'_>) -> Read<Self::Part>
+        ensures { IfOk result (λ found. found ≡ part_of self.now line (keys_of keys.entry)) };
+}
+
+/// What a key gives, which needs a block and no value.
+fn read_block<R: BlockReader>(alloc: Global, reader: &R, key: Key<'_>) -> Read<R::Part>
+    ensures { IfOk result
+        (λ found. found ≡ block_in R.DEPTH (R.part_of reader.now) (key_of key.entry)) }
+{
+    if !key.has_block() {
+        return Ok(Err(key.fault(RulesFaultKind::BadValue)));
+    }
+    let part = reader.read(alloc, key.line(), key.keys(R::DEPTH))?;
+    Ok(beside(key.shape_fault(), part))
+}
+
+/// What each key of this word gives.
+pub fn read_blocks<R: BlockReader>(
+    alloc: Global,
+    reader: &R,
+    word: &str,
+    keys: Keys<'_>,
+) -> Read<Vec<R::Part>>
+    ensures { IfOk result (λ found. shown (λ all. all.items) found
+        ≡ each (block_in R.DEPTH (R.part_of reader.now)) (named word.now (keys_of keys.entry))) }
+{
+    let mut all = Vec::new(alloc);
+    let mut fault = None;
+    let mut left = keys;
+    while let Some((key, others)) = left.split_first() {
+        if key.is(word) {
+            add(&mut all, &mut fault, read_block(alloc, reader, key)?)?;
+        }
+        left = others;
+    }
+    Ok(gathered(all, fault))
+}
