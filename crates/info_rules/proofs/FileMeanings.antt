@@ -12,7 +12,8 @@ use Rattle.info_rules.specs.Rule.{PlainRule}
 use Rattle.info_rules.specs.Table.{table}
 use Rattle.info_rules.specs.Walk.{walk_faults}
 use Rattle.info_rules.specs.Faults.{after, memory_fault}
-use Rattle.info_rules.specs.Found.{Found, both, needed, shown, each}
+use Rattle.std.specs.Result.{result_err}
+use Rattle.info_rules.specs.Found.{Found, both, beside, needed, shown, each}
 use Rattle.info_rules.specs.Keys.{on_option, first_of, others_of, is_word, named, value_of, fault_at}
 use Rattle.info_rules.specs.ValueWords.{kind_in, is_anchor_type}
 use Rattle.info_rules.specs.Values.{◌>>=◌, id_in, value_in, anchor_type_in, anchor_given_in, anchor_value_in}
@@ -23,7 +24,7 @@ use Rattle.info_rules.specs.AnchorBlock.{anchor_of, anchor_in}
 use Rattle.info_rules.specs.RuleFile.{id_key, same_id_faults, repeated_faults, id_faults, shared_faults, rules_of_keys, rules_in}
 use Rattle.info_rules.specs.Limits.{HaveOwnIds}
 use Rattle.info_rules.specs.Meaning.{IsOneOf, HasValue, IsFilter, IsChecker, AreOfRule, IsRule, IsAnchor, IsRuleFile}
-use Rattle.info_rules.proofs.FoundParts.{both_ok, beside_ok, shown_ok, needed_ok}
+use Rattle.info_rules.proofs.FoundParts.{both_ok, beside_ok, shown_ok, no_fault_of, needed_ok}
 use Rattle.info_rules.proofs.Limits.{none_of_both, head_gave, no_fault, each_length, id_of, own_ids}
 use Rattle.info_rules.proofs.Meanings.{beside_again, both_again, shown_again, needed_again, mean_of, each_of, mean_length, fits, fits_again, fits_open, fits_open_again, alone, value_is, has, has_again, has_once, block_ok, block_again}
 use Rattle.info_rules.proofs.WordMeanings.{kind_means, kind_meant, id_means, id_meant}
@@ -236,14 +237,14 @@ file_means entries rules e =
     let keys = blocks_of 0 entries in
     let read = each rule_in (named (codes "rule") keys) in
     let anchors = each anchor_in (named (codes "trust-anchor") keys) in
-    let all = beside_ok (after None (walk_faults blocks.File keys ++ shared_faults keys)) (shown (λ (both : List PlainRule × List (Unit {0})). both.0) (both read anchors)) rules e in
+    let all = beside_ok (after None (walk_faults blocks.File keys ++ shared_faults keys)) (beside (result_err anchors) read) rules e in
     let none = none_of_both (walk_faults blocks.File keys) (shared_faults keys) (no_fault (walk_faults blocks.File keys ++ shared_faults keys) all.0) in
     let fit = fits blocks.File keys refl (no_faults (walk_faults blocks.File keys) none.0) in
-    let one = shown_ok (λ (both : List PlainRule × List (Unit {0})). both.0) (both read anchors) rules all.1 in
-    let parts = both_ok read anchors one.0 one.1 in
-    let given : read ≡ Ok rules = parts.0 ∙ ap Ok one.2 in
+    let parts = beside_ok (result_err anchors) read rules all.1 in
+    let given = parts.1 in
+    let taken = no_fault_of anchors parts.0 in
     let few = subst (λ n. n ≤ 256) (sym (each_length rule_in (named (codes "rule") keys) rules given)) fit.1.0 in
-    (fit.0, mean_of rule_in IsRule rule_means (named (codes "rule") keys) rules given, few, own_ids keys rules (shared_ids keys fit.1.0 none.1) given, anchors_mean (named (codes "trust-anchor") keys) one.0.1 parts.1)
+    (fit.0, mean_of rule_in IsRule rule_means (named (codes "rule") keys) rules given, few, own_ids keys rules (shared_ids keys fit.1.0 none.1) given, anchors_mean (named (codes "trust-anchor") keys) taken.0 taken.1)
 
 pub file_meant : (entries : List PlainEntry) (rules : List PlainRule) → IsRuleFile entries rules → rules_in entries ≡ Ok rules
 unfolding rules_in rules_of_keys table
@@ -254,10 +255,7 @@ file_meant entries rules (only, means, few, own, anchors) =
     let read = each_of rule_in IsRule rule_meant (named (codes "rule") keys) rules means in
     let none : walk_faults blocks.File keys ++ shared_faults keys ≡ [] = rw (no_fault (walk_faults blocks.File keys) clean, no_shared keys (ids_apart keys rules own read)) refl in
     let anchors_read = anchors_meant (named (codes "trust-anchor") keys) anchors in
-    beside_again (after None (walk_faults blocks.File keys ++ shared_faults keys)) (shown (λ (both : List PlainRule × List (Unit {0})). both.0) (both (each rule_in (named (codes "rule") keys)) (each anchor_in (named (codes "trust-anchor") keys)))) rules
-    (no_faults (walk_faults blocks.File keys ++ shared_faults keys) none)
-    (shown_again (λ (both : List PlainRule × List (Unit {0})). both.0) (both (each rule_in (named (codes "rule") keys)) (each anchor_in (named (codes "trust-anchor") keys))) (rules, anchors_read.0)
-    (both_again (each rule_in (named (codes "rule") keys)) (each anchor_in (named (codes "trust-anchor") keys)) rules anchors_read.0 read anchors_read.1))
+    rw (no_faults (walk_faults blocks.File keys ++ shared_faults keys) none, anchors_read.1, read) refl
 
 pub one_meaning : (entries : List PlainEntry) (a b : List PlainRule) → IsRuleFile entries a → IsRuleFile entries b → a ≡ b
 one_meaning entries a b p q = ok_one (rules_in entries) a b (file_meant entries a p) (file_meant entries b q)

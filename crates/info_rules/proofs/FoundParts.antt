@@ -2,6 +2,7 @@
 use Rattle.std.proofs.Common.{◌≡◌, ℕ, List, refl, ap}
 use Rattle.std.specs.Prelude.{Option, Some, None, Ok, Err}
 use Rattle.std.specs.Option.{option_map}
+use Rattle.std.specs.Result.{result_err}
 use Rattle.info_rules.specs.declared.fault.RulesFault.{RulesFault}
 use Rattle.info_rules.specs.declared.fault.RulesFaultKind.{RulesFaultKind}
 use Rattle.info_rules.specs.Tree.{Block}
@@ -22,16 +23,15 @@ needed_shown r line (Ok None) = refl
 needed_shown r line (Ok (Some a)) = refl
 needed_shown r line (Err e) = refl
 
-pub first_shown : {A B C D : Type 0} (r : A → C) (s : B → D) (f : Option RulesFault) (a : Found A) (b : Found B)
-    → shown r (beside f (shown (λ (p : A × B). p.0) (both a b))) ≡ beside f (shown (λ (p : C × D). p.0) (both (shown r a) (shown s b)))
-first_shown r s None (Ok a) (Ok b) = refl
-first_shown r s None (Ok a) (Err e) = refl
-first_shown r s None (Err e) (Ok b) = refl
-first_shown r s None (Err e) (Err g) = refl
-first_shown r s (Some f) (Ok a) (Ok b) = refl
-first_shown r s (Some f) (Ok a) (Err e) = refl
-first_shown r s (Some f) (Err e) (Ok b) = refl
-first_shown r s (Some f) (Err e) (Err g) = refl
+pub beside_shown : {A B C D : Type 0} (r : A → C) (s : B → D) (f : Option RulesFault) (a : Found A) (b : Found B) → shown r (beside f (beside (result_err b) a)) ≡ beside f (beside (result_err (shown s b)) (shown r a))
+beside_shown r s None (Ok a) (Ok b) = refl
+beside_shown r s None (Ok a) (Err e) = refl
+beside_shown r s None (Err e) (Ok b) = refl
+beside_shown r s None (Err e) (Err g) = refl
+beside_shown r s (Some f) (Ok a) (Ok b) = refl
+beside_shown r s (Some f) (Ok a) (Err e) = refl
+beside_shown r s (Some f) (Err e) (Ok b) = refl
+beside_shown r s (Some f) (Err e) (Err g) = refl
 
 pub three_shown : {A B C X Y Z : Type 0} (r : A → X) (s : B → Y) (t : C → Z) (a : Found A) (b : Found B) (c : Found C)
     → both (shown r a) (both (shown s b) (shown t c)) ≡ shown (λ (p : A × (B × C)). (r p.0, (s p.1.0, t p.1.1))) (both a (both b c))
@@ -68,6 +68,10 @@ shown_ok r (Err d) y e = absurd cc
 pub made_ok : {A B : Type 0} (f : A → Found B) (g : Found A) (y : B) → then_made f g ≡ Ok y → (x : A) × (g ≡ Ok x) × (f x ≡ Ok y)
 made_ok f (Ok x) y e = (x, refl, e)
 made_ok f (Err d) y e = absurd cc
+
+pub no_fault_of : {A : Type 0} (g : Found A) → result_err g ≡ None → (x : A) × (g ≡ Ok x)
+no_fault_of (Ok x) e = (x, refl)
+no_fault_of (Err d) e = absurd cc
 
 pub needed_ok : {A : Type 0} (line : ℕ) (g : Found (Option A)) (x : A) → needed line g ≡ Ok x → g ≡ Ok (Some x)
 needed_ok line (Ok None) x e = absurd cc

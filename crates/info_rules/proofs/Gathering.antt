@@ -7,7 +7,7 @@ use Rattle.info_rules.specs.declared.fault.RulesFault.{RulesFault}
 use Rattle.info_rules.specs.Tree.{Block}
 use Rattle.info_rules.specs.Faults.{kind_number, sooner}
 use Rattle.info_rules.specs.Keys.{is_word, named}
-use Rattle.info_rules.specs.Found.{Found, sooner_of, followed, each, gathered, and_one, joined}
+use Rattle.info_rules.specs.Found.{Found, sooner_of, followed, each, and_one, joined}
 
 -- which of three is told does not hang on the order of the two choices
 abbrev less : ℕ → ℕ → ℕ → ℕ → Bool

@@ -14,7 +14,7 @@ use Rattle.info_rules.specs.Found.{Found, both, beside, needed, shown, then_made
 use Rattle.info_rules.specs.Keys.{on_option, first_of, others_of, is_word, named, value_of, fault_at, many_faults, is_there, shape_fault, block_in}
 use Rattle.info_rules.specs.Values.{given_in, read_at, value_in}
 use Rattle.info_rules.specs.Table.{PlainForm, form, table, is_closed}
-use Rattle.info_rules.specs.Walk.{unknown_faults, again_wrong, again_faults, times_faults, walk_faults}
+use Rattle.info_rules.specs.Walk.{unknown_faults, again_kind, again_faults, times_faults, walk_faults}
 use Rattle.info_rules.specs.Meaning.{IsOneOf, HasOnly, Lacks, HasValue, OpensBlock, Mean}
 use Rattle.info_rules.proofs.FoundParts.{beside_ok, value_ok}
 use Rattle.info_rules.proofs.Limits.{none_of_both, head_gave, no_key, no_fault}
@@ -127,7 +127,7 @@ no_second : (takes : Takes) (keys : List Block) → flat_map (again_faults takes
 no_second takes [] e = refl
 no_second takes (key ∷ keys) e =
     let first = none_of_both (again_faults takes key) (flat_map (again_faults takes) keys) e in
-    let twice : fault_at kinds.TwiceNamed key ∷ [] ≡ [] = (none_of_both (again_wrong takes key) (fault_at kinds.TwiceNamed key ∷ []) first.0).1 in
+    let twice : fault_at (again_kind takes key) key ∷ [] ≡ [] = first.0 in
     absurd cc
 
 not_more : (most n : ℕ) → nat_lt most n ≡ false → n ≤ most

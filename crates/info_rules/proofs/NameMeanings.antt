@@ -16,13 +16,14 @@ use Rattle.info_rules.specs.declared.rule.NameTest.TheVariants as tests
 use Rattle.info_rules.specs.Forms as forms
 use Rattle.info_rules.specs.Forms.{Form, Tested, PacketName, KeyName}
 use Rattle.info_rules.specs.Tree.{Block}
-use Rattle.info_rules.specs.Found.{both, needed, shown}
+use Rattle.std.specs.Result.{result_err}
+use Rattle.info_rules.specs.Found.{both, beside, needed}
 use Rattle.info_rules.specs.Keys.{on_option, first_of, others_of, named}
 use Rattle.info_rules.specs.ValueWords.{relation_in}
 use Rattle.info_rules.specs.Values.{ok_of, value_in, name_word_in}
 use Rattle.info_rules.specs.NameTest.{form_of, is_form, is_other, other_form_of, first_other, half_fault, second_fault, form_fault, Names, names_in, asked_in, test_of}
 use Rattle.info_rules.specs.Meaning.{IsOneOf, HasOnly, Lacks, HasValue, AsksOfName}
-use Rattle.info_rules.proofs.FoundParts.{both_ok, beside_ok, shown_ok, needed_ok}
+use Rattle.info_rules.proofs.FoundParts.{both_ok, beside_ok, no_fault_of, needed_ok}
 use Rattle.info_rules.proofs.Meanings.{lacks, only_of, has, has_again, has_there, has_once, lacks_again, lacks_once}
 use Rattle.info_rules.proofs.WordMeanings.{name_means, name_meant, pattern_means, pattern_meant, relation_means, relation_meant, name_word_means}
 
@@ -228,16 +229,16 @@ is_asked tested line keys names only once e =
     let name = value_in kinds.BadValue (λ text. ok_of (name_in text)) (codes "name") keys in
     let relation = value_in kinds.BadValue relation_in (codes "relation") keys in
     let regex = value_in kinds.Pattern (λ text. ok_of (pattern_in text)) (codes "regex") keys in
-    let found = beside_ok (form_fault tested line keys) (shown (λ (read : Unit {0} × Names). read.1) (both (needed line type) (both (both name relation) regex))) names e in
+    let found = beside_ok (form_fault tested line keys) (beside (result_err (needed line type)) (both (both name relation) regex)) names e in
     let form = form_is tested line keys found.0 in
-    let read = shown_ok (λ (read : Unit {0} × Names). read.1) (both (needed line type) (both (both name relation) regex)) names found.1 in
-    let parts = both_ok (needed line type) (both (both name relation) regex) read.0 read.1 in
-    let given = both_ok (both name relation) regex names (parts.1 ∙ ap Ok read.2) in
+    let parts = beside_ok (result_err (needed line type)) (both (both name relation) regex) names found.1 in
+    let word = no_fault_of (needed line type) parts.0 in
+    let given = both_ok (both name relation) regex names parts.1 in
     let named_by = both_ok name relation names.0 given.0 in
     record {
       form = form.0;
       only = all_by_form tested form.0 keys only form.1;
-      type = type_is keys once.type (needed_ok line type read.0.0 parts.0);
+      type = type_is keys once.type (needed_ok line type word.0 word.1);
       name = named_by.0;
       relation = named_by.1;
       regex = given.1;

@@ -1,5 +1,5 @@
 -- Blocks of checkers.
-use Rattle.std.specs.Prelude.{ℕ, List, [], Option, None, Some, Ok, Err, Bool, true, false, not, codes, ◌&&◌, ◌||◌, if◌then◌else◌}
+use Rattle.std.specs.Prelude.{ℕ, List, Option, None, Some, Ok, Err, Bool, true, false, not, codes, ◌&&◌, ◌||◌, if◌then◌else◌}
 use Rattle.info_rules.specs.declared.fault.RulesFaultKind.TheVariants.{BadValue, Missing}
 use Rattle.info_rules.specs.declared.rule.Checker.{Checker}
 use Rattle.info_rules.specs.declared.rule.Checker.TheVariants as checkers
@@ -13,7 +13,7 @@ use Rattle.info_rules.specs.declared.value_words.SignatureType.{SignatureType}
 use Rattle.info_rules.specs.declared.value_words.SignatureType.TheVariants.{HmacSha256, Sha256, Asymmetric}
 use Rattle.info_rules.specs.Tree.{Block}
 use Rattle.info_rules.specs.Faults.{after}
-use Rattle.info_rules.specs.Found.{Found, both, beside, needed, then_made, each}
+use Rattle.info_rules.specs.Found.{Found, both, beside, needed, shown, then_made, each}
 use Rattle.info_rules.specs.Keys.{first_of, named, is_there, missing_unless, block_in}
 use Rattle.info_rules.specs.ValueWords.{checker_type_in, signature_type_in}
 use Rattle.info_rules.specs.Values.{value_in}
@@ -52,30 +52,27 @@ abbrev pub has_locator : List Block → Found (Option CheckerType) → Found (Op
 has_locator keys type signature =
     not (needs_locator type signature) || is_there (codes "key-locator") keys
 
-abbrev pub locators_of : Bool → List Block → Found (List LocatorTest)
-locators_of hierarchical keys =
-    if hierarchical then Ok [] else each locator_in (named (codes "key-locator") keys)
-
-abbrev pub customized_with : ℕ → Option LocatorTest → Found Checker
-customized_with line None = Err (record { line = line; kind = Missing })
-customized_with line (Some test) = Ok (checkers.HmacSha256 test)
+-- what is asked of the key's name, so far as it is there: of several key locators the first counts
+abbrev pub locator_of : Bool → List Block → Found (Option LocatorTest)
+locator_of hierarchical keys =
+    if hierarchical then Ok (Some locators.Hierarchical)
+    else shown first_of (each locator_in (named (codes "key-locator") keys))
 
 -- what is asked of a signature by HMAC with SHA-256
-abbrev pub keyed_with : ℕ → CheckerType → Option LocatorTest → Found Checker
-keyed_with line Hierarchical test = Ok (checkers.HmacSha256 locators.Hierarchical)
-keyed_with line Customized test = customized_with line test
+abbrev pub keyed_with : ℕ → Option LocatorTest → Found Checker
+keyed_with line None = Err (record { line = line; kind = Missing })
+keyed_with line (Some test) = Ok (checkers.HmacSha256 test)
 
 -- HMAC with SHA-256 is meant where no type of signature is given
-abbrev pub checker_with : ℕ → CheckerType → Option SignatureType → Option LocatorTest
-    → Found Checker
-checker_with line type None test = keyed_with line type test
-checker_with line type (Some HmacSha256) test = keyed_with line type test
-checker_with line type (Some Sha256) test = Ok checkers.Sha256
-checker_with line type (Some Asymmetric) test = Ok checkers.Unsupported
+abbrev pub checker_with : ℕ → Option SignatureType → Option LocatorTest → Found Checker
+checker_with line None test = keyed_with line test
+checker_with line (Some HmacSha256) test = keyed_with line test
+checker_with line (Some Sha256) test = Ok checkers.Sha256
+checker_with line (Some Asymmetric) test = Ok checkers.Unsupported
 
-abbrev pub checker_made : ℕ → (CheckerType × Option SignatureType) × List LocatorTest
+abbrev pub checker_made : ℕ → (CheckerType × Option SignatureType) × Option LocatorTest
     → Found Checker
-checker_made line read = checker_with line read.0.0 read.0.1 (first_of read.1)
+checker_made line read = checker_with line read.0.1 read.1
 
 abbrev pub checker_by : ℕ → List Block → Found (Option CheckerType) → Found (Option SignatureType)
     → Found Checker
@@ -83,7 +80,7 @@ checker_by line keys type signature = beside
     (after None (walk_faults (block_of (is_hierarchical type)) keys))
     (beside (missing_unless (has_locator keys type signature) line)
     (then_made (checker_made line) (both (both (needed line type) signature)
-    (locators_of (is_hierarchical type) keys))))
+    (locator_of (is_hierarchical type) keys))))
 
 unfoldable pub checker_of : ℕ → List Block → Found Checker
 checker_of line keys = checker_by line keys

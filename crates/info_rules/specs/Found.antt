@@ -57,11 +57,6 @@ each f (key ∷ keys) = followed (f key) (each f keys)
 
 -- ---- one after the other
 
--- parts, of which one or more may be faulty
-abbrev pub gathered : {A : Type 0} → List A → Option RulesFault → Found (List A)
-gathered parts None = Ok parts
-gathered parts (Some fault) = Err fault
-
 -- one more part after these
 abbrev pub and_one : {A : Type 0} → Found (List A) → Found A → Found (List A)
 and_one (Ok parts) (Ok part) = Ok (parts ++ part ∷ [])

@@ -1,6 +1,7 @@
 -- What the blocks of filters and key locators ask of a name, in one of several forms.
 use Rattle.std.specs.Prelude.{ℕ, List, Option, None, Some, Ok, Err, Bool, true, false, not, codes, ◌||◌, ◌&&◌, if◌then◌else◌}
 use Rattle.std.specs.List.{filter_map}
+use Rattle.std.specs.Result.{result_err}
 use Rattle.ndn_names.specs.UriReading.{name_in}
 use Rattle.name_patterns.specs.PatternReading.{pattern_in}
 use Rattle.info_rules.specs.declared.fault.RulesFault.{RulesFault}
@@ -13,7 +14,7 @@ use Rattle.info_rules.specs.declared.rule.NameTest.TheVariants.{Related, Matchin
 use Rattle.info_rules.specs.Forms as forms
 use Rattle.info_rules.specs.Forms.{Form, Tested, PacketName, KeyName}
 use Rattle.info_rules.specs.Tree.{Block}
-use Rattle.info_rules.specs.Found.{Found, both, beside, needed, shown}
+use Rattle.info_rules.specs.Found.{Found, both, beside, needed}
 use Rattle.info_rules.specs.Keys.{on_option, first_of, is_word, is_there, missing_unless}
 use Rattle.info_rules.specs.ValueWords.{relation_in}
 use Rattle.info_rules.specs.Values.{ok_of, value_in, name_word_in}
@@ -88,8 +89,9 @@ names_in keys = both
 
 -- what is asked of a name, in one form
 unfoldable pub asked_in : Tested → ℕ → List Block → Found Names
-asked_in tested line keys = beside (form_fault tested line keys) (shown (λ read. read.1) (both
-    (needed line (value_in BadValue name_word_in (codes "type") keys)) (names_in keys)))
+asked_in tested line keys = beside (form_fault tested line keys)
+    (beside (result_err (needed line (value_in BadValue name_word_in (codes "type") keys)))
+    (names_in keys))
 
 abbrev pub related_of : ℕ → Option (List Field) → Option Relation → Found NameTest
 related_of line (Some name) (Some relation) = Ok (Related relation name)

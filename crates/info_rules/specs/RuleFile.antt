@@ -1,13 +1,14 @@
 -- Rule files: their faults, and their rules.
 use Rattle.std.specs.Prelude.{ℕ, List, [], ◌∷◌, ◌++◌, length, Option, None, nat_lt, bytes_eq, codes, if◌then◌else◌}
 use Rattle.std.specs.List.{flat_map}
+use Rattle.std.specs.Result.{result_err}
 use Rattle.info_rules.specs.declared.fault.RulesFault.{RulesFault}
 use Rattle.info_rules.specs.declared.fault.RulesFaultKind.TheVariants.{TwiceNamed}
 use Rattle.info_rules.specs.Blocks.{File}
 use Rattle.info_rules.specs.Tree.{PlainEntry, Block, blocks_of}
 use Rattle.info_rules.specs.Rule.{PlainRule}
 use Rattle.info_rules.specs.Faults.{after}
-use Rattle.info_rules.specs.Found.{Found, both, beside, shown, each}
+use Rattle.info_rules.specs.Found.{Found, beside, each}
 use Rattle.info_rules.specs.Keys.{on_option, first_of, is_word, named, value_of, fault_at}
 use Rattle.info_rules.specs.Values.{◌>>=◌}
 use Rattle.info_rules.specs.Walk.{walk_faults}
@@ -47,8 +48,8 @@ shared_faults keys = if nat_lt 256 (length (named (codes "rule") keys)) then [] 
 -- the rules of these keys, one for each `rule`
 unfoldable pub rules_of_keys : List Block → Found (List PlainRule)
 rules_of_keys keys = beside (after None (walk_faults File keys ++ shared_faults keys))
-    (shown (λ read. read.0) (both (each rule_in (named (codes "rule") keys))
-    (each anchor_in (named (codes "trust-anchor") keys))))
+    (beside (result_err (each anchor_in (named (codes "trust-anchor") keys)))
+    (each rule_in (named (codes "rule") keys)))
 
 -- the rules of a file, or the fault to report
 unfoldable pub rules_in : List PlainEntry → Found (List PlainRule)

@@ -1,8 +1,9 @@
 -- What is wrong with the keys of a block, by the table: keys that are not in it, and keys that
 -- stand there too often. The first key of each word is left to those who read it.
-use Rattle.std.specs.Prelude.{List, [], ◌∷◌, ◌++◌, Bool, false, if◌then◌else◌}
+use Rattle.std.specs.Prelude.{List, [], ◌∷◌, ◌++◌, false, if◌then◌else◌}
 use Rattle.std.specs.List.{flat_map, list_any}
 use Rattle.info_rules.specs.declared.fault.RulesFault.{RulesFault}
+use Rattle.info_rules.specs.declared.fault.RulesFaultKind.{RulesFaultKind}
 use Rattle.info_rules.specs.declared.fault.RulesFaultKind.TheVariants.{UnknownKey, BadValue, TwiceNamed}
 use Rattle.info_rules.specs.Blocks.{BlockKind, Times, Once, UpTo, AnyNumber, Takes, Value, Inner}
 use Rattle.info_rules.specs.Tree.{Block}
@@ -14,16 +15,14 @@ abbrev pub unknown_faults : List PlainForm → Block → List RulesFault
 unknown_faults forms key =
     if list_any (λ form. is_word form.word key) forms then [] else fault_at UnknownKey key ∷ []
 
-abbrev pub value_faults : Bool → Block → List RulesFault
-value_faults right key = if right then [] else fault_at BadValue key ∷ []
-
--- what else is wrong with a second key
-abbrev pub again_wrong : Takes → Block → List RulesFault
-again_wrong (Value kind) key = value_faults (on_option (is_value kind) false (value_of key)) key
-again_wrong Inner key = []
+-- a second key is one too many, unless its value is wrong
+abbrev pub again_kind : Takes → Block → RulesFaultKind
+again_kind (Value kind) key =
+    if on_option (is_value kind) false (value_of key) then TwiceNamed else BadValue
+again_kind Inner key = TwiceNamed
 
 abbrev pub again_faults : Takes → Block → List RulesFault
-again_faults takes key = again_wrong takes key ++ fault_at TwiceNamed key ∷ []
+again_faults takes key = fault_at (again_kind takes key) key ∷ []
 
 -- the keys of one word that stand there too often
 unfoldable pub times_faults : List Block → PlainForm → List RulesFault

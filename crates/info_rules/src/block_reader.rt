@@ -7,7 +7,7 @@ ghost use Rattle.info_rules.specs.Keys.{named, block_in};
 ghost use Rattle.info_rules.specs.Shown.{key_of, keys_of};
 
 use crate::fault::RulesFaultKind;
-use crate::found::{Read, add, beside, gathered};
+use crate::found::{Read, beside, with_one};
 use crate::keys::{Key, Keys};
 use std::alloc::Global;
 
@@ -33,10 +33,10 @@ fn read_block<R: BlockReader>(alloc: Global, reader: &R, key: Key<'_>) -> Read<R
     ensures { IfOk result
         (λ found. found ≡ block_in R.DEPTH (R.part_of reader.now) (key_of key.entry)) }
 {
-    if !key.has_block() {
+    if !key.own.has_block {
         return Ok(Err(key.fault(RulesFaultKind::BadValue)));
     }
-    let part = reader.read(alloc, key.line(), key.keys(R::DEPTH))?;
+    let part = reader.read(alloc, key.own.line, key.keys(R::DEPTH))?;
     Ok(beside(key.shape_fault(), part))
 }
 
@@ -50,14 +50,13 @@ pub fn read_blocks<R: BlockReader>(
     ensures { IfOk result (λ found. shown (λ all. all.items) found
         ≡ each (block_in R.DEPTH (R.part_of reader.now)) (named word.now (keys_of keys.entry))) }
 {
-    let mut all = Vec::new(alloc);
-    let mut fault = None;
+    let mut found = Ok(Vec::new(alloc));
     let mut left = keys;
     while let Some((key, others)) = left.split_first() {
         if key.is(word) {
-            add(&mut all, &mut fault, read_block(alloc, reader, key)?)?;
+            found = with_one(found, read_block(alloc, reader, key)?)?;
         }
         left = others;
     }
-    Ok(gathered(all, fault))
+    Ok(found)
 }

@@ -64,6 +64,13 @@ impl RulesFaultKind {
             RulesFaultKind::Memory => "Memory",
         }
     }
+
+    /// A fault of this kind on a line.
+    pub(crate) fn at(self, line: u32) -> RulesFault
+        ensures { result ≡ record { line = line; kind = self } }
+    {
+        RulesFault { line, kind: self }
+    }
 }
 
 /// Why a text is no rule file: a line, counted from 1, and what is wrong there. `TooLarge` and

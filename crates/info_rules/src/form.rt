@@ -95,7 +95,7 @@ fn other_form_of(tested: Tested, other: Option<Form>, key: Key<'_>) -> Option<(F
 {
     let form = tested.form_of(key)?;
     if form.is_not(other) {
-        return Some((form, key.line()));
+        return Some((form, key.own.line));
     }
     None
 }

@@ -1,6 +1,6 @@
 //! What is read, or else the fault to report of all that were met.
 
-ghost use Rattle.std.specs.Prelude.{◌≡◌, OnOk};
+ghost use Rattle.std.specs.Prelude.{◌≡◌, IfOk};
 ghost use Rattle.info_rules.specs.Found as found;
 ghost use Rattle.info_rules.specs.Found.{sooner_of, shown};
 ghost use Rattle.info_rules.specs.Keys.{missing_unless};
@@ -80,59 +80,24 @@ pub fn beside<A: Drop>(fault: Option<RulesFault>, read: Found<A>) -> Found<A>
     }
 }
 
-/// The first of two parts.
-pub fn first<A: Drop, B: Drop>(read: Found<(A, B)>) -> Found<A>
-    ensures { result ≡ found.shown (λ both. both.0) read }
-{
-    match read {
-        Ok((part, _)) => Ok(part),
-        Err(fault) => Err(fault),
-    }
-}
-
-/// The second of two parts.
-pub fn second<A: Drop, B: Drop>(read: Found<(A, B)>) -> Found<B>
-    ensures { result ≡ found.shown (λ both. both.1) read }
-{
-    match read {
-        Ok((_, part)) => Ok(part),
-        Err(fault) => Err(fault),
-    }
-}
-
 /// A part that is needed in the block of a key on this line.
 pub fn needed<A: Drop>(line: u32, read: Found<Option<A>>) -> Found<A>
     ensures { result ≡ found.needed line read }
 {
-    read?.ok_or(RulesFault {
-        line,
-        kind: RulesFaultKind::Missing,
-    })
+    read?.ok_or(RulesFaultKind::Missing.at(line))
 }
 
-/// Adds one more part to others.
-pub fn add<A: Drop>(
-    all: &mut Vec<A>,
-    fault: &mut Option<RulesFault>,
-    read: Found<A>,
-) -> Result<(), Memory>
-    ensures { OnOk result (found.gathered all.new.items fault.new
-        ≡ found.and_one (found.gathered all.old.items fault.old) read) }
+/// Parts with one more, or the fault to report of all.
+pub fn with_one<A: Drop>(parts: Found<Vec<A>>, read: Found<A>) -> Read<Vec<A>>
+    ensures { IfOk result (λ all. shown (λ parts. parts.items) all
+        ≡ found.and_one (shown (λ parts. parts.items) parts) read) }
 {
-    match read {
-        Ok(part) => all.push(part)?,
-        Err(other) => *fault = Some(fault.map_or(other, |fault| fault.sooner_of(other))),
-    }
-    Ok(())
-}
-
-/// The parts, or the fault that was met.
-pub fn gathered<A: Drop>(all: Vec<A>, fault: Option<RulesFault>) -> Found<Vec<A>>
-    ensures { shown (λ parts. parts.items) result ≡ found.gathered all.items fault }
-{
-    match fault {
-        Some(fault) => Err(fault),
-        None => Ok(all),
+    match both(parts, read) {
+        Ok((mut all, part)) => {
+            all.push(part)?;
+            Ok(Ok(all))
+        }
+        Err(fault) => Ok(Err(fault)),
     }
 }
 
@@ -143,8 +108,5 @@ pub fn missing_unless(there: bool, line: u32) -> Option<RulesFault>
     if there {
         return None;
     }
-    Some(RulesFault {
-        line,
-        kind: RulesFaultKind::Missing,
-    })
+    Some(RulesFaultKind::Missing.at(line))
 }

@@ -65,18 +65,13 @@ fn hyper_with(key: Half, relation: Option<Relation>, packet: Half) -> Option<Hyp
 {
     let (key_pattern, key_template) = key;
     let (packet_pattern, packet_template) = packet;
-    let key_pattern = key_pattern?;
-    let key_template = key_template?;
-    let relation = relation?;
-    let packet_pattern = packet_pattern?;
-    let packet_template = packet_template?;
-    Some(HyperRelation::new(
-        key_pattern,
-        key_template,
-        relation,
-        packet_pattern,
-        packet_template,
-    ))
+    Some(HyperRelation {
+        key_pattern: key_pattern?,
+        key_template: key_template?,
+        relation: relation?,
+        packet_pattern: packet_pattern?,
+        packet_template: packet_template?,
+    })
 }
 
 /// The parts of a relation, so far as they are there.

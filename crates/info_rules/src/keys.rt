@@ -2,7 +2,6 @@
 
 use crate::entry::Entry;
 use crate::fault::{RulesFault, RulesFaultKind};
-use crate::report::Report;
 
 /// A key, and the entries of its block.
 #[derive(Clone, Copy)]
@@ -17,13 +16,6 @@ impl<'a> Key<'a> {
     ghost use Rattle.info_rules.specs.Tree.{blocks_of};
     ghost use Rattle.info_rules.specs.Keys.{is_word, value_of, fault_at, shape_fault};
     ghost use Rattle.info_rules.specs.Shown.{key_of, keys_of};
-
-    /// Its line, counted from 1.
-    pub fn line(self) -> u32
-        ensures { result ≡ (key_of self.entry).0.line }
-    {
-        self.own.line
-    }
 
     /// Whether it is this word.
     pub fn is(self, word: &str) -> bool
@@ -42,13 +34,6 @@ impl<'a> Key<'a> {
         self.own.value.as_deref()
     }
 
-    /// Whether it has a block.
-    pub fn has_block(self) -> bool
-        ensures { result ≡ (key_of self.entry).0.has_block }
-    {
-        self.own.has_block
-    }
-
     /// The keys of its block, which are in so many blocks.
     pub fn keys(self, depth: usize) -> Keys<'a>
         ensures { keys_of result ≡ blocks_of depth (key_of self.entry).1 }
@@ -63,10 +48,7 @@ impl<'a> Key<'a> {
     pub fn fault(self, kind: RulesFaultKind) -> RulesFault
         ensures { result ≡ fault_at kind (key_of self.entry) }
     {
-        RulesFault {
-            line: self.own.line,
-            kind,
-        }
+        kind.at(self.own.line)
     }
 
     /// What is wrong with a key that needs a block, and has a value or no block.
@@ -91,8 +73,7 @@ impl<'a> Keys<'a> {
     ghost use Rattle.std.specs.Prelude.{◌≡◌, ◌≤◌, ◌<◌, [], ◌∷◌, map, length, MatchOption};
     ghost use Rattle.std.specs.Option.{option_map};
     ghost use Rattle.info_rules.specs.Tree.{parted};
-    ghost use Rattle.info_rules.specs.Faults.{after};
-    ghost use Rattle.info_rules.specs.Keys.{first_of, others_of, named, is_there, many_faults};
+    ghost use Rattle.info_rules.specs.Keys.{first_of, others_of, named, is_there};
     ghost use Rattle.info_rules.specs.Shown.{entry_of, key_of, keys_of};
 
     /// The entries in front of the first key, and the keys.
@@ -118,13 +99,12 @@ impl<'a> Keys<'a> {
     {
         let (_, entries) = self.parted();
         let (own, following) = entries.split_first()?;
-        let depth = self.depth;
-        let (inner, entries) = Keys {
-            depth,
+        let following = Keys {
             entries: following,
-        }
-        .parted();
-        Some((Key { own, inner }, Keys { depth, entries }))
+            ..self
+        };
+        let (inner, entries) = following.parted();
+        Some((Key { own, inner }, Keys { entries, ..self }))
     }
 
     /// The first key that is this word.
@@ -176,15 +156,5 @@ impl<'a> Keys<'a> {
             keys = others;
         }
         count
-    }
-
-    /// Notes more keys than so many that are this word.
-    #[tactic(auto, unfolding(crate::specs::Faults::after))]
-    pub fn judge_many(self, most: usize, word: &str, report: &mut Report)
-        ensures { report.new ≡ after report.old (many_faults most word.now (keys_of self.entry)) }
-    {
-        if self.count(word) > most {
-            report.note(0, RulesFaultKind::TooLarge);
-        }
     }
 }

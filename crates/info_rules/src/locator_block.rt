@@ -2,7 +2,6 @@
 
 ghost use Rattle.std.specs.Prelude.{◌≡◌};
 ghost use Rattle.info_rules.specs.Found.{shown, then_made, both as spec_both};
-ghost use Rattle.info_rules.specs.Keys.{first_of};
 ghost use Rattle.info_rules.specs.Shown.{keys_of};
 ghost use Rattle.info_rules.specs.LocatorBlock as spec;
 ghost use Rattle.info_rules.specs.LocatorBlock.{is_hyper_alone, locator_of};
@@ -27,16 +26,6 @@ fn is_hyper_alone(keys: Keys<'_>) -> bool
 }
 
 /// What the first hyper-relation asks of a key's name, or else the names.
-fn test_by(line: u32, names: Names, hypers: Vec<Option<HyperRelation>>) -> Found<LocatorTest>
-    ensures { result ≡ spec.test_by line names (first_of hypers.items) }
-{
-    match hypers.into_iter().next() {
-        Some(Some(hyper)) => Ok(LocatorTest::Hyper(hyper)),
-        _ => Ok(LocatorTest::Name(test_of(line, names)?)),
-    }
-}
-
-/// The test of these parts.
 fn made_of(
     line: u32,
     names: Found<Names>,
@@ -46,7 +35,10 @@ fn made_of(
         (spec_both names (shown (λ all. all.items) hypers)) }
 {
     let (names, hypers) = both(names, hypers)?;
-    test_by(line, names, hypers)
+    match hypers.into_iter().next() {
+        Some(Some(hyper)) => Ok(LocatorTest::Hyper(hyper)),
+        _ => Ok(LocatorTest::Name(test_of(line, names)?)),
+    }
 }
 
 /// Reads what key locators ask of a key's name.

@@ -6,7 +6,7 @@ ghost use Rattle.info_rules.specs.NameTest as spec;
 
 use crate::fault::{RulesFault, RulesFaultKind};
 use crate::form::{Form, Tested, first_other};
-use crate::found::{Found, Read, beside, both, missing_unless, needed, second};
+use crate::found::{Found, Read, beside, both, missing_unless, needed};
 use crate::keys::Keys;
 use crate::readers::{read_name_word, read_value};
 use crate::rule::{NameTest, Relation};
@@ -17,27 +17,15 @@ use std::alloc::Global;
 /// A name, a relation and a pattern, so far as they are there.
 pub type Names = ((Option<NameBuf>, Option<Relation>), Option<Pattern>);
 
-/// What a block lacks that has keys of this form alone.
-fn half_fault(line: u32, keys: Keys<'_>, form: Form) -> Option<RulesFault>
-    ensures { result ≡ spec.half_fault line (keys_of keys.entry) (name_form_of form) }
-{
-    match form {
-        Form::Related => missing_unless(keys.has("name") && keys.has("relation"), line),
-        Form::Matching | Form::Hyper => None,
-    }
-}
-
 /// The fault of the first key of a second form, or else of what the first form lacks.
 fn second_fault(tested: Tested, line: u32, keys: Keys<'_>, form: Form) -> Option<RulesFault>
     ensures { result
         ≡ spec.second_fault (tested_of tested) line (keys_of keys.entry) (name_form_of form) }
 {
-    match first_other(tested, Some(form), keys) {
-        Some((_, second)) => Some(RulesFault {
-            line: second,
-            kind: RulesFaultKind::BadValue,
-        }),
-        None => half_fault(line, keys, form),
+    match (first_other(tested, Some(form), keys), form) {
+        (Some((_, second)), _) => Some(RulesFaultKind::BadValue.at(second)),
+        (None, Form::Related) => missing_unless(keys.has("name") && keys.has("relation"), line),
+        (None, Form::Matching | Form::Hyper) => None,
     }
 }
 
@@ -68,19 +56,10 @@ pub fn read_asked(alloc: Global, tested: Tested, line: u32, keys: Keys<'_>) -> R
     ensures { IfOk result
         (λ found. found ≡ spec.asked_in (tested_of tested) line (keys_of keys.entry)) }
 {
+    let fault = form_fault(tested, line, keys);
     let word = needed(line, read_name_word(keys, "type"));
     let names = read_names(alloc, keys)?;
-    let asked = second(both(word, names));
-    Ok(beside(form_fault(tested, line, keys), asked))
-}
-
-/// The test by a name and a relation.
-fn related_of(line: u32, name: Option<NameBuf>, relation: Option<Relation>) -> Found<NameTest>
-    ensures { result ≡ spec.related_of line name relation }
-{
-    let name = needed(line, Ok(name))?;
-    let relation = needed(line, Ok(relation))?;
-    Ok(NameTest::Related(relation, name))
+    Ok(beside(fault, beside(word.err(), names)))
 }
 
 /// The test of a name: one form, where no fault was met beside it.
@@ -90,6 +69,9 @@ pub fn test_of(line: u32, names: Names) -> Found<NameTest>
     let ((name, relation), pattern) = names;
     match pattern {
         Some(pattern) => Ok(NameTest::Matching(pattern)),
-        None => related_of(line, name, relation),
+        None => {
+            let name = needed(line, Ok(name))?;
+            Ok(NameTest::Related(needed(line, Ok(relation))?, name))
+        }
     }
 }

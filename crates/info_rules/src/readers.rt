@@ -43,7 +43,7 @@ pub fn read_value<V: Value>(
         return Ok(Ok(None));
     };
     Ok(match key.value() {
-        Some(text) => read_at(kind, key.line(), V::of_text(alloc, text)?),
+        Some(text) => read_at(kind, key.own.line, V::of_text(alloc, text)?),
         None => Err(key.fault(RulesFaultKind::BadValue)),
     })
 }
@@ -82,7 +82,7 @@ pub fn read_template(
     Ok(match key.value() {
         Some(text) => {
             let template = template_of(alloc, text, groups)?;
-            read_at(RulesFaultKind::Pattern, key.line(), template)
+            read_at(RulesFaultKind::Pattern, key.own.line, template)
         }
         None => Err(key.fault(RulesFaultKind::BadValue)),
     })

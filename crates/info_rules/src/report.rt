@@ -1,7 +1,7 @@
 //! Which fault of a rule file is reported.
 
-ghost use Rattle.std.specs.Prelude.{◌≡◌, None, Some, List, [], MatchOption};
-ghost use Rattle.info_rules.specs.Faults.{noted, after, IsAmong, NoneIsSooner};
+ghost use Rattle.std.specs.Prelude.{◌≡◌, None, List, [], MatchOption};
+ghost use Rattle.info_rules.specs.Faults.{after, IsAmong, NoneIsSooner};
 
 use crate::fault::{RulesFault, RulesFaultKind};
 use std::marker::Model;
@@ -21,16 +21,6 @@ impl Model for Report {
     ghost view = { λ report. report.first };
 }
 
-/// The fault to report, when one more is met.
-fn told_of(first: Option<RulesFault>, fault: RulesFault) -> RulesFault
-    ensures { noted first fault ≡ Some result }
-{
-    match first {
-        Some(told) => told.sooner_of(fault),
-        None => fault,
-    }
-}
-
 impl Report {
     ghost use Rattle.std.specs.Prelude.{◌≡◌, None, [], ◌∷◌};
     ghost use Rattle.info_rules.specs.Faults.{after};
@@ -42,12 +32,13 @@ impl Report {
         Report { first: None }
     }
 
-    #[tactic(auto, unfolding(crate::specs::Faults::after))]
     /// Notes a fault of this kind on this line.
+    #[tactic(auto, unfolding(crate::specs::Faults::after))]
     pub fn note(&mut self, line: u32, kind: RulesFaultKind)
         ensures { self.new ≡ after self.old (record { line = line; kind = kind } ∷ []) }
     {
-        self.first = Some(told_of(self.first, RulesFault { line, kind }));
+        let fault = kind.at(line);
+        self.first = Some(self.first.map_or(fault, |told| told.sooner_of(fault)));
     }
 
     /// The fault to report, if any was met.

@@ -64,38 +64,6 @@ impl Model for HyperRelation {
         }) };
 }
 
-impl HyperRelation {
-    ghost use Rattle.std.specs.Prelude.{◌≡◌, length};
-    ghost use Rattle.name_patterns.specs.Template.{NeedAtMost};
-
-    /// The relation of these patterns, each with a template that needs none but its groups.
-    pub fn new(
-        key_pattern: Pattern,
-        key_template: Template,
-        relation: Relation,
-        packet_pattern: Pattern,
-        packet_template: Template,
-    ) -> HyperRelation
-        requires key { NeedAtMost (length key_pattern.groups) key_template }
-        requires packet { NeedAtMost (length packet_pattern.groups) packet_template }
-        ensures { result ≡ record {
-          key_pattern = key_pattern;
-          key_template = key_template;
-          relation = relation;
-          packet_pattern = packet_pattern;
-          packet_template = packet_template;
-        } }
-    {
-        HyperRelation {
-            key_pattern,
-            key_template,
-            relation,
-            packet_pattern,
-            packet_template,
-        }
-    }
-}
-
 /// What is asked of the name of the key that signed a packet.
 #[derive(Debug, Drop)]
 pub enum LocatorTest {

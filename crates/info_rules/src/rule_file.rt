@@ -16,7 +16,7 @@ ghost use Rattle.info_rules.specs.RuleFile.{id_key, same_id_faults, repeated_fau
 use crate::anchor_block::AnchorReader;
 use crate::block_reader::{BlockReader, read_blocks};
 use crate::fault::{MEMORY, RulesFault, RulesFaultKind};
-use crate::found::{Read, beside, both, first};
+use crate::found::{Read, beside};
 use crate::keys::{Key, Keys};
 use crate::report::Report;
 use crate::rule::Rule;
@@ -42,48 +42,37 @@ fn id_key(key: Key<'_>) -> Option<Key<'_>>
     None
 }
 
-#[tactic(auto, using(crate::proofs::Reports::after_none), unfolding(crate::specs::RuleFile::same_id_faults))]
 /// Notes the id of a rule where it is this text.
+#[tactic(auto, using(crate::proofs::Reports::after_none), unfolding(crate::specs::RuleFile::same_id_faults))]
 fn judge_same_id(id: &str, key: Key<'_>, report: &mut Report)
     ensures { report.new ≡ after report.old (same_id_faults id.now (key_of key.entry)) }
 {
-    if let Some(later) = id_key(key) {
-        if let Some(text) = later.value() {
-            if text == id {
-                report.note(later.line(), RulesFaultKind::TwiceNamed);
-            }
-        }
+    if let Some(later) = id_key(key)
+        && let Some(text) = later.value()
+        && text == id
+    {
+        report.note(later.own.line, RulesFaultKind::TwiceNamed);
     }
 }
 
-/// Notes the ids of rules that are this text.
-#[tactic(auto, using(crate::proofs::Reports::after_first, crate::proofs::Reports::after_no))]
-fn judge_same_ids(id: &str, keys: Keys<'_>, report: &mut Report)
+/// Notes the ids of later rules that are the id of this one.
+#[tactic(auto, using(crate::proofs::Reports::after_first, crate::proofs::Reports::after_no, crate::proofs::Reports::after_none), unfolding(crate::specs::RuleFile::repeated_faults))]
+fn judge_repeated(key: Key<'_>, later: Keys<'_>, report: &mut Report)
     ensures { report.new
-        ≡ after report.old (flat_map (same_id_faults id.now) (keys_of keys.entry)) }
+        ≡ after report.old (repeated_faults (key_of key.entry) (keys_of later.entry)) }
 {
-    let mut left = keys;
+    let Some(id) = id_key(key).and_then(|first| first.value()) else {
+        return;
+    };
+    let mut left = later;
     while let Some((key, others)) = left.split_first() {
         judge_same_id(id, key, report);
         left = others;
     }
 }
 
-#[tactic(auto, using(crate::proofs::Reports::after_none), unfolding(crate::specs::RuleFile::repeated_faults))]
-/// Notes the ids of later rules that are the id of this one.
-fn judge_repeated(key: Key<'_>, later: Keys<'_>, report: &mut Report)
-    ensures { report.new
-        ≡ after report.old (repeated_faults (key_of key.entry) (keys_of later.entry)) }
-{
-    if let Some(first) = id_key(key) {
-        if let Some(id) = first.value() {
-            judge_same_ids(id, later, report);
-        }
-    }
-}
-
-#[tactic(auto, using(crate::proofs::Reports::after_append), unfolding(crate::specs::RuleFile::id_faults, crate::specs::Faults::after))]
 /// Notes each id that an earlier rule has.
+#[tactic(auto, using(crate::proofs::Reports::after_append), unfolding(crate::specs::RuleFile::id_faults, crate::specs::Faults::after))]
 fn judge_ids(keys: Keys<'_>, report: &mut Report)
     ensures { report.new ≡ after report.old (id_faults (keys_of keys.entry)) }
 {
@@ -116,7 +105,7 @@ fn read_keys(alloc: Global, keys: Keys<'_>) -> Read<Vec<Rule>>
     let fault = judge_file(alloc, keys)?;
     let rules = read_blocks(alloc, &RuleReader, "rule", keys)?;
     let anchors = read_blocks(alloc, &AnchorReader, "trust-anchor", keys)?;
-    Ok(beside(fault, first(both(rules, anchors))))
+    Ok(beside(fault, beside(anchors.err(), rules)))
 }
 
 /// The rules of these entries.

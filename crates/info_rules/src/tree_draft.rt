@@ -12,30 +12,12 @@ use std::alloc::Global;
 /// The greatest number of blocks that are open at once.
 const MAX_DEPTH: usize = 8;
 
-fn syntax(line: u32) -> RulesFault
-    ensures { result ≡ read.syntax line }
-{
-    RulesFault {
-        line,
-        kind: RulesFaultKind::Syntax,
-    }
-}
-
-fn too_deep(line: u32) -> RulesFault
-    ensures { result ≡ read.too_deep line }
-{
-    RulesFault {
-        line,
-        kind: RulesFaultKind::TooDeep,
-    }
-}
-
 /// The fault of a block that was too deep on an earlier line.
 fn deep_before(deep: Option<u32>, line: u32) -> Option<RulesFault>
     ensures { result ≡ read.deep_before deep line }
 {
     match deep {
-        Some(deep) if deep != line => Some(too_deep(deep)),
+        Some(deep) if deep != line => Some(RulesFaultKind::TooDeep.at(deep)),
         _ => None,
     }
 }
@@ -118,7 +100,7 @@ impl Draft {
             MatchResult result (λ _. next ≡ Ok (draft_of self.new)) (IsTreeFaultOf next) }
     {
         if entry.value.is_some() {
-            return Err(syntax(line));
+            return Err(RulesFaultKind::Syntax.at(line));
         }
         let value = unescaped(alloc, word)?;
         self.pending = Some(Entry {
@@ -137,7 +119,7 @@ impl Draft {
         match self.pending.take() {
             Some(entry) if entry.line == line => return self.add_value(alloc, line, word, entry),
             Some(entry) => self.ended.push(entry)?,
-            None if self.closed == Some(line) => return Err(syntax(line)),
+            None if self.closed == Some(line) => return Err(RulesFaultKind::Syntax.at(line)),
             None => {}
         }
         self.add_key(alloc, line, word)
@@ -151,7 +133,7 @@ impl Draft {
             MatchResult result (λ _. next ≡ Ok (draft_of self.new)) (IsTreeFaultOf next) }
     {
         let Some(entry) = self.pending.take() else {
-            return Err(syntax(line));
+            return Err(RulesFaultKind::Syntax.at(line));
         };
         self.ended.push(Entry {
             has_block: true,
@@ -171,7 +153,7 @@ impl Draft {
             MatchResult result (λ _. next ≡ Ok (draft_of self.new)) (IsTreeFaultOf next) }
     {
         if self.depth == 0 {
-            return Err(syntax(line));
+            return Err(RulesFaultKind::Syntax.at(line));
         }
         self.end_entry()?;
         self.depth -= 1;
@@ -197,7 +179,7 @@ impl Draft {
             Token::Word(word) => self.add_word(alloc, line, word),
             Token::Open => self.open_block(line),
             Token::Close => self.close_block(line),
-            Token::Broken => Err(syntax(line)),
+            Token::Broken => Err(RulesFaultKind::Syntax.at(line)),
         }
     }
 
@@ -211,10 +193,10 @@ impl Draft {
             return Err(fault);
         }
         if self.depth > 0 {
-            return Err(syntax(line));
+            return Err(RulesFaultKind::Syntax.at(line));
         }
         if let Some(deep) = self.deep {
-            return Err(too_deep(deep));
+            return Err(RulesFaultKind::TooDeep.at(deep));
         }
         let mut draft = self;
         draft.end_entry()?;

@@ -42,10 +42,7 @@ fn read_tree(alloc: Global, text: &str) -> Result<InfoTree, RulesFault>
         (IsTreeFaultOf (tree_in text.now)) }
 {
     if text.len() > MAX_LEN {
-        return Err(RulesFault {
-            line: 0,
-            kind: RulesFaultKind::TooLarge,
-        });
+        return Err(RulesFaultKind::TooLarge.at(0));
     }
     let entries = read_entries(alloc, text)?;
     Ok(InfoTree { entries })

@@ -5,7 +5,7 @@ ghost use Rattle.std.specs.List.{flat_map, list_any};
 ghost use Rattle.info_rules.specs.Faults.{after};
 ghost use Rattle.info_rules.specs.Table.{table};
 ghost use Rattle.info_rules.specs.Keys.{is_word, named, others_of};
-ghost use Rattle.info_rules.specs.Walk.{unknown_faults, value_faults, again_wrong, again_faults, times_faults, walk_faults};
+ghost use Rattle.info_rules.specs.Walk.{unknown_faults, again_kind, again_faults, times_faults, walk_faults};
 ghost use Rattle.info_rules.specs.Shown.{key_of, keys_of, form_of, takes_of, block_kind_of};
 
 use crate::fault::RulesFaultKind;
@@ -14,6 +14,9 @@ use crate::report::Report;
 use crate::table::{Block, Form, Takes, Times};
 use ndn_tlv::Memory;
 use std::alloc::Global;
+
+/// Nothing but a refusal of memory ends a walk.
+type Judged = Result<(), Memory>;
 
 /// Whether a key is in the table.
 fn is_known(forms: &[Form], key: Key<'_>) -> bool
@@ -39,48 +42,32 @@ fn judge_unknown(forms: &[Form], keys: Keys<'_>, report: &mut Report)
     let mut left = keys;
     while let Some((key, others)) = left.split_first() {
         if !is_known(forms, key) {
-            report.note(key.line(), RulesFaultKind::UnknownKey);
+            report.note(key.own.line, RulesFaultKind::UnknownKey);
         }
         left = others;
     }
 }
 
-/// Whether a second key is wrong by itself.
-fn is_right(alloc: Global, takes: Takes, key: Key<'_>) -> Result<bool, Memory>
-    ensures { IfOk result (λ right. again_wrong (takes_of takes) (key_of key.entry)
-        ≡ value_faults right (key_of key.entry)) }
+/// What is told of a second key: that it is one too many, unless it is wrong by itself. Those who
+/// read blocks judge each.
+fn again_kind(alloc: Global, takes: Takes, key: Key<'_>) -> Result<RulesFaultKind, Memory>
+    ensures { IfOk result (λ kind. kind ≡ again_kind (takes_of takes) (key_of key.entry)) }
 {
-    match takes {
-        Takes::Value(kind) => match key.value() {
-            Some(text) => kind.is_value(alloc, text),
-            None => Ok(false),
-        },
-        // Those who read blocks read each.
-        Takes::Inner => Ok(true),
+    let right = match (takes, key.value()) {
+        (Takes::Inner, _) => true,
+        (Takes::Value(kind), Some(text)) => kind.is_value(alloc, text)?,
+        (Takes::Value(_), None) => false,
+    };
+    if right {
+        Ok(RulesFaultKind::TwiceNamed)
+    } else {
+        Ok(RulesFaultKind::BadValue)
     }
-}
-
-/// Notes a second key.
-#[tactic(auto, using(crate::proofs::Reports::after_append, crate::proofs::Reports::after_none), unfolding(crate::specs::Faults::after))]
-fn judge_again(alloc: Global, takes: Takes, key: Key<'_>, report: &mut Report) -> Result<(), Memory>
-    ensures { OnOk result (report.new
-        ≡ after report.old (again_faults (takes_of takes) (key_of key.entry))) }
-{
-    if !is_right(alloc, takes, key)? {
-        report.note(key.line(), RulesFaultKind::BadValue);
-    }
-    report.note(key.line(), RulesFaultKind::TwiceNamed);
-    Ok(())
 }
 
 /// Notes the keys of a word after the first.
-#[tactic(auto, using(crate::proofs::Reports::after_append, crate::proofs::Reports::after_none))]
-fn judge_second(
-    alloc: Global,
-    form: &Form,
-    keys: Keys<'_>,
-    report: &mut Report,
-) -> Result<(), Memory>
+#[tactic(auto, using(crate::proofs::Reports::after_append, crate::proofs::Reports::after_none), unfolding(crate::specs::Faults::after))]
+fn judge_second(alloc: Global, form: &Form, keys: Keys<'_>, report: &mut Report) -> Judged
     ensures { OnOk result (report.new ≡ after report.old
         (flat_map (again_faults (takes_of form.now.1))
         (others_of (named form.now.0.now (keys_of keys.entry))))) }
@@ -88,7 +75,7 @@ fn judge_second(
     let mut left = keys.after_first(form.0);
     while let Some((key, others)) = left.split_first() {
         if key.is(form.0) {
-            judge_again(alloc, form.1, key, report)?;
+            report.note(key.own.line, again_kind(alloc, form.1, key)?);
         }
         left = others;
     }
@@ -96,34 +83,22 @@ fn judge_second(
 }
 
 /// Notes the keys of a word that stand there too often.
-#[tactic(auto, using(crate::proofs::Reports::after_none), unfolding(crate::specs::Walk::times_faults))]
-fn judge_times(
-    alloc: Global,
-    form: &Form,
-    keys: Keys<'_>,
-    report: &mut Report,
-) -> Result<(), Memory>
+#[tactic(auto, using(crate::proofs::Reports::after_none), unfolding(crate::specs::Walk::times_faults, crate::specs::Faults::after))]
+fn judge_times(alloc: Global, form: &Form, keys: Keys<'_>, report: &mut Report) -> Judged
     ensures { OnOk result
         (report.new ≡ after report.old (times_faults (keys_of keys.entry) (form_of form.now))) }
 {
     match form.2 {
-        Times::Once => judge_second(alloc, form, keys, report),
-        Times::UpTo(most) => {
-            keys.judge_many(most, form.0, report);
-            Ok(())
-        }
-        Times::AnyNumber => Ok(()),
+        Times::Once => judge_second(alloc, form, keys, report)?,
+        Times::UpTo(most) if keys.count(form.0) > most => report.note(0, RulesFaultKind::TooLarge),
+        Times::UpTo(_) | Times::AnyNumber => {}
     }
+    Ok(())
 }
 
 /// Notes the keys that stand there too often.
 #[tactic(auto, using(crate::proofs::Reports::after_first, crate::proofs::Reports::after_no))]
-fn judge_all_times(
-    alloc: Global,
-    forms: &[Form],
-    keys: Keys<'_>,
-    report: &mut Report,
-) -> Result<(), Memory>
+fn judge_all_times(alloc: Global, forms: &[Form], keys: Keys<'_>, report: &mut Report) -> Judged
     ensures { OnOk result (report.new ≡ after report.old
         (flat_map (times_faults (keys_of keys.entry)) (map form_of forms.now))) }
 {
