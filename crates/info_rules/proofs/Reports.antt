@@ -1,8 +1,15 @@
 -- Noting faults one after the other.
-use Rattle.std.proofs.Common.{◌≡◌, List, [], ◌∷◌, ◌++◌, refl, sym, ap, ◌∙◌}
-use Rattle.std.specs.Prelude.{Option}
-use Rattle.std.specs.List.{flat_map}
+use Rattle.std.proofs.Common.{◌≡◌, List, [], ◌∷◌, ◌++◌, map, true, false, refl, sym, ap, ◌∙◌}
+use Rattle.std.specs.Prelude.{Option, ◌||◌}
+use Rattle.std.specs.List.{flat_map, list_any}
 use Rattle.info_rules.specs.declared.fault.RulesFault.{RulesFault}
+use Rattle.info_rules.specs.declared.table.Form.{Form}
+use Rattle.info_rules.specs.Tree.{Block}
+use Rattle.info_rules.specs.declared.fault.RulesFaultKind.TheVariants.{UnknownKey}
+use Rattle.info_rules.specs.Keys.{is_word, fault_at}
+use Rattle.info_rules.specs.Walk.{unknown_faults}
+use Rattle.info_rules.specs.Table.{PlainForm}
+use Rattle.info_rules.specs.Shown.{form_of}
 use Rattle.info_rules.specs.Faults.{noted, after}
 
 pub after_none : (told : Option RulesFault) → after told [] ≡ told
@@ -21,3 +28,27 @@ after_first f told xs x others e = sym (after_append told (f x) (flat_map f othe
 
 pub after_no : {A : Type 0} (f : A → List RulesFault) (told : Option RulesFault) (xs : List A) → xs ≡ [] → after told (flat_map f xs) ≡ told
 after_no f told xs e = ap (λ l. after told (flat_map f l)) e ∙ after_none told
+
+-- a table that is shown knows the keys that it knows
+known_shown : (key : Block) (forms : List Form) → list_any (λ (form : PlainForm). is_word form.word key) (map form_of forms) ≡ list_any (λ (form : Form). is_word form.0.now key) forms
+known_shown key [] = refl
+known_shown key (form ∷ forms) = ap (λ t. is_word form.0.now key || t) (known_shown key forms)
+
+pub unknown_here : (key : Block) (forms : List Form) → list_any (λ (form : Form). is_word form.0.now key) forms ≡ false → unknown_faults (map form_of forms) key ≡ fault_at UnknownKey key ∷ []
+unknown_here key forms e = rw (known_shown key forms, e) refl
+
+pub known_here : (key : Block) (forms : List Form) → list_any (λ (form : Form). is_word form.0.now key) forms ≡ true → unknown_faults (map form_of forms) key ≡ []
+known_here key forms e = rw (known_shown key forms, e) refl
+
+-- nothing is noted of the first of several
+pub after_clean : {A : Type 0} (f : A → List RulesFault) (told : Option RulesFault) (xs : List A) (x : A) (others : List A) → xs ≡ x ∷ others → f x ≡ [] → after told (flat_map f others) ≡ after told (flat_map f xs)
+after_clean f told xs x others e none =
+    let same : flat_map f xs ≡ flat_map f others = rw (e, none) refl in
+    ap (after told) (sym same)
+
+-- one fault is noted of it
+pub after_noted : {A : Type 0} (f : A → List RulesFault) (told new : Option RulesFault) (xs : List A) (x : A) (others : List A) (fault : RulesFault) → xs ≡ x ∷ others → f x ≡ fault ∷ [] → new ≡ after told (fault ∷ [])
+    → after new (flat_map f others) ≡ after told (flat_map f xs)
+after_noted f told new xs x others fault e one is =
+    let noted_is : new ≡ after told (f x) = rw one is in
+    ap (λ (t : Option RulesFault). after t (flat_map f others)) noted_is ∙ after_first f told xs x others e

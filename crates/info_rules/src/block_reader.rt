@@ -34,7 +34,7 @@ fn read_block<R: BlockReader>(alloc: Global, reader: &R, key: Key<'_>) -> Read<R
         (λ found. found ≡ block_in R.DEPTH (R.part_of reader.now) (key_of key.entry)) }
 {
     if !key.own.has_block {
-        return Ok(Err(key.fault(RulesFaultKind::BadValue)));
+        return Ok(Err(RulesFaultKind::BadValue.at(key.own.line)));
     }
     let part = reader.read(alloc, key.own.line, key.keys(R::DEPTH))?;
     Ok(beside(key.shape_fault(), part))

@@ -18,13 +18,11 @@ use ndn_tlv::Memory;
 use sha2::{Digest, Sha256};
 use std::alloc::Global;
 
+/// The reason against a packet, or `None` where it passes, unless memory is refused.
+pub type Checked = Result<Option<Reason>, Memory>;
+
 /// The checker's first reason against a packet, or `None` where the packet passes.
-pub fn check(
-    alloc: Global,
-    keys: &KeyBook,
-    checker: &Checker,
-    signed: Signed<'_>,
-) -> Result<Option<Reason>, Memory>
+pub fn check(alloc: Global, keys: &KeyBook, checker: &Checker, signed: Signed<'_>) -> Checked
     ensures { MatchResult result (Checks keys.now checker.now (signed_of signed.entry))
         (λ _. Expands checker.now (signed_of signed.entry)) }
 {
@@ -44,12 +42,7 @@ fn check_sha256(signed: Signed<'_>) -> Option<Reason>
     check_tag(signed, &sha256_of(signed.parts))
 }
 
-fn check_hmac(
-    alloc: Global,
-    keys: &KeyBook,
-    test: &LocatorTest,
-    signed: Signed<'_>,
-) -> Result<Option<Reason>, Memory>
+fn check_hmac(alloc: Global, keys: &KeyBook, test: &LocatorTest, signed: Signed<'_>) -> Checked
     ensures { MatchResult result
         (Checks keys.now (Checker.HmacSha256 test.now) (signed_of signed.entry))
         (λ _. Expands (Checker.HmacSha256 test.now) (signed_of signed.entry)) }
@@ -70,13 +63,11 @@ fn check_hmac(
 fn check_key(keys: &KeyBook, name: Name<'_>, signed: Signed<'_>) -> Option<Reason>
     ensures { ChecksKey keys.now (components name.entry) (signed_of signed.entry) result }
 {
-    match keys.find(name) {
-        Some(key) => check_tag(
-            signed,
-            &hmac_sha256(key, signed.parts.first, signed.parts.second),
-        ),
-        None => Some(Reason::KeyUnknown),
-    }
+    let Some(key) = keys.find(name) else {
+        return Some(Reason::KeyUnknown);
+    };
+    let tag = hmac_sha256(key, signed.parts.first, signed.parts.second);
+    check_tag(signed, &tag)
 }
 
 /// What is said of a packet whose signature's value has to be this tag.

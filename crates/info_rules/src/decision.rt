@@ -10,7 +10,7 @@ ghost use Rattle.info_rules.specs.Shown.{seen_of, signed_of};
 ghost use Rattle.info_rules.specs.Decided.{IsDecided};
 ghost use Rattle.info_rules.specs.Signer.{NamesItsSigner};
 
-use crate::checks::check;
+use crate::checks::{Checked, check};
 use crate::matching::applies;
 use crate::packet::{Packet, Signed};
 use crate::rule::{Checker, Kind};
@@ -83,15 +83,7 @@ impl Reason {
     fn number(self) -> u8
         ensures { result ≡ reason_number self }
     {
-        match self {
-            Reason::NotSigned => 1,
-            Reason::Shape => 2,
-            Reason::SigType => 3,
-            Reason::KeyLocator => 4,
-            Reason::KeyUnknown => 5,
-            Reason::Tag => 6,
-            Reason::Replay => 7,
-        }
+        self as u8 + 1
     }
 }
 
@@ -159,7 +151,7 @@ fn reason_against(
     checkers: &[Checker],
     packet: Packet<'_>,
     name: Name<'_>,
-) -> Result<Option<Reason>, Memory>
+) -> Checked
     requires { components name ≡ (seen_of packet).name }
     ensures { MatchResult result
         (λ reason. MatchOption reason (Allow keys.now checkers.now (seen_of packet.entry))
@@ -178,7 +170,7 @@ fn greatest_reason(
     keys: &KeyBook,
     checkers: &[Checker],
     signed: Signed<'_>,
-) -> Result<Option<Reason>, Memory>
+) -> Checked
     ensures { MatchResult result
         (λ reason. MatchOption reason (IsPassed keys.now checkers.now (signed_of signed.entry))
         (IsGreatest keys.now checkers.now (signed_of signed.entry)))

@@ -91,17 +91,11 @@ impl RulesFault {
     }
 }
 
-/// A refusal of memory, which has no place in the text.
-pub const MEMORY: RulesFault = RulesFault {
-    line: 0,
-    kind: RulesFaultKind::Memory,
-};
-
 impl<T: Drop> From<AllocFailed<T>> for RulesFault {
     ghost from_gives = { λ _ e. e ≡ record { line = 0; kind = kinds.Memory } };
 
     fn from(_error: AllocFailed<T>) -> RulesFault {
-        MEMORY
+        RulesFaultKind::Memory.at(0)
     }
 }
 
@@ -109,6 +103,6 @@ impl From<AllocError> for RulesFault {
     ghost from_gives = { λ _ e. e ≡ record { line = 0; kind = kinds.Memory } };
 
     fn from(_error: AllocError) -> RulesFault {
-        MEMORY
+        RulesFaultKind::Memory.at(0)
     }
 }

@@ -3,7 +3,7 @@
 use crate::keys::{Key, Keys};
 
 /// A form in which a block says what it asks of a name.
-#[derive(Clone, Copy)]
+#[derive(Clone, Copy, PartialEq, Eq)]
 pub enum Form {
     /// By `name` and `relation`.
     Related,
@@ -25,17 +25,8 @@ pub enum Tested {
 impl Tested {
     ghost use Rattle.std.specs.Prelude.{◌≡◌};
     ghost use Rattle.std.specs.Option.{option_map};
-    ghost use Rattle.info_rules.specs.NameTest.{tests_key, form_of};
+    ghost use Rattle.info_rules.specs.NameTest.{form_of};
     ghost use Rattle.info_rules.specs.Shown.{key_of, tested_of, name_form_of};
-
-    fn is_key_name(self) -> bool
-        ensures { result ≡ tests_key (tested_of self) }
-    {
-        match self {
-            Tested::PacketName => false,
-            Tested::KeyName => true,
-        }
-    }
 
     /// The form that a key is of, if it is of one.
     #[tactic(auto, unfolding(crate::specs::NameTest::form_of))]
@@ -48,38 +39,10 @@ impl Tested {
         if key.is("regex") {
             return Some(Form::Matching);
         }
-        if self.is_key_name() && key.is("hyper-relation") {
+        if matches!(self, Tested::KeyName) && key.is("hyper-relation") {
             return Some(Form::Hyper);
         }
         None
-    }
-}
-
-impl Form {
-    ghost use Rattle.std.specs.Prelude.{◌≡◌};
-    ghost use Rattle.std.specs.Option.{option_map};
-    ghost use Rattle.info_rules.specs.NameTest.{is_form, is_other};
-    ghost use Rattle.info_rules.specs.Shown.{name_form_of};
-
-    /// Whether it is this form.
-    fn is(self, other: Form) -> bool
-        ensures { result ≡ is_form (name_form_of other) (name_form_of self) }
-    {
-        match other {
-            Form::Related => matches!(self, Form::Related),
-            Form::Matching => matches!(self, Form::Matching),
-            Form::Hyper => matches!(self, Form::Hyper),
-        }
-    }
-
-    /// Whether it is no such form.
-    fn is_not(self, other: Option<Form>) -> bool
-        ensures { result ≡ is_other (option_map name_form_of other) (name_form_of self) }
-    {
-        match other {
-            Some(other) => !self.is(other),
-            None => true,
-        }
     }
 }
 
@@ -94,10 +57,10 @@ fn other_form_of(tested: Tested, other: Option<Form>, key: Key<'_>) -> Option<(F
         ≡ other_form_of (tested_of tested) (option_map name_form_of other) (key_of key.entry) }
 {
     let form = tested.form_of(key)?;
-    if form.is_not(other) {
-        return Some((form, key.own.line));
+    match other {
+        Some(other) if form == other => None,
+        _ => Some((form, key.own.line)),
     }
-    None
 }
 
 /// The form and the line of the first such key.

@@ -22,18 +22,7 @@ impl RulesFaultKind {
     fn number(self) -> u8
         ensures { result ≡ kind_number self }
     {
-        match self {
-            RulesFaultKind::Syntax => 1,
-            RulesFaultKind::TooDeep => 2,
-            RulesFaultKind::TooLarge => 3,
-            RulesFaultKind::UnknownKey => 4,
-            RulesFaultKind::Missing => 5,
-            RulesFaultKind::BadValue => 6,
-            RulesFaultKind::TwiceNamed => 7,
-            RulesFaultKind::Pattern => 8,
-            RulesFaultKind::AnyAnchor => 9,
-            RulesFaultKind::Memory => 10,
-        }
+        self as u8 + 1
     }
 }
 

@@ -14,7 +14,7 @@ impl<'a> Key<'a> {
     ghost use Rattle.std.specs.Prelude.{◌≡◌};
     ghost use Rattle.std.specs.Option.{option_map};
     ghost use Rattle.info_rules.specs.Tree.{blocks_of};
-    ghost use Rattle.info_rules.specs.Keys.{is_word, value_of, fault_at, shape_fault};
+    ghost use Rattle.info_rules.specs.Keys.{is_word, value_of, shape_fault};
     ghost use Rattle.info_rules.specs.Shown.{key_of, keys_of};
 
     /// Whether it is this word.
@@ -44,19 +44,12 @@ impl<'a> Key<'a> {
         }
     }
 
-    /// A fault of this key.
-    pub fn fault(self, kind: RulesFaultKind) -> RulesFault
-        ensures { result ≡ fault_at kind (key_of self.entry) }
-    {
-        kind.at(self.own.line)
-    }
-
     /// What is wrong with a key that needs a block, and has a value or no block.
     pub fn shape_fault(self) -> Option<RulesFault>
         ensures { result ≡ shape_fault (key_of self.entry) }
     {
         if self.own.value.is_some() || !self.own.has_block {
-            return Some(self.fault(RulesFaultKind::BadValue));
+            return Some(RulesFaultKind::BadValue.at(self.own.line));
         }
         None
     }
@@ -107,33 +100,29 @@ impl<'a> Keys<'a> {
         Some((Key { own, inner }, Keys { entries, ..self }))
     }
 
-    /// The first key that is this word.
-    pub fn first_named(self, word: &str) -> Option<Key<'a>>
-        ensures { option_map key_of result ≡ first_of (named word.now (keys_of self.entry)) }
+    /// The first key that is this word, and the keys after it.
+    pub fn find(self, word: &str) -> Option<(Key<'a>, Keys<'a>)>
+        ensures first { option_map (λ parts. key_of parts.0) result
+            ≡ first_of (named word.now (keys_of self.entry)) }
+        ensures others { MatchOption result (others_of (named word.now (keys_of self.entry)) ≡ [])
+            (λ parts. named word.now (keys_of parts.1)
+            ≡ others_of (named word.now (keys_of self.entry))) }
     {
         let mut keys = self;
         while let Some((key, others)) = keys.split_first() {
             if key.is(word) {
-                return Some(key);
+                return Some((key, others));
             }
             keys = others;
         }
         None
     }
 
-    /// Those after the first key of this word.
-    pub fn after_first(self, word: &str) -> Keys<'a>
-        ensures { named word.now (keys_of result)
-            ≡ others_of (named word.now (keys_of self.entry)) }
+    /// The first key that is this word.
+    pub fn first_named(self, word: &str) -> Option<Key<'a>>
+        ensures { option_map key_of result ≡ first_of (named word.now (keys_of self.entry)) }
     {
-        let mut keys = self;
-        while let Some((key, others)) = keys.split_first() {
-            keys = others;
-            if key.is(word) {
-                return keys;
-            }
-        }
-        keys
+        Some(self.find(word)?.0)
     }
 
     /// Whether a key is this word.

@@ -95,10 +95,7 @@ fn made_of(
     ensures { IfOk result
         (λ made. made ≡ expansion_of template.now captures.now (components name.entry)) }
 {
-    match template.expand(alloc, captures, name) {
-        Ok(made) => Ok(made),
-        Err(_) => Err(Memory),
-    }
+    template.expand(alloc, captures, name).map_err(|_| Memory)
 }
 
 /// Whether the name of a key has the prefix of a key's name, which is one of the packet's name too.

@@ -5,27 +5,17 @@ ghost use Rattle.std.specs.Option.{option_map};
 ghost use Rattle.name_patterns.specs.Template.{NeedAtMost};
 ghost use Rattle.name_patterns.specs.TemplateReading.{template_in};
 ghost use Rattle.info_rules.specs.declared.fault.RulesFaultKind.TheVariants.{BadValue, Pattern as PatternFaultKind};
-ghost use Rattle.info_rules.specs.Values.{ok_of, read_at, value_in, name_word_in, id_in, anchor_value_in};
+ghost use Rattle.info_rules.specs.Values.{ok_of, value_in, name_word_in, id_in, anchor_value_in};
 ghost use Rattle.info_rules.specs.Found.{shown};
 ghost use Rattle.info_rules.specs.Shown.{keys_of};
 
-use crate::fault::{RulesFault, RulesFaultKind};
+use crate::fault::RulesFaultKind;
 use crate::found::{Found, Read};
 use crate::keys::Keys;
 use crate::value_words::{Value, is_anchor_type, is_id};
 use name_patterns::{PatternFault, Template};
 use ndn_tlv::Memory;
 use std::alloc::Global;
-
-/// A value that was read on a line, or else this fault.
-fn read_at<A: Drop>(kind: RulesFaultKind, line: u32, read: Option<A>) -> Found<Option<A>>
-    ensures { result ≡ read_at kind line read }
-{
-    match read {
-        Some(value) => Ok(Some(value)),
-        None => Err(RulesFault { line, kind }),
-    }
-}
 
 /// What the first key of this word stands for, if there is one. A text that stands for nothing is
 /// this fault.
@@ -42,22 +32,12 @@ pub fn read_value<V: Value>(
     let Some(key) = keys.first_named(word) else {
         return Ok(Ok(None));
     };
-    Ok(match key.value() {
-        Some(text) => read_at(kind, key.own.line, V::of_text(alloc, text)?),
-        None => Err(key.fault(RulesFaultKind::BadValue)),
-    })
-}
-
-/// The template of a text for a pattern of so many groups, if it is one. Only memory is refused.
-fn template_of(alloc: Global, text: &str, groups: u8) -> Result<Option<Template>, Memory>
-    ensures read { IfOk result (λ template. template ≡ ok_of (template_in groups text.now)) }
-    // It needs none but these groups.
-    ensures groups { IfOk result (λ template. IfSome template (NeedAtMost groups)) }
-{
-    match Template::read(alloc, text, groups) {
-        Ok(template) => Ok(Some(template)),
-        Err(PatternFault::Memory) => Err(Memory),
-        Err(_) => Ok(None),
+    let Some(text) = key.value() else {
+        return Ok(Err(RulesFaultKind::BadValue.at(key.own.line)));
+    };
+    match V::of_text(alloc, text)? {
+        Some(value) => Ok(Ok(Some(value))),
+        None => Ok(Err(kind.at(key.own.line))),
     }
 }
 
@@ -79,13 +59,14 @@ pub fn read_template(
     let Some(key) = keys.first_named(word) else {
         return Ok(Ok(None));
     };
-    Ok(match key.value() {
-        Some(text) => {
-            let template = template_of(alloc, text, groups)?;
-            read_at(RulesFaultKind::Pattern, key.own.line, template)
-        }
-        None => Err(key.fault(RulesFaultKind::BadValue)),
-    })
+    let Some(text) = key.value() else {
+        return Ok(Err(RulesFaultKind::BadValue.at(key.own.line)));
+    };
+    match Template::read(alloc, text, groups) {
+        Ok(template) => Ok(Ok(Some(template))),
+        Err(PatternFault::Memory) => Err(Memory),
+        Err(_) => Ok(Err(RulesFaultKind::Pattern.at(key.own.line))),
+    }
 }
 
 /// The word `name` that the first key of this word has to have, if there is one.
@@ -99,7 +80,7 @@ pub fn read_name_word(keys: Keys<'_>, word: &str) -> Found<Option<()>>
     if key.value() == Some("name") {
         return Ok(Some(()));
     }
-    Err(key.fault(RulesFaultKind::BadValue))
+    Err(RulesFaultKind::BadValue.at(key.own.line))
 }
 
 /// The type of a trust anchor, if there is one.
@@ -111,9 +92,9 @@ pub fn read_anchor_type(keys: Keys<'_>) -> Found<Option<()>>
         return Ok(None);
     };
     match key.value() {
-        Some("any") => Err(key.fault(RulesFaultKind::AnyAnchor)),
+        Some("any") => Err(RulesFaultKind::AnyAnchor.at(key.own.line)),
         Some(text) if is_anchor_type(text) => Ok(Some(())),
-        _ => Err(key.fault(RulesFaultKind::BadValue)),
+        _ => Err(RulesFaultKind::BadValue.at(key.own.line)),
     }
 }
 
@@ -128,6 +109,6 @@ pub fn read_id<'a>(keys: Keys<'a>) -> Found<Option<&'a str>>
     };
     match key.value() {
         Some(text) if is_id(text) => Ok(Some(text)),
-        _ => Err(key.fault(RulesFaultKind::BadValue)),
+        _ => Err(RulesFaultKind::BadValue.at(key.own.line)),
     }
 }

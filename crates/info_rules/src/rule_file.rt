@@ -15,7 +15,7 @@ ghost use Rattle.info_rules.specs.RuleFile.{id_key, same_id_faults, repeated_fau
 
 use crate::anchor_block::AnchorReader;
 use crate::block_reader::{BlockReader, read_blocks};
-use crate::fault::{MEMORY, RulesFault, RulesFaultKind};
+use crate::fault::{RulesFault, RulesFaultKind};
 use crate::found::{Read, beside};
 use crate::keys::{Key, Keys};
 use crate::report::Report;
@@ -121,7 +121,7 @@ fn read_file(alloc: Global, tree: &InfoTree) -> Result<Rules, RulesFault>
     match read_keys(alloc, keys) {
         Ok(Ok(rules)) => Ok(Rules { rules }),
         Ok(Err(fault)) => Err(fault),
-        Err(Memory) => Err(MEMORY),
+        Err(Memory) => Err(RulesFaultKind::Memory.at(0)),
     }
 }
 

@@ -42,54 +42,6 @@ pub enum Block {
     Hyper,
 }
 
-const FILE: [Form; 2] = [
-    Form("rule", Inner, UpTo(256)),
-    Form("trust-anchor", Inner, AnyNumber),
-];
-
-const ANCHOR: [Form; 1] = [Form("type", Value(AnchorType), Once)];
-
-const RULE: [Form; 4] = [
-    Form("id", Value(Id), Once),
-    Form("for", Value(PacketKind), Once),
-    Form("filter", Inner, UpTo(16)),
-    Form("checker", Inner, UpTo(16)),
-];
-
-const FILTER: [Form; 4] = [
-    Form("type", Value(NameWord), Once),
-    Form("name", Value(Uri), Once),
-    Form("relation", Value(Relation), Once),
-    Form("regex", Value(Pattern), Once),
-];
-
-const CUSTOMIZED: [Form; 3] = [
-    Form("type", Value(CheckerType), Once),
-    Form("sig-type", Value(SignatureType), Once),
-    Form("key-locator", Inner, Once),
-];
-
-const HIERARCHICAL: [Form; 2] = [
-    Form("type", Value(CheckerType), Once),
-    Form("sig-type", Value(SignatureType), Once),
-];
-
-const LOCATOR: [Form; 5] = [
-    Form("type", Value(NameWord), Once),
-    Form("name", Value(Uri), Once),
-    Form("relation", Value(Relation), Once),
-    Form("regex", Value(Pattern), Once),
-    Form("hyper-relation", Inner, Once),
-];
-
-const HYPER: [Form; 5] = [
-    Form("k-regex", Value(Pattern), Once),
-    Form("k-expand", Value(Template), Once),
-    Form("h-relation", Value(Relation), Once),
-    Form("p-regex", Value(Pattern), Once),
-    Form("p-expand", Value(Template), Once),
-];
-
 impl Block {
     ghost use Rattle.std.specs.Prelude.{◌≡◌, map};
     ghost use Rattle.info_rules.specs.Table.{table, is_closed};
@@ -101,14 +53,46 @@ impl Block {
         ensures { map form_of result.now ≡ table (block_kind_of self) }
     {
         match self {
-            Block::File => &FILE,
-            Block::Anchor => &ANCHOR,
-            Block::Rule => &RULE,
-            Block::Filter => &FILTER,
-            Block::Customized => &CUSTOMIZED,
-            Block::Hierarchical => &HIERARCHICAL,
-            Block::Locator => &LOCATOR,
-            Block::Hyper => &HYPER,
+            Block::File => &[
+                Form("rule", Inner, UpTo(256)),
+                Form("trust-anchor", Inner, AnyNumber),
+            ],
+            Block::Anchor => &[Form("type", Value(AnchorType), Once)],
+            Block::Rule => &[
+                Form("id", Value(Id), Once),
+                Form("for", Value(PacketKind), Once),
+                Form("filter", Inner, UpTo(16)),
+                Form("checker", Inner, UpTo(16)),
+            ],
+            Block::Filter => &[
+                Form("type", Value(NameWord), Once),
+                Form("name", Value(Uri), Once),
+                Form("relation", Value(Relation), Once),
+                Form("regex", Value(Pattern), Once),
+            ],
+            Block::Customized => &[
+                Form("type", Value(CheckerType), Once),
+                Form("sig-type", Value(SignatureType), Once),
+                Form("key-locator", Inner, Once),
+            ],
+            Block::Hierarchical => &[
+                Form("type", Value(CheckerType), Once),
+                Form("sig-type", Value(SignatureType), Once),
+            ],
+            Block::Locator => &[
+                Form("type", Value(NameWord), Once),
+                Form("name", Value(Uri), Once),
+                Form("relation", Value(Relation), Once),
+                Form("regex", Value(Pattern), Once),
+                Form("hyper-relation", Inner, Once),
+            ],
+            Block::Hyper => &[
+                Form("k-regex", Value(Pattern), Once),
+                Form("k-expand", Value(Template), Once),
+                Form("h-relation", Value(Relation), Once),
+                Form("p-regex", Value(Pattern), Once),
+                Form("p-expand", Value(Template), Once),
+            ],
         }
     }
 

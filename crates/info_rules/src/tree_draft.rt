@@ -12,6 +12,9 @@ use std::alloc::Global;
 /// The greatest number of blocks that are open at once.
 const MAX_DEPTH: usize = 8;
 
+/// Whether something could be added.
+type Added = Result<(), RulesFault>;
+
 /// The fault of a block that was too deep on an earlier line.
 fn deep_before(deep: Option<u32>, line: u32) -> Option<RulesFault>
     ensures { result ≡ read.deep_before deep line }
@@ -59,7 +62,7 @@ impl Draft {
     }
 
     /// Puts the pending entry, if there is one, after the others.
-    fn end_entry(&mut self) -> Result<(), RulesFault>
+    fn end_entry(&mut self) -> Added
         ensures { MatchResult result (λ _. draft_of self.new ≡ read.with_ended (draft_of self.old))
             (λ fault. fault ≡ memory_fault) }
     {
@@ -70,7 +73,7 @@ impl Draft {
     }
 
     /// Adds a word that is a key.
-    fn add_key(&mut self, alloc: Global, line: u32, word: &str) -> Result<(), RulesFault>
+    fn add_key(&mut self, alloc: Global, line: u32, word: &str) -> Added
         ensures { MatchResult result
             (λ _. draft_of self.new ≡ read.with_key (draft_of self.old) line word.now)
             (λ fault. fault ≡ memory_fault) }
@@ -88,13 +91,7 @@ impl Draft {
     }
 
     /// Adds a word that stands on the line of the pending entry, which is this one.
-    fn add_value(
-        &mut self,
-        alloc: Global,
-        line: u32,
-        word: &str,
-        entry: Entry,
-    ) -> Result<(), RulesFault>
+    fn add_value(&mut self, alloc: Global, line: u32, word: &str, entry: Entry) -> Added
         ensures { let next = read.with_value (draft_of self.old) line word.now (entry_of entry)
             (option_map string_bytes entry.value) in
             MatchResult result (λ _. next ≡ Ok (draft_of self.new)) (IsTreeFaultOf next) }
@@ -111,7 +108,7 @@ impl Draft {
     }
 
     /// Adds a word.
-    fn add_word(&mut self, alloc: Global, line: u32, word: &str) -> Result<(), RulesFault>
+    fn add_word(&mut self, alloc: Global, line: u32, word: &str) -> Added
         ensures { let next = read.with_word (draft_of self.old) line word.now
             (option_map entry_of self.old.pending) in
             MatchResult result (λ _. next ≡ Ok (draft_of self.new)) (IsTreeFaultOf next) }
@@ -126,7 +123,7 @@ impl Draft {
     }
 
     /// Opens a block after the pending entry.
-    fn open_block(&mut self, line: u32) -> Result<(), RulesFault>
+    fn open_block(&mut self, line: u32) -> Added
         requires { self.old.depth + 1 < 2 ^ 64 }
         ensures { let next = read.with_open (draft_of self.old) line
             (option_map entry_of self.old.pending) in
@@ -148,7 +145,7 @@ impl Draft {
     }
 
     /// Closes a block.
-    fn close_block(&mut self, line: u32) -> Result<(), RulesFault>
+    fn close_block(&mut self, line: u32) -> Added
         ensures { let next = read.with_close (draft_of self.old) line in
             MatchResult result (λ _. next ≡ Ok (draft_of self.new)) (IsTreeFaultOf next) }
     {
@@ -162,12 +159,7 @@ impl Draft {
     }
 
     /// Adds the next token, which stands on a line.
-    pub fn add_token(
-        &mut self,
-        alloc: Global,
-        line: u32,
-        token: Token<'_>,
-    ) -> Result<(), RulesFault>
+    pub fn add_token(&mut self, alloc: Global, line: u32, token: Token<'_>) -> Added
         requires { self.old.depth + 1 < 2 ^ 64 }
         ensures { let next = read.with_token (draft_of self.old) line (token_of token.entry) in
             MatchResult result (λ _. next ≡ Ok (draft_of self.new)) (IsTreeFaultOf next) }

@@ -20,17 +20,10 @@ type Judged = Result<(), Memory>;
 
 /// Whether a key is in the table.
 fn is_known(forms: &[Form], key: Key<'_>) -> bool
-    ensures { result ≡ list_any (λ form. is_word form.word (key_of key.entry))
-        (map form_of forms.now) }
+    ensures { result
+        ≡ list_any (λ form. is_word form.0.now (key_of key.entry)) forms.entry.now }
 {
-    let mut left = forms;
-    while let Some((form, others)) = left.split_first() {
-        if key.is(form.0) {
-            return true;
-        }
-        left = others;
-    }
-    false
+    forms.iter().any(|form| key.is(form.0))
 }
 
 /// Notes keys that are not in the table.
@@ -72,7 +65,9 @@ fn judge_second(alloc: Global, form: &Form, keys: Keys<'_>, report: &mut Report)
         (flat_map (again_faults (takes_of form.now.1))
         (others_of (named form.now.0.now (keys_of keys.entry))))) }
 {
-    let mut left = keys.after_first(form.0);
+    let Some((_, mut left)) = keys.find(form.0) else {
+        return Ok(());
+    };
     while let Some((key, others)) = left.split_first() {
         if key.is(form.0) {
             report.note(key.own.line, again_kind(alloc, form.1, key)?);
