@@ -159,31 +159,26 @@ fn reason_against(
         (λ _. AnyExpands checkers.now (seen_of packet.entry)) }
 {
     match packet.signed(name) {
-        Ok(signed) => greatest_reason(alloc, keys, checkers, signed),
+        Ok(signed) => greatest(alloc, keys, checkers, signed),
         Err(reason) => Ok(Some(reason)),
     }
 }
 
 /// The greatest reason that a checker has against a packet, or `None` where one passes it.
-fn greatest_reason(
-    alloc: Global,
-    keys: &KeyBook,
-    checkers: &[Checker],
-    signed: Signed<'_>,
-) -> Checked
+fn greatest(alloc: Global, keys: &KeyBook, checkers: &[Checker], signed: Signed<'_>) -> Checked
     ensures { MatchResult result
         (λ reason. MatchOption reason (IsPassed keys.now checkers.now (signed_of signed.entry))
         (IsGreatest keys.now checkers.now (signed_of signed.entry)))
         (λ _. Any (λ checker. Expands checker (signed_of signed.entry)) checkers.now) }
 {
-    let mut greatest = None;
+    let mut against = None;
     for checker in checkers {
         let Some(reason) = check(alloc, keys, checker, signed)? else {
             return Ok(None);
         };
-        greatest = Some(greater(greatest, reason));
+        against = Some(greater(against, reason));
     }
-    Ok(Some(greatest.unwrap_or(Reason::KeyLocator)))
+    Ok(Some(against.unwrap_or(Reason::KeyLocator)))
 }
 
 /// Law: two decisions of one packet are the same, where the keys of a book have different names.

@@ -33,16 +33,12 @@ impl Tested {
     fn form_of(self, key: Key<'_>) -> Option<Form>
         ensures { option_map name_form_of result ≡ form_of (tested_of self) (key_of key.entry) }
     {
-        if key.is("name") || key.is("relation") {
-            return Some(Form::Related);
+        match (key.own.key.as_str(), self) {
+            ("name" | "relation", _) => Some(Form::Related),
+            ("regex", _) => Some(Form::Matching),
+            ("hyper-relation", Tested::KeyName) => Some(Form::Hyper),
+            _ => None,
         }
-        if key.is("regex") {
-            return Some(Form::Matching);
-        }
-        if matches!(self, Tested::KeyName) && key.is("hyper-relation") {
-            return Some(Form::Hyper);
-        }
-        None
     }
 }
 

@@ -91,12 +91,8 @@ impl<'a> Keys<'a> {
             × (length parts.1.entries.now < length self.entry.entries.now)) }
     {
         let (_, entries) = self.parted();
-        let (own, following) = entries.split_first()?;
-        let following = Keys {
-            entries: following,
-            ..self
-        };
-        let (inner, entries) = following.parted();
+        let (own, entries) = entries.split_first()?;
+        let (inner, entries) = Keys { entries, ..self }.parted();
         Some((Key { own, inner }, Keys { entries, ..self }))
     }
 

@@ -23,14 +23,12 @@ const KEY: &[u8; 3] = b"KEY";
 /// The greatest number of components after that one; there is one at least.
 const MAX_AFTER_KEY: usize = 3;
 
+/// Whether a key passes, unless memory is refused.
+pub type Passed = Result<bool, Memory>;
+
 /// Whether the key of a name is one that is asked for, where the packet has that name. Memory is
 /// asked for by a hyper-relation alone.
-pub fn passes_locator(
-    alloc: Global,
-    test: &LocatorTest,
-    key: Name<'_>,
-    packet: Name<'_>,
-) -> Result<bool, Memory>
+pub fn passes_locator(alloc: Global, test: &LocatorTest, key: Name<'_>, packet: Name<'_>) -> Passed
     ensures { MatchResult result
         (λ passed. IsTrue passed
         ↔ PassesLocator test.now (components key.entry) (components packet.entry))
@@ -44,12 +42,7 @@ pub fn passes_locator(
 }
 
 /// Whether what is made of the key's name stands so to what is made of the packet's.
-fn is_hyper_related(
-    alloc: Global,
-    hyper: &HyperRelation,
-    key: Name<'_>,
-    packet: Name<'_>,
-) -> Result<bool, Memory>
+fn is_hyper_related(alloc: Global, hyper: &HyperRelation, key: Name<'_>, packet: Name<'_>) -> Passed
     ensures { MatchResult result
         (λ related. IsTrue related
         ↔ IsHyperRelated hyper.now (components key.entry) (components packet.entry))

@@ -106,15 +106,13 @@ fn signed_data<'a>(packet: &'a Data<'a>, name: Name<'a>) -> Result<Signed<'a>, R
     ensures { let seen = seen_data packet.entry.now.whole.now (plain_data packet.entry.now) in
         MatchResult result (λ signed. IsSigned seen (signed_of signed)) (IsUnfit seen) }
 {
-    match packet.signed_parts() {
-        Some(parts) => Ok(Signed {
-            name,
-            signature: packet.signature,
-            parts,
-        }),
-        // No Data that was read is without covered octets.
-        None => Err(Reason::Shape),
-    }
+    // No Data that was read is without covered octets.
+    let parts = packet.signed_parts().ok_or(Reason::Shape)?;
+    Ok(Signed {
+        name,
+        signature: packet.signature,
+        parts,
+    })
 }
 
 /// Law: a Data that was read has a shape that checkers can look at, and so has a signed Interest

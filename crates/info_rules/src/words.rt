@@ -114,11 +114,8 @@ fn first_word(line: u32, text: &str) -> NextToken<'_>
     ensures shorter { length result.rest.now < length text.now }
 {
     let (word, rest) = text.split_at(word_len(text.as_bytes()));
-    NextToken {
-        token: word_token(word),
-        line,
-        rest,
-    }
+    let token = word_token(word);
+    NextToken { token, line, rest }
 }
 
 /// The quoted text after its first quote.

@@ -17,8 +17,8 @@ returns c =
     let front = c.parted.ensures.front in
     let inner = ap (λ (x : List PlainEntry × List Block). x.0) c.parted-2.ensures.parted in
     let following = ap (λ (x : List PlainEntry × List Block). x.1) c.parted-2.ensures.parted in
-    let key : (parted depth (map entry_of c.parted.result.1.now)).1 ≡ (entry_of c.in_ok-own.own.now, (parted depth (map entry_of c.in_ok-own.following.now)).0) ∷ (parted depth (map entry_of c.in_ok-own.following.now)).1 =
+    let key : (parted depth (map entry_of c.parted.result.1.now)).1 ≡ (entry_of c.in_ok-own.own.now, (parted depth (map entry_of c.in_ok-own.entries.now)).0) ∷ (parted depth (map entry_of c.in_ok-own.entries.now)).1 =
     ap (λ (l : List Entry). (parted depth (map entry_of l)).1) c.in_ok-own.ensures.cases.0
-    ∙ first_key depth c.in_ok-own.own.now c.in_ok-own.following.now (subst (λ (l : List Entry). (parted depth (map entry_of l)).0 ≡ []) c.in_ok-own.ensures.cases.0 front) in
+    ∙ first_key depth c.in_ok-own.own.now c.in_ok-own.entries.now (subst (λ (l : List Entry). (parted depth (map entry_of l)).0 ≡ []) c.in_ok-own.ensures.cases.0 front) in
     let first = ap (λ (x : List PlainEntry × List Block). x.1) c.parted.ensures.parted in
     (rw (first, key, inner, following) refl, omega (arith, c.in_ok-own.ensures.cases.1, c.parted.ensures.shorter, c.parted-2.ensures.shorter))
