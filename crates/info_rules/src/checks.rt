@@ -74,11 +74,8 @@ fn check_key(keys: &KeyBook, name: Name<'_>, signed: Signed<'_>) -> Option<Reaso
 fn check_tag(signed: Signed<'_>, tag: &[u8; 32]) -> Option<Reason>
     ensures { ChecksTag tag.now (signed_of signed.entry) result }
 {
-    if tags_equal(signed.signature.value, tag) {
-        None
-    } else {
-        Some(Reason::Tag)
-    }
+    let is_right = tags_equal(signed.signature.value, tag);
+    (!is_right).then_some(Reason::Tag)
 }
 
 fn sha256_of(parts: Parts<'_>) -> [u8; 32]

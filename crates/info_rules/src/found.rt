@@ -94,8 +94,5 @@ pub fn with_one<A: Drop>(parts: Found<Vec<A>>, read: Found<A>) -> Read<Vec<A>>
 pub fn missing_unless(there: bool, line: u32) -> Option<RulesFault>
     ensures { result ≡ missing_unless there line }
 {
-    if there {
-        return None;
-    }
-    Some(RulesFaultKind::Missing.at(line))
+    (!there).then_some(RulesFaultKind::Missing.at(line))
 }

@@ -48,10 +48,8 @@ impl<'a> Key<'a> {
     pub fn shape_fault(self) -> Option<RulesFault>
         ensures { result ≡ shape_fault (key_of self.entry) }
     {
-        if self.own.value.is_some() || !self.own.has_block {
-            return Some(RulesFaultKind::BadValue.at(self.own.line));
-        }
-        None
+        let is_wrong = self.own.value.is_some() || !self.own.has_block;
+        is_wrong.then_some(RulesFaultKind::BadValue.at(self.own.line))
     }
 }
 

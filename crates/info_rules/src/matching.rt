@@ -33,12 +33,7 @@ pub fn passes(test: &NameTest, name: Name<'_>) -> bool
 fn passes_any(tests: &[NameTest], name: Name<'_>) -> bool
     ensures { IsTrue result ↔ Any (λ test. Passes test (components name.entry)) tests.now }
 {
-    for test in tests {
-        if passes(test, name) {
-            return true;
-        }
-    }
-    false
+    tests.iter().any(|test| passes(test, name))
 }
 
 /// Whether a rule is for the packets of this kind and name.

@@ -114,10 +114,8 @@ fn read_file(alloc: Global, tree: &InfoTree) -> Result<Rules, RulesFault>
     ensures { MatchResult result (λ rules. rules_in tree.now ≡ Ok rules)
         (λ fault. (rules_in tree.now ≡ Err fault) ⊎ (fault ≡ memory_fault)) }
 {
-    let keys = Keys {
-        depth: 0,
-        entries: &tree.entries,
-    };
+    let entries = &tree.entries;
+    let keys = Keys { depth: 0, entries };
     match read_keys(alloc, keys) {
         Ok(Ok(rules)) => Ok(Rules { rules }),
         Ok(Err(fault)) => Err(fault),
