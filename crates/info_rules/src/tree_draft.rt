@@ -12,7 +12,7 @@ use std::alloc::Global;
 /// The greatest number of blocks that are open at once.
 const MAX_DEPTH: usize = 8;
 
-/// Whether something could be added.
+/// Nothing, or the fault of what cannot be added.
 type Added = Result<(), RulesFault>;
 
 /// The fault of a block that was too deep on an earlier line.
