@@ -19,7 +19,7 @@ use Rattle.info_rules.specs.Tree.{Block, blocks_of}
 use Rattle.info_rules.specs.Table.{table}
 use Rattle.info_rules.specs.Walk.{walk_faults}
 use Rattle.info_rules.specs.Faults.{after}
-use Rattle.info_rules.specs.Found.{Found, both, beside, needed, shown, then_made, each}
+use Rattle.info_rules.specs.Found.{Found, both, beside, needed_one, needed, shown, then_made, each}
 use Rattle.info_rules.specs.Keys.{first_of, others_of, named, missing_unless}
 use Rattle.info_rules.specs.ValueWords.{relation_in}
 use Rattle.info_rules.specs.Values.{ok_of, value_in}
@@ -28,8 +28,8 @@ use Rattle.info_rules.specs.FilterBlock.{filter_of, filter_in}
 use Rattle.info_rules.specs.HyperBlock.{Half, groups_of, half_in, parts_in, hyper_with, hyper_made, is_whole, hyper_of, hyper_in}
 use Rattle.info_rules.specs.LocatorBlock.{is_hyper_alone, test_by, locator_made, locator_of, locator_in}
 use Rattle.info_rules.specs.Meaning.{HasOnly, Lacks, Has, AsksOfName, IsFilter, AsksOfBoth, IsHyper, AsksOfKey, IsLocator}
-use Rattle.info_rules.proofs.FoundParts.{both_ok, beside_ok, shown_ok, made_ok}
-use Rattle.info_rules.proofs.Meanings.{beside_again, both_again, made_again, shown_again, fits, fits_again, lacks, only_of, has, has_again, has_there, has_once, lacks_once, block_ok, block_again, first_gave, one_again, none_again, one_once}
+use Rattle.info_rules.proofs.FoundParts.{both_ok, beside_ok, shown_ok, made_ok, needed_ok}
+use Rattle.info_rules.proofs.Meanings.{beside_again, both_again, made_again, needed_again, fits, fits_again, lacks, only_of, has, has_again, has_there, has_once, lacks_once, block_ok, block_again, first_gave, one_again, none_again, one_once}
 use Rattle.info_rules.proofs.WordMeanings.{pattern_means, pattern_meant, template_means, template_meant, relation_means, relation_meant}
 use Rattle.info_rules.proofs.NameMeanings.{words_by, words_for, StandOnce, IsAsked, is_asked, test_means, test_meant, once_there, known_there, hyper_asked, hyper_alone, lacks_hyper, hyper_more}
 
@@ -44,19 +44,19 @@ ok_one g x y p q = cc
 filter_keys : (line : ℕ) (keys : List Block) (test : NameTest) → filter_of line keys ≡ Ok test → AsksOfName keys test
 unfolding filter_of table
 filter_keys line keys test e =
-    let parts = beside_ok (after None (walk_faults blocks.Filter keys)) (then_made (test_of line) (asked_in PacketName line keys)) test e in
+    let asked = asked_in PacketName line keys in
+    let parts = beside_ok (after None (walk_faults blocks.Filter keys)) (needed line asked) test e in
     let fit = fits blocks.Filter keys refl parts.0 in
     let once : StandOnce keys = record { type = fit.1.0; name = fit.1.1.0; relation = fit.1.1.1.0; regex = fit.1.1.1.1.0 } in
-    let made = made_ok (test_of line) (asked_in PacketName line keys) test parts.1 in
-    test_means PacketName line keys made.0 test once (is_asked PacketName line keys made.0 fit.0 once made.1) made.2
+    let read = is_asked PacketName line keys (Some test) fit.0 once (needed_ok line asked test parts.1) in
+    test_means PacketName keys read.0 test once read.1 read.2
 
 keys_filter : (line : ℕ) (keys : List Block) (test : NameTest) → AsksOfName keys test → filter_of line keys ≡ Ok test
 unfolding filter_of table
 keys_filter line keys test h =
     let once = once_there keys test h in
     let fit = fits_again blocks.Filter keys refl (known_there PacketName keys test h) (once.type, (once.name, (once.relation, (once.regex, tt)))) in
-    let meant = test_meant PacketName line keys test h in
-    beside_again (after None (walk_faults blocks.Filter keys)) (then_made (test_of line) (asked_in PacketName line keys)) test fit (made_again (test_of line) (asked_in PacketName line keys) meant.0 test meant.1 meant.2)
+    beside_again (after None (walk_faults blocks.Filter keys)) (needed line (asked_in PacketName line keys)) test fit (needed_again line (asked_in PacketName line keys) test (test_meant PacketName line keys test h))
 
 pub filter_means : (key : Block) (test : NameTest) → filter_in key ≡ Ok test → IsFilter key test
 unfolding filter_in
@@ -176,20 +176,22 @@ by_hyper forms.Matching keys key only is = absurd (not_lacked (codes "hyper-rela
 by_hyper forms.Hyper keys key only is = only
 
 -- the test by name of these parts
-named_test : (line : ℕ) (keys : List Block) (names : Names) (test : LocatorTest) → StandOnce keys → IsAsked KeyName keys names → shown locators.Name (test_of line names) ≡ Ok test → AsksOfKey keys test
-named_test line keys names test once asked e =
-    let read = shown_ok locators.Name (test_of line names) test e in
-    subst (AsksOfKey keys) read.2 (test_means KeyName line keys names read.0 once asked read.1)
+named_test : (line : ℕ) (keys : List Block) (names : Names) (asked : Option NameTest) (test : LocatorTest) → StandOnce keys → IsAsked KeyName keys names → test_of names ≡ asked → shown locators.Name (needed_one line asked) ≡ Ok test → AsksOfKey keys test
+named_test line keys names asked test once by shows e =
+    let read = shown_ok locators.Name (needed_one line asked) test e in
+    let given = needed_ok line (Ok asked) read.0 read.1 in
+    let some : asked ≡ Some read.0 = cc in
+    subst (AsksOfKey keys) read.2 (test_means KeyName keys names read.0 once by (shows ∙ some))
 
 -- the test of these parts, by the first hyper-relation
-locator_by : (line : ℕ) (keys : List Block) (names : Names) (hypers : List (Option PlainHyper)) (test : LocatorTest) → StandOnce keys → others_of (named (codes "hyper-relation") keys) ≡ [] → IsAsked KeyName keys names
-    → each (hyper_in (is_hyper_alone keys)) (named (codes "hyper-relation") keys) ≡ Ok hypers → (first : Option (Option PlainHyper)) → first_of hypers ≡ first → test_by line names first ≡ Ok test → AsksOfKey keys test
-locator_by line keys names hypers test once alone asked e None is made = named_test line keys names test once asked made
-locator_by line keys names hypers test once alone asked e (Some None) is made = named_test line keys names test once asked made
-locator_by line keys names hypers test once alone asked e (Some (Some hyper)) is made =
+locator_by : (line : ℕ) (keys : List Block) (names : Names) (asked : Option NameTest) (hypers : List (Option PlainHyper)) (test : LocatorTest) → StandOnce keys → others_of (named (codes "hyper-relation") keys) ≡ [] → IsAsked KeyName keys names → test_of names ≡ asked
+    → each (hyper_in (is_hyper_alone keys)) (named (codes "hyper-relation") keys) ≡ Ok hypers → (first : Option (Option PlainHyper)) → first_of hypers ≡ first → test_by line asked first ≡ Ok test → AsksOfKey keys test
+locator_by line keys names asked hypers test once alone by shows e None is made = named_test line keys names asked test once by shows made
+locator_by line keys names asked hypers test once alone by shows e (Some None) is made = named_test line keys names asked test once by shows made
+locator_by line keys names asked hypers test once alone by shows e (Some (Some hyper)) is made =
     let same : locators.Hyper hyper ≡ test = cc in
     let gave = first_gave (hyper_in (is_hyper_alone keys)) (codes "hyper-relation") keys hypers (Some hyper) alone e is in
-    subst (AsksOfKey keys) same (by_hyper asked.form keys gave.0 asked.only gave.1, asked.type, (gave.0, gave.1, hyper_means (is_hyper_alone keys) gave.0 hyper gave.2))
+    subst (AsksOfKey keys) same (by_hyper by.form keys gave.0 by.only gave.1, by.type, (gave.0, gave.1, hyper_means (is_hyper_alone keys) gave.0 hyper gave.2))
 
 locator_keys : (line : ℕ) (keys : List Block) (test : LocatorTest) → locator_of line keys ≡ Ok test → AsksOfKey keys test
 unfolding locator_of table
@@ -200,7 +202,8 @@ locator_keys line keys test e =
     let once : StandOnce keys = record { type = fit.1.0; name = fit.1.1.0; relation = fit.1.1.1.0; regex = fit.1.1.1.1.0 } in
     let made = made_ok (locator_made line) (both (asked_in KeyName line keys) hypers) test all.1 in
     let parts = both_ok (asked_in KeyName line keys) hypers made.0 made.1 in
-    locator_by line keys made.0.0 made.0.1 test once fit.1.1.1.1.1.0 (is_asked KeyName line keys made.0.0 fit.0 once parts.0) parts.1 (first_of made.0.1) refl made.2
+    let read = is_asked KeyName line keys made.0.0 fit.0 once parts.0 in
+    locator_by line keys read.0 made.0.0 made.0.1 test once fit.1.1.1.1.1.0 read.1 read.2 parts.1 (first_of made.0.1) refl made.2
 
 keys_locator : (line : ℕ) (keys : List Block) (test : LocatorTest) → AsksOfKey keys test → locator_of line keys ≡ Ok test
 unfolding locator_of table is_hyper_alone
@@ -210,9 +213,9 @@ keys_locator line keys (locators.Name test) h =
     let fit = fits_again blocks.Locator keys refl (known_there KeyName keys test h) (once.type, (once.name, (once.relation, (once.regex, (lacks_once (codes "hyper-relation") keys none, tt))))) in
     let meant = test_meant KeyName line keys test h in
     let hypers = none_again (hyper_in (is_hyper_alone keys)) (codes "hyper-relation") keys none in
-    let read = both_again (asked_in KeyName line keys) (each (hyper_in (is_hyper_alone keys)) (named (codes "hyper-relation") keys)) meant.0 [] meant.1 hypers in
+    let read = both_again (asked_in KeyName line keys) (each (hyper_in (is_hyper_alone keys)) (named (codes "hyper-relation") keys)) (Some test) [] meant hypers in
     beside_again (after None (walk_faults blocks.Locator keys)) (then_made (locator_made line) (both (asked_in KeyName line keys) (each (hyper_in (is_hyper_alone keys)) (named (codes "hyper-relation") keys)))) (locators.Name test) fit
-    (made_again (locator_made line) (both (asked_in KeyName line keys) (each (hyper_in (is_hyper_alone keys)) (named (codes "hyper-relation") keys))) (meant.0, []) (locators.Name test) read (shown_again locators.Name (test_of line meant.0) test meant.2))
+    (made_again (locator_made line) (both (asked_in KeyName line keys) (each (hyper_in (is_hyper_alone keys)) (named (codes "hyper-relation") keys))) (Some test, []) (locators.Name test) read refl)
 keys_locator line keys (locators.Hyper hyper) (only, type, block) =
     let words = words_by forms.Hyper in
     let fit = fits_again blocks.Locator keys refl (only_of words (words_for KeyName) keys hyper_more only) (

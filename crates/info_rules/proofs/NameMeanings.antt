@@ -17,13 +17,13 @@ use Rattle.info_rules.specs.Forms as forms
 use Rattle.info_rules.specs.Forms.{Form, Tested, PacketName, KeyName}
 use Rattle.info_rules.specs.Tree.{Block}
 use Rattle.std.specs.Result.{result_err}
-use Rattle.info_rules.specs.Found.{both, beside, needed}
+use Rattle.info_rules.specs.Found.{both, beside, needed, shown}
 use Rattle.info_rules.specs.Keys.{on_option, first_of, others_of, named}
 use Rattle.info_rules.specs.ValueWords.{relation_in}
 use Rattle.info_rules.specs.Values.{ok_of, value_in, name_word_in}
 use Rattle.info_rules.specs.NameTest.{form_of, is_form, is_other, other_form_of, first_other, half_fault, second_fault, form_fault, Names, names_in, asked_in, test_of}
 use Rattle.info_rules.specs.Meaning.{IsOneOf, HasOnly, Lacks, HasValue, AsksOfName}
-use Rattle.info_rules.proofs.FoundParts.{both_ok, beside_ok, no_fault_of, needed_ok}
+use Rattle.info_rules.proofs.FoundParts.{both_ok, beside_ok, shown_ok, no_fault_of, needed_ok}
 use Rattle.info_rules.proofs.Meanings.{lacks, only_of, has, has_again, has_there, has_once, lacks_again, lacks_once}
 use Rattle.info_rules.proofs.WordMeanings.{name_means, name_meant, pattern_means, pattern_meant, relation_means, relation_meant, name_word_means}
 
@@ -222,33 +222,36 @@ type_is keys once e =
     let given = has kinds.BadValue name_word_in (codes "type") keys tt e once in
     subst (HasValue (codes "type") keys) (name_word_means given.0 given.2) given.1
 
-pub is_asked : (tested : Tested) (line : ℕ) (keys : List Block) (names : Names) → HasOnly (words_for tested) keys → StandOnce keys → asked_in tested line keys ≡ Ok names → IsAsked tested keys names
+pub is_asked : (tested : Tested) (line : ℕ) (keys : List Block) (asked : Option NameTest) → HasOnly (words_for tested) keys → StandOnce keys → asked_in tested line keys ≡ Ok asked → (names : Names) × IsAsked tested keys names × (test_of names ≡ asked)
 unfolding asked_in names_in
-is_asked tested line keys names only once e =
+is_asked tested line keys asked only once e =
     let type = value_in kinds.BadValue name_word_in (codes "type") keys in
     let name = value_in kinds.BadValue (λ text. ok_of (name_in text)) (codes "name") keys in
     let relation = value_in kinds.BadValue relation_in (codes "relation") keys in
     let regex = value_in kinds.Pattern (λ text. ok_of (pattern_in text)) (codes "regex") keys in
-    let found = beside_ok (form_fault tested line keys) (beside (result_err (needed line type)) (both (both name relation) regex)) names e in
+    let found = beside_ok (form_fault tested line keys) (beside (result_err (needed line type)) (shown test_of (both (both name relation) regex))) asked e in
     let form = form_is tested line keys found.0 in
-    let parts = beside_ok (result_err (needed line type)) (both (both name relation) regex) names found.1 in
+    let parts = beside_ok (result_err (needed line type)) (shown test_of (both (both name relation) regex)) asked found.1 in
+    let read = shown_ok test_of (both (both name relation) regex) asked parts.1 in
+    let names = read.0 in
     let word = no_fault_of (needed line type) parts.0 in
-    let given = both_ok (both name relation) regex names parts.1 in
+    let given = both_ok (both name relation) regex names read.1 in
     let named_by = both_ok name relation names.0 given.0 in
-    record {
+    let all : IsAsked tested keys names = record {
       form = form.0;
       only = all_by_form tested form.0 keys only form.1;
       type = type_is keys once.type (needed_ok line type word.0 word.1);
       name = named_by.0;
       relation = named_by.1;
       regex = given.1;
-    }
+    } in
+    (names, all, read.2)
 
-pub test_means : (tested : Tested) (line : ℕ) (keys : List Block) (names : Names) (test : NameTest) → StandOnce keys → IsAsked tested keys names → test_of line names ≡ Ok test → AsksOfName keys test
-test_means tested line keys names test once asked made = by_names names.0.0 names.0.1 names.1 asked.name asked.relation asked.regex made
+pub test_means : (tested : Tested) (keys : List Block) (names : Names) (test : NameTest) → StandOnce keys → IsAsked tested keys names → test_of names ≡ Some test → AsksOfName keys test
+test_means tested keys names test once asked made = by_names names.0.0 names.0.1 names.1 asked.name asked.relation asked.regex made
   where
     by_names : (n : Option (List Field)) (r : Option Relation) (p : Option PlainPattern) → value_in kinds.BadValue (λ text. ok_of (name_in text)) (codes "name") keys ≡ Ok n → value_in kinds.BadValue relation_in (codes "relation") keys ≡ Ok r
-        → value_in kinds.Pattern (λ text. ok_of (pattern_in text)) (codes "regex") keys ≡ Ok p → test_of line ((n, r), p) ≡ Ok test → AsksOfName keys test
+        → value_in kinds.Pattern (λ text. ok_of (pattern_in text)) (codes "regex") keys ≡ Ok p → test_of ((n, r), p) ≡ Some test → AsksOfName keys test
     by_names n r (Some pattern) en er ep made =
         let same : tests.Matching pattern ≡ test = cc in
         let given = has kinds.Pattern (λ text. ok_of (pattern_in text)) (codes "regex") keys pattern ep once.regex in
@@ -284,14 +287,14 @@ all_may tested form [] may only = tt
 all_may tested form (key ∷ keys) may only = (may key only.0, all_may tested form keys may only.1)
 
 -- the names that are read, where no fault of a form is met
-asked_again : (tested : Tested) (line : ℕ) (keys : List Block) (names : Names) → form_fault tested line keys ≡ None → HasValue (codes "type") keys (codes "name") → names_in keys ≡ Ok names → asked_in tested line keys ≡ Ok names
+asked_again : (tested : Tested) (line : ℕ) (keys : List Block) (names : Names) → form_fault tested line keys ≡ None → HasValue (codes "type") keys (codes "name") → names_in keys ≡ Ok names → asked_in tested line keys ≡ Ok (test_of names)
 unfolding asked_in
 asked_again tested line keys names none type read =
     let type_read = has_again kinds.BadValue name_word_in (codes "type") keys tt (codes "name") type refl in
     rw (none, type_read, read) refl
 
 pub hyper_asked : (line : ℕ) (keys : List Block) (key : Block) → HasOnly (words_by forms.Hyper) keys → HasValue (codes "type") keys (codes "name") → named (codes "hyper-relation") keys ≡ key ∷ []
-    → asked_in KeyName line keys ≡ Ok ((None, None), None)
+    → asked_in KeyName line keys ≡ Ok None
 unfolding names_in
 hyper_asked line keys key only type is =
     let may = all_may KeyName forms.Hyper keys may_hyper only in
@@ -309,7 +312,7 @@ lacks_hyper keys (tests.Related stands name) h = lacks (words_by forms.Related) 
 lacks_hyper keys (tests.Matching pattern) h = lacks (words_by forms.Matching) (codes "hyper-relation") keys refl h.0
 
 -- what is read of keys that ask for a name
-pub test_meant : (tested : Tested) (line : ℕ) (keys : List Block) (test : NameTest) → AsksOfName keys test → (names : Names) × (asked_in tested line keys ≡ Ok names) × (test_of line names ≡ Ok test)
+pub test_meant : (tested : Tested) (line : ℕ) (keys : List Block) (test : NameTest) → AsksOfName keys test → asked_in tested line keys ≡ Ok (Some test)
 unfolding names_in
 test_meant tested line keys (tests.Related stands name) (only, type, given, how) =
     let may = all_may tested forms.Related keys (may_related tested) only in
@@ -319,7 +322,7 @@ test_meant tested line keys (tests.Related stands name) (only, type, given, how)
     let relation_read = has_again kinds.BadValue relation_in (codes "relation") keys stands how.0 how.1 (relation_meant how.0 stands how.2) in
     let regex = lacks_again kinds.Pattern (λ text. ok_of (pattern_in text)) (codes "regex") keys (lacks (words_by forms.Related) (codes "regex") keys refl only) in
     let read : names_in keys ≡ Ok ((Some name, Some stands), None) = rw (name_read, relation_read, regex) refl in
-    (((Some name, Some stands), None), asked_again tested line keys ((Some name, Some stands), None) (no_form_fault tested forms.Related line first.0 keys may first.1 half) type read, refl)
+    asked_again tested line keys ((Some name, Some stands), None) (no_form_fault tested forms.Related line first.0 keys may first.1 half) type read
 test_meant tested line keys (tests.Matching pattern) (only, type, given) =
     let may = all_may tested forms.Matching keys (may_matching tested) only in
     let first = first_there tested forms.Matching (codes "regex") keys [] given.1.0 may (form_regex tested) given.1.1 in
@@ -327,7 +330,7 @@ test_meant tested line keys (tests.Matching pattern) (only, type, given) =
     let relation = lacks_again kinds.BadValue relation_in (codes "relation") keys (lacks (words_by forms.Matching) (codes "relation") keys refl only) in
     let regex_read = has_again kinds.Pattern (λ text. ok_of (pattern_in text)) (codes "regex") keys pattern given.0 given.1 (pattern_meant given.0 pattern given.2) in
     let read : names_in keys ≡ Ok ((None, None), Some pattern) = rw (name, relation, regex_read) refl in
-    (((None, None), Some pattern), asked_again tested line keys ((None, None), Some pattern) (no_form_fault tested forms.Matching line first.0 keys may first.1 refl) type read, refl)
+    asked_again tested line keys ((None, None), Some pattern) (no_form_fault tested forms.Matching line first.0 keys may first.1 refl) type read
 
 -- how often the words stand where a name is asked for
 pub once_there : (keys : List Block) (test : NameTest) → AsksOfName keys test → StandOnce keys

@@ -5,14 +5,14 @@ use Rattle.info_rules.specs.Forms.{PacketName}
 use Rattle.info_rules.specs.Blocks.{Filter}
 use Rattle.info_rules.specs.Tree.{Block}
 use Rattle.info_rules.specs.Faults.{after}
-use Rattle.info_rules.specs.Found.{Found, beside, then_made}
+use Rattle.info_rules.specs.Found.{Found, beside, needed}
 use Rattle.info_rules.specs.Keys.{block_in}
 use Rattle.info_rules.specs.Walk.{walk_faults}
-use Rattle.info_rules.specs.NameTest.{asked_in, test_of}
+use Rattle.info_rules.specs.NameTest.{asked_in}
 
 unfoldable pub filter_of : ℕ → List Block → Found NameTest
 filter_of line keys = beside (after None (walk_faults Filter keys))
-    (then_made (test_of line) (asked_in PacketName line keys))
+    (needed line (asked_in PacketName line keys))
 
 -- what a `filter` asks of a packet's name
 unfoldable pub filter_in : Block → Found NameTest

@@ -1,5 +1,6 @@
 -- Blocks of key locators.
 use Rattle.std.specs.Prelude.{ℕ, List, Option, None, Some, is_some, Ok, Bool, not, codes}
+use Rattle.info_rules.specs.declared.rule.NameTest.{NameTest}
 use Rattle.info_rules.specs.declared.rule.LocatorTest.{LocatorTest}
 use Rattle.info_rules.specs.declared.rule.LocatorTest.TheVariants.{Name, Hyper}
 use Rattle.info_rules.specs.Forms as forms
@@ -8,22 +9,22 @@ use Rattle.info_rules.specs.Blocks.{Locator}
 use Rattle.info_rules.specs.Hyper.{PlainHyper}
 use Rattle.info_rules.specs.Tree.{Block}
 use Rattle.info_rules.specs.Faults.{after}
-use Rattle.info_rules.specs.Found.{Found, both, beside, shown, then_made, each}
+use Rattle.info_rules.specs.Found.{Found, both, beside, needed_one, shown, then_made, each}
 use Rattle.info_rules.specs.Keys.{first_of, named, block_in}
 use Rattle.info_rules.specs.Walk.{walk_faults}
-use Rattle.info_rules.specs.NameTest.{Names, first_other, asked_in, test_of}
+use Rattle.info_rules.specs.NameTest.{first_other, asked_in}
 use Rattle.info_rules.specs.HyperBlock.{hyper_in}
 
 -- beside a hyper-relation stands no key of another form
 unfoldable pub is_hyper_alone : List Block → Bool
 is_hyper_alone keys = not (is_some (first_other KeyName (Some forms.Hyper) keys))
 
-abbrev pub test_by : ℕ → Names → Option (Option PlainHyper) → Found LocatorTest
-test_by line names None = shown Name (test_of line names)
-test_by line names (Some None) = shown Name (test_of line names)
-test_by line names (Some (Some hyper)) = Ok (Hyper hyper)
+abbrev pub test_by : ℕ → Option NameTest → Option (Option PlainHyper) → Found LocatorTest
+test_by line asked None = shown Name (needed_one line asked)
+test_by line asked (Some None) = shown Name (needed_one line asked)
+test_by line asked (Some (Some hyper)) = Ok (Hyper hyper)
 
-abbrev pub locator_made : ℕ → Names × List (Option PlainHyper) → Found LocatorTest
+abbrev pub locator_made : ℕ → Option NameTest × List (Option PlainHyper) → Found LocatorTest
 locator_made line read = test_by line read.0 (first_of read.1)
 
 unfoldable pub locator_of : ℕ → List Block → Found LocatorTest

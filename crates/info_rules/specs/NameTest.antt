@@ -14,7 +14,7 @@ use Rattle.info_rules.specs.declared.rule.NameTest.TheVariants.{Related, Matchin
 use Rattle.info_rules.specs.Forms as forms
 use Rattle.info_rules.specs.Forms.{Form, Tested, PacketName, KeyName}
 use Rattle.info_rules.specs.Tree.{Block}
-use Rattle.info_rules.specs.Found.{Found, both, beside, needed}
+use Rattle.info_rules.specs.Found.{Found, both, beside, needed, shown}
 use Rattle.info_rules.specs.Keys.{on_option, first_of, is_word, is_there, missing_unless}
 use Rattle.info_rules.specs.ValueWords.{relation_in}
 use Rattle.info_rules.specs.Values.{ok_of, value_in, name_word_in}
@@ -87,21 +87,22 @@ names_in keys = both
     (value_in BadValue relation_in (codes "relation") keys))
     (value_in Pattern (λ text. ok_of (pattern_in text)) (codes "regex") keys)
 
--- what is asked of a name, in one form
-unfoldable pub asked_in : Tested → ℕ → List Block → Found Names
+abbrev pub related_of : Option (List Field) → Option Relation → Option NameTest
+related_of (Some name) (Some relation) = Some (Related relation name)
+related_of (Some name) None = None
+related_of None relation = None
+
+abbrev pub test_with : Option (List Field) × Option Relation → Option PlainPattern
+    → Option NameTest
+test_with related (Some pattern) = Some (Matching pattern)
+test_with related None = related_of related.0 related.1
+
+-- the test of a name, as far as one is there
+abbrev pub test_of : Names → Option NameTest
+test_of names = test_with names.0 names.1
+
+-- what is asked of a name, in one form, as far as it is there
+unfoldable pub asked_in : Tested → ℕ → List Block → Found (Option NameTest)
 asked_in tested line keys = beside (form_fault tested line keys)
     (beside (result_err (needed line (value_in BadValue name_word_in (codes "type") keys)))
-    (names_in keys))
-
-abbrev pub related_of : ℕ → Option (List Field) → Option Relation → Found NameTest
-related_of line (Some name) (Some relation) = Ok (Related relation name)
-related_of line (Some name) None = Err (record { line = line; kind = Missing })
-related_of line None relation = Err (record { line = line; kind = Missing })
-
-abbrev pub test_with : ℕ → Option (List Field) × Option Relation → Option PlainPattern
-    → Found NameTest
-test_with line related (Some pattern) = Ok (Matching pattern)
-test_with line related None = related_of line related.0 related.1
-
-abbrev pub test_of : ℕ → Names → Found NameTest
-test_of line names = test_with line names.0 names.1
+    (shown test_of (names_in keys)))

@@ -4,9 +4,9 @@ ghost use Rattle.info_rules.specs.FilterBlock.{filter_of};
 
 use crate::block_reader::BlockReader;
 use crate::form::Tested;
-use crate::found::{Read, beside};
+use crate::found::{Read, beside, needed};
 use crate::keys::Keys;
-use crate::name_test::{read_asked, test_of};
+use crate::name_test::read_asked;
 use crate::rule::NameTest;
 use crate::table::Block;
 use crate::walk::walk;
@@ -27,10 +27,7 @@ impl BlockReader for FilterReader {
     #[tactic(auto, unfolding(crate::specs::FilterBlock::filter_of))]
     fn read(&self, alloc: Global, line: u32, keys: Keys<'_>) -> Read<NameTest> {
         let fault = walk(alloc, Block::Filter, keys)?.first();
-        let test = match read_asked(alloc, Tested::PacketName, line, keys)? {
-            Ok(names) => test_of(line, names),
-            Err(fault) => Err(fault),
-        };
-        Ok(beside(fault, test))
+        let asked = read_asked(alloc, Tested::PacketName, line, keys)?;
+        Ok(beside(fault, needed(line, asked)))
     }
 }

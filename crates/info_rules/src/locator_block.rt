@@ -8,10 +8,10 @@ ghost use Rattle.info_rules.specs.LocatorBlock.{is_hyper_alone, locator_of};
 
 use crate::block_reader::{BlockReader, read_blocks};
 use crate::form::{Form, Tested, first_other};
-use crate::found::{Found, Read, beside, both};
+use crate::found::{Found, Read, beside, both, needed};
 use crate::hyper_block::HyperReader;
 use crate::keys::Keys;
-use crate::name_test::{Names, read_asked, test_of};
+use crate::name_test::{Asked, read_asked};
 use crate::rule::{HyperRelation, LocatorTest};
 use crate::table::Block;
 use crate::walk::walk;
@@ -28,16 +28,16 @@ fn is_hyper_alone(keys: Keys<'_>) -> bool
 /// What the first hyper-relation asks of a key's name, or else the names.
 fn made_of(
     line: u32,
-    names: Found<Names>,
+    asked: Found<Asked>,
     hypers: Found<Vec<Option<HyperRelation>>>,
 ) -> Found<LocatorTest>
     ensures { result ≡ then_made (spec.locator_made line)
-        (spec_both names (shown (λ all. all.items) hypers)) }
+        (spec_both asked (shown (λ all. all.items) hypers)) }
 {
-    let (names, hypers) = both(names, hypers)?;
+    let (asked, hypers) = both(asked, hypers)?;
     match hypers.into_iter().next() {
         Some(Some(hyper)) => Ok(LocatorTest::Hyper(hyper)),
-        _ => Ok(LocatorTest::Name(test_of(line, names)?)),
+        _ => Ok(LocatorTest::Name(needed(line, Ok(asked))?)),
     }
 }
 
@@ -56,9 +56,9 @@ impl BlockReader for LocatorReader {
     #[tactic(auto, unfolding(crate::specs::LocatorBlock::locator_of, crate::specs::HyperBlock::hyper_in))]
     fn read(&self, alloc: Global, line: u32, keys: Keys<'_>) -> Read<LocatorTest> {
         let fault = walk(alloc, Block::Locator, keys)?.first();
-        let names = read_asked(alloc, Tested::KeyName, line, keys)?;
+        let asked = read_asked(alloc, Tested::KeyName, line, keys)?;
         let needed = is_hyper_alone(keys);
         let hypers = read_blocks(alloc, &HyperReader { needed }, "hyper-relation", keys)?;
-        Ok(beside(fault, made_of(line, names, hypers)))
+        Ok(beside(fault, made_of(line, asked, hypers)))
     }
 }

@@ -2,6 +2,7 @@
 
 ghost use Rattle.std.specs.Prelude.{◌≡◌, IfOk};
 ghost use Rattle.info_rules.specs.Shown.{keys_of, tested_of, name_form_of};
+ghost use Rattle.info_rules.specs.Found.{shown};
 ghost use Rattle.info_rules.specs.NameTest as spec;
 
 use crate::fault::{RulesFault, RulesFaultKind};
@@ -15,7 +16,10 @@ use ndn_names::NameBuf;
 use std::alloc::Global;
 
 /// A name, a relation and a pattern, so far as they are there.
-pub type Names = ((Option<NameBuf>, Option<Relation>), Option<Pattern>);
+type Names = ((Option<NameBuf>, Option<Relation>), Option<Pattern>);
+
+/// What is asked of a name, as far as it is there.
+pub type Asked = Option<NameTest>;
 
 /// The fault of the first key of a second form, or else of what the first form lacks.
 fn second_fault(tested: Tested, line: u32, keys: Keys<'_>, form: Form) -> Option<RulesFault>
@@ -40,6 +44,24 @@ fn form_fault(tested: Tested, line: u32, keys: Keys<'_>) -> Option<RulesFault>
     }
 }
 
+/// The test of a name, as far as one is there.
+fn test_of(names: Names) -> Option<NameTest>
+    ensures { result ≡ spec.test_of names }
+{
+    let ((name, relation), pattern) = names;
+    match pattern {
+        Some(pattern) => Some(NameTest::Matching(pattern)),
+        None => Some(NameTest::Related(relation?, name?)),
+    }
+}
+
+/// The test of names that are read.
+fn asked_of(names: Found<Names>) -> Found<Asked>
+    ensures { result ≡ shown spec.test_of names }
+{
+    Ok(test_of(names?))
+}
+
 #[tactic(auto, unfolding(crate::specs::NameTest::names_in))]
 fn read_names(alloc: Global, keys: Keys<'_>) -> Read<Names>
     ensures { IfOk result (λ found. found ≡ spec.names_in (keys_of keys.entry)) }
@@ -52,26 +74,12 @@ fn read_names(alloc: Global, keys: Keys<'_>) -> Read<Names>
 
 /// What the keys in the block of a key on this line ask of a name, in one form.
 #[tactic(auto, unfolding(crate::specs::NameTest::asked_in))]
-pub fn read_asked(alloc: Global, tested: Tested, line: u32, keys: Keys<'_>) -> Read<Names>
+pub fn read_asked(alloc: Global, tested: Tested, line: u32, keys: Keys<'_>) -> Read<Asked>
     ensures { IfOk result
         (λ found. found ≡ spec.asked_in (tested_of tested) line (keys_of keys.entry)) }
 {
     let fault = form_fault(tested, line, keys);
     let word = needed(line, read_name_word(keys, "type"));
-    let names = read_names(alloc, keys)?;
-    Ok(beside(fault, beside(word.err(), names)))
-}
-
-/// The test of a name: one form, where no fault was met beside it.
-pub fn test_of(line: u32, names: Names) -> Found<NameTest>
-    ensures { result ≡ spec.test_of line names }
-{
-    let ((name, relation), pattern) = names;
-    match pattern {
-        Some(pattern) => Ok(NameTest::Matching(pattern)),
-        None => {
-            let name = needed(line, Ok(name))?;
-            Ok(NameTest::Related(needed(line, Ok(relation))?, name))
-        }
-    }
+    let asked = asked_of(read_names(alloc, keys)?);
+    Ok(beside(fault, beside(word.err(), asked)))
 }

@@ -24,7 +24,7 @@ pub enum Packet<'a> {
 }
 
 /// A signed packet as checkers see it: its name, its signature, and the octets that this covers.
-#[derive(Clone, Copy, Debug)]
+#[derive(Clone, Copy)]
 pub struct Signed<'a> {
     pub name: Name<'a>,
     pub signature: Signature<'a>,

@@ -26,7 +26,7 @@ fn deep_before(deep: Option<u32>, line: u32) -> Option<RulesFault>
 }
 
 /// What is read of the entries of a text.
-#[derive(Debug, Drop)]
+#[derive(Drop)]
 pub struct Draft {
     /// Entries to which nothing can be added.
     pub ended: Vec<Entry>,

@@ -1,6 +1,6 @@
 //! What the values of keys have to be.
 
-ghost use Rattle.std.specs.Prelude.{◌≡◌, IfOk};
+ghost use Rattle.std.specs.Prelude.{◌≡◌, IfOk, is_some};
 ghost use Rattle.info_rules.specs.Values.{is_value};
 ghost use Rattle.info_rules.specs.Shown.{value_kind_of};
 
@@ -35,6 +35,13 @@ pub enum ValueKind {
     AnchorType,
 }
 
+/// Whether a text stands for such a value.
+fn stands_for<V: Value>(alloc: Global, text: &str) -> Result<bool, Memory>
+    ensures { IfOk result (λ right. right ≡ is_some (V.meant text.now)) }
+{
+    Ok(V::of_text(alloc, text)?.is_some())
+}
+
 impl ValueKind {
     /// Whether a text is such a value, so far as it is a bad value where it is not: a refused
     /// pattern or template is another fault.
@@ -42,16 +49,16 @@ impl ValueKind {
     pub fn is_value(self, alloc: Global, text: &str) -> Result<bool, Memory>
         ensures { IfOk result (λ right. right ≡ is_value (value_kind_of self) text.now) }
     {
-        Ok(match self {
-            ValueKind::Id => is_id(text),
-            ValueKind::PacketKind => Kind::of_text(alloc, text)?.is_some(),
-            ValueKind::NameWord => text == "name",
-            ValueKind::Uri => NameBuf::of_text(alloc, text)?.is_some(),
-            ValueKind::Relation => Relation::of_text(alloc, text)?.is_some(),
-            ValueKind::Pattern | ValueKind::Template => true,
-            ValueKind::CheckerType => CheckerType::of_text(alloc, text)?.is_some(),
-            ValueKind::SignatureType => SignatureType::of_text(alloc, text)?.is_some(),
-            ValueKind::AnchorType => text == "any" || is_anchor_type(text),
-        })
+        match self {
+            ValueKind::Id => Ok(is_id(text)),
+            ValueKind::PacketKind => stands_for::<Kind>(alloc, text),
+            ValueKind::NameWord => Ok(text == "name"),
+            ValueKind::Uri => stands_for::<NameBuf>(alloc, text),
+            ValueKind::Relation => stands_for::<Relation>(alloc, text),
+            ValueKind::Pattern | ValueKind::Template => Ok(true),
+            ValueKind::CheckerType => stands_for::<CheckerType>(alloc, text),
+            ValueKind::SignatureType => stands_for::<SignatureType>(alloc, text),
+            ValueKind::AnchorType => Ok(text == "any" || is_anchor_type(text)),
+        }
     }
 }

@@ -7,7 +7,7 @@ ghost use Rattle.info_rules.specs.Words.{tokens_from, quoted_len, from_line_end}
 ghost use Rattle.info_rules.specs.Shown.{token_of};
 
 /// A word, a brace that stands alone, or a quoted text.
-#[derive(Clone, Copy, Debug)]
+#[derive(Clone, Copy)]
 pub enum Token<'a> {
     /// A word, or what stands between two quotes. Backslashes are in it as they stand in the text.
     Word(&'a str),
@@ -18,7 +18,7 @@ pub enum Token<'a> {
 }
 
 /// A token, its line, and the text after it, which begins on that line.
-#[derive(Clone, Copy, Debug)]
+#[derive(Clone, Copy)]
 pub struct NextToken<'a> {
     pub token: Token<'a>,
     pub line: u32,
