@@ -1,11 +1,12 @@
 -- What key locators and checkers mean.
-use Rattle.std.proofs.Common.{◌≡◌, ℕ, Bool, true, List, [], ◌∷◌, length, refl, sym, ap, subst, ◌∙◌}
+use Rattle.std.proofs.Common.{◌≡◌, ℕ, Bool, true, List, [], ◌∷◌, length, refl, ap, subst, ◌∙◌}
 use Rattle.std.specs.Prelude.{Option, Some, None, Ok, not, codes, ◌||◌}
 use Rattle.name_patterns.specs.Pattern.{PlainPattern}
 use Rattle.name_patterns.specs.Grammar.{IsPattern}
 use Rattle.name_patterns.specs.Template.{PlainPart, IsTemplate}
 use Rattle.name_patterns.specs.PatternReading.{pattern_in}
 use Rattle.name_patterns.specs.TemplateReading.{template_in}
+use Rattle.std.specs.Option.{option_zip}
 use Rattle.info_rules.specs.declared.fault.RulesFaultKind.TheVariants as kinds
 use Rattle.info_rules.specs.declared.rule.Relation.{Relation}
 use Rattle.info_rules.specs.declared.rule.NameTest.{NameTest}
@@ -28,7 +29,7 @@ use Rattle.info_rules.specs.FilterBlock.{filter_of, filter_in}
 use Rattle.info_rules.specs.HyperBlock.{Half, groups_of, half_in, parts_in, hyper_with, hyper_made, is_whole, hyper_of, hyper_in}
 use Rattle.info_rules.specs.LocatorBlock.{is_hyper_alone, test_by, locator_made, locator_of, locator_in}
 use Rattle.info_rules.specs.Meaning.{HasOnly, Lacks, Has, AsksOfName, IsFilter, AsksOfBoth, IsHyper, AsksOfKey, IsLocator}
-use Rattle.info_rules.proofs.FoundParts.{both_ok, beside_ok, shown_ok, made_ok, needed_ok}
+use Rattle.info_rules.proofs.FoundParts.{both_ok, beside_ok, shown_ok, made_ok, zip_some, needed_ok}
 use Rattle.info_rules.proofs.Meanings.{beside_again, both_again, made_again, needed_again, fits, fits_again, lacks, only_of, has, has_again, has_there, has_once, lacks_once, block_ok, block_again, first_gave, one_again, none_again, one_once}
 use Rattle.info_rules.proofs.WordMeanings.{pattern_means, pattern_meant, template_means, template_meant, relation_means, relation_meant}
 use Rattle.info_rules.proofs.NameMeanings.{words_by, words_for, StandOnce, IsAsked, is_asked, test_means, test_meant, once_there, known_there, hyper_asked, hyper_alone, lacks_hyper, hyper_more}
@@ -69,48 +70,47 @@ filter_meant key test h = block_again 2 filter_of key test h.0 (keys_filter key.
 -- ---- hyper-relations
 
 half_means : (pattern_word template_word : List ℕ) (keys : List Block) (pattern : PlainPattern) (template : List PlainPart) → others_of (named pattern_word keys) ≡ [] → others_of (named template_word keys) ≡ []
-    → half_in pattern_word template_word keys ≡ Ok (Some pattern, Some template) → Has IsPattern pattern_word keys pattern × Has (IsTemplate (length pattern.groups)) template_word keys template
+    → half_in pattern_word template_word keys ≡ Ok (Some (pattern, template)) → Has IsPattern pattern_word keys pattern × Has (IsTemplate (length pattern.groups)) template_word keys template
 unfolding half_in
 half_means pattern_word template_word keys pattern template first second e =
     let read = value_in kinds.Pattern (λ text. ok_of (pattern_in text)) pattern_word keys in
-    let parts = both_ok read (value_in kinds.Pattern (λ text. ok_of (template_in (groups_of read) text)) template_word keys) (Some pattern, Some template) e in
-    let spelled = has kinds.Pattern (λ text. ok_of (pattern_in text)) pattern_word keys pattern parts.0 first in
+    let expand = value_in kinds.Pattern (λ text. ok_of (template_in (groups_of read) text)) template_word keys in
+    let pair = shown_ok (λ (p : Option PlainPattern × Option (List PlainPart)). option_zip p.0 p.1) (both read expand) (Some (pattern, template)) e in
+    let sides = zip_some pair.0.0 pair.0.1 (pattern, template) pair.2 in
+    let given = both_ok read expand pair.0 pair.1 in
+    let first_is = given.0 ∙ ap Ok sides.0 in
+    let second_is = given.1 ∙ ap Ok sides.1 in
+    let spelled = has kinds.Pattern (λ text. ok_of (pattern_in text)) pattern_word keys pattern first_is first in
     let with_groups : value_in kinds.Pattern (λ text. ok_of (template_in (length pattern.groups) text)) template_word keys ≡ Ok (Some template) =
-    subst (λ (r : Found (Option PlainPattern)). value_in kinds.Pattern (λ text. ok_of (template_in (groups_of r) text)) template_word keys ≡ Ok (Some template)) parts.0 parts.1 in
+    subst (λ (r : Found (Option PlainPattern)). value_in kinds.Pattern (λ text. ok_of (template_in (groups_of r) text)) template_word keys ≡ Ok (Some template)) first_is second_is in
     let expanded = has kinds.Pattern (λ text. ok_of (template_in (length pattern.groups) text)) template_word keys template with_groups second in
     ((spelled.0, spelled.1, pattern_means spelled.0 pattern spelled.2), (expanded.0, expanded.1, template_means (length pattern.groups) expanded.0 template expanded.2))
 
 half_meant : (pattern_word template_word : List ℕ) (keys : List Block) (pattern : PlainPattern) (template : List PlainPart) → Has IsPattern pattern_word keys pattern → Has (IsTemplate (length pattern.groups)) template_word keys template
-    → half_in pattern_word template_word keys ≡ Ok (Some pattern, Some template)
+    → half_in pattern_word template_word keys ≡ Ok (Some (pattern, template))
 unfolding half_in
 half_meant pattern_word template_word keys pattern template given expand =
     let read = has_again kinds.Pattern (λ text. ok_of (pattern_in text)) pattern_word keys pattern given.0 given.1 (pattern_meant given.0 pattern given.2) in
     let expanded = has_again kinds.Pattern (λ text. ok_of (template_in (length pattern.groups) text)) template_word keys template expand.0 expand.1 (template_meant (length pattern.groups) expand.0 template expand.2) in
-    subst (λ (r : Found (Option PlainPattern)). both r (value_in kinds.Pattern (λ text. ok_of (template_in (groups_of r) text)) template_word keys) ≡ Ok (Some pattern, Some template)) (sym read)
-    (both_again (Ok (Some pattern)) (value_in kinds.Pattern (λ text. ok_of (template_in (length pattern.groups) text)) template_word keys) (Some pattern) (Some template) refl expanded)
+    rw (read, expanded) refl
 
-abbrev half : Option PlainPattern → Option (List PlainPart) → Half
-half pattern template = (pattern, template)
+-- the parts of a relation
+record AreParts (hyper : PlainHyper) (key : Half) (relation : Option Relation) (packet : Half) : Type 0 where
+  key_is : key ≡ Some (hyper.key_pattern, hyper.key_template)
+  relation_is : relation ≡ Some hyper.relation
+  packet_is : packet ≡ Some (hyper.packet_pattern, hyper.packet_template)
 
--- the five parts of a relation
-record AreParts (hyper : PlainHyper) (a : Option PlainPattern) (b : Option (List PlainPart)) (c : Option Relation) (d : Option PlainPattern) (e : Option (List PlainPart)) : Type 0 where
-  key : half a b ≡ half (Some hyper.key_pattern) (Some hyper.key_template)
-  relation : c ≡ Some hyper.relation
-  packet : half d e ≡ half (Some hyper.packet_pattern) (Some hyper.packet_template)
-
-parts_of : (hyper : PlainHyper) (a : Option PlainPattern) (b : Option (List PlainPart)) (c : Option Relation) (d : Option PlainPattern) (e : Option (List PlainPart)) → hyper_with a b c d e ≡ Some hyper → AreParts hyper a b c d e
-parts_of hyper None b c d e h = absurd cc
-parts_of hyper (Some a) None c d e h = absurd cc
-parts_of hyper (Some a) (Some b) None d e h = absurd cc
-parts_of hyper (Some a) (Some b) (Some c) None e h = absurd cc
-parts_of hyper (Some a) (Some b) (Some c) (Some d) None h = absurd cc
-parts_of hyper (Some a) (Some b) (Some c) (Some d) (Some e) h =
-    let whole : PlainHyper = record { key_pattern = a; key_template = b; relation = c; packet_pattern = d; packet_template = e } in
+parts_of : (hyper : PlainHyper) (key : Half) (relation : Option Relation) (packet : Half) → hyper_with key relation packet ≡ Some hyper → AreParts hyper key relation packet
+parts_of hyper None c d h = absurd cc
+parts_of hyper (Some a) c None h = absurd cc
+parts_of hyper (Some a) None (Some d) h = absurd cc
+parts_of hyper (Some a) (Some c) (Some d) h =
+    let whole : PlainHyper = record { key_pattern = a.0; key_template = a.1; relation = c; packet_pattern = d.0; packet_template = d.1 } in
     let same : whole ≡ hyper = some_one whole hyper h in
     record {
-      key = ap (λ (x : PlainHyper). half (Some x.key_pattern) (Some x.key_template)) same;
-      relation = ap (λ (x : PlainHyper). Some x.relation) same;
-      packet = ap (λ (x : PlainHyper). half (Some x.packet_pattern) (Some x.packet_template)) same;
+      key_is = ap (λ (x : PlainHyper). Some (x.key_pattern, x.key_template)) same;
+      relation_is = ap (λ (x : PlainHyper). Some x.relation) same;
+      packet_is = ap (λ (x : PlainHyper). Some (x.packet_pattern, x.packet_template)) same;
     }
 
 hyper_keys : (needed : Bool) (line : ℕ) (keys : List Block) (hyper : PlainHyper) → hyper_of needed line keys ≡ Ok (Some hyper) → AsksOfBoth keys hyper
@@ -120,15 +120,15 @@ hyper_keys needed line keys hyper e =
     let fit = fits blocks.Hyper keys refl all.0 in
     let read = beside_ok (missing_unless (not needed || is_whole keys) line) (then_made hyper_made (parts_in keys)) (Some hyper) all.1 in
     let made = made_ok hyper_made (parts_in keys) (Some hyper) read.1 in
-    let parts = parts_of hyper made.0.0.0.0 made.0.0.0.1 made.0.0.1 made.0.1.0 made.0.1.1 (ok_one (hyper_made made.0) (hyper_with made.0.0.0.0 made.0.0.0.1 made.0.0.1 made.0.1.0 made.0.1.1) (Some hyper) refl made.2) in
+    let parts = parts_of hyper made.0.0.0 made.0.0.1 made.0.1 (ok_one (hyper_made made.0) (hyper_with made.0.0.0 made.0.0.1 made.0.1) (Some hyper) refl made.2) in
     let key_half = half_in (codes "k-regex") (codes "k-expand") keys in
     let packet_half = half_in (codes "p-regex") (codes "p-expand") keys in
     let how = value_in kinds.BadValue relation_in (codes "h-relation") keys in
     let two = both_ok (both key_half how) packet_half made.0 made.1 in
     let one = both_ok key_half how made.0.0 two.0 in
-    let key = half_means (codes "k-regex") (codes "k-expand") keys hyper.key_pattern hyper.key_template fit.1.0 fit.1.1.0 (one.0 ∙ ap Ok parts.key) in
-    let packet = half_means (codes "p-regex") (codes "p-expand") keys hyper.packet_pattern hyper.packet_template fit.1.1.1.1.0 fit.1.1.1.1.1.0 (two.1 ∙ ap Ok parts.packet) in
-    let stands = has kinds.BadValue relation_in (codes "h-relation") keys hyper.relation (one.1 ∙ ap Ok parts.relation) fit.1.1.1.0 in
+    let key = half_means (codes "k-regex") (codes "k-expand") keys hyper.key_pattern hyper.key_template fit.1.0 fit.1.1.0 (one.0 ∙ ap Ok parts.key_is) in
+    let packet = half_means (codes "p-regex") (codes "p-expand") keys hyper.packet_pattern hyper.packet_template fit.1.1.1.1.0 fit.1.1.1.1.1.0 (two.1 ∙ ap Ok parts.packet_is) in
+    let stands = has kinds.BadValue relation_in (codes "h-relation") keys hyper.relation (one.1 ∙ ap Ok parts.relation_is) fit.1.1.1.0 in
     (fit.0, key.0, key.1, (stands.0, stands.1, relation_means stands.0 hyper.relation stands.2), packet.0, packet.1)
 
 keys_hyper : (line : ℕ) (keys : List Block) (hyper : PlainHyper) → AsksOfBoth keys hyper → hyper_of true line keys ≡ Ok (Some hyper)

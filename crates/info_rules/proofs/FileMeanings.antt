@@ -1,5 +1,5 @@
 -- What rules and rule files mean.
-use Rattle.std.proofs.Common.{◌≡◌, ℕ, ◌≤◌, Bool, true, false, cond, List, [], ◌∷◌, ◌++◌, length, refl, sym, ap, subst, ◌∙◌, inl, inr, arith}
+use Rattle.std.proofs.Common.{◌≡◌, ℕ, ◌≤◌, Bool, true, false, cond, List, [], ◌∷◌, ◌++◌, length, refl, sym, subst, inl, inr, arith}
 use Rattle.std.specs.Prelude.{◌⊎◌, ◌≢◌, Result, IfOk, MatchResult, Option, Some, None, Ok, Err, nat_lt, bytes_eq, codes, ◌||◌}
 use Rattle.std.specs.List.{AllByRecursion, flat_map}
 use Rattle.std.proofs.lemmas.Bool.Decides.{nat_tests}
@@ -26,7 +26,7 @@ use Rattle.info_rules.specs.Limits.{HaveOwnIds}
 use Rattle.info_rules.specs.Meaning.{IsOneOf, HasValue, IsFilter, IsChecker, AreOfRule, IsRule, IsAnchor, IsRuleFile}
 use Rattle.info_rules.proofs.FoundParts.{both_ok, beside_ok, shown_ok, no_fault_of, needed_ok}
 use Rattle.info_rules.proofs.Limits.{none_of_both, head_gave, no_fault, each_length, id_of, own_ids}
-use Rattle.info_rules.proofs.Meanings.{beside_again, both_again, shown_again, needed_again, mean_of, each_of, mean_length, fits, fits_again, fits_open, fits_open_again, alone, value_is, has, has_again, has_once, block_ok, block_again}
+use Rattle.info_rules.proofs.Meanings.{beside_again, needed_again, mean_of, each_of, mean_length, fits, fits_again, fits_open, fits_open_again, alone, value_is, has, has_again, has_once, block_ok, block_again}
 use Rattle.info_rules.proofs.WordMeanings.{kind_means, kind_meant, id_means, id_meant}
 use Rattle.info_rules.proofs.CheckerMeanings.{ok_one, filter_means, filter_meant}
 use Rattle.info_rules.proofs.RuleMeanings.{checker_means, checker_meant}

@@ -1,7 +1,7 @@
 -- What is found, by its parts.
 use Rattle.std.proofs.Common.{◌≡◌, ℕ, List, refl, ap}
 use Rattle.std.specs.Prelude.{Option, Some, None, Ok, Err}
-use Rattle.std.specs.Option.{option_map}
+use Rattle.std.specs.Option.{option_map, option_zip}
 use Rattle.std.specs.Result.{result_err}
 use Rattle.info_rules.specs.declared.fault.RulesFault.{RulesFault}
 use Rattle.info_rules.specs.declared.fault.RulesFaultKind.{RulesFaultKind}
@@ -72,6 +72,11 @@ made_ok f (Err d) y e = absurd cc
 pub no_fault_of : {A : Type 0} (g : Found A) → result_err g ≡ None → (x : A) × (g ≡ Ok x)
 no_fault_of (Ok x) e = (x, refl)
 no_fault_of (Err d) e = absurd cc
+
+pub zip_some : {A B : Type 0} (a : Option A) (b : Option B) (p : A × B) → option_zip a b ≡ Some p → (a ≡ Some p.0) × (b ≡ Some p.1)
+zip_some None b p e = absurd cc
+zip_some (Some x) None p e = absurd cc
+zip_some (Some x) (Some y) p e = let same : (x, y) ≡ p = cc in (ap (λ (q : _ × _). Some q.0) same, ap (λ (q : _ × _). Some q.1) same)
 
 pub needed_ok : {A : Type 0} (line : ℕ) (g : Found (Option A)) (x : A) → needed line g ≡ Ok x → g ≡ Ok (Some x)
 needed_ok line (Ok None) x e = absurd cc

@@ -9,7 +9,6 @@ pub mod Hierarchies
 pub mod KeyNames
 pub mod Least
 pub mod Limits
-pub mod Lists
 pub mod Matches
 pub mod Meanings
 pub mod NameMeanings

@@ -1,6 +1,6 @@
 -- Blocks of checkers.
 use Rattle.std.specs.Prelude.{ℕ, List, Option, None, Some, Ok, Err, Bool, true, false, not, codes, ◌&&◌, ◌||◌, if◌then◌else◌}
-use Rattle.info_rules.specs.declared.fault.RulesFaultKind.TheVariants.{BadValue, Missing}
+use Rattle.info_rules.specs.declared.fault.RulesFaultKind.TheVariants.{BadValue}
 use Rattle.info_rules.specs.declared.rule.Checker.{Checker}
 use Rattle.info_rules.specs.declared.rule.Checker.TheVariants as checkers
 use Rattle.info_rules.specs.declared.rule.LocatorTest.{LocatorTest}
@@ -13,7 +13,7 @@ use Rattle.info_rules.specs.declared.value_words.SignatureType.{SignatureType}
 use Rattle.info_rules.specs.declared.value_words.SignatureType.TheVariants.{HmacSha256, Sha256, Asymmetric}
 use Rattle.info_rules.specs.Tree.{Block}
 use Rattle.info_rules.specs.Faults.{after}
-use Rattle.info_rules.specs.Found.{Found, both, beside, needed, shown, then_made, each}
+use Rattle.info_rules.specs.Found.{Found, both, beside, needed_one, needed, shown, then_made, each}
 use Rattle.info_rules.specs.Keys.{first_of, named, is_there, missing_unless, block_in}
 use Rattle.info_rules.specs.ValueWords.{checker_type_in, signature_type_in}
 use Rattle.info_rules.specs.Values.{value_in}
@@ -58,15 +58,10 @@ locator_of hierarchical keys =
     if hierarchical then Ok (Some locators.Hierarchical)
     else shown first_of (each locator_in (named (codes "key-locator") keys))
 
--- what is asked of a signature by HMAC with SHA-256
-abbrev pub keyed_with : ℕ → Option LocatorTest → Found Checker
-keyed_with line None = Err (record { line = line; kind = Missing })
-keyed_with line (Some test) = Ok (checkers.HmacSha256 test)
-
--- HMAC with SHA-256 is meant where no type of signature is given
+-- HMAC with SHA-256 is meant where no type of signature is given, and needs a test of the key
 abbrev pub checker_with : ℕ → Option SignatureType → Option LocatorTest → Found Checker
-checker_with line None test = keyed_with line test
-checker_with line (Some HmacSha256) test = keyed_with line test
+checker_with line None test = shown checkers.HmacSha256 (needed_one line test)
+checker_with line (Some HmacSha256) test = shown checkers.HmacSha256 (needed_one line test)
 checker_with line (Some Sha256) test = Ok checkers.Sha256
 checker_with line (Some Asymmetric) test = Ok checkers.Unsupported
 

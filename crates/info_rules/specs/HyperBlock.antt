@@ -1,5 +1,6 @@
 -- Blocks of hyper-relations.
 use Rattle.std.specs.Prelude.{ℕ, List, length, Option, None, Some, IfSome, Ok, Err, Bool, codes, ◌&&◌, not, ◌||◌}
+use Rattle.std.specs.Option.{option_zip}
 use Rattle.name_patterns.specs.Pattern.{PlainPattern}
 use Rattle.name_patterns.specs.Template.{PlainPart, NeedAtMost}
 use Rattle.name_patterns.specs.PatternReading.{pattern_in}
@@ -10,20 +11,18 @@ use Rattle.info_rules.specs.Blocks as blocks
 use Rattle.info_rules.specs.Hyper.{PlainHyper}
 use Rattle.info_rules.specs.Tree.{Block}
 use Rattle.info_rules.specs.Faults.{after}
-use Rattle.info_rules.specs.Found.{Found, both, beside, then_made}
+use Rattle.info_rules.specs.Found.{Found, both, beside, shown, then_made}
 use Rattle.info_rules.specs.Keys.{is_there, missing_unless, block_in}
 use Rattle.info_rules.specs.ValueWords.{relation_in}
 use Rattle.info_rules.specs.Values.{ok_of, value_in}
 use Rattle.info_rules.specs.Walk.{walk_faults}
 
 abbrev pub Half : Type 0
-Half = Option PlainPattern × Option (List PlainPart)
+Half = Option (PlainPattern × List PlainPart)
 
 -- the template needs no group that the pattern does not have, where both are there
 abbrev pub HasGroups : Half → Type 0
-HasGroups half =
-    IfSome half.0 (λ pattern.
-    IfSome half.1 (λ template. NeedAtMost (length pattern.groups) template))
+HasGroups half = IfSome half (λ sides. NeedAtMost (length sides.0.groups) sides.1)
 
 abbrev pub HaveGroups : (Half × Option Relation) × Half → Type 0
 HaveGroups parts = HasGroups parts.0.0 × HasGroups parts.1
@@ -36,8 +35,8 @@ groups_of (Err fault) = 9
 
 abbrev pub half_with : List ℕ → List Block → Found (Option PlainPattern) → Found Half
 half_with template_word keys pattern =
-    both pattern (value_in Pattern
-    (λ text. ok_of (template_in (groups_of pattern) text)) template_word keys)
+    shown (λ half. option_zip half.0 half.1) (both pattern (value_in Pattern
+    (λ text. ok_of (template_in (groups_of pattern) text)) template_word keys))
 
 -- a pattern, and a template for its groups, by their words
 unfoldable pub half_in : List ℕ → List ℕ → List Block → Found Half
@@ -51,24 +50,21 @@ is_whole keys =
     && is_there (codes "h-relation") keys && is_there (codes "p-regex") keys
     && is_there (codes "p-expand") keys
 
-abbrev pub hyper_with : Option PlainPattern → Option (List PlainPart) → Option Relation
-    → Option PlainPattern → Option (List PlainPart) → Option PlainHyper
-hyper_with None b c d e = None
-hyper_with (Some a) None c d e = None
-hyper_with (Some a) (Some b) None d e = None
-hyper_with (Some a) (Some b) (Some c) None e = None
-hyper_with (Some a) (Some b) (Some c) (Some d) None = None
-hyper_with (Some a) (Some b) (Some c) (Some d) (Some e) = Some (record {
-  key_pattern = a;
-  key_template = b;
-  relation = c;
-  packet_pattern = d;
-  packet_template = e;
+abbrev pub hyper_with : Half → Option Relation → Half → Option PlainHyper
+hyper_with None relation packet = None
+hyper_with (Some key) relation None = None
+hyper_with (Some key) None (Some packet) = None
+hyper_with (Some key) (Some relation) (Some packet) = Some (record {
+  key_pattern = key.0;
+  key_template = key.1;
+  relation = relation;
+  packet_pattern = packet.0;
+  packet_template = packet.1;
 })
 
 -- the relation, where its parts are there
 abbrev pub hyper_made : (Half × Option Relation) × Half → Found (Option PlainHyper)
-hyper_made parts = Ok (hyper_with parts.0.0.0 parts.0.0.1 parts.0.1 parts.1.0 parts.1.1)
+hyper_made parts = Ok (hyper_with parts.0.0 parts.0.1 parts.1)
 
 unfoldable pub parts_in : List Block → Found ((Half × Option Relation) × Half)
 parts_in keys = both

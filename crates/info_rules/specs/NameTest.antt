@@ -1,5 +1,5 @@
 -- What the blocks of filters and key locators ask of a name, in one of several forms.
-use Rattle.std.specs.Prelude.{ℕ, List, Option, None, Some, Ok, Err, Bool, true, false, not, codes, ◌||◌, ◌&&◌, if◌then◌else◌}
+use Rattle.std.specs.Prelude.{ℕ, List, Option, None, Some, Bool, true, false, not, codes, ◌||◌, ◌&&◌, if◌then◌else◌}
 use Rattle.std.specs.List.{filter_map}
 use Rattle.std.specs.Result.{result_err}
 use Rattle.ndn_names.specs.UriReading.{name_in}

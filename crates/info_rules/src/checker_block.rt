@@ -79,7 +79,7 @@ fn made_of(
         Some(SignatureType::Sha256) => Ok(Checker::Sha256),
         Some(SignatureType::Asymmetric) => Ok(Checker::Unsupported),
         Some(SignatureType::HmacSha256) | None => {
-            Ok(Checker::HmacSha256(needed(line, Ok(test))?))
+            needed(line, Ok(test)).map(Checker::HmacSha256)
         }
     }
 }

@@ -1,7 +1,8 @@
 //! Blocks of hyper-relations.
 
 ghost use Rattle.std.specs.Prelude.{◌≡◌, IfOk};
-ghost use Rattle.info_rules.specs.Found.{then_made};
+ghost use Rattle.std.specs.Option.{option_zip};
+ghost use Rattle.info_rules.specs.Found.{shown, then_made};
 ghost use Rattle.info_rules.specs.Shown.{keys_of};
 ghost use Rattle.info_rules.specs.HyperBlock as spec;
 ghost use Rattle.info_rules.specs.HyperBlock.{groups_of, half_in, is_whole, hyper_of};
@@ -20,8 +21,8 @@ use std::alloc::Global;
 /// The greatest number of groups of a pattern.
 const MAX_GROUPS: u8 = 9;
 
-/// A pattern, and a template for its groups, so far as they are there.
-type Half = (Option<Pattern>, Option<Template>);
+/// A pattern, and a template for its groups, where both are there.
+type Half = Option<(Pattern, Template)>;
 
 /// The groups of a pattern; as many as a pattern can have, where there is none.
 fn groups_of(pattern: &Found<Option<Pattern>>) -> u8
@@ -31,6 +32,14 @@ fn groups_of(pattern: &Found<Option<Pattern>>) -> u8
         Ok(Some(pattern)) => pattern.groups(),
         _ => MAX_GROUPS,
     }
+}
+
+/// Two parts, where both are there.
+fn zipped<A: Drop, B: Drop>(parts: Found<(Option<A>, Option<B>)>) -> Found<Option<(A, B)>>
+    ensures { result ≡ shown (λ parts. option_zip parts.0 parts.1) parts }
+{
+    let (first, second) = parts?;
+    Ok(first.zip(second))
 }
 
 /// A pattern, and a template for its groups, of these keys.
@@ -43,7 +52,7 @@ fn read_half(alloc: Global, keys: Keys<'_>, pattern_word: &str, template_word: &
 {
     let pattern = read_value(alloc, keys, pattern_word, RulesFaultKind::Pattern)?;
     let template = read_template(alloc, keys, template_word, groups_of(&pattern))?;
-    Ok(both(pattern, template))
+    Ok(zipped(both(pattern, template)))
 }
 
 /// Whether all keys are there.
@@ -61,16 +70,16 @@ fn is_whole(keys: Keys<'_>) -> bool
 fn hyper_with(key: Half, relation: Option<Relation>, packet: Half) -> Option<HyperRelation>
     requires key { spec.HasGroups key }
     requires packet { spec.HasGroups packet }
-    ensures { result ≡ spec.hyper_with key.0 key.1 relation packet.0 packet.1 }
+    ensures { result ≡ spec.hyper_with key relation packet }
 {
-    let (key_pattern, key_template) = key;
-    let (packet_pattern, packet_template) = packet;
+    let (key_pattern, key_template) = key?;
+    let (packet_pattern, packet_template) = packet?;
     Some(HyperRelation {
-        key_pattern: key_pattern?,
-        key_template: key_template?,
+        key_pattern,
+        key_template,
         relation: relation?,
-        packet_pattern: packet_pattern?,
-        packet_template: packet_template?,
+        packet_pattern,
+        packet_template,
     })
 }
 

@@ -37,7 +37,7 @@ fn made_of(
     let (asked, hypers) = both(asked, hypers)?;
     match hypers.into_iter().next() {
         Some(Some(hyper)) => Ok(LocatorTest::Hyper(hyper)),
-        _ => Ok(LocatorTest::Name(needed(line, Ok(asked))?)),
+        _ => needed(line, Ok(asked)).map(LocatorTest::Name),
     }
 }
 

@@ -1,5 +1,4 @@
-use Rattle.std.proofs.Common.{◌≡◌, true, false, map, sym, ap, ◌∙◌}
-use Rattle.std.specs.Prelude.{Bool, not}
+use Rattle.std.proofs.Common.{map, sym, ◌∙◌}
 use Rattle.info_rules.specs.Walk.{unknown_faults}
 use Rattle.info_rules.specs.Shown.{key_of, keys_of, form_of}
 use Rattle.info_rules.proofs.Reports.{unknown_here, known_here, after_clean, after_noted}
