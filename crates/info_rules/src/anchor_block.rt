@@ -24,7 +24,7 @@ impl BlockReader for AnchorReader {
 
     #[tactic(auto, unfolding(crate::specs::AnchorBlock::anchor_of))]
     fn read(&self, alloc: Global, line: u32, keys: Keys<'_>) -> Read<()> {
-        let fault = walk(alloc, Block::Anchor, keys)?.first();
+        let fault = walk(alloc, Block::Anchor, keys)?;
         Ok(beside(fault, needed(line, read_anchor_type(keys))))
     }
 }

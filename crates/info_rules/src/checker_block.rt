@@ -101,7 +101,7 @@ impl BlockReader for CheckerReader {
         let checker_type = read_value(alloc, keys, "type", RulesFaultKind::BadValue)?;
         let signature = read_value(alloc, keys, "sig-type", RulesFaultKind::BadValue)?;
         let hierarchical = is_hierarchical(checker_type);
-        let fault = walk(alloc, block_of(hierarchical), keys)?.first();
+        let fault = walk(alloc, block_of(hierarchical), keys)?;
         let missing = missing_unless(has_locator(keys, checker_type, signature), line);
         let types = both(needed(line, checker_type), signature);
         let checker = made_of(line, types, read_test(alloc, hierarchical, keys)?);

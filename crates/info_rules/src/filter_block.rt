@@ -26,7 +26,7 @@ impl BlockReader for FilterReader {
 
     #[tactic(auto, unfolding(crate::specs::FilterBlock::filter_of))]
     fn read(&self, alloc: Global, line: u32, keys: Keys<'_>) -> Read<NameTest> {
-        let fault = walk(alloc, Block::Filter, keys)?.first();
+        let fault = walk(alloc, Block::Filter, keys)?;
         let asked = read_asked(alloc, Tested::PacketName, line, keys)?;
         Ok(beside(fault, needed(line, asked)))
     }

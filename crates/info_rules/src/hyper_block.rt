@@ -124,7 +124,7 @@ impl BlockReader for HyperReader {
 
     #[tactic(auto, unfolding(crate::specs::HyperBlock::hyper_of))]
     fn read(&self, alloc: Global, line: u32, keys: Keys<'_>) -> Read<Option<HyperRelation>> {
-        let fault = walk(alloc, Block::Hyper, keys)?.first();
+        let fault = walk(alloc, Block::Hyper, keys)?;
         let hyper = made_of(read_parts(alloc, keys)?);
         let missing = missing_unless(!self.needed || is_whole(keys), line);
         Ok(beside(fault, beside(missing, hyper)))

@@ -55,7 +55,7 @@ impl BlockReader for LocatorReader {
 
     #[tactic(auto, unfolding(crate::specs::LocatorBlock::locator_of, crate::specs::HyperBlock::hyper_in))]
     fn read(&self, alloc: Global, line: u32, keys: Keys<'_>) -> Read<LocatorTest> {
-        let fault = walk(alloc, Block::Locator, keys)?.first();
+        let fault = walk(alloc, Block::Locator, keys)?;
         let asked = read_asked(alloc, Tested::KeyName, line, keys)?;
         let needed = is_hyper_alone(keys);
         let hypers = read_blocks(alloc, &HyperReader { needed }, "hyper-relation", keys)?;

@@ -74,7 +74,7 @@ impl BlockReader for RuleReader {
 
     #[tactic(auto, unfolding(crate::specs::RuleBlock::rule_of_keys))]
     fn read(&self, alloc: Global, line: u32, keys: Keys<'_>) -> Read<Rule> {
-        let fault = walk(alloc, Block::Rule, keys)?.first();
+        let fault = walk(alloc, Block::Rule, keys)?;
         let rule = read_parts(alloc, line, keys)?;
         Ok(beside(fault, rule))
     }

@@ -18,7 +18,7 @@ use crate::block_reader::{BlockReader, read_blocks};
 use crate::fault::{RulesFault, RulesFaultKind};
 use crate::found::{Read, beside};
 use crate::keys::{Key, Keys};
-use crate::report::Report;
+use crate::report::{Report, note};
 use crate::rule::Rule;
 use crate::rule_block::RuleReader;
 use crate::rules::Rules;
@@ -51,7 +51,7 @@ fn judge_same_id(id: &str, key: Key<'_>, report: &mut Report)
         && let Some(text) = later.value()
         && text == id
     {
-        report.note(later.own.line, RulesFaultKind::TwiceNamed);
+        note(report, RulesFaultKind::TwiceNamed.at(later.own.line));
     }
 }
 
@@ -86,7 +86,7 @@ fn judge_ids(keys: Keys<'_>, report: &mut Report)
 /// The fault to report of the keys of a file: those that are unknown, more than 256 rules, and ids
 /// that two of them have.
 #[tactic(auto, using(crate::proofs::Reports::after_append, crate::proofs::Reports::after_none))]
-fn judge_file(alloc: Global, keys: Keys<'_>) -> Result<Option<RulesFault>, Memory>
+fn judge_file(alloc: Global, keys: Keys<'_>) -> Result<Report, Memory>
     ensures { IfOk result (λ fault. fault ≡ after None
         (walk_faults File (keys_of keys.entry) ++ shared_faults (keys_of keys.entry))) }
 {
@@ -94,7 +94,7 @@ fn judge_file(alloc: Global, keys: Keys<'_>) -> Result<Option<RulesFault>, Memor
     if keys.count("rule") <= MAX_RULES {
         judge_ids(keys, &mut report);
     }
-    Ok(report.first())
+    Ok(report)
 }
 
 #[tactic(auto, unfolding(crate::specs::RuleFile::rules_of_keys, crate::specs::RuleBlock::rule_in, crate::specs::AnchorBlock::anchor_in))]

@@ -10,7 +10,7 @@ ghost use Rattle.info_rules.specs.Shown.{key_of, keys_of, form_of, takes_of, blo
 
 use crate::fault::RulesFaultKind;
 use crate::keys::{Key, Keys};
-use crate::report::Report;
+use crate::report::{Report, note};
 use crate::table::{Block, Form, Takes, Times};
 use ndn_tlv::Memory;
 use std::alloc::Global;
@@ -35,7 +35,7 @@ fn judge_unknown(forms: &[Form], keys: Keys<'_>, report: &mut Report)
     let mut left = keys;
     while let Some((key, others)) = left.split_first() {
         if !is_known(forms, key) {
-            report.note(key.own.line, RulesFaultKind::UnknownKey);
+            note(report, RulesFaultKind::UnknownKey.at(key.own.line));
         }
         left = others;
     }
@@ -70,7 +70,8 @@ fn judge_second(alloc: Global, form: &Form, keys: Keys<'_>, report: &mut Report)
     };
     while let Some((key, others)) = left.split_first() {
         if key.is(form.0) {
-            report.note(key.own.line, again_kind(alloc, form.1, key)?);
+            let kind = again_kind(alloc, form.1, key)?;
+            note(report, kind.at(key.own.line));
         }
         left = others;
     }
@@ -85,7 +86,10 @@ fn judge_times(alloc: Global, form: &Form, keys: Keys<'_>, report: &mut Report) 
 {
     match form.2 {
         Times::Once => judge_second(alloc, form, keys, report)?,
-        Times::UpTo(most) if keys.count(form.0) > most => report.note(0, RulesFaultKind::TooLarge),
+        Times::UpTo(most) if keys.count(form.0) > most => note(
+            report,
+            RulesFaultKind::TooLarge.at(0),
+        ),
         Times::UpTo(_) | Times::AnyNumber => {}
     }
     Ok(())
@@ -111,7 +115,7 @@ pub fn walk(alloc: Global, block: Block, keys: Keys<'_>) -> Result<Report, Memor
     ensures { IfOk result
         (λ report. report ≡ after None (walk_faults (block_kind_of block) (keys_of keys.entry))) }
 {
-    let mut report = Report::new();
+    let mut report = None;
     if block.is_closed() {
         judge_unknown(block.forms(), keys, &mut report);
     }

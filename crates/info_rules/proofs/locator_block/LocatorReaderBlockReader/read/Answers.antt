@@ -5,4 +5,4 @@ use Rattle.info_rules.proofs.locator_block.LocatorReaderBlockReader.read.Goals a
 
 pub returns : goal.returns
 unfolding locator_of hyper_in
-returns c = rw (c.beside.ensures, c.first-fault.ensures, c.in_ok-walk.ensures, c.made_of.ensures, c.in_ok-asked.ensures, c.in_ok-hypers.ensures, c.is_hyper_alone-needed.ensures) refl
+returns c = rw (c.beside.ensures, c.in_ok-fault.ensures, c.made_of.ensures, c.in_ok-asked.ensures, c.in_ok-hypers.ensures, c.is_hyper_alone-needed.ensures) refl
