@@ -1,11 +1,12 @@
 -- Lines of key files that have a name.
-use Rattle.std.specs.Prelude.{◌≡◌, ℕ, List, None, Bool, false, if◌then◌else◌}
+use Rattle.std.specs.Prelude.{◌≡◌, ℕ, ◌+◌, List, length, None, Ok, Err, Bool, false, if◌then◌else◌}
 use Rattle.std.specs.List.{list_any}
 use Rattle.std.specs.Ordering.{is_eq}
 use Rattle.ndn_tlv.specs.Element.{Field}
 use Rattle.ndn_names.specs.Order.{name_cmp}
 use Rattle.hmac_keys.specs.KeyFile.{NamedKey, is_skipped}
-use Rattle.hmac_keys.specs.KeyReading.{on_option, at_last_space, name_of, has_name}
+use Rattle.hmac_keys.specs.KeyReading.{on_option, at_last_space, name_of, has_name, after_line}
+use Rattle.hmac_keys.specs.declared.fault.KeyFault.{KeyFault}
 
 -- the line is not skipped, and has this name before its last space
 abbrev pub line_has_name : List Field → List ℕ → Bool
@@ -20,3 +21,12 @@ lines_have_name name lines = list_any (line_has_name name) lines
 -- the names in these lines are those of the keys
 abbrev pub HaveNames : List (List ℕ) → List NamedKey → Type 0
 HaveNames lines keys = (name : List Field) → lines_have_name name lines ≡ has_name name keys
+
+-- so many keys are read up to the end of a line, with so many lines and these keys before it
+abbrev pub AreReadAfter : ℕ → List NamedKey → List ℕ → ℕ → Type 0
+AreReadAfter before keys line count =
+    (all : List NamedKey) × (after_line (before + 1) keys line ≡ Ok all) × (count ≡ length all)
+
+-- that line has this fault
+abbrev pub IsFaultAfter : ℕ → List NamedKey → List ℕ → KeyFault → Type 0
+IsFaultAfter before keys line fault = after_line (before + 1) keys line ≡ Err fault

@@ -3,7 +3,7 @@
 ghost use Rattle.std.specs.Prelude.{◌≡◌, ◌+◌, ◌<◌, ◌≤◌, List, Some, None, Ok, Err, IfOk, MatchResult, is_some, length, take};
 ghost use Rattle.ndn_tlv.specs.Element.{Field};
 ghost use Rattle.hmac_keys.specs.KeyFile.{NamedKey, lines_of};
-ghost use Rattle.hmac_keys.specs.KeyCheck.{line_has_name, lines_have_name, HaveNames};
+ghost use Rattle.hmac_keys.specs.KeyCheck.{line_has_name, lines_have_name, HaveNames, AreReadAfter, IsFaultAfter};
 ghost use Rattle.hmac_keys.specs.KeyReading.{key_in, keys_in, after_line, name_of, octets_of};
 
 use crate::fault::KeyFault;
@@ -92,9 +92,7 @@ fn check_line(text: &str, before: u64, keys: usize, line: &str) -> Result<usize,
     requires few { keys ≤ 256 }
     ensures keys { (all : List NamedKey) → keys ≡ length all
         → HaveNames (take before (lines_of text.now)) all
-        → let read = after_line (before + 1) all line.now in
-        MatchResult result (λ n. (more : List NamedKey) × (read ≡ Ok more) × (n ≡ length more))
-        (λ fault. read ≡ Err fault) }
+        → MatchResult result (AreReadAfter before all line.now) (IsFaultAfter before all line.now) }
     ensures few { IfOk result (λ n. n ≤ 256) }
 {
     if is_skipped(line) {

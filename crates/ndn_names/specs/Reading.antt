@@ -1,12 +1,12 @@
 -- Reading a name from left to right, with the first fault that is met (NDN Packet Format 0.3,
 -- "Name").
-use Rattle.std.specs.Prelude.{ℕ, ◌+◌, List, [], ◌∷◌, length, Result, Ok, Err, nat_lt, nat_le, ◌==◌, ◌&&◌, ◌||◌, not, if◌then◌else◌}
+use Rattle.std.specs.Prelude.{◌≡◌, ◌≢◌, ◌⊎◌, ℕ, ◌+◌, List, [], ◌∷◌, length, Result, Ok, Err, nat_lt, nat_le, ◌==◌, ◌&&◌, ◌||◌, not, if◌then◌else◌}
 use Rattle.ndn_tlv.specs.declared.fault.TlvFault.{TlvFault}
 use Rattle.ndn_tlv.specs.Element.{Field}
 use Rattle.ndn_tlv.specs.Reading.{elements_of, ◌>>=◌}
 use Rattle.ndn_names.specs.declared.component_type.TheConstants.{PARAMETERS_SHA256_DIGEST}
 use Rattle.ndn_names.specs.declared.fault.NameFault.{NameFault}
-use Rattle.ndn_names.specs.declared.fault.NameFault.TheVariants.{BadComponent, BadDigestLength, TooManyComponents}
+use Rattle.ndn_names.specs.declared.fault.NameFault.TheVariants.{BadComponent, BadDigestLength, TooManyComponents, Memory}
 
 -- a type and octets, as a component
 abbrev pub component_of : Field → Result Field NameFault
@@ -19,6 +19,21 @@ component_of c =
 abbrev pub component_at : Result Field TlvFault → Result Field NameFault
 component_at (Err fault) = Err BadComponent
 component_at (Ok c) = component_of c
+
+-- octets begin with this component, and these octets follow
+abbrev pub IsFirst : List ℕ → Field → List ℕ → Type 0
+IsFirst octets c rest =
+    (elements_of octets ≡ Ok c ∷ elements_of rest) × (component_of c ≡ Ok c)
+
+-- octets, where there are some, begin with no component for this cause
+abbrev pub IsNoFirst : List ℕ → NameFault → Type 0
+IsNoFirst octets fault =
+    octets ≢ [] → (at : Result Field TlvFault) × (others : List (Result Field TlvFault))
+    × (elements_of octets ≡ at ∷ others) × (component_at at ≡ Err fault)
+
+-- the fault of what was found, or Memory where this was
+abbrev pub IsFaultOrMemory : Result Field NameFault → Field → NameFault → Type 0
+IsFaultOrMemory found c fault = (found ≡ Err fault) ⊎ ((fault ≡ Memory) × (found ≡ Ok c))
 
 -- a component that follows n others
 abbrev pub component_after : ℕ → Result Field TlvFault → Result Field NameFault

@@ -1,6 +1,6 @@
 -- Reading a name's text from left to right, with the first fault that is met (NDN Packet Format
 -- 0.3, "NDN URI Scheme").
-use Rattle.std.specs.Prelude.{◌≡◌, ◌⊎◌, ℕ, ◌+◌, ◌-◌, ◌*◌, ◌^◌, List, [], ◌∷◌, length, take, drop, Option, Some, None, Result, Ok, Err, codes, decimal, bytes_eq, nat_lt, nat_le, ◌==◌, ◌&&◌, ◌||◌, not, if◌then◌else◌}
+use Rattle.std.specs.Prelude.{◌≡◌, ◌⊎◌, ℕ, ◌+◌, ◌-◌, ◌*◌, ◌^◌, List, [], ◌∷◌, length, take, drop, Option, Some, None, ◌++◌, Bool, Result, Ok, Err, codes, decimal, bytes_eq, nat_lt, nat_le, ◌==◌, ◌&&◌, ◌||◌, not, if◌then◌else◌}
 use Rattle.std.specs.List.{list_any}
 use Rattle.std.specs.Char.{digit_value}
 use Rattle.std.specs.Str.{all_ascii_digits}
@@ -154,3 +154,17 @@ IsFaultBeforeMemory {A} read fault =
 -- the fault of a reading, or Memory, which has no cause in the text
 abbrev pub IsFaultOf : {A : Type 0} → Result A NameFault → NameFault → Type 0
 IsFaultOf read fault = (read ≡ Err fault) ⊎ (fault ≡ Memory)
+
+-- the octets of what was read are put after others
+abbrev pub Adds : {A : Type 0} → (A → List ℕ) → Result A NameFault → List ℕ → List ℕ → Type 0
+Adds {A} octets_of read old new = (x : A) × (read ≡ Ok x) × (new ≡ old ++ octets_of x)
+
+-- how many octets were read, and whether they are periods only
+abbrev pub AreCounted : Result (List ℕ) NameFault → ℕ × Bool → Type 0
+AreCounted read count =
+    (octets : List ℕ) × (read ≡ Ok octets) × (count.0 ≡ length octets)
+    × (count.1 ≡ is_periods octets)
+
+-- without the three periods that are taken off so many octets are left
+abbrev pub AreLeft : List ℕ → ℕ → Type 0
+AreLeft octets len = (unpadded octets ≡ Ok (take len octets)) × (len ≡ length (take len octets))

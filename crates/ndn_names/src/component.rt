@@ -2,7 +2,7 @@ ghost use Rattle.std.specs.Prelude.{◌≡◌, ◌<◌, ◌≢◌, ◌++◌, [],
 ghost use Rattle.ndn_tlv.specs.declared.fault.TlvFault.{TlvFault};
 ghost use Rattle.ndn_tlv.specs.Element.{Field, element};
 ghost use Rattle.ndn_tlv.specs.Reading.{elements_of, on_result};
-ghost use Rattle.ndn_names.specs.Reading.{component_of, component_at};
+ghost use Rattle.ndn_names.specs.Reading.{component_of, component_at, IsFirst, IsNoFirst};
 
 use crate::component_type::PARAMETERS_SHA256_DIGEST;
 use crate::fault::NameFault;
@@ -51,11 +51,8 @@ pub(crate) fn first_component<'a>(octets: &'a [u8]) -> Result<(Component<'a>, &'
     ensures shorter { IfOk result (λ x. length x.1.now < length octets.now) }
     ensures front { IfOk result (λ x. octets.now ≡ element (x.0.kind, x.0.value.now) ++ x.1.now) }
     ensures walk { MatchResult result
-        (λ x. (elements_of octets.now ≡ Ok (x.0.kind, x.0.value.now) ∷ elements_of x.1.now)
-        × (component_of (x.0.kind, x.0.value.now) ≡ Ok (x.0.kind, x.0.value.now)))
-        (λ e. octets.now ≢ []
-        → (at : Result Field TlvFault) × (others : List (Result Field TlvFault))
-        × (elements_of octets.now ≡ at ∷ others) × (component_at at ≡ Err e)) }
+        (λ x. IsFirst octets.now (x.0.kind, x.0.value.now) x.1.now)
+        (IsNoFirst octets.now) }
 {
     let Ok((element, rest)) = first_element(octets) else {
         return Err(NameFault::BadComponent);

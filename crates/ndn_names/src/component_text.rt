@@ -63,9 +63,7 @@ pub fn first_octet<'a>(first: u8, after: &'a [u8]) -> Result<(u8, &'a [u8]), Nam
 
 /// The number of octets in text with percent signs, and whether they are periods only.
 fn count_octets(text: &[u8]) -> Result<(usize, bool), NameFault>
-    ensures { MatchResult result
-        (λ x. (octets : List ℕ) × (read.octets_in text.now ≡ Ok octets) × (x.0 ≡ length octets)
-        × (x.1 ≡ is_periods octets))
+    ensures { MatchResult result (read.AreCounted (read.octets_in text.now))
         (λ fault. read.octets_in text.now ≡ Err fault) }
 {
     let mut rest = text;
@@ -85,9 +83,7 @@ fn unpadded_len(count: usize, has_periods_only: bool) -> Result<usize, NameFault
     ensures shorter { IfOk result (λ len. len ≤ count) }
     ensures read { (octets : List ℕ) → count ≡ length octets
         → has_periods_only ≡ is_periods octets
-        → MatchResult result
-        (λ len. (read.unpadded octets ≡ Ok (take len octets)) × (len ≡ length (take len octets)))
-        (λ fault. read.unpadded octets ≡ Err fault) }
+        → MatchResult result (read.AreLeft octets) (λ fault. read.unpadded octets ≡ Err fault) }
 {
     if !has_periods_only {
         return Ok(count);
@@ -211,10 +207,9 @@ pub fn component_text(piece: &str) -> Result<ComponentText<'_>, NameFault>
 
 /// Appends the octets of text with percent signs.
 fn put_escaped(out: &mut Vec<u8>, text: &[u8]) -> Result<(), NameFault>
-    ensures { MatchResult result
-        (λ _. (octets : List ℕ) × (read.octets_in text.now ≡ Ok octets)
-        × (out.new.items ≡ out.old.items ++ octets))
-        (λ fault. read.IsFaultOf (read.octets_in text.now) fault) }
+    ensures { let found = read.octets_in text.now in
+        MatchResult result (λ _. read.Adds (λ octets. octets) found out.old.items out.new.items)
+        (read.IsFaultOf found) }
 {
     let mut rest = text;
     while let Some((first, after)) = rest.split_first() {
@@ -227,10 +222,9 @@ fn put_escaped(out: &mut Vec<u8>, text: &[u8]) -> Result<(), NameFault>
 
 /// Appends the octets of hexadecimal digits.
 fn put_hexadecimal(out: &mut Vec<u8>, text: &[u8]) -> Result<(), NameFault>
-    ensures { MatchResult result
-        (λ _. (octets : List ℕ) × (read.hex_in text.now ≡ Ok octets)
-        × (out.new.items ≡ out.old.items ++ octets))
-        (λ fault. read.IsFaultOf (read.hex_in text.now) fault) }
+    ensures { let found = read.hex_in text.now in
+        MatchResult result (λ _. read.Adds (λ octets. octets) found out.old.items out.new.items)
+        (read.IsFaultOf found) }
 {
     let mut rest = text;
     while let Some((high, after)) = rest.split_first() {

@@ -24,7 +24,7 @@ impl Model for NameBuf {
 }
 
 impl NameBuf {
-    ghost use Rattle.ndn_names.specs.Reading.{component_of, component_after};
+    ghost use Rattle.ndn_names.specs.Reading.{component_of, component_after, IsFaultOrMemory};
     ghost use Rattle.ndn_names.specs.View.{components};
 
     /// The name without components.
@@ -69,8 +69,7 @@ impl NameBuf {
         // Which fault it is: where there is no cause, memory was refused.
         ensures exact { let next = component_after (length self.old) (Ok (kind, value.now)) in
             MatchResult result (λ _. next ≡ Ok (kind, value.now))
-            (λ fault. (next ≡ Err fault)
-            ⊎ ((fault ≡ NameFault.Memory) × (next ≡ Ok (kind, value.now)))) }
+            (IsFaultOrMemory next (kind, value.now)) }
     {
         if self.view().len() == MAX_COMPONENTS {
             return Err(NameFault::TooManyComponents);

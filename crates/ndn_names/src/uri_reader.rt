@@ -96,10 +96,8 @@ fn count_pieces(text: &str) -> Result<usize, NameFault>
 /// Appends the TLV-VALUE of the name of the pieces between slashes.
 fn put_pieces(out: &mut Vec<u8>, text: &str) -> Result<(), NameFault>
     ensures { let name_in = read.components_in 0 (read.pieces_of text.now) in
-        MatchResult result
-        (λ _. (cs : List Field) × (name_in ≡ Ok cs)
-        × (out.new.items ≡ out.old.items ++ octets_of cs))
-        (λ fault. read.IsFaultOf name_in fault) }
+        MatchResult result (λ _. read.Adds octets_of name_in out.old.items out.new.items)
+        (read.IsFaultOf name_in) }
 {
     let mut rest = text;
     let mut count = 0;
@@ -117,10 +115,9 @@ fn put_pieces(out: &mut Vec<u8>, text: &str) -> Result<(), NameFault>
 
 /// Appends the component of a piece.
 fn put_component(out: &mut Vec<u8>, piece: &str) -> Result<(), NameFault>
-    ensures { MatchResult result
-        (λ _. (c : Field) × (read.component_in piece.now ≡ Ok c)
-        × (out.new.items ≡ out.old.items ++ element c))
-        (λ fault. read.IsFaultOf (read.component_in piece.now) fault) }
+    ensures { let found = read.component_in piece.now in
+        MatchResult result (λ _. read.Adds element found out.old.items out.new.items)
+        (read.IsFaultOf found) }
 {
     let component = component_text(piece)?;
     put_number(out, u64::from(component.kind))?;

@@ -1,11 +1,12 @@
 -- Reading from left to right, with the first fault that is met (NDN Packet Format 0.3,
 -- "Type-Length-Value (TLV) Encoding").
 use Rattle.std.specs.Prelude.{◌≡◌, ◌≢◌, ℕ, zero, suc, ◌<◌, ◌≤◌, ◌^◌, ◌⊎◌, List, [], ◌∷◌, ◌++◌, length, take, drop, Result, Ok, Err, nat_lt, ◌==◌, slice_index, if◌then◌else◌}
+use Rattle.std.specs.List.{flat_map, AllByRecursion}
 use Rattle.std.specs.Int.{Width, w16, w32, w64, byte_len, from_be_bytes}
 use Rattle.ndn_tlv.specs.declared.fault.TlvFault.{TlvFault}
 use Rattle.ndn_tlv.specs.declared.fault.TlvFault.TheVariants.{Truncated, NotShortest, TypeZero, TypeTooLarge, BadInteger}
 use Rattle.ndn_tlv.specs.Number.{IsForm, Spells}
-use Rattle.ndn_tlv.specs.Element.{Field}
+use Rattle.ndn_tlv.specs.Element.{Field, IsField, element}
 
 infixl 10 ◌>>=◌
 abbrev pub ◌>>=◌ : {A B F : Type 0} → Result A F → (A → Result B F) → Result B F
@@ -104,3 +105,9 @@ ElementFault bytes TypeZero = (rest : List ℕ) × (bytes ≡ 0 ∷ rest)
 ElementFault bytes TypeTooLarge =
     (text rest : List ℕ) × (kind : ℕ) × (bytes ≡ text ++ rest) × Spells text kind × (2 ^ 32 ≤ kind)
 ElementFault bytes BadInteger = ⊥
+
+-- the text is these elements, and then octets that begin with none for this cause
+abbrev pub EndsInFault : List ℕ → List Field → TlvFault → Type 0
+EndsInFault text fields fault =
+    (rest : List ℕ) × (text ≡ flat_map element fields ++ rest) × AllByRecursion IsField fields
+    × (rest ≢ []) × ElementFault rest fault

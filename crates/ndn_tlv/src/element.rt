@@ -3,7 +3,7 @@ ghost use Rattle.std.specs.List.{flat_map, AllByRecursion};
 ghost use Rattle.std.specs.Vec.{vec_capacity};
 ghost use Rattle.ndn_tlv.specs.declared.fault.TlvFault.{TlvFault};
 ghost use Rattle.ndn_tlv.specs.Element.{Field, IsField, IsElement, IsElements, element};
-ghost use Rattle.ndn_tlv.specs.Reading.{type_at, element_at, elements_of, ElementFault, on_result};
+ghost use Rattle.ndn_tlv.specs.Reading.{type_at, element_at, elements_of, ElementFault, EndsInFault, on_result};
 
 use crate::fault::TlvFault;
 use crate::memory::Memory;
@@ -120,11 +120,7 @@ pub fn elements_have_one_reading()
         → xs ≡ ys }
     ensures exact { (text : List ℕ) (fields : List Field) → ((i : ℕ) → slice_index text i < 256)
         → ((elements_of text ≡ map (λ f. Ok f) fields) ↔ IsElements text fields) }
-    // A text that ends in a fault is these elements, and then octets that begin with none for that
-    // cause.
     ensures fault { (text : List ℕ) (fields : List Field) (fault : TlvFault)
         → ((i : ℕ) → slice_index text i < 256)
-        → elements_of text ≡ map (λ f. Ok f) fields ++ Err fault ∷ []
-        → (rest : List ℕ) × (text ≡ flat_map element fields ++ rest) × AllByRecursion IsField fields
-        × (rest ≢ []) × ElementFault rest fault }
+        → elements_of text ≡ map (λ f. Ok f) fields ++ Err fault ∷ [] → EndsInFault text fields fault }
 {}
