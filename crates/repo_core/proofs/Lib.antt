@@ -1,5 +1,6 @@
 pub mod Singles
 pub mod Texts
+pub mod Appending
 mod Removed
 pub mod Rows
 pub mod FullNames

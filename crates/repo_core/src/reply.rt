@@ -1,8 +1,9 @@
-ghost use Rattle.std.specs.Prelude.{◌≡◌, ◌+◌, ◌≤◌, ◌++◌, length, take, vec_len, None, IsOk, OnOk, OnErr};
+ghost use Rattle.std.specs.Prelude.{◌≡◌, ◌+◌, ◌≤◌, ◌++◌, length, vec_len, None, IsOk, OnOk, OnErr};
 ghost use Rattle.std.specs.Option.{option_map};
 ghost use Rattle.std.specs.Vec.{vec_capacity};
 ghost use Rattle.repo_core.specs.Commands.{repo_text_of};
 ghost use Rattle.repo_core.specs.Writing.{repo_response};
+ghost use Rattle.ndn_packets.specs.Writing.{Puts};
 
 use crate::types::{
     BAD_PARAMETERS, COUNT, FULL, NOT_FOUND, OK, PENDING, RESPONSE, STATUS_CODE, STATUS_TEXT,
@@ -82,12 +83,7 @@ pub fn put_repo_reply(out: &mut Vec<u8>, status: u16, text: &str, count: u64) ->
 
 /// Appends a reply, or some octets of it.
 fn put_parts(out: &mut Vec<u8>, status: u16, text: &[u8], count: u64) -> Result<(), Memory>
-    ensures ok { OnOk result
-        (out.new.items ≡ out.old.items ++ repo_response status text.now count) }
-    ensures begins { take (vec_len out.old) out.new.items ≡ out.old.items }
-    ensures room { vec_len out.old + length (repo_response status text.now count)
-        ≤ vec_capacity out.old → IsOk result }
-    ensures capacity { vec_capacity out.old ≤ vec_capacity out.new }
+    ensures { Puts out.old out.new result (repo_response status text.now count) }
 {
     let status = u64::from(status);
     let value_len = nni_element_len(STATUS_CODE, status)

@@ -1,20 +1,15 @@
 //! Elements that hold numbers, and the lengths of elements.
 
-ghost use Rattle.std.specs.Prelude.{◌≡◌, ◌+◌, ◌≤◌, ◌++◌, ◌<◌, ◌^◌, length, take, vec_len, IsOk, OnOk};
-ghost use Rattle.std.specs.Vec.{vec_capacity};
+ghost use Rattle.std.specs.Prelude.{◌≡◌, ◌+◌, ◌≤◌, ◌<◌, ◌^◌, length};
 ghost use Rattle.ndn_tlv.specs.Number.{shortest_nni};
 ghost use Rattle.ndn_tlv.specs.Element.{element};
+ghost use Rattle.ndn_packets.specs.Writing.{Puts};
 
 use ndn_tlv::{Memory, nni_len, number_len, put_nni, put_number};
 
 /// Appends an element whose value is a number, or some octets of it.
 pub fn put_nni_element(out: &mut Vec<u8>, kind: u32, number: u64) -> Result<(), Memory>
-    ensures ok { OnOk result
-        (out.new.items ≡ out.old.items ++ element (kind, shortest_nni number)) }
-    ensures begins { take (vec_len out.old) out.new.items ≡ out.old.items }
-    ensures room { vec_len out.old + length (element (kind, shortest_nni number))
-        ≤ vec_capacity out.old → IsOk result }
-    ensures capacity { vec_capacity out.old ≤ vec_capacity out.new }
+    ensures { Puts out.old out.new result (element (kind, shortest_nni number)) }
 {
     put_number(out, u64::from(kind))?;
     put_number(out, nni_len(number) as u64)?;
