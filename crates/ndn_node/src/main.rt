@@ -3,19 +3,10 @@
 
 ghost use Rattle.std.specs.Prelude.{◌≤◌, length};
 
-mod command;
-mod fault;
-mod files;
-mod options;
-mod port;
-mod udp_options;
-
-use command::{Request, request_of};
-use fault::Fault;
-use files::{read_keys, read_rules};
+use ndn_daemon::{
+    Fault, Options, Request, UdpOptions, read_keys, read_rules, request_of, run_on_port,
+};
 use node_core::{NodeParts, RunFault, run_script};
-use options::Options;
-use port::run_on_port;
 use std::env::Env;
 use std::io::Input;
 use std::net::Net;
@@ -23,7 +14,6 @@ use std::process::ExitCode;
 use std::rt::Files;
 use std::time::Clock;
 use std::{env, fs, io};
-use udp_options::UdpOptions;
 
 fn main(rt: HostRuntime) -> ExitCode {
     let Err(fault) = run(&rt) else {
@@ -104,6 +94,3 @@ fn contents<R: AllocGlobal + Files>(
         Err(_) => Err(Fault::Unread { file }),
     }
 }
-
-#[cfg(test)]
-mod tests;

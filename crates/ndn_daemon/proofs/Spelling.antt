@@ -1,0 +1,67 @@
+-- What spells nothing where a part of it spells nothing.
+use Rattle.std.proofs.Common.{◌≡◌, ℕ, List, Option, None, Some, Result, Ok, Err, sym, subst, ◌∙◌}
+use Rattle.node_core.specs.declared.script.RunFault.TheVariants as run
+use Rattle.ndn_daemon.specs.declared.fault.Fault.{Fault}
+use Rattle.ndn_daemon.specs.declared.fault.Fault.TheVariants as fault
+use Rattle.ndn_daemon.specs.Options.{IsWrong, IsRefused, Reads, ReadsInMemory}
+use Rattle.ndn_daemon.specs.UdpOptions.{Has, IsBadValue}
+
+-- a whole, of which each value has a part
+
+module _ {A B : Type 0} (Part : A → Type 0) (Whole : B → Type 0) (part : (y : B) → Whole y → (x : A) × Part x) where
+  none_whole : ((x : A) → Part x → ⊥) → (y : B) → Whole y → ⊥
+  none_whole none y h = let p = part y h in none p.0 p.1
+
+  pub wrong_part : (why : Fault) → IsWrong Part why → IsWrong Whole why
+  wrong_part (fault.CommandLine error) h = h
+  wrong_part (fault.BadValue place wanted) h = none_whole h
+  wrong_part fault.NotText h = h
+  wrong_part (fault.Unread file) h = h
+  wrong_part (fault.Rules why) h = h
+  wrong_part (fault.Keys why) h = h
+  wrong_part (fault.Script why) h = h
+  wrong_part (fault.Unbound port) h = h
+  wrong_part fault.Unreceived h = h
+
+  pub refused_part : (why : Fault) → IsRefused Part why → IsRefused Whole why
+  refused_part (fault.CommandLine error) h = h
+  refused_part (fault.BadValue place wanted) h = none_whole h
+  refused_part fault.NotText h = h
+  refused_part (fault.Unread file) h = h
+  refused_part (fault.Rules why) h = h
+  refused_part (fault.Keys why) h = h
+  refused_part (fault.Script (run.BadLine line)) h = h
+  refused_part (fault.Script run.Read) h = h
+  refused_part (fault.Script run.Write) h = h
+  refused_part (fault.Script (run.Node why)) h = h
+  refused_part (fault.Script run.Memory) h = h
+  refused_part (fault.Unbound port) h = h
+  refused_part fault.Unreceived h = h
+
+  pub wrong_in_memory : (why : Fault) → IsWrong Part why → IsRefused Whole why
+  wrong_in_memory (fault.CommandLine error) h = h
+  wrong_in_memory (fault.BadValue place wanted) h = none_whole h
+  wrong_in_memory fault.NotText h = h
+  wrong_in_memory (fault.Unread file) h = h
+  wrong_in_memory (fault.Rules why) h = h
+  wrong_in_memory (fault.Keys why) h = h
+  wrong_in_memory (fault.Script (run.BadLine line)) h = h
+  wrong_in_memory (fault.Script run.Read) h = h
+  wrong_in_memory (fault.Script run.Write) h = h
+  wrong_in_memory (fault.Script (run.Node why)) h = h
+  wrong_in_memory (fault.Script run.Memory) h = absurd h
+  wrong_in_memory (fault.Unbound port) h = h
+  wrong_in_memory fault.Unreceived h = h
+
+-- a fault that names a value, where nothing is spelled
+
+pub bad_value_wrong : {A : Type 0} (Spell : A → Type 0) → ((x : A) → Spell x → ⊥) → (why : Fault) → IsBadValue why → IsWrong Spell why
+bad_value_wrong Spell none (fault.CommandLine error) h = h
+bad_value_wrong Spell none (fault.BadValue place wanted) h = none
+bad_value_wrong Spell none fault.NotText h = h
+bad_value_wrong Spell none (fault.Unread file) h = h
+bad_value_wrong Spell none (fault.Rules why) h = h
+bad_value_wrong Spell none (fault.Keys why) h = h
+bad_value_wrong Spell none (fault.Script why) h = h
+bad_value_wrong Spell none (fault.Unbound port) h = h
+bad_value_wrong Spell none fault.Unreceived h = h

@@ -1,0 +1,33 @@
+-- What a subcommand asks for, and what becomes of the errors of the parser of command lines.
+use Rattle.std.specs.Prelude.{◌≡◌, ◌≢◌, ◌≤◌, ℕ, List, Result, Ok, Err, codes, length, ⊤}
+use Rattle.clap.specs.Walk.{Row}
+use Rattle.clap.specs.declared.error.Error.{Error}
+use Rattle.clap.specs.declared.error.kind.ErrorKind.{ErrorKind}
+use Rattle.clap.specs.declared.error.kind.ErrorKind.TheVariants.{DisplayHelp, DisplayVersion, OutOfMemory}
+use Rattle.node_core.specs.declared.script.RunFault.TheVariants.{Memory}
+use Rattle.ndn_daemon.specs.declared.command.Request.{Request}
+use Rattle.ndn_daemon.specs.declared.command.Request.TheVariants.{Help, Udp, Script as RunScript}
+use Rattle.ndn_daemon.specs.declared.fault.Fault.{Fault}
+use Rattle.ndn_daemon.specs.declared.fault.Fault.TheVariants.{CommandLine, Script}
+use Rattle.ndn_daemon.specs.Options.{IsOptions}
+use Rattle.ndn_daemon.specs.UdpOptions.{IsUdpOptions}
+
+-- help or the version was asked for, memory was refused, or the command line is wrong
+abbrev pub reading_of : ErrorKind → Error → Result Request Fault
+reading_of DisplayHelp error = Ok (Help error)
+reading_of DisplayVersion error = Ok (Help error)
+reading_of OutOfMemory error = Err (Script Memory)
+reading_of kind error = Err (CommandLine error)
+
+-- what the options of the subcommand of this name ask for
+abbrev pub IsRequest : List ℕ → List Row → Request → Type 0
+IsRequest name rows (Help error) = ⊥
+IsRequest name rows (RunScript node) = (name ≢ codes "udp") × IsOptions rows node
+IsRequest name rows (Udp node options) =
+    (name ≡ codes "udp") × IsOptions rows node × IsUdpOptions rows options
+
+-- the peers of a node on a port are at most 64
+abbrev pub HasFewPeers : Request → Type 0
+HasFewPeers (Help error) = ⊤
+HasFewPeers (RunScript node) = ⊤
+HasFewPeers (Udp node options) = length options.peers.items ≤ 64

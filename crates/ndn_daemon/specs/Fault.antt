@@ -1,0 +1,76 @@
+-- The message and the exit status of each fault of the program.
+use Rattle.std.specs.Prelude.{ℕ, List, ◌++◌, codes, Option, Some, None}
+use Rattle.std.specs.Fmt.{decimal}
+use Rattle.hmac_keys.specs.declared.fault.KeyFault.{KeyFault}
+use Rattle.hmac_keys.specs.declared.fault.KeyFault.TheVariants.{BadLine as BadKey, TwiceNamed, TooMany, Memory as KeyMemory}
+use Rattle.info_rules.specs.Names.{fault_name}
+use Rattle.info_rules.specs.declared.fault.RulesFaultKind.{RulesFaultKind}
+use Rattle.info_rules.specs.declared.fault.RulesFaultKind.TheVariants as kinds
+use Rattle.node_core.specs.declared.node.NodeFault.TheVariants.{BadRepoPrefix, BadCapacity, Memory as NodeMemory}
+use Rattle.node_core.specs.declared.script.RunFault.{RunFault}
+use Rattle.node_core.specs.declared.script.RunFault.TheVariants.{BadLine, Read, Write, Node, Memory}
+use Rattle.ndn_daemon.specs.declared.fault.Fault.{Fault}
+use Rattle.ndn_daemon.specs.declared.fault.Fault.TheVariants.{CommandLine, BadValue, NotText, Unread, Rules, Keys, Script, Unbound, Unreceived}
+
+abbrev pub rules_status : RulesFaultKind → ℕ
+rules_status kinds.Memory = 3
+rules_status kind = 1
+
+-- 1 for a fault in a file or in the script, 2 for a wrong command line, 3 if the system refused
+-- something
+abbrev pub status_of : Fault → ℕ
+status_of (CommandLine error) = 2
+status_of (BadValue place wanted) = 2
+status_of NotText = 2
+status_of (Unread file) = 3
+status_of (Rules fault) = rules_status fault.kind
+status_of (Keys (BadKey line)) = 1
+status_of (Keys (TwiceNamed line)) = 1
+status_of (Keys TooMany) = 1
+status_of (Keys KeyMemory) = 3
+status_of (Script (BadLine line)) = 1
+status_of (Script Read) = 3
+status_of (Script Write) = 3
+status_of (Script (Node BadRepoPrefix)) = 2
+status_of (Script (Node BadCapacity)) = 2
+status_of (Script (Node NodeMemory)) = 3
+status_of (Script Memory) = 3
+status_of (Unbound port) = 3
+status_of Unreceived = 3
+
+abbrev pub rules_fault_text : ℕ → RulesFaultKind → List ℕ
+rules_fault_text line kinds.Memory = codes "error: out of memory\n"
+rules_fault_text line kind =
+    codes "rules:" ++ decimal line ++ codes ": " ++ fault_name kind ++ codes "\n"
+
+abbrev pub key_fault_text : KeyFault → List ℕ
+key_fault_text (BadKey line) = codes "keys:" ++ decimal line ++ codes ": BadLine\n"
+key_fault_text (TwiceNamed line) = codes "keys:" ++ decimal line ++ codes ": TwiceNamed\n"
+key_fault_text TooMany = codes "keys:0: TooMany\n"
+key_fault_text KeyMemory = codes "error: out of memory\n"
+
+abbrev pub run_fault_text : RunFault → List ℕ
+run_fault_text (BadLine line) = codes "script:" ++ decimal line ++ codes ": bad line\n"
+run_fault_text Read = codes "error: standard input cannot be read\n"
+run_fault_text Write = codes "error: standard output cannot be written\n"
+run_fault_text (Node BadRepoPrefix) =
+    codes "error: the repository's prefix is empty or begins with /localhost: "
+    ++ codes "give a name such as /repo\n"
+run_fault_text (Node BadCapacity) =
+    codes "error: the cache's capacity is out of range: give a number from 1 to 65536\n"
+run_fault_text (Node NodeMemory) = codes "error: out of memory\n"
+run_fault_text Memory = codes "error: out of memory\n"
+
+-- the message for standard error with its LF; that of a wrong command line is the parser's
+abbrev pub text_of : Fault → Option (List ℕ)
+text_of (CommandLine error) = None
+text_of (BadValue place wanted) = Some (
+    codes "error: invalid value for " ++ place.now ++ codes ": give " ++ wanted.now ++ codes "\n")
+text_of NotText = Some (codes "error: an argument is not UTF-8 text\n")
+text_of (Unread file) = Some (codes "error: the " ++ file.now ++ codes " cannot be read\n")
+text_of (Rules fault) = Some (rules_fault_text fault.line fault.kind)
+text_of (Keys fault) = Some (key_fault_text fault)
+text_of (Script fault) = Some (run_fault_text fault)
+text_of (Unbound port) = Some (codes "error: port " ++ decimal port
+    ++ codes " of 127.0.0.1 cannot be bound: give one that no program has\n")
+text_of Unreceived = Some (codes "error: nothing can be received from the port\n")

@@ -1,0 +1,45 @@
+-- What the octets of a rule file and of a key file are read as.
+use Rattle.std.specs.Prelude.{◌≡◌, ◌⊎◌, ℕ, List, Err, IsUtf8}
+use Rattle.hmac_keys.specs.declared.fault.KeyFault.TheVariants.{BadLine}
+use Rattle.hmac_keys.specs.KeyFile.{NamedKey, KeysOf}
+use Rattle.hmac_keys.specs.KeyReading.{keys_in, IsFaultOf}
+use Rattle.info_rules.specs.declared.fault.RulesFault.{RulesFault}
+use Rattle.info_rules.specs.declared.fault.RulesFaultKind.TheVariants.{Syntax}
+use Rattle.info_rules.specs.Faults.{memory_fault}
+use Rattle.info_rules.specs.Meaning.{IsRuleFile}
+use Rattle.info_rules.specs.Rule.{PlainRule}
+use Rattle.info_rules.specs.RuleFile.{rules_in}
+use Rattle.info_rules.specs.Tree.{PlainEntry}
+use Rattle.info_rules.specs.TreeGrammar.{TreeOf}
+use Rattle.info_rules.specs.TreeReading.{tree_in, IsTreeFaultOf}
+use Rattle.ndn_daemon.specs.declared.fault.Fault.{Fault}
+use Rattle.ndn_daemon.specs.declared.fault.Fault.TheVariants.{Rules, Keys}
+
+-- the rules that the entries of octets mean, which are UTF-8
+abbrev pub AreRules : List ℕ → List PlainRule → Type 0
+AreRules octets rules =
+    IsUtf8 octets × ((entries : List PlainEntry) × TreeOf octets entries × IsRuleFile entries rules)
+
+-- the fault of what the entries of octets say, or want of memory
+abbrev pub IsFaultOfEntries : List ℕ → RulesFault → Type 0
+IsFaultOfEntries octets why =
+    (entries : List PlainEntry) × TreeOf octets entries
+    × ((rules_in entries ≡ Err why) ⊎ (why ≡ memory_fault))
+
+-- the fault of the text, or a wrong word without a line where the octets are not UTF-8
+abbrev pub IsRuleFault : List ℕ → Fault → Type 0
+IsRuleFault octets (Rules why) =
+    (IsUtf8 octets × (IsTreeFaultOf (tree_in octets) why ⊎ IsFaultOfEntries octets why))
+    ⊎ (¬ (IsUtf8 octets) × (why ≡ record { line = 0; kind = Syntax }))
+IsRuleFault octets why = ⊥
+
+-- the keys of octets, which are UTF-8
+abbrev pub AreKeys : List ℕ → List NamedKey → Type 0
+AreKeys octets keys = IsUtf8 octets × KeysOf octets keys
+
+-- the fault of the text, or a bad line without a number where the octets are not UTF-8
+abbrev pub IsKeyFault : List ℕ → Fault → Type 0
+IsKeyFault octets (Keys why) =
+    (IsUtf8 octets × IsFaultOf (keys_in octets) why)
+    ⊎ (¬ (IsUtf8 octets) × (why ≡ BadLine 0))
+IsKeyFault octets why = ⊥

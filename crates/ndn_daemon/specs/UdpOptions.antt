@@ -1,0 +1,53 @@
+-- The values that the options of a node on a port spell.
+use Rattle.std.specs.Prelude.{◌≡◌, ◌≢◌, ℕ, ◌<◌, ◌≤◌, ◌^◌, List, [], Option, None, Some, All, AllPairs, codes, length, map, ⊤}
+use Rattle.std.specs.Str.Parse.{IsNumeral, digits_value}
+use Rattle.clap.specs.Walk.{Row, all_of}
+use Rattle.ndn_daemon.specs.declared.fault.Fault.{Fault}
+use Rattle.ndn_daemon.specs.declared.fault.Fault.TheVariants.{BadValue}
+use Rattle.ndn_daemon.specs.declared.udp_options.UdpOptions.{UdpOptions}
+use Rattle.ndn_daemon.specs.Options.{given_or, value_at}
+
+-- the values of an argument, none if it is absent
+abbrev pub values_or_none : Option (List (List ℕ)) → List (List ℕ)
+values_or_none None = []
+values_or_none (Some values) = values
+
+abbrev pub values_at : List Row → List ℕ → List (List ℕ)
+values_at rows id = values_or_none (all_of id rows)
+
+-- decimal digits of a number below 2^64; leading zeros are allowed
+abbrev pub IsNumber : List ℕ → ℕ → Type 0
+IsNumber text n = IsNumeral 10 text × (digits_value 10 text ≡ n) × (n < 2 ^ 64)
+
+-- the same, from 1 to 65535
+abbrev pub IsPort : List ℕ → ℕ → Type 0
+IsPort text n = IsNumeral 10 text × (digits_value 10 text ≡ n) × (0 < n) × (n < 2 ^ 16)
+
+-- the value is there, and spells this
+abbrev pub Has : {A : Type 0} → Option (List ℕ) → (List ℕ → A → Type 0) → A → Type 0
+Has None Spells x = ⊥
+Has (Some value) Spells x = Spells value x
+
+-- the ports that these texts spell, in their order: at most 64, all different
+pub record ArePorts (texts : List (List ℕ)) (ports : List ℕ) : Type 0 where
+  pub spelled : map (digits_value 10) texts ≡ ports
+  pub all : All (λ text. IsPort text (digits_value 10 text)) texts
+  pub few : length texts ≤ 64
+  pub different : AllPairs (λ a b. a ≢ b) ports
+
+-- how many peers are Local, of so many
+abbrev pub IsLocal : List ℕ → ℕ → ℕ → Type 0
+IsLocal text peers local = IsNumber text local × (local ≤ peers)
+
+-- how a node on a port is run
+pub record IsUdpOptions (rows : List Row) (options : UdpOptions) : Type 0 where
+  pub listen : Has (value_at rows (codes "listen")) IsPort options.listen
+  pub turns : Has (value_at rows (codes "turns")) IsNumber options.turns
+  pub peers : ArePorts (values_at rows (codes "PEERS")) options.peers.items
+  pub local : IsLocal (given_or (codes "0") (value_at rows (codes "local")))
+      (length options.peers.items) options.local
+
+-- the fault of a text
+abbrev pub IsBadValue : Fault → Type 0
+IsBadValue (BadValue place wanted) = ⊤
+IsBadValue why = ⊥

@@ -1,0 +1,234 @@
+//! The command line, and its help.
+ghost use Rattle.std.specs.Prelude.{◌≡◌, IfOk};
+ghost use Rattle.clap.specs.Words.{kind_of};
+ghost use Rattle.ndn_daemon.specs.Options.{ReadsInMemory, rows_in};
+ghost use Rattle.ndn_daemon.specs.Command.{HasFewPeers, IsRequest, reading_of};
+
+use crate::fault::Fault;
+use crate::options::Options;
+use crate::udp_options::UdpOptions;
+use clap::error::ErrorKind;
+use clap::{Arg, ArgMatches, Command, Error};
+use node_core::RunFault;
+use std::alloc::{AllocError, Global};
+use std::convert::AsStr;
+
+/// What a command line asks for.
+#[derive(Debug, Drop)]
+pub enum Request {
+    /// The help text or the version, for standard output.
+    Help(Error),
+    /// To run the script on standard input.
+    Script(Options),
+    /// To run a node on a port.
+    Udp(Options, UdpOptions),
+}
+
+const VERSION: &str = "0.1.0";
+
+const ABOUT: &str =
+    "A Named Data Networking node: it forwards Interests by routes and strategies, caches Data and
+stores Data. A rule file says which commands and which Data it accepts.";
+
+const ABOUT_SCRIPT: &str = "Runs the script on standard input and prints the node's answers";
+
+const SCRIPTS: &str = "A script has one event on each line, with single spaces between its words:
+  up FACE local|far MOMENT  opens a face to a program on this machine, or to another machine
+  down FACE MOMENT          closes a face: its routes and the Interests pending there go
+  tick MOMENT               lets time pass
+  in FACE MOMENT HEX        hands the node a packet that arrived on a face
+FACE is the number of a face, from 1; at most 64 faces are open at once. MOMENT is a time in
+milliseconds since 1970. HEX is the packet in hexadecimal, or - for no octets. Empty lines, and
+lines that begin with #, are skipped.
+
+The answer to event N is a line `N VERDICT`, followed by a line `> FACE HEX` for each packet that
+the node sends. The verdict is one of:
+  passed                        the event had its effect
+  allowed STATUS RULE           the rule allowed the command, which was answered by this status
+  data RULE                     the rule allowed the Data
+  denied interest|data WHY RULE the rule denied the command or the Data
+  no-rule interest|data         no rule applies, so it is denied
+  dropped REASON                the event had no effect
+  memory                        memory ran out, and the event had no effect
+
+Without --rules no rule allows anything: routes cannot be set, and Data are not returned.
+
+Example: an Interest for /A comes from face 1, and no route leads to /A. The answer is a Nack.
+  $ ndn_node script << END
+  up 1 local 0
+  in 1 1000 050b07030801410a0401020304
+  END
+  1 passed
+  2 passed
+  > 1 6418fd032005fd03210196500d050b07030801410a0401020304
+
+Exit status: 0 at the end of the script, 1 for a fault in a file or a bad line (`rules:LINE: KIND`,
+`keys:LINE: KIND` or `script:LINE: bad line` on standard error), 2 for a wrong command line, 3 if
+input, output or memory fails.";
+
+const ABOUT_UDP: &str = "Runs the node on a UDP port of this machine and prints its answers";
+
+const AFTER_UDP: &str =
+    "The node has one UDP socket, on 127.0.0.1, so that programs on this machine reach it. PEERS are
+the ports of programs that it knows from the start: they are faces 1, 2 and so on, in this order.
+The first K are Local, and may send commands under /localhost; the others are Far. At most 64 ports
+are given, each once.
+
+In each turn the node opens the face of the next peer, or takes one datagram, for which it waits. A
+datagram from another port opens the next face, which is Far, and is handled in the turn after that.
+While 64 ports are known, no more faces open. No face is closed.
+
+The answer to turn N is printed as `script` prints that to event N: a line `N VERDICT`, and a line
+`> FACE HEX` for each packet that goes out. Moments are those of the machine's clock.
+
+Example: a node that takes two turns. In the first it opens a face for the port that an Interest for
+/A comes from; in the second the answer is a Nack.
+  $ ndn_node udp --listen 6363 --turns 2 &
+  $ ndn_tool send 050b07030801410a0401020304 --to 6363
+  1 passed
+  2 passed
+  > 1 6418fd032005fd03210196500d050b07030801410a0401020304
+  6418fd032005fd03210196500d050b07030801410a0401020304
+
+Exit status: 0 after the turns, 1 for a fault in a file (`rules:LINE: KIND` or `keys:LINE: KIND` on
+standard error), 2 for a wrong command line, 3 if a file, the port, output or memory fails.";
+
+const AFTER: &str =
+    "`ndn_node script --help` and `ndn_node udp --help` say what each of them reads and prints.
+
+Exit status: 0 at the end, 1 for a fault in a file or a script, 2 for a wrong command line, 3 if a
+file, the port, input, output or memory fails.";
+
+/// Reads the arguments of a command line, the first of which is the program's name.
+pub fn request_of<S: AsStr>(alloc: Global, arguments: &[S]) -> Result<Request, Fault>
+    ensures { IfOk result HasFewPeers }
+{
+    let mut command = command(alloc)?;
+    let matches = match command.try_get_matches_from_mut(arguments) {
+        Ok(matches) => matches,
+        Err(error) => return answer_to(error),
+    };
+    // The parser accepts a `--`.
+    if has_dashes(arguments) {
+        return answer_to(command.error(
+            ErrorKind::UnknownArgument,
+            "unexpected argument '--' found",
+        )?);
+    }
+    match matches.subcommand() {
+        Some((name, found)) => named_request(alloc, name, found),
+        None => answer_to(command.error(ErrorKind::MissingSubcommand, "a subcommand is missing")?),
+    }
+}
+
+/// What the options of the subcommand of this name ask for.
+fn named_request(alloc: Global, name: &str, found: &ArgMatches<'_>) -> Result<Request, Fault>
+    ensures { ReadsInMemory (IsRequest name.now (rows_in found.now)) result }
+{
+    if name == "udp" {
+        let node = Options::read(alloc, found)?;
+        Ok(Request::Udp(node, UdpOptions::read(alloc, found)?))
+    } else {
+        Ok(Request::Script(Options::read(alloc, found)?))
+    }
+}
+
+/// Whether an argument is `--`.
+fn has_dashes<S: AsStr>(arguments: &[S]) -> bool {
+    arguments.iter().any(|argument| argument.as_str() == "--")
+}
+
+fn answer_to(error: Error) -> Result<Request, Fault>
+    ensures { result ≡ reading_of (kind_of error) error }
+{
+    match error.kind() {
+        ErrorKind::DisplayHelp | ErrorKind::DisplayVersion => Ok(Request::Help(error)),
+        ErrorKind::OutOfMemory => Err(Fault::Script(RunFault::Memory)),
+        _ => Err(Fault::CommandLine(error)),
+    }
+}
+
+fn command<'a>(alloc: Global) -> Result<Command<'a>, AllocError> {
+    Command::new(alloc, "ndn_node")
+        .version(VERSION)
+        .about(ABOUT)
+        .after_help(AFTER)
+        .disable_help_subcommand(true)
+        .subcommand_required(true)
+        .arg_required_else_help(true)
+        .subcommand(script_command(alloc)?)?
+        .subcommand(udp_command(alloc)?)
+}
+
+fn script_command<'a>(alloc: Global) -> Result<Command<'a>, AllocError> {
+    let command = Command::new(alloc, "script")
+        .about(ABOUT_SCRIPT)
+        .after_help(SCRIPTS);
+    with_node(alloc, command)
+}
+
+fn udp_command<'a>(alloc: Global) -> Result<Command<'a>, AllocError> {
+    let command = Command::new(alloc, "udp")
+        .about(ABOUT_UDP)
+        .after_help(AFTER_UDP)
+        .arg(required_option(
+            alloc,
+            "listen",
+            "PORT",
+            "The port of 127.0.0.1 that the node listens on",
+        ))?
+        .arg(required_option(
+            alloc,
+            "turns",
+            "N",
+            "How many turns the node takes, with one arrival in each",
+        ))?
+        .arg(option(
+            alloc,
+            "local",
+            "K",
+            "How many of the first peers are Local; 0 if absent",
+        ))?;
+    with_node(alloc, command)?.arg(peers(alloc))
+}
+
+/// The command with the options of a node.
+fn with_node<'a>(alloc: Global, command: Command<'a>) -> Result<Command<'a>, AllocError> {
+    command
+        .arg(option(
+            alloc,
+            "rules",
+            "FILE",
+            "The rule file; without one, no rules",
+        ))?
+        .arg(option(alloc, "keys", "FILE", "The key file; without one, no keys"))?
+        .arg(option(
+            alloc,
+            "repo",
+            "URI",
+            "The repository's prefix; /repo if absent",
+        ))?
+        .arg(option(
+            alloc,
+            "cache",
+            "N",
+            "How many Data the cache holds, from 1 to 65536; 1024 if absent",
+        ))
+}
+
+/// The ports of the peers.
+fn peers<'a>(alloc: Global) -> Arg<'a> {
+    Arg::new(alloc, "PEERS")
+        .num_args(0..)
+        .help("The ports of the peers, which are faces 1, 2 and so on")
+}
+
+/// A required option with a value.
+fn required_option<'a>(alloc: Global, id: &'a str, value: &'a str, help: &'a str) -> Arg<'a> {
+    option(alloc, id, value, help).required(true)
+}
+
+/// An option with a value.
+fn option<'a>(alloc: Global, id: &'a str, value: &'a str, help: &'a str) -> Arg<'a> {
+    Arg::new(alloc, id).long(id).value_name(value).help(help)
+}

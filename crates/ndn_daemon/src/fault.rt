@@ -1,0 +1,137 @@
+//! Why the program stops: its message and its exit status.
+use hmac_keys::KeyFault;
+use info_rules::{RulesFault, RulesFaultKind};
+use node_core::{NodeFault, RunFault};
+use std::alloc::AllocError;
+use std::fmt;
+
+/// Why the program did not do what it was asked.
+#[derive(Debug, Drop)]
+pub enum Fault {
+    /// The command line is wrong.
+    CommandLine(clap::Error),
+    /// The value of an option is not one that may be given there.
+    BadValue {
+        /// The option, as it is written.
+        place: &'static str,
+        /// What to give there.
+        wanted: &'static str,
+    },
+    /// An argument is not UTF-8.
+    NotText,
+    /// A file cannot be read.
+    Unread {
+        /// Which file it is.
+        file: &'static str,
+    },
+    /// The file is not a rule file.
+    Rules(RulesFault),
+    /// The file is not a key file.
+    Keys(KeyFault),
+    /// The script did not run to its end.
+    Script(RunFault),
+    /// A port cannot be bound.
+    Unbound {
+        /// The port.
+        port: u16,
+    },
+    /// Nothing can be received from the port.
+    Unreceived,
+}
+
+impl Fault {
+    ghost use Rattle.std.specs.Prelude.{◌≡◌};
+    ghost use Rattle.ndn_daemon.specs.Fault.{status_of};
+
+    /// The exit status: 1 for a fault in a file or in the script, 2 for a wrong command line, 3 if
+    /// reading, writing or memory failed.
+    pub fn exit_status(&self) -> u8
+        ensures { result ≡ status_of self.now }
+    {
+        match self {
+            Fault::CommandLine(_)
+            | Fault::BadValue { .. }
+            | Fault::NotText
+            | Fault::Script(RunFault::Node(NodeFault::BadRepoPrefix | NodeFault::BadCapacity)) => 2,
+            Fault::Rules(RulesFault { kind, .. }) => {
+                match kind {
+                    RulesFaultKind::Memory => 3,
+                    _ => 1,
+                }
+            }
+            Fault::Keys(KeyFault::BadLine(_) | KeyFault::TwiceNamed(_) | KeyFault::TooMany)
+            | Fault::Script(RunFault::BadLine(_)) => 1,
+            Fault::Unread { .. }
+            | Fault::Unbound { .. }
+            | Fault::Unreceived
+            | Fault::Keys(KeyFault::Memory)
+            | Fault::Script(
+                RunFault::Read
+                | RunFault::Write
+                | RunFault::Memory
+                | RunFault::Node(NodeFault::Memory),
+            ) => 3,
+        }
+    }
+}
+
+impl fmt::Display for Fault {
+    ghost use Rattle.ndn_daemon.specs.Fault.{text_of};
+
+    // Each message ends with an LF.
+    ghost output = { text_of };
+
+    fn fmt<W: fmt::Write>(&self, f: &mut fmt::Formatter<W>) -> fmt::Result {
+        match self {
+            Fault::CommandLine(error) => error.fmt(f),
+            Fault::BadValue { place, wanted } => {
+                writeln!(f, "error: invalid value for {place}: give {wanted}")
+            }
+            Fault::NotText => f.write_str("error: an argument is not UTF-8 text\n"),
+            Fault::Unread { file } => writeln!(f, "error: the {file} cannot be read"),
+            Fault::Rules(RulesFault { line, kind }) => {
+                match kind {
+                    RulesFaultKind::Memory => f.write_str("error: out of memory\n"),
+                    kind => writeln!(f, "rules:{line}: {}", kind.name()),
+                }
+            }
+            Fault::Keys(KeyFault::BadLine(line)) => writeln!(f, "keys:{line}: BadLine"),
+            Fault::Keys(KeyFault::TwiceNamed(line)) => writeln!(f, "keys:{line}: TwiceNamed"),
+            Fault::Keys(KeyFault::TooMany) => f.write_str("keys:0: TooMany\n"),
+            Fault::Script(RunFault::BadLine(line)) => writeln!(f, "script:{line}: bad line"),
+            Fault::Unbound { port } => writeln!(
+                f,
+                "error: port {port} of 127.0.0.1 cannot be bound: give one that no program has"
+            ),
+            Fault::Unreceived => f.write_str("error: nothing can be received from the port\n"),
+            Fault::Script(RunFault::Read) => {
+                f.write_str("error: standard input cannot be read\n")
+            }
+            Fault::Script(RunFault::Write) => {
+                f.write_str("error: standard output cannot be written\n")
+            }
+            Fault::Script(RunFault::Node(NodeFault::BadRepoPrefix)) => f.write_str(
+                "error: the repository's prefix is empty or begins with /localhost: give a name such as /repo\n",
+            ),
+            Fault::Script(RunFault::Node(NodeFault::BadCapacity)) => f.write_str(
+                "error: the cache's capacity is out of range: give a number from 1 to 65536\n",
+            ),
+            Fault::Keys(KeyFault::Memory)
+            | Fault::Script(RunFault::Node(NodeFault::Memory) | RunFault::Memory) => {
+                f.write_str("error: out of memory\n")
+            }
+        }
+    }
+}
+
+impl From<AllocError> for Fault {
+    ghost use Rattle.std.specs.Prelude.{◌≡◌};
+    ghost use Rattle.ndn_daemon.specs.declared.fault.Fault.TheVariants.{Script};
+    ghost use Rattle.node_core.specs.declared.script.RunFault.TheVariants.{Memory};
+
+    ghost from_gives = { λ _ fault. fault ≡ Script Memory };
+
+    fn from(_error: AllocError) -> Fault {
+        Fault::Script(RunFault::Memory)
+    }
+}

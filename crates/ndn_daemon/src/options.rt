@@ -1,0 +1,95 @@
+//! The values of the options, or those that stand for them where they are absent.
+ghost use Rattle.std.specs.Prelude.{◌≡◌, option_map};
+ghost use Rattle.ndn_names.specs.ReadsAs.{ReadsAs};
+ghost use Rattle.ndn_daemon.specs.Options.{IsCapacity, IsOptions, MayBePath, Reads, ReadsInMemory, given_or, rows_in, value_at};
+
+use crate::fault::Fault;
+use clap::ArgMatches;
+use ndn_names::{NameBuf, NameFault};
+use node_core::RunFault;
+use std::alloc::Global;
+
+/// How a node is made.
+#[derive(Debug, Drop)]
+pub struct Options {
+    /// The path of the rule file. Without one no rule allows anything.
+    pub rules: Option<String>,
+    /// The path of the key file. Without one no key is known.
+    pub keys: Option<String>,
+    /// The repository's prefix.
+    pub repo: NameBuf,
+    /// How many Data the cache holds.
+    pub cache: u32,
+}
+
+impl Options {
+    /// The options that the parser found.
+    pub fn read(alloc: Global, found: &ArgMatches<'_>) -> Result<Options, Fault>
+        ensures { ReadsInMemory (IsOptions (rows_in found.now)) result }
+    {
+        Ok(Options {
+            rules: path_of(alloc, value(found, "rules"))?,
+            keys: path_of(alloc, value(found, "keys"))?,
+            repo: repo_of(alloc, given_or("/repo", value(found, "repo")))?,
+            cache: cache_of(given_or("1024", value(found, "cache")))?,
+        })
+    }
+}
+
+/// The value of an option, if it is there.
+pub fn value<'a>(found: &ArgMatches<'a>, id: &str) -> Option<&'a str>
+    ensures { option_map (λ value. value.now) result ≡ value_at (rows_in found.now) id.now }
+{
+    found.get_str(id)
+}
+
+fn path_of(alloc: Global, path: Option<&str>) -> Result<Option<String>, Fault>
+    ensures { ReadsInMemory (MayBePath (option_map (λ path. path.now) path.entry)) result }
+{
+    match path {
+        Some(path) => Ok(Some(String::from_str(alloc, path)?)),
+        None => Ok(None),
+    }
+}
+
+/// The text that is given, or else this one.
+pub fn given_or<'a>(text: &'a str, given: Option<&'a str>) -> &'a str
+    ensures { result.now ≡ given_or text.entry.now (option_map (λ given. given.now) given.entry) }
+{
+    match given {
+        Some(given) => given,
+        None => text,
+    }
+}
+
+/// The name whose URI is this text.
+fn repo_of(alloc: Global, uri: &str) -> Result<NameBuf, Fault>
+    ensures { ReadsInMemory (ReadsAs uri.now) result }
+{
+    match NameBuf::from_uri(alloc, uri) {
+        Ok(name) => Ok(name),
+        Err(fault) => match fault {
+            NameFault::Memory => Err(Fault::Script(RunFault::Memory)),
+            _ => Err(Fault::BadValue {
+                place: "--repo",
+                wanted: "the URI of a name, such as /repo",
+            }),
+        },
+    }
+}
+
+/// The number below 2^32 that this text spells in decimal digits, with leading zeros allowed.
+fn cache_of(digits: &str) -> Result<u32, Fault>
+    ensures { Reads (IsCapacity digits.now) result }
+{
+    // The parser of numbers would accept a sign.
+    if !digits.starts_with('+')
+        && let Ok(capacity) = digits.parse::<u32>()
+    {
+        return Ok(capacity);
+    }
+    Err(Fault::BadValue {
+        place: "--cache",
+        wanted: "a decimal number below 2^32",
+    })
+}

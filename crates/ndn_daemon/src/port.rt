@@ -1,0 +1,116 @@
+//! A node on a UDP port of this machine.
+ghost use Rattle.std.specs.Prelude.{◌≡◌, ◌≤◌, ◌++◌, length, OnOk};
+ghost use Rattle.ndn_daemon.specs.Turn.{turn_text};
+
+use crate::fault::Fault;
+use crate::udp_options::UdpOptions;
+use info_rules::Rules;
+use node_core::{
+    Moments, Node, NodeParts, Outbox, Ports, RunFault, Turn, UdpPorts, put_refused, put_sends,
+    put_verdict, serve_turn,
+};
+use std::alloc::Global;
+use std::io;
+use std::io::Write;
+use std::net::Net;
+use std::time::{Clock, SystemTime};
+
+/// The machine's clock.
+#[derive(Drop)]
+struct MachineClock<'a, R> {
+    rt: &'a R,
+    last: u64,
+}
+
+impl<'a, R: Clock> Moments for MachineClock<'a, R> {
+    // Where the clock cannot be read, no time has passed.
+    fn now(&mut self) -> u64 {
+        if let Some(now) = milliseconds(self.rt) {
+            self.last = now;
+        }
+        self.last
+    }
+}
+
+/// The time of the clock, in milliseconds since 1970.
+fn milliseconds<R: Clock>(rt: &R) -> Option<u64> {
+    let now = SystemTime::now(rt).ok()?;
+    let duration = now.duration_since(SystemTime::UNIX_EPOCH).ok()?;
+    u64::try_from(duration.as_millis()).ok()
+}
+
+/// Runs a node on its port for its turns, and writes each answer to standard output as it comes.
+pub fn run_on_port<R: AllocGlobal + Clock + Net + Print>(
+    rt: &R,
+    parts: NodeParts,
+    options: &UdpOptions,
+) -> Result<(), Fault>
+    requires { length options.now.peers.items ≤ 64 }
+{
+    let mut node = match Node::new(rt.alloc(), parts) {
+        Ok(node) => node,
+        Err(fault) => return Err(Fault::Script(RunFault::Node(fault))),
+    };
+    let port = options.listen;
+    let clock = MachineClock { rt, last: 0 };
+    let bound = UdpPorts::bind(rt, port, options.peers.as_slice(), options.local, clock);
+    let Ok(mut ports) = bound else {
+        return Err(Fault::Unbound { port });
+    };
+    take_turns(
+        rt.alloc(),
+        &mut node,
+        &mut ports,
+        &mut io::writer(rt),
+        options.turns,
+    )
+}
+
+/// Takes so many turns, or ends where nothing more will come, and writes each answer as it comes.
+fn take_turns<P: Ports, W: Write>(
+    alloc: Global,
+    node: &mut Node,
+    ports: &mut P,
+    writer: &mut W,
+    turns: u64,
+) -> Result<(), Fault> {
+    let mut outbox = Outbox::new(alloc);
+    let mut text = Vec::new(alloc);
+    for number in 0..turns {
+        let Ok(turn) = serve_turn(node, ports, &mut outbox) else {
+            return Err(Fault::Unreceived);
+        };
+        if turn == Turn::End {
+            return Ok(());
+        }
+        text.clear();
+        put_turn(alloc, &mut text, number + 1, &turn, node.rules(), &outbox)?;
+        if writer.write_all(text.as_slice()).is_err() {
+            return Err(Fault::Script(RunFault::Write));
+        }
+    }
+    Ok(())
+}
+
+/// Appends the text of a turn, as a script prints that of an event. At the end there is none.
+fn put_turn(
+    alloc: Global,
+    text: &mut Vec<u8>,
+    number: u64,
+    turn: &Turn,
+    rules: &Rules,
+    outbox: &Outbox,
+) -> Result<(), Fault>
+    ensures { OnOk result
+        (text.new.items ≡ text.old.items ++ turn_text number rules.now turn.now outbox.now) }
+{
+    let put = match turn {
+        Turn::Done { verdict, .. } => put_verdict(text, number, verdict, rules),
+        Turn::Refused => put_refused(text, number),
+        Turn::End => return Ok(()),
+    };
+    if put.is_err() || put_sends(alloc, text, outbox).is_err() {
+        return Err(Fault::Script(RunFault::Memory));
+    }
+    Ok(())
+}

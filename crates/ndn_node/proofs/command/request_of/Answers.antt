@@ -1,5 +1,0 @@
-use Rattle.ndn_node.proofs.Requests.{few_peers}
-use Rattle.ndn_node.proofs.command.request_of.Goals as goal
-
-pub returns-in-Some : goal.returns-in-Some
-returns-in-Some g c = few_peers _ _ c.named_request.result c.named_request.ensures

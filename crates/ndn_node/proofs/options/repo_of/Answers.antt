@@ -1,4 +1,0 @@
-use Rattle.ndn_node.proofs.options.repo_of.Goals as goal
-
-pub returns-in_default : goal.returns-in_default
-returns-in_default c = λ name h. c.in_default.not-Memory (c.in-Err.ensures.only name h)

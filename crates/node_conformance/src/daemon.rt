@@ -1,0 +1,292 @@
+//! The command lines, the files and the faults of the program `ndn_node`.
+
+use hmac_keys::KeyFault;
+use info_rules::{RulesFault, RulesFaultKind};
+use ndn_daemon::*;
+use node_core::{NodeFault, RunFault};
+use std::alloc::Global;
+use std::io::Write;
+use std::process::Abort;
+
+/// What a command asks for.
+fn asked(alloc: Global, command: &str) -> Result<Request, Fault> {
+    let words: Vec<&str> = command.split(' ').collect(alloc)?;
+    request_of(alloc, words.as_slice())
+}
+
+/// The status and the text that a command ends with, unless it runs a node.
+fn ending(alloc: Global, command: &str) -> Option<(u8, String)> {
+    match asked(alloc, command) {
+        Ok(Request::Script(_) | Request::Udp(_, _)) => None,
+        Ok(Request::Help(help)) => Some((0, help.to_string(alloc).ok()?)),
+        Err(fault) => Some((fault.exit_status(), fault.to_string(alloc).ok()?)),
+    }
+}
+
+/// Whether a command ends with this status and with a text that has this part and one LF at its end.
+fn ends_with(alloc: Global, command: &str, status: u8, part: &str) -> bool {
+    ending(alloc, command).is_some_and(|(ended, text)| {
+        let text = text.as_str();
+        ended == status && text.contains(part) && text.ends_with('\n') && !text.ends_with("\n\n")
+    })
+}
+
+/// Checks rows of a command, ` => `, and a part of the text that it ends with.
+fn check_parts(rt: &(impl Abort + AllocGlobal), status: u8, rows: &str) {
+    assert!(rt; rows.contains(" => "), "there are no rows");
+    for row in rows.lines() {
+        if !row.is_empty() {
+            let (command, part) = row.split_once(" => ").unwrap_or((row, "no part"));
+            assert!(rt; ends_with(rt.alloc(), command, status, part), "{row}");
+        }
+    }
+}
+
+const HELP: &str = "
+ndn_node --help => Usage: ndn_node <COMMAND>
+ndn_node script --help => in FACE MOMENT HEX
+ndn_node script --help => --cache <N>
+ndn_node --version => ndn_node 0.1.0
+";
+
+const COMMAND_LINES: &str = "
+ndn_node => Usage: ndn_node <COMMAND>
+ndn_node scripts => error: unrecognized subcommand 'scripts'
+ndn_node script x => error: unexpected argument 'x' found
+ndn_node script --x => error: unexpected argument '--x' found
+ndn_node script -- => error: unexpected argument '--' found
+ndn_node -- script => error: unexpected argument 'script' found
+ndn_node script --rules => error: a value is required for '--rules <FILE>'
+ndn_node script --keys a --keys b => error: the argument '--keys <FILE>' cannot be used multiple times
+ndn_node script --repo /%4 => error: invalid value for --repo: give the URI of a name, such as /repo
+ndn_node script --cache x => error: invalid value for --cache: give a decimal number below 2^32
+ndn_node script --cache +5 => error: invalid value for --cache: give a decimal number below 2^32
+ndn_node script --cache 4294967296 => error: invalid value for --cache: give a decimal number below 2^32
+";
+
+const UDP_HELP: &str = "
+ndn_node --help => udp     Runs the node on a UDP port
+ndn_node udp --help => Usage: ndn_node udp [OPTIONS] --listen <PORT> --turns <N> [PEERS]...
+ndn_node udp --help => --local <K>
+ndn_node udp --help => --cache <N>
+";
+
+const UDP_COMMAND_LINES: &str = "
+ndn_node udp => error: the following required arguments were not provided
+ndn_node udp --turns 1 => --listen <PORT>
+ndn_node udp --listen 6363 => --turns <N>
+ndn_node udp --listen 0 --turns 1 => error: invalid value for --listen: give a decimal port from 1 to 65535
+ndn_node udp --listen 65536 --turns 1 => error: invalid value for --listen: give a decimal port from 1 to 65535
+ndn_node udp --listen +1 --turns 1 => error: invalid value for --listen: give a decimal port from 1 to 65535
+ndn_node udp --listen 0x1 --turns 1 => error: invalid value for --listen: give a decimal port from 1 to 65535
+ndn_node udp --listen 1 --turns x => error: invalid value for --turns: give a decimal number below 2^64
+ndn_node udp --listen 1 --turns +1 => error: invalid value for --turns: give a decimal number below 2^64
+ndn_node udp --listen 1 --turns 18446744073709551616 => error: invalid value for --turns: give a decimal number below 2^64
+ndn_node udp --listen 1 --turns 1 --local x => error: invalid value for --local: give a decimal number below 2^64
+ndn_node udp --listen 1 --turns 1 --local 1 => error: invalid value for --local: give a number that is at most that of the peers
+ndn_node udp --listen 1 --turns 1 --local 3 7 8 => error: invalid value for --local: give a number that is at most that of the peers
+ndn_node udp --listen 1 --turns 1 7 0 => error: invalid value for PEERS: give a decimal port from 1 to 65535
+ndn_node udp --listen 1 --turns 1 7 65536 => error: invalid value for PEERS: give a decimal port from 1 to 65535
+ndn_node udp --listen 1 --turns 1 7 x => error: invalid value for PEERS: give a decimal port from 1 to 65535
+ndn_node udp --listen 1 --turns 1 7 8 07 => error: invalid value for PEERS: give each port once
+ndn_node udp --listen 1 --turns 1 --cache x => error: invalid value for --cache: give a decimal number below 2^32
+ndn_node udp --listen 1 --turns 1 -- 7 => error: unexpected argument '--' found
+ndn_node script 7 => error: unexpected argument '7' found
+";
+
+/// A command of so many peers, ports from 1 on.
+fn command_of_peers(alloc: Global, peers: u16) -> Option<String> {
+    let mut command = String::from_str(alloc, "ndn_node udp --listen 1 --turns 1").ok()?;
+    for port in 0..peers {
+        write!(command, " {}", port.saturating_add(1)).ok()?;
+    }
+    Some(command)
+}
+
+/// Whether a command of so many peers runs a node.
+fn runs(alloc: Global, peers: u16) -> bool {
+    command_of_peers(alloc, peers).is_some_and(|command| ending(alloc, command.as_str()).is_none())
+}
+
+/// Whether a command of so many peers is wrong.
+fn is_wrong(alloc: Global, peers: u16) -> bool {
+    let part = "error: invalid value for PEERS: give at most 64 ports";
+    command_of_peers(alloc, peers).is_some_and(|command| ends_with(
+        alloc,
+        command.as_str(),
+        2,
+        part,
+    ))
+}
+
+#[test]
+fn udp_command_lines(rt: HostRuntime) {
+    check_parts(&rt, 0, UDP_HELP);
+    check_parts(&rt, 2, UDP_COMMAND_LINES);
+    assert!(rt; runs(rt.alloc(), 0));
+    assert!(rt; runs(rt.alloc(), 64));
+    assert!(rt; is_wrong(rt.alloc(), 65));
+}
+
+/// What the options of a node on a port are.
+fn udp_options_of(alloc: Global, command: &str) -> Option<String> {
+    let Ok(Request::Udp(node, udp)) = asked(alloc, command) else {
+        return None;
+    };
+    let cache = node.cache;
+    let UdpOptions {
+        listen,
+        turns,
+        local,
+        ..
+    } = &udp;
+    let mut text = format!(in alloc; "{cache} {listen} {turns} {local}").ok()?;
+    for port in udp.peers.as_slice() {
+        write!(text, " {port}").ok()?;
+    }
+    Some(text)
+}
+
+#[test]
+fn udp_options(rt: HostRuntime) {
+    let alloc = rt.alloc();
+    let absent = udp_options_of(alloc, "ndn_node udp --listen 6363 --turns 0");
+    assert!(rt; absent.as_deref() == Some("1024 6363 0 0"));
+    let given = udp_options_of(
+        alloc,
+        "ndn_node udp 7 --cache 5 --turns 18446744073709551615 8 --listen 065535 --local 2 9",
+    );
+    assert!(rt; given.as_deref() == Some("5 65535 18446744073709551615 2 7 8 9"));
+}
+
+#[test]
+fn command_lines(rt: HostRuntime) {
+    let script = asked(rt.alloc(), "ndn_node script");
+    assert!(rt; matches!(script, Ok(Request::Script(_))));
+    check_parts(&rt, 0, HELP);
+    check_parts(&rt, 2, COMMAND_LINES);
+}
+
+/// What the options of a command line are.
+fn options_of(alloc: Global, command: &str) -> Option<String> {
+    let Ok(Request::Script(options)) = asked(alloc, command) else {
+        return None;
+    };
+    let rules = options.rules.as_deref().unwrap_or("none");
+    let keys = options.keys.as_deref().unwrap_or("none");
+    let repo = options.repo.view();
+    let cache = options.cache;
+    format!(in alloc; "{rules} {keys} {repo} {cache}").ok()
+}
+
+#[test]
+fn options(rt: HostRuntime) {
+    let alloc = rt.alloc();
+    let absent = options_of(alloc, "ndn_node script");
+    assert!(rt; absent.as_deref() == Some("none none /repo 1024"));
+    let given = options_of(
+        alloc,
+        "ndn_node script --cache 65536 --repo=/a/b --keys k --rules r",
+    );
+    assert!(rt; given.as_deref() == Some("r k /a/b 65536"));
+}
+
+/// The status and the text of a file that is refused.
+fn refused<T: Drop>(alloc: Global, read: Result<T, Fault>) -> Option<String> {
+    let fault = read.err()?;
+    format!(in alloc; "{} {fault}", fault.exit_status()).ok()
+}
+
+fn refused_rules(alloc: Global, octets: &[u8]) -> Option<String> {
+    refused(alloc, read_rules(alloc, octets))
+}
+
+fn refused_keys(alloc: Global, octets: &[u8]) -> Option<String> {
+    refused(alloc, read_keys(alloc, octets))
+}
+
+#[test]
+fn files(rt: HostRuntime) {
+    let alloc = rt.alloc();
+    assert!(rt; read_rules(alloc, b"").is_ok_and(|rules| rules.len() == 0));
+    assert!(rt; refused_rules(alloc, b"rule").as_deref() == Some("1 rules:1: BadValue\n"));
+    assert!(rt; refused_rules(alloc, b"\xff").as_deref() == Some("1 rules:0: Syntax\n"));
+    assert!(rt; read_keys(alloc, b"/k 6b6579\n").is_ok_and(|keys| !keys.is_empty()));
+    assert!(rt; refused_keys(alloc, b"\n/k").as_deref() == Some("1 keys:2: BadLine\n"));
+    let twice = b"/k 6b6579\n/k 6b6579\n";
+    assert!(rt; refused_keys(alloc, twice).as_deref() == Some("1 keys:2: TwiceNamed\n"));
+    assert!(rt; refused_keys(alloc, b"\xff").as_deref() == Some("1 keys:0: BadLine\n"));
+}
+
+/// Whether a fault has this status and this text.
+fn is_told(alloc: Global, fault: Fault, wanted: &str) -> bool {
+    format!(in alloc; "{} {fault}", fault.exit_status()).is_ok_and(|told| told.as_str() == wanted)
+}
+
+#[test]
+fn faults(rt: HostRuntime) {
+    let alloc = rt.alloc();
+    let file = "rule file";
+    assert!(rt;
+        is_told(
+            alloc,
+            Fault::Unread { file },
+            "3 error: the rule file cannot be read\n"
+        )
+    );
+    assert!(rt;
+        is_told(
+            alloc,
+            Fault::NotText,
+            "2 error: an argument is not UTF-8 text\n"
+        )
+    );
+    assert!(rt; is_told(alloc, Fault::Keys(KeyFault::TooMany), "1 keys:0: TooMany\n"));
+    assert!(rt;
+        is_told(
+            alloc,
+            Fault::Keys(KeyFault::Memory),
+            "3 error: out of memory\n"
+        )
+    );
+    let no_memory = Fault::Rules(RulesFault {
+        line: 0,
+        kind: RulesFaultKind::Memory,
+    });
+    assert!(rt; is_told(alloc, no_memory, "3 error: out of memory\n"));
+    let line = Fault::Script(RunFault::BadLine(7));
+    assert!(rt; is_told(alloc, line, "1 script:7: bad line\n"));
+    let unbound = Fault::Unbound { port: 6363 };
+    assert!(rt;
+        is_told(
+            alloc,
+            unbound,
+            "3 error: port 6363 of 127.0.0.1 cannot be bound: give one that no program has\n"
+        )
+    );
+    assert!(rt;
+        is_told(
+            alloc,
+            Fault::Unreceived,
+            "3 error: nothing can be received from the port\n"
+        )
+    );
+    let read = Fault::Script(RunFault::Read);
+    assert!(rt; is_told(alloc, read, "3 error: standard input cannot be read\n"));
+    let written = Fault::Script(RunFault::Write);
+    assert!(rt;
+        is_told(
+            alloc,
+            written,
+            "3 error: standard output cannot be written\n"
+        )
+    );
+    let capacity = Fault::Script(RunFault::Node(NodeFault::BadCapacity));
+    assert!(rt;
+        is_told(
+            alloc,
+            capacity,
+            "2 error: the cache's capacity is out of range: give a number from 1 to 65536\n"
+        )
+    );
+}
