@@ -1,5 +1,6 @@
 pub mod Among
 pub mod ClosedGroups
+pub mod Counts
 pub mod DraftSteps
 pub mod Expansion
 pub mod GrammarReading

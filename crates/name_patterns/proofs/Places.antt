@@ -1,15 +1,15 @@
 -- Sets of places, by the bits of a number.
-use Rattle.std.proofs.Common.{◌≡◌, ◌≢◌, ℕ, zero, suc, ◌+◌, ◌-◌, ◌*◌, ◌/◌, ◌%◌, ◌^◌, ◌<◌, ◌≤◌, Bool, true, false, List, [], ◌∷◌, length, drop, get_or, get_or-drop, length-drop, Some, None, refl, sym, ◌∙◌, ap, arith, inl, inr}
+use Rattle.std.proofs.Common.{◌≡◌, ◌≢◌, ℕ, zero, suc, ◌+◌, ◌-◌, ◌*◌, ◌/◌, ◌%◌, ◌^◌, ◌<◌, ◌≤◌, Bool, true, false, ◌&&◌, ◌||◌, eqb, min, max, List, [], ◌∷◌, length, drop, get_or, get_or-drop, length-drop, Some, None, refl, sym, ◌∙◌, ap, arith, inl, inr}
 use Rattle.std.specs.Prelude.{slice_get}
 use Rattle.std.specs.Int.{bit_at, w128, trailing_ones}
 use Rattle.std.specs.Int.Count.{count_leading_zeros}
-use Rattle.std.specs.Int.RustNames.{bit_or}
-use Rattle.std.proofs.lemmas.Bool.{cases_eq, cases_lt, eq-eqb, ne_eqb, eqb-true, lt-ltb, le-ltb}
+use Rattle.std.specs.Int.RustNames.{bit_or, bit_and}
+use Rattle.std.proofs.lemmas.Bool.{cases_eq, cases_lt, eq-eqb, ne_eqb, lt-ltb, le-ltb}
 use Rattle.std.proofs.lemmas.List.Sums.{prefix_len_is}
 use Rattle.std.proofs.lemmas.Nat.{or_lt, one_shl, pow_below, div-add-mod', mod_below, pow_pos, shr-shr, shr_below, shr_le, leading_length, pow-add, le-div}
-use Rattle.std.proofs.lemmas.Nat.Bits.{bit_at_set_same, bit_at_set_other, bit_at-zero, bit_at_above, bit_at_cat_low, bit_at_cat_high, bit_at-trailing_ones}
+use Rattle.std.proofs.lemmas.Nat.Bits.{bit_at_set_same, bit_at_set_other, bit_at-zero, bit_at_above, bit_at_cat_low, bit_at_cat_high, bit_at-trailing_ones, bit_at_ones, bit_at_ones_above, bit_at_and, bit_at_or, bit_at-lt}
 use Rattle.ndn_tlv.specs.Element.{Field}
-use Rattle.name_patterns.specs.Pattern.{PlainTest}
+use Rattle.name_patterns.specs.Pattern.{PlainTest, Anything}
 use Rattle.name_patterns.specs.Greedy.{passes, run_of, greatest, has_place, passes_there, ArePassed}
 
 -- ---- one place
@@ -22,9 +22,6 @@ is_not_there places place e = ne_eqb (bit_at places place) 1 (λ is. omega arith
 
 same_place : (a b i j : ℕ) → bit_at a i ≡ bit_at b j → has_place a i ≡ has_place b j
 same_place a b i j e = rw e refl
-
-there_is : (places place : ℕ) → has_place places place ≡ true → bit_at places place ≡ 1
-there_is places place e = eqb-true (bit_at places place) 1 e
 
 pub no_place : (place : ℕ) → has_place 0 place ≡ false
 no_place place = is_not_there 0 place (bit_at-zero place)
@@ -50,10 +47,40 @@ first_same k low = added_same 0 k low
 pub first_other : (k place : ℕ) → k < 128 → place ≢ k → has_place (1 * 2 ^ k % 2 ^ 128) place ≡ false
 first_other k place low other = added_other 0 k place low other ∙ no_place place
 
+-- places that are in both, or in one of two
+pub in_both : (a b place : ℕ) → has_place (bit_and a b) place ≡ (has_place a place && has_place b place)
+in_both a b place = rw (bit_at_and a b place) (of_bits (bit_at a place) (bit_at b place) (bit_at-lt a place) (bit_at-lt b place))
+  where
+    of_bits : (x y : ℕ) → x < 2 → y < 2 → eqb (min x y) 1 ≡ (eqb x 1 && eqb y 1)
+    of_bits zero zero low high = refl
+    of_bits zero (suc zero) low high = refl
+    of_bits (suc zero) zero low high = refl
+    of_bits (suc zero) (suc zero) low high = refl
+    of_bits (suc (suc x)) y low high = absurd (omega arith)
+    of_bits zero (suc (suc y)) low high = absurd (omega arith)
+    of_bits (suc zero) (suc (suc y)) low high = absurd (omega arith)
+
+pub in_either : (a b place : ℕ) → has_place (bit_or a b) place ≡ (has_place a place || has_place b place)
+in_either a b place = rw (bit_at_or a b place) (of_bits (bit_at a place) (bit_at b place) (bit_at-lt a place) (bit_at-lt b place))
+  where
+    of_bits : (x y : ℕ) → x < 2 → y < 2 → eqb (max x y) 1 ≡ (eqb x 1 || eqb y 1)
+    of_bits zero zero low high = refl
+    of_bits zero (suc zero) low high = refl
+    of_bits (suc zero) zero low high = refl
+    of_bits (suc zero) (suc zero) low high = refl
+    of_bits (suc (suc x)) y low high = absurd (omega arith)
+    of_bits zero (suc (suc y)) low high = absurd (omega arith)
+    of_bits (suc zero) (suc (suc y)) low high = absurd (omega arith)
+
 -- ---- the places after one
 
 bit_of_shr : (n k i : ℕ) → bit_at (n / 2 ^ k) i ≡ bit_at n (k + i)
 bit_of_shr n k i = ap (λ (m : ℕ). m % 2) (shr-shr n k i)
+
+pub one_before : (places place : ℕ) → has_place (places / 2 ^ 1) place ≡ has_place places (place + 1)
+one_before places place =
+    let next : 1 + place ≡ place + 1 = omega arith in
+    same_place (places / 2 ^ 1) places place (place + 1) (bit_of_shr places 1 place ∙ ap (λ (i : ℕ). bit_at places i) next)
 
 -- the length of the run of components that pass
 pub run_is : (passed place : ℕ) → passed < 2 ^ 64 → place ≤ 64 → trailing_ones w128 (passed / 2 ^ place) + place ≤ 64
@@ -75,7 +102,7 @@ passes_at test [] i h = absurd (omega arith)
 passes_at test (c ∷ cs) zero h = refl
 passes_at test (c ∷ cs) (suc i) h = passes_at test cs i (omega arith)
 
-passes_no_end : (test : PlainTest) (cs : List Field) (i : ℕ) → length cs ≤ i → passes_there test (slice_get cs i) ≡ false
+pub passes_no_end : (test : PlainTest) (cs : List Field) (i : ℕ) → length cs ≤ i → passes_there test (slice_get cs i) ≡ false
 passes_no_end test [] i h = refl
 passes_no_end test (c ∷ cs) zero h = absurd (omega arith)
 passes_no_end test (c ∷ cs) (suc i) h = passes_no_end test cs i (omega arith)
@@ -201,3 +228,12 @@ pub greatest_not_taken : (places place least most : ℕ) → place + most ≤ 64
 greatest_not_taken places place least most low skips =
     greatest_none (λ count. has_place places (place + count)) least most
     (λ j from high. none_later places (place + most) (place + j) low (omega arith) (omega arith))
+
+-- ---- all components
+
+pub all_passed : (cs : List Field) (len : ℕ) → len ≤ 64 → len ≡ length cs → ArePassed Anything cs (1 * 2 ^ len % 2 ^ 128 - 1)
+all_passed cs len low len_is place =
+    rw (one_shl len 128 (omega arith)) (elim (cases_lt place len) [
+      | inl below ↦ is_there (2 ^ len - 1) place (bit_at_ones len place below) ∙ sym (passes_at Anything cs place (omega arith))
+      | inr above ↦ is_not_there (2 ^ len - 1) place (bit_at_ones_above len place above) ∙ sym (passes_no_end Anything cs place (omega arith))
+    ])

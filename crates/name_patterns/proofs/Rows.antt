@@ -8,6 +8,7 @@ use Rattle.std.proofs.lemmas.Bool.{cases_eq}
 use Rattle.ndn_tlv.specs.Element.{Field}
 use Rattle.name_patterns.specs.declared.search.Row.{Row}
 use Rattle.name_patterns.specs.Pattern.{Bounds, PlainTest, PlainAtom}
+use Rattle.name_patterns.proofs.Places.{no_place, greatest_none}
 use Rattle.name_patterns.specs.Greedy.{passes, at_most, run_of, greatest, first_count, has_place, passes_there, ArePassed, AreSplit, IsRow}
 
 -- ---- an element that is set
@@ -70,6 +71,30 @@ count_by_places atom atoms cs bounds after place run bounds_is are run_is low =
     (same_greatest (λ count. has_place after (place + count)) (λ count. is_some (first_count atoms (drop count (drop place cs)))) bounds.least
     (at_most bounds.most run) (λ k h. are (place + k) (omega arith) ∙ ap (λ (left : List Field). is_some (first_count atoms left)) (sym (drop-drop k place cs))))
 
+-- where some atoms have no split, those with one more in front have none
+none_in_front : (atom : PlainAtom) (atoms : List PlainAtom) (cs : List Field) → AreSplit atoms cs 0 → AreSplit (atom ∷ atoms) cs 0
+none_in_front atom atoms cs none place low =
+    let no_count : first_count (atom ∷ atoms) (drop place cs) ≡ None =
+    sym (count_by_places atom atoms cs atom.bounds 0 place (run_of atom.test (drop place cs)) refl none refl low)
+    ∙ greatest_none (λ count. has_place 0 (place + count)) atom.bounds.least (at_most atom.bounds.most (run_of atom.test (drop place cs))) (λ k from high. no_place (place + k)) in
+    no_place place ∙ sym (ap is_some no_count)
+
+pub none_from : (atoms : List PlainAtom) (cs : List Field) (first i : ℕ) → first ≤ i → i ≤ length atoms → AreSplit (drop i atoms) cs 0 → AreSplit (drop first atoms) cs 0
+none_from atoms cs zero zero from low none = none
+none_from [] cs zero (suc i) from low none = absurd (omega arith)
+none_from [] cs (suc first) i from low none = absurd (omega arith)
+none_from (atom ∷ atoms) cs zero (suc i) from low none = none_in_front atom atoms cs (none_from atoms cs 0 i (omega arith) (omega arith) none)
+none_from (atom ∷ atoms) cs (suc first) zero from low none = absurd (omega arith)
+none_from (atom ∷ atoms) cs (suc first) (suc i) from low none = none_from atoms cs first i (omega arith) (omega arith) none
+
+-- no place from which on the atoms have a split
+pub none_there : (atoms : List PlainAtom) (cs : List Field) (place : ℕ) → AreSplit atoms cs 0 → place ≤ length cs → first_count atoms (drop place cs) ≡ None
+none_there atoms cs place none low = of_test (first_count atoms (drop place cs)) (sym (none place low) ∙ no_place place)
+  where
+    of_test : (r : Option ℕ) → is_some r ≡ false → r ≡ None
+    of_test None e = refl
+    of_test (Some k) e = absurd cc
+
 -- one more component that is tested
 pub pushed : (test : PlainTest) (cs : List Field) (c : Field) (places next place : ℕ) → ArePassed test cs places → length cs ≡ place → has_place next place ≡ passes test c
     → ((other : ℕ) → other ≢ place → has_place next other ≡ has_place places other) → ArePassed test (cs ++ c ∷ []) next
@@ -126,3 +151,13 @@ table_step P rows at n row room here following k from low =
 
 pub times_step : (i at len : ℕ) → i ≡ at + 1 → len + at * len ≡ i * len
 times_step i at len e = rw e (grind arith)
+
+pub within_product : (i n len : ℕ) → i ≤ n → i ≤ len → i ≤ n * len
+within_product zero n len few low = omega arith
+within_product (suc i) zero len few low = absurd (omega arith)
+within_product (suc i) (suc n) len few low = omega arith
+
+pub product_le : (i n len : ℕ) → i ≤ n → i * len ≤ n * len
+product_le i n len low =
+    let sum_is : n ≡ i + (n - i) = omega arith in
+    rw sum_is (omega arith)

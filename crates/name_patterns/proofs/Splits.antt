@@ -1,5 +1,5 @@
 -- The search finds the greatest split, or there is none.
-use Rattle.std.proofs.Common.{◌≡◌, ℕ, zero, suc, ◌+◌, ◌<◌, ◌≤◌, ◌⊎◌, Bool, true, false, not, ◌&&◌, cond, List, [], ◌∷◌, ◌++◌, length, take, drop, sum, length-drop, Option, Some, None, is_some, refl, sym, ◌∙◌, ap, append_assoc, append-nil, arith, inl, inr, true≢false, eqb, ltb}
+use Rattle.std.proofs.Common.{◌≡◌, ℕ, zero, suc, ◌+◌, ◌<◌, ◌≤◌, ◌⊎◌, Bool, true, false, not, ◌&&◌, cond, List, [], ◌∷◌, ◌++◌, length, take, drop, sum, min, length-drop, Option, Some, None, is_some, refl, sym, ◌∙◌, ap, append_assoc, append-nil, arith, inl, inr, true≢false, eqb, ltb}
 use Rattle.std.specs.Prelude.{bytes_eq, option_map}
 use Rattle.std.specs.List.{AllByRecursion}
 use Rattle.std.proofs.lemmas.Bool.{and_from, and_parts, or_left, or_right, or_cases, cases_Bool, cases_lt, cases_eq, eqb-true, eq-eqb, ltb-true, ltb-false}
@@ -8,9 +8,9 @@ use Rattle.std.proofs.lemmas.Slice.Eq.{bytes_eq-Decides}
 use Rattle.std.specs.Bool.{Decides}
 use Rattle.ndn_tlv.specs.Element.{Field}
 use Rattle.ndn_names.specs.Order.{DiffersBelow}
-use Rattle.name_patterns.specs.Pattern.{PlainTest, Anything, OneOf, NoneOf, PlainAtom}
+use Rattle.name_patterns.specs.Pattern.{PlainTest, Anything, OneOf, NoneOf, PlainAtom, once}
 use Rattle.name_patterns.specs.Match.{IsAmong, Passes, IsAtMost, IsSplit, HasNoSplit, IsGreatestSplit}
-use Rattle.name_patterns.specs.Greedy.{is_among, passes, at_most, run_of, greatest, first_count, greedy}
+use Rattle.name_patterns.specs.Greedy.{is_among, passes, at_most, run_of, greatest, first_count, greedy, after_counts}
 
 -- ---- tests
 
@@ -260,10 +260,6 @@ pub first_fits : (atom : PlainAtom) (atoms : List PlainAtom) (cs : List Field) (
 first_fits atom atoms cs k e =
     (run_found atom.test cs k (bound_found atom.bounds.most (run_of atom.test cs) k (first_is atom atoms cs k e).high).1).0
 
--- counts in front of others
-abbrev pub after_counts : List ℕ → Option (List ℕ) → Option (List ℕ)
-after_counts done later = option_map (λ counts. done ++ counts) later
-
 pub greedy_none : (atom : PlainAtom) (atoms : List PlainAtom) (cs : List Field) → first_count (atom ∷ atoms) cs ≡ None → greedy (atom ∷ atoms) cs ≡ None
 unfolding greedy
 greedy_none atom atoms cs e = rw e refl
@@ -284,6 +280,54 @@ greedy_end done cs k e = rw (e, append-nil done) refl
 pub greedy_no_end : (done : List ℕ) (cs : List Field) → first_count [] cs ≡ None → after_counts done (greedy [] cs) ≡ None
 unfolding greedy
 greedy_no_end done cs e = rw e refl
+
+-- ---- an atom that takes one component
+
+nothing_by : (atoms : List PlainAtom) (cs : List Field) (r : Option ℕ) → IsSearched atoms cs r → r ≡ None → greedy atoms cs ≡ None
+nothing_by atoms cs None h e = h.1
+nothing_by atoms cs (Some k) h e = absurd (none_here k e)
+
+-- where there is no first count, there are no counts
+pub nothing_first : (atoms : List PlainAtom) (cs : List Field) → first_count atoms cs ≡ None → greedy atoms cs ≡ None
+nothing_first atoms cs e = nothing_by atoms cs (first_count atoms cs) (searched atoms cs) e
+
+greatest_one : (can : ℕ → Bool) → greatest can 1 1 ≡ cond (can 1) (Some 1) None
+unfolding greatest
+greatest_one can = refl
+
+greatest_no_one : (can : ℕ → Bool) → greatest can 1 0 ≡ None
+unfolding greatest
+greatest_no_one can = refl
+
+none_first : (atom : PlainAtom) (atoms : List PlainAtom) (cs : List Field) → atom.bounds ≡ once → run_of atom.test cs ≡ 0 → first_count (atom ∷ atoms) cs ≡ None
+unfolding first_count
+none_first atom atoms cs once_is no_run =
+    let most : min 1 0 ≡ 0 = omega arith in
+    rw (once_is, no_run, most) (greatest_no_one (λ count. is_some (first_count atoms (drop count cs))))
+
+-- it cannot take one that does not pass
+pub no_single : (atom : PlainAtom) (atoms : List PlainAtom) (cs : List Field) → atom.bounds ≡ once → run_of atom.test cs ≡ 0 → greedy (atom ∷ atoms) cs ≡ None
+no_single atom atoms cs once_is no_run = greedy_none atom atoms cs (none_first atom atoms cs once_is no_run)
+
+single_first : (atom : PlainAtom) (atoms : List PlainAtom) (c : Field) (cs : List Field) → atom.bounds ≡ once → passes atom.test c ≡ true
+    → first_count (atom ∷ atoms) (c ∷ cs) ≡ cond (is_some (first_count atoms cs)) (Some 1) None
+unfolding first_count
+single_first atom atoms c cs once_is is =
+    let run : run_of atom.test (c ∷ cs) ≡ 1 + run_of atom.test cs = rw is refl in
+    let most : min 1 (1 + run_of atom.test cs) ≡ 1 = omega arith in
+    rw (once_is, run, most) (greatest_one (λ count. is_some (first_count atoms (drop count (c ∷ cs)))))
+
+-- what it takes goes in front of the counts of the others
+pub single_taken : (done : List ℕ) (atom : PlainAtom) (atoms : List PlainAtom) (c : Field) (cs : List Field) → atom.bounds ≡ once → passes atom.test c ≡ true
+    → after_counts done (greedy (atom ∷ atoms) (c ∷ cs)) ≡ after_counts (done ++ 1 ∷ []) (greedy atoms cs)
+single_taken done atom atoms c cs once_is is = by_rest (first_count atoms cs) refl
+  where
+    by_rest : (r : Option ℕ) → first_count atoms cs ≡ r → after_counts done (greedy (atom ∷ atoms) (c ∷ cs)) ≡ after_counts (done ++ 1 ∷ []) (greedy atoms cs)
+    by_rest None e =
+        let first : first_count (atom ∷ atoms) (c ∷ cs) ≡ None = single_first atom atoms c cs once_is is ∙ rw e refl in
+        rw (greedy_none atom atoms (c ∷ cs) first, nothing_first atoms cs e) refl
+    by_rest (Some k) e =
+        greedy_some done atom atoms (c ∷ cs) 1 (single_first atom atoms c cs once_is is ∙ rw e refl)
 
 -- ---- what the search says
 

@@ -1,5 +1,5 @@
 -- The walk over the table, which gives the counts of the greatest split one after the other.
-use Rattle.std.proofs.Common.{◌≡◌, ℕ, zero, suc, ◌+◌, ◌^◌, ◌<◌, ◌≤◌, List, [], ◌∷◌, ◌++◌, length, map, take, drop, sum, get_or, Option, None, Some, refl, ◌∙◌, arith, inl, inr, length-append}
+use Rattle.std.proofs.Common.{◌≡◌, ℕ, zero, suc, ◌+◌, ◌^◌, ◌<◌, ◌≤◌, true, List, [], ◌∷◌, ◌++◌, length, map, take, drop, sum, get_or, Option, None, Some, refl, ◌∙◌, arith, inl, inr, length-append}
 use Rattle.std.specs.Prelude.{slice_get, slice_set, IsSomeAnd}
 use Rattle.std.proofs.lemmas.List.{drop-drop, length-drop, length-map, take-append-le, take_all}
 use Rattle.std.proofs.lemmas.List.Sums.{sum_by_push}
@@ -8,10 +8,10 @@ use Rattle.std.proofs.lemmas.Option.{get_or_from_slice_get}
 use Rattle.std.proofs.lemmas.Bool.{cases_eq}
 use Rattle.ndn_tlv.specs.Element.{Field}
 use Rattle.name_patterns.specs.declared.search.Row.{Row}
-use Rattle.name_patterns.specs.Pattern.{PlainAtom}
-use Rattle.name_patterns.specs.Greedy.{first_count, greedy, ArePassed, AreSplit, IsRow, IsTable, AreStarts}
+use Rattle.name_patterns.specs.Pattern.{PlainAtom, once}
+use Rattle.name_patterns.specs.Greedy.{passes, run_of, first_count, greedy, ArePassed, AreSplit, IsRow, IsTable, AreStarts, after_counts, IsTaken}
 use Rattle.name_patterns.proofs.Rows.{set_same, set_other, drop_map, nil_after, nil_at_end}
-use Rattle.name_patterns.proofs.Splits.{after_counts, first_fits, greedy_none, greedy_some, greedy_end, greedy_no_end}
+use Rattle.name_patterns.proofs.Splits.{first_fits, greedy_some, greedy_end, greedy_no_end, no_single, single_taken}
 
 -- what is there, and has the property
 pub some_of : {X : Type 0} (P : X → Type 0) (o : Option X) → IsSomeAnd o P → (x : X) × (o ≡ Some x) × P x
@@ -19,9 +19,9 @@ some_of P None h = absurd h
 some_of P (Some x) h = (x, refl, h)
 
 -- the row of an atom
-pub row_at : (atoms : List PlainAtom) (cs : List Field) (rows : List Row) (i : ℕ) (d : Row) → IsTable atoms cs rows → i ≤ length atoms → IsRow (drop i atoms) cs (get_or rows i d)
-row_at atoms cs rows i d table low =
-    let row = some_of (IsRow (drop i atoms) cs) (slice_get rows i) (table i low) in
+pub row_at : (atoms : List PlainAtom) (cs : List Field) (rows : List Row) (first i : ℕ) (d : Row) → IsTable first atoms cs rows → first ≤ i → i ≤ length atoms → IsRow (drop i atoms) cs (get_or rows i d)
+row_at atoms cs rows first i d table from low =
+    let row = some_of (IsRow (drop i atoms) cs) (slice_get rows i) (table i from low) in
     let row_is : get_or rows i d ≡ row.0 = get_or_from_slice_get rows i row.0 d row.1 in
     rw row_is row.2
 
@@ -37,16 +37,16 @@ pub record IsAtomRow (atom : PlainAtom) (atoms later : List PlainAtom) (cs : Lis
   pub small : row.passed < 2 ^ 64
   pub rest : AreSplit later cs after.split
 
-pub atom_row : {X : Type 0} (f : X → PlainAtom) (xs : List X) (cs : List Field) (rows : List Row) (i : ℕ) (x : X) (d : Row) → IsTable (map f xs) cs rows → i < length xs
+pub atom_row : {X : Type 0} (f : X → PlainAtom) (xs : List X) (cs : List Field) (rows : List Row) (first i : ℕ) (x : X) (d : Row) → IsTable first (map f xs) cs rows → first ≤ i → i < length xs
     → x ≡ get_or xs i x → IsAtomRow (f x) (drop i (map f xs)) (drop (i + 1) (map f xs)) cs (get_or rows i d) (get_or rows (i + 1) d)
-atom_row f xs cs rows i x d table low x_is =
+atom_row f xs cs rows first i x d table from low x_is =
     let cut = drop_map f xs i x low x_is in
-    let row : IsRow (f x ∷ drop (i + 1) (map f xs)) cs (get_or rows i d) = rw cut at (row_at (map f xs) cs rows i d table (omega (arith, length-map xs f))) in
+    let row : IsRow (f x ∷ drop (i + 1) (map f xs)) cs (get_or rows i d) = rw cut at (row_at (map f xs) cs rows first i d table from (omega (arith, length-map xs f))) in
     record {
       cut = cut;
       passed = row.0;
       small = row.1;
-      rest = row_split (drop (i + 1) (map f xs)) cs (get_or rows (i + 1) d) (row_at (map f xs) cs rows (i + 1) d table (omega (arith, length-map xs f)));
+      rest = row_split (drop (i + 1) (map f xs)) cs (get_or rows (i + 1) d) (row_at (map f xs) cs rows first (i + 1) d table (omega arith) (omega (arith, length-map xs f)));
     }
 
 cons_at : {X : Type 0} (xs : List X) (i : ℕ) → i < length xs → (x : X) × (drop i xs ≡ x ∷ drop (i + 1) xs)
@@ -59,39 +59,26 @@ cons_at (x ∷ xs) (suc i) h =
     next : suc i + 1 ≡ suc (i + 1)
     next = omega arith
 
--- i atoms have their counts, which end at this place
-pub record IsWalked (atoms : List PlainAtom) (cs : List Field) (i place : ℕ) (starts done : List ℕ) : Type 0 where
-  pub len : length done ≡ i
-  pub end : sum done ≡ place
-  pub fits : place ≤ length cs
-  pub rest : greedy atoms cs ≡ after_counts done (greedy (drop i atoms) (drop place cs))
-  pub starts_are : (k : ℕ) → k ≤ i → slice_get starts k ≡ Some (sum (take k done))
-
-pub walk_none : (atoms : List PlainAtom) (cs : List Field) (i place : ℕ) (starts done : List ℕ) → IsWalked atoms cs i place starts done → i < length atoms
-    → first_count (drop i atoms) (drop place cs) ≡ None → greedy atoms cs ≡ None
-walk_none atoms cs i place starts done w low e =
-    let a = cons_at atoms i low in
-    let none : greedy (a.0 ∷ drop (i + 1) atoms) (drop place cs) ≡ None = greedy_none a.0 (drop (i + 1) atoms) (drop place cs) (rw a.1 at e) in
-    w.rest ∙ rw (a.1, none) refl
+pub taken_none : (atoms : List PlainAtom) (cs : List Field) (i place : ℕ) (starts done : List ℕ) → IsTaken atoms cs i place starts done
+    → greedy (drop i atoms) (drop place cs) ≡ None → greedy atoms cs ≡ None
+taken_none atoms cs i place starts done w none = w.rest ∙ rw none refl
 
 sum_push : (xs : List ℕ) (n : ℕ) → sum (xs ++ n ∷ []) ≡ sum xs + n
 sum_push xs n = sum_by_push (λ x. x) xs n
 
-pub walk_step : (atoms : List PlainAtom) (cs : List Field) (i place : ℕ) (starts done : List ℕ) (k : ℕ) → IsWalked atoms cs i place starts done → i < length atoms
-    → i + 1 < length starts → first_count (drop i atoms) (drop place cs) ≡ Some k
-    → IsWalked atoms cs (i + 1) (place + k) (slice_set starts (i + 1) (place + k)) (done ++ k ∷ [])
-walk_step atoms cs i place starts done k w low room e =
-    let a = cons_at atoms i low in
-    let first : first_count (a.0 ∷ drop (i + 1) atoms) (drop place cs) ≡ Some k = rw a.1 at e in
+-- one more count
+take_step : (atoms : List PlainAtom) (cs : List Field) (i place : ℕ) (starts done : List ℕ) (k : ℕ) → IsTaken atoms cs i place starts done
+    → i + 1 < length starts → place + k ≤ length cs
+    → after_counts done (greedy (drop i atoms) (drop place cs)) ≡ after_counts (done ++ k ∷ []) (greedy (drop (i + 1) atoms) (drop (place + k) cs))
+    → IsTaken atoms cs (i + 1) (place + k) (slice_set starts (i + 1) (place + k)) (done ++ k ∷ [])
+take_step atoms cs i place starts done k w room low e =
     let long : length (done ++ k ∷ []) ≡ i + 1 = omega (arith, length-append done (k ∷ []), w.len) in
     let sum_is : sum (done ++ k ∷ []) ≡ place + k = rw (sum_push done k, w.end) refl in
-    let left : k ≤ length (drop place cs) = first_fits a.0 (drop (i + 1) atoms) (drop place cs) k first in
-    let moved : drop k (drop place cs) ≡ drop (place + k) cs = drop-drop k place cs in
     record {
       len = long;
       end = sum_is;
-      fits = omega (arith, length-drop place cs, left, w.fits);
-      rest = w.rest ∙ rw a.1 (greedy_some done a.0 (drop (i + 1) atoms) (drop place cs) k first ∙ rw moved refl);
+      fits = low;
+      rest = w.rest ∙ e;
       starts_are = λ n from. elim (cases_eq (i + 1) n) [
         | inl is ↦
             let all : take n (done ++ k ∷ []) ≡ done ++ k ∷ [] = take_all n (done ++ k ∷ []) (omega arith) in
@@ -103,10 +90,46 @@ walk_step atoms cs i place starts done k w low room e =
       ];
     }
 
+-- the first count of an atom
+pub walk_step : (atoms : List PlainAtom) (cs : List Field) (i place : ℕ) (starts done : List ℕ) (k : ℕ) → IsTaken atoms cs i place starts done → i < length atoms
+    → i + 1 < length starts → first_count (drop i atoms) (drop place cs) ≡ Some k
+    → IsTaken atoms cs (i + 1) (place + k) (slice_set starts (i + 1) (place + k)) (done ++ k ∷ [])
+walk_step atoms cs i place starts done k w low room e =
+    let a = cons_at atoms i low in
+    let first : first_count (a.0 ∷ drop (i + 1) atoms) (drop place cs) ≡ Some k = rw a.1 at e in
+    let left : k ≤ length (drop place cs) = first_fits a.0 (drop (i + 1) atoms) (drop place cs) k first in
+    let moved : drop k (drop place cs) ≡ drop (place + k) cs = drop-drop k place cs in
+    take_step atoms cs i place starts done k w room (omega (arith, length-drop place cs, left, w.fits))
+    (rw a.1 (greedy_some done a.0 (drop (i + 1) atoms) (drop place cs) k first ∙ rw moved refl))
+
+-- no component for an atom that takes one
+pub single_none : (atoms : List PlainAtom) (cs : List Field) (i : ℕ) (starts done : List ℕ) (atom : PlainAtom) → IsTaken atoms cs i i starts done
+    → drop i atoms ≡ atom ∷ drop (i + 1) atoms → atom.bounds ≡ once → run_of atom.test (drop i cs) ≡ 0 → greedy atoms cs ≡ None
+single_none atoms cs i starts done atom w cut once_is no_run =
+    taken_none atoms cs i i starts done w (rw cut (no_single atom (drop (i + 1) atoms) (drop i cs) once_is no_run))
+
+pub drop_next : {X : Type 0} (xs : List X) (i : ℕ) (x : X) (rest : List X) → drop i xs ≡ x ∷ rest → (rest ≡ drop (i + 1) xs) × (i < length xs)
+drop_next [] zero x rest e = absurd cc
+drop_next [] (suc i) x rest e = absurd cc
+drop_next (y ∷ xs) zero x rest e =
+    let rest_is : rest ≡ xs = cc in
+    (rest_is, omega arith)
+drop_next (y ∷ xs) (suc i) x rest e =
+    let more = drop_next xs i x rest e in
+    let next : suc i + 1 ≡ suc (i + 1) = omega arith in
+    (rw next more.0, omega (arith, more.1))
+
+-- the component of an atom that takes one
+pub single_step : (atoms : List PlainAtom) (cs : List Field) (i : ℕ) (starts done : List ℕ) (atom : PlainAtom) (c : Field) → IsTaken atoms cs i i starts done
+    → drop i atoms ≡ atom ∷ drop (i + 1) atoms → drop i cs ≡ c ∷ drop (i + 1) cs → i + 1 < length starts → i + 1 ≤ length cs
+    → atom.bounds ≡ once → passes atom.test c ≡ true → IsTaken atoms cs (i + 1) (i + 1) (slice_set starts (i + 1) (i + 1)) (done ++ 1 ∷ [])
+single_step atoms cs i starts done atom c w cut front room low once_is is =
+    take_step atoms cs i i starts done 1 w room low (rw (cut, front) (single_taken done atom (drop (i + 1) atoms) c (drop (i + 1) cs) once_is is))
+
 dropped_all : {X : Type 0} (xs : List X) (i : ℕ) → i ≡ length xs → drop i xs ≡ []
 dropped_all xs i e = rw e (drop-length xs)
 
-pub walk_end : (atoms : List PlainAtom) (cs : List Field) (i place : ℕ) (starts done : List ℕ) → IsWalked atoms cs i place starts done → i ≡ length atoms
+pub walk_end : (atoms : List PlainAtom) (cs : List Field) (i place : ℕ) (starts done : List ℕ) → IsTaken atoms cs i place starts done → i ≡ length atoms
     → length cs ≤ place → IsSomeAnd (greedy atoms cs) (λ counts. AreStarts atoms counts starts)
 walk_end atoms cs i place starts done w i_is at_end =
     let nil = dropped_all atoms i i_is in
@@ -115,25 +138,8 @@ walk_end atoms cs i place starts done w i_is at_end =
     let counts_are : greedy atoms cs ≡ Some done = w.rest ∙ rw nil (greedy_end done (drop place cs) 0 end) in
     rw counts_are (λ n low. w.starts_are n (omega arith))
 
-pub walk_no_end : (atoms : List PlainAtom) (cs : List Field) (i place : ℕ) (starts done : List ℕ) → IsWalked atoms cs i place starts done → i ≡ length atoms
+pub walk_no_end : (atoms : List PlainAtom) (cs : List Field) (i place : ℕ) (starts done : List ℕ) → IsTaken atoms cs i place starts done → i ≡ length atoms
     → place < length cs → greedy atoms cs ≡ None
 walk_no_end atoms cs i place starts done w i_is before =
     let nil = dropped_all atoms i i_is in
     w.rest ∙ rw nil (greedy_no_end done (drop place cs) (nil_after cs place before))
-
-pub walk_start : (atoms : List PlainAtom) (cs : List Field) (starts : List ℕ) → slice_get starts 0 ≡ Some 0 → IsWalked atoms cs 0 0 starts []
-walk_start atoms cs starts e = record {
-  len = refl;
-  end = refl;
-  fits = omega arith;
-  rest = same_counts (greedy atoms cs);
-  starts_are = λ k low. first_start k low;
-}
-  where
-    same_counts : (counts : Option (List ℕ)) → counts ≡ after_counts [] counts
-    same_counts None = refl
-    same_counts (Some xs) = refl
-
-    first_start : (k : ℕ) → k ≤ 0 → slice_get starts k ≡ Some (sum (take k []))
-    first_start zero low = e
-    first_start (suc k) low = absurd (omega arith)

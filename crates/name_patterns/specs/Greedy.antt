@@ -1,5 +1,5 @@
 -- The search for the greatest split.
-use Rattle.std.specs.Prelude.{◌≡◌, ◌≤◌, ◌<◌, ◌^◌, slice_get, IsSomeAnd, take, sum, ℕ, zero, suc, List, [], ◌∷◌, length, drop, Option, Some, None, option_map, option_and_then, is_some, Bool, true, false, not, nat_lt, min, ◌==◌, ◌&&◌, bytes_eq, if◌then◌else◌}
+use Rattle.std.specs.Prelude.{◌≡◌, ◌≤◌, ◌<◌, ◌^◌, slice_get, IsSomeAnd, take, sum, ℕ, zero, suc, List, [], ◌∷◌, ◌++◌, length, drop, Option, Some, None, option_map, option_and_then, is_some, Bool, true, false, not, nat_lt, min, ◌==◌, ◌&&◌, bytes_eq, if◌then◌else◌}
 use Rattle.std.specs.Int.{bit_at}
 use Rattle.std.specs.List.{list_any, prefix_len}
 use Rattle.ndn_tlv.specs.Element.{Field}
@@ -71,12 +71,28 @@ IsRow [] cs row = AreSplit [] cs row.split
 IsRow (atom ∷ atoms) cs row = ArePassed atom.test cs row.passed × (row.passed < 2 ^ 64)
     × AreSplit (atom ∷ atoms) cs row.split
 
--- a table has a row for the atoms from each of them on
-abbrev pub IsTable : List PlainAtom → List Field → List Row → Type 0
-IsTable atoms cs rows =
-    (i : ℕ) → i ≤ length atoms → IsSomeAnd (slice_get rows i) (IsRow (drop i atoms) cs)
+-- a table has a row for the atoms from each of them on, from the first that is asked for
+abbrev pub IsTable : ℕ → List PlainAtom → List Field → List Row → Type 0
+IsTable first atoms cs rows =
+    (i : ℕ) → first ≤ i → i ≤ length atoms → IsSomeAnd (slice_get rows i) (IsRow (drop i atoms) cs)
 
 -- the places in front of each atom and after the last, by the counts of the atoms
 abbrev pub AreStarts : List PlainAtom → List ℕ → List ℕ → Type 0
 AreStarts atoms counts starts =
     (i : ℕ) → i ≤ length atoms → slice_get starts i ≡ Some (sum (take i counts))
+
+-- counts in front of others
+abbrev pub after_counts : List ℕ → Option (List ℕ) → Option (List ℕ)
+after_counts done later = option_map (λ counts. done ++ counts) later
+
+-- the first i atoms have these counts in the greatest split, if there is one, which end at this place
+pub record IsTaken (atoms : List PlainAtom) (cs : List Field) (i place : ℕ)
+    (starts done : List ℕ) : Type 0 where
+  pub len : length done ≡ i
+  pub end : sum done ≡ place
+  pub fits : place ≤ length cs
+  pub rest : greedy atoms cs ≡ after_counts done (greedy (drop i atoms) (drop place cs))
+  pub starts_are : (k : ℕ) → k ≤ i → slice_get starts k ≡ Some (sum (take k done))
+
+abbrev pub AreTaken : List PlainAtom → List Field → ℕ → ℕ → List ℕ → Type 0
+AreTaken atoms cs i place starts = (done : List ℕ) × IsTaken atoms cs i place starts done

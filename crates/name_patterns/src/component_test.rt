@@ -23,7 +23,7 @@ pub struct Test {
 }
 
 impl Test {
-    ghost use Rattle.std.specs.Prelude.{◌≡◌, ◌+◌, ◌^◌, ◌<◌, map};
+    ghost use Rattle.std.specs.Prelude.{◌≡◌, ◌↔◌, ◌+◌, ◌^◌, ◌<◌, IsTrue, map};
     ghost use Rattle.ndn_names.specs.View.{field_of as component};
     ghost use Rattle.name_patterns.specs.Pattern.{PlainTest, Anything, OneOf, NoneOf};
     ghost use Rattle.name_patterns.specs.Greedy.{passes};
@@ -56,13 +56,21 @@ impl Test {
         }
     }
 
-    /// Whether a component passes. Nothing else tests one, and each test is one more step.
-    pub fn passes(&self, candidate: Component<'_>, steps: &mut u64) -> bool
-        requires { steps.old + 1 < 2 ^ 64 }
-        ensures exact { result ≡ passes (test_of self.now) (component candidate.entry) }
-        ensures step { steps.new ≡ steps.old + 1 }
+    /// Whether every component passes, so that none has to be tested.
+    #[inline(always)]
+    pub fn is_anything(&self) -> bool
+        ensures { IsTrue result ↔ (test_of self.now ≡ Anything) }
     {
-        *steps += 1;
+        matches!(&self.choice, Choice::Anything)
+    }
+
+    /// Whether a component passes. Nothing else tests one, and each call is one more test.
+    pub fn passes(&self, candidate: Component<'_>, tests: &mut u64) -> bool
+        requires { tests.old + 1 < 2 ^ 64 }
+        ensures exact { result ≡ passes (test_of self.now) (component candidate.entry) }
+        ensures counted { tests.new ≡ tests.old + 1 }
+    {
+        *tests += 1;
         match &self.choice {
             Choice::Anything => true,
             Choice::OneOf(texts) => is_among(candidate, texts),

@@ -1,17 +1,28 @@
 //! How many components an atom takes.
 
-ghost use Rattle.std.specs.Prelude.{◌≡◌, ◌≤◌, IfSome, option_map, length};
+ghost use Rattle.std.specs.Prelude.{◌≡◌, ◌↔◌, ◌≤◌, IsTrue, IfSome, option_map, length};
+ghost use Rattle.name_patterns.specs.Pattern.{once};
 ghost use Rattle.name_patterns.specs.PatternReading as read;
 ghost use Rattle.name_patterns.specs.Shown.{bounds_of};
 
 /// The greatest number in a repeat, as many components as a name has at most.
-const MAX_COUNT: u8 = 64;
+pub const MAX_COUNT: u8 = 64;
 
 /// The least number of components, and the greatest, if there is one.
 #[derive(Clone, Copy, Debug)]
 pub struct Repeat {
     pub least: u8,
     pub most: Option<u8>,
+}
+
+impl Repeat {
+    /// Whether it is just one component.
+    #[inline(always)]
+    pub fn is_once(self) -> bool
+        ensures { IsTrue result ↔ (bounds_of self ≡ once) }
+    {
+        self.least == 1 && matches!(self.most, Some(1))
+    }
 }
 
 /// The number of decimal digits, from 0 to 64.

@@ -1,16 +1,16 @@
 //! The search for the first split of a name.
 
-ghost use Rattle.std.specs.Prelude.{◌≡◌, ◌+◌, ◌*◌, ◌<◌, ◌≤◌, ◌^◌, ◌≢◌, ◌∷◌, ℕ, false, List, length, drop, map, None, IfSome, IfNone, IsSomeAnd};
+ghost use Rattle.std.specs.Prelude.{◌≡◌, ◌+◌, ◌*◌, ◌<◌, ◌≤◌, ◌^◌, ◌≢◌, ◌∷◌, ℕ, true, false, List, length, drop, map, slice_get, Some, None, IfSome, IfNone, MatchOption, IsSomeAnd};
 ghost use Rattle.ndn_tlv.specs.Element.{Field};
-ghost use Rattle.ndn_names.specs.View.{components};
+ghost use Rattle.ndn_names.specs.View.{components, components_left};
 ghost use Rattle.name_patterns.specs.Pattern.{PlainTest, PlainAtom};
-ghost use Rattle.name_patterns.specs.Greedy.{at_most, run_of, greatest, first_count, greedy, has_place, ArePassed, AreSplit, IsTable, AreStarts};
+ghost use Rattle.name_patterns.specs.Greedy.{at_most, run_of, greatest, first_count, greedy, has_place, ArePassed, AreSplit, IsTable, AreStarts, AreTaken};
 ghost use Rattle.name_patterns.specs.Shown.{test_of, bounds_of, atom_of};
 
 use crate::atom::Atom;
 use crate::component_test::Test;
-use crate::repeat::Repeat;
-use ndn_names::Name;
+use crate::repeat::{MAX_COUNT, Repeat};
+use ndn_names::{Components, Name};
 
 /// 32 atoms that are written at most, one implied in place of each anchor, and the end.
 const MAX_STARTS: usize = 35;
@@ -49,17 +49,21 @@ fn with_place(places: Places, place: usize, is_there: bool) -> Places
     }
 }
 
-/// The components that pass the test.
-fn passed(test: &Test, name: Name<'_>, steps: &mut u64) -> Places
-    requires { steps.old + 64 < 2 ^ 64 }
+/// The components that pass the test, in a name of so many components.
+fn passed(test: &Test, name: Name<'_>, len: usize, tests: &mut u64) -> Places
+    requires len { (len ≡ length (components name)) × (len ≤ 64) }
+    requires room { tests.old + 64 < 2 ^ 64 }
     ensures exact { ArePassed (test_of test.now) (components name.entry) result }
     ensures small { result < 2 ^ 64 }
-    ensures cost { steps.new ≡ steps.old + length (components name.entry) }
+    ensures cost { tests.new ≤ tests.old + length (components name.entry) }
 {
+    if test.is_anything() {
+        return (1 << len) - 1;
+    }
     let mut passed = 0;
     let mut place = 0;
     for component in name.iter() {
-        passed = with_place(passed, place, test.passes(component, steps));
+        passed = with_place(passed, place, test.passes(component, tests));
         place += 1;
     }
     passed
@@ -115,69 +119,169 @@ fn first_count(repeat: Repeat, passed: Places, after: Places, place: usize) -> O
     greatest(repeat.least, most, after, place)
 }
 
-/// The places from which on an atom and those after it have a split, in a name of so many
-/// components.
-fn split_before(repeat: Repeat, passed: Places, after: Places, len: usize) -> Places
-    requires { (passed < 2 ^ 64) × (len ≤ 64) }
+/// The places from which on an atom and those after it have a split.
+fn split_before(repeat: Repeat, passed: Places, after: Places) -> Places
     ensures { (atom : PlainAtom) → (atoms : List PlainAtom) → (cs : List Field)
         → bounds_of repeat ≡ atom.bounds → ArePassed atom.test cs passed → AreSplit atoms cs after
-        → length cs ≡ len → AreSplit (atom ∷ atoms) cs result }
+        → length cs ≤ 64 → AreSplit (atom ∷ atoms) cs result }
 {
+    let most = most_of(repeat, MAX_COUNT);
+    // From these places on `count` components pass, and the other atoms have a split behind them.
+    let mut begins = after;
     let mut split = 0;
-    for place in 0..len + 1 {
-        let count = first_count(repeat, passed, after, place);
-        split = with_place(split, place, count.is_some());
+    for count in 0..most + 1 {
+        if repeat.least <= count {
+            split |= begins;
+        }
+        begins = passed & begins >> 1;
+        // One component more can be taken from no place, nor can more than that.
+        if begins == 0 {
+            return split;
+        }
     }
     split
 }
 
-/// Fills the table from the last row to the first, for a name of so many components. It tests each
-/// atom against each component once.
-fn fill(atoms: &[Atom], name: Name<'_>, len: usize, steps: &mut u64, table: &mut Table)
+/// Fills the table from the last row back to that of the first atom that is left, for a name of so
+/// many components. Where an atom and those after it have no split from any place on, the atoms in
+/// front of it have none either: it stops there, and says no. Each atom is tested against each
+/// component once at most.
+fn fill(
+    atoms: &[Atom],
+    first: usize,
+    name: Name<'_>,
+    len: usize,
+    tests: &mut u64,
+    table: &mut Table,
+) -> bool
     requires len { (len ≡ length (components name)) × (len ≤ 64) }
-    requires few { length atoms.now ≤ 34 }
-    requires room { steps.old + 1000000 < 2 ^ 64 }
-    ensures exact { IsTable (map atom_of atoms.now) (components name.entry) table.new }
-    ensures cost { steps.new ≡ steps.old + length atoms.now * length (components name.entry) }
+    requires few { (first ≤ length atoms.now) × (length atoms.now ≤ 34) }
+    requires room { tests.old + 10000 < 2 ^ 64 }
+    ensures filled { result ≡ true
+        → IsTable first (map atom_of atoms.now) (components name.entry) table.new }
+    ensures none { result ≡ false
+        → AreSplit (drop first (map atom_of atoms.now)) (components name.entry) 0 }
+    ensures cost { tests.new + first * length (components name.entry)
+        ≤ tests.old + length atoms.now * length (components name.entry) }
 {
     let mut split = 1 << len;
     table[atoms.len()] = Row { passed: 0, split };
-    for i in (0..atoms.len()).rev() {
+    for i in (first..atoms.len()).rev() {
         let atom = &atoms[i];
-        let passed = passed(&atom.test, name, steps);
-        split = split_before(atom.repeat, passed, split, len);
+        let passed = passed(&atom.test, name, len, tests);
+        split = split_before(atom.repeat, passed, split);
+        if split == 0 {
+            return false;
+        }
         table[i] = Row { passed, split };
     }
+    true
 }
 
-/// The places in front of each atom, and after the last, in the first split of a name of so many
-/// components, in which each atom in turn prefers more components. It tests each atom against each
-/// component once.
-pub fn first_split(atoms: &[Atom], name: Name<'_>, len: usize, steps: &mut u64) -> Option<Starts>
-    requires len { (len ≡ length (components name)) × (len ≤ 64) }
+/// Lets the atoms in front that take one component each take theirs, until another atom comes. It
+/// needs no table, since these atoms have no choice. Gives their number, or nothing where one of
+/// them cannot take its component.
+fn take_singles(
+    atoms: &[Atom],
+    components: &mut Components<'_>,
+    starts: &mut Starts,
+    tests: &mut u64,
+) -> Option<usize>
     requires few { length atoms.now ≤ 34 }
-    requires room { steps.old + 1000000 < 2 ^ 64 }
-    ensures found { IfSome result
-        (λ starts. IsSomeAnd (greedy (map atom_of atoms.now) (components name.entry))
-        (λ counts. AreStarts (map atom_of atoms.now) counts starts)) }
+    requires room { tests.old + 34 < 2 ^ 64 }
+    requires start { slice_get starts.old 0 ≡ Some 0 }
+    ensures taken { IfSome result (λ i. (i ≤ length atoms.now)
+        × AreTaken (map atom_of atoms.now) (components_left components.old) i i starts.new) }
+    ensures left { IfSome result (λ i. components_left components.new
+        ≡ drop i (components_left components.old)) }
+    ensures none { IfNone result
+        (greedy (map atom_of atoms.now) (components_left components.old) ≡ None) }
+    ensures cost { MatchOption result
+        (tests.new ≤ tests.old + length atoms.now * length (components_left components.old))
+        (λ i. tests.new ≤ tests.old + i) }
+{
+    for i in 0..atoms.len() {
+        let atom = &atoms[i];
+        if !atom.repeat.is_once() {
+            return Some(i);
+        }
+        let component = components.next()?;
+        if !atom.test.passes(component, tests) {
+            return None;
+        }
+        starts[i + 1] = i + 1;
+    }
+    Some(atoms.len())
+}
+
+/// Lets the atoms from one on take their components, by a table, in a name of so many components.
+/// Gives the place after the last that is taken.
+fn take_others(
+    atoms: &[Atom],
+    first: usize,
+    name: Name<'_>,
+    len: usize,
+    starts: &mut Starts,
+    tests: &mut u64,
+) -> Option<usize>
+    requires len { (len ≡ length (components name)) × (len ≤ 64) }
+    requires few { (first ≤ length atoms.now) × (length atoms.now ≤ 34) }
+    requires room { tests.old + 10000 < 2 ^ 64 }
+    requires taken { AreTaken (map atom_of atoms.now) (components name) first first starts.old }
+    ensures taken { IfSome result (λ place. AreTaken (map atom_of atoms.now)
+        (components name.entry) (length atoms.now) place starts.new) }
     ensures none { IfNone result (greedy (map atom_of atoms.now) (components name.entry) ≡ None) }
-    ensures cost { steps.new ≡ steps.old + length atoms.now * length (components name.entry) }
+    ensures cost { tests.new + first * length (components name.entry)
+        ≤ tests.old + length atoms.now * length (components name.entry) }
 {
     let mut table = [Row {
         passed: 0,
         split: 0,
     }; MAX_STARTS];
-    fill(atoms, name, len, steps, &mut table);
-    let mut starts = [0; MAX_STARTS];
-    let mut place = 0;
-    for i in 0..atoms.len() {
+    if !fill(atoms, first, name, len, tests, &mut table) {
+        return None;
+    }
+    let mut place = first;
+    for i in first..atoms.len() {
         let after = table[i + 1].split;
         let count = first_count(atoms[i].repeat, table[i].passed, after, place)?;
         place += usize::from(count);
         starts[i + 1] = place;
     }
+    Some(place)
+}
+
+/// How many components are left.
+#[inline(always)]
+fn count_left(components: Components<'_>) -> usize
+    ensures { result ≡ length (components_left components.entry) }
+{
+    components.count()
+}
+
+/// The places in front of each atom, and after the last, in the first split of a name, in which
+/// each atom in turn prefers more components, and the number of components. Each atom is tested
+/// against each component once at most.
+pub fn first_split(atoms: &[Atom], name: Name<'_>, tests: &mut u64) -> Option<(Starts, usize)>
+    requires few { length atoms.now ≤ 34 }
+    requires room { tests.old + 100000 < 2 ^ 64 }
+    ensures found { IfSome result
+        (λ found. IsSomeAnd (greedy (map atom_of atoms.now) (components name.entry))
+        (λ counts. AreStarts (map atom_of atoms.now) counts found.0)) }
+    ensures len { IfSome result (λ found. found.1 ≡ length (components name.entry)) }
+    ensures none { IfNone result (greedy (map atom_of atoms.now) (components name.entry) ≡ None) }
+    ensures cost { tests.new ≤ tests.old + length atoms.now * length (components name.entry) }
+{
+    let mut starts = [0; MAX_STARTS];
+    let mut components = name.iter();
+    let first = take_singles(atoms, &mut components, &mut starts, tests)?;
+    let len = first + count_left(components);
+    let mut place = first;
+    if first < atoms.len() {
+        place = take_others(atoms, first, name, len, &mut starts, tests)?;
+    }
     if place < len {
         return None;
     }
-    Some(starts)
+    Some((starts, len))
 }

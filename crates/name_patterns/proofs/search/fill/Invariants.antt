@@ -10,5 +10,6 @@ invariant-loop-i l =
     AreSplit (drop l.i (map atom_of l.atoms)) (components l.fn.name) l.split
     × ((k : ℕ) → l.i ≤ k → k ≤ length l.atoms → IsSomeAnd (slice_get l.table k) (IsRow (drop k (map atom_of l.atoms)) (components l.fn.name)))
     × (length l.table ≡ 35)
-    × (l.steps + 64 * l.i ≤ l.fn.steps + 64 * length l.atoms)
-    × (l.steps + l.i * length (components l.fn.name) ≡ l.fn.steps + length l.atoms * length (components l.fn.name))
+    × (l.fn.first ≤ l.i)
+    × (l.tests + 64 * l.i ≤ l.fn.tests + 64 * length l.atoms)
+    × (l.tests + l.i * length (components l.fn.name) ≤ l.fn.tests + length l.atoms * length (components l.fn.name))

@@ -3,7 +3,7 @@ use Rattle.std.proofs.lemmas.List.{map-append, length-map}
 use Rattle.ndn_tlv.specs.Element.{Field}
 use Rattle.ndn_names.specs.View.{field_of, components, components_left}
 use Rattle.name_patterns.specs.Shown.{test_of}
-use Rattle.name_patterns.proofs.Places.{no_place_from}
+use Rattle.name_patterns.proofs.Places.{no_place_from, all_passed}
 use Rattle.name_patterns.proofs.Rows.{pushed}
 use Rattle.name_patterns.proofs.search.passed.Goals as goal
 
@@ -19,8 +19,12 @@ loop-component-preserved c =
     let none = no_place_from c.loop-component.passed c.loop-component.place c.loop-component.place inv.3 (omega arith) in (
       rw (more, append_assoc) (rw c.in-Some.ensures.steps at inv.0),
       length-append c.loop-component.yielded (c.in-Some.component ∷ []) ∙ ap (λ n. n + 1) inv.1,
-      omega (arith, c.passes.ensures.step, inv.2),
+      omega (arith, c.passes.ensures.counted, inv.2),
       c.with_place-passed.ensures.small inv.3 low,
       rw more (pushed (test_of c.args.test.now) done (field_of c.in-Some.component) c.loop-component.passed c.with_place-passed.result c.loop-component.place inv.4 len
           (c.with_place-passed.ensures.there none ∙ c.passes.ensures.exact) c.with_place-passed.ensures.others),
     )
+
+pub returns-then-is_anything-clause-exact : goal.returns-then-is_anything-clause-exact
+returns-then-is_anything-clause-exact c =
+    rw (c.is_anything.ensures.0 c.if-is_anything.true) (all_passed (components c.args.name) c.args.len c.requires.len.1 c.requires.len.0)

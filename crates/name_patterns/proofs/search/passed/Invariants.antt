@@ -8,6 +8,6 @@ abbrev pub invariant-loop-component : goal.invariant-loop-component
 invariant-loop-component l =
     (map field_of l.yielded ++ components_left l.component-iterator ≡ components l.fn.name)
     × (length l.yielded ≡ l.place)
-    × (l.steps ≡ l.initial.steps + l.place)
+    × (l.tests ≡ l.initial.tests + l.place)
     × (l.passed < 2 ^ l.place)
     × ArePassed (test_of l.test) (map field_of l.yielded) l.passed

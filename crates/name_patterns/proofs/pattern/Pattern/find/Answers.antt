@@ -4,8 +4,8 @@ use Rattle.name_patterns.specs.Pattern.{PlainPattern, IsWithinLimits}
 use Rattle.name_patterns.specs.Shown.{atom_of}
 use Rattle.name_patterns.proofs.Splits.{none_found}
 use Rattle.name_patterns.proofs.Matched.{matched, matched_there}
-use Rattle.name_patterns.proofs.pattern.Pattern.matches_counted.Goals as goal
-use Rattle.name_patterns.proofs.pattern.Pattern.matches_counted.Goals.{After-deref, After-captures-2}
+use Rattle.name_patterns.proofs.pattern.Pattern.find.Goals as goal
+use Rattle.name_patterns.proofs.pattern.Pattern.find.Goals.{After-deref, After-captures-2}
 
 atoms_are : (c : After-deref) → map atom_of c.deref.result.now ≡ c.args.self.now.atoms
 atoms_are c = ap (map atom_of) c.deref.ensures.value ∙ ap (λ (pattern : PlainPattern). pattern.atoms) c.self.view_is
@@ -21,12 +21,12 @@ returns-in_err-starts-clause-none c =
 pub returns-clause-found : goal.returns-clause-found
 returns-clause-found c =
     let at = (goal.at.returns-clause-found c).After-deref in
-    matched c.args.self.now (components c.args.name) c.in_ok-starts.starts c.len-len.result c.captures-2.result (rw (atoms_are at) at c.in_ok-starts.ensures.found)
-    (limits at).groups c.len-len.ensures.exact c.captures-2.ensures
+    matched c.args.self.now (components c.args.name) c.in_ok-starts.starts c.in_ok-starts.len c.captures-2.result (rw (atoms_are at) at c.in_ok-starts.ensures.found)
+    (limits at).groups c.in_ok-starts.ensures.len c.captures-2.ensures
 
 pub returns-clause-there : goal.returns-clause-there
 returns-clause-there c =
     let at = (goal.at.returns-clause-there c).After-deref in
-    let found = matched c.args.self.now (components c.args.name) c.in_ok-starts.starts c.len-len.result c.captures-2.result (rw (atoms_are at) at c.in_ok-starts.ensures.found)
-    (limits at).groups c.len-len.ensures.exact c.captures-2.ensures in
+    let found = matched c.args.self.now (components c.args.name) c.in_ok-starts.starts c.in_ok-starts.len c.captures-2.result (rw (atoms_are at) at c.in_ok-starts.ensures.found)
+    (limits at).groups c.in_ok-starts.ensures.len c.captures-2.ensures in
     matched_there c.args.self.now (components c.args.name) c.captures-2.result found (limits at).groups
