@@ -4,7 +4,7 @@ use Rattle.std.specs.Vec.{vec_capacity}
 use Rattle.std.specs.FinMap as map
 use Rattle.ndn_packets.specs.Key.{PlainKey, key_cmp}
 use Rattle.pit_fib.specs.declared.spare.Spare.{Spare}
-use Rattle.pit_fib.specs.Records.{Records, is_alive}
+use Rattle.pit_fib.specs.Records.{Records, no_records, is_alive}
 
 -- under each key some face asks
 abbrev pub AllLive : List (PlainKey × Records) → Type 0
@@ -22,14 +22,13 @@ without_asks is_answered r = if is_answered then record r { asks = map.empty } e
 
 abbrev pub prepared_by : Option Spare → Option (PlainKey × ℕ)
 prepared_by None = None
-prepared_by (Some s) = Some (s.key, s.room)
+prepared_by (Some s) = Some (s.entry.0, s.room)
 
 -- memory for an Interest of as many octets as it says
 pub record IsSpare (s : Spare) : Type 0 where
   pub octets : s.octets.items ≡ []
   pub room : s.room ≤ vec_capacity s.octets
-  pub asks : s.asks ≡ map.empty
-  pub asked : s.asked ≡ map.empty
+  pub entry : s.entry.1 ≡ no_records
 
 -- while an Interest is prepared there is also room for its entry
 abbrev pub HasRoom : ℕ → ℕ → Option Spare → Type 0
@@ -38,4 +37,4 @@ HasRoom len capacity (Some s) = (len < capacity) × IsSpare s
 
 -- memory for an Interest of this key and of so many octets
 abbrev pub IsSpareFor : PlainKey → ℕ → Spare → Type 0
-IsSpareFor key octets s = (s.key ≡ key) × (octets ≤ s.room) × IsSpare s
+IsSpareFor key octets s = (s.entry.0 ≡ key) × (octets ≤ s.room) × IsSpare s

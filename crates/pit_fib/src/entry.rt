@@ -6,7 +6,7 @@ ghost use Rattle.std.specs.Ordering.{nat_cmp};
 ghost use Rattle.std.specs.FinMap as map;
 ghost use Rattle.ndn_packets.specs.Key.{plain_key};
 ghost use Rattle.pit_fib.specs.Faces.{IsRising, has_face};
-ghost use Rattle.pit_fib.specs.Records.{Sent, is_alive, same_nonce};
+ghost use Rattle.pit_fib.specs.Records.{Sent, no_records, is_alive, same_nonce};
 ghost use Rattle.pit_fib.specs.Cause.{Expires, Withdrawn, Closed, changed, same_key, sent_at, nacked_with, with_reason};
 ghost use Rattle.ndn_packets.specs.Answers.{answers};
 ghost use Rattle.pit_fib.specs.Entries.{without_asks};
@@ -20,6 +20,7 @@ use crate::key_buf::KeyBuf;
 use crate::nacked::Nacked;
 use ndn_packets::Key;
 use ndn_tlv::Memory;
+use std::alloc::Global;
 use std::marker::Model;
 
 /// An Interest as its asker sent it.
@@ -148,11 +149,14 @@ impl Model for Entry {
 }
 
 impl Entry {
-    /// The entry of a key before anybody asks.
-    pub fn new(key: KeyBuf, asks: FaceMap<Asker>, asked: FaceMap<Sending>) -> Entry
-        ensures { result ≡ (key, record { asks = asks; asked = asked }) }
+    /// The entry of a key before anybody asks, with memory for all records.
+    pub fn new(alloc: Global, key: Key<'_>) -> Result<Entry, Memory>
+        ensures { IfOk result (λ entry. entry ≡ (plain_key key.entry, no_records)) }
     {
-        Entry { key, asks, asked }
+        let key = KeyBuf::from_key(alloc, key)?;
+        let asks = FaceMap::new(alloc)?;
+        let asked = FaceMap::new(alloc)?;
+        Ok(Entry { key, asks, asked })
     }
 
     /// Whether it is the entry of this key.

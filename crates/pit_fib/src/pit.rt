@@ -17,7 +17,7 @@ use crate::entry::{Asker, Entry};
 use crate::faces::Faces;
 use crate::fault::PitFault;
 use crate::nacked::Nacked;
-use crate::spare::{Spare, spare_for};
+use crate::spare::{Spare, octets_and_entry};
 use ndn_packets::{Data, Key};
 use ndn_tlv::Memory;
 use std::alloc::Global;
@@ -182,18 +182,16 @@ impl Pit {
         ensures living { HoldsTheLiving self.new.pending }
     {
         let spare = self.spare.take();
-        let mut spare = spare_for(self.alloc, spare, key, interest.len())?;
-        spare.octets.extend_from_slice(interest)?;
-        let asker = Asker::new(spare.octets, nonce, deadline);
+        let (octets, mut entry) = octets_and_entry(self.alloc, spare, key, interest)?;
+        let asker = Asker::new(octets, nonce, deadline);
         match place_of(&self.entries, key) {
-            Some(at) => self.entries[at].arrive(face, asker)?,
+            Some(at) => self.entries[at].arrive(face, asker),
             None => {
-                let mut entry = Entry::new(spare.key, spare.asks, spare.asked);
                 entry.arrive(face, asker)?;
                 self.entries.push(entry)?;
+                Ok(())
             }
         }
-        Ok(())
     }
 
     /// Keeps that an Interest of this key and Nonce was sent to a face now, in milliseconds since

@@ -1,5 +1,5 @@
 use Rattle.std.proofs.Common.{refl, ◌≡◌, inr, ℕ, true, List, ap, sym, subst, set, ◌∙◌, ◌++◌, ◌∷◌, [], arith}
-use Rattle.std.specs.Prelude.{None}
+use Rattle.std.specs.Prelude.{None, Result, Ok, Err, OnOk}
 use Rattle.std.specs.Ordering.{nat_cmp}
 use Rattle.std.specs.FinMap as map
 use Rattle.std.specs.FinMap.{find, from_entries, len-empty, empty}
@@ -11,28 +11,31 @@ use Rattle.pit_fib.specs.Pit.{PitState, HasRoomFor}
 use Rattle.pit_fib.proofs.PendingPlaces.{holds_the_living, IsAt, arrives_elsewhere, arrives_here, alive_insert, set_live, set_apart, set_follows, push_live, push_apart, push_follows, seen_here}
 use Rattle.pit_fib.proofs.PendingFaces.{grows_few, room_for_ask}
 use Rattle.pit_fib.proofs.pit.Pit.keep.Goals as goal
-use Rattle.pit_fib.proofs.pit.Pit.keep.Goals.{After-drop-spare-in-Some-3, In_ok-push-in-None}
+use Rattle.pit_fib.proofs.pit.Pit.keep.Goals.{After-drop-entry-inside-in-Some-2, In_ok-push-in-None}
+
+on_ok : {A E P : Type 0} (r : Result A E) → P → OnOk r P
+on_ok (Ok a) p = p
+on_ok (Err e) p = tt
 
 -- ---- a key that stands
 
-place : (c : After-drop-spare-in-Some-3) → IsAt (plain_key c.args.key) c.self.inside.entries.items c.in-Some.at
+place : (c : After-drop-entry-inside-in-Some-2) → IsAt (plain_key c.args.key) c.self.inside.entries.items c.in-Some.at
 place c = subst (λ (l : List (PlainKey × Records)). IsAt (plain_key c.args.key) l c.in-Some.at) c.deref.ensures.value c.in-Some.ensures
 
-asker : (c : After-drop-spare-in-Some-3) → c.new-asker.result ≡ (record { interest = c.args.interest.now; nonce = c.args.nonce; deadline = c.args.deadline })
+asker : (c : After-drop-entry-inside-in-Some-2) → c.new-asker.result ≡ (record { interest = c.args.interest.now; nonce = c.args.nonce; deadline = c.args.deadline })
 asker c =
-    let interest : _ ≡ c.args.interest.now = c.in_ok-extend_from_slice.ensures.items ∙ ap (λ (l : List ℕ). l ++ c.args.interest.now) c.in_ok-spare.ensures.ok.2.octets in
-    c.new-asker.ensures ∙ ap (λ (i : List ℕ). record { interest = i; nonce = c.args.nonce; deadline = c.args.deadline }) interest
+    c.new-asker.ensures ∙ ap (λ (i : List ℕ). record { interest = i; nonce = c.args.nonce; deadline = c.args.deadline }) c.in_ok-octets.ensures.ok.0
 
-renewed : (c : After-drop-spare-in-Some-3) → c.arrive.new.self.1 ≡ record { asks = map.insert c.index_mut.result.now.1.asks c.args.face (record { interest = c.args.interest.now; nonce = c.args.nonce; deadline = c.args.deadline }); asked = c.index_mut.result.now.1.asked }
+renewed : (c : After-drop-entry-inside-in-Some-2) → c.arrive.new.self.1 ≡ record { asks = map.insert c.index_mut.result.now.1.asks c.args.face (record { interest = c.args.interest.now; nonce = c.args.nonce; deadline = c.args.deadline }); asked = c.index_mut.result.now.1.asked }
 renewed c = c.arrive.ensures.records ∙ ap (λ (a : Ask). record { asks = map.insert c.index_mut.result.now.1.asks c.args.face a; asked = c.index_mut.result.now.1.asked }) (asker c)
 
-own : (c : After-drop-spare-in-Some-3) → c.arrive.new.self.1 ≡ changed (Arrives (plain_key c.args.key) c.args.face (record { interest = c.args.interest.now; nonce = c.args.nonce; deadline = c.args.deadline })) (plain_key c.args.key) c.index_mut.result.now.1
+own : (c : After-drop-entry-inside-in-Some-2) → c.arrive.new.self.1 ≡ changed (Arrives (plain_key c.args.key) c.args.face (record { interest = c.args.interest.now; nonce = c.args.nonce; deadline = c.args.deadline })) (plain_key c.args.key) c.index_mut.result.now.1
 own c = renewed c ∙ sym (arrives_here (plain_key c.args.key) c.args.face (record { interest = c.args.interest.now; nonce = c.args.nonce; deadline = c.args.deadline }) c.index_mut.result.now.1)
 
-alive : (c : After-drop-spare-in-Some-3) → is_alive c.arrive.new.self.1 ≡ true
+alive : (c : After-drop-entry-inside-in-Some-2) → is_alive c.arrive.new.self.1 ≡ true
 alive c = ap is_alive (renewed c) ∙ alive_insert c.index_mut.result.now.1.asks c.index_mut.result.now.1.asked c.args.face (record { interest = c.args.interest.now; nonce = c.args.nonce; deadline = c.args.deadline })
 
-follows : (c : After-drop-spare-in-Some-3) → Follows (Arrives (plain_key c.args.key) c.args.face (record { interest = c.args.interest.now; nonce = c.args.nonce; deadline = c.args.deadline })) (from_entries c.self.inside.entries.items) (from_entries (set c.self.inside.entries.items c.in-Some.at c.arrive.new.self))
+follows : (c : After-drop-entry-inside-in-Some-2) → Follows (Arrives (plain_key c.args.key) c.args.face (record { interest = c.args.interest.now; nonce = c.args.nonce; deadline = c.args.deadline })) (from_entries c.self.inside.entries.items) (from_entries (set c.self.inside.entries.items c.in-Some.at c.arrive.new.self))
 follows c =
     set_follows (plain_key c.args.key) c.self.inside.entries.items c.in-Some.at c.index_mut.result.now (place c) c.index_mut.ensures.value c.self.invariant.1
     (Arrives (plain_key c.args.key) c.args.face (record { interest = c.args.interest.now; nonce = c.args.nonce; deadline = c.args.deadline })) (arrives_elsewhere (plain_key c.args.key) c.args.face (record { interest = c.args.interest.now; nonce = c.args.nonce; deadline = c.args.deadline })) c.arrive.new.self c.arrive.ensures.key (own c) (alive c) c.self.invariant.0
@@ -57,9 +60,9 @@ invariant_of-self-in-Some-1 c =
       rw c.take-spare.ensures.after tt,
     )
 
-pub returns-in_ok-arrive-in-Some-clause-ok : goal.returns-in_ok-arrive-in-Some-clause-ok
-returns-in_ok-arrive-in-Some-clause-ok c =
-    subst (λ (old : Pending). Follows (Arrives (plain_key c.args.key) c.args.face (record { interest = c.args.interest.now; nonce = c.args.nonce; deadline = c.args.deadline })) old (from_entries (set c.self.inside.entries.items c.in-Some.at c.arrive.new.self))) (ap (λ (s : PitState). s.pending) c.self.view_is) (follows c)
+pub returns-in-Some-clause-ok : goal.returns-in-Some-clause-ok
+returns-in-Some-clause-ok c =
+    on_ok c.arrive.result (subst (λ (old : Pending). Follows (Arrives (plain_key c.args.key) c.args.face (record { interest = c.args.interest.now; nonce = c.args.nonce; deadline = c.args.deadline })) old (from_entries (set c.self.inside.entries.items c.in-Some.at c.arrive.new.self))) (ap (λ (s : PitState). s.pending) c.self.view_is) (follows c))
 
 -- ---- a new key
 
@@ -68,21 +71,19 @@ none c = subst (λ (l : List (PlainKey × Records)). find key_cmp (plain_key c.a
 
 pub arrive-requires-in-None : goal.arrive-requires-in-None
 arrive-requires-in-None c =
-    let asks = ap (λ (e : PlainKey × Records). e.1.asks) c.new-entry.ensures ∙ c.in_ok-spare.ensures.ok.2.asks in
+    let asks = ap (λ (e : PlainKey × Records). e.1.asks) c.in_ok-octets.ensures.ok.1 in
     inr (omega (arith, ap (λ (m : Asks). map.len m) asks, len-empty nat_cmp Ask))
 
 new_asker : (c : In_ok-push-in-None) → c.new-asker.result ≡ (record { interest = c.args.interest.now; nonce = c.args.nonce; deadline = c.args.deadline })
 new_asker c =
-    let interest : _ ≡ c.args.interest.now = c.in_ok-extend_from_slice.ensures.items ∙ ap (λ (l : List ℕ). l ++ c.args.interest.now) c.in_ok-spare.ensures.ok.2.octets in
-    c.new-asker.ensures ∙ ap (λ (i : List ℕ). record { interest = i; nonce = c.args.nonce; deadline = c.args.deadline }) interest
+    c.new-asker.ensures ∙ ap (λ (i : List ℕ). record { interest = i; nonce = c.args.nonce; deadline = c.args.deadline }) c.in_ok-octets.ensures.ok.0
 
 new_key : (c : In_ok-push-in-None) → c.arrive-in-None.new.self.0 ≡ plain_key c.args.key
-new_key c = c.arrive-in-None.ensures.key ∙ ap (λ (e : PlainKey × Records). e.0) c.new-entry.ensures ∙ c.in_ok-spare.ensures.ok.0
+new_key c = c.arrive-in-None.ensures.key ∙ ap (λ (e : PlainKey × Records). e.0) c.in_ok-octets.ensures.ok.1
 
 new_records : (c : In_ok-push-in-None) → c.arrive-in-None.new.self.1 ≡ record { asks = map.insert empty c.args.face (record { interest = c.args.interest.now; nonce = c.args.nonce; deadline = c.args.deadline }); asked = empty }
 new_records c =
-    let before : c.new-entry.result.1 ≡ record { asks = empty; asked = empty } =
-    ap (λ (e : PlainKey × Records). e.1) c.new-entry.ensures ∙ (λ i. record { asks = c.in_ok-spare.ensures.ok.2.asks i; asked = c.in_ok-spare.ensures.ok.2.asked i }) in
+    let before = ap (λ (e : PlainKey × Records). e.1) c.in_ok-octets.ensures.ok.1 in
     c.arrive-in-None.ensures.records
     ∙ (λ i. record { asks = map.insert (before i).asks c.args.face (new_asker c i); asked = (before i).asked })
 
@@ -94,8 +95,8 @@ new_follows c =
     subst (λ (l : List (PlainKey × Records)). Follows (Arrives (plain_key c.args.key) c.args.face (record { interest = c.args.interest.now; nonce = c.args.nonce; deadline = c.args.deadline })) (from_entries c.self.inside.entries.items) (from_entries l)) (sym (pushed c))
     (push_follows (plain_key c.args.key) c.self.inside.entries.items (none c) c.args.face (record { interest = c.args.interest.now; nonce = c.args.nonce; deadline = c.args.deadline }) c.arrive-in-None.new.self (new_key c) (new_records c) c.self.invariant.0 c.self.invariant.1)
 
-pub invariant_of-self-in-Continue-branch-5 : goal.invariant_of-self-in-Continue-branch-5
-invariant_of-self-in-Continue-branch-5 c =
+pub invariant_of-self-in-None : goal.invariant_of-self-in-None
+invariant_of-self-in-None c =
     let key = plain_key c.args.key in
     let es = c.self.inside.entries.items in
     let ask : Ask = (record { interest = c.args.interest.now; nonce = c.args.nonce; deadline = c.args.deadline }) in
@@ -113,15 +114,15 @@ returns-in_ok-push-in-None-clause-ok c =
 
 -- ---- under each key some face asks
 
-pub returns-in_err-spare-clause-living : goal.returns-in_err-spare-clause-living
-returns-in_err-spare-clause-living c = holds_the_living c.self.inside.entries.items _ c.self.invariant.0 refl
+pub returns-in_err-octets-clause-living : goal.returns-in_err-octets-clause-living
+returns-in_err-octets-clause-living c = holds_the_living c.self.inside.entries.items _ c.self.invariant.0 refl
 
 pub returns-in_err-push-in-None-clause-living : goal.returns-in_err-push-in-None-clause-living
 returns-in_err-push-in-None-clause-living c =
     holds_the_living c.push.new.self.items _ (subst AllLive (sym c.in_err-push-in-None.ensures.items) c.self.invariant.0) refl
 
-pub returns-in_ok-arrive-in-Some-clause-living : goal.returns-in_ok-arrive-in-Some-clause-living
-returns-in_ok-arrive-in-Some-clause-living c =
+pub returns-in-Some-clause-living : goal.returns-in-Some-clause-living
+returns-in-Some-clause-living c =
     let key = plain_key c.args.key in
     let ask : Ask = (record { interest = c.args.interest.now; nonce = c.args.nonce; deadline = c.args.deadline }) in
     holds_the_living (set c.self.inside.entries.items c.in-Some.at c.arrive.new.self) _
