@@ -1,4 +1,4 @@
-use Rattle.std.proofs.Common.{◌≡◌, ℕ, ◌-◌, Bool, true, false, cond, nat_cmp, refl, sym, ap, subst, arith, ◌∙◌}
+use Rattle.std.proofs.Common.{◌≡◌, ℕ, ◌-◌, Bool, true, false, cond, nat_cmp, refl, sym, ap, subst, arith, ◌∙◌, rules}
 use Rattle.std.specs.Prelude.{Option, None, Some, IsSome, unwrap_or}
 use Rattle.std.specs.Cmp.{nat_cmp_total}
 use Rattle.std.specs.FinMap.{get, len, remove, contains_key, empty, len-remove, len-empty}
@@ -21,3 +21,9 @@ replace-requires c =
     let name = components c.args.name in
     subst (λ t. IsSome (get t.table name)) (sym c.self.view_is) (stands (get c.args.self.now.table name) c.args.face (λ none.
     c.if-len-eq0.false (c.len.ensures.exact ∙ ap (λ (m : ByFace). len m) (c.remove.ensures ∙ ap (λ (m : ByFace). remove m c.args.face) c.costs_of-costs.ensures) ∙ none)))
+
+pub returns-then-len-eq0-clause-table : goal.returns-then-len-eq0-clause-table
+returns-then-len-eq0-clause-table c = search rules
+
+pub returns-then-len-eq0-clause-prepared : goal.returns-then-len-eq0-clause-prepared
+returns-then-len-eq0-clause-prepared c = search rules

@@ -1,0 +1,8 @@
+use Rattle.std.proofs.Common.{rules}
+use Rattle.pit_fib.proofs.hops.Hop.is_before.Goals as goal
+
+pub returns-then-self-other : goal.returns-then-self-other
+returns-then-self-other c = search rules
+
+pub returns-else-self-other-2 : goal.returns-else-self-other-2
+returns-else-self-other-2 c = search rules
