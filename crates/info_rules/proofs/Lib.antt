@@ -28,4 +28,5 @@ pub mod SomeDecision
 pub mod TreeFinding
 pub mod TreeSpelling
 pub mod TreeSteps
+pub mod Undigested
 pub mod WordMeanings

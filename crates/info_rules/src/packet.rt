@@ -48,7 +48,11 @@ impl<'a> Packet<'a> {
         ensures { components result ≡ (seen_of self.entry).name }
     {
         match self {
-            Packet::Interest(interest) => without_digest(interest.name),
+            Packet::Interest(interest) => match interest.parameters {
+                // Without parameters there is no digest of them.
+                None => interest.name,
+                Some(_) => without_digest(interest.name),
+            },
             Packet::Data(packet) => packet.name,
         }
     }
@@ -70,12 +74,16 @@ impl<'a> Packet<'a> {
 fn without_digest(name: Name<'_>) -> Name<'_>
     ensures { components result ≡ without_digest (components name.entry) }
 {
-    let Some(count) = name.len().checked_sub(1) else {
-        return name;
-    };
-    match name.component(count) {
-        Some(last) if last.kind == PARAMETERS_SHA256_DIGEST => name.prefix(count),
-        _ => name,
+    let mut count = 0;
+    let mut ends_in_digest = false;
+    for component in name.iter() {
+        count += 1;
+        ends_in_digest = component.kind == PARAMETERS_SHA256_DIGEST;
+    }
+    if ends_in_digest {
+        name.prefix(count - 1)
+    } else {
+        name
     }
 }
 
