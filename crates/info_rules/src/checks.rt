@@ -22,9 +22,9 @@ use std::alloc::Global;
 pub type Checked = Result<Option<Reason>, Memory>;
 
 /// The checker's first reason against a packet, or `None` where the packet passes.
-pub fn check(alloc: Global, keys: &KeyBook, checker: &Checker, signed: Signed<'_>) -> Checked
-    ensures { MatchResult result (Checks keys.now checker.now (signed_of signed.entry))
-        (λ _. Expands checker.now (signed_of signed.entry)) }
+pub fn check(alloc: Global, keys: &KeyBook, checker: &Checker, signed: &Signed<'_>) -> Checked
+    ensures { MatchResult result (Checks keys.now checker.now (signed_of signed.now))
+        (λ _. Expands checker.now (signed_of signed.now)) }
 {
     match checker {
         Checker::Sha256 => Ok(check_sha256(signed)),
@@ -33,8 +33,8 @@ pub fn check(alloc: Global, keys: &KeyBook, checker: &Checker, signed: Signed<'_
     }
 }
 
-fn check_sha256(signed: Signed<'_>) -> Option<Reason>
-    ensures { Checks [] Checker.Sha256 (signed_of signed.entry) result }
+fn check_sha256(signed: &Signed<'_>) -> Option<Reason>
+    ensures { Checks [] Checker.Sha256 (signed_of signed.now) result }
 {
     if signed.signature.kind != DIGEST_SHA256 {
         return Some(Reason::SigType);
@@ -42,10 +42,10 @@ fn check_sha256(signed: Signed<'_>) -> Option<Reason>
     check_tag(signed, &sha256_of(signed.parts))
 }
 
-fn check_hmac(alloc: Global, keys: &KeyBook, test: &LocatorTest, signed: Signed<'_>) -> Checked
+fn check_hmac(alloc: Global, keys: &KeyBook, test: &LocatorTest, signed: &Signed<'_>) -> Checked
     ensures { MatchResult result
-        (Checks keys.now (Checker.HmacSha256 test.now) (signed_of signed.entry))
-        (λ _. Expands (Checker.HmacSha256 test.now) (signed_of signed.entry)) }
+        (Checks keys.now (Checker.HmacSha256 test.now) (signed_of signed.now))
+        (λ _. Expands (Checker.HmacSha256 test.now) (signed_of signed.now)) }
 {
     if signed.signature.kind != HMAC_WITH_SHA256 {
         return Ok(Some(Reason::SigType));
@@ -60,8 +60,8 @@ fn check_hmac(alloc: Global, keys: &KeyBook, test: &LocatorTest, signed: Signed<
 }
 
 /// What is said of a packet where the key of this name may sign it.
-fn check_key(keys: &KeyBook, name: Name<'_>, signed: Signed<'_>) -> Option<Reason>
-    ensures { ChecksKey keys.now (components name.entry) (signed_of signed.entry) result }
+fn check_key(keys: &KeyBook, name: Name<'_>, signed: &Signed<'_>) -> Option<Reason>
+    ensures { ChecksKey keys.now (components name.entry) (signed_of signed.now) result }
 {
     let Some(key) = keys.find(name) else {
         return Some(Reason::KeyUnknown);
@@ -71,8 +71,8 @@ fn check_key(keys: &KeyBook, name: Name<'_>, signed: Signed<'_>) -> Option<Reaso
 }
 
 /// What is said of a packet whose signature's value has to be this tag.
-fn check_tag(signed: Signed<'_>, tag: &[u8; 32]) -> Option<Reason>
-    ensures { ChecksTag tag.now (signed_of signed.entry) result }
+fn check_tag(signed: &Signed<'_>, tag: &[u8; 32]) -> Option<Reason>
+    ensures { ChecksTag tag.now (signed_of signed.now) result }
 {
     let is_right = tags_equal(signed.signature.value, tag);
     (!is_right).then_some(Reason::Tag)

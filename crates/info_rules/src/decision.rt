@@ -159,17 +159,17 @@ fn reason_against(
         (λ _. AnyExpands checkers.now (seen_of packet.entry)) }
 {
     match packet.signed(name) {
-        Ok(signed) => greatest(alloc, keys, checkers, signed),
+        Ok(signed) => greatest(alloc, keys, checkers, &signed),
         Err(reason) => Ok(Some(reason)),
     }
 }
 
 /// The greatest reason that a checker has against a packet, or `None` where one passes it.
-fn greatest(alloc: Global, keys: &KeyBook, checkers: &[Checker], signed: Signed<'_>) -> Checked
+fn greatest(alloc: Global, keys: &KeyBook, checkers: &[Checker], signed: &Signed<'_>) -> Checked
     ensures { MatchResult result
-        (λ reason. MatchOption reason (IsPassed keys.now checkers.now (signed_of signed.entry))
-        (IsGreatest keys.now checkers.now (signed_of signed.entry)))
-        (λ _. Any (λ checker. Expands checker (signed_of signed.entry)) checkers.now) }
+        (λ reason. MatchOption reason (IsPassed keys.now checkers.now (signed_of signed.now))
+        (IsGreatest keys.now checkers.now (signed_of signed.now)))
+        (λ _. Any (λ checker. Expands checker (signed_of signed.now)) checkers.now) }
 {
     let mut against = None;
     for checker in checkers {
