@@ -72,31 +72,18 @@ fn hyper_with(key: Half, relation: Option<Relation>, packet: Half) -> Option<Hyp
     requires packet { spec.HasGroups packet }
     ensures { result ≡ spec.hyper_with key relation packet }
 {
-    let (key_pattern, key_template) = key?;
-    let (packet_pattern, packet_template) = packet?;
+    let ((key, relation), packet) = key.zip(relation).zip(packet)?;
     Some(HyperRelation {
-        key_pattern,
-        key_template,
-        relation: relation?,
-        packet_pattern,
-        packet_template,
+        key_pattern: key.0,
+        key_template: key.1,
+        relation,
+        packet_pattern: packet.0,
+        packet_template: packet.1,
     })
 }
 
 /// The parts of a relation, so far as they are there.
 type Parts = ((Half, Option<Relation>), Half);
-
-/// The parts that these keys give.
-#[tactic(auto, unfolding(crate::specs::HyperBlock::parts_in))]
-fn read_parts(alloc: Global, keys: Keys<'_>) -> Read<Parts>
-    ensures read { IfOk result (λ found. found ≡ spec.parts_in (keys_of keys.entry)) }
-    ensures groups { IfOk result (λ found. IfOk found spec.HaveGroups) }
-{
-    let key = read_half(alloc, keys, "k-regex", "k-expand")?;
-    let relation = read_value(alloc, keys, "h-relation", RulesFaultKind::BadValue)?;
-    let packet = read_half(alloc, keys, "p-regex", "p-expand")?;
-    Ok(both(both(key, relation), packet))
-}
 
 /// The relation of these parts.
 fn made_of(parts: Found<Parts>) -> Found<Option<HyperRelation>>
@@ -105,6 +92,18 @@ fn made_of(parts: Found<Parts>) -> Found<Option<HyperRelation>>
 {
     let ((key, relation), packet) = parts?;
     Ok(hyper_with(key, relation, packet))
+}
+
+/// The relation that these keys give.
+#[tactic(auto, unfolding(crate::specs::HyperBlock::parts_in))]
+fn read_hyper(alloc: Global, keys: Keys<'_>) -> Read<Option<HyperRelation>>
+    ensures { IfOk result
+        (λ found. found ≡ then_made spec.hyper_made (spec.parts_in (keys_of keys.entry))) }
+{
+    let key = read_half(alloc, keys, "k-regex", "k-expand")?;
+    let relation = read_value(alloc, keys, "h-relation", RulesFaultKind::BadValue)?;
+    let packet = read_half(alloc, keys, "p-regex", "p-expand")?;
+    Ok(made_of(both(both(key, relation), packet)))
 }
 
 /// Reads hyper-relations, whose own keys may be needed.
@@ -125,7 +124,7 @@ impl BlockReader for HyperReader {
     #[tactic(auto, unfolding(crate::specs::HyperBlock::hyper_of))]
     fn read(&self, alloc: Global, line: u32, keys: Keys<'_>) -> Read<Option<HyperRelation>> {
         let fault = walk(alloc, Block::Hyper, keys)?;
-        let hyper = made_of(read_parts(alloc, keys)?);
+        let hyper = read_hyper(alloc, keys)?;
         let missing = missing_unless(!self.needed || is_whole(keys), line);
         Ok(beside(fault, beside(missing, hyper)))
     }
