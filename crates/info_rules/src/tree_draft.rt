@@ -41,7 +41,7 @@ pub struct Draft {
 }
 
 impl Draft {
-    ghost use Rattle.std.specs.Prelude.{◌≡◌, ◌+◌, ◌<◌, ◌≤◌, ◌^◌, Ok, MatchResult, map, string_bytes};
+    ghost use Rattle.std.specs.Prelude.{◌≡◌, ◌+◌, ◌<◌, ◌≤◌, ◌^◌, Ok, Err, MatchOption, MatchResult, map, string_bytes};
     ghost use Rattle.std.specs.Option.{option_map};
     ghost use Rattle.info_rules.specs.TreeReading as read;
     ghost use Rattle.info_rules.specs.TreeReading.{IsTreeFaultOf};
@@ -99,11 +99,9 @@ impl Draft {
         if entry.value.is_some() {
             return Err(RulesFaultKind::Syntax.at(line));
         }
-        let value = unescaped(alloc, word)?;
-        self.pending = Some(Entry {
-            value: Some(value),
-            ..entry
-        });
+        let mut entry = entry;
+        entry.value = Some(unescaped(alloc, word)?);
+        self.pending = Some(entry);
         Ok(())
     }
 
@@ -129,13 +127,11 @@ impl Draft {
             (option_map entry_of self.old.pending) in
             MatchResult result (λ _. next ≡ Ok (draft_of self.new)) (IsTreeFaultOf next) }
     {
-        let Some(entry) = self.pending.take() else {
+        let Some(mut entry) = self.pending.take() else {
             return Err(RulesFaultKind::Syntax.at(line));
         };
-        self.ended.push(Entry {
-            has_block: true,
-            ..entry
-        })?;
+        entry.has_block = true;
+        self.ended.push(entry)?;
         if self.depth >= MAX_DEPTH {
             self.deep = Some(line);
         }
@@ -175,20 +171,28 @@ impl Draft {
         }
     }
 
+    /// What is wrong, where the text ends on a line.
+    fn end_fault(&self, line: u32) -> Option<RulesFault>
+        ensures { let whole = read.whole_of line (draft_of self.now) in
+            MatchOption result (whole ≡ Ok (read.entries_of (draft_of self.now)))
+            (λ fault. whole ≡ Err fault) }
+    {
+        match self.deep {
+            Some(deep) if deep != line || self.depth == 0 => {
+                Some(RulesFaultKind::TooDeep.at(deep))
+            }
+            _ => (self.depth > 0).then_some(RulesFaultKind::Syntax.at(line)),
+        }
+    }
+
     /// The entries, where the text ends on a line.
     pub fn finish(self, line: u32) -> Result<Vec<Entry>, RulesFault>
         ensures { let whole = read.whole_of line (draft_of self) in
             MatchResult result (λ entries. whole ≡ Ok (map entry_of entries.items))
             (IsTreeFaultOf whole) }
     {
-        if let Some(fault) = deep_before(self.deep, line) {
+        if let Some(fault) = self.end_fault(line) {
             return Err(fault);
-        }
-        if self.depth > 0 {
-            return Err(RulesFaultKind::Syntax.at(line));
-        }
-        if let Some(deep) = self.deep {
-            return Err(RulesFaultKind::TooDeep.at(deep));
         }
         let mut draft = self;
         draft.end_entry()?;
