@@ -64,3 +64,13 @@ unfolding each
 loop_done f word keys all before read none is h =
     let empty : each f (named word keys) ≡ Ok [] = rw none refl in
     is ∙ (sym (done before) ∙ (ap (λ g. joined before g) (sym empty) ∙ h))
+
+-- nothing is read yet
+pub loop_start : {A : Type 0} (parts : List A) (found : Found (List A)) → parts ≡ [] → joined (Ok parts) found ≡ found
+loop_start parts (Ok others) none = rw none refl
+loop_start parts (Err f) none = refl
+
+-- a key of another word
+pub loop_past : {A : Type 0} (f : Block → Found A) (word : List ℕ) (keys others all : List Block) (key : Block) (before : Found (List A)) → keys ≡ key ∷ others → is_word word key ≡ false
+    → joined before (each f (named word keys)) ≡ each f (named word all) → joined before (each f (named word others)) ≡ each f (named word all)
+loop_past f word keys others all key before keys_are is h = rw (keys_are, is) at h
