@@ -85,7 +85,8 @@ AreStarts atoms counts starts =
 abbrev pub after_counts : List ℕ → Option (List ℕ) → Option (List ℕ)
 after_counts done later = option_map (λ counts. done ++ counts) later
 
--- the first i atoms have these counts in the greatest split, if there is one, which end at this place
+-- the first i atoms have these counts in the greatest split, if there is one, and these end at this
+-- place
 pub record IsTaken (atoms : List PlainAtom) (cs : List Field) (i place : ℕ)
     (starts done : List ℕ) : Type 0 where
   pub len : length done ≡ i
