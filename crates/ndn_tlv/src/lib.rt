@@ -4,15 +4,21 @@
 mod element;
 mod elements;
 mod fault;
+mod field;
 mod integer;
 mod memory;
 mod number;
+mod writing;
 
 pub use element::{Element, elements_have_one_reading, first_element, put_element};
 pub use elements::Elements;
 pub use fault::TlvFault;
+pub use field::{first_field, single_element};
 pub use integer::{nni_len, nni_of, put_nni};
 pub use memory::Memory;
 pub use number::{
     each_number_has_one_spelling, no_spelling_begins_another, number_len, number_of, put_number,
+};
+pub use writing::{
+    element_len, nni_element_len, put_flag, put_header, put_nni_element, put_number_field,
 };

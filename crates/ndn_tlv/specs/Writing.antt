@@ -1,0 +1,34 @@
+-- Elements one after another as octets, and calls that append octets.
+use Rattle.std.specs.Prelude.{◌≡◌, ℕ, ◌≤◌, ◌+◌, List, [], ◌∷◌, ◌++◌, length, take, vec_len, flat_map, Result, OnOk, IsOk, Option, None, Some, Bool, true, false}
+use Rattle.std.specs.Option.{option_map}
+use Rattle.std.specs.Global.{Vec}
+use Rattle.std.specs.Vec.{vec_capacity}
+use Rattle.ndn_tlv.specs.declared.memory.Memory.{Memory}
+use Rattle.ndn_tlv.specs.Number.{shortest_nni}
+use Rattle.ndn_tlv.specs.Element.{Field, element}
+
+abbrev pub octets : List Field → List ℕ
+octets fields = flat_map element fields
+
+-- a field that may be absent
+abbrev pub optional : ℕ → Option (List ℕ) → List Field
+optional kind None = []
+optional kind (Some value) = (kind, value) ∷ []
+
+-- a field without octets, which is there or not
+abbrev pub flag : ℕ → Bool → List Field
+flag kind true = (kind, []) ∷ []
+flag kind false = []
+
+-- a field that is a NonNegativeInteger and may be absent
+abbrev pub number : ℕ → Option ℕ → List Field
+number kind n = optional kind (option_map shortest_nni n)
+
+-- These octets are appended, where memory is not refused; else some octets of them may be. Where
+-- there is room, memory is not refused.
+pub record Puts (old new : Vec ℕ) (result : Result (Unit {0}) Memory) (octets : List ℕ) : Type 0
+  where
+    pub ok : OnOk result (new.items ≡ old.items ++ octets)
+    pub begins : take (vec_len old) new.items ≡ old.items
+    pub room : vec_len old + length octets ≤ vec_capacity old → IsOk result
+    pub capacity : vec_capacity old ≤ vec_capacity new

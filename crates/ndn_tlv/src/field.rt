@@ -1,0 +1,40 @@
+//! Fields by their types, as parameters and replies hold them.
+
+ghost use Rattle.std.specs.Prelude.{◌≡◌, ◌≤◌, IfSome, length};
+ghost use Rattle.std.specs.Option.{option_map};
+ghost use Rattle.ndn_tlv.specs.Reading.{elements_of};
+ghost use Rattle.ndn_tlv.specs.Fields.{first_of, single};
+
+use crate::element::first_element;
+
+/// The value of octets that are one element of this type.
+pub fn single_element(octets: &[u8], kind: u32) -> Option<&[u8]>
+    ensures exact { option_map (λ v. v.now) result ≡ single kind (elements_of octets.now) }
+    ensures short { IfSome result (λ v. length v.now ≤ length octets.now) }
+{
+    let Ok((element, rest)) = first_element(octets) else {
+        return None;
+    };
+    if element.kind == kind && rest.is_empty() {
+        return Some(element.value);
+    }
+    None
+}
+
+/// The value of the first field of this type.
+pub fn first_field(octets: &[u8], kind: u32) -> Option<&[u8]>
+    ensures exact { option_map (λ v. v.now) result ≡ first_of kind (elements_of octets.now) }
+    ensures short { IfSome result (λ v. length v.now ≤ length octets.now) }
+{
+    let mut rest = octets;
+    while !rest.is_empty() {
+        let Ok((element, after)) = first_element(rest) else {
+            return None;
+        };
+        if element.kind == kind {
+            return Some(element.value);
+        }
+        rest = after;
+    }
+    None
+}
