@@ -16,3 +16,4 @@ pub mod UriCaused
 pub mod NameReading
 pub mod TextEquality
 pub mod Findings
+pub mod Rows

@@ -1,6 +1,7 @@
 -- Names as keys of maps: the laws that comparing and hashing them keep.
 use Rattle.std.specs.Prelude.{◌≡◌, true, List, length, refl}
 use mathlib.Core.Path.{ap}
+use Rattle.std.specs.Coded.{Coded, coded×, coded_list, coded_ℕ}
 use Rattle.std.specs.declared.cmp.Ordering.{Ordering}
 use Rattle.std.specs.declared.cmp.Ordering.TheVariants.{Less, Equal, Greater}
 use Rattle.std.specs.Cmp.{IsTotalOrder, nat_cmp_total, on_total, then_total, Equal-is}
@@ -21,8 +22,12 @@ component_cmp-total =
 pub name_cmp-total : IsTotalOrder name_cmp
 name_cmp-total = lists_total component_cmp-total
 
+-- names as values in models
+abbrev pub name_code : Coded (List Field)
+name_code = coded_list (coded× coded_ℕ (coded_list coded_ℕ))
+
 -- both of two orders tie
-both_tie : (o p : Ordering) → ordering_then o p ≡ Equal → (o ≡ Equal) × (p ≡ Equal)
+pub both_tie : (o p : Ordering) → ordering_then o p ≡ Equal → (o ≡ Equal) × (p ≡ Equal)
 both_tie Less p e = absurd cc
 both_tie Equal p e = (refl, e)
 both_tie Greater p e = absurd cc

@@ -10,3 +10,4 @@ pub mod ReadsAs
 pub mod UriReading
 pub mod ComponentText
 pub mod FirstOfType
+pub mod Room

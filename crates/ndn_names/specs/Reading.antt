@@ -1,9 +1,9 @@
 -- Reading a name from left to right, with the first fault that is met (NDN Packet Format 0.3,
 -- "Name").
-use Rattle.std.specs.Prelude.{◌≡◌, ◌≢◌, ◌⊎◌, ℕ, ◌+◌, List, [], ◌∷◌, length, Result, Ok, Err, nat_lt, nat_le, ◌==◌, ◌&&◌, ◌||◌, not, if◌then◌else◌}
+use Rattle.std.specs.Prelude.{◌≡◌, ◌≢◌, ◌⊎◌, ℕ, ◌+◌, List, [], ◌∷◌, length, Option, None, Some, Result, Ok, Err, nat_lt, nat_le, ◌==◌, ◌&&◌, ◌||◌, not, if◌then◌else◌}
 use Rattle.ndn_tlv.specs.declared.fault.TlvFault.{TlvFault}
 use Rattle.ndn_tlv.specs.Element.{Field}
-use Rattle.ndn_tlv.specs.Reading.{elements_of, ◌>>=◌}
+use Rattle.ndn_tlv.specs.Reading.{elements_of, on_result, ◌>>=◌}
 use Rattle.ndn_names.specs.declared.component_type.TheConstants.{PARAMETERS_SHA256_DIGEST}
 use Rattle.ndn_names.specs.declared.fault.NameFault.{NameFault}
 use Rattle.ndn_names.specs.declared.fault.NameFault.TheVariants.{BadComponent, BadDigestLength, TooManyComponents, Memory}
@@ -50,3 +50,7 @@ components_after n (e ∷ es) = do
 -- the components of a name's TLV-VALUE
 unfoldable pub name_at : List ℕ → Result (List Field) NameFault
 name_at value = components_after 0 (elements_of value)
+
+-- the name that is read, whatever the fault where there is none
+abbrev pub name_of : List ℕ → Option (List Field)
+name_of value = on_result (λ cs. Some cs) (λ _. None) (name_at value)

@@ -1,5 +1,7 @@
 //! Types of components (NDN Packet Format 0.3, "Name"; NDN Naming Conventions, revision 3).
 
+ghost use Rattle.std.specs.Prelude.{◌≡◌};
+
 /// ImplicitSha256DigestComponent: SHA-256 of a Data packet, 32 octets.
 pub const IMPLICIT_SHA256_DIGEST: u16 = 1;
 
@@ -27,3 +29,13 @@ pub const TIMESTAMP: u16 = 56;
 
 /// SequenceNumNameComponent: the number of a collection's item.
 pub const SEQUENCE_NUM: u16 = 58;
+
+/// Law: these are the numbers that the standards assign (NDN Packet Format 0.3, "Name", for the first
+/// three; NDN Naming Conventions, revision 3, for the others).
+pub fn component_types_are_as_assigned()
+    ensures digests { (IMPLICIT_SHA256_DIGEST ≡ 1) × (PARAMETERS_SHA256_DIGEST ≡ 2) }
+    ensures generic { GENERIC ≡ 8 }
+    ensures keyword { KEYWORD ≡ 32 }
+    ensures segment { (SEGMENT ≡ 50) × (BYTE_OFFSET ≡ 52) }
+    ensures version { (VERSION ≡ 54) × (TIMESTAMP ≡ 56) × (SEQUENCE_NUM ≡ 58) }
+{}

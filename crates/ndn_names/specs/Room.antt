@@ -1,0 +1,7 @@
+-- Room in the tables that hold one row for each name or signer.
+use Rattle.std.specs.Prelude.{ℕ, ◌<◌, Option, None, Some}
+
+-- while a call is prepared there is room for one more row
+abbrev pub HasRoom : {X : Type 0} → ℕ → ℕ → Option X → Type 0
+HasRoom len capacity None = Unit {0}
+HasRoom len capacity (Some prepared) = len < capacity
