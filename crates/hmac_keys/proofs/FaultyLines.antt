@@ -8,7 +8,8 @@ use Rattle.hmac_keys.specs.declared.fault.KeyFault.{KeyFault}
 use Rattle.hmac_keys.specs.declared.fault.KeyFault.TheVariants.{BadLine, TwiceNamed, TooMany, Memory}
 use Rattle.hmac_keys.specs.KeyFile.{NamedKey, AreApart, AreKeysOf, IsKeyLine, is_skipped, lines_of}
 use Rattle.hmac_keys.specs.FirstFault.{IsReached, FaultIn, FirstFault}
-use Rattle.hmac_keys.specs.KeyReading.{has_name, key_in, with_key, after_line, on_option, keys_from, keys_in}
+use Rattle.ndn_tlv.specs.Options.{on_option}
+use Rattle.hmac_keys.specs.KeyReading.{has_name, key_in, with_key, after_line, keys_from, keys_in}
 use Rattle.hmac_keys.proofs.Keys.{key_found, key_again}
 use Rattle.hmac_keys.proofs.Files.{keys_through}
 use Rattle.hmac_keys.proofs.Books.{none_among, among_from_has, has_from_among, named_twice, one_too_many, key_added, apart_more}

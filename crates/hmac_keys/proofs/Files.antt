@@ -10,7 +10,8 @@ use Rattle.ndn_names.specs.Order.{name_cmp}
 use Rattle.hmac_keys.specs.declared.fault.KeyFault.{KeyFault}
 use Rattle.hmac_keys.specs.declared.fault.KeyFault.TheVariants.{BadLine, TwiceNamed, TooMany, Memory}
 use Rattle.hmac_keys.specs.KeyFile.{NamedKey, AreApart, AreKeysOf, KeysOf, is_skipped, lines_of}
-use Rattle.hmac_keys.specs.KeyReading.{has_name, key_in, with_key, on_option, after_line, keys_from, keys_in, IsFaultOf}
+use Rattle.ndn_tlv.specs.Options.{on_option}
+use Rattle.hmac_keys.specs.KeyReading.{has_name, key_in, with_key, after_line, keys_from, keys_in, IsFaultOf}
 use Rattle.hmac_keys.proofs.Keys.{key_found, key_again}
 use Rattle.hmac_keys.proofs.Books.{one_name, named_twice, one_too_many, key_added, apart_more}
 

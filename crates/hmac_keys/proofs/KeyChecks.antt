@@ -14,7 +14,8 @@ use Rattle.hmac_keys.specs.declared.fault.KeyFault.{KeyFault}
 use Rattle.hmac_keys.specs.declared.fault.KeyFault.TheVariants.{BadLine, TwiceNamed, TooMany, Memory}
 use Rattle.hmac_keys.specs.KeyFile.{NamedKey, KeysOf, is_skipped, lines_of}
 use Rattle.hmac_keys.specs.KeyCheck.{line_has_name, lines_have_name, HaveNames}
-use Rattle.hmac_keys.specs.KeyReading.{on_option, at_last_space, not_empty, name_of, octets_of, key_in, has_name, with_key, after_line, keys_from, keys_in, IsFaultOf, IsFaultBeforeMemory}
+use Rattle.ndn_tlv.specs.Options.{on_option}
+use Rattle.hmac_keys.specs.KeyReading.{at_last_space, not_empty, name_of, octets_of, key_in, has_name, with_key, after_line, keys_from, keys_in, IsFaultOf, IsFaultBeforeMemory}
 use Rattle.hmac_keys.proofs.Keys.{octets_found, name_found, name_again, key_parts, some_of}
 use Rattle.hmac_keys.proofs.Books.{has_name_more, same_name, one_name, named_twice, one_too_many, key_added}
 use Rattle.hmac_keys.proofs.Files.{BeginsWith, no_line, line_read, found, key_is_added, line_skipped}

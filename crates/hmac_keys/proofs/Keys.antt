@@ -14,7 +14,8 @@ use Rattle.ndn_names.proofs.TextReading.{Lacks}
 use Rattle.ndn_names.proofs.PathReading.{text_found, text_again}
 use Rattle.hmac_keys.specs.declared.fault.KeyFault.{KeyFault}
 use Rattle.hmac_keys.specs.KeyFile.{NamedKey, IsKeyLine}
-use Rattle.hmac_keys.specs.KeyReading.{on_option, at_last_space, not_empty, name_of, octets_of, key_in}
+use Rattle.ndn_tlv.specs.Options.{on_option}
+use Rattle.hmac_keys.specs.KeyReading.{at_last_space, not_empty, name_of, octets_of, key_in}
 use Rattle.hmac_keys.specs.LineFault.{IsLineFault}
 use Rattle.hmac_keys.proofs.Lines.{space_again, space_found}
 use Rattle.hmac_keys.proofs.Digits.{decode_found, decode_again}

@@ -7,7 +7,8 @@ use Rattle.std.proofs.lemmas.List.{take-append-drop}
 use Rattle.std.proofs.lemmas.Str.Pattern.{IsSplitOnceResult, split_parts, NoCharPasses-char, drop_at_char}
 use Rattle.ndn_names.proofs.TextReading.{Lacks}
 use Rattle.hmac_keys.specs.KeyFile.{in_front, lines_of}
-use Rattle.hmac_keys.specs.KeyReading.{on_option, at_last_space}
+use Rattle.ndn_tlv.specs.Options.{on_option}
+use Rattle.hmac_keys.specs.KeyReading.{at_last_space}
 
 lacks_from_places : (octet : ℕ) (text : List ℕ) → ((i : ℕ) → i < length text → get_or text i 0 ≢ octet) → Lacks octet text
 lacks_from_places octet [] h = tt

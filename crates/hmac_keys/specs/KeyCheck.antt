@@ -5,7 +5,8 @@ use Rattle.std.specs.Ordering.{is_eq}
 use Rattle.ndn_tlv.specs.Element.{Field}
 use Rattle.ndn_names.specs.Order.{name_cmp}
 use Rattle.hmac_keys.specs.KeyFile.{NamedKey, is_skipped}
-use Rattle.hmac_keys.specs.KeyReading.{on_option, at_last_space, name_of, has_name, after_line}
+use Rattle.ndn_tlv.specs.Options.{on_option}
+use Rattle.hmac_keys.specs.KeyReading.{at_last_space, name_of, has_name, after_line}
 use Rattle.hmac_keys.specs.declared.fault.KeyFault.{KeyFault}
 
 -- the line is not skipped, and has this name before its last space

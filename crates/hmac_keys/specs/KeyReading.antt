@@ -1,18 +1,15 @@
 -- Reading key files from line to line, with the first fault that is met.
-use Rattle.std.specs.Prelude.{◌≡◌, ℕ, ◌+◌, ◌⊎◌, List, [], ◌∷◌, ◌++◌, length, Option, None, Some, Result, Ok, Err, Bool, false, nat_le, ◌==◌, ◌&&◌, ◌||◌, if◌then◌else◌}
+use Rattle.std.specs.Prelude.{◌≡◌, ℕ, ◌+◌, ◌⊎◌, List, [], ◌∷◌, ◌++◌, length, Option, None, Some, Result, Ok, Err, Bool, false, nat_le, ◌==◌, ◌&&◌, ◌||◌, if◌then◌else◌, IsUtf8}
 use Rattle.hex.specs.Hex.{decode_of}
 use Rattle.ndn_tlv.specs.Element.{Field}
+use Rattle.ndn_tlv.specs.Options.{on_option}
 use Rattle.ndn_tlv.specs.Reading.{on_result}
 use Rattle.ndn_names.specs.UriReading.{name_in}
 use Rattle.ndn_names.specs.Order.{name_cmp}
 use Rattle.std.specs.Ordering.{is_eq}
 use Rattle.hmac_keys.specs.declared.fault.KeyFault.{KeyFault}
 use Rattle.hmac_keys.specs.declared.fault.KeyFault.TheVariants.{BadLine, TwiceNamed, TooMany, Memory}
-use Rattle.hmac_keys.specs.KeyFile.{NamedKey, is_skipped, lines_of}
-
-abbrev pub on_option : {A C : Type 0} → (A → C) → C → Option A → C
-on_option f c None = c
-on_option f c (Some x) = f x
+use Rattle.hmac_keys.specs.KeyFile.{NamedKey, KeysOf, is_skipped, lines_of}
 
 -- what stands before the last space and after it
 unfoldable pub at_last_space : List ℕ → Option (List ℕ × List ℕ)
@@ -78,3 +75,15 @@ IsFaultOf read fault = (read ≡ Err fault) ⊎ (fault ≡ Memory)
 abbrev pub IsFaultBeforeMemory : Result (List NamedKey) KeyFault → KeyFault → Type 0
 IsFaultBeforeMemory read fault =
     (read ≡ Err fault) ⊎ ((fault ≡ Memory) × ((keys : List NamedKey) × (read ≡ Ok keys)))
+
+-- ---- octets
+
+-- the keys of octets, which are UTF-8
+abbrev pub AreKeys : List ℕ → List NamedKey → Type 0
+AreKeys octets keys = IsUtf8 octets × KeysOf octets keys
+
+-- the fault of the text, or a bad line without a number where the octets are not UTF-8
+abbrev pub IsFaultOfOctets : List ℕ → KeyFault → Type 0
+IsFaultOfOctets octets why =
+    (IsUtf8 octets × IsFaultOf (keys_in octets) why)
+    ⊎ (¬ (IsUtf8 octets) × (why ≡ BadLine 0))

@@ -4,7 +4,7 @@ ghost use Rattle.std.specs.Prelude.{◌≡◌, ◌↔◌, ℕ, List, Ok, Err, Ma
 ghost use Rattle.hmac_keys.specs.declared.fault.KeyFault.{KeyFault};
 ghost use Rattle.hmac_keys.specs.FirstFault.{FirstFault};
 ghost use Rattle.hmac_keys.specs.KeyFile.{NamedKey, KeysOf};
-ghost use Rattle.hmac_keys.specs.KeyReading.{keys_in, IsFaultBeforeMemory};
+ghost use Rattle.hmac_keys.specs.KeyReading.{keys_in, AreKeys, IsFaultBeforeMemory, IsFaultOfOctets};
 
 use crate::fault::KeyFault;
 use crate::key_check::check_keys;
@@ -12,6 +12,7 @@ use crate::key_line::{first_line, is_skipped, name_of, octets_of};
 use ndn_names::{Name, NameBuf};
 use std::alloc::Global;
 use std::marker::Model;
+use std::str;
 
 /// The greatest number of keys in a book.
 pub(crate) const MAX_KEYS: usize = 256;
@@ -100,6 +101,17 @@ impl KeyBook {
             → (keys : List NamedKey) × KeysOf text.now keys) }
     {
         read_keys(alloc, text)
+    }
+
+    /// The keys of the octets of a key file. Octets that are not UTF-8 are reported as a bad line
+    /// with the number 0.
+    pub fn read_octets(alloc: Global, octets: &[u8]) -> Result<KeyBook, KeyFault>
+        ensures { MatchResult result (AreKeys octets.now) (IsFaultOfOctets octets.now) }
+    {
+        let Ok(text) = str::from_utf8(octets) else {
+            return Err(KeyFault::BadLine(0));
+        };
+        KeyBook::read(alloc, text)
     }
 
     /// The keys of the lines, or the first fault, unless memory is refused before.

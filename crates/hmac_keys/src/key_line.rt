@@ -14,7 +14,7 @@ use std::alloc::Global;
 pub(crate) const MAX_KEY_LEN: usize = 256;
 
 /// The first line, and the text after its LF; all of the text and nothing, where it has no LF.
-pub(crate) fn first_line(text: &str) -> (&str, &str)
+pub fn first_line(text: &str) -> (&str, &str)
     requires { text.now ≢ [] }
     ensures lines { (lines_of text.now ≡ result.0.now ∷ lines_of result.1.now)
         ⊎ ((lines_of text.now ≡ result.0.now ∷ []) × (result.1.now ≡ [])) }

@@ -10,3 +10,4 @@ mod key_line;
 pub use fault::KeyFault;
 pub use hmac::{hmac_sha256, tags_equal};
 pub use key_book::{KeyBook, key_files_have_one_reading};
+pub use key_line::first_line;
