@@ -9,7 +9,8 @@ use Rattle.std.proofs.lemmas.List.Elements.{filter-append}
 use Rattle.sha2.specs.Sha256.{sha256}
 use Rattle.ndn_tlv.specs.Element.{Field, IsField, element, IsElement, IsElements}
 use Rattle.ndn_packets.specs.Packet.{PlainSignature, PlainInterest, PlainData, PlainFrame, AnInterest, AData, ANack, Idle, digests_in}
-use Rattle.ndn_packets.specs.Fields.{Fields, optional, flag, is_even_high, interest_schema}
+use Rattle.ndn_tlv.specs.Writing.{optional, flag}
+use Rattle.ndn_packets.specs.Fields.{Fields, is_even_high, interest_schema}
 use Rattle.ndn_packets.specs.Grammar.{IsSigned, IsDigested, from_parameters, IsInterest, IsData}
 use Rattle.ndn_packets.specs.Covered.{IsCut, from_first, CoversData, CoversInterest, Covered, EndsInDigest, EndsAtSignature, HoldsSecond, IsSignedAt, second_part}
 use Rattle.ndn_packets.proofs.Steps.{ok_is, some_is, none_is_not_some}

@@ -9,7 +9,8 @@ use Rattle.ndn_names.specs.Reading.{name_at}
 use Rattle.ndn_names.proofs.Names.{name_found, name_again}
 use Rattle.ndn_packets.specs.declared.fault.PacketFault.TheVariants.{BadField}
 use Rattle.ndn_packets.specs.Packet.{PlainSignatureInfo, PlainData}
-use Rattle.ndn_packets.specs.Fields.{Fields, optional, is_even_high, data_schema}
+use Rattle.ndn_tlv.specs.Writing.{optional}
+use Rattle.ndn_packets.specs.Fields.{Fields, is_even_high, data_schema}
 use Rattle.ndn_packets.specs.Grammar.{IsFreshness, IsData}
 use Rattle.ndn_packets.specs.Reading.{fields_from, read_fields, leading_name_at, meta_at, info_at, DataSoFar, nothing_yet, take_data_field, found_or, data_at}
 use Rattle.ndn_packets.specs.PacketFaults.{Leads}

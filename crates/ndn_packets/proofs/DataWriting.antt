@@ -8,9 +8,10 @@ use Rattle.ndn_tlv.specs.Element.{Field, element}
 use Rattle.ndn_tlv.proofs.Numbers.{length-spelling_nine, length-spelling_pos}
 use Rattle.ndn_tlv.proofs.Integers.{length-shortest_eight}
 use Rattle.ndn_packets.specs.declared.signature.Sign.{Sign}
-use Rattle.ndn_packets.specs.Fields.{optional}
-use Rattle.ndn_packets.specs.Writing.{octets, number, info_fields, meta_of, meta_fields, data_fields, IsLength}
-use Rattle.ndn_packets.proofs.Lengths.{length-element, sum_is_long, element_put, in_memory_is_exact}
+use Rattle.ndn_tlv.specs.Writing.{octets, number, optional}
+use Rattle.ndn_packets.specs.Writing.{info_fields, meta_of, meta_fields, data_fields, IsLength}
+use Rattle.ndn_tlv.proofs.Lengths.{length-element, element_put}
+use Rattle.ndn_packets.proofs.Lengths.{sum_is_long, in_memory_is_exact}
 
 -- ---- MetaInfo
 

@@ -8,8 +8,10 @@ use Rattle.ndn_tlv.specs.Reading.{◌>>=◌}
 use Rattle.ndn_tlv.proofs.Numbers.{IsBytes}
 use Rattle.ndn_packets.specs.declared.fault.PacketFault.{PacketFault}
 use Rattle.ndn_packets.specs.declared.fault.PacketFault.TheVariants.{CriticalUnknown}
-use Rattle.ndn_packets.specs.Fields.{Counts, Fields, needs_previous_field, optional}
-use Rattle.ndn_packets.specs.Reading.{schema_after, on_option, fields_from, read_fields}
+use Rattle.ndn_tlv.specs.Writing.{optional}
+use Rattle.ndn_packets.specs.Fields.{Counts, Fields, needs_previous_field}
+use Rattle.ndn_tlv.specs.Options.{on_option}
+use Rattle.ndn_packets.specs.Reading.{schema_after, fields_from, read_fields}
 use Rattle.ndn_packets.proofs.Steps.{bind_ok, good, err_is_not_ok, both_tests, read}
 
 -- ---- a type in a schema

@@ -5,7 +5,8 @@ use Rattle.ndn_tlv.specs.Element.{Field}
 use Rattle.ndn_tlv.specs.Reading.{◌>>=◌}
 use Rattle.ndn_packets.specs.declared.fault.PacketFault.{PacketFault}
 use Rattle.ndn_packets.specs.declared.fault.PacketFault.TheVariants.{Tlv, CriticalUnknown}
-use Rattle.ndn_packets.specs.Reading.{schema_after, on_option, fields_from, read_fields}
+use Rattle.ndn_tlv.specs.Options.{on_option}
+use Rattle.ndn_packets.specs.Reading.{schema_after, fields_from, read_fields}
 use Rattle.ndn_packets.specs.FirstFault.{Passes, HasFault, FirstFault, TellsFirstFault}
 use Rattle.ndn_packets.proofs.Steps.{good, read}
 use Rattle.ndn_packets.proofs.FieldLists.{IsAfter, after_found, after_again, after_none}

@@ -13,7 +13,8 @@ use Rattle.ndn_tlv.specs.Reading.{on_result, element_at}
 use Rattle.ndn_tlv.proofs.Numbers.{IsBytes, IsBytes-append, IsBytes-back, length-spelling_pos}
 use Rattle.ndn_packets.specs.declared.fault.PacketFault.{PacketFault}
 use Rattle.ndn_packets.specs.Packet.{PlainInterest, PlainFrame, AnInterest, AData, ANack, Idle}
-use Rattle.ndn_packets.specs.Fields.{Fields, optional, flag, is_even_high, interest_schema}
+use Rattle.ndn_tlv.specs.Writing.{optional, flag}
+use Rattle.ndn_packets.specs.Fields.{Fields, is_even_high, interest_schema}
 use Rattle.ndn_packets.specs.Grammar.{IsOctet, IsDigested, from_parameters, IsInterest}
 use Rattle.ndn_packets.specs.Link.{IsLinkPacket, IsFrame}
 use Rattle.ndn_packets.specs.FrameReading.{frame_at}

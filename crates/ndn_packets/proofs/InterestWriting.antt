@@ -10,10 +10,11 @@ use Rattle.sha2.proofs.Facts256.{length-sha256}
 use Rattle.ndn_tlv.specs.Number.{spelling}
 use Rattle.ndn_names.specs.Name.{IsNameValue}
 use Rattle.ndn_tlv.specs.Element.{Field, element}
-use Rattle.ndn_packets.specs.Fields.{optional, flag}
 use Rattle.ndn_packets.specs.Reading.{is_nil}
-use Rattle.ndn_packets.specs.Writing.{octets, number, name_with, IsLength, AreOctets}
-use Rattle.ndn_packets.proofs.Lengths.{length-element, sum_is_long, element_put}
+use Rattle.ndn_tlv.specs.Writing.{octets, number, optional, flag}
+use Rattle.ndn_packets.specs.Writing.{name_with, IsLength, AreOctets}
+use Rattle.ndn_tlv.proofs.Lengths.{length-element, element_put}
+use Rattle.ndn_packets.proofs.Lengths.{sum_is_long}
 
 regrouped : (a b c d e f : List ℕ) → ((((a ++ b) ++ c) ++ d) ++ e) ++ f ≡ a ++ ((((b ++ c) ++ d) ++ e) ++ f)
 regrouped a b c d e f = simp append_assoc

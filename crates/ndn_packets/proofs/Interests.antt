@@ -13,9 +13,11 @@ use Rattle.ndn_names.proofs.Names.{name_found, name_again}
 use Rattle.ndn_packets.specs.declared.fault.PacketFault.{PacketFault}
 use Rattle.ndn_packets.specs.declared.fault.PacketFault.TheVariants.{NoName, BadField, NoNonce}
 use Rattle.ndn_packets.specs.Packet.{PlainSignatureInfo, PlainSignature, PlainInterest, digests_in}
-use Rattle.ndn_packets.specs.Fields.{Fields, optional, flag, is_even_high, interest_schema}
+use Rattle.ndn_tlv.specs.Writing.{optional, flag}
+use Rattle.ndn_packets.specs.Fields.{Fields, is_even_high, interest_schema}
 use Rattle.ndn_packets.specs.Grammar.{IsNumber, IsOctet, IsSignatureInfo, IsSigned, IsInterest}
-use Rattle.ndn_packets.specs.Reading.{fields_from, read_fields, leading_name_at, nni_value_at, octet_at, parameters_on, octets_of_read, digest_fault, signature_of, on_option, info_at, InterestSoFar, no_fields_yet, take_interest_field, interest_made, is_nil, found_or, interest_at}
+use Rattle.ndn_tlv.specs.Options.{on_option}
+use Rattle.ndn_packets.specs.Reading.{fields_from, read_fields, leading_name_at, nni_value_at, octet_at, parameters_on, octets_of_read, digest_fault, signature_of, info_at, InterestSoFar, no_fields_yet, take_interest_field, interest_made, is_nil, found_or, interest_at}
 use Rattle.ndn_packets.proofs.Rules.{is_nil-false}
 use Rattle.ndn_packets.specs.PacketFaults.{Leads}
 use Rattle.ndn_packets.proofs.Steps.{bind_ok, good, err_is_not_ok, unless_ok, ok_is, found_some, not_nil, read, IsBytes-fields, IsBytes-inside, IsOne, IsBytes-of_one, lead}

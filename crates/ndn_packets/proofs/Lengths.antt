@@ -1,23 +1,17 @@
 -- Lengths of what is written, and what is left of octets to which some are appended.
-use Rattle.std.proofs.Common.{◌≡◌, ℕ, ◌+◌, ◌-◌, ◌^◌, ◌<◌, ◌≤◌, min, List, [], ◌∷◌, ◌++◌, length, take, refl, sym, ap, subst, ◌∙◌, append_assoc, arith, inl, inr, Option}
+use Rattle.std.proofs.Common.{◌≡◌, ℕ, ◌+◌, ◌-◌, ◌^◌, ◌<◌, min, List, [], ◌∷◌, ◌++◌, length, refl, sym, ap, subst, ◌∙◌, append_assoc, arith, inl, inr, Option}
 use Rattle.std.proofs.lemmas.Bool.{cases_lt}
-use Rattle.std.proofs.lemmas.List.{length-append, take-take, take_at}
+use Rattle.std.proofs.lemmas.List.{length-append}
 use Rattle.sha2.proofs.Facts256.{length-sha256}
 use Rattle.ndn_tlv.specs.Number.{spelling, shortest_nni}
 use Rattle.ndn_tlv.specs.Element.{Field, element}
-use Rattle.ndn_tlv.proofs.Numbers.{length-spelling_nine}
-use Rattle.ndn_tlv.proofs.Integers.{length-shortest_eight}
+use Rattle.ndn_tlv.proofs.Lengths.{length-element, element_put}
 use Rattle.std.proofs.lemmas.List.Concat.{flat_map-append}
 use Rattle.ndn_names.specs.Name.{IsNameValue}
 use Rattle.ndn_packets.specs.declared.signature.Sign.{Sign}
 use Rattle.ndn_packets.specs.declared.signature.Sign.TheVariants as sign
-use Rattle.ndn_packets.specs.Fields.{optional}
-use Rattle.ndn_packets.specs.Writing.{octets, number, kind_of, locator_value, info_fields, value_of, IsLength}
-
-pub ruleset header_lengths = (length-spelling_nine, length-shortest_eight)
-
-pub length-element : (kind : ℕ) (value : List ℕ) → length (element (kind, value)) ≡ length (spelling kind) + (length (spelling (length value)) + length value)
-length-element kind value = omega (arith, length-append (spelling kind) (spelling (length value) ++ value), length-append (spelling (length value)) value)
+use Rattle.ndn_tlv.specs.Writing.{octets, number, optional}
+use Rattle.ndn_packets.specs.Writing.{kind_of, locator_value, info_fields, value_of, IsLength}
 
 pub element_is_long : (kind value_len : ℕ) (value : List ℕ) → IsLength value_len value
     → IsLength (min (length (spelling kind) + length (spelling value_len) + value_len) (2 ^ 64 - 1)) (element (kind, value))
@@ -44,16 +38,6 @@ in_memory_is_exact n octets is small = omega arith
 
 pub fields_are_long : (front back : List Field) → length (octets front) + length (octets back) ≡ length (octets (front ++ back))
 fields_are_long front back = rw flat_map-append (omega (arith, length-append (octets front) (octets back)))
-
--- what stands after the header of an element is its value
-pub element_put : (old : List ℕ) (kind len : ℕ) (value : List ℕ) → len ≡ length value → (old ++ (spelling kind ++ spelling len)) ++ value ≡ old ++ element (kind, value)
-element_put old kind len value is = rw is (simp append_assoc)
-
--- what is left of octets to which some are appended, and others after these
-pub begins_more : (old front new tail : List ℕ) (n m : ℕ) → n ≡ length old → m ≡ length front → front ≡ old ++ tail → take m new ≡ front → take n new ≡ old
-begins_more old front new tail n m at following is begins =
-    let short : n ≤ m = omega (arith, ap length is, length-append old tail) in
-    sym (take-take n m new short) ∙ (ap (λ (x : List ℕ). take n x) (begins ∙ is) ∙ take_at old tail n (sym at))
 
 -- ---- signatures
 

@@ -31,3 +31,4 @@ pub mod Written
 pub mod WrittenNacks
 pub mod WrittenInterests
 pub mod Answering
+pub mod FullNames

@@ -12,7 +12,7 @@ use Rattle.ndn_tlv.proofs.Fields.{elements_exact, elements_read}
 use Rattle.ndn_packets.specs.declared.fault.PacketFault.{PacketFault}
 use Rattle.ndn_packets.specs.declared.fault.PacketFault.TheVariants.{Fragmented, LpField}
 use Rattle.ndn_packets.specs.Packet.{PlainFrame}
-use Rattle.ndn_packets.specs.Fields.{optional}
+use Rattle.ndn_tlv.specs.Writing.{optional}
 use Rattle.ndn_packets.specs.Reading.{nni_value_at}
 use Rattle.ndn_packets.specs.Link.{IsNack, IsNackOf, IsHeader, IsLinkPacket, headers_of, is_ignored_header, known_headers}
 use Rattle.ndn_packets.specs.FrameReading.{nack_at, LinkSoFar, no_headers_yet, is_token, is_refused_header, at_most, with_header, take_header, fragment_at, last_of, no_fragment, link_from, link_at}

@@ -6,7 +6,8 @@ use Rattle.ndn_tlv.specs.Element.{Field}
 use Rattle.ndn_tlv.specs.Reading.{elements_of}
 use Rattle.ndn_tlv.proofs.Numbers.{IsBytes}
 use Rattle.ndn_tlv.proofs.Fields.{elements_exact, elements_read}
-use Rattle.ndn_packets.specs.Fields.{Fields, optional, is_ignored_in_meta_info, meta_schema}
+use Rattle.ndn_tlv.specs.Writing.{optional}
+use Rattle.ndn_packets.specs.Fields.{Fields, is_ignored_in_meta_info, meta_schema}
 use Rattle.ndn_packets.specs.Grammar.{IsNumber, IsMetaInfo}
 use Rattle.ndn_packets.specs.Reading.{read_fields, nni_value_at, take_meta_field, meta_at}
 use Rattle.ndn_packets.proofs.Steps.{bind_ok, good, ok_is, IsBytes-fields}

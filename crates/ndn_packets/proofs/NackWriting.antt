@@ -4,7 +4,7 @@ use Rattle.std.proofs.lemmas.List.{length-append}
 use Rattle.ndn_tlv.specs.Number.{spelling}
 use Rattle.ndn_tlv.specs.Element.{element}
 use Rattle.ndn_packets.specs.Writing.{nack_field, nack_text}
-use Rattle.ndn_packets.proofs.Lengths.{length-element, element_put}
+use Rattle.ndn_tlv.proofs.Lengths.{length-element, element_put}
 
 -- the value of its link packet
 abbrev pub nack_value : ℕ → List ℕ → List ℕ

@@ -6,7 +6,8 @@ use Rattle.ndn_tlv.specs.Element.{Field}
 use Rattle.ndn_tlv.specs.Reading.{elements_of}
 use Rattle.ndn_tlv.proofs.Numbers.{IsBytes}
 use Rattle.ndn_tlv.proofs.Fields.{elements_exact, elements_read}
-use Rattle.ndn_packets.specs.Fields.{Fields, optional, is_even_high}
+use Rattle.ndn_tlv.specs.Writing.{optional}
+use Rattle.ndn_packets.specs.Fields.{Fields, is_even_high}
 use Rattle.ndn_packets.specs.Grammar.{IsNumber}
 use Rattle.ndn_packets.specs.Reading.{read_fields}
 use Rattle.ndn_packets.specs.Link.{nack_schema, IsNack}

@@ -13,7 +13,8 @@ use Rattle.ndn_packets.specs.declared.fault.PacketFault.{PacketFault}
 use Rattle.ndn_packets.specs.declared.fault.PacketFault.TheVariants.{Tlv, NoName, CriticalUnknown, BadField, NoNonce, DigestMissing, DigestWrong, DigestWithout}
 use Rattle.ndn_packets.specs.Packet.{PlainSignatureInfo, PlainInterest, PlainData, digests_in}
 use Rattle.ndn_packets.specs.Fields.{is_even_high, is_ignored_in_signature_info, interest_schema, data_schema, info_schema}
-use Rattle.ndn_packets.specs.Reading.{schema_after, on_option, fields_from, read_fields, is_nil, found_or, leading_name_at, name_value_at, InfoSoFar, take_info_field, no_info_yet, info_at, InterestSoFar, take_interest_field, no_fields_yet, interest_made, interest_at, DataSoFar, take_data_field, nothing_yet, data_at, digest_fault, octets_of_read, parameters_on}
+use Rattle.ndn_tlv.specs.Options.{on_option}
+use Rattle.ndn_packets.specs.Reading.{schema_after, fields_from, read_fields, is_nil, found_or, leading_name_at, name_value_at, InfoSoFar, take_info_field, no_info_yet, info_at, InterestSoFar, take_interest_field, no_fields_yet, interest_made, interest_at, DataSoFar, take_data_field, nothing_yet, data_at, digest_fault, octets_of_read, parameters_on}
 use Rattle.ndn_packets.specs.FirstFault.{Passes, AllPass}
 use Rattle.ndn_packets.specs.PacketFaults.{InfoFault, Leads, NameFault, DigestFault, InterestEndsWrong, AfterInterestName, InterestFault, AfterDataName, DataFault}
 use Rattle.ndn_packets.proofs.Steps.{bind_ok, good, read, err_is_not_ok, ok_is, some_is, none_is_not_some, lead}

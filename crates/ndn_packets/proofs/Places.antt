@@ -3,7 +3,8 @@ use Rattle.std.proofs.Common.{◌≡◌, ◌≢◌, ℕ, ◌⊎◌, Bool, true, 
 use Rattle.std.specs.List.{AllByRecursion}
 use Rattle.std.proofs.lemmas.Bool.{eqb-false}
 use Rattle.ndn_tlv.specs.Element.{Field}
-use Rattle.ndn_packets.specs.Fields.{Counts, Fields, needs_previous_field, optional, flag, interest_schema, data_schema}
+use Rattle.ndn_tlv.specs.Writing.{optional, flag}
+use Rattle.ndn_packets.specs.Fields.{Counts, Fields, needs_previous_field, interest_schema, data_schema}
 use Rattle.ndn_packets.proofs.FieldLists.{Lacks}
 
 -- ---- a type in a schema

@@ -8,7 +8,8 @@ use Rattle.ndn_tlv.proofs.Numbers.{IsBytes}
 use Rattle.ndn_tlv.proofs.Fields.{elements_exact, elements_read}
 use Rattle.ndn_packets.specs.declared.fault.PacketFault.TheVariants.{BadField}
 use Rattle.ndn_packets.specs.Packet.{PlainLocator, Missing, PlainSignatureInfo}
-use Rattle.ndn_packets.specs.Fields.{Fields, optional, is_ignored_in_signature_info, info_schema}
+use Rattle.ndn_tlv.specs.Writing.{optional}
+use Rattle.ndn_packets.specs.Fields.{Fields, is_ignored_in_signature_info, info_schema}
 use Rattle.ndn_packets.specs.Grammar.{IsNumber, IsLocator, IsSignatureInfo}
 use Rattle.ndn_packets.specs.Reading.{fields_from, read_fields, nni_value_at, InfoSoFar, no_info_yet, take_info_field, found_or, info_at}
 use Rattle.ndn_packets.proofs.Steps.{bind_ok, good, ok_is, found_some, some_is, none_is_not_some, IsBytes-fields}

@@ -20,9 +20,10 @@ use Rattle.ndn_packets.specs.declared.signature.Sign.{Sign}
 use Rattle.ndn_packets.specs.declared.signature.Sign.TheVariants as sign
 use Rattle.ndn_packets.specs.declared.data_writer.DataWriter.{DataWriter}
 use Rattle.ndn_names.specs.Name.{IsComponent, IsName, IsNameValue}
-use Rattle.ndn_packets.specs.Fields.{Counts, Fields, needs_previous_field, optional, flag, is_even_high, is_ignored_in_meta_info, is_ignored_in_signature_info, data_schema, meta_schema, info_schema}
+use Rattle.ndn_packets.specs.Fields.{Counts, Fields, needs_previous_field, is_even_high, is_ignored_in_meta_info, is_ignored_in_signature_info, data_schema, meta_schema, info_schema}
 use Rattle.ndn_packets.specs.Grammar.{IsPacket, IsNumber, IsLocator, IsMetaInfo, IsSignatureInfo, IsFreshness, IsData}
-use Rattle.ndn_packets.specs.Writing.{octets, number, kind_of, locator_of, locator_value, info_fields, info_asked, value_of, meta_of, meta_fields, data_fields, data_value, signed_data, plain_data_of, meta_asked, content_asked, data_text, data_asked, data_refusal, reply_text, reply_asked, IsSoundSign, SoundData}
+use Rattle.ndn_tlv.specs.Writing.{octets, number, optional, flag}
+use Rattle.ndn_packets.specs.Writing.{kind_of, locator_of, locator_value, info_fields, info_asked, value_of, meta_of, meta_fields, data_fields, data_value, signed_data, plain_data_of, meta_asked, content_asked, data_text, data_asked, data_refusal, reply_text, reply_asked, IsSoundSign, SoundData}
 use Rattle.ndn_packets.specs.Packet.{AData}
 use Rattle.ndn_packets.specs.Covered.{IsCut, Covered}
 use Rattle.ndn_packets.proofs.Steps.{both_tests}

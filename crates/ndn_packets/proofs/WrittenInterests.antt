@@ -18,11 +18,12 @@ use Rattle.ndn_packets.specs.declared.fault.WriteFault.TheVariants.{BadName, Too
 use Rattle.ndn_packets.specs.declared.signature.Sign.{Sign}
 use Rattle.ndn_packets.specs.declared.interest_writer.InterestWriter.{InterestWriter}
 use Rattle.ndn_packets.specs.Packet.{digests_in, PlainInterest, AnInterest}
-use Rattle.ndn_packets.specs.Fields.{optional, flag, is_even_high, interest_schema}
+use Rattle.ndn_packets.specs.Fields.{is_even_high, interest_schema}
 use Rattle.ndn_packets.specs.Grammar.{IsPacket, IsOctet, from_parameters, IsDigested, IsSigned, IsInterest}
 use Rattle.ndn_packets.specs.Covered.{CoversInterest, Covered}
 use Rattle.ndn_packets.specs.Reading.{is_nil}
-use Rattle.ndn_packets.specs.Writing.{octets, number, info_fields, info_asked, parameters_of, covered_fields, interest_value, later_fields, interest_name, interest_text, interest_asked, is_bad_name, interest_refusal, IsU64, IsSoundSign, SoundInterest}
+use Rattle.ndn_tlv.specs.Writing.{octets, number, optional, flag}
+use Rattle.ndn_packets.specs.Writing.{info_fields, info_asked, parameters_of, covered_fields, interest_value, later_fields, interest_name, interest_text, interest_asked, is_bad_name, interest_refusal, IsU64, IsSoundSign, SoundInterest}
 use Rattle.ndn_packets.proofs.Steps.{not_nil}
 use Rattle.ndn_packets.proofs.FieldLists.{MayBeBytes, AreBytes}
 use Rattle.ndn_packets.proofs.Lengths.{fields_are_long}

@@ -9,7 +9,8 @@ use Rattle.ndn_packets.specs.Packet.{PlainInterest, ANack}
 use Rattle.ndn_packets.specs.Fields.{is_even_high}
 use Rattle.ndn_packets.specs.Grammar.{IsInterest}
 use Rattle.ndn_packets.specs.Link.{nack_schema, IsNack, IsLinkPacket, IsFrame}
-use Rattle.ndn_packets.specs.Writing.{octets, number, nack_text}
+use Rattle.ndn_tlv.specs.Writing.{octets, number}
+use Rattle.ndn_packets.specs.Writing.{nack_text}
 use Rattle.ndn_packets.proofs.Written.{length-element, IsBytes-element, IsBytes-octets, in_order, last, number_fits, bytes_of_number}
 
 abbrev reason_text : ℕ → List ℕ

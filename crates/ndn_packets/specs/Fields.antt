@@ -1,7 +1,7 @@
 -- Which elements of a list are the fields of a schema (NDN Packet Format 0.3, "Considerations for
 -- Evolvability of TLV-Based Encoding"). What is ignored inside a MetaInfo and a SignatureInfo is
 -- this profile's choice.
-use Rattle.std.specs.Prelude.{◌≡◌, ◌≢◌, ℕ, ◌⊎◌, ◌%◌, List, [], ◌∷◌, ◌++◌, Option, None, Some, Bool, true, false, nat_le, ◌==◌, ◌&&◌, ◌||◌}
+use Rattle.std.specs.Prelude.{◌≡◌, ◌≢◌, ℕ, ◌⊎◌, ◌%◌, List, [], ◌∷◌, ◌++◌, Bool, true, nat_le, ◌==◌, ◌&&◌, ◌||◌}
 use Rattle.std.specs.List.{AllByRecursion}
 use Rattle.ndn_tlv.specs.Element.{Field}
 use Rattle.ndn_packets.specs.declared.types.TheConstants.{APPLICATION_PARAMETERS, CAN_BE_PREFIX, CONTENT, CONTENT_TYPE, FINAL_BLOCK_ID, FORWARDING_HINT, FRESHNESS_PERIOD, HOP_LIMIT, INTEREST_LIFETIME, INTEREST_SIGNATURE_INFO, INTEREST_SIGNATURE_VALUE, KEY_LOCATOR, META_INFO, MUST_BE_FRESH, NONCE, SIGNATURE_INFO, SIGNATURE_NONCE, SIGNATURE_SEQ_NUM, SIGNATURE_TIME, SIGNATURE_TYPE, SIGNATURE_VALUE, VALIDITY_PERIOD}
@@ -55,13 +55,3 @@ Fields ignores schema (e ∷ elements) fields =
     × Fields ignores later elements others)
     ⊎ (((later : List ℕ) → Counts e.0 later schema → ⊥) × (ignores e.0 ≡ true)
     × Fields ignores schema elements fields)
-
--- a field that may be absent
-abbrev pub optional : ℕ → Option (List ℕ) → List Field
-optional kind None = []
-optional kind (Some value) = (kind, value) ∷ []
-
--- a field without octets, which is there or not
-abbrev pub flag : ℕ → Bool → List Field
-flag kind true = (kind, []) ∷ []
-flag kind false = []

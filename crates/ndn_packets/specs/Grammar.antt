@@ -7,7 +7,8 @@ use Rattle.ndn_tlv.specs.Element.{Field, element, IsElement, IsElements}
 use Rattle.ndn_names.specs.declared.component_type.TheConstants.{PARAMETERS_SHA256_DIGEST}
 use Rattle.ndn_names.specs.Name.{IsNameValue}
 use Rattle.ndn_packets.specs.Packet.{digests_in}
-use Rattle.ndn_packets.specs.Fields.{Fields, optional, flag, is_even_high, is_ignored_in_meta_info, is_ignored_in_signature_info, interest_schema, data_schema, meta_schema, info_schema}
+use Rattle.ndn_tlv.specs.Writing.{optional, flag}
+use Rattle.ndn_packets.specs.Fields.{Fields, is_even_high, is_ignored_in_meta_info, is_ignored_in_signature_info, interest_schema, data_schema, meta_schema, info_schema}
 use Rattle.ndn_packets.specs.Packet.{PlainLocator, Missing, KeyName, Digest, Other, PlainSignatureInfo, PlainSignature, PlainInterest, PlainData}
 use Rattle.ndn_packets.specs.declared.types.TheConstants.{APPLICATION_PARAMETERS, CAN_BE_PREFIX, CONTENT, CONTENT_TYPE, DATA, FINAL_BLOCK_ID, FORWARDING_HINT, FRESHNESS_PERIOD, HOP_LIMIT, INTEREST, INTEREST_LIFETIME, INTEREST_SIGNATURE_INFO, INTEREST_SIGNATURE_VALUE, KEY_DIGEST, KEY_LOCATOR, META_INFO, MUST_BE_FRESH, NAME, NONCE, SIGNATURE_INFO, SIGNATURE_NONCE, SIGNATURE_SEQ_NUM, SIGNATURE_TIME, SIGNATURE_TYPE, SIGNATURE_VALUE}
 

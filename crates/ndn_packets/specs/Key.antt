@@ -2,15 +2,15 @@
 -- Interest Table").
 use Rattle.std.specs.Prelude.{◌≡◌, Bool, true, false, List, ◌++◌, refl}
 use mathlib.Core.Path.{ap}
-use Rattle.std.specs.Coded.{Coded, code_by, coded×, coded_list, coded_ℕ, coded_bool}
+use Rattle.std.specs.Coded.{Coded, code_by, coded×, coded_bool}
 use Rattle.std.specs.declared.cmp.Ordering.{Ordering}
-use Rattle.std.specs.declared.cmp.Ordering.TheVariants.{Less, Equal, Greater}
+use Rattle.std.specs.declared.cmp.Ordering.TheVariants.{Equal}
 use Rattle.std.specs.Cmp.{IsTotalOrder, on_total, then_total, bool_cmp_total, Equal-is}
 use Rattle.std.specs.FinMap.{IsAntisymmetric}
 use Rattle.std.specs.Hash.{HashWrites, bool}
-use Rattle.std.specs.Ordering.{ordering_then, on, then_cmp, bool_cmp, eq_by_cmp}
+use Rattle.std.specs.Ordering.{on, then_cmp, bool_cmp, eq_by_cmp}
 use Rattle.ndn_tlv.specs.Element.{Field}
-use Rattle.ndn_names.specs.Key.{name_cmp-total, name_cmp-antisymmetric, name_writes}
+use Rattle.ndn_names.specs.Key.{both_tie, name_cmp-total, name_cmp-antisymmetric, name_code, name_writes}
 use Rattle.ndn_names.specs.View.{components}
 use Rattle.ndn_names.specs.Order.{name_cmp}
 use Rattle.ndn_packets.specs.declared.key.Key.{Key}
@@ -46,7 +46,7 @@ key_cmp =
 abbrev pub key_code : Coded PlainKey
 key_code =
     code_by (List Field × (Bool × Bool))
-    (coded× (coded_list (coded× coded_ℕ (coded_list coded_ℕ))) (coded× coded_bool coded_bool))
+    (coded× name_code (coded× coded_bool coded_bool))
     (λ k. (k.name, (k.can_be_prefix, k.must_be_fresh)))
     (λ p. record { name = p.0; can_be_prefix = p.1.0; must_be_fresh = p.1.1 }) (λ _. refl)
 
@@ -56,13 +56,8 @@ key_cmp-total =
     (then_total (on_total (λ (k : PlainKey). k.can_be_prefix) bool_cmp_total)
     (on_total (λ (k : PlainKey). k.must_be_fresh) bool_cmp_total))
 
--- both of two orders tie
-both_tie : (o p : Ordering) → ordering_then o p ≡ Equal → (o ≡ Equal) × (p ≡ Equal)
-both_tie Less p e = absurd cc
-both_tie Equal p e = (refl, e)
-both_tie Greater p e = absurd cc
-
-bool_tie : (a b : Bool) → bool_cmp a b ≡ Equal → a ≡ b
+-- flags that tie
+pub bool_tie : (a b : Bool) → bool_cmp a b ≡ Equal → a ≡ b
 bool_tie true true e = refl
 bool_tie true false e = absurd cc
 bool_tie false true e = absurd cc

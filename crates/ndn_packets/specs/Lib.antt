@@ -5,6 +5,7 @@ pub mod Link
 pub mod View
 pub mod Key
 pub mod Answers
+pub mod FullName
 pub mod Reading
 pub mod FirstFault
 pub mod PacketFaults

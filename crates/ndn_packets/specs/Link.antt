@@ -5,7 +5,8 @@ use Rattle.std.specs.List.{AllByRecursion}
 use Rattle.ndn_tlv.specs.Number.{IsNni}
 use Rattle.ndn_tlv.specs.Element.{Field, IsElement, IsElements}
 use Rattle.ndn_packets.specs.Packet.{PlainFrame, AnInterest, AData, ANack, Idle}
-use Rattle.ndn_packets.specs.Fields.{Fields, optional, is_even_high}
+use Rattle.ndn_tlv.specs.Writing.{optional}
+use Rattle.ndn_packets.specs.Fields.{Fields, is_even_high}
 use Rattle.ndn_packets.specs.Grammar.{IsNumber, IsInterest, IsData}
 use Rattle.ndn_packets.specs.declared.types.TheConstants.{FRAGMENT, FRAG_COUNT, FRAG_INDEX, LINK_PACKET, NACK, NACK_REASON, PIT_TOKEN, SEQUENCE}
 

@@ -7,6 +7,7 @@ use Rattle.std.specs.Str.{bytes_eq}
 use Rattle.sha2.specs.Sha256.{sha256}
 use Rattle.ndn_tlv.specs.declared.fault.TlvFault.{TlvFault}
 use Rattle.ndn_tlv.specs.Element.{Field, element}
+use Rattle.ndn_tlv.specs.Options.{on_option}
 use Rattle.ndn_tlv.specs.Reading.{◌>>=◌, on_result, element_at, elements_of, nni_at}
 use Rattle.ndn_names.specs.declared.first_of_type.FirstOfType.{FirstOfType}
 use Rattle.ndn_names.specs.Reading.{name_at}
@@ -22,10 +23,6 @@ schema_after kind [] = None
 schema_after kind (first ∷ schema) =
     if first == kind then Some schema
     else (if needs_previous_field kind then None else schema_after kind schema)
-
-abbrev pub on_option : {A C : Type 0} → (A → C) → C → Option A → C
-on_option f c None = c
-on_option f c (Some x) = f x
 
 -- The fields of a schema among elements, in the schema's order, up to the end or to the first
 -- element that cannot be read or is refused, which is then the last.

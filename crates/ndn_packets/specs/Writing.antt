@@ -1,14 +1,12 @@
 -- What writers write (NDN Packet Format 0.3, "Interest Packet", "Data Packet", "Signature", "Signed
 -- Interest"; NDNLPv2, "Network Nack"): the fields that are asked for, each in its shortest form.
-use Rattle.std.specs.Prelude.{◌≡◌, ℕ, ◌<◌, ◌≤◌, ◌+◌, take, vec_len, Result, OnOk, IsOk, List, [], ◌∷◌, ◌++◌, ◌-◌, ◌^◌, min, length, replicate, Option, None, Some, IfSome, OnSome, slice_index, Bool, nat_lt, flat_map, unwrap_or, ⊤, ◌||◌, not, if◌then◌else◌}
+use Rattle.std.specs.Prelude.{◌≡◌, ℕ, ◌<◌, List, [], ◌∷◌, ◌++◌, ◌-◌, ◌^◌, min, length, replicate, Option, None, Some, IfSome, OnSome, slice_index, Bool, nat_lt, unwrap_or, ⊤, ◌||◌, not, if◌then◌else◌}
 use Rattle.std.specs.Option.{option_map}
 use Rattle.std.specs.Borrow.{Bor}
-use Rattle.std.specs.Global.{Vec}
-use Rattle.std.specs.Vec.{vec_capacity}
-use Rattle.ndn_tlv.specs.declared.memory.Memory.{Memory}
 use Rattle.sha2.specs.Sha256.{sha256}
 use Rattle.ndn_tlv.specs.Number.{shortest_nni}
 use Rattle.ndn_tlv.specs.Element.{Field, element}
+use Rattle.ndn_tlv.specs.Writing.{octets, optional, flag, number}
 use Rattle.ndn_names.specs.declared.component_type.TheConstants.{SEGMENT}
 use Rattle.ndn_names.specs.declared.name.Name.{Name}
 use Rattle.ndn_names.specs.View.{components}
@@ -21,25 +19,9 @@ use Rattle.ndn_packets.specs.declared.signature.Sign.TheVariants as sign
 use Rattle.ndn_packets.specs.declared.interest_writer.InterestWriter.{InterestWriter}
 use Rattle.ndn_packets.specs.declared.data_writer.DataWriter.{DataWriter}
 use Rattle.ndn_packets.specs.Packet.{digests_in, PlainLocator, Missing, KeyName, PlainSignatureInfo, PlainInterest, PlainData, AnInterest, AData}
-use Rattle.ndn_packets.specs.Fields.{optional, flag}
 use Rattle.ndn_packets.specs.Covered.{Covered}
 use Rattle.ndn_packets.specs.Reading.{is_nil}
 use Rattle.ndn_packets.specs.declared.types.TheConstants.{DIGEST_SHA256, HMAC_WITH_SHA256, APPLICATION_PARAMETERS, CAN_BE_PREFIX, CONTENT, DATA, FINAL_BLOCK_ID, FRAGMENT, FRESHNESS_PERIOD, HOP_LIMIT, INTEREST, INTEREST_LIFETIME, INTEREST_SIGNATURE_INFO, INTEREST_SIGNATURE_VALUE, KEY_LOCATOR, LINK_PACKET, META_INFO, MUST_BE_FRESH, NACK, NACK_REASON, NAME, NONCE, SIGNATURE_INFO, SIGNATURE_SEQ_NUM, SIGNATURE_TIME, SIGNATURE_TYPE, SIGNATURE_VALUE}
-
-abbrev pub octets : List Field → List ℕ
-octets fields = flat_map element fields
-
-abbrev pub number : ℕ → Option ℕ → List Field
-number kind n = optional kind (option_map shortest_nni n)
-
--- These octets are appended, where memory is not refused; else some octets of them may be. Where
--- there is room, memory is not refused.
-pub record Puts (old new : Vec ℕ) (result : Result (Unit {0}) Memory) (octets : List ℕ) : Type 0
-  where
-    pub ok : OnOk result (new.items ≡ old.items ++ octets)
-    pub begins : take (vec_len old) new.items ≡ old.items
-    pub room : vec_len old + length octets ≤ vec_capacity old → IsOk result
-    pub capacity : vec_capacity old ≤ vec_capacity new
 
 -- ---- signatures
 

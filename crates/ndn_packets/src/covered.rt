@@ -7,10 +7,8 @@ ghost use Rattle.ndn_packets.specs.Covered.{from_first, Covered, EndsInDigest, E
 
 use crate::data::Data;
 use crate::interest::Interest;
+use crate::writing::DIGEST_COMPONENT_LEN;
 use ndn_tlv::first_element;
-
-/// The octets of the component that is a digest: its type, its length and 32 more.
-const DIGEST_LEN: usize = 34;
 
 /// The covered octets, which are the first ones and then the second ones.
 #[derive(Clone, Copy, Debug, PartialEq, Eq)]
@@ -57,7 +55,7 @@ impl<'a> Interest<'a> {
         let second = self.covered?;
         let name = self.name.as_octets();
         Some(Parts {
-            first: &name[..name.len() - DIGEST_LEN],
+            first: &name[..name.len() - DIGEST_COMPONENT_LEN],
             second,
         })
     }

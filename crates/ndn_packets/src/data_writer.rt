@@ -2,8 +2,8 @@ ghost use Rattle.std.specs.Vec.{vec_capacity};
 ghost use Rattle.std.specs.Prelude.{◌≡◌, ◌+◌, ◌≤◌, ◌++◌, IsOk, length, vec_len, OnOk, OnErr};
 ghost use Rattle.ndn_names.specs.View.{components};
 ghost use Rattle.ndn_packets.specs.Grammar.{IsData};
-ghost use Rattle.ndn_packets.specs.Fields.{optional};
-ghost use Rattle.ndn_packets.specs.Writing.{octets, last_fields, reply_text, reply_asked, reply_of, SignsReply, IsU64, Puts};
+ghost use Rattle.ndn_tlv.specs.Writing.{octets, Puts, optional};
+ghost use Rattle.ndn_packets.specs.Writing.{last_fields, reply_text, reply_asked, reply_of, SignsReply, IsU64};
 
 use crate::fault::WriteFault;
 use crate::frame::MAX_PACKET;
@@ -13,12 +13,14 @@ use crate::types::{
     SIGNATURE_VALUE,
 };
 use crate::writing::{
-    DIGEST_LEN, element_len, info_len, name_element_len, nni_element_len, number_field_len,
-    optional_len, put_header, put_info, put_nni_element, put_number_field, put_optional,
+    DIGEST_LEN, element_len, info_len, name_element_len, number_field_len, optional_len, put_info,
+    put_optional,
 };
 use ndn_names::Name;
 use ndn_names::component_type::SEGMENT;
-use ndn_tlv::{Memory, put_element};
+use ndn_tlv::{
+    Memory, nni_element_len, put_element, put_header, put_nni_element, put_number_field,
+};
 
 /// A Data to write (NDN Packet Format 0.3, "Data Packet").
 #[derive(Clone, Copy, Debug)]
@@ -42,8 +44,8 @@ impl DataWriter<'_> {
     ghost use Rattle.ndn_packets.specs.Grammar.{IsData};
     ghost use Rattle.ndn_packets.specs.Packet.{AData};
     ghost use Rattle.ndn_packets.specs.Covered.{Covered};
-    ghost use Rattle.ndn_packets.specs.Fields.{optional};
-    ghost use Rattle.ndn_packets.specs.Writing.{octets, fields_covered, fields_asked, meta_fields, meta_asked, data_text, data_asked, data_refusal, IsLength, IsU64, SoundData, Puts};
+    ghost use Rattle.ndn_tlv.specs.Writing.{octets, Puts, optional};
+    ghost use Rattle.ndn_packets.specs.Writing.{fields_covered, fields_asked, meta_fields, meta_asked, data_text, data_asked, data_refusal, IsLength, IsU64, SoundData};
 
     /// Appends the Data, its fields in the standard's order and in their shortest forms, and none
     /// that is not asked for: without a FreshnessPeriod and a last segment there is no MetaInfo.

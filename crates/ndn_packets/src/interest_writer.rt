@@ -2,10 +2,10 @@ ghost use Rattle.std.specs.Vec.{vec_capacity};
 ghost use Rattle.std.specs.Prelude.{◌≡◌, ◌-◌, ◌+◌, ◌<◌, ◌≤◌, ◌++◌, [], ◌∷◌, drop, length, take, vec_len, option_map, IsOk, OnOk, MatchOption, IfSome, true, false};
 ghost use Rattle.sha2.specs.Sha256.{sha256};
 ghost use Rattle.ndn_names.specs.View.{components};
-ghost use Rattle.ndn_packets.specs.Fields.{optional, flag};
 ghost use Rattle.ndn_packets.specs.Packet.{digests_in};
 ghost use Rattle.ndn_packets.specs.Reading.{is_nil};
-ghost use Rattle.ndn_packets.specs.Writing.{octets, IsLength, Puts};
+ghost use Rattle.ndn_tlv.specs.Writing.{octets, Puts, optional, flag};
+ghost use Rattle.ndn_packets.specs.Writing.{IsLength};
 
 use crate::fault::WriteFault;
 use crate::frame::MAX_PACKET;
@@ -16,11 +16,11 @@ use crate::types::{
 };
 use crate::writing::{
     DIGEST_LEN, element_len, info_len, number_field_len, octets_len, optional_len, overwrite,
-    put_header, put_info, put_number_field, put_optional,
+    put_info, put_optional,
 };
 use ndn_names::component_type::PARAMETERS_SHA256_DIGEST;
 use ndn_names::{MAX_COMPONENTS, Name};
-use ndn_tlv::{Memory, put_element};
+use ndn_tlv::{Memory, put_element, put_flag, put_header, put_number_field};
 use sha2::{Digest, Sha256};
 
 /// An Interest to write (NDN Packet Format 0.3, "Interest Packet").
@@ -58,7 +58,8 @@ impl InterestWriter<'_> {
     ghost use Rattle.std.specs.Prelude.{◌≡◌, ◌<◌, ◌≤◌, ◌+◌, ◌++◌, [], ◌∷◌, true, false, length, take, vec_len, IsOk, not, unwrap_or, option_map, None, OnOk, OnErr, Err, MatchOption, IfErr, IfSome, OnSome};
     ghost use Rattle.ndn_names.specs.View.{components};
     ghost use Rattle.ndn_packets.specs.Grammar.{IsInterest};
-    ghost use Rattle.ndn_packets.specs.Writing.{octets, is_bad_name, early_fields, later_fields, covered_fields, interest_value, interest_name, interest_fields, zeroed_name, interest_text, interest_asked, interest_refusal, IsLength, AreOctets, IsU64, IsSoundSign, SignsInterest, SoundInterest, Puts};
+    ghost use Rattle.ndn_tlv.specs.Writing.{octets, Puts};
+    ghost use Rattle.ndn_packets.specs.Writing.{is_bad_name, early_fields, later_fields, covered_fields, interest_value, interest_name, interest_fields, zeroed_name, interest_text, interest_asked, interest_refusal, IsLength, AreOctets, IsU64, IsSoundSign, SignsInterest, SoundInterest};
     ghost use Rattle.ndn_packets.specs.Reading.{is_nil};
     ghost use Rattle.ndn_tlv.specs.Element.{element};
 
@@ -381,16 +382,4 @@ fn put_octet_field(out: &mut Vec<u8>, kind: u32, octet: Option<u8>) -> Result<()
             Ok(())
         }
     }
-}
-
-/// Appends a flag, where it is set, or some octets of it.
-#[inline(always)]
-fn put_flag(out: &mut Vec<u8>, kind: u32, set: bool) -> Result<(), Memory>
-    requires { 1 ≤ kind }
-    ensures { Puts out.old out.new result (octets (flag kind set)) }
-{
-    if set {
-        return put_header(out, kind, 0);
-    }
-    Ok(())
 }

@@ -3,12 +3,14 @@
 #![tactic(auto)]
 
 mod answers;
+pub mod command_types;
 mod covered;
 mod data;
 mod data_writer;
 mod fault;
 mod field_reader;
 mod frame;
+mod full_name;
 mod hop_limit;
 mod interest;
 mod interest_writer;
@@ -17,7 +19,7 @@ mod link;
 mod meta_info;
 mod schema;
 mod signature;
-mod types;
+pub mod types;
 mod writing;
 
 pub use answers::answers_can_be_tested;
@@ -30,6 +32,7 @@ pub use frame::{
     Frame, MAX_FRAME, MAX_PACKET, frames_have_one_reading, frames_tell_the_first_fault,
     packets_in_hand_are_read, read_frame,
 };
+pub use full_name::FullName;
 pub use hop_limit::hop_limit_mut;
 pub use interest::Interest;
 pub use interest_writer::InterestWriter;

@@ -9,7 +9,8 @@ ghost use Rattle.ndn_packets.specs.View.{plain_frame};
 ghost use Rattle.ndn_packets.specs.Grammar.{IsInterest};
 ghost use Rattle.ndn_packets.specs.Link.{IsFrame, is_ignored_header};
 ghost use Rattle.ndn_packets.specs.FrameReading.{LinkSoFar, at_most, nack_at, fragment_at, last_of, link_at};
-ghost use Rattle.ndn_packets.specs.Writing.{nack_field, nack_text, IsLength, Puts};
+ghost use Rattle.ndn_tlv.specs.Writing.{Puts};
+ghost use Rattle.ndn_packets.specs.Writing.{nack_field, nack_text, IsLength};
 
 use crate::fault::PacketFault;
 use crate::field_reader::{FieldReader, number};
@@ -18,8 +19,10 @@ use crate::schema::Rules;
 use crate::types::{
     FRAG_COUNT, FRAG_INDEX, FRAGMENT, LINK_PACKET, NACK, NACK_REASON, PIT_TOKEN, SEQUENCE,
 };
-use crate::writing::{element_len, nni_element_len, put_header, put_nni_element};
-use ndn_tlv::{Element, Memory, first_element, put_element};
+use crate::writing::element_len;
+use ndn_tlv::{
+    Element, Memory, first_element, nni_element_len, put_element, put_header, put_nni_element,
+};
 
 /// The greatest type of a header field that is ignored.
 const MAX_IGNORED: u32 = 959;
@@ -222,7 +225,7 @@ fn nack_value_len(reason: u64, interest: &[u8]) -> usize
     nack_len.saturating_add(element_len(FRAGMENT, interest.len()))
 }
 
-#[tactic(auto, using(crate::proofs::Lengths::element_put))]
+#[tactic(auto, using(ndn_tlv::proofs::Lengths::element_put))]
 /// Appends the header field of a Nack of a reason, or some octets of it.
 fn put_reason(out: &mut Vec<u8>, reason: u64) -> Result<(), Memory>
     ensures { Puts out.old out.new result (nack_field reason) }

@@ -1,5 +1,7 @@
 //! Numbers that the standards assign: TLV-TYPEs, SignatureTypes and NackReasons.
 
+ghost use Rattle.std.specs.Prelude.{◌≡◌};
+
 /// Packets (NDN Packet Format 0.3, "TLV-TYPE Number Assignments").
 pub const INTEREST: u32 = 5;
 
@@ -91,3 +93,24 @@ pub const CONGESTION: u64 = 50;
 pub const DUPLICATE: u64 = 100;
 
 pub const NO_ROUTE: u64 = 150;
+
+/// Law: these are the numbers that the standards assign (NDN Packet Format 0.3, "TLV-TYPE Number
+/// Assignments" and "Signature"; NDNLPv2, "Packet Format" and "Network Nack"; NDN Certificate Format
+/// 2.0 for the ValidityPeriod).
+pub fn packet_types_are_as_assigned()
+    ensures packets { (INTEREST ≡ 5) × (DATA ≡ 6) × (NAME ≡ 7) }
+    ensures interest { (CAN_BE_PREFIX ≡ 33) × (MUST_BE_FRESH ≡ 18) × (FORWARDING_HINT ≡ 30)
+        × (NONCE ≡ 10) × (INTEREST_LIFETIME ≡ 12) × (HOP_LIMIT ≡ 34) }
+    ensures parameters { (APPLICATION_PARAMETERS ≡ 36) × (INTEREST_SIGNATURE_INFO ≡ 44)
+        × (INTEREST_SIGNATURE_VALUE ≡ 46) }
+    ensures data_fields { (META_INFO ≡ 20) × (CONTENT ≡ 21) × (SIGNATURE_INFO ≡ 22)
+        × (SIGNATURE_VALUE ≡ 23) }
+    ensures meta_info { (CONTENT_TYPE ≡ 24) × (FRESHNESS_PERIOD ≡ 25) × (FINAL_BLOCK_ID ≡ 26) }
+    ensures signature_info { (SIGNATURE_TYPE ≡ 27) × (KEY_LOCATOR ≡ 28) × (KEY_DIGEST ≡ 29)
+        × (SIGNATURE_NONCE ≡ 38) × (SIGNATURE_TIME ≡ 40) × (SIGNATURE_SEQ_NUM ≡ 42)
+        × (VALIDITY_PERIOD ≡ 253) }
+    ensures signature_types { (DIGEST_SHA256 ≡ 0) × (HMAC_WITH_SHA256 ≡ 4) }
+    ensures link { (LINK_PACKET ≡ 100) × (FRAGMENT ≡ 80) × (SEQUENCE ≡ 81) × (FRAG_INDEX ≡ 82)
+        × (FRAG_COUNT ≡ 83) × (PIT_TOKEN ≡ 98) × (NACK ≡ 800) × (NACK_REASON ≡ 801) }
+    ensures reasons { (CONGESTION ≡ 50) × (DUPLICATE ≡ 100) × (NO_ROUTE ≡ 150) }
+{}

@@ -5,8 +5,8 @@ ghost use Rattle.std.specs.Prelude.{◌≡◌, ◌<◌, ◌≤◌, ◌+◌, ◌^
 ghost use Rattle.ndn_tlv.specs.Number.{spelling, shortest_nni};
 ghost use Rattle.ndn_tlv.specs.Element.{element};
 ghost use Rattle.ndn_names.specs.View.{components};
-ghost use Rattle.ndn_packets.specs.Fields.{optional};
-ghost use Rattle.ndn_packets.specs.Writing.{octets, number, kind_of, locator_fields, info_fields, IsLength, AreOctets, IsU64, IsSoundSign, Puts};
+ghost use Rattle.ndn_tlv.specs.Writing.{octets, number, Puts, optional};
+ghost use Rattle.ndn_packets.specs.Writing.{kind_of, locator_fields, info_fields, IsLength, AreOctets, IsU64, IsSoundSign};
 
 use crate::signature::Sign;
 use crate::types::{
@@ -14,10 +14,15 @@ use crate::types::{
     SIGNATURE_TYPE,
 };
 use ndn_names::Name;
-use ndn_tlv::{Memory, nni_len, number_len, put_element, put_nni, put_number};
+use ndn_tlv::{
+    Memory, nni_element_len, number_len, put_element, put_header, put_nni_element, put_number_field,
+};
 
 /// The length of a SHA-256 digest, in octets.
 pub const DIGEST_LEN: usize = 32;
+
+/// The length of a component that is a digest: its type, its length and the digest, in octets.
+pub const DIGEST_COMPONENT_LEN: usize = 34;
 
 /// The length of octets.
 #[inline(always)]
@@ -29,7 +34,7 @@ pub fn octets_len(octets: &[u8]) -> usize
     octets.len()
 }
 
-#[tactic(auto, using(crate::proofs::Lengths::header_lengths, crate::proofs::Lengths::element_is_long))]
+#[tactic(auto, using(ndn_tlv::proofs::Lengths::header_lengths, crate::proofs::Lengths::element_is_long))]
 /// The length of an element whose value has this length. It stops at `usize::MAX`.
 #[inline(always)]
 pub fn element_len(kind: u32, value_len: usize) -> usize
@@ -50,18 +55,6 @@ pub fn optional_len(kind: u32, value: Option<&[u8]>) -> usize
         None => 0,
         Some(value) => element_len(kind, octets_len(value)),
     }
-}
-
-#[tactic(auto, using(crate::proofs::Lengths::header_lengths))]
-/// The length of an element whose value is a number.
-#[inline(always)]
-pub fn nni_element_len(kind: u32, number: u64) -> usize
-    ensures exact { result ≡ length (element (kind, shortest_nni number)) }
-    ensures small { result ≤ 26 }
-    ensures sound { number < 2 ^ 64 }
-{
-    let value_len = nni_len(number);
-    number_len(u64::from(kind)) + number_len(value_len as u64) + value_len
 }
 
 /// The length of a number's field that may be absent.
@@ -120,37 +113,6 @@ pub fn info_len(sign: Sign<'_>, time: Option<u64>, seq: Option<u64>) -> usize
         + number_field_len(SIGNATURE_TIME, time)
         + number_field_len(SIGNATURE_SEQ_NUM, seq);
     locator_len(sign).saturating_add(numbers_len)
-}
-
-/// Appends the type of an element and the length of its value, or some octets of them.
-#[inline(always)]
-pub fn put_header(out: &mut Vec<u8>, kind: u32, value_len: usize) -> Result<(), Memory>
-    ensures { Puts out.old out.new result (spelling kind ++ spelling value_len) }
-{
-    put_number(out, u64::from(kind))?;
-    put_number(out, value_len as u64)?;
-    Ok(())
-}
-
-/// Appends an element whose value is a number, or some octets of it.
-#[inline(always)]
-pub fn put_nni_element(out: &mut Vec<u8>, kind: u32, number: u64) -> Result<(), Memory>
-    ensures { Puts out.old out.new result (element (kind, shortest_nni number)) }
-{
-    put_header(out, kind, nni_len(number))?;
-    put_nni(out, number)?;
-    Ok(())
-}
-
-/// Appends a number's field, where it is there, or some octets of it.
-#[inline(always)]
-pub fn put_number_field(out: &mut Vec<u8>, kind: u32, asked: Option<u64>) -> Result<(), Memory>
-    ensures { Puts out.old out.new result (octets (number kind asked)) }
-{
-    match asked {
-        None => Ok(()),
-        Some(number) => put_nni_element(out, kind, number),
-    }
 }
 
 /// Appends a field, where it is there, or some octets of it.

@@ -1,6 +1,7 @@
 use Rattle.std.specs.Prelude.{None}
 use Rattle.ndn_names.specs.View.{components}
-use Rattle.ndn_packets.specs.Writing.{octets, meta_asked, content_asked, info_fields}
+use Rattle.ndn_tlv.specs.Writing.{octets}
+use Rattle.ndn_packets.specs.Writing.{meta_asked, content_asked, info_fields}
 use Rattle.ndn_packets.proofs.DataWriting.{covered_is_long}
 use Rattle.ndn_packets.proofs.data_writer.DataWriter.covered_len.Goals as goal
 

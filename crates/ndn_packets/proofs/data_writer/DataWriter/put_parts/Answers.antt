@@ -3,8 +3,10 @@ use Rattle.std.proofs.Common.{rules, ◌≡◌, ◌∙◌, ◌++◌, ℕ, arith,
 use Rattle.std.proofs.lemmas.List.{length-append}
 use Rattle.ndn_tlv.specs.Number.{spelling}
 use Rattle.ndn_names.specs.View.{components}
-use Rattle.ndn_packets.specs.Writing.{octets, fields_covered, data_value, meta_asked, content_asked}
-use Rattle.ndn_packets.proofs.Lengths.{length-element, length-value_of}
+use Rattle.ndn_tlv.specs.Writing.{octets}
+use Rattle.ndn_packets.specs.Writing.{fields_covered, data_value, meta_asked, content_asked}
+use Rattle.ndn_tlv.proofs.Lengths.{length-element}
+use Rattle.ndn_packets.proofs.Lengths.{length-value_of}
 use Rattle.ndn_packets.proofs.DataWriting.{packet_parts}
 use Rattle.ndn_packets.proofs.data_writer.DataWriter.put_parts.Goals as goal
 

@@ -1,6 +1,7 @@
 use Rattle.std.proofs.Common.{arith}
 use Rattle.ndn_names.specs.View.{components}
-use Rattle.ndn_packets.specs.Writing.{meta_asked, content_asked, data_fields, data_value, octets}
+use Rattle.ndn_tlv.specs.Writing.{octets}
+use Rattle.ndn_packets.specs.Writing.{meta_asked, content_asked, data_fields, data_value}
 use Rattle.ndn_packets.proofs.Lengths.{length-value_of}
 use Rattle.ndn_packets.proofs.DataWriting.{signed_is_long}
 use Rattle.ndn_packets.proofs.data_writer.DataWriter.value_len.Goals as goal

@@ -1,6 +1,6 @@
 use Rattle.std.proofs.Common.{[], ◌∷◌, arith}
 use Rattle.std.specs.Option.{option_map}
-use Rattle.ndn_packets.specs.Writing.{octets, number}
+use Rattle.ndn_tlv.specs.Writing.{octets, number}
 use Rattle.ndn_packets.proofs.Lengths.{exact_is_long}
 use Rattle.ndn_packets.proofs.InterestWriting.{early_is_long}
 use Rattle.ndn_packets.proofs.interest_writer.InterestWriter.early_len.Goals as goal

@@ -2,7 +2,8 @@ use Rattle.std.proofs.Common.{ℕ, List, subst, [], ◌++◌, arith}
 use Rattle.ndn_names.specs.View.{components}
 use Rattle.std.specs.Prelude.{unwrap_or}
 use Rattle.std.specs.Option.{option_map}
-use Rattle.ndn_packets.specs.Writing.{octets, info_fields, covered_fields, interest_value, IsLength, AreOctets}
+use Rattle.ndn_tlv.specs.Writing.{octets}
+use Rattle.ndn_packets.specs.Writing.{info_fields, covered_fields, interest_value, IsLength, AreOctets}
 use Rattle.ndn_packets.proofs.Lengths.{length-value_of}
 use Rattle.ndn_packets.proofs.InterestWriting.{later_is_long, parameters_are_sound}
 use Rattle.ndn_packets.proofs.interest_writer.InterestWriter.later_len.Goals as goal

@@ -1,4 +1,5 @@
-use Rattle.ndn_packets.specs.Writing.{octets, interest_name, early_fields, later_fields}
+use Rattle.ndn_tlv.specs.Writing.{octets}
+use Rattle.ndn_packets.specs.Writing.{interest_name, early_fields, later_fields}
 use Rattle.ndn_packets.proofs.InterestWriting.{value_is_long}
 use Rattle.ndn_packets.proofs.interest_writer.InterestWriter.lengths.Goals as goal
 

@@ -4,7 +4,8 @@ use Rattle.sha2.specs.Sha256.{sha256}
 use Rattle.sha2.proofs.Facts256.{length-sha256}
 use Rattle.ndn_names.specs.View.{components}
 use Rattle.ndn_packets.specs.Reading.{is_nil}
-use Rattle.ndn_packets.specs.Writing.{octets, later_fields, IsLength}
+use Rattle.ndn_tlv.specs.Writing.{octets}
+use Rattle.ndn_packets.specs.Writing.{later_fields, IsLength}
 use Rattle.ndn_packets.proofs.Lengths.{name_is_long, sum_is_long}
 use Rattle.ndn_packets.proofs.InterestWriting.{with_digest_octets}
 use Rattle.ndn_packets.proofs.interest_writer.InterestWriter.name_len.Goals as goal

@@ -3,9 +3,8 @@ use Rattle.std.proofs.Common.{[], ◌∷◌, ◌++◌, rules, append_assoc, vec_
 use Rattle.std.specs.Option.{option_map}
 use Rattle.std.proofs.lemmas.List.{length-append}
 use Rattle.ndn_tlv.specs.Element.{element}
-use Rattle.ndn_packets.specs.Fields.{flag}
-use Rattle.ndn_packets.specs.Writing.{octets, number}
-use Rattle.ndn_packets.proofs.Lengths.{begins_more}
+use Rattle.ndn_tlv.specs.Writing.{octets, number, flag}
+use Rattle.ndn_tlv.proofs.Lengths.{begins_more}
 use Rattle.ndn_packets.proofs.InterestWriting.{early_length, early_put}
 use Rattle.ndn_packets.proofs.interest_writer.InterestWriter.put_early.Goals as goal
 

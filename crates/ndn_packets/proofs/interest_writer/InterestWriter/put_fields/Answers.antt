@@ -5,7 +5,8 @@ use Rattle.std.proofs.lemmas.List.{length-append, take_at}
 use Rattle.ndn_names.specs.View.{components}
 use Rattle.ndn_tlv.specs.Element.{element}
 use Rattle.ndn_packets.specs.Reading.{is_nil}
-use Rattle.ndn_packets.specs.Writing.{octets, early_fields, later_fields, name_with}
+use Rattle.ndn_tlv.specs.Writing.{octets}
+use Rattle.ndn_packets.specs.Writing.{early_fields, later_fields, name_with}
 use Rattle.ndn_packets.proofs.InterestWriting.{zeroed_value, zeroed_holds_digest, digest_put}
 use Rattle.ndn_packets.proofs.interest_writer.InterestWriter.put_fields.Goals as goal
 

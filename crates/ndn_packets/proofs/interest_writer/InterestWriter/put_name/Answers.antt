@@ -6,7 +6,8 @@ use Rattle.ndn_names.specs.View.{components}
 use Rattle.ndn_tlv.specs.Number.{spelling}
 use Rattle.ndn_tlv.specs.Element.{element}
 use Rattle.ndn_packets.specs.Reading.{is_nil}
-use Rattle.ndn_packets.specs.Writing.{octets, later_fields, name_with}
+use Rattle.ndn_tlv.specs.Writing.{octets}
+use Rattle.ndn_packets.specs.Writing.{later_fields, name_with}
 use Rattle.ndn_packets.proofs.InterestWriting.{zeroed_is_long, zeroed_begin, zeroed_put}
 use Rattle.ndn_packets.proofs.interest_writer.InterestWriter.put_name.Goals as goal
 

@@ -1,0 +1,47 @@
+-- Full names, as a name and the implicit digest of its Data, and their octets, of which the last 34
+-- are the digest component (NDN Packet Format 0.3, "Name", "Implicit Digest Component").
+use Rattle.std.specs.Prelude.{◌≡◌, ℕ, ◌-◌, ◌≤◌, List, length, take, drop, refl}
+use Rattle.std.specs.Coded.{Coded, code_by, coded×, coded_list, coded_ℕ}
+use Rattle.std.specs.List.{AllByRecursion}
+use Rattle.ndn_tlv.specs.Element.{Field, IsField}
+use Rattle.ndn_names.specs.Key.{name_code}
+use Rattle.ndn_names.specs.Name.{components_of, octets_of}
+use Rattle.ndn_packets.specs.Answers.{full_name}
+
+pub record PlainFullName : Type 0 where
+  pub name : List Field
+  pub digest : List ℕ
+
+-- its components: those of the name and the digest
+abbrev pub all_components : PlainFullName → List Field
+all_components f = full_name f.name f.digest
+
+abbrev pub full_name_code : Coded PlainFullName
+full_name_code =
+    code_by (List Field × List ℕ) (coded× name_code (coded_list coded_ℕ))
+    (λ f. (f.name, f.digest)) (λ p. record { name = p.0; digest = p.1 }) (λ _. refl)
+
+-- ---- octets
+
+abbrev pub name_octets : List ℕ → List ℕ
+name_octets full = take (length full - 34) full
+
+abbrev pub name_in : List ℕ → List Field
+name_in full = components_of (name_octets full)
+
+abbrev pub digest_in : List ℕ → List ℕ
+digest_in full = drop (length full - 32) full
+
+abbrev pub full_name_in : List ℕ → List Field
+full_name_in full = full_name (name_in full) (digest_in full)
+
+-- the octets are those of a full name
+pub record IsFullName (full : List ℕ) : Type 0 where
+  pub long : 34 ≤ length full
+  pub name : name_octets full ≡ octets_of (name_in full)
+  pub whole : full ≡ octets_of (full_name_in full)
+  pub fields : AllByRecursion IsField (full_name_in full)
+
+-- what they show
+abbrev pub shown : List ℕ → PlainFullName
+shown full = record { name = name_in full; digest = digest_in full }
