@@ -56,12 +56,12 @@ impl Pattern {
             (λ captures. (parts : List PlainPart) → NeedAtMost (length self.now.groups) parts
             → AreThere captures (components name.entry) parts) }
     {
-        let mut tests = 0;
-        self.find(name, &mut tests)
+        let mut steps = 0;
+        self.matches_counted(name, &mut steps)
     }
 
-    /// The same. For each atom, implied ones included, and each component it adds one to the steps:
-    /// a match tests each atom against each component once at most.
+    /// The same. Each test of an atom against a component adds one to the steps, and each atom,
+    /// implied ones included, is tested against each component once at most.
     pub fn matches_counted(&self, name: Name<'_>, steps: &mut u64) -> Option<Captures>
         requires { steps.old + 1000000 < 2 ^ 64 }
         ensures found { IfSome result (Match self.now (components name.entry)) }
@@ -69,28 +69,11 @@ impl Pattern {
         ensures there { IfSome result
             (λ captures. (parts : List PlainPart) → NeedAtMost (length self.now.groups) parts
             → AreThere captures (components name.entry) parts) }
+        ensures counted { steps.old ≤ steps.new }
         ensures cost { steps.new
-            ≡ steps.old + length self.now.atoms * length (components name.entry) }
+            ≤ steps.old + length self.now.atoms * length (components name.entry) }
     {
-        let most = *steps + (self.atoms.len() * name.len()) as u64;
-        let found = self.find(name, steps);
-        prove!(*steps <= most);
-        *steps = most;
-        found
-    }
-
-    /// The match. Each test of an atom against a component adds one to the tests.
-    fn find(&self, name: Name<'_>, tests: &mut u64) -> Option<Captures>
-        requires { tests.old + 1000000 < 2 ^ 64 }
-        ensures found { IfSome result (Match self.now (components name.entry)) }
-        ensures none { IfNone result (HasNoSplit self.now.atoms (components name.entry)) }
-        ensures there { IfSome result
-            (λ captures. (parts : List PlainPart) → NeedAtMost (length self.now.groups) parts
-            → AreThere captures (components name.entry) parts) }
-        ensures cost { tests.new
-            ≤ tests.old + length self.now.atoms * length (components name.entry) }
-    {
-        let (starts, len) = first_split(&self.atoms, name, tests)?;
+        let (starts, len) = first_split(&self.atoms, name, steps)?;
         Some(self.captures(&starts, len))
     }
 

@@ -55,6 +55,7 @@ fn passed(test: &Test, name: Name<'_>, len: usize, tests: &mut u64) -> Places
     requires room { tests.old + 64 < 2 ^ 64 }
     ensures exact { ArePassed (test_of test.now) (components name.entry) result }
     ensures small { result < 2 ^ 64 }
+    ensures counted { tests.old ≤ tests.new }
     ensures cost { tests.new ≤ tests.old + length (components name.entry) }
 {
     if test.is_anything() {
@@ -161,6 +162,7 @@ fn fill(
         → IsTable first (map atom_of atoms.now) (components name.entry) table.new }
     ensures none { result ≡ false
         → AreSplit (drop first (map atom_of atoms.now)) (components name.entry) 0 }
+    ensures counted { tests.old ≤ tests.new }
     ensures cost { tests.new + first * length (components name.entry)
         ≤ tests.old + length atoms.now * length (components name.entry) }
 {
@@ -196,6 +198,7 @@ fn take_singles(
         ≡ drop i (components_left components.old)) }
     ensures none { IfNone result
         (greedy (map atom_of atoms.now) (components_left components.old) ≡ None) }
+    ensures counted { tests.old ≤ tests.new }
     ensures cost { MatchOption result
         (tests.new ≤ tests.old + length atoms.now * length (components_left components.old))
         (λ i. tests.new ≤ tests.old + i) }
@@ -231,6 +234,7 @@ fn take_others(
     ensures taken { IfSome result (λ place. AreTaken (map atom_of atoms.now)
         (components name.entry) (length atoms.now) place starts.new) }
     ensures none { IfNone result (greedy (map atom_of atoms.now) (components name.entry) ≡ None) }
+    ensures counted { tests.old ≤ tests.new }
     ensures cost { tests.new + first * length (components name.entry)
         ≤ tests.old + length atoms.now * length (components name.entry) }
 {
@@ -270,6 +274,7 @@ pub fn first_split(atoms: &[Atom], name: Name<'_>, tests: &mut u64) -> Option<(S
         (λ counts. AreStarts (map atom_of atoms.now) counts found.0)) }
     ensures len { IfSome result (λ found. found.1 ≡ length (components name.entry)) }
     ensures none { IfNone result (greedy (map atom_of atoms.now) (components name.entry) ≡ None) }
+    ensures counted { tests.old ≤ tests.new }
     ensures cost { tests.new ≤ tests.old + length atoms.now * length (components name.entry) }
 {
     let mut starts = [0; MAX_STARTS];

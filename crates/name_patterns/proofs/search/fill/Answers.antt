@@ -21,6 +21,7 @@ loop-i-init c =
       omega (arith, c.requires.few),
       omega arith,
       omega arith,
+      omega arith,
     )
 
 pub loop-i-preserved : goal.loop-i-preserved
@@ -45,6 +46,7 @@ loop-i-preserved c =
       omega arith,
       omega (arith, c.passed-passed.ensures.cost, inv.4, c.requires.len.0, c.requires.len.1),
       omega (arith, c.passed-passed.ensures.cost, inv.5, times_step c.loop-i.i at (length cs) i_is),
+      omega (arith, c.passed-passed.ensures.counted, inv.6),
     )
 
 pub returns-then-split-eq0-clause-none : goal.returns-then-split-eq0-clause-none

@@ -13,3 +13,4 @@ invariant-loop-i l =
     × (l.fn.first ≤ l.i)
     × (l.tests + 64 * l.i ≤ l.fn.tests + 64 * length l.atoms)
     × (l.tests + l.i * length (components l.fn.name) ≤ l.fn.tests + length l.atoms * length (components l.fn.name))
+    × (l.fn.tests ≤ l.tests)

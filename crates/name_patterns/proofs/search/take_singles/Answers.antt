@@ -48,6 +48,7 @@ loop-i-preserved c =
             (cut ((goal.at.loop-i-preserved c).After-is_once)) (front ∙ ap (λ rest. field_of c.in_ok-component.component ∷ rest) next.0)
             (omega (arith, c.loop-i.invariant.0)) (omega (arith, next.1)) (c.is_once.ensures.0 c.if-not-is_once.false) (sym c.passes.ensures.exact ∙ c.if-not-passes.false),
       ),
+      omega (arith, c.passes.ensures.counted, c.loop-i.invariant.4),
     )
 
 pub returns-then-not-passes-clause-cost : goal.returns-then-not-passes-clause-cost

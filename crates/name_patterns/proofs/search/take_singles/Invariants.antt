@@ -10,3 +10,4 @@ invariant-loop-i l =
     × (l.tests ≤ l.fn.tests + l.i)
     × (components_left l.components ≡ drop l.i (components_left l.fn.components))
     × AreTaken (map atom_of l.atoms) (components_left l.fn.components) l.i l.i l.starts
+    × (l.fn.tests ≤ l.tests)

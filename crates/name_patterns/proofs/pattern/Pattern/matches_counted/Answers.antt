@@ -4,8 +4,8 @@ use Rattle.name_patterns.specs.Pattern.{PlainPattern, IsWithinLimits}
 use Rattle.name_patterns.specs.Shown.{atom_of}
 use Rattle.name_patterns.proofs.Splits.{none_found}
 use Rattle.name_patterns.proofs.Matched.{matched, matched_there}
-use Rattle.name_patterns.proofs.pattern.Pattern.find.Goals as goal
-use Rattle.name_patterns.proofs.pattern.Pattern.find.Goals.{After-deref, After-captures-2}
+use Rattle.name_patterns.proofs.pattern.Pattern.matches_counted.Goals as goal
+use Rattle.name_patterns.proofs.pattern.Pattern.matches_counted.Goals.{After-deref, After-captures-2}
 
 atoms_are : (c : After-deref) → map atom_of c.deref.result.now ≡ c.args.self.now.atoms
 atoms_are c = ap (map atom_of) c.deref.ensures.value ∙ ap (λ (pattern : PlainPattern). pattern.atoms) c.self.view_is
