@@ -1,10 +1,11 @@
 -- What a guard keeps of the commands that were recorded: of each signer the greatest time and the
 -- greatest number.
 use Rattle.std.specs.Prelude.{ℕ, ◌<◌, List, [], ◌∷◌, Option, None, Some, max, refl}
-use Rattle.std.specs.Coded.{Coded, code_by, coded×, coded_list, coded_ℕ, coded_option}
+use Rattle.std.specs.Coded.{Coded, code_by, coded×, coded_ℕ, coded_option}
 use Rattle.std.specs.declared.cmp.Ordering.{Ordering}
 use Rattle.std.specs.Option.{option_cmp}
 use Rattle.std.specs.FinMap as map
+use Rattle.ndn_names.specs.Key.{name_code}
 use Rattle.ndn_names.specs.Order.{name_cmp}
 use Rattle.ndn_names.specs.View.{components}
 use Rattle.replay_guard.specs.Freshness.{Signer, Recorded, AreNear, NumberRises}
@@ -63,7 +64,7 @@ IsFresh table signer time number now =
     AreNear time now × IsAfter (map.get table signer) time number
 
 abbrev pub signer_code : Coded Signer
-signer_code = coded_option (coded_list (coded× coded_ℕ (coded_list coded_ℕ)))
+signer_code = coded_option name_code
 
 abbrev pub latest_code : Coded Latest
 latest_code =

@@ -1,5 +1,5 @@
 -- The rows of a guard, for private contracts.
-use Rattle.std.specs.Prelude.{◌≡◌, ℕ, ◌<◌, List, Option, None, Some, length, take, slice_index_or}
+use Rattle.std.specs.Prelude.{◌≡◌, ℕ, ◌<◌, List, None, length, take, slice_index_or}
 use Rattle.std.specs.FinMap.{find}
 use Rattle.replay_guard.specs.Freshness.{Signer}
 use Rattle.replay_guard.specs.Guard.{Latest, signer_cmp}
@@ -12,8 +12,3 @@ pub record IsFirst (signer : Signer) (rows : List Row) (at : ℕ) : Type 0 where
   pub within : at < length rows
   pub none_before : find signer_cmp signer (take at rows) ≡ None
   pub signer_is : (row : Row) → row ≡ slice_index_or rows at row → row.0 ≡ signer
-
--- while a call is prepared there is room for one more row
-abbrev pub HasRoom : ℕ → ℕ → Option Signer → Type 0
-HasRoom len capacity None = Unit {0}
-HasRoom len capacity (Some signer) = len < capacity

@@ -28,7 +28,7 @@ impl Model for Guard {
     ghost use Rattle.std.specs.Vec.{vec_capacity};
     ghost use Rattle.std.specs.FinMap as map;
     ghost use Rattle.replay_guard.specs.Guard.{GuardState, state_code};
-    ghost use Rattle.replay_guard.specs.Rows.{HasRoom};
+    ghost use Rattle.ndn_names.specs.Room.{HasRoom};
 
     ghost Value = { GuardState };
 
