@@ -1,4 +1,3 @@
-pub mod FullNames
 pub mod Places
 pub mod Lists
 pub mod Taken

@@ -1,21 +1,20 @@
 -- What is left when the least full names are erased, one after another.
 use Rattle.std.proofs.Common.{◌≡◌, ℕ, ◌+◌, ◌≤◌, ◌⊎◌, inl, inr, Bool, true, false, cond, not, ◌&&◌, List, [], ◌∷◌, ◌++◌, length, get_or, filter, refl, sym, ap, subst, ◌∙◌, arith, append_assoc}
-use Rattle.std.specs.Prelude.{◌↔◌, IsTrue, Option, None, Some}
+use Rattle.std.specs.Prelude.{Option, None, Some}
 use Rattle.std.specs.List.{All, remove}
 use Rattle.std.specs.Ordering.{eq_by_cmp}
-use Rattle.std.specs.Cmp.{Equal-is}
-use Rattle.std.proofs.lemmas.Cmp.{tied_itself}
 use Rattle.std.proofs.lemmas.List.{append-nil}
 use Rattle.std.proofs.lemmas.List.Edits.{length-remove}
 use Rattle.std.proofs.lemmas.List.Elements.{All-filter, All-same, filter_passes}
 use Rattle.ndn_tlv.specs.Element.{Field}
 use Rattle.ndn_names.specs.Name.{IsPrefix}
-use Rattle.ndn_names.specs.Order.{Less, component_cmp, name_cmp}
-use Rattle.ndn_names.specs.Key.{component_cmp-antisymmetric, component_cmp-total}
+use Rattle.ndn_names.specs.Order.{Less, name_cmp}
 use Rattle.ndn_names.proofs.OrderLaws.{Less-total}
 use Rattle.ndn_packets.specs.Key.{PlainKey}
+use Rattle.ndn_packets.proofs.Answering.{prefix_is}
 use Rattle.content_store.specs.Store.{CachedData, StoreState, IsStore, full_name_of, CanServe, EachOnce, IsLeast, TakesLeast, Erases, without}
-use Rattle.content_store.specs.Places.{IsLeastPlace, LeastSoFar, begins_with}
+use Rattle.ndn_packets.specs.Answers.{begins_with}
+use Rattle.content_store.specs.Places.{IsLeastPlace, LeastSoFar}
 use Rattle.content_store.proofs.Places.{least_is}
 use Rattle.content_store.proofs.Lists.{is_same, apart, without_at, fewer_store}
 
@@ -117,47 +116,15 @@ one_taken name xs ys n at c h once place is =
 
 -- ---- all under a name
 
-both_true : (a b : Bool) → (a && b) ≡ true → (a ≡ true) × (b ≡ true)
-both_true true b e = (refl, e)
-both_true false b e = absurd cc
-
-prefix_from : (a b : List Field) → begins_with a b ≡ true → IsPrefix a b
-prefix_from [] b e = (b, refl)
-prefix_from (c ∷ a) [] e = absurd cc
-prefix_from (c ∷ a) (d ∷ b) e =
-    let both = both_true _ _ e in
-    let same : c ≡ d = component_cmp-antisymmetric c d ((Equal-is (component_cmp c d)).0 both.0) in
-    let p = prefix_from a b both.1 in
-    (p.0, λ k. sym same k ∷ p.1 k)
-
-prefix_to : (a b : List Field) → IsPrefix a b → begins_with a b ≡ true
-prefix_to [] b p = refl
-prefix_to (c ∷ a) [] p = (let e = p.1 in absurd cc)
-prefix_to (c ∷ a) (d ∷ b) p =
-    let first : d ≡ c = (let e = p.1 in cc) in
-    let after : b ≡ a ++ p.0 = (let e = p.1 in cc) in
-    let same : eq_by_cmp component_cmp c d ≡ true = (Equal-is (component_cmp c d)).1 (ap (λ (x : Field). component_cmp x d) (sym first) ∙ tied_itself component_cmp-total d) in
-    let more = prefix_to a b (p.0, after) in
-    (λ k. same k && more k)
-
--- a test that decides it is that function
-pub is_begins_with : (a b : List Field) (r : Bool) → IsTrue r ↔ IsPrefix a b → r ≡ begins_with a b
-is_begins_with a b true h = sym (prefix_to a b (h.0 refl))
-is_begins_with a b false h = split (begins_with a b) refl
-  where
-    split : (t : Bool) → begins_with a b ≡ t → false ≡ t
-    split true e = h.1 (prefix_from a b e)
-    split false e = refl
-
 pub all_taken : (name : List Field) (xs ys : List CachedData) (n : ℕ) → ys ≡ filter (λ c. not (begins_with name (full_name_of c))) xs → length ys + n ≡ length xs → Erases name None xs ys n
 all_taken name xs ys n left counted =
     let none : All (λ d. IsPrefix name (full_name_of d) → ⊥) ys =
-    All-same (λ d. IsPrefix name (full_name_of d) → ⊥) _ _ left (λ k d lt p. let e = not_true _ (filter_passes (λ c. not (begins_with name (full_name_of c))) xs k d lt) in let t = prefix_to _ _ p in cc) in (
+    All-same (λ d. IsPrefix name (full_name_of d) → ⊥) _ _ left (λ k d lt p. let e = not_true _ (filter_passes (λ c. not (begins_with name (full_name_of c))) xs k d lt) in let t = (prefix_is _ _).1 p in cc) in (
       record {
         stays = λ c. not (begins_with name (full_name_of c));
         left = left;
         counted = counted;
-        under = λ k d lt e. prefix_from _ _ (not_false _ e);
+        under = λ k d lt e. (prefix_is _ _).0 (not_false _ e);
         least = λ k d lt e j f below p. absurd (none j f below p);
       },
       tt,

@@ -1,9 +1,7 @@
 -- Places in the list of what is held, for private contracts.
-use Rattle.std.specs.Prelude.{◌≡◌, [], ◌∷◌, ℕ, ◌<◌, Bool, true, false, ◌&&◌, List, Option, None, Some, slice_index_or}
+use Rattle.std.specs.Prelude.{◌≡◌, ◌∷◌, ℕ, ◌<◌, List, Option, None, Some, slice_index_or}
 use Rattle.ndn_packets.specs.Key.{PlainKey}
-use Rattle.std.specs.Ordering.{eq_by_cmp}
-use Rattle.ndn_tlv.specs.Element.{Field}
-use Rattle.ndn_names.specs.Order.{Less, component_cmp}
+use Rattle.ndn_names.specs.Order.{Less}
 use Rattle.content_store.specs.Store.{CachedData, full_name_of, IsLeast, CanServe, without}
 
 -- among the first n, one with P, of which none with P has a lesser full name
@@ -23,9 +21,3 @@ abbrev pub MovesLeast : PlainKey → ℕ → List CachedData → List CachedData
 MovesLeast key now before after =
     (c : CachedData) × IsLeast (CanServe key now) before c
     × (after ≡ c ∷ without (full_name_of c) before)
-
--- whether the second name begins with the first
-abbrev pub begins_with : List Field → List Field → Bool
-begins_with [] b = true
-begins_with (c ∷ a) [] = false
-begins_with (c ∷ a) (d ∷ b) = eq_by_cmp component_cmp c d && begins_with a b

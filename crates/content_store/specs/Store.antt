@@ -6,6 +6,7 @@ use Rattle.std.specs.Coded.{Coded, code_by, coded×, coded_list, coded_ℕ}
 use Rattle.std.specs.Ordering.{eq_by_cmp}
 use Rattle.sha2.specs.Sha256.{sha256}
 use Rattle.ndn_tlv.specs.Element.{Field}
+use Rattle.ndn_names.specs.Key.{name_code}
 use Rattle.ndn_names.specs.Name.{IsPrefix}
 use Rattle.ndn_names.specs.Order.{Less, name_cmp}
 use Rattle.ndn_names.specs.View.{components}
@@ -14,6 +15,7 @@ use Rattle.ndn_packets.specs.declared.data.Data.{Data}
 use Rattle.ndn_packets.specs.Grammar.{IsData}
 use Rattle.ndn_packets.specs.Key.{PlainKey}
 use Rattle.ndn_packets.specs.Packet.{PlainData}
+use Rattle.content_store.specs.declared.store.TheConstants.{MAX_CAPACITY}
 
 -- A Data that is held: its name and its implicit digest, its octets, its FreshnessPeriod in
 -- milliseconds and the moment of its arrival, in milliseconds since 1970.
@@ -58,7 +60,7 @@ pub record IsCachedData (c : CachedData) : Type 0 where
 -- what is true of every store
 pub record IsStore (s : StoreState) : Type 0 where
   pub not_none : 1 ≤ s.capacity
-  pub at_most_65536 : s.capacity ≤ 65536
+  pub at_most_65536 : s.capacity ≤ MAX_CAPACITY
   pub within_capacity : length s.cached ≤ s.capacity
   pub each_once : EachOnce s.cached
   pub each_data : All IsCachedData s.cached
@@ -128,7 +130,7 @@ Erases name count before after gone =
 abbrev pub cached_code : Coded CachedData
 cached_code =
     code_by (List Field × (List ℕ × (List ℕ × (ℕ × ℕ))))
-    (coded× (coded_list (coded× coded_ℕ (coded_list coded_ℕ))) (coded× (coded_list coded_ℕ)
+    (coded× name_code (coded× (coded_list coded_ℕ)
     (coded× (coded_list coded_ℕ) (coded× coded_ℕ coded_ℕ))))
     (λ c. (c.name, (c.digest, (c.octets, (c.freshness, c.arrival)))))
     (λ p. record {

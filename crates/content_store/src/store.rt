@@ -49,7 +49,7 @@ impl Store {
     pub fn new(alloc: Global, capacity: usize) -> Result<Store, StoreFault>
         ensures ok { IfOk result (λ s. s ≡ record { cached = []; capacity = capacity }) }
         ensures store { IfOk result IsStore }
-        ensures bad { (result ≡ Err faults.BadCapacity) ↔ ((capacity ≡ 0) ⊎ (65536 < capacity)) }
+        ensures bad { (result ≡ Err faults.BadCapacity) ↔ ((capacity ≡ 0) ⊎ (MAX_CAPACITY < capacity)) }
     {
         if capacity == 0 || capacity > MAX_CAPACITY {
             return Err(StoreFault::BadCapacity);

@@ -1,112 +1,20 @@
--- Full names by their octets.
-use Rattle.std.proofs.Common.{◌≡◌, ℕ, zero, suc, get_or, ◌+◌, ◌-◌, ◌<◌, ◌≤◌, ◌^◌, ◌⊎◌, inl, inr, refl, Bool, true, false, List, [], ◌∷◌, ◌++◌, length, take, drop, sym, ap, subst, ◌∙◌, arith, append_assoc}
-use Rattle.std.specs.Prelude.{◌↔◌, IsTrue, nat_eq, nat_lt, slice_get, ◌&&◌, Option, None, Some}
-use Rattle.std.specs.List.{AllByRecursion, starts_with}
-use Rattle.std.specs.Cmp.{unsigned_Decides}
-use Rattle.std.specs.Cmp.Lexicographic.{slice_cmp}
-use Rattle.std.specs.Ordering.{nat_cmp}
-use Rattle.std.proofs.lemmas.List.{length-append, append-nil, take_at, drop_at}
+-- What stands in a full name after a name.
+use Rattle.std.proofs.Common.{◌≡◌, ℕ, zero, suc, get_or, ◌<◌, ◌≤◌, ◌⊎◌, inl, inr, refl, Bool, true, false, List, [], ◌∷◌, ◌++◌, length, drop, sym, ap, ◌∙◌, arith, append_assoc}
+use Rattle.std.specs.Prelude.{◌↔◌, IsTrue, nat_lt, slice_get, ◌&&◌, Option, None, Some}
+use Rattle.std.proofs.lemmas.List.{length-append, append-nil}
 use Rattle.std.proofs.lemmas.List.Concat.{flat_map-append}
-use Rattle.std.proofs.lemmas.Slice.Eq.{starts_is}
-use Rattle.std.proofs.lemmas.Cmp.{tied_itself}
-use Rattle.ndn_tlv.specs.Element.{Field, IsField, IsElements, element}
+use Rattle.ndn_tlv.specs.Element.{Field, IsElements, element}
 use Rattle.ndn_tlv.proofs.Numbers.{spelling_head}
 use Rattle.std.proofs.lemmas.Bool.Decides.{same_from_decides}
 use Rattle.ndn_packets.proofs.Answering.{prefix_is, is_answers}
 use Rattle.sha2.specs.Sha256.{sha256}
 use Rattle.ndn_tlv.specs.Number.{spelling}
-use Rattle.ndn_names.specs.Name.{IsNameValue, IsPrefix, octets_of, components_of}
-use Rattle.ndn_names.specs.Order.{name_cmp}
-use Rattle.ndn_names.specs.Key.{name_cmp-total, name_cmp-antisymmetric}
-use Rattle.ndn_names.proofs.OctetOrder.{octets_cmp}
+use Rattle.ndn_names.specs.Name.{IsPrefix, octets_of}
 use Rattle.ndn_names.proofs.Prefixes.{begins_with as begins}
 use Rattle.ndn_packets.specs.Answers.{Answers, answers, begins_with, full_name}
-use Rattle.repo_core.specs.FullName.{name_octets, name_in, digest_in, full_name_in, IsFullName, starts_small}
+use Rattle.ndn_packets.specs.FullName.{PlainFullName, all_components}
+use Rattle.repo_core.specs.Near.{starts_small}
 use Rattle.repo_core.specs.Objects.{full_name_answers, is_digest_alone}
-
--- fields before one more
-fields_more : (name : List Field) (f : Field) → AllByRecursion IsField name → IsField f → AllByRecursion IsField (name ++ f ∷ [])
-fields_more [] f h g = (g, tt)
-fields_more (c ∷ name) f h g = (h.0, fields_more name f h.1 g)
-
-octets_more : (name : List Field) (f : Field) → octets_of (name ++ f ∷ []) ≡ octets_of name ++ element f
-octets_more name f = flat_map-append element name (f ∷ []) ∙ ap (λ (t : List ℕ). octets_of name ++ t) (append-nil (element f))
-
-digest_octets : (digest : List ℕ) → length digest ≡ 32 → element (1, digest) ≡ (1 ∷ 32 ∷ []) ++ digest
-unfolding spelling
-digest_octets digest len = ap (λ (n : ℕ). spelling 1 ++ (spelling n ++ digest)) len
-
--- what an entry is made of
-pub made : (value digest full : List ℕ) (name : List Field) → IsNameValue value name → components_of value ≡ name → length digest ≡ 32
-    → full ≡ value ++ element (1, digest) → (name_in full ≡ name) × (digest_in full ≡ digest) × IsFullName full
-made value digest full name h shown len is =
-    let e : element (1, digest) ≡ (1 ∷ 32 ∷ []) ++ digest = digest_octets digest len in
-    let full_is : full ≡ value ++ ((1 ∷ 32 ∷ []) ++ digest) = is ∙ ap (λ (t : List ℕ). value ++ t) e in
-    let count : length full ≡ length value + 34 = ap length full_is ∙ length-append value ((1 ∷ 32 ∷ []) ++ digest) ∙ omega arith in
-    let front : name_octets full ≡ value = ap (λ (t : List ℕ). take (length full - 34) t) full_is ∙ take_at value ((1 ∷ 32 ∷ []) ++ digest) (length full - 34) (omega arith) in
-    let name_is : name_in full ≡ name = ap components_of front ∙ shown in
-    let full_is' : full ≡ (value ++ (1 ∷ 32 ∷ [])) ++ digest = full_is ∙ sym (append_assoc value (1 ∷ 32 ∷ []) digest) in
-    let digest_is : digest_in full ≡ digest =
-    ap (λ (t : List ℕ). drop (length full - 32) t) full_is' ∙ drop_at (value ++ (1 ∷ 32 ∷ [])) digest (length full - 32) (length-append value (1 ∷ 32 ∷ []) ∙ omega arith) in
-    let name_octets_is : value ≡ octets_of name = h.0.1 in
-    let digest_len : length digest < 2 ^ 64 = omega arith in
-    let whole : full ≡ octets_of (full_name name digest) = is ∙ ap (λ (t : List ℕ). t ++ element (1, digest)) name_octets_is ∙ sym (octets_more name (1, digest)) in
-    let both : full_name_in full ≡ full_name name digest = (λ k. full_name (name_is k) (digest_is k)) in (
-      name_is,
-      digest_is,
-      record {
-        long = omega arith;
-        name = front ∙ name_octets_is ∙ ap octets_of (sym name_is);
-        whole = whole ∙ ap octets_of (sym both);
-        fields = subst (AllByRecursion IsField) (sym both) (fields_more name (1, digest) h.0.0 (omega arith, omega arith, digest_len));
-      },
-    )
-
--- two full names compare as their octets do
-pub full_cmp : (u v : List ℕ) → IsFullName u → IsFullName v → slice_cmp nat_cmp u v ≡ name_cmp (full_name_in u) (full_name_in v)
-full_cmp u v h g =
-    (λ k. slice_cmp nat_cmp (h.whole k) (g.whole k)) ∙ octets_cmp (full_name_in u) (full_name_in v) h.fields g.fields
-
--- names are equal where their octets are
-pub one_name : (a b : List Field) → AllByRecursion IsField a → AllByRecursion IsField b → octets_of a ≡ octets_of b → a ≡ b
-one_name a b h g e =
-    name_cmp-antisymmetric a b (sym (octets_cmp a b h g) ∙ ap (λ (t : List ℕ). slice_cmp nat_cmp t (octets_of b)) e ∙ octets_cmp b b g g ∙ tied_itself name_cmp-total b)
-
--- a full name begins with a name where its octets do
-pub under : (u value : List ℕ) (name : List Field) (r : Bool) → IsFullName u → IsNameValue value name → r ≡ starts_with nat_eq u value → IsTrue r ↔ IsPrefix name (full_name_in u)
-under u value name r h g e =
-    let s = starts_is unsigned_Decides u value r e in (
-      λ t. begins name (full_name_in u) (drop (length value) u) g.0.0 h.fields
-          (sym h.whole ∙ s.0 t ∙ ap (λ (x : List ℕ). x ++ drop (length value) u) g.0.1),
-      λ p. s.1 (octets_of p.0) (h.whole ∙ ap octets_of p.1 ∙ flat_map-append element name p.0 ∙ ap (λ (x : List ℕ). x ++ octets_of p.0) (sym g.0.1)),
-    )
-
-fields_front : (name : List Field) (f : Field) → AllByRecursion IsField (name ++ f ∷ []) → AllByRecursion IsField name
-fields_front [] f h = tt
-fields_front (c ∷ name) f h = (h.0, fields_front name f h.1)
-
--- the octets of a name are those of the full name, or of the name in it
-pub is_full : (u value : List ℕ) (name : List Field) → IsFullName u → IsNameValue value name → (value ≡ u) ↔ (name ≡ full_name_in u)
-is_full u value name h g = (
-  λ e. one_name name (full_name_in u) g.0.0 h.fields (sym g.0.1 ∙ e ∙ h.whole),
-  λ e. g.0.1 ∙ ap octets_of e ∙ sym h.whole,
-)
-
-pub is_front : (u value : List ℕ) (name : List Field) → IsFullName u → IsNameValue value name → (value ≡ name_octets u) ↔ (name ≡ name_in u)
-is_front u value name h g = (
-  λ e. one_name name (name_in u) g.0.0 (fields_front (name_in u) (1, digest_in u) h.fields) (sym g.0.1 ∙ e ∙ h.name),
-  λ e. g.0.1 ∙ ap octets_of e ∙ sym h.name,
-)
-
--- a full name compares with a name as their octets do
-pub name_after : (u v : List ℕ) (name : List Field) → IsFullName u → IsElements v name → slice_cmp nat_cmp u v ≡ name_cmp (full_name_in u) name
-name_after u v name h g = (λ k. slice_cmp nat_cmp (h.whole k) (g.1 k)) ∙ octets_cmp (full_name_in u) name h.fields g.0
-
-pub is_that : (u v : List ℕ) (name : List Field) → IsFullName u → IsElements v name → (u ≡ v) ↔ (full_name_in u ≡ name)
-is_that u v name h g = (
-  λ e. one_name (full_name_in u) name h.fields g.0 (sym h.whole ∙ e ∙ g.1),
-  λ e. h.whole ∙ ap octets_of e ∙ sym g.1,
-)
 
 -- ---- what stands after a name
 
@@ -137,11 +45,11 @@ small_head (c ∷ cs) =
     large : (kind : ℕ) → 253 ≤ kind → nat_lt kind 2 ≡ false
     large kind le = grind arith
 
-pub small_at : (u value : List ℕ) (name : List Field) → IsFullName u → IsElements value name → begins_with name (full_name_in u) ≡ true
-    → starts_small (drop (length name) (full_name_in u)) ≡ octet_is_small (slice_get u (length value))
-small_at u value name h g begins =
-    let p = (prefix_is name (full_name_in u)).0 begins in
-    let octets : u ≡ value ++ octets_of p.0 = h.whole ∙ ap octets_of p.1 ∙ flat_map-append element name p.0 ∙ ap (λ (t : List ℕ). t ++ octets_of p.0) (sym g.1) in
+pub small_at : (u value : List ℕ) (full name : List Field) → IsElements u full → IsElements value name → begins_with name full ≡ true
+    → starts_small (drop (length name) full) ≡ octet_is_small (slice_get u (length value))
+small_at u value full name h g begins =
+    let p = (prefix_is name full).0 begins in
+    let octets : u ≡ value ++ octets_of p.0 = h.1 ∙ ap octets_of p.1 ∙ flat_map-append element name p.0 ∙ ap (λ (t : List ℕ). t ++ octets_of p.0) (sym g.1) in
     ap (λ (t : List Field). starts_small (drop (length name) t)) p.1 ∙ ap starts_small (after_front name p.0) ∙ small_head p.0
     ∙ sym (ap (λ (t : List ℕ). octet_is_small (slice_get t (length value))) octets ∙ ap octet_is_small (get_after value (octets_of p.0)))
 
@@ -214,18 +122,16 @@ as_data name n d true =
     prefix (inr (inr (f, inr q))) = q
 
 -- an object is that of a Data where its octets and its name are
-pub one_object : (u w octets value : List ℕ) (name : List Field) → IsFullName u → digest_in u ≡ sha256 w → IsNameValue value name
-    → (((w ≡ octets) × (name_octets u ≡ value)) ↔ (◌≡◌ {A = List Field × List ℕ} (full_name_in u, w) (full_name name (sha256 octets), octets)))
-one_object u w octets value name h digest g =
-    let front = is_front u value name h g in (
-      λ both.
-          let names : name_in u ≡ name = sym (front.0 (sym both.1)) in
-          let digests : digest_in u ≡ sha256 octets = digest ∙ ap sha256 both.0 in
-          λ k. (full_name (names k) (digests k), both.0 k),
-      λ e.
-          let full : full_name_in u ≡ full_name name (sha256 octets) = ap (λ o. o.0) e in
-          (ap (λ o. o.1) e, sym (front.1 (sym (one_front (name_in u) name (1, digest_in u) (1, sha256 octets) full)))),
-    )
+pub one_object : (f : PlainFullName) (w octets : List ℕ) (name : List Field) → f.digest ≡ sha256 w
+    → (((w ≡ octets) × (name ≡ f.name)) ↔ (◌≡◌ {A = List Field × List ℕ} (all_components f, w) (full_name name (sha256 octets), octets)))
+one_object f w octets name digest = (
+  λ both.
+      let digests : f.digest ≡ sha256 octets = digest ∙ ap sha256 both.0 in
+      λ k. (full_name (sym both.1 k) (digests k), both.0 k),
+  λ e.
+      let full : all_components f ≡ full_name name (sha256 octets) = ap (λ o. o.0) e in
+      (ap (λ o. o.1) e, sym (one_front f.name name (1, f.digest) (1, sha256 octets) full)),
+)
 
 get_some : (xs : List ℕ) (i b : ℕ) → i < length xs → b ≡ get_or xs i b → slice_get xs i ≡ Some b
 get_some [] i b lt is = absurd (omega arith)
@@ -237,10 +143,10 @@ get_none [] i le = refl
 get_none (x ∷ xs) zero le = absurd (omega arith)
 get_none (x ∷ xs) (suc i) le = get_none xs i (omega arith)
 
-pub small_some : (u value : List ℕ) (name : List Field) (b : ℕ) → IsFullName u → IsElements value name → begins_with name (full_name_in u) ≡ true
-    → length value < length u → b ≡ get_or u (length value) b → starts_small (drop (length name) (full_name_in u)) ≡ nat_lt b 2
-small_some u value name b h g begins lt is = small_at u value name h g begins ∙ ap octet_is_small (get_some u (length value) b lt is)
+pub small_some : (u value : List ℕ) (full name : List Field) (b : ℕ) → IsElements u full → IsElements value name → begins_with name full ≡ true
+    → length value < length u → b ≡ get_or u (length value) b → starts_small (drop (length name) full) ≡ nat_lt b 2
+small_some u value full name b h g begins lt is = small_at u value full name h g begins ∙ ap octet_is_small (get_some u (length value) b lt is)
 
-pub small_none : (u value : List ℕ) (name : List Field) → IsFullName u → IsElements value name → begins_with name (full_name_in u) ≡ true
-    → length u ≤ length value → starts_small (drop (length name) (full_name_in u)) ≡ true
-small_none u value name h g begins le = small_at u value name h g begins ∙ ap octet_is_small (get_none u (length value) le)
+pub small_none : (u value : List ℕ) (full name : List Field) → IsElements u full → IsElements value name → begins_with name full ≡ true
+    → length u ≤ length value → starts_small (drop (length name) full) ≡ true
+small_none u value full name h g begins le = small_at u value full name h g begins ∙ ap octet_is_small (get_none u (length value) le)

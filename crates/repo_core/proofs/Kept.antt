@@ -8,7 +8,7 @@ use Rattle.std.specs.Ordering.{is_eq, is_lt}
 use Rattle.std.specs.FinMap.{FinMap, IsAntisymmetric, find, get, get-entries, get-from_sorted, is_sorted, from_sorted, entries, entries-from_sorted, entries_sorted}
 use Rattle.std.specs.FinMap.Entries.{below_all}
 use Rattle.repo_core.specs.Objects.{if_kept, kept}
-use Rattle.repo_core.proofs.Rows.{first_of, is_less, second_of}
+use Rattle.ndn_names.proofs.Rows.{first_of, is_less, second_of}
 
 both : (a b : Bool) → T a → T b → T (a && b)
 both true b p q = q

@@ -1,8 +1,5 @@
-pub mod Singles
 pub mod Texts
-pub mod Appending
 mod Removed
-pub mod Rows
 pub mod FullNames
 pub mod Places
 pub mod Kept

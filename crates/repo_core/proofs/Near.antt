@@ -18,7 +18,7 @@ use Rattle.ndn_tlv.specs.Element.{Field}
 use Rattle.ndn_names.specs.Order.{component_cmp, name_cmp}
 use Rattle.ndn_names.specs.Key.{component_cmp-antisymmetric, component_cmp-total, name_cmp-total}
 use Rattle.ndn_packets.specs.Answers.{begins_with}
-use Rattle.repo_core.specs.FullName.{is_near, starts_small}
+use Rattle.repo_core.specs.Near.{is_near, starts_small}
 use Rattle.repo_core.specs.Objects.{answering, full_name_answers, is_digest_alone}
 use Rattle.repo_core.specs.Room.{IsPlace}
 use Rattle.repo_core.proofs.Places.{rises, all_from}

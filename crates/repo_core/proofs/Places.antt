@@ -12,7 +12,7 @@ use Rattle.std.specs.FinMap.{IsAntisymmetric, find, put, is_sorted}
 use Rattle.std.specs.FinMap.Entries.{below_all}
 use Rattle.std.proofs.lemmas.Bool.{cases_lt}
 use Rattle.repo_core.specs.Room.{IsPlace, HasAt}
-use Rattle.repo_core.proofs.Rows.{is_less, first_of, second_of, put_found, put_gap, put_end, find_found, find_gap, find_end}
+use Rattle.ndn_names.proofs.Rows.{is_less, first_of, second_of, put_found, put_gap, put_end, find_found, find_gap, find_end}
 
 -- what stands at a place
 pub stands : {X : Type 0} (xs : List X) (at : ℕ) → at < length xs → (x : X) × (x ≡ get_or xs at x)

@@ -9,7 +9,7 @@ use Rattle.std.specs.declared.cmp.Ordering.{Ordering}
 use Rattle.std.specs.FinMap as map
 use Rattle.std.specs.FinMap.{FinMap, IsAntisymmetric, entries, entries_sorted, find, get, get-entries, get-remove, is_sorted}
 use Rattle.repo_core.proofs.Kept.{is_equal, lacks}
-use Rattle.repo_core.proofs.Rows.{first_of, second_of}
+use Rattle.ndn_names.proofs.Rows.{first_of, second_of}
 
 module _ {K X : Type 0} {R : K → K → Ordering} (o : IsTotalOrder R) (anti : IsAntisymmetric R) (test : K × X → Bool) where
   -- a key with a value that passes, as the key finds it

@@ -1,33 +1,17 @@
 -- Lengths of elements and replies, and the texts of statuses.
-use Rattle.std.proofs.Common.{◌≡◌, ℕ, ◌+◌, ◌<◌, ◌≤◌, Bool, true, false, cond, List, [], ◌∷◌, ◌++◌, length, refl, subst, arith, eqb}
+use Rattle.std.proofs.Common.{◌≡◌, ℕ, ◌+◌, ◌≤◌, Bool, true, false, cond, List, [], ◌∷◌, ◌++◌, length, refl, subst, arith, eqb}
 use Rattle.std.specs.Prelude.{Option, Some, None, IsSome, find}
 use Rattle.std.specs.List.{AllByRecursion}
 use Rattle.std.specs.Option.{option_map}
 use Rattle.std.proofs.lemmas.List.{length-append}
-use Rattle.ndn_tlv.specs.Number.{shortest_nni, spelling}
+use Rattle.ndn_tlv.specs.Number.{shortest_nni}
 use Rattle.ndn_tlv.specs.Element.{element}
-use Rattle.ndn_tlv.proofs.Numbers.{length-spelling_nine, length-spelling_one}
-use Rattle.ndn_tlv.proofs.Integers.{length-shortest_eight}
+use Rattle.ndn_tlv.proofs.Lengths.{element_fits, number_fits}
 use Rattle.repo_core.specs.declared.verb.Verb.TheVariants.{Insert, Delete, Check}
 use Rattle.repo_core.specs.Commands.{Case, verb_row, repo_text_of, repo_texts}
 use Rattle.repo_core.specs.Reading.{RepoCommand}
 use Rattle.repo_core.specs.Repo.{Held, first_case_status, holds, reply_to}
 use Rattle.repo_core.specs.Writing.{repo_response}
-
-pub length-element : (kind : ℕ) (value : List ℕ) → length (element (kind, value)) ≡ length (spelling kind) + (length (spelling (length value)) + length value)
-length-element kind value = omega (arith, length-append (spelling kind) (spelling (length value) ++ value), length-append (spelling (length value)) value)
-
-pub ruleset element_lengths = (length-spelling_nine, length-shortest_eight, length-element)
-
--- an element whose type has one octet
-element_fits : (kind : ℕ) (value : List ℕ) → kind < 253 → length (element (kind, value)) ≤ length value + 10
-element_fits kind value lt = omega (arith, length-element kind value, length-spelling_one kind lt, length-spelling_nine (length value))
-
-number_fits : (kind n : ℕ) → kind < 253 → length (element (kind, shortest_nni n)) ≤ 10
-number_fits kind n lt =
-    let few = length-shortest_eight n in
-    let one = length-spelling_one (length (shortest_nni n)) (omega (arith, few)) in
-    omega (arith, few, one, length-element kind (shortest_nni n), length-spelling_one kind lt)
 
 pub reply_is_bounded : (status count : ℕ) (text : List ℕ) → length (repo_response status text count) ≤ length text + 40
 reply_is_bounded status count text =

@@ -12,7 +12,8 @@ use Rattle.ndn_packets.specs.Answers.{begins_with}
 use Rattle.repo_core.specs.declared.verb.Verb.{Verb}
 use Rattle.repo_core.specs.declared.verb.Verb.TheVariants.{Insert, Delete, Check}
 use Rattle.repo_core.specs.Commands.{verb_named, verb_row, verbs}
-use Rattle.repo_core.specs.Reading.{value_after, value_of, verb_at, ◌>>=◌}
+use Rattle.ndn_tlv.specs.Options.{◌>>=◌}
+use Rattle.repo_core.specs.Reading.{value_after, value_of, verb_at}
 use Rattle.repo_core.proofs.Kept.{is_equal}
 
 -- the word of a verb names it, and no other

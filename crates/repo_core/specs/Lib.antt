@@ -4,5 +4,5 @@ pub mod Objects
 pub mod Wants
 pub mod Repo
 pub mod Writing
-pub mod FullName
+pub mod Near
 pub mod Room

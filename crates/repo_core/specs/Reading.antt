@@ -4,14 +4,18 @@ use Rattle.std.specs.Prelude.{ℕ, ◌+◌, List, [], ◌∷◌, length, Bool, t
 use Rattle.std.specs.List.{list_all}
 use Rattle.ndn_tlv.specs.declared.fault.TlvFault.{TlvFault}
 use Rattle.ndn_tlv.specs.Element.{Field}
+use Rattle.ndn_tlv.specs.Fields.{Elements, first_of, single}
+use Rattle.ndn_tlv.specs.Options.{◌>>=◌}
 use Rattle.ndn_tlv.specs.Reading.{elements_of, nni_at, on_result}
 use Rattle.ndn_names.specs.declared.component_type.TheConstants.{GENERIC, PARAMETERS_SHA256_DIGEST}
-use Rattle.ndn_names.specs.Reading.{name_at}
+use Rattle.ndn_names.specs.Reading.{name_of}
 use Rattle.ndn_names.specs.View.{components}
 use Rattle.ndn_packets.specs.Answers.{begins_with}
 use Rattle.repo_core.specs.declared.verb.Verb.{Verb}
 use Rattle.repo_core.specs.declared.command.Asked.{Asked}
-use Rattle.repo_core.specs.declared.types.TheConstants.{CAN_BE_PREFIX, DEFAULT_LIFETIME, INTEREST_LIFETIME, NAME, PARAMETERS}
+use Rattle.ndn_packets.specs.declared.command_types.TheConstants.{REPO_COMMAND_PARAMETER}
+use Rattle.ndn_packets.specs.declared.types.TheConstants.{CAN_BE_PREFIX, INTEREST_LIFETIME, NAME}
+use Rattle.repo_core.specs.declared.types.TheConstants.{DEFAULT_LIFETIME}
 use Rattle.repo_core.specs.Commands.{verb_named}
 
 -- what a command asks for: the Data that answer an Interest of this name and flag
@@ -30,35 +34,11 @@ plain a = record {
   lifetime = a.lifetime;
 }
 
-infixl 10 ◌>>=◌
-abbrev pub ◌>>=◌ : {A B : Type 0} → Option A → (A → Option B) → Option B
-None >>= f = None
-(Some x) >>= f = f x
-
 -- ---- fields
-
-abbrev pub Elements : Type 0
-Elements = List (Result Field TlvFault)
 
 abbrev pub can_be_read : Result Field TlvFault → Bool
 can_be_read (Ok e) = true
 can_be_read (Err fault) = false
-
--- the value of the first field of a type
-abbrev pub first_of : ℕ → Elements → Option (List ℕ)
-first_of kind [] = None
-first_of kind (Err fault ∷ es) = None
-first_of kind (Ok e ∷ es) = if e.0 == kind then Some e.1 else first_of kind es
-
--- the value of the one element that is there, of this type
-abbrev pub single : ℕ → Elements → Option (List ℕ)
-single kind [] = None
-single kind (Err fault ∷ es) = None
-single kind (Ok e ∷ []) = if e.0 == kind then Some e.1 else None
-single kind (Ok e ∷ (f ∷ es)) = None
-
-abbrev pub name_of : List ℕ → Option (List Field)
-name_of value = on_result (λ cs. Some cs) (λ _. None) (name_at value)
 
 -- the Name field
 abbrev pub name_in : Elements → Option (List Field)
@@ -111,5 +91,5 @@ repo_command_at start cs = do
   verb ← verb_at start cs
   value ← value_after start cs GENERIC 1
   digest ← value_after start cs PARAMETERS_SHA256_DIGEST 2
-  parameters ← single PARAMETERS (elements_of value)
+  parameters ← single REPO_COMMAND_PARAMETER (elements_of value)
   if length cs == length start + 3 then command_of verb (elements_of parameters) else None

@@ -5,6 +5,7 @@ use Rattle.std.specs.declared.cmp.Ordering.{Ordering}
 use Rattle.std.specs.declared.cmp.Ordering.TheVariants.{Greater}
 use Rattle.std.specs.FinMap as map
 use Rattle.std.specs.List.{AllByRecursion}
+use Rattle.ndn_names.specs.Key.{name_code}
 use Rattle.repo_core.specs.declared.spare.Names.{Names}
 use Rattle.repo_core.specs.Objects.{Objects}
 
@@ -16,8 +17,7 @@ pub record Shelf : Type 0 where
 abbrev pub shelf_code : Coded Shelf
 shelf_code =
     code_by (Objects × ℕ)
-    (coded× (map.code (coded_list (coded× coded_ℕ (coded_list coded_ℕ))) (coded_list coded_ℕ))
-    coded_ℕ)
+    (coded× (map.code name_code (coded_list coded_ℕ)) coded_ℕ)
     (λ s. (s.table, s.room)) (λ p. record { table = p.0; room = p.1 }) (λ _. refl)
 
 -- all rows before a place have lesser keys, and those from it on have not

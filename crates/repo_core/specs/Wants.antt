@@ -1,17 +1,17 @@
 -- The Data that a repository waits for: wants by name and CanBePrefix, each with the moment until
 -- which it stands. How long it was to stand is not kept.
-use Rattle.std.specs.Prelude.{◌≡◌, ℕ, ◌+◌, ◌-◌, ◌^◌, min, nat_lt, not, Bool, true, false, List, refl}
-use Rattle.std.specs.Coded.{Coded, coded×, coded_list, coded_ℕ, coded_bool}
+use Rattle.std.specs.Prelude.{◌≡◌, ℕ, ◌+◌, ◌-◌, ◌^◌, min, nat_lt, not, Bool, List}
+use Rattle.std.specs.Coded.{Coded, coded×, coded_bool}
 use Rattle.std.specs.List.{list_any}
 use Rattle.std.specs.declared.cmp.Ordering.{Ordering}
-use Rattle.std.specs.declared.cmp.Ordering.TheVariants.{Less, Equal, Greater}
 use Rattle.std.specs.Cmp.{IsTotalOrder, on_total, then_total, bool_cmp_total}
 use Rattle.std.specs.FinMap.{FinMap, IsAntisymmetric, entries}
-use Rattle.std.specs.Ordering.{ordering_then, on, then_cmp, bool_cmp}
+use Rattle.std.specs.Ordering.{on, then_cmp, bool_cmp}
 use Rattle.ndn_tlv.specs.Element.{Field}
 use Rattle.ndn_names.specs.Order.{name_cmp}
-use Rattle.ndn_names.specs.Key.{name_cmp-total, name_cmp-antisymmetric}
+use Rattle.ndn_names.specs.Key.{both_tie, name_cmp-total, name_cmp-antisymmetric, name_code}
 use Rattle.ndn_packets.specs.Answers.{answers}
+use Rattle.ndn_packets.specs.Key.{bool_tie}
 use Rattle.repo_core.specs.Objects.{kept}
 
 -- a name, and whether names that begin with it are wanted too
@@ -27,18 +27,6 @@ want_cmp-total =
     then_total (on_total (λ (k : WantKey). k.0) name_cmp-total)
     (on_total (λ (k : WantKey). k.1) bool_cmp_total)
 
--- both of two orders tie
-both_tie : (o p : Ordering) → ordering_then o p ≡ Equal → (o ≡ Equal) × (p ≡ Equal)
-both_tie Less p e = absurd cc
-both_tie Equal p e = (refl, e)
-both_tie Greater p e = absurd cc
-
-bool_tie : (a b : Bool) → bool_cmp a b ≡ Equal → a ≡ b
-bool_tie true true e = refl
-bool_tie true false e = absurd cc
-bool_tie false true e = absurd cc
-bool_tie false false e = refl
-
 pub want_cmp-antisymmetric : IsAntisymmetric want_cmp
 want_cmp-antisymmetric x y e =
     let a = both_tie _ _ e in
@@ -47,7 +35,7 @@ want_cmp-antisymmetric x y e =
     λ i. (names i, flags i)
 
 abbrev pub want_code : Coded WantKey
-want_code = coded× (coded_list (coded× coded_ℕ (coded_list coded_ℕ))) coded_bool
+want_code = coded× name_code coded_bool
 
 -- the deadlines of wants, in milliseconds since 1970
 abbrev pub Wants : Type 0

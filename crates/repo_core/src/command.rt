@@ -7,11 +7,12 @@ ghost use Rattle.ndn_names.specs.Name.{octets_of};
 ghost use Rattle.ndn_names.specs.View.{components};
 ghost use Rattle.repo_core.specs.Reading.{command_of, plain, repo_command_at, value_after, verb_at};
 
-use crate::fields::{are_elements, flag_field, lifetime_field, name_field, single_element};
-use crate::types::PARAMETERS;
+use crate::fields::{are_elements, flag_field, lifetime_field, name_field};
 use crate::verb::Verb;
 use ndn_names::Name;
 use ndn_names::component_type::{GENERIC, PARAMETERS_SHA256_DIGEST};
+use ndn_packets::command_types::REPO_COMMAND_PARAMETER;
+use ndn_tlv::single_element;
 
 /// A command that is well formed: it is about the Data that answer an Interest of a name and a
 /// flag, and wants them for a lifetime in milliseconds.
@@ -58,7 +59,7 @@ pub fn command_in<'a>(start: Name<'_>, name: Name<'a>) -> Option<Asked<'a>>
     let verb = verb_after(start, name)?;
     let value = value_after(start, name, GENERIC, 1)?;
     value_after(start, name, PARAMETERS_SHA256_DIGEST, 2)?;
-    let fields = single_element(value, PARAMETERS)?;
+    let fields = single_element(value, REPO_COMMAND_PARAMETER)?;
     if name.len() != start.len() + 3 {
         return None;
     }

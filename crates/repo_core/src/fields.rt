@@ -3,28 +3,16 @@
 ghost use Rattle.std.specs.Prelude.{◌≡◌, ◌≤◌, IfSome, length};
 ghost use Rattle.std.specs.Option.{option_map};
 ghost use Rattle.std.specs.List.{list_all};
+ghost use Rattle.ndn_tlv.specs.Fields.{first_of};
 ghost use Rattle.ndn_tlv.specs.Reading.{elements_of};
 ghost use Rattle.ndn_names.specs.Name.{octets_of};
 ghost use Rattle.ndn_names.specs.View.{components};
-ghost use Rattle.repo_core.specs.Reading.{can_be_read, first_of, flag_of, lifetime_of, name_in, single};
+ghost use Rattle.repo_core.specs.Reading.{can_be_read, flag_of, lifetime_of, name_in};
 
-use crate::types::{CAN_BE_PREFIX, DEFAULT_LIFETIME, INTEREST_LIFETIME, NAME};
+use crate::types::DEFAULT_LIFETIME;
 use ndn_names::Name;
-use ndn_tlv::{first_element, nni_of};
-
-/// The value of octets that are one element of this type.
-pub fn single_element(octets: &[u8], kind: u32) -> Option<&[u8]>
-    ensures exact { option_map (λ v. v.now) result ≡ single kind (elements_of octets.now) }
-    ensures short { IfSome result (λ v. length v.now ≤ length octets.now) }
-{
-    let Ok((element, rest)) = first_element(octets) else {
-        return None;
-    };
-    if element.kind == kind && rest.is_empty() {
-        return Some(element.value);
-    }
-    None
-}
+use ndn_packets::types::{CAN_BE_PREFIX, INTEREST_LIFETIME, NAME};
+use ndn_tlv::{first_element, first_field, nni_of};
 
 /// Whether the octets are elements.
 pub fn are_elements(octets: &[u8]) -> bool
@@ -38,24 +26,6 @@ pub fn are_elements(octets: &[u8]) -> bool
         rest = after;
     }
     true
-}
-
-/// The value of the first field of this type.
-fn first_field(octets: &[u8], kind: u32) -> Option<&[u8]>
-    ensures exact { option_map (λ v. v.now) result ≡ first_of kind (elements_of octets.now) }
-    ensures short { IfSome result (λ v. length v.now ≤ length octets.now) }
-{
-    let mut rest = octets;
-    while !rest.is_empty() {
-        let Ok((element, after)) = first_element(rest) else {
-            return None;
-        };
-        if element.kind == kind {
-            return Some(element.value);
-        }
-        rest = after;
-    }
-    None
 }
 
 /// The Name field. None where it is missing or no name.

@@ -13,7 +13,6 @@ mod spare;
 mod types;
 mod verb;
 mod wants;
-mod writing;
 
 pub use law::{
     full_names_answer_as_data, kept_entries_by_key, limits_are_kept, objects_stay_data,
@@ -22,4 +21,5 @@ pub use law::{
 };
 pub use reply::{MAX_REPLY_LEN, RepoReply, Want, put_repo_reply, repo_status_text};
 pub use repo::{MAX_HELD, MAX_WANTS, Repo};
+pub use types::repo_statuses_are_as_assigned;
 pub use verb::Verb;

@@ -3,14 +3,12 @@ ghost use Rattle.std.specs.Option.{option_map};
 ghost use Rattle.std.specs.Vec.{vec_capacity};
 ghost use Rattle.repo_core.specs.Commands.{repo_text_of};
 ghost use Rattle.repo_core.specs.Writing.{repo_response};
-ghost use Rattle.ndn_packets.specs.Writing.{Puts};
+ghost use Rattle.ndn_tlv.specs.Writing.{Puts};
 
-use crate::types::{
-    BAD_PARAMETERS, COUNT, FULL, NOT_FOUND, OK, PENDING, RESPONSE, STATUS_CODE, STATUS_TEXT,
-};
-use crate::writing::{element_len, nni_element_len, put_nni_element};
+use crate::types::{BAD_PARAMETERS, FULL, NOT_FOUND, OK, PENDING};
 use ndn_names::NameBuf;
-use ndn_tlv::{Memory, put_element, put_number};
+use ndn_packets::command_types::{COUNT, REPO_COMMAND_RESPONSE, REPO_STATUS_CODE, STATUS_TEXT};
+use ndn_tlv::{Memory, element_len, nni_element_len, put_element, put_nni_element, put_number};
 
 /// The greatest number of octets of a reply to a command that is allowed.
 pub const MAX_REPLY_LEN: usize = 55;
@@ -86,12 +84,12 @@ fn put_parts(out: &mut Vec<u8>, status: u16, text: &[u8], count: u64) -> Result<
     ensures { Puts out.old out.new result (repo_response status text.now count) }
 {
     let status = u64::from(status);
-    let value_len = nni_element_len(STATUS_CODE, status)
+    let value_len = nni_element_len(REPO_STATUS_CODE, status)
         + element_len(STATUS_TEXT, text)
         + nni_element_len(COUNT, count);
-    put_number(out, u64::from(RESPONSE))?;
+    put_number(out, u64::from(REPO_COMMAND_RESPONSE))?;
     put_number(out, value_len as u64)?;
-    put_nni_element(out, STATUS_CODE, status)?;
+    put_nni_element(out, REPO_STATUS_CODE, status)?;
     put_element(out, STATUS_TEXT, text)?;
     put_nni_element(out, COUNT, count)
 }

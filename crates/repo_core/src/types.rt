@@ -1,25 +1,7 @@
-//! Numbers of the repository's commands and replies: TLV-TYPEs and status codes.
+//! The status codes of the repository's replies, and the lifetime of a want.
 
-/// The parameters of a command.
-pub const PARAMETERS: u32 = 201;
+ghost use Rattle.std.specs.Prelude.{◌≡◌};
 
-/// The fields of the parameters.
-pub const NAME: u32 = 7;
-
-pub const CAN_BE_PREFIX: u32 = 33;
-
-pub const INTEREST_LIFETIME: u32 = 12;
-
-/// A reply and its fields.
-pub const RESPONSE: u32 = 207;
-
-pub const STATUS_CODE: u32 = 208;
-
-pub const STATUS_TEXT: u32 = 103;
-
-pub const COUNT: u32 = 132;
-
-/// The status codes of replies.
 pub const PENDING: u16 = 100;
 
 pub const OK: u16 = 200;
@@ -33,3 +15,11 @@ pub const FULL: u16 = 503;
 /// The lifetime of a want in milliseconds, where the command gives none (NDN Packet Format 0.3,
 /// "Interest Packet", InterestLifetime).
 pub const DEFAULT_LIFETIME: u64 = 4000;
+
+/// Law: these are the numbers of the repository's replies, and the lifetime of an Interest that gives
+/// none (NDN Packet Format 0.3, "Interest Packet", InterestLifetime).
+pub fn repo_statuses_are_as_assigned()
+    ensures done { (PENDING ≡ 100) × (OK ≡ 200) }
+    ensures refused { (BAD_PARAMETERS ≡ 400) × (NOT_FOUND ≡ 404) × (FULL ≡ 503) }
+    ensures lifetime { DEFAULT_LIFETIME ≡ 4000 }
+{}

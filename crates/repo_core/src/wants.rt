@@ -32,6 +32,7 @@ impl Model for Wants {
     ghost use Rattle.std.specs.Vec.{vec_capacity};
     ghost use Rattle.std.specs.FinMap as map;
     ghost use Rattle.repo_core.specs.Wants.{Wants as WantTable, want_cmp, want_code};
+    ghost use Rattle.repo_core.specs.declared.repo.TheConstants.{MAX_WANTS};
 
     ghost Value = { WantTable };
 
@@ -39,7 +40,7 @@ impl Model for Wants {
 
     ghost view = { λ w. map.from_sorted w.rows.items };
 
-    ghost invariant = { λ w. T (map.is_sorted want_cmp w.rows.items) × (64 ≤ vec_capacity w.rows) };
+    ghost invariant = { λ w. T (map.is_sorted want_cmp w.rows.items) × (MAX_WANTS ≤ vec_capacity w.rows) };
 }
 
 impl Wants {
@@ -67,7 +68,7 @@ impl Wants {
     /// Sets the deadline of one, which may be new.
     pub fn put(&mut self, name: NameBuf, can_be_prefix: bool, deadline: u64)
         requires { (map.contains_key self.old (name, can_be_prefix) ≡ true)
-            ⊎ (map.len self.old < 64) }
+            ⊎ (map.len self.old < MAX_WANTS) }
         ensures { self.new ≡ map.insert self.old (name, can_be_prefix) deadline }
     {
         let at = place_of(&self.rows, name.view(), can_be_prefix);

@@ -2,7 +2,7 @@ use Rattle.std.proofs.Common.{◌≡◌, ◌-◌, length, vec_len, not, arith, r
 use Rattle.std.proofs.lemmas.Fn.{filter_same}
 use Rattle.ndn_names.specs.View.{components}
 use Rattle.content_store.specs.Store.{CachedData, full_name_of}
-use Rattle.content_store.specs.Places.{begins_with}
+use Rattle.ndn_packets.specs.Answers.{begins_with}
 use Rattle.content_store.proofs.Taken.{all_taken}
 use Rattle.content_store.proofs.store.erase_all.Goals as goal
 

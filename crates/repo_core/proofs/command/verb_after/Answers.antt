@@ -5,7 +5,8 @@ use Rattle.ndn_names.specs.View.{components}
 use Rattle.ndn_packets.specs.Answers.{begins_with}
 use Rattle.ndn_packets.proofs.Answering.{prefix_is}
 use Rattle.repo_core.specs.Commands.{verb_named}
-use Rattle.repo_core.specs.Reading.{verb_at, ◌>>=◌}
+use Rattle.ndn_tlv.specs.Options.{◌>>=◌}
+use Rattle.repo_core.specs.Reading.{verb_at}
 use Rattle.repo_core.proofs.command.verb_after.Goals as goal
 
 pub returns-then-not-is_prefix_of : goal.returns-then-not-is_prefix_of

@@ -2,10 +2,10 @@ use Rattle.std.proofs.Common.{◌≡◌, ℕ, ◌+◌, List, [], ◌++◌, lengt
 use Rattle.std.proofs.lemmas.List.{length-append, append-nil}
 use Rattle.ndn_tlv.specs.Number.{spelling, shortest_nni}
 use Rattle.ndn_tlv.specs.Element.{element}
-use Rattle.ndn_packets.specs.Writing.{Puts}
-use Rattle.repo_core.specs.declared.types.TheConstants.{COUNT, RESPONSE, STATUS_CODE, STATUS_TEXT}
+use Rattle.ndn_tlv.specs.Writing.{Puts}
+use Rattle.ndn_packets.specs.declared.command_types.TheConstants.{COUNT, REPO_COMMAND_RESPONSE, REPO_STATUS_CODE, STATUS_TEXT}
 use Rattle.repo_core.specs.Writing.{repo_response}
-use Rattle.repo_core.proofs.Appending.{puts_one, puts_both, puts_same}
+use Rattle.ndn_tlv.proofs.Appending.{puts_one, puts_both, puts_same}
 use Rattle.repo_core.proofs.reply.put_parts.Goals as goal
 
 -- the three elements of a reply are as long as was reckoned
@@ -17,7 +17,7 @@ fields_len code words number a b c p q r =
 pub returns : goal.returns
 returns c =
     let status = c.from-status.result in
-    let code = element (STATUS_CODE, shortest_nni status) in
+    let code = element (REPO_STATUS_CODE, shortest_nni status) in
     let words = element (STATUS_TEXT, c.args.text.now) in
     let number = element (COUNT, shortest_nni c.args.count) in
     let value = code ++ (words ++ (number ++ [])) in
@@ -37,7 +37,7 @@ returns c =
     let last = puts_same worded new result number (number ++ []) (sym (append-nil number)) c.put_nni_element-2.ensures in
     let size = fields_len code words number _ _ _ c.nni_element_len.ensures.exact c.element_len.ensures.exact c.nni_element_len-2.ensures.exact in
     let all =
-    puts_both old typed new _ result (spelling RESPONSE) _
+    puts_both old typed new _ result (spelling REPO_COMMAND_RESPONSE) _
     (subst (λ (n : ℕ). Puts old typed (Ok c.in_ok-put_number.field-0) (spelling n)) c.from.ensures first)
     (puts_both typed headed new _ result (spelling (length value)) value
     (subst (λ (n : ℕ). Puts typed headed (Ok c.in_ok-put_number-2.field-0) (spelling n)) size second)

@@ -1,7 +1,7 @@
 use Rattle.std.proofs.Common.{◌≡◌, length, vec_len, ap, sym, ◌∙◌, rules}
 use Rattle.std.specs.FinMap.{len}
 use Rattle.ndn_names.specs.Order.{name_cmp}
-use Rattle.repo_core.proofs.Rows.{len-from_sorted}
+use Rattle.ndn_names.proofs.Rows.{len-from_sorted}
 use Rattle.repo_core.proofs.objects.Objects.len.Goals as goal
 
 pub returns : goal.returns

@@ -5,7 +5,7 @@ use Rattle.std.specs.FinMap.{put}
 use Rattle.ndn_names.specs.Order.{name_cmp}
 use Rattle.ndn_names.specs.Key.{name_cmp-total, name_cmp-antisymmetric}
 use Rattle.repo_core.specs.Room.{IsPlace, HasAt}
-use Rattle.repo_core.proofs.Rows.{sorted_put, from_put}
+use Rattle.ndn_names.proofs.Rows.{sorted_put, from_put}
 use Rattle.repo_core.proofs.Places.{put_there, put_new}
 use Rattle.repo_core.proofs.objects.Objects.put.Goals as goal
 use Rattle.repo_core.proofs.objects.Objects.put.Goals.{After-has_at, After-drop-index_mut-then-has_at, After-insert_row}

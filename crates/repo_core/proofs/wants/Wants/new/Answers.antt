@@ -1,7 +1,7 @@
 use Rattle.std.proofs.Common.{ap, ◌∙◌}
 use Rattle.std.specs.FinMap.{from_sorted}
 use Rattle.repo_core.specs.Wants.{want_cmp}
-use Rattle.repo_core.proofs.Rows.{from_none}
+use Rattle.ndn_names.proofs.Rows.{from_none}
 use Rattle.repo_core.proofs.wants.Wants.new.Goals as goal
 
 pub returns : goal.returns

@@ -4,7 +4,7 @@ use Rattle.std.specs.FinMap as map
 use Rattle.std.specs.FinMap.{put, len, contains_key, get-from_sorted}
 use Rattle.repo_core.specs.Room.{IsPlace, HasAt}
 use Rattle.repo_core.specs.Wants.{WantKey, want_cmp, want_cmp-total, want_cmp-antisymmetric}
-use Rattle.repo_core.proofs.Rows.{sorted_put, from_put, len-from_sorted}
+use Rattle.ndn_names.proofs.Rows.{sorted_put, from_put, len-from_sorted}
 use Rattle.repo_core.proofs.Places.{put_there, put_new, find_new}
 use Rattle.repo_core.proofs.wants.Wants.put.Goals as goal
 use Rattle.repo_core.proofs.wants.Wants.put.Goals.{After-has_at, After-drop-name-inside, After-insert_row}

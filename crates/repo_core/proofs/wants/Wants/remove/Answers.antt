@@ -4,7 +4,7 @@ use Rattle.std.proofs.lemmas.Fn.{filter_same}
 use Rattle.std.specs.FinMap as map
 use Rattle.ndn_names.specs.View.{components}
 use Rattle.repo_core.specs.Wants.{WantKey, want_cmp, want_cmp-total, want_cmp-antisymmetric}
-use Rattle.repo_core.proofs.Rows.{sorted_without, from_without}
+use Rattle.ndn_names.proofs.Rows.{sorted_without, from_without}
 use Rattle.repo_core.proofs.wants.Wants.remove.Goals as goal
 
 pub invariant_of-self : goal.invariant_of-self
