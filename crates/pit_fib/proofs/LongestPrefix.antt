@@ -5,7 +5,7 @@ use Rattle.std.specs.Option.{option_or}
 use Rattle.std.specs.FinMap.{get}
 use Rattle.std.proofs.lemmas.Bool.{ltb-true, ltb-false}
 use Rattle.ndn_tlv.specs.Element.{Field}
-use Rattle.pit_fib.specs.Tables.{ByName, longest_within}
+use Rattle.name_trie.specs.ByName.{ByName, longest_within}
 
 first_there : {X : Type 0} (a b : Option X) → IsSome a → option_or a b ≡ a
 first_there None b there = absurd cc

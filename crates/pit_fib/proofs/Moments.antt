@@ -10,11 +10,12 @@ use Rattle.std.specs.FinMap.{from_sorted, is_sorted, put, entries}
 use Rattle.std.specs.FinMap.Entries.{below_all}
 use Rattle.std.proofs.lemmas.List.{take_more, take_all, length-take-le, take-append-drop, append-nil}
 use Rattle.std.proofs.Math.Seq.{drop-cons}
-use Rattle.pit_fib.specs.Tables.{ByFace, revised, revise}
+use Rattle.pit_fib.specs.Tables.{ByFace}
+use Rattle.name_trie.specs.ByName.{revised, revise}
 use Rattle.pit_fib.specs.Records.{Sent, Asked}
 use Rattle.pit_fib.specs.Pit.{moments}
-use Rattle.pit_fib.proofs.Rows.{AllLower, first_of, second_of, is_less, put_past, from_put, len-from_sorted}
-use Rattle.pit_fib.proofs.Revised.{sorted_revised}
+use Rattle.ndn_names.proofs.Rows.{AllLower, first_of, second_of, is_less, put_past, from_put, len-from_sorted}
+use Rattle.name_trie.proofs.Revised.{sorted_revised}
 
 abbrev pub Row : Type 0
 Row = ℕ × Sent

@@ -14,8 +14,8 @@ use Rattle.pit_fib.specs.declared.nacked.Nacked.TheVariants.{NoPending, Waiting,
 use Rattle.pit_fib.specs.Records.{Sent, Asked, Records}
 use Rattle.pit_fib.specs.Cause.{with_reason, nacked_with}
 use Rattle.pit_fib.specs.Pit.{IsLeastReason, was_sent, least_reason, all_nacked, nacked_answer}
-use Rattle.pit_fib.proofs.Rows.{first_of, second_of}
-use Rattle.pit_fib.proofs.Revised.{equal, find_below}
+use Rattle.ndn_names.proofs.Rows.{first_of, second_of}
+use Rattle.name_trie.proofs.Revised.{equal, find_below}
 
 abbrev Row : Type 0
 Row = ℕ × Sent

@@ -18,7 +18,7 @@ use Rattle.pit_fib.specs.Records.{Ask, Sent, Records, Pending, no_records, is_al
 use Rattle.pit_fib.specs.Cause.{Cause, Expires, Arrives, SentTo, Satisfied, NackCame, Withdrawn, Removed, Closed, changed, same_key, until_after, nacked_with, records_after, Follows}
 use Rattle.pit_fib.specs.Past.{ask_after, sent_after}
 use Rattle.pit_fib.specs.Pit.{HasRecord, HasRoomFor, AtMost64}
-use Rattle.pit_fib.proofs.Rows.{first_of, second_of, is_less}
+use Rattle.ndn_names.proofs.Rows.{first_of, second_of, is_less}
 use Rattle.pit_fib.proofs.RisingFaces.{with_rises}
 use Rattle.pit_fib.proofs.PendingTables.{records_at-entries}
 use Rattle.pit_fib.proofs.PendingPast.{get-changed, get-changed_asked}

@@ -10,11 +10,11 @@ use Rattle.std.proofs.lemmas.Bool.{eqb-true}
 use Rattle.std.proofs.lemmas.Bool.Decides.{nat_tests}
 use Rattle.ndn_packets.specs.Answers.{answers}
 use Rattle.ndn_packets.specs.Key.{PlainKey}
-use Rattle.pit_fib.specs.Tables.{revise}
+use Rattle.name_trie.specs.ByName.{revise}
 use Rattle.pit_fib.specs.Records.{Ask, Sent, Asks, Asked, Records, no_records, is_alive}
 use Rattle.pit_fib.specs.Cause.{Cause, Expires, Arrives, SentTo, Satisfied, NackCame, Withdrawn, Removed, Closed, changed, settled, same_key, until_after, sent_at, nacked_with, with_reason, records_after}
 use Rattle.pit_fib.specs.Past.{records_of, ask_of, ask_after, sent_of, sent_after}
-use Rattle.pit_fib.proofs.Revised.{get-revise}
+use Rattle.name_trie.proofs.Revised.{get-revise}
 use Rattle.pit_fib.proofs.PendingTables.{dead_none, dead_after_expiry}
 
 -- ---- one cause

@@ -15,7 +15,7 @@ use Rattle.pit_fib.specs.Records.{Ask, Asks, Records, Pending, no_records, is_al
 use Rattle.pit_fib.specs.Cause.{Cause, Expires, Satisfied, Withdrawn, Removed, Closed, changed, settled, same_key, until_after, Follows}
 use Rattle.pit_fib.specs.declared.spare.Spare.{Spare}
 use Rattle.pit_fib.specs.Entries.{AllLive, AreApart, HasRoom}
-use Rattle.pit_fib.proofs.Revised.{revise-empty}
+use Rattle.name_trie.proofs.Revised.{revise-empty}
 use Rattle.ndn_packets.specs.Key.{key_cmp-total, key_cmp-antisymmetric}
 
 -- ---- keys

@@ -6,8 +6,8 @@ use Rattle.std.specs.FinMap.{len, contains_key}
 use Rattle.ndn_tlv.specs.Element.{Field}
 use Rattle.pit_fib.specs.declared.fault.TableFault.{TableFault}
 use Rattle.pit_fib.specs.declared.fault.TableFault.TheVariants.{TooDeep, TableFull}
-use Rattle.pit_fib.specs.Tables.{ByName}
-use Rattle.pit_fib.specs.NameTable.{refusal}
+use Rattle.name_trie.specs.ByName.{ByName}
+use Rattle.pit_fib.specs.Refusal.{refusal}
 
 module _ {X : Type 0} (table : ByName X) (name : List Field) (shallow : length name ≤ 32) where
   told : (known full : Bool) → contains_key table name ≡ known → leb 4096 (len table) ≡ full

@@ -10,7 +10,7 @@ use Rattle.std.specs.FinMap.Entries.{by_order}
 use Rattle.ndn_tlv.specs.Element.{Field}
 use Rattle.ndn_names.specs.Order.{name_cmp}
 use Rattle.ndn_names.specs.Key.{name_cmp-total, name_cmp-antisymmetric}
-use Rattle.pit_fib.specs.Tables.{ByName, longest, longest_within}
+use Rattle.name_trie.specs.ByName.{ByName, longest, longest_within}
 use Rattle.pit_fib.specs.StrategyTable.{without_choice}
 
 -- one of two branches, whatever the first test, where both give the same

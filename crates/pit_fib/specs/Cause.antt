@@ -6,7 +6,7 @@ use Rattle.std.specs.FinMap as map
 use Rattle.ndn_tlv.specs.Element.{Field}
 use Rattle.ndn_packets.specs.Answers.{answers}
 use Rattle.ndn_packets.specs.Key.{PlainKey, key_cmp}
-use Rattle.pit_fib.specs.Tables.{revise}
+use Rattle.name_trie.specs.ByName.{revise}
 use Rattle.pit_fib.specs.Records.{Ask, Sent, Asked, Records, Pending, no_records, is_alive, records_at, same_nonce}
 
 pub data Cause : Type 0 where

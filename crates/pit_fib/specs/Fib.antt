@@ -3,8 +3,10 @@
 use Rattle.std.specs.Prelude.{ℕ, ◌<◌, ◌⊎◌, List, Option, None, Some, IsSome, map, unwrap_or, ◌==◌, if◌then◌else◌}
 use Rattle.std.specs.FinMap as map
 use Rattle.ndn_tlv.specs.Element.{Field}
+use Rattle.pit_fib.specs.declared.faces.TheConstants.{MAX_FACES}
 use Rattle.pit_fib.specs.declared.hops.Hop.{Hop}
-use Rattle.pit_fib.specs.Tables.{ByFace, ByName, revise, longest}
+use Rattle.pit_fib.specs.Tables.{ByFace}
+use Rattle.name_trie.specs.ByName.{ByName, longest, revise, with_value}
 use Rattle.pit_fib.specs.Hops.{hops_of}
 
 abbrev pub Routes : Type 0
@@ -16,7 +18,7 @@ costs_at routes name = unwrap_or (map.get routes name) map.empty
 
 -- an entry has this face, or fewer than 64
 abbrev pub HasRoomFor : ByFace → ℕ → Type 0
-HasRoomFor costs face = IsSome (map.get costs face) ⊎ (map.len costs < 64)
+HasRoomFor costs face = IsSome (map.get costs face) ⊎ (map.len costs < MAX_FACES)
 
 -- with the hop of this face, of this cost
 abbrev pub with_route : Routes → List Field → ℕ → ℕ → Routes
@@ -28,11 +30,6 @@ abbrev pub without_hop : ℕ → ByFace → Option ByFace
 without_hop face costs =
     let rest = map.remove costs face in
     if map.len rest == 0 then None else Some rest
-
--- the map with this value of a name, or with none
-abbrev pub with_value : {X : Type 0} → ByName X → List Field → Option X → ByName X
-with_value table name None = map.remove table name
-with_value table name (Some x) = map.insert table name x
 
 -- without the hop of this face
 abbrev pub without_route : Routes → List Field → ℕ → Routes

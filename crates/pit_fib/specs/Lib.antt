@@ -1,7 +1,7 @@
 pub mod Faces
 pub mod Tables
 pub mod Hops
-pub mod NameTable
+pub mod Refusal
 pub mod Fib
 pub mod StrategyTable
 pub mod Records
@@ -9,3 +9,5 @@ pub mod Cause
 pub mod Pit
 pub mod Past
 pub mod Entries
+pub use Rattle.name_trie.specs.ByName
+pub use Rattle.name_trie.specs.NameTable

@@ -8,10 +8,12 @@ use Rattle.std.specs.FinMap as map
 use Rattle.ndn_tlv.specs.Element.{Field}
 use Rattle.ndn_packets.specs.Answers.{answers}
 use Rattle.ndn_packets.specs.Key.{PlainKey, key_code}
+use Rattle.pit_fib.specs.declared.faces.TheConstants.{MAX_FACES}
 use Rattle.pit_fib.specs.declared.nacked.Nacked.{Nacked}
 use Rattle.pit_fib.specs.declared.nacked.Nacked.TheVariants.{NoPending, Waiting, All}
 use Rattle.pit_fib.specs.Faces.{IsRising}
-use Rattle.pit_fib.specs.Tables.{ByFace, revise}
+use Rattle.pit_fib.specs.Tables.{ByFace}
+use Rattle.name_trie.specs.ByName.{revise}
 use Rattle.pit_fib.specs.Records.{Ask, Sent, Asked, Records, Pending, records_at, records_code, same_nonce}
 use Rattle.pit_fib.specs.Cause.{with_reason}
 
@@ -36,7 +38,7 @@ HasRecord pending face =
 
 -- of the faces with this, no more than 64 are different
 abbrev pub AtMost64 : (ℕ → Type 0) → Type 0
-AtMost64 P = (faces : List ℕ) → IsRising faces → AllByRecursion P faces → length faces ≤ 64
+AtMost64 P = (faces : List ℕ) → IsRising faces → AllByRecursion P faces → length faces ≤ MAX_FACES
 
 -- the faces that have a record, and this one, are at most 64
 abbrev pub HasRoomFor : Pending → ℕ → Type 0

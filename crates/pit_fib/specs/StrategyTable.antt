@@ -5,7 +5,7 @@ use Rattle.std.specs.FinMap as map
 use Rattle.ndn_tlv.specs.Element.{Field}
 use Rattle.pit_fib.specs.declared.strategy_table.StrategyId.{StrategyId}
 use Rattle.pit_fib.specs.declared.strategy_table.StrategyId.TheVariants.{BestRoute, Multicast}
-use Rattle.pit_fib.specs.Tables.{ByName}
+use Rattle.name_trie.specs.ByName.{ByName}
 
 abbrev pub Choices : Type 0
 Choices = ByName StrategyId

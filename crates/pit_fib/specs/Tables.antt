@@ -1,47 +1,8 @@
--- Words on finite maps that tables by name and by face share.
-use Rattle.std.specs.Prelude.{◌≡◌, ℕ, ◌<◌, ◌≤◌, zero, suc, List, [], ◌∷◌, Option, None, Some, IsSome, length, take}
-use Rattle.std.specs.declared.cmp.Ordering.{Ordering}
+-- Finite maps by face.
+use Rattle.std.specs.Prelude.{ℕ}
 use Rattle.std.specs.Ordering.{nat_cmp}
-use Rattle.std.specs.Option.{option_or}
-use Rattle.std.specs.FinMap.{FinMap, entries, from_sorted, get}
-use Rattle.ndn_tlv.specs.Element.{Field}
-use Rattle.ndn_names.specs.Order.{name_cmp}
-
--- an entry before others, if it has a value
-abbrev pub with_entry : {K X : Type 0} → K → Option X → List (K × X) → List (K × X)
-with_entry k None es = es
-with_entry k (Some x) es = (k, x) ∷ es
-
--- the entries with each value changed, or the entry gone
-abbrev pub revised : {K X Y : Type 0} → (X → Option Y) → List (K × X) → List (K × Y)
-revised change [] = []
-revised change (e ∷ es) = with_entry e.0 (change e.1) (revised change es)
-
--- the map with each value changed, or its entry gone
-unfoldable pub revise : {K X Y : Type 0} {R : K → K → Ordering} → (X → Option Y) → FinMap R X
-    → FinMap R Y
-revise change m = from_sorted (revised change (entries m))
+use Rattle.std.specs.FinMap.{FinMap}
 
 -- numbers by face
 abbrev pub ByFace : Type 0
 ByFace = FinMap nat_cmp ℕ
-
--- values by name, in canonical order
-abbrev pub ByName : Type 0 → Type 0
-ByName X = FinMap name_cmp X
-
--- the value of the longest prefix that has one, among those of at most n components
-abbrev pub longest_within : {X : Type 0} → ByName X → List Field → ℕ → Option X
-longest_within table name zero = get table []
-longest_within table name (suc n) =
-    option_or (get table (take (suc n) name)) (longest_within table name n)
-
--- the value of the longest prefix of a name that has one
-abbrev pub longest : {X : Type 0} → ByName X → List Field → Option X
-longest table name = longest_within table name (length name)
-
--- the first n components are the longest prefix of a name that has a value
-abbrev pub IsLongest : {X : Type 0} → ByName X → List Field → ℕ → Type 0
-IsLongest table name n =
-    (n ≤ length name) × IsSome (get table (take n name))
-    × ((m : ℕ) → n < m → m ≤ length name → get table (take m name) ≡ None)

@@ -21,7 +21,7 @@ impl<'a> Model for Answering<'a> {
     ghost use Rattle.sha2.specs.Sha256.{sha256};
     ghost use Rattle.ndn_tlv.specs.Element.{Field};
     ghost use Rattle.ndn_names.specs.View.{components};
-    ghost use Rattle.pit_fib.specs.NameTable.{name_code};
+    ghost use Rattle.ndn_names.specs.Key.{name_code};
 
     // Its name and its implicit digest.
     ghost Value = { List Field × List ℕ };

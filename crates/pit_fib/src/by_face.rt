@@ -24,6 +24,7 @@ impl Model for Used {
     ghost use Rattle.std.specs.Coded.{coded_ℕ};
     ghost use Rattle.std.specs.FinMap as map;
     ghost use Rattle.pit_fib.specs.Tables.{ByFace};
+    ghost use Rattle.pit_fib.specs.declared.faces.TheConstants.{MAX_FACES};
 
     ghost Value = { ByFace };
 
@@ -31,7 +32,7 @@ impl Model for Used {
 
     ghost view = { λ u. map.from_sorted (take u.len u.places) };
 
-    ghost invariant = { λ u. (length u.places ≡ 64) × (u.len ≤ 64)
+    ghost invariant = { λ u. (length u.places ≡ MAX_FACES) × (u.len ≤ MAX_FACES)
         × T (map.is_sorted nat_cmp (take u.len u.places)) };
 }
 
@@ -49,7 +50,7 @@ impl Used {
     pub(crate) fn as_slice(&self) -> &[(u64, u64)]
         ensures rows { result.now ≡ map.entries self.now }
         ensures sorted { T (map.is_sorted nat_cmp result.now) }
-        ensures small { length result.now ≤ 64 }
+        ensures small { length result.now ≤ MAX_FACES }
     {
         &self.places[..self.len]
     }
@@ -57,7 +58,7 @@ impl Used {
     /// The number of faces.
     pub fn len(&self) -> usize
         ensures exact { result ≡ map.len self.now }
-        ensures small { result ≤ 64 }
+        ensures small { result ≤ MAX_FACES }
     {
         self.as_slice().len()
     }
@@ -85,7 +86,7 @@ impl Used {
     pub fn insert(&mut self, face: u64, number: u64) -> bool
         ensures ok { IsTrue result → self.new ≡ map.insert self.old face number }
         ensures full { result ≡ false → (self.new ≡ self.old) × (map.get self.old face ≡ None)
-            × (64 ≤ map.len self.old) }
+            × (MAX_FACES ≤ map.len self.old) }
     {
         match place_of(&self.places[..self.len], face) {
             Ok(at) => self.places[at] = (face, number),

@@ -5,6 +5,7 @@ ghost use Rattle.std.specs.Option.{option_map};
 ghost use Rattle.std.specs.Ordering.{nat_cmp};
 ghost use Rattle.std.specs.FinMap as map;
 ghost use Rattle.ndn_packets.specs.Key.{plain_key};
+ghost use Rattle.pit_fib.specs.declared.faces.TheConstants.{MAX_FACES};
 ghost use Rattle.pit_fib.specs.Faces.{IsRising, has_face};
 ghost use Rattle.pit_fib.specs.Records.{Sent, no_records, is_alive, same_nonce};
 ghost use Rattle.pit_fib.specs.Cause.{Expires, Withdrawn, Closed, changed, same_key, sent_at, nacked_with, with_reason};
@@ -175,7 +176,7 @@ impl Entry {
 
     /// Makes or replaces the Interest of a face.
     pub fn arrive(&mut self, face: u64, asker: Asker) -> Result<(), Memory>
-        requires { IsSome (map.get self.old.1.asks face) ⊎ (map.len self.old.1.asks < 64) }
+        requires { IsSome (map.get self.old.1.asks face) ⊎ (map.len self.old.1.asks < MAX_FACES) }
         ensures ok { IsOk result }
         ensures key { self.new.0 ≡ self.old.0 }
         ensures records { self.new.1
@@ -186,7 +187,7 @@ impl Entry {
 
     /// Makes or replaces the sending to a face.
     pub fn sent(&mut self, face: u64, nonce: [u8; 4], moment: u64) -> Result<(), Memory>
-        requires { IsSome (map.get self.old.1.asked face) ⊎ (map.len self.old.1.asked < 64) }
+        requires { IsSome (map.get self.old.1.asked face) ⊎ (map.len self.old.1.asked < MAX_FACES) }
         ensures ok { IsOk result }
         ensures key { self.new.0 ≡ self.old.0 }
         ensures records { self.new.1

@@ -3,7 +3,7 @@ ghost use lib.Dec.{T};
 ghost use Rattle.std.specs.Option.{option_map};
 ghost use Rattle.std.specs.Ordering.{nat_cmp};
 ghost use Rattle.std.specs.FinMap as map;
-ghost use Rattle.pit_fib.specs.Tables.{revise};
+ghost use Rattle.name_trie.specs.ByName.{revise};
 ghost use Rattle.pit_fib.specs.Cause.{until_after};
 
 use crate::by_face::place_of;
@@ -27,6 +27,7 @@ impl<V> Model for FaceMap<V> {
     ghost use Rattle.std.specs.Ordering.{nat_cmp};
     ghost use Rattle.std.specs.Coded.{coded_ℕ};
     ghost use Rattle.std.specs.FinMap as map;
+    ghost use Rattle.pit_fib.specs.declared.faces.TheConstants.{MAX_FACES};
 
     ghost Value = { map.FinMap nat_cmp V };
 
@@ -34,8 +35,8 @@ impl<V> Model for FaceMap<V> {
 
     ghost view = { λ m. map.from_sorted m.rows.items };
 
-    ghost invariant = { λ m. T (map.is_sorted nat_cmp m.rows.items) × (vec_len m.rows ≤ 64)
-        × (64 ≤ vec_capacity m.rows) };
+    ghost invariant = { λ m. T (map.is_sorted nat_cmp m.rows.items) × (vec_len m.rows ≤ MAX_FACES)
+        × (MAX_FACES ≤ vec_capacity m.rows) };
 }
 
 impl<V: Drop> FaceMap<V> {
@@ -50,7 +51,7 @@ impl<V: Drop> FaceMap<V> {
     pub fn rows(&self) -> &[(u64, V)]
         ensures rows { result.now ≡ map.entries self.now }
         ensures sorted { T (map.is_sorted nat_cmp result.now) }
-        ensures small { length result.now ≤ 64 }
+        ensures small { length result.now ≤ MAX_FACES }
     {
         &self.rows
     }
@@ -73,7 +74,7 @@ impl<V: Drop> FaceMap<V> {
 
     /// Sets the value of a face, for which there is memory.
     pub fn insert(&mut self, face: u64, value: V) -> Result<(), Memory>
-        requires { IsSome (map.get self.old face) ⊎ (map.len self.old < 64) }
+        requires { IsSome (map.get self.old face) ⊎ (map.len self.old < MAX_FACES) }
         ensures ok { IsOk result }
         ensures value { self.new ≡ map.insert self.old face value }
     {

@@ -17,12 +17,13 @@ pub struct Faces {
 impl Model for Faces {
     ghost use Rattle.std.specs.Prelude.{List, ℕ, ◌≤◌, take};
     ghost use Rattle.pit_fib.specs.Faces.{IsRising};
+    ghost use Rattle.pit_fib.specs.declared.faces.TheConstants.{MAX_FACES};
 
     ghost Value = { List ℕ };
 
     ghost view = { λ f. take f.len f.places };
 
-    ghost invariant = { λ f. (f.len ≤ 64) × IsRising (take f.len f.places) };
+    ghost invariant = { λ f. (f.len ≤ MAX_FACES) × IsRising (take f.len f.places) };
 }
 
 impl Faces {
@@ -62,7 +63,7 @@ impl Faces {
     /// The number of faces.
     pub fn len(&self) -> usize
         ensures exact { result ≡ length self.now }
-        ensures small { result ≤ 64 }
+        ensures small { result ≤ MAX_FACES }
         ensures rising { IsRising self.now }
     {
         self.len

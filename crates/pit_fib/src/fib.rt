@@ -1,15 +1,16 @@
-ghost use Rattle.std.specs.Prelude.{◌≡◌, ◌≢◌, ◌≤◌, length, None, Some, Err, IsSome, IfOk, IfErr, OnOk, OnErr, MatchOption};
+ghost use Rattle.std.specs.Prelude.{◌≡◌, ◌≢◌, ◌+◌, ◌^◌, ◌<◌, ◌≤◌, length, None, Some, Err, IsSome, IfOk, IfErr, OnOk, OnErr, MatchOption};
 ghost use Rattle.std.specs.FinMap as map;
 ghost use Rattle.ndn_names.specs.View.{components};
+ghost use Rattle.pit_fib.specs.declared.faces.TheConstants.{MAX_FACES};
 ghost use Rattle.pit_fib.specs.declared.fault.TableFault.TheVariants as faults;
 ghost use Rattle.pit_fib.specs.Hops.{in_order};
-ghost use Rattle.pit_fib.specs.NameTable.{refusal};
+ghost use Rattle.pit_fib.specs.Refusal.{refusal};
 ghost use Rattle.pit_fib.specs.Fib.{costs_at, HasRoomFor, with_route, without_route, without_face, longest_hops, listed};
 
 use crate::by_face::Used;
 use crate::fault::TableFault;
 use crate::hops::{Hop, Hops};
-use crate::name_map::NameMap;
+use name_trie::{Change, NameMap};
 use ndn_names::{Name, NameBuf};
 use ndn_tlv::Memory;
 use std::alloc::Global;
@@ -32,7 +33,7 @@ impl Model for Fib {
     ghost use Rattle.std.specs.FinMap as map;
     ghost use Rattle.std.specs.Coded.{coded_ℕ};
     ghost use Rattle.pit_fib.specs.Tables.{ByFace};
-    ghost use Rattle.pit_fib.specs.NameTable.{NameTable, name_table_code};
+    ghost use Rattle.name_trie.specs.NameTable.{NameTable, name_table_code};
 
     ghost Value = { NameTable ByFace };
 
@@ -121,7 +122,7 @@ impl Fib {
         ensures table { self.new.table ≡ without_face self.old.table face }
         ensures prepared { self.new.prepared ≡ self.old.prepared }
     {
-        self.costs.close_face(face);
+        self.costs.change_all(&WithoutFace { face });
     }
 
     /// The next hops of the longest prefix of a name that has an entry. `local` is false in each of
@@ -135,22 +136,52 @@ impl Fib {
         }
     }
 
+    /// As `longest`. Adds one to the steps for each search among the children of a node: at most
+    /// one for each component of the name.
+    pub fn longest_counted(&self, name: Name<'_>, steps: &mut u64) -> Hops
+        requires { steps.old + 64 < 2 ^ 64 }
+        ensures exact { result ≡ longest_hops self.now.table (components name.entry) }
+        ensures counted { steps.old ≤ steps.new }
+        ensures cost { steps.new ≤ steps.old + length (components name.entry) }
+    {
+        match self.costs.longest_counted(name, steps) {
+            Some(costs) => hops_in_order(costs.as_slice()),
+            None => Hops::new(),
+        }
+    }
+
     /// All names in canonical order, each with its hops.
     pub fn list(&self, alloc: Global) -> Result<Vec<(NameBuf, Hops)>, Memory>
         ensures { IfOk result (λ list. list.items ≡ listed self.now.table) }
     {
         let mut list = Vec::new(alloc);
-        for row in self.costs.rows() {
-            let name = NameBuf::from_name(alloc, row.0.view())?;
-            list.push((name, hops_in_order(row.1.as_slice())))?;
+        for (name, costs) in self.costs.list(alloc)? {
+            list.push((name, hops_in_order(costs.as_slice())))?;
         }
         Ok(list)
     }
 }
 
+/// Removes the hop of a face. An entry without hops goes.
+#[derive(Drop)]
+struct WithoutFace {
+    face: u64,
+}
+
+impl Change<Used> for WithoutFace {
+    ghost use Rattle.pit_fib.specs.Fib.{without_hop};
+
+    ghost change = { λ how. without_hop how.face };
+
+    fn apply(&self, mut costs: Used) -> Option<Used> {
+        costs.remove(self.face);
+        if costs.len() == 0 { None } else { Some(costs) }
+    }
+}
+
 /// Costs by face, as hops.
 fn hops_in_order(costs: &[(u64, u64)]) -> Hops
-    requires { length costs.now ≤ 64 }
+    requires { length costs.now ≤ MAX_FACES }
     ensures { result ≡ in_order costs.now }
 {
     let mut hops = Hops::new();

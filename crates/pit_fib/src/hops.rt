@@ -34,12 +34,13 @@ pub struct Hops {
 impl Model for Hops {
     ghost use Rattle.std.specs.Prelude.{List, ◌≤◌, take};
     ghost use Rattle.pit_fib.specs.declared.hops.Hop.{Hop};
+    ghost use Rattle.pit_fib.specs.declared.faces.TheConstants.{MAX_FACES};
 
     ghost Value = { List Hop };
 
     ghost view = { λ h. take h.len h.places };
 
-    ghost invariant = { λ h. h.len ≤ 64 };
+    ghost invariant = { λ h. h.len ≤ MAX_FACES };
 }
 
 impl Hops {
@@ -60,7 +61,7 @@ impl Hops {
 
     /// Adds a hop at its place.
     pub(crate) fn insert(&mut self, hop: Hop)
-        requires { length self.old < 64 }
+        requires { length self.old < MAX_FACES }
         ensures { self.new ≡ with_hop hop self.old }
     {
         let at = place_of(self.as_slice(), hop);
@@ -70,7 +71,7 @@ impl Hops {
 
     fn as_slice(&self) -> &[Hop]
         ensures value { result.now ≡ self.now }
-        ensures small { length result.now ≤ 64 }
+        ensures small { length result.now ≤ MAX_FACES }
     {
         &self.places[..self.len]
     }
@@ -78,7 +79,7 @@ impl Hops {
     /// The number of hops.
     pub fn len(&self) -> usize
         ensures exact { result ≡ length self.now }
-        ensures small { result ≤ 64 }
+        ensures small { result ≤ MAX_FACES }
     {
         self.as_slice().len()
     }

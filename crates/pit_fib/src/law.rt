@@ -3,7 +3,7 @@ ghost use Rattle.std.specs.Ordering.{nat_cmp};
 ghost use Rattle.std.specs.FinMap as map;
 ghost use Rattle.ndn_tlv.specs.Element.{Field};
 ghost use Rattle.ndn_packets.specs.Key.{PlainKey};
-ghost use Rattle.pit_fib.specs.Tables.{ByName, IsLongest, longest, revise};
+ghost use Rattle.name_trie.specs.ByName.{ByName, IsLongest, longest, revise};
 ghost use Rattle.pit_fib.specs.Records.{Records, Pending, HoldsTheLiving, is_alive, records_at};
 ghost use Rattle.pit_fib.specs.Cause.{Cause, Expires, records_after, with_reason};
 ghost use Rattle.pit_fib.specs.Pit.{IsLeastReason, was_sent, nacked_answer};

@@ -14,13 +14,12 @@ mod hops;
 mod key_buf;
 mod law;
 mod nacked;
-mod name_map;
 mod pit;
 mod spare;
 mod strategy_table;
 
 pub use by_face::Used;
-pub use faces::Faces;
+pub use faces::{Faces, MAX_FACES};
 pub use fault::{PitFault, TableFault};
 pub use fib::{Fib, MAX_DEPTH, MAX_ENTRIES};
 pub use hops::{Hop, Hops};

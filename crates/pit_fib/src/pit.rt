@@ -16,6 +16,7 @@ use crate::by_face::Used;
 use crate::entry::{Asker, Entry};
 use crate::faces::Faces;
 use crate::fault::PitFault;
+use crate::fib::MAX_ENTRIES;
 use crate::nacked::Nacked;
 use crate::spare::{Spare, octets_and_entry};
 use ndn_packets::{Data, Key};
@@ -24,7 +25,7 @@ use std::alloc::Global;
 use std::marker::Model;
 
 /// The greatest number of keys under which Interests wait.
-pub const MAX_PENDING: usize = 4096;
+pub const MAX_PENDING: usize = MAX_ENTRIES;
 
 /// The pending Interest table (NFD Developer's Guide, "Pending Interest Table"): by key, the
 /// Interests that wait and the faces to which they were sent. Under each of its keys some face
@@ -138,7 +139,7 @@ impl Pit {
         ensures ended { self.new.prepared ≡ None }
         ensures full { (result ≡ Err faults.PitFull)
             ↔ ((is_alive (records_at self.old.pending (plain_key key.entry)) ≡ false)
-            × (4096 ≤ map.len self.old.pending)) }
+            × (MAX_PENDING ≤ map.len self.old.pending)) }
         ensures promised { (octets : ℕ)
             → self.old.prepared ≡ Some (plain_key key.entry, octets)
             → length interest.now ≤ octets → IfErr result (λ fault. fault ≢ faults.Memory) }
@@ -156,7 +157,7 @@ impl Pit {
     fn is_full_for(&self, key: Key<'_>) -> bool
         ensures { IsTrue result
             ↔ ((is_alive (records_at self.now.pending (plain_key key.entry)) ≡ false)
-            × (4096 ≤ map.len self.now.pending)) }
+            × (MAX_PENDING ≤ map.len self.now.pending)) }
     {
         self.entries.len() >= MAX_PENDING && place_of(&self.entries, key).is_none()
     }

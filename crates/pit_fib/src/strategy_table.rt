@@ -2,13 +2,13 @@ ghost use Rattle.std.specs.Prelude.{◌≡◌, ◌≢◌, Err, None, Some, IsSom
 ghost use Rattle.std.specs.FinMap as map;
 ghost use Rattle.ndn_names.specs.View.{components};
 ghost use Rattle.pit_fib.specs.declared.fault.TableFault.TheVariants as faults;
-ghost use Rattle.pit_fib.specs.Tables.{longest as longest_in};
-ghost use Rattle.pit_fib.specs.NameTable.{refusal};
+ghost use Rattle.name_trie.specs.ByName.{longest as longest_in};
+ghost use Rattle.pit_fib.specs.Refusal.{refusal};
 ghost use Rattle.pit_fib.specs.StrategyTable.{only_best_route, without_choice};
 
 use crate::fault::TableFault;
 use crate::fib::{MAX_DEPTH, MAX_ENTRIES};
-use crate::name_map::NameMap;
+use name_trie::NameMap;
 use ndn_names::{Name, NameBuf};
 use ndn_tlv::Memory;
 use std::alloc::Global;
@@ -35,7 +35,7 @@ pub struct StrategyTable {
 impl Model for StrategyTable {
     ghost use Rattle.std.specs.Prelude.{◌≡◌, None, []};
     ghost use Rattle.std.specs.FinMap as map;
-    ghost use Rattle.pit_fib.specs.NameTable.{NameTable, name_table_code};
+    ghost use Rattle.name_trie.specs.NameTable.{NameTable, name_table_code};
     ghost use Rattle.pit_fib.specs.declared.strategy_table.StrategyId.{StrategyId};
     ghost use Rattle.pit_fib.specs.StrategyTable.{strategy_code};
 
@@ -145,9 +145,8 @@ impl StrategyTable {
     {
         let mut list = Vec::new(alloc);
         list.push((NameBuf::new(alloc), self.root))?;
-        for row in self.others.rows() {
-            let name = NameBuf::from_name(alloc, row.0.view())?;
-            list.push((name, row.1))?;
+        for (name, strategy) in self.others.list(alloc)? {
+            list.push((name, *strategy))?;
         }
         Ok(list)
     }

@@ -5,7 +5,7 @@ use Rattle.std.specs.declared.cmp.Ordering.TheVariants.{Less, Equal, Greater}
 use Rattle.std.specs.Ordering.{nat_cmp}
 use Rattle.std.specs.Cmp.{nat_cmp_total}
 use Rattle.std.specs.FinMap.{nat_cmp-IsAntisymmetric}
-use Rattle.pit_fib.proofs.Rows.{put_found, put_gap, put_end, find_found, find_gap, find_end, lower_more}
+use Rattle.ndn_names.proofs.Rows.{put_found, put_gap, put_end, find_found, find_gap, find_end, lower_more}
 use Rattle.pit_fib.proofs.by_face.place_of.Goals as goal
 
 pub returns-in-Equal-clause-found : goal.returns-in-Equal-clause-found

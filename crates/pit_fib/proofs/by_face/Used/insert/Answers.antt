@@ -6,7 +6,7 @@ use Rattle.std.specs.Cmp.{nat_cmp_total}
 use Rattle.std.specs.FinMap as map
 use Rattle.std.specs.FinMap.{get-from_sorted}
 use Rattle.pit_fib.specs.Tables.{ByFace}
-use Rattle.pit_fib.proofs.Rows.{sorted_put, from_put, len-from_sorted}
+use Rattle.ndn_names.proofs.Rows.{sorted_put, from_put, len-from_sorted}
 use Rattle.pit_fib.proofs.by_face.Used.insert.Goals as goal
 
 pub invariant_of-self : goal.invariant_of-self

@@ -1,5 +1,5 @@
 use Rattle.std.specs.Ordering.{nat_cmp}
-use Rattle.pit_fib.proofs.Rows.{from_none}
+use Rattle.ndn_names.proofs.Rows.{from_none}
 use Rattle.pit_fib.proofs.by_face.Used.new.Goals as goal
 
 pub returns : goal.returns

@@ -3,7 +3,7 @@ use Rattle.std.specs.Ordering.{nat_cmp}
 use Rattle.std.specs.FinMap as map
 use Rattle.pit_fib.specs.Records.{Records}
 use Rattle.pit_fib.specs.Pit.{moments}
-use Rattle.pit_fib.proofs.Rows.{from_none}
+use Rattle.ndn_names.proofs.Rows.{from_none}
 use Rattle.pit_fib.proofs.Moments.{Row, set_here, few_so_far, moments_more, moments_all, moments_in}
 use Rattle.ndn_packets.specs.Key.{PlainKey}
 use Rattle.pit_fib.proofs.entry.Entry.moments.Goals as goal

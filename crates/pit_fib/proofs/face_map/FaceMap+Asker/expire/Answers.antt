@@ -5,10 +5,10 @@ use Rattle.std.specs.Prelude.{filter, Some, None}
 use Rattle.std.specs.Ordering.{nat_cmp}
 use Rattle.std.specs.FinMap as map
 use Rattle.std.specs.FinMap.{from_sorted}
-use Rattle.pit_fib.specs.Tables.{revise, revised, with_entry}
+use Rattle.name_trie.specs.ByName.{revise, revised, with_entry}
 use Rattle.pit_fib.specs.Records.{Ask, Asks}
 use Rattle.pit_fib.specs.Cause.{until_after}
-use Rattle.pit_fib.proofs.Revised.{sorted_revised, from_revised}
+use Rattle.name_trie.proofs.Revised.{sorted_revised, from_revised}
 use Rattle.pit_fib.proofs.face_map.FaceMap+Asker.expire.Goals as goal
 
 filtered : (now : ℕ) (rows : List (ℕ × Ask)) → filter (λ row. ltb now row.1.deadline) rows ≡ revised (until_after now) rows

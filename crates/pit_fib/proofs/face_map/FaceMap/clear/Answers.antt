@@ -1,7 +1,7 @@
 use Rattle.std.proofs.Common.{ap, ◌∙◌}
 use Rattle.std.specs.Ordering.{nat_cmp}
 use Rattle.std.specs.FinMap.{from_sorted}
-use Rattle.pit_fib.proofs.Rows.{from_none}
+use Rattle.ndn_names.proofs.Rows.{from_none}
 use Rattle.pit_fib.proofs.face_map.FaceMap.clear.Goals as goal
 
 pub returns : goal.returns

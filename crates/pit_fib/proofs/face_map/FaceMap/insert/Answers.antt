@@ -5,7 +5,7 @@ use Rattle.std.specs.Ordering.{nat_cmp}
 use Rattle.std.specs.Cmp.{nat_cmp_total}
 use Rattle.std.specs.FinMap as map
 use Rattle.std.specs.FinMap.{get, put, len, get-from_sorted}
-use Rattle.pit_fib.proofs.Rows.{sorted_put, from_put, len-from_sorted}
+use Rattle.ndn_names.proofs.Rows.{sorted_put, from_put, len-from_sorted}
 use Rattle.pit_fib.proofs.face_map.FaceMap.insert.Given as given
 use Rattle.pit_fib.proofs.face_map.FaceMap.insert.Goals as goal
 use Rattle.pit_fib.proofs.face_map.FaceMap.insert.Goals.{After-drop-index_mut, In-Err, In_ok-insert-in-Err}

@@ -1,7 +1,7 @@
 use Rattle.std.proofs.Common.{◌≡◌, rules, ap, sym, ◌∙◌, eqb, length, vec_len}
 use Rattle.std.specs.Ordering.{nat_cmp}
 use Rattle.std.specs.FinMap.{len}
-use Rattle.pit_fib.proofs.Rows.{len-from_sorted}
+use Rattle.ndn_names.proofs.Rows.{len-from_sorted}
 use Rattle.pit_fib.proofs.face_map.FaceMap.is_empty.Goals as goal
 
 pub returns : goal.returns

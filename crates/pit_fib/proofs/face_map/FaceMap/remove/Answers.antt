@@ -4,7 +4,7 @@ use Rattle.std.specs.Cmp.{nat_cmp_total}
 use Rattle.std.proofs.lemmas.Fn.{filter_same}
 use Rattle.std.specs.FinMap as map
 use Rattle.std.specs.FinMap.{nat_cmp-IsAntisymmetric}
-use Rattle.pit_fib.proofs.Rows.{sorted_without, from_without}
+use Rattle.ndn_names.proofs.Rows.{sorted_without, from_without}
 use Rattle.pit_fib.proofs.face_map.FaceMap.remove.Goals as goal
 
 pub invariant_of-self : goal.invariant_of-self

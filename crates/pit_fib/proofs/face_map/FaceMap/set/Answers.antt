@@ -4,7 +4,7 @@ use Rattle.std.specs.Ordering.{nat_cmp}
 use Rattle.std.specs.Cmp.{nat_cmp_total}
 use Rattle.std.specs.FinMap as map
 use Rattle.std.specs.FinMap.{get, put, get-from_sorted}
-use Rattle.pit_fib.proofs.Rows.{sorted_put, from_put}
+use Rattle.ndn_names.proofs.Rows.{sorted_put, from_put}
 use Rattle.pit_fib.proofs.face_map.FaceMap.set.Given as given
 use Rattle.pit_fib.proofs.face_map.FaceMap.set.Goals as goal
 use Rattle.pit_fib.proofs.face_map.FaceMap.set.Goals.{After-drop-index_mut}

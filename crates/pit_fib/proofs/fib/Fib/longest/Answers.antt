@@ -5,7 +5,7 @@ use Rattle.ndn_names.specs.View.{components}
 use Rattle.pit_fib.specs.Tables.{ByFace}
 use Rattle.pit_fib.specs.Hops.{in_order, hops_of}
 use Rattle.pit_fib.specs.Fib.{longest_hops}
-use Rattle.pit_fib.proofs.Rows.{no_entries}
+use Rattle.ndn_names.proofs.Rows.{no_entries}
 use Rattle.pit_fib.proofs.fib.Fib.longest.Goals as goal
 
 pub returns-in-None : goal.returns-in-None

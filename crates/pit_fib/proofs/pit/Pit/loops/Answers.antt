@@ -7,7 +7,7 @@ use Rattle.ndn_packets.specs.Key.{plain_key}
 use Rattle.pit_fib.specs.Records.{Ask, Sent, no_records, same_nonce}
 use Rattle.pit_fib.specs.Pit.{PitState, loops, asks_with}
 use Rattle.pit_fib.proofs.PendingPlaces.{seen_here, seen_nothing}
-use Rattle.pit_fib.proofs.Rows.{no_entries}
+use Rattle.ndn_names.proofs.Rows.{no_entries}
 use Rattle.pit_fib.proofs.pit.Pit.loops.Goals as goal
 
 loops_nowhere : (face : ℕ) (nonce : List ℕ) → loops no_records face nonce ≡ false

@@ -4,7 +4,7 @@ use Rattle.ndn_packets.specs.Key.{plain_key}
 use Rattle.pit_fib.specs.Records.{Sent, Records}
 use Rattle.pit_fib.specs.Pit.{PitState, moments}
 use Rattle.std.specs.Prelude.{Some}
-use Rattle.pit_fib.proofs.Revised.{revise-empty}
+use Rattle.name_trie.proofs.Revised.{revise-empty}
 use Rattle.pit_fib.proofs.PendingPlaces.{seen_here, seen_nothing}
 use Rattle.pit_fib.proofs.pit.Pit.used.Goals as goal
 

@@ -3,7 +3,7 @@ use Rattle.std.specs.Prelude.{Option, Some}
 use Rattle.std.specs.Option.{option_or}
 use Rattle.ndn_names.specs.View.{components}
 use Rattle.pit_fib.specs.declared.strategy_table.StrategyId.{StrategyId}
-use Rattle.pit_fib.specs.Tables.{longest}
+use Rattle.name_trie.specs.ByName.{longest}
 use Rattle.pit_fib.proofs.RootChoice.{longest_with_root}
 use Rattle.pit_fib.proofs.strategy_table.StrategyTable.longest.Goals as goal
 use Rattle.pit_fib.proofs.strategy_table.StrategyTable.longest.Goals.{After-longest}

@@ -1,0 +1,9 @@
+pub mod Halves
+pub mod Revised
+pub mod Walks
+pub mod Changed
+pub mod LastOn
+pub mod Counts
+pub mod Listed
+pub mod Closed
+pub mod Tidy

@@ -1,0 +1,18 @@
+use Rattle.std.proofs.Common.{◌≡◌, ℕ, ◌+◌, ◌<◌, ◌≤◌, List}
+use Rattle.std.specs.Option.{option_and_then}
+use Rattle.std.specs.FinMap.{len}
+use Rattle.slab.specs.Slab.{get}
+use Rattle.ndn_tlv.specs.Element.{Field}
+use Rattle.name_trie.specs.Trie.{Sound, walk, value, table_of}
+use Rattle.name_trie.proofs.change.change_all.Given as goal
+
+abbrev pub invariant-loop-k : goal.invariant-loop-k
+invariant-loop-k g l =
+    record {
+      sound : Sound (get l.nodes) l.root;
+      walks : (q : List Field) → walk (get l.nodes) l.root q ≡ walk (get l.fn.nodes) l.fn.root q;
+      done : (a : ℕ) → a < l.k → value (get l.nodes) a ≡ option_and_then (g.C.Change.change l.how) (value (get l.fn.nodes) a);
+      todo : (a : ℕ) → l.k ≤ a → value (get l.nodes) a ≡ value (get l.fn.nodes) a;
+      count : len (table_of (get l.nodes) l.root) + l.gone ≡ len (table_of (get l.fn.nodes) l.fn.root);
+      few : l.gone ≤ l.k;
+    }

@@ -1,0 +1,5 @@
+pub mod ByName
+pub mod NameTable
+pub mod Links
+pub mod Trie
+pub mod Changes

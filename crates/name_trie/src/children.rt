@@ -1,0 +1,116 @@
+ghost use Rattle.std.specs.Prelude.{◌≡◌, ◌<◌, ◌≤◌, ℕ, None, Some, Option, List, length, insert, slice_set, slice_index_or, IfOk, IfErr, OnErr, OnOk, option_and_then, nat_eq, ◌==◌};
+ghost use lib.Dec.{T};
+ghost use Rattle.std.specs.FinMap as map;
+ghost use Rattle.ndn_tlv.specs.Element.{Field};
+ghost use Rattle.ndn_names.specs.Order.{component_cmp};
+ghost use Rattle.ndn_names.specs.View.{field_of};
+ghost use Rattle.name_trie.specs.ByName.{revise};
+ghost use Rattle.name_trie.specs.Links.{unless_is};
+
+use crate::component_buf::{ComponentBuf, compare};
+use ndn_names::Component;
+use ndn_tlv::Memory;
+use std::alloc::Global;
+use std::cmp::Ordering;
+use std::marker::Model;
+
+/// The children of a node, in canonical order of their components: the keys of their nodes.
+#[derive(Drop)]
+pub struct Children {
+    rows: Vec<(ComponentBuf, usize)>,
+}
+
+impl Model for Children {
+    ghost use lib.Dec.{T};
+    ghost use Rattle.std.specs.Coded.{coded_ℕ, coded_list, coded×};
+    ghost use Rattle.std.specs.FinMap as map;
+    ghost use Rattle.ndn_names.specs.Order.{component_cmp};
+    ghost use Rattle.name_trie.specs.Links.{Links};
+
+    ghost Value = { Links };
+
+    ghost coded = { map.code (coded× coded_ℕ (coded_list coded_ℕ)) coded_ℕ };
+
+    ghost view = { λ m. map.from_sorted m.rows.items };
+
+    ghost invariant = { λ m. T (map.is_sorted component_cmp m.rows.items) };
+}
+
+impl Children {
+    pub fn new(alloc: Global) -> Children
+        ensures { result ≡ map.empty }
+    {
+        Children {
+            rows: Vec::new(alloc),
+        }
+    }
+
+    pub fn is_empty(&self) -> bool
+        ensures { result ≡ (map.len self.now == 0) }
+    {
+        self.rows.is_empty()
+    }
+
+    /// The children with their components, in canonical order.
+    pub fn rows(&self) -> &[(ComponentBuf, usize)]
+        ensures { result.now ≡ map.entries self.now }
+    {
+        &self.rows
+    }
+
+    /// The child of a component.
+    pub fn get(&self, component: Component<'_>) -> Option<usize>
+        ensures { result ≡ map.get self.now (field_of component.entry) }
+    {
+        match place_of(&self.rows, component) {
+            Ok(at) => Some(self.rows[at].1),
+            Err(_) => None,
+        }
+    }
+
+    /// Adds a child, or sets the one of this component.
+    pub fn insert(&mut self, component: ComponentBuf, child: usize) -> Result<(), Memory>
+        ensures ok { OnOk result (self.new ≡ map.insert self.old component child) }
+        ensures err { OnErr result (self.new ≡ self.old) }
+    {
+        match place_of(&self.rows, component.view()) {
+            Ok(at) => self.rows[at].1 = child,
+            Err(at) => self.rows.insert(at, (component, child))?,
+        }
+        Ok(())
+    }
+
+    /// Removes a child.
+    pub fn forget(&mut self, child: usize)
+        ensures { self.new ≡ revise (unless_is child) self.old }
+    {
+        self.rows.retain(|row| row.1 != child);
+    }
+}
+
+/// Where the child's row is, or where it would go.
+fn place_of(rows: &[(ComponentBuf, usize)], component: Component<'_>) -> Result<usize, usize>
+    requires { T (map.is_sorted component_cmp rows.now) }
+    ensures found { IfOk result (λ at. (at < length rows.now)
+        × ((k : ℕ) → map.put component_cmp (field_of component.entry) k rows.now
+        ≡ slice_set rows.now at (field_of component.entry, k))
+        × ((row : Field × ℕ) → row ≡ slice_index_or rows.now at row
+        → (row.0 ≡ field_of component.entry)
+        × (map.find component_cmp (field_of component.entry) rows.now ≡ Some row.1))) }
+    ensures absent { IfErr result (λ at. (at ≤ length rows.now)
+        × ((k : ℕ) → map.put component_cmp (field_of component.entry) k rows.now
+        ≡ insert rows.now at (field_of component.entry, k))
+        × (map.find component_cmp (field_of component.entry) rows.now ≡ None)) }
+{
+    let mut low = 0;
+    let mut high = rows.len();
+    while low < high {
+        let mid = low + (high - low) / 2;
+        match compare(component, rows[mid].0.view()) {
+            Ordering::Greater => low = mid + 1,
+            Ordering::Equal => return Ok(mid),
+            Ordering::Less => high = mid,
+        }
+    }
+    Err(low)
+}

@@ -1,0 +1,13 @@
+//! Values by name, in a trie: look-ups, changes and the longest prefix in the time of one walk.
+#![tactic(auto)]
+
+mod change;
+mod children;
+mod component_buf;
+mod listing;
+mod name_map;
+mod node;
+mod trie;
+
+pub use change::Change;
+pub use name_map::NameMap;

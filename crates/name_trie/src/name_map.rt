@@ -1,0 +1,159 @@
+ghost use Rattle.std.specs.Prelude.{option_and_then, ◌≡◌, ◌<◌, ◌≤◌, ◌+◌, ◌^◌, ◌⊎◌, None, Some, length, map as list_map, IsOk, IfOk, IsSome, OnOk, OnErr};
+ghost use Rattle.std.specs.FinMap as map;
+ghost use Rattle.std.specs.Option.{option_map};
+ghost use Rattle.ndn_names.specs.View.{components};
+ghost use Rattle.name_trie.specs.ByName.{longest as longest_in, revise, with_value};
+
+use crate::change::Change;
+use crate::trie::NameTrie;
+use ndn_names::{Name, NameBuf};
+use ndn_tlv::Memory;
+use std::alloc::Global;
+use std::marker::Model;
+
+/// Values by name, in canonical order.
+#[derive(Drop)]
+pub struct NameMap<V> {
+    trie: NameTrie<V>,
+    // How many names have a value.
+    len: usize,
+}
+
+impl<V> Model for NameMap<V> {
+    ghost use Rattle.std.specs.Prelude.{◌≡◌};
+    ghost use Rattle.std.specs.FinMap as map;
+    ghost use Rattle.name_trie.specs.NameTable.{NameTable, name_table_code};
+
+    ghost Value = { NameTable V };
+
+    ghost coded = { name_table_code V.code };
+
+    ghost view = { λ m. m.trie };
+
+    ghost invariant = { λ m. m.len ≡ map.len m.trie.table };
+}
+
+impl<V: Drop> NameMap<V> {
+    pub fn new(alloc: Global) -> NameMap<V>
+        ensures table { result.table ≡ map.empty }
+        ensures prepared { result.prepared ≡ None }
+    {
+        NameMap {
+            trie: NameTrie::new(alloc),
+            len: 0,
+        }
+    }
+
+    pub fn len(&self) -> usize
+        ensures { result ≡ map.len self.now.table }
+    {
+        self.len
+    }
+
+    /// The value of a name.
+    pub fn get(&self, name: Name<'_>) -> Option<&V>
+        ensures { option_map (λ v. v.now) result ≡ map.get self.now.table (components name.entry) }
+    {
+        self.trie.get(name)
+    }
+
+    /// Sets the value of a name. `Memory` comes only for a name that has none, and changes nothing
+    /// but that no call is prepared any more.
+    pub fn put(&mut self, name: Name<'_>, value: V) -> Result<(), Memory>
+        requires { IsSome (map.get self.old.table (components name))
+            ⊎ (map.len self.old.table + 1 < 2 ^ 64) }
+        ensures ok { OnOk result
+            (self.new.table ≡ map.insert self.old.table (components name.entry) value) }
+        ensures err { OnErr result (self.new.table ≡ self.old.table) }
+        ensures ended { self.new.prepared ≡ None }
+        ensures known { IsSome (map.get self.old.table (components name.entry)) → IsOk result }
+        ensures promised { self.old.prepared ≡ Some (components name.entry) → IsOk result }
+    {
+        if self.trie.put(name, value)? {
+            self.len += 1;
+        }
+        Ok(())
+    }
+
+    /// Prepares one `put` of this name, which is then not refused memory.
+    pub fn prepare(&mut self, name: Name<'_>) -> Result<(), Memory>
+        ensures table { self.new.table ≡ self.old.table }
+        ensures ok { OnOk result (self.new.prepared ≡ Some (components name.entry)) }
+        ensures err { OnErr result (self.new.prepared ≡ None) }
+    {
+        self.trie.prepare(name)
+    }
+
+    /// Sets the value of a name that has one. What is prepared stays so.
+    pub fn replace(&mut self, name: Name<'_>, value: V)
+        requires { IsSome (map.get self.old.table (components name)) }
+        ensures table { self.new.table ≡ map.insert self.old.table (components name.entry) value }
+        ensures prepared { self.new.prepared ≡ self.old.prepared }
+    {
+        self.trie.replace(name, value);
+    }
+
+    /// Ends what is prepared.
+    pub fn forget_prepared(&mut self)
+        ensures table { self.new.table ≡ self.old.table }
+        ensures prepared { self.new.prepared ≡ None }
+    {
+        self.trie.forget_prepared();
+    }
+
+    /// Removes the value of a name.
+    pub fn remove(&mut self, name: Name<'_>)
+        ensures table { self.new.table ≡ map.remove self.old.table (components name.entry) }
+        ensures prepared { self.new.prepared ≡ self.old.prepared }
+    {
+        if self.trie.remove(name) {
+            self.len -= 1;
+        }
+    }
+
+    /// All names with their values, in canonical order.
+    pub fn list(&self, alloc: Global) -> Result<Vec<(NameBuf, &V)>, Memory>
+        ensures { IfOk result (λ list. list_map (λ r. (r.0, r.1.now)) list.items
+            ≡ map.entries self.now.table) }
+    {
+        self.trie.list(alloc)
+    }
+
+    /// The value of the longest prefix of a name that has one.
+    pub fn longest(&self, name: Name<'_>) -> Option<&V>
+        ensures { option_map (λ v. v.now) result
+            ≡ longest_in self.now.table (components name.entry) }
+    {
+        self.trie.longest(name)
+    }
+
+    /// As `longest`. Adds one to `steps` for each search among the children of a node.
+    pub fn longest_counted(&self, name: Name<'_>, steps: &mut u64) -> Option<&V>
+        requires { steps.old + 64 < 2 ^ 64 }
+        ensures exact { option_map (λ v. v.now) result
+            ≡ longest_in self.now.table (components name.entry) }
+        ensures counted { steps.old ≤ steps.new }
+        ensures cost { steps.new ≤ steps.old + length (components name.entry) }
+    {
+        self.trie.longest_counted(name, steps)
+    }
+}
+
+impl<V: Drop> NameMap<V> {
+    /// Changes the value of a name, if it has one.
+    pub fn change<C: Change<V>>(&mut self, name: Name<'_>, how: &C)
+        ensures table { self.new.table ≡ with_value self.old.table (components name.entry)
+            (option_and_then (C.change how.now) (map.get self.old.table (components name.entry))) }
+        ensures prepared { self.new.prepared ≡ self.old.prepared }
+    {
+        self.len -= usize::from(self.trie.change(name, how));
+    }
+
+    /// Changes all values.
+    pub fn change_all<C: Change<V>>(&mut self, how: &C)
+        ensures table { self.new.table ≡ revise (C.change how.now) self.old.table }
+        ensures prepared { self.new.prepared ≡ self.old.prepared }
+    {
+        self.len -= self.trie.change_all(how);
+    }
+}

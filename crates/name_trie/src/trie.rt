@@ -1,0 +1,249 @@
+ghost use Rattle.std.specs.Prelude.{◌≡◌, ◌+◌, ◌<◌, ◌≤◌, ◌^◌, ℕ, cond, List, None, Some, length, IsSome, IsOk, map as list_map, IfOk, OnOk, OnErr, is_none, is_some, option_and_then};
+ghost use Rattle.std.specs.Option.{option_map};
+ghost use Rattle.std.specs.Ordering.{eq_by_cmp};
+ghost use Rattle.std.specs.FinMap as map;
+ghost use Rattle.slab.specs.Slab.{get};
+ghost use Rattle.ndn_tlv.specs.Element.{Field};
+ghost use Rattle.ndn_names.specs.Order.{name_cmp};
+ghost use Rattle.ndn_names.specs.View.{components};
+ghost use Rattle.name_trie.specs.ByName.{longest as longest_in, revise, with_value};
+ghost use Rattle.name_trie.specs.Trie.{value as value_in, walk, lookup, Sound};
+ghost use Rattle.name_trie.specs.Changes.{SameLookups, IsBare, IsTidy};
+
+use crate::change::{Change, change_all, change_at};
+use crate::listing::list;
+use crate::node::{Node, find, longest, make_path, prune, set_value, value_of};
+use ndn_names::{Name, NameBuf};
+use ndn_tlv::Memory;
+use slab::Slab;
+use std::alloc::Global;
+use std::marker::Model;
+
+/// Values by name.
+#[derive(Drop)]
+pub struct NameTrie<V> {
+    alloc: Global,
+    nodes: Slab<Node<V>>,
+    root: Option<usize>,
+    // The name of the call that is prepared, and its node, which stays.
+    held: Option<(NameBuf, usize)>,
+}
+
+impl<V> Model for NameTrie<V> {
+    ghost use Rattle.std.specs.Prelude.{option_map};
+    ghost use Rattle.slab.specs.Slab.{get};
+    ghost use Rattle.name_trie.specs.NameTable.{NameTable, name_table_code};
+    ghost use Rattle.name_trie.specs.Trie.{table_of, Sound};
+    ghost use Rattle.name_trie.specs.Changes.{IsHeld, IsTidy};
+
+    ghost Value = { NameTable V };
+
+    ghost coded = { name_table_code V.code };
+
+    ghost view = { λ m. record {
+      table = table_of (get m.nodes) m.root;
+      prepared = option_map (λ p. p.0) m.held;
+    } };
+
+    ghost invariant = { λ m. Sound (get m.nodes) m.root × IsHeld (get m.nodes) m.root m.held
+        × IsTidy (get m.nodes) (option_map (λ p. p.1) m.held) };
+}
+
+/// Ends what is held.
+pub fn release<V: Drop>(
+    nodes: &mut Slab<Node<V>>,
+    root: &mut Option<usize>,
+    held: Option<(NameBuf, usize)>,
+)
+    requires { Sound (get nodes.old) root.old }
+    ensures sound { Sound (get nodes.new) root.new }
+    ensures same { SameLookups (get nodes.old) root.old (get nodes.new) root.new }
+    ensures tidy { IsTidy (get nodes.old) (option_map (λ p. p.1) held)
+        → IsTidy (get nodes.new) None }
+    ensures values { (j : ℕ) → value_in (get nodes.new) j ≡ value_in (get nodes.old) j }
+{
+    if let Some((_, k)) = held {
+        prune(nodes, root, k, None);
+    }
+}
+
+/// The node that is held.
+pub fn held_node(held: &Option<(NameBuf, usize)>) -> Option<usize>
+    ensures { result ≡ option_map (λ p. p.1) held.now }
+{
+    match held {
+        Some((_, k)) => Some(*k),
+        None => None,
+    }
+}
+
+/// Sets the value of a name.
+fn put_value<V: Drop>(
+    alloc: Global,
+    nodes: &mut Slab<Node<V>>,
+    root: &mut Option<usize>,
+    name: Name<'_>,
+    value: V,
+) -> Result<bool, Memory>
+    requires { Sound (get nodes.old) root.old }
+    ensures sound { Sound (get nodes.new) root.new }
+    ensures added { IfOk result (λ is_new. is_new
+        ≡ is_none (lookup (get nodes.old) root.old (components name.entry))) }
+    ensures ok { OnOk result ((q : List Field) → lookup (get nodes.new) root.new q
+        ≡ cond (eq_by_cmp name_cmp q (components name.entry)) (Some value)
+        (lookup (get nodes.old) root.old q)) }
+    ensures err { OnErr result (SameLookups (get nodes.old) root.old (get nodes.new) root.new) }
+    ensures tidy { (j : ℕ) → IsBare (get nodes.new) j → IsBare (get nodes.old) j }
+    ensures known { IsSome (walk (get nodes.old) root.old (components name.entry)) → IsOk result }
+{
+    let k = make_path(alloc, nodes, root, name)?;
+    let is_new = value_of(nodes, k).is_none();
+    set_value(nodes, k, Some(value));
+    Ok(is_new)
+}
+
+impl<V: Drop> NameTrie<V> {
+    pub fn new(alloc: Global) -> NameTrie<V>
+        ensures table { result.table ≡ map.empty }
+        ensures prepared { result.prepared ≡ None }
+    {
+        NameTrie {
+            alloc,
+            nodes: Slab::new(alloc),
+            root: None,
+            held: None,
+        }
+    }
+
+    /// The value of a name.
+    pub fn get(&self, name: Name<'_>) -> Option<&V>
+        ensures { option_map (λ v. v.now) result ≡ map.get self.now.table (components name.entry) }
+    {
+        let k = find(&self.nodes, self.root, name)?;
+        value_of(&self.nodes, k)
+    }
+
+    /// All names with their values, in canonical order.
+    pub fn list(&self, alloc: Global) -> Result<Vec<(NameBuf, &V)>, Memory>
+        ensures { IfOk result (λ list. list_map (λ r. (r.0, r.1.now)) list.items
+            ≡ map.entries self.now.table) }
+    {
+        list(alloc, &self.nodes, self.root)
+    }
+
+    /// The value of the longest prefix of a name that has one.
+    pub fn longest(&self, name: Name<'_>) -> Option<&V>
+        ensures { option_map (λ v. v.now) result
+            ≡ longest_in self.now.table (components name.entry) }
+    {
+        let mut steps = 0;
+        longest(&self.nodes, self.root, name, &mut steps)
+    }
+
+    /// As `longest`. Adds one to `steps` for each search among the children of a node.
+    pub fn longest_counted(&self, name: Name<'_>, steps: &mut u64) -> Option<&V>
+        requires { steps.old + 64 < 2 ^ 64 }
+        ensures exact { option_map (λ v. v.now) result
+            ≡ longest_in self.now.table (components name.entry) }
+        ensures counted { steps.old ≤ steps.new }
+        ensures cost { steps.new ≤ steps.old + length (components name.entry) }
+    {
+        longest(&self.nodes, self.root, name, steps)
+    }
+
+    /// Sets the value of a name. `Memory` comes only for a name that has none, and changes nothing
+    /// but that no call is prepared any more. Answers whether the name had none.
+    pub fn put(&mut self, name: Name<'_>, value: V) -> Result<bool, Memory>
+        ensures added { IfOk result (λ is_new. is_new
+            ≡ is_none (map.get self.old.table (components name.entry))) }
+        ensures ok { OnOk result
+            (self.new.table ≡ map.insert self.old.table (components name.entry) value) }
+        ensures err { OnErr result (self.new.table ≡ self.old.table) }
+        ensures ended { self.new.prepared ≡ None }
+        ensures known { IsSome (map.get self.old.table (components name.entry)) → IsOk result }
+        ensures promised { self.old.prepared ≡ Some (components name.entry) → IsOk result }
+    {
+        let held = self.held.take();
+        let result = put_value(self.alloc, &mut self.nodes, &mut self.root, name, value);
+        release(&mut self.nodes, &mut self.root, held);
+        result
+    }
+
+    /// Prepares one `put` of this name, which is then not refused memory.
+    pub fn prepare(&mut self, name: Name<'_>) -> Result<(), Memory>
+        ensures table { self.new.table ≡ self.old.table }
+        ensures ok { OnOk result (self.new.prepared ≡ Some (components name.entry)) }
+        ensures err { OnErr result (self.new.prepared ≡ None) }
+    {
+        self.forget_prepared();
+        let key = NameBuf::from_name(self.alloc, name)?;
+        let k = make_path(self.alloc, &mut self.nodes, &mut self.root, name)?;
+        self.held = Some((key, k));
+        Ok(())
+    }
+
+    /// Sets the value of a name that has one. What is prepared stays so.
+    pub fn replace(&mut self, name: Name<'_>, value: V)
+        requires { IsSome (map.get self.old.table (components name)) }
+        ensures table { self.new.table ≡ map.insert self.old.table (components name.entry) value }
+        ensures prepared { self.new.prepared ≡ self.old.prepared }
+    {
+        if let Some(k) = find(&self.nodes, self.root, name) {
+            set_value(&mut self.nodes, k, Some(value));
+        }
+    }
+
+    /// Ends what is prepared.
+    pub fn forget_prepared(&mut self)
+        ensures table { self.new.table ≡ self.old.table }
+        ensures prepared { self.new.prepared ≡ None }
+    {
+        let held = self.held.take();
+        release(&mut self.nodes, &mut self.root, held);
+    }
+
+    /// Removes the value of a name. Answers whether there was one.
+    pub fn remove(&mut self, name: Name<'_>) -> bool
+        ensures removed { result ≡ is_some (map.get self.old.table (components name.entry)) }
+        ensures table { self.new.table ≡ map.remove self.old.table (components name.entry) }
+        ensures prepared { self.new.prepared ≡ self.old.prepared }
+    {
+        if let Some(k) = find(&self.nodes, self.root, name) {
+            let kept = held_node(&self.held);
+            let had_value = value_of(&self.nodes, k).is_some();
+            set_value(&mut self.nodes, k, None);
+            prune(&mut self.nodes, &mut self.root, k, kept);
+            had_value
+        } else {
+            false
+        }
+    }
+}
+
+impl<V: Drop> NameTrie<V> {
+    /// Changes the value of a name, if it has one. Answers whether the value went.
+    pub fn change<C: Change<V>>(&mut self, name: Name<'_>, how: &C) -> bool
+        ensures table { self.new.table ≡ with_value self.old.table (components name.entry)
+            (option_and_then (C.change how.now) (map.get self.old.table (components name.entry))) }
+        ensures prepared { self.new.prepared ≡ self.old.prepared }
+        ensures count { map.len self.new.table + cond result 1 0 ≡ map.len self.old.table }
+    {
+        let Some(k) = find(&self.nodes, self.root, name) else {
+            return false;
+        };
+        let kept = held_node(&self.held);
+        let went = change_at(&mut self.nodes, k, how);
+        prune(&mut self.nodes, &mut self.root, k, kept);
+        went
+    }
+
+    /// Changes all values. Answers how many went.
+    pub fn change_all<C: Change<V>>(&mut self, how: &C) -> usize
+        ensures table { self.new.table ≡ revise (C.change how.now) self.old.table }
+        ensures prepared { self.new.prepared ≡ self.old.prepared }
+        ensures count { map.len self.new.table + result ≡ map.len self.old.table }
+    {
+        let kept = held_node(&self.held);
+        change_all(&mut self.nodes, &mut self.root, kept, how)
+    }
+}
