@@ -6,29 +6,20 @@ use Rattle.std.specs.Option.{option_map}
 use Rattle.std.proofs.lemmas.List.{length-append}
 use Rattle.ndn_tlv.specs.Number.{shortest_nni, spelling}
 use Rattle.ndn_tlv.specs.Element.{Field, element}
-use Rattle.ndn_tlv.proofs.Numbers.{length-spelling_one, length-spelling_nine}
-use Rattle.ndn_tlv.proofs.Integers.{length-shortest_eight}
+use Rattle.ndn_tlv.proofs.Numbers.{length-spelling_one}
 use Rattle.ndn_names.specs.Name.{octets_of}
 use Rattle.pit_fib.specs.declared.strategy_table.StrategyId.{StrategyId}
 use Rattle.pit_fib.specs.declared.strategy_table.StrategyId.TheVariants.{BestRoute, Multicast}
 use Rattle.mgmt_core.specs.declared.action.Action.{Action}
 use Rattle.mgmt_core.specs.declared.action.Action.TheVariants.{AddNexthop, RemoveNexthop, SetStrategy, UnsetStrategy, EraseCache}
-use Rattle.mgmt_core.specs.declared.types.TheConstants.{COST, COUNT, FACE_ID, NAME, STRATEGY}
+use Rattle.ndn_packets.specs.declared.command_types.TheConstants.{COST, COUNT, FACE_ID, STRATEGY}
+use Rattle.ndn_packets.specs.declared.types.TheConstants.{NAME}
 use Rattle.mgmt_core.specs.Commands.{row_of, takes, text_of, texts}
 use Rattle.mgmt_core.specs.Reading.{PlainCommand}
 use Rattle.mgmt_core.specs.Tables.{face_of, strategy_asked}
-use Rattle.mgmt_core.specs.Writing.{body_after, number, octets, optional, reply_body, response, strategy_value}
-use Rattle.mgmt_core.proofs.Texts.{length-element}
-
--- an element whose type has one octet
-element_fits : (kind : ℕ) (value : List ℕ) → kind < 253 → length (element (kind, value)) ≤ length value + 10
-element_fits kind value lt = omega (arith, length-element kind value, length-spelling_one kind lt, length-spelling_nine (length value))
-
-number_fits : (kind n : ℕ) → kind < 253 → length (element (kind, shortest_nni n)) ≤ 10
-number_fits kind n lt =
-    let few = length-shortest_eight n in
-    let one = length-spelling_one (length (shortest_nni n)) (omega (arith, few)) in
-    omega (arith, few, one, length-element kind (shortest_nni n), length-spelling_one kind lt)
+use Rattle.ndn_tlv.specs.Writing.{number, octets, optional}
+use Rattle.mgmt_core.specs.Writing.{body_after, reply_body, response, strategy_value}
+use Rattle.ndn_tlv.proofs.Lengths.{length-element, element_fits, number_fits}
 
 one_field : (kind n : ℕ) → kind < 253 → length (octets (number kind (Some n))) ≤ 10
 one_field kind n lt = omega (arith, number_fits kind n lt, length-append (element (kind, shortest_nni n)) [])

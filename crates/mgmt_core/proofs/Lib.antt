@@ -1,4 +1,3 @@
-pub mod Singles
 pub mod Strategies
 pub mod OpenFaces
 pub mod Texts

@@ -9,9 +9,10 @@ use Rattle.std.specs.FinMap.{get-empty, get-insert, get-remove}
 use Rattle.ndn_tlv.specs.Element.{Field}
 use Rattle.ndn_names.specs.Order.{name_cmp}
 use Rattle.ndn_names.specs.Key.{name_cmp-antisymmetric, name_cmp-total}
-use Rattle.pit_fib.proofs.Revised.{get-revise}
+use Rattle.name_trie.proofs.Revised.{get-revise}
 use Rattle.pit_fib.specs.Faces.{adding, has_face, with_face}
-use Rattle.pit_fib.specs.Fib.{Routes, costs_at, with_route, without_route, with_value, without_face, without_hop}
+use Rattle.pit_fib.specs.Fib.{Routes, costs_at, with_route, without_route, without_face, without_hop}
+use Rattle.pit_fib.specs.ByName.{with_value}
 use Rattle.pit_fib.specs.Tables.{ByFace}
 use Rattle.mgmt_core.specs.declared.action.Action.TheVariants.{AddNexthop, RemoveNexthop, SetStrategy, UnsetStrategy, EraseCache}
 use Rattle.mgmt_core.specs.Commands.{FaceNotOpen, PrefixTooLong, TableFull, row_of}

@@ -9,12 +9,14 @@ use Rattle.ndn_tlv.specs.Element.{Field, element}
 use Rattle.ndn_tlv.proofs.Numbers.{length-spelling_one, length-spelling_nine}
 use Rattle.ndn_tlv.proofs.Integers.{length-shortest_eight}
 use Rattle.ndn_names.specs.Name.{octets_of}
-use Rattle.mgmt_core.specs.declared.types.TheConstants.{NAME, FACE_ID, COST, COUNT, STRATEGY}
+use Rattle.ndn_packets.specs.declared.command_types.TheConstants.{FACE_ID, COST, COUNT, STRATEGY}
+use Rattle.ndn_packets.specs.declared.types.TheConstants.{NAME}
 use Rattle.mgmt_core.specs.Commands.{row_of, takes}
 use Rattle.mgmt_core.specs.Reading.{PlainCommand}
 use Rattle.mgmt_core.specs.Tables.{face_of, strategy_asked}
-use Rattle.mgmt_core.specs.Writing.{octets, number, optional, given, strategy_value, reply_fields, reply_body}
-use Rattle.mgmt_core.proofs.Texts.{length-element}
+use Rattle.ndn_tlv.specs.Writing.{octets, number, optional}
+use Rattle.mgmt_core.specs.Writing.{given, strategy_value, reply_fields, reply_body}
+use Rattle.ndn_tlv.proofs.Lengths.{length-element}
 
 abbrev greatest : ℕ
 greatest = 2 ^ 64 - 1

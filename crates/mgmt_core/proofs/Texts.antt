@@ -1,18 +1,9 @@
 -- Lengths of elements, and lists of texts.
 use Rattle.std.proofs.Common.{◌≡◌, ℕ, suc, zero, ◌+◌, ◌<◌, ◌≤◌, List, [], ◌∷◌, ◌++◌, length, take, refl, sym, ap, ◌∙◌, append_assoc, append-nil, add-one, arith, inl, inr, drop}
 use Rattle.std.specs.Prelude.{flat_map, slice_get, unwrap_or, Some, None, ◌-◌, ◌*◌, ◌/◌, min}
-use Rattle.std.proofs.lemmas.List.{length-append, take_all}
+use Rattle.std.proofs.lemmas.List.{take_all}
 use Rattle.std.proofs.lemmas.Bool.{cases_lt}
-use Rattle.ndn_tlv.specs.Number.{spelling}
-use Rattle.ndn_tlv.specs.Element.{element}
 use Rattle.mgmt_core.specs.Writing.{segment_at}
-use Rattle.ndn_tlv.proofs.Numbers.{length-spelling_nine}
-use Rattle.ndn_tlv.proofs.Integers.{length-shortest_eight}
-
-pub length-element : (kind : ℕ) (value : List ℕ) → length (element (kind, value)) ≡ length (spelling kind) + (length (spelling (length value)) + length value)
-length-element kind value = omega (arith, length-append (spelling kind) (spelling (length value) ++ value), length-append (spelling (length value)) value)
-
-pub ruleset element_lengths = (length-spelling_nine, length-shortest_eight, length-element)
 
 -- there is an item at each place of a list
 pub never_absent : {X : Type 0} (xs : List X) (at : ℕ) → at < length xs → slice_get xs at ≡ None → Unit {0} → at < at

@@ -5,7 +5,9 @@ use Rattle.std.specs.Option.{option_map}
 use Rattle.std.specs.List.{list_any}
 use Rattle.mgmt_core.specs.declared.action.Action.{Action}
 use Rattle.mgmt_core.specs.declared.action.Action.TheVariants.{AddNexthop, RemoveNexthop, SetStrategy, UnsetStrategy, EraseCache}
-use Rattle.mgmt_core.specs.declared.types.TheConstants.{NAME, FACE_ID, COST, STRATEGY, FLAGS, EXPIRATION_PERIOD, ORIGIN, COUNT, OK, BAD_PARAMETERS, UNKNOWN_STRATEGY, FACE_NOT_OPEN, PREFIX_TOO_LONG, UNKNOWN_COMMAND, TABLE_FULL}
+use Rattle.ndn_packets.specs.declared.command_types.TheConstants.{FACE_ID, COST, STRATEGY, FLAGS, EXPIRATION_PERIOD, ORIGIN, COUNT}
+use Rattle.ndn_packets.specs.declared.types.TheConstants.{NAME}
+use Rattle.mgmt_core.specs.declared.types.TheConstants.{OK, BAD_PARAMETERS, UNKNOWN_STRATEGY, FACE_NOT_OPEN, PREFIX_TOO_LONG, UNKNOWN_COMMAND, TABLE_FULL}
 
 -- why a command that is well formed may be refused
 pub data Refusal : Type 0 where

@@ -6,13 +6,17 @@ use Rattle.std.specs.Option.{option_map}
 use Rattle.std.specs.List.{list_all}
 use Rattle.ndn_tlv.specs.declared.fault.TlvFault.{TlvFault}
 use Rattle.ndn_tlv.specs.Element.{Field}
+use Rattle.ndn_tlv.specs.Fields.{Elements, first_of, single}
+use Rattle.ndn_tlv.specs.Options.{◌>>=◌}
 use Rattle.ndn_tlv.specs.Reading.{elements_of, nni_at, on_result}
 use Rattle.ndn_names.specs.declared.component_type.TheConstants.{GENERIC, PARAMETERS_SHA256_DIGEST}
-use Rattle.ndn_names.specs.Reading.{name_at}
+use Rattle.ndn_names.specs.Reading.{name_of}
 use Rattle.ndn_names.specs.View.{components}
 use Rattle.mgmt_core.specs.declared.action.Action.{Action}
 use Rattle.mgmt_core.specs.declared.command.Command.{Command}
-use Rattle.mgmt_core.specs.declared.types.TheConstants.{BAD_PARAMETERS, COST, COUNT, FACE_ID, NAME, PARAMETERS, STRATEGY, UNKNOWN_COMMAND}
+use Rattle.ndn_packets.specs.declared.command_types.TheConstants.{COST, COUNT, FACE_ID, CONTROL_PARAMETERS, STRATEGY}
+use Rattle.ndn_packets.specs.declared.types.TheConstants.{NAME}
+use Rattle.mgmt_core.specs.declared.types.TheConstants.{BAD_PARAMETERS, UNKNOWN_COMMAND}
 use Rattle.mgmt_core.specs.Commands.{Row, row_of, action_named, has, parameter_fields, takes}
 
 -- what a command asks for; face 0 is the face that it came from
@@ -35,36 +39,12 @@ asked c = record {
   count = c.count;
 }
 
-infixl 10 ◌>>=◌
-abbrev pub ◌>>=◌ : {A B : Type 0} → Option A → (A → Option B) → Option B
-None >>= f = None
-(Some x) >>= f = f x
-
 -- ---- fields
-
-abbrev pub Elements : Type 0
-Elements = List (Result Field TlvFault)
 
 -- it can be read, and is no field that the command does not take
 abbrev pub fits : Row → Result Field TlvFault → Bool
 fits row (Ok e) = not (has e.0 parameter_fields && not (takes e.0 row))
 fits row (Err fault) = false
-
--- the value of the first field of a type
-abbrev pub first_of : ℕ → Elements → Option (List ℕ)
-first_of kind [] = None
-first_of kind (Err fault ∷ es) = None
-first_of kind (Ok e ∷ es) = if e.0 == kind then Some e.1 else first_of kind es
-
--- the value of the one element that is there, of this type
-abbrev pub single : ℕ → Elements → Option (List ℕ)
-single kind [] = None
-single kind (Err fault ∷ es) = None
-single kind (Ok e ∷ []) = if e.0 == kind then Some e.1 else None
-single kind (Ok e ∷ (f ∷ es)) = None
-
-abbrev pub name_of : List ℕ → Option (List Field)
-name_of value = on_result (λ cs. Some cs) (λ _. None) (name_at value)
 
 abbrev pub number_of : List ℕ → Option ℕ
 number_of value = on_result (λ n. Some n) (λ _. None) (nni_at value)
@@ -143,7 +123,7 @@ action_at cs = do
 unfoldable pub parameters_at : Action → List Field → Option PlainCommand
 parameters_at action cs = do
   value ← generic_at cs 4
-  parameters ← single PARAMETERS (elements_of value)
+  parameters ← single CONTROL_PARAMETERS (elements_of value)
   command_of action (elements_of parameters)
 
 -- a command, or the first status that refuses it

@@ -4,7 +4,8 @@ use Rattle.mgmt_core.specs.declared.action.Action.TheVariants.{AddNexthop, SetSt
 use Rattle.mgmt_core.specs.declared.reply.ReplyRoom.{ReplyRoom}
 use Rattle.mgmt_core.specs.declared.tables.Tables.{Tables}
 use Rattle.mgmt_core.specs.Reading.{PlainCommand}
-use Rattle.mgmt_core.specs.Writing.{octets, reply_body, reply_fields}
+use Rattle.ndn_tlv.specs.Writing.{octets}
+use Rattle.mgmt_core.specs.Writing.{reply_body, reply_fields}
 
 -- there is room for the reply to a command, whichever face it comes from
 abbrev pub HasRoomForReply : ReplyRoom → PlainCommand → Type 0

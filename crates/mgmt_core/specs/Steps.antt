@@ -2,6 +2,7 @@
 use Rattle.std.specs.Prelude.{ℕ, List, length, not, nat_lt, Option, None, Some, Result, Ok, Err, if◌then◌else◌}
 use Rattle.ndn_tlv.specs.Element.{Field}
 use Rattle.ndn_tlv.specs.declared.memory.Memory.{Memory}
+use Rattle.pit_fib.specs.declared.fib.TheConstants.{MAX_DEPTH}
 use Rattle.pit_fib.specs.declared.fault.TableFault.{TableFault}
 use Rattle.pit_fib.specs.declared.fault.TableFault.TheVariants as faults
 use Rattle.pit_fib.specs.declared.strategy_table.StrategyId.{StrategyId}
@@ -13,16 +14,16 @@ use Rattle.mgmt_core.specs.Tables.{is_full}
 
 abbrev pub add_status : List Field → ℕ → List ℕ → Routes → ℕ
 add_status name face up routes =
-    if nat_lt 32 (length name) then PREFIX_TOO_LONG else (
+    if nat_lt MAX_DEPTH (length name) then PREFIX_TOO_LONG else (
     if not (has_face face up) then FACE_NOT_OPEN else (
     if is_full routes name then TABLE_FULL else
     OK))
 
 abbrev pub set_status : List Field → Option StrategyId → Choices → ℕ
 set_status name None choices =
-    if nat_lt 32 (length name) then PREFIX_TOO_LONG else UNKNOWN_STRATEGY
+    if nat_lt MAX_DEPTH (length name) then PREFIX_TOO_LONG else UNKNOWN_STRATEGY
 set_status name (Some strategy) choices =
-    if nat_lt 32 (length name) then PREFIX_TOO_LONG else (
+    if nat_lt MAX_DEPTH (length name) then PREFIX_TOO_LONG else (
     if is_full choices name then TABLE_FULL else
     OK)
 

@@ -6,18 +6,20 @@ use Rattle.std.specs.Ordering.{eq_by_cmp}
 use Rattle.ndn_tlv.specs.Element.{Field}
 use Rattle.ndn_names.specs.declared.component_type.TheConstants.{GENERIC, VERSION}
 use Rattle.ndn_names.specs.Order.{name_cmp}
+use Rattle.pit_fib.specs.declared.fib.TheConstants.{MAX_DEPTH, MAX_ENTRIES}
 use Rattle.pit_fib.specs.declared.strategy_table.StrategyId.{StrategyId}
 use Rattle.pit_fib.specs.declared.strategy_table.StrategyId.TheVariants.{BestRoute, Multicast}
 use Rattle.pit_fib.specs.Faces.{has_face}
 use Rattle.pit_fib.specs.Fib.{Routes, costs_at, with_route, without_route}
 use Rattle.pit_fib.specs.StrategyTable.{Choices, without_choice}
-use Rattle.pit_fib.specs.Tables.{ByName}
+use Rattle.pit_fib.specs.ByName.{ByName}
 use Rattle.content_store.specs.Store.{CachedData, Erases}
 use Rattle.mgmt_core.specs.declared.action.Action.{Action}
 use Rattle.mgmt_core.specs.declared.action.Action.TheVariants.{AddNexthop, RemoveNexthop, SetStrategy, UnsetStrategy, EraseCache}
 use Rattle.mgmt_core.specs.declared.types.TheConstants.{FACE_NOT_OPEN, OK, PREFIX_TOO_LONG, TABLE_FULL, UNKNOWN_STRATEGY}
 use Rattle.mgmt_core.specs.Commands.{Refusal, PrefixTooLong, FaceNotOpen, UnknownStrategy, TableFull, row_of}
-use Rattle.mgmt_core.specs.Reading.{PlainCommand, without_last, ◌>>=◌}
+use Rattle.ndn_tlv.specs.Options.{◌>>=◌}
+use Rattle.mgmt_core.specs.Reading.{PlainCommand, without_last}
 
 -- ---- strategies
 
@@ -51,7 +53,7 @@ face_of c face = if c.face == 0 then face else c.face
 
 -- the name is new, and 4,096 stand
 abbrev pub is_full : {X : Type 0} → ByName X → List Field → Bool
-is_full table name = not (map.contains_key table name) && nat_le 4096 (map.len table)
+is_full table name = not (map.contains_key table name) && nat_le MAX_ENTRIES (map.len table)
 
 -- the table that a command changes
 abbrev pub is_full_for : Action → Routes → Choices → List Field → Bool
@@ -59,7 +61,7 @@ is_full_for SetStrategy routes choices name = is_full choices name
 is_full_for _ routes choices name = is_full routes name
 
 abbrev pub refuses : PlainCommand → ℕ → List ℕ → Routes → Choices → Refusal → Bool
-refuses c face up routes choices PrefixTooLong = nat_lt 32 (length c.name)
+refuses c face up routes choices PrefixTooLong = nat_lt MAX_DEPTH (length c.name)
 refuses c face up routes choices FaceNotOpen = not (has_face (face_of c face) up)
 refuses c face up routes choices UnknownStrategy = is_none (strategy_asked c)
 refuses c face up routes choices TableFull = is_full_for c.action routes choices c.name

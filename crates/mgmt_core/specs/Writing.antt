@@ -5,28 +5,20 @@ use Rattle.std.specs.FinMap.{entries}
 use Rattle.std.specs.Option.{option_map}
 use Rattle.ndn_tlv.specs.Number.{shortest_nni}
 use Rattle.ndn_tlv.specs.Element.{Field, element}
+use Rattle.ndn_tlv.specs.Writing.{octets, optional, number}
 use Rattle.ndn_names.specs.Name.{octets_of}
 use Rattle.pit_fib.specs.declared.hops.Hop.{Hop}
 use Rattle.pit_fib.specs.declared.strategy_table.StrategyId.{StrategyId}
 use Rattle.pit_fib.specs.Fib.{Routes, listed}
 use Rattle.pit_fib.specs.StrategyTable.{Choices}
-use Rattle.mgmt_core.specs.declared.types.TheConstants.{COST, COUNT, ENTRY, FACE_ID, NAME, NEXT_HOP, OK, PARAMETERS, RESPONSE, STATUS_CODE, STATUS_TEXT, STRATEGY}
+use Rattle.ndn_packets.specs.declared.command_types.TheConstants.{COST, COUNT, ENTRY, FACE_ID, NEXT_HOP, CONTROL_PARAMETERS, CONTROL_RESPONSE, STATUS_CODE, STATUS_TEXT, STRATEGY}
+use Rattle.ndn_packets.specs.declared.types.TheConstants.{NAME}
+use Rattle.mgmt_core.specs.declared.types.TheConstants.{OK}
 use Rattle.mgmt_core.specs.declared.dataset.TheConstants.{SEGMENT_LEN}
 use Rattle.mgmt_core.specs.declared.reply.TheConstants.{BODY_EXTRA, REPLY_EXTRA}
 use Rattle.mgmt_core.specs.Commands.{row_of, takes}
 use Rattle.mgmt_core.specs.Reading.{PlainCommand}
 use Rattle.mgmt_core.specs.Tables.{face_of, strategy_asked, strategy_name}
-
-abbrev pub octets : List Field → List ℕ
-octets fields = flat_map element fields
-
--- a field that may be absent
-abbrev pub optional : ℕ → Option (List ℕ) → List Field
-optional kind None = []
-optional kind (Some value) = (kind, value) ∷ []
-
-abbrev pub number : ℕ → Option ℕ → List Field
-number kind n = optional kind (option_map shortest_nni n)
 
 -- a strategy, as an element that is a Name
 abbrev pub strategy_value : StrategyId → List ℕ
@@ -48,7 +40,7 @@ reply_fields c face =
 
 -- the body of a reply
 abbrev pub reply_body : PlainCommand → ℕ → List ℕ
-reply_body c face = element (PARAMETERS, octets (reply_fields c face))
+reply_body c face = element (CONTROL_PARAMETERS, octets (reply_fields c face))
 
 -- what a command is answered with at a status: no body where it is not 200
 abbrev pub body_after : PlainCommand → ℕ → ℕ → List ℕ
@@ -58,7 +50,7 @@ body_after c face status = if status == OK then reply_body c face else []
 abbrev pub response : ℕ → List ℕ → List ℕ → List ℕ
 response status text body =
     element (
-      RESPONSE,
+      CONTROL_RESPONSE,
       octets ((STATUS_CODE, shortest_nni status) ∷ (STATUS_TEXT, text) ∷ [])
           ++ body,
     )

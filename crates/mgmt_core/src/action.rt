@@ -1,7 +1,8 @@
 ghost use Rattle.std.specs.Prelude.{◌≡◌};
 ghost use Rattle.mgmt_core.specs.Commands.{row_of, is_named, takes, action_named};
 
-use crate::types::{COST, COUNT, FACE_ID, NAME, STRATEGY};
+use ndn_packets::command_types::{COST, COUNT, FACE_ID, STRATEGY};
+use ndn_packets::types::NAME;
 
 /// What a command does (NFD Management, "FIB Management", "Strategy Choice Management", "Content
 /// Store Management").

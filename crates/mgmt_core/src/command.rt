@@ -5,12 +5,12 @@ ghost use Rattle.ndn_names.specs.View.{components, field_of};
 ghost use Rattle.mgmt_core.specs.Reading.{asked, command_at, parameters_at, command_of, without_last as front_of, generic_at, action_at};
 
 use crate::action::Action;
-use crate::fields::{
-    are_fields, has_needed, name_field, number_field, single_element, strategy_field,
-};
-use crate::types::{BAD_PARAMETERS, COST, COUNT, FACE_ID, PARAMETERS, UNKNOWN_COMMAND};
+use crate::fields::{are_fields, has_needed, name_field, number_field, strategy_field};
+use crate::types::{BAD_PARAMETERS, UNKNOWN_COMMAND};
 use ndn_names::Name;
 use ndn_names::component_type::{GENERIC, PARAMETERS_SHA256_DIGEST};
+use ndn_packets::command_types::{CONTROL_PARAMETERS, COST, COUNT, FACE_ID};
+use ndn_tlv::single_element;
 
 /// A command that is well formed (NFD Management, "Control Command").
 #[derive(Clone, Copy, Debug)]
@@ -96,7 +96,7 @@ fn command_in<'a>(action: Action, name: Name<'a>) -> Option<Command<'a>>
     ensures { option_map asked result ≡ parameters_at action (components name.entry) }
 {
     let component = generic_at(name, 4)?;
-    let fields = single_element(component, PARAMETERS)?;
+    let fields = single_element(component, CONTROL_PARAMETERS)?;
     command_of(action, fields)
 }
 

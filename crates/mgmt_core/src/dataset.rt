@@ -3,10 +3,10 @@ ghost use Rattle.std.specs.Option.{option_map};
 ghost use Rattle.mgmt_core.specs.Writing.{choice_text, fib_text, hop_text, route_text, segment_at, strategy_text};
 
 use crate::strategy_name::strategy_value;
-use crate::types::{COST, ENTRY, FACE_ID, NAME, NEXT_HOP, STRATEGY};
-use crate::writing::put_nni_element;
 use ndn_names::NameBuf;
-use ndn_tlv::{Memory, put_element};
+use ndn_packets::command_types::{COST, ENTRY, FACE_ID, NEXT_HOP, STRATEGY};
+use ndn_packets::types::NAME;
+use ndn_tlv::{Memory, put_element, put_nni_element};
 use pit_fib::{Fib, Hop, Hops, StrategyId, StrategyTable};
 use std::alloc::Global;
 

@@ -1,4 +1,5 @@
 ghost use Rattle.std.specs.Prelude.{◌≡◌, ◌≤◌, length, Some, IsOk, IfOk, OnOk, OnErr, true};
+ghost use Rattle.pit_fib.specs.declared.faces.TheConstants.{MAX_FACES};
 ghost use Rattle.pit_fib.specs.Faces.{IsRising, has_face};
 ghost use Rattle.mgmt_core.specs.Reading.{asked};
 ghost use Rattle.mgmt_core.specs.Room.{IsPrepared};
@@ -128,7 +129,7 @@ fn status_after(done: Result<(), TableFault>) -> Result<u16, Memory>
 /// Whether a face is up.
 fn is_up(face: u64, up: &Faces) -> bool
     ensures exact { result ≡ has_face face up.now }
-    ensures small { result ≡ true → length up.now ≤ 64 }
+    ensures small { result ≡ true → length up.now ≤ MAX_FACES }
     ensures rising { result ≡ true → IsRising up.now }
 {
     up.len() > 0 && up.contains(face)

@@ -3,28 +3,19 @@
 ghost use Rattle.std.specs.Prelude.{◌≡◌, is_some};
 ghost use Rattle.std.specs.Option.{option_map};
 ghost use Rattle.std.specs.List.{list_all};
+ghost use Rattle.ndn_tlv.specs.Fields.{first_of};
 ghost use Rattle.ndn_tlv.specs.Reading.{elements_of};
 ghost use Rattle.ndn_names.specs.View.{components};
 ghost use Rattle.mgmt_core.specs.Commands.{row_of, has, parameter_fields};
-ghost use Rattle.mgmt_core.specs.Reading.{fits, first_of, single, number_in, name_in, strategy_in};
+ghost use Rattle.mgmt_core.specs.Reading.{fits, number_in, name_in, strategy_in};
 
 use crate::action::Action;
-use crate::types::{COST, COUNT, EXPIRATION_PERIOD, FACE_ID, FLAGS, NAME, ORIGIN, STRATEGY};
 use ndn_names::Name;
-use ndn_tlv::{first_element, nni_of};
-
-/// The value of octets that are one element of this type.
-pub fn single_element(octets: &[u8], kind: u32) -> Option<&[u8]>
-    ensures { option_map (λ v. v.now) result ≡ single kind (elements_of octets.now) }
-{
-    let Ok((element, rest)) = first_element(octets) else {
-        return None;
-    };
-    if element.kind == kind && rest.is_empty() {
-        return Some(element.value);
-    }
-    None
-}
+use ndn_packets::command_types::{
+    COST, COUNT, EXPIRATION_PERIOD, FACE_ID, FLAGS, ORIGIN, STRATEGY,
+};
+use ndn_packets::types::NAME;
+use ndn_tlv::{first_element, first_field, nni_of, single_element};
 
 /// Whether parameters can have a field of this type.
 fn is_field(kind: u32) -> bool
@@ -51,23 +42,6 @@ pub fn are_fields(octets: &[u8], action: Action) -> bool
         rest = after;
     }
     true
-}
-
-/// The value of the first field of this type.
-pub fn first_field(octets: &[u8], kind: u32) -> Option<&[u8]>
-    ensures { option_map (λ v. v.now) result ≡ first_of kind (elements_of octets.now) }
-{
-    let mut rest = octets;
-    while !rest.is_empty() {
-        let Ok((element, after)) = first_element(rest) else {
-            return None;
-        };
-        if element.kind == kind {
-            return Some(element.value);
-        }
-        rest = after;
-    }
-    None
 }
 
 /// The number in the first field of this type, if there is one. None where it is no number.

@@ -14,7 +14,6 @@ mod response;
 mod strategy_name;
 mod tables;
 mod types;
-mod writing;
 
 pub use action::Action;
 pub use applied::{Applied, Octets};
@@ -28,3 +27,4 @@ pub use law::{
 pub use reply::{BODY_EXTRA, REPLY_EXTRA};
 pub use response::{put_response, status_text};
 pub use tables::Tables;
+pub use types::command_statuses_are_as_assigned;

@@ -2,7 +2,8 @@ ghost use Rattle.std.specs.Prelude.{◌≡◌, ◌<◌, ◌≤◌, ◌+◌, ◌^
 ghost use Rattle.std.specs.Vec.{vec_capacity};
 ghost use Rattle.mgmt_core.specs.Reading.{asked};
 ghost use Rattle.mgmt_core.specs.Tables.{face_of, strategy_asked};
-ghost use Rattle.mgmt_core.specs.Writing.{given, octets, optional, reply_body, reply_fields, reply_limit};
+ghost use Rattle.ndn_tlv.specs.Writing.{octets, optional};
+ghost use Rattle.mgmt_core.specs.Writing.{given, reply_body, reply_fields, reply_limit};
 ghost use Rattle.mgmt_core.specs.Writing.{strategy_value};
 ghost use Rattle.std.specs.Option.{option_map};
 ghost use Rattle.mgmt_core.specs.Room.{HasRoomForReply};
@@ -10,9 +11,9 @@ ghost use Rattle.mgmt_core.specs.Room.{HasRoomForReply};
 use crate::applied::Octets;
 use crate::command::Command;
 use crate::strategy_name::{strategy_named, strategy_value};
-use crate::types::{COST, COUNT, FACE_ID, NAME, PARAMETERS, STRATEGY};
-use crate::writing::put_number_field;
-use ndn_tlv::{Memory, put_element};
+use ndn_packets::command_types::{CONTROL_PARAMETERS, COST, COUNT, FACE_ID, STRATEGY};
+use ndn_packets::types::NAME;
+use ndn_tlv::{Memory, put_element, put_number_field};
 use pit_fib::StrategyId;
 use std::alloc::Global;
 use std::mem;
@@ -148,7 +149,7 @@ impl ReplyRoom {
         command.put_fields(&mut self.fields, face)?;
         let mut body = mem::replace(&mut self.body, Vec::new(alloc));
         body.clear();
-        put_element(&mut body, PARAMETERS, &self.fields)?;
+        put_element(&mut body, CONTROL_PARAMETERS, &self.fields)?;
         Ok(Octets::of(body))
     }
 }

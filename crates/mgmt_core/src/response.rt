@@ -5,11 +5,11 @@ ghost use Rattle.mgmt_core.specs.Commands.{text_of};
 ghost use Rattle.mgmt_core.specs.Writing.{response};
 
 use crate::types::{
-    BAD_PARAMETERS, FACE_NOT_OPEN, OK, PREFIX_TOO_LONG, RESPONSE, STATUS_CODE, STATUS_TEXT,
-    TABLE_FULL, UNKNOWN_COMMAND, UNKNOWN_STRATEGY,
+    BAD_PARAMETERS, FACE_NOT_OPEN, OK, PREFIX_TOO_LONG, TABLE_FULL, UNKNOWN_COMMAND,
+    UNKNOWN_STRATEGY,
 };
-use crate::writing::{element_len, nni_element_len, put_nni_element};
-use ndn_tlv::{Memory, put_element, put_number};
+use ndn_packets::command_types::{CONTROL_RESPONSE, STATUS_CODE, STATUS_TEXT};
+use ndn_tlv::{Memory, element_len, nni_element_len, put_element, put_nni_element, put_number};
 
 /// The text of a status that a command is answered with. None for any other status.
 pub fn status_text(status: u16) -> Option<&'static str>
@@ -59,7 +59,7 @@ fn put_parts(out: &mut Vec<u8>, status: u16, text: &[u8], body: &[u8]) -> Result
     let status = u64::from(status);
     let front_len = nni_element_len(STATUS_CODE, status) + element_len(STATUS_TEXT, text);
     let value_len = front_len.checked_add(body.len()).ok_or(Memory)?;
-    put_number(out, u64::from(RESPONSE))?;
+    put_number(out, u64::from(CONTROL_RESPONSE))?;
     put_number(out, value_len as u64)?;
     put_nni_element(out, STATUS_CODE, status)?;
     put_element(out, STATUS_TEXT, text)?;
