@@ -1,5 +1,5 @@
 -- Ports that are read one after the other.
-use Rattle.std.proofs.Common.{◌≡◌, ◌≢◌, ℕ, ◌+◌, ◌<◌, ◌≤◌, List, [], ◌∷◌, ◌++◌, map, take, length, nat_eq, true, false, refl, sym, ap, subst, ◌∙◌, add-one, arith, rules}
+use Rattle.std.proofs.Common.{◌≡◌, ◌≢◌, ℕ, ◌+◌, ◌<◌, ◌≤◌, List, [], ◌∷◌, ◌++◌, map, take, length, nat_eq, true, false, refl, sym, ap, subst, ◌∙◌, add-one, arith}
 use Rattle.std.specs.Prelude.{All, AllPairs, slice_index_or}
 use Rattle.std.specs.Str.Parse.{digits_value}
 use Rattle.std.proofs.Math.Seq.{take-suc}
@@ -7,6 +7,7 @@ use Rattle.std.proofs.lemmas.Bool.{eqb-true, eqb-false}
 use Rattle.std.proofs.lemmas.List.Elements.{All-push}
 use Rattle.std.proofs.lemmas.List.Quantifiers.{all_pairs_push}
 use Rattle.std.proofs.lemmas.List.{get_or-take, get_or-map, map-append, length-map, length-take-le}
+use Rattle.pit_fib.specs.declared.faces.TheConstants.{MAX_FACES}
 use Rattle.ndn_daemon.specs.UdpOptions.{IsPort, IsLocal, ArePorts}
 
 abbrev pub IsPortText : List ℕ → Type 0
@@ -77,7 +78,7 @@ as_many texts a b first second = ap length (sym first.spelled ∙ second.spelled
 pub same_local : (texts : List (List ℕ)) (a b : List ℕ) → ArePorts texts a → ArePorts texts b → (text : List ℕ) (n local : ℕ) → n ≡ length b → IsLocal text (length a) local → IsLocal text n local
 same_local texts a b first second text n local e h = subst (λ (m : ℕ). IsLocal text m local) (as_many texts a b first second ∙ sym e) h
 
-pub few_ports : (texts : List (List ℕ)) (ports : List ℕ) → ArePorts texts ports → length ports ≤ 64
+pub few_ports : (texts : List (List ℕ)) (ports : List ℕ) → ArePorts texts ports → length ports ≤ MAX_FACES
 few_ports texts ports are =
     let same : length texts ≡ length ports = sym (length-map texts (digits_value 10)) ∙ ap length are.spelled in
-    subst (λ (n : ℕ). n ≤ 64) same are.few
+    subst (λ (n : ℕ). n ≤ MAX_FACES) same are.few

@@ -1,10 +1,9 @@
 -- What spells nothing where a part of it spells nothing.
-use Rattle.std.proofs.Common.{◌≡◌, ℕ, List, Option, None, Some, Result, Ok, Err, sym, subst, ◌∙◌}
 use Rattle.node_core.specs.declared.script.RunFault.TheVariants as run
 use Rattle.ndn_daemon.specs.declared.fault.Fault.{Fault}
 use Rattle.ndn_daemon.specs.declared.fault.Fault.TheVariants as fault
-use Rattle.ndn_daemon.specs.Options.{IsWrong, IsRefused, Reads, ReadsInMemory}
-use Rattle.ndn_daemon.specs.UdpOptions.{Has, IsBadValue}
+use Rattle.ndn_daemon.specs.Options.{IsWrong, IsRefused}
+use Rattle.ndn_daemon.specs.UdpOptions.{IsBadValue}
 
 -- a whole, of which each value has a part
 

@@ -5,6 +5,7 @@ use Rattle.clap.specs.declared.error.Error.{Error}
 use Rattle.clap.specs.declared.error.kind.ErrorKind.{ErrorKind}
 use Rattle.clap.specs.declared.error.kind.ErrorKind.TheVariants.{DisplayHelp, DisplayVersion, OutOfMemory}
 use Rattle.node_core.specs.declared.script.RunFault.TheVariants.{Memory}
+use Rattle.pit_fib.specs.declared.faces.TheConstants.{MAX_FACES}
 use Rattle.ndn_daemon.specs.declared.command.Request.{Request}
 use Rattle.ndn_daemon.specs.declared.command.Request.TheVariants.{Help, Udp, Script as RunScript}
 use Rattle.ndn_daemon.specs.declared.fault.Fault.{Fault}
@@ -30,4 +31,4 @@ IsRequest name rows (Udp node options) =
 abbrev pub HasFewPeers : Request → Type 0
 HasFewPeers (Help error) = ⊤
 HasFewPeers (RunScript node) = ⊤
-HasFewPeers (Udp node options) = length options.peers.items ≤ 64
+HasFewPeers (Udp node options) = length options.peers.items ≤ MAX_FACES

@@ -6,7 +6,7 @@ use Rattle.hmac_keys.specs.declared.fault.KeyFault.TheVariants.{BadLine as BadKe
 use Rattle.info_rules.specs.Names.{fault_name}
 use Rattle.info_rules.specs.declared.fault.RulesFaultKind.{RulesFaultKind}
 use Rattle.info_rules.specs.declared.fault.RulesFaultKind.TheVariants as kinds
-use Rattle.node_core.specs.declared.node.NodeFault.TheVariants.{BadRepoPrefix, BadCapacity, Memory as NodeMemory}
+use Rattle.forwarder.specs.declared.node.NodeFault.TheVariants.{BadRepoPrefix, BadCapacity, Memory as NodeMemory}
 use Rattle.node_core.specs.declared.script.RunFault.{RunFault}
 use Rattle.node_core.specs.declared.script.RunFault.TheVariants.{BadLine, Read, Write, Node, Memory}
 use Rattle.ndn_daemon.specs.declared.fault.Fault.{Fault}

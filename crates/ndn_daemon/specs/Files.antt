@@ -1,8 +1,6 @@
 -- What the octets of a rule file and of a key file are read as.
 use Rattle.std.specs.Prelude.{◌≡◌, ◌⊎◌, ℕ, List, Err, IsUtf8}
-use Rattle.hmac_keys.specs.declared.fault.KeyFault.TheVariants.{BadLine}
-use Rattle.hmac_keys.specs.KeyFile.{NamedKey, KeysOf}
-use Rattle.hmac_keys.specs.KeyReading.{keys_in, IsFaultOf}
+use Rattle.hmac_keys.specs.KeyReading.{IsFaultOfOctets}
 use Rattle.info_rules.specs.declared.fault.RulesFault.{RulesFault}
 use Rattle.info_rules.specs.declared.fault.RulesFaultKind.TheVariants.{Syntax}
 use Rattle.info_rules.specs.Faults.{memory_fault}
@@ -33,13 +31,7 @@ IsRuleFault octets (Rules why) =
     ⊎ (¬ (IsUtf8 octets) × (why ≡ record { line = 0; kind = Syntax }))
 IsRuleFault octets why = ⊥
 
--- the keys of octets, which are UTF-8
-abbrev pub AreKeys : List ℕ → List NamedKey → Type 0
-AreKeys octets keys = IsUtf8 octets × KeysOf octets keys
-
--- the fault of the text, or a bad line without a number where the octets are not UTF-8
+-- the fault of what octets say of keys
 abbrev pub IsKeyFault : List ℕ → Fault → Type 0
-IsKeyFault octets (Keys why) =
-    (IsUtf8 octets × IsFaultOf (keys_in octets) why)
-    ⊎ (¬ (IsUtf8 octets) × (why ≡ BadLine 0))
+IsKeyFault octets (Keys why) = IsFaultOfOctets octets why
 IsKeyFault octets why = ⊥

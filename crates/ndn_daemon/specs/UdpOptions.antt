@@ -2,6 +2,7 @@
 use Rattle.std.specs.Prelude.{◌≡◌, ◌≢◌, ℕ, ◌<◌, ◌≤◌, ◌^◌, List, [], Option, None, Some, All, AllPairs, codes, length, map, ⊤}
 use Rattle.std.specs.Str.Parse.{IsNumeral, digits_value}
 use Rattle.clap.specs.Walk.{Row, all_of}
+use Rattle.pit_fib.specs.declared.faces.TheConstants.{MAX_FACES}
 use Rattle.ndn_daemon.specs.declared.fault.Fault.{Fault}
 use Rattle.ndn_daemon.specs.declared.fault.Fault.TheVariants.{BadValue}
 use Rattle.ndn_daemon.specs.declared.udp_options.UdpOptions.{UdpOptions}
@@ -32,7 +33,7 @@ Has (Some value) Spells x = Spells value x
 pub record ArePorts (texts : List (List ℕ)) (ports : List ℕ) : Type 0 where
   pub spelled : map (digits_value 10) texts ≡ ports
   pub all : All (λ text. IsPort text (digits_value 10 text)) texts
-  pub few : length texts ≤ 64
+  pub few : length texts ≤ MAX_FACES
   pub different : AllPairs (λ a b. a ≢ b) ports
 
 -- how many peers are Local, of so many

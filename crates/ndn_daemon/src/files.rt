@@ -1,9 +1,10 @@
 //! The rule file and the key file.
 ghost use Rattle.std.specs.Prelude.{MatchResult};
-ghost use Rattle.ndn_daemon.specs.Files.{AreKeys, AreRules, IsKeyFault, IsRuleFault};
+ghost use Rattle.hmac_keys.specs.KeyReading.{AreKeys};
+ghost use Rattle.ndn_daemon.specs.Files.{AreRules, IsKeyFault, IsRuleFault};
 
 use crate::fault::Fault;
-use hmac_keys::{KeyBook, KeyFault};
+use hmac_keys::KeyBook;
 use info_rules::{InfoTree, Rules, RulesFault, RulesFaultKind};
 use std::alloc::Global;
 use std::str;
@@ -26,8 +27,5 @@ pub fn read_rules(alloc: Global, octets: &[u8]) -> Result<Rules, Fault>
 pub fn read_keys(alloc: Global, octets: &[u8]) -> Result<KeyBook, Fault>
     ensures { MatchResult result (AreKeys octets.now) (IsKeyFault octets.now) }
 {
-    let Ok(text) = str::from_utf8(octets) else {
-        return Err(Fault::Keys(KeyFault::BadLine(0)));
-    };
-    KeyBook::read(alloc, text).map_err(Fault::Keys)
+    KeyBook::read_octets(alloc, octets).map_err(Fault::Keys)
 }

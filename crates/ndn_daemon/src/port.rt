@@ -6,8 +6,8 @@ use crate::fault::Fault;
 use crate::udp_options::UdpOptions;
 use info_rules::Rules;
 use node_core::{
-    Moments, Node, NodeParts, Outbox, Ports, RunFault, Turn, UdpPorts, put_refused, put_sends,
-    put_verdict, serve_turn,
+    MAX_FACES, Moments, Node, NodeParts, Outbox, Ports, RunFault, Turn, UdpPorts, put_refused,
+    put_sends, put_verdict, serve_turn,
 };
 use std::alloc::Global;
 use std::io;
@@ -45,7 +45,7 @@ pub fn run_on_port<R: AllocGlobal + Clock + Net + Print>(
     parts: NodeParts,
     options: &UdpOptions,
 ) -> Result<(), Fault>
-    requires { length options.now.peers.items ≤ 64 }
+    requires { length options.now.peers.items ≤ MAX_FACES }
 {
     let mut node = match Node::new(rt.alloc(), parts) {
         Ok(node) => node,

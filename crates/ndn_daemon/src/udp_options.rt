@@ -6,11 +6,8 @@ ghost use Rattle.ndn_daemon.specs.UdpOptions.{ArePorts, Has, IsBadValue, IsLocal
 use crate::fault::Fault;
 use crate::options::{given_or, value};
 use clap::ArgMatches;
-use node_core::RunFault;
+use node_core::{MAX_FACES, RunFault};
 use std::alloc::Global;
-
-/// The greatest number of peers.
-pub const MAX_PEERS: usize = 64;
 
 /// How a node on a port is to be run.
 #[derive(Debug, Drop)]
@@ -76,7 +73,7 @@ fn peers_of(alloc: Global, texts: &[&str]) -> Result<Vec<u16>, Fault>
     ensures { ReadsInMemory
         (λ peers. ArePorts (map (λ text. text.now) texts.now) peers.items) result }
 {
-    if texts.len() > MAX_PEERS {
+    if texts.len() > MAX_FACES {
         return Err(Fault::BadValue {
             place: "PEERS",
             wanted: "at most 64 ports",

@@ -5,18 +5,18 @@ use Rattle.std.specs.Io.KnownBytes.{Appends, Consumes, IsAtEnd}
 use Rattle.ndn_tlv.specs.Element.{Field}
 use Rattle.hmac_keys.specs.KeyFile.{NamedKey}
 use Rattle.info_rules.specs.Rule.{PlainRule}
-use Rattle.node_core.specs.Node.{NodeState}
-use Rattle.node_core.specs.Parts.{first_node}
-use Rattle.node_core.specs.Policy.{first_policy}
+use Rattle.forwarder.specs.Node.{NodeState}
+use Rattle.forwarder.specs.Parts.{first_node}
+use Rattle.forwarder.specs.Policy.{first_policy}
 use Rattle.node_core.specs.Script.Line.{Lacks}
-use Rattle.node_core.specs.Runs.{Start}
+use Rattle.forwarder.specs.Runs.{Start}
 use Rattle.node_core.proofs.Outcomes.{runs_stand}
-use Rattle.node_core.proofs.Standing.{new_stands}
+use Rattle.forwarder.proofs.Standing.{new_stands}
 use Rattle.node_core.specs.Script.{ended, joined, IsScript, BeginsWithEvents, IsBadAt, IsTextOfRun}
 use Rattle.node_core.specs.Script.Ending.{Ends, Stops}
 use Rattle.node_core.specs.Script.Play.{IsNew, IsStart, Place, Plays, TurnsBad, FeedStops, LineStops}
-use Rattle.node_core.specs.declared.node.NodeFault.{NodeFault}
-use Rattle.node_core.specs.declared.node.NodeFault.TheVariants.{Memory}
+use Rattle.forwarder.specs.declared.node.NodeFault.{NodeFault}
+use Rattle.forwarder.specs.declared.node.NodeFault.TheVariants.{Memory}
 use Rattle.node_core.specs.declared.script.RunFault.{RunFault}
 use Rattle.node_core.specs.declared.script.RunFault.TheVariants as fault
 use Rattle.node_core.proofs.Known.{Appends-then, Appends-kept, AppendsFront-after, AppendsFront-all}

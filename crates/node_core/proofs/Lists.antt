@@ -1,7 +1,7 @@
 -- Texts that are cut at an octet.
-use Rattle.std.proofs.Common.{◌≡◌, ℕ, zero, suc, ◌+◌, ◌-◌, ◌<◌, ◌≤◌, List, [], ◌∷◌, ◌++◌, length, get_or, take, drop, refl, sym, ap, ◌∙◌, arith, append_assoc, add-one, length-drop}
-use Rattle.std.proofs.Math.Seq.{drop-cons, take-nil}
-use Rattle.std.proofs.lemmas.List.{take-append-drop}
+use Rattle.std.proofs.Common.{◌≡◌, ℕ, zero, suc, ◌+◌, ◌-◌, ◌<◌, List, [], ◌∷◌, ◌++◌, length, get_or, take, drop, refl, sym, ap, ◌∙◌, arith, append_assoc, add-one, length-drop}
+use Rattle.std.proofs.Math.Seq.{drop-cons}
+use Rattle.std.proofs.lemmas.List.{take-append-drop, take_all}
 use Rattle.std.proofs.Common.{◌==◌, Bool, true, false, not, eq-eqb}
 use Rattle.std.specs.List.{list_all}
 use Rattle.std.proofs.lemmas.Bool.{and_parts, eqb-true}
@@ -51,14 +51,9 @@ cut_once octet (o ∷ a) b (p ∷ c) d ha hc e =
     let first : o ≡ p = cc in
     record { front = cc (first, same.front); back = same.back }
 
-pub take_whole : (n : ℕ) (text : List ℕ) → length text ≤ n → take n text ≡ text
-take_whole n [] h = take-nil n
-take_whole zero (o ∷ text) h = absurd (omega arith)
-take_whole (suc n) (o ∷ text) h = ap (λ (t : List ℕ). o ∷ t) (take_whole n text (omega arith))
-
 -- `&text[i..]`
 pub take_rest : (i : ℕ) (text : List ℕ) → drop i text ≡ take (length text - i) (drop i text)
-take_rest i text = sym (take_whole (length text - i) (drop i text) (simp length-drop (omega arith)))
+take_rest i text = sym (take_all (length text - i) (drop i text) (simp length-drop (omega arith)))
 
 pub get_or-empty : (text : List ℕ) → length text ≡ 0 → get_or text 0 0 ≡ 0
 get_or-empty [] h = refl

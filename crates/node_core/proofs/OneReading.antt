@@ -4,9 +4,9 @@ use Rattle.std.specs.Prelude.{◌⊎◌}
 use Rattle.std.specs.Fmt.{decimal}
 use Rattle.std.proofs.lemmas.Fmt.{decimal_injective}
 use Rattle.hex.specs.Hex.{decode_of}
-use Rattle.node_core.specs.declared.event.Scope.{Scope}
-use Rattle.node_core.specs.declared.event.Scope.TheVariants.{Local, Far}
-use Rattle.node_core.specs.Event.{PlainEvent, Packet, FaceUp, FaceDown, Tick}
+use Rattle.forwarder.specs.declared.event.Scope.{Scope}
+use Rattle.forwarder.specs.declared.event.Scope.TheVariants.{Local, Far}
+use Rattle.forwarder.specs.Event.{PlainEvent, Packet, FaceUp, FaceDown, Tick}
 use Rattle.node_core.specs.Script.Line.{Lacks, scope_word, HexSpells, LineSpells, IsEventLine, IsSkipped, IsBadLine, SaysNothing}
 use Rattle.node_core.specs.Script.{ended, joined, AreLines, Say, IsScript, IsBadAt}
 use Rattle.node_core.proofs.Lists.{SameCut, cut_once}

@@ -1,11 +1,11 @@
 -- Events that were replied to one after another.
 use Rattle.std.proofs.Common.{◌≡◌, List, [], ◌∷◌, ◌++◌, subst, sym}
-use Rattle.node_core.specs.Event.{PlainEvent}
-use Rattle.node_core.specs.Node.{NodeState}
+use Rattle.forwarder.specs.Event.{PlainEvent}
+use Rattle.forwarder.specs.Node.{NodeState}
 use Rattle.node_core.specs.Outcomes.{Outcome, Answered, NoMemory, AreOutcomes, run_from}
-use Rattle.node_core.specs.Policy.{Policy}
-use Rattle.node_core.specs.Runs.{Run, Then, IsRun, Stands}
-use Rattle.node_core.proofs.Standing.{refused_stands, step_goes_on}
+use Rattle.forwarder.specs.Policy.{Policy}
+use Rattle.forwarder.specs.Runs.{Run, Then, IsRun, Stands}
+use Rattle.forwarder.proofs.Standing.{refused_stands, step_goes_on}
 
 pub AreOutcomes-append : (a b c : NodeState) (es fs : List PlainEvent) (rs ss : List Outcome) → AreOutcomes a es rs b → AreOutcomes b fs ss c → AreOutcomes a (es ++ fs) (rs ++ ss) c
 AreOutcomes-append a b c [] fs [] ss h k = rw h at k

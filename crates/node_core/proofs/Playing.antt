@@ -7,11 +7,11 @@ use Rattle.std.specs.Prelude.{Option, IfOk, OnOk, OnErr}
 use Rattle.std.specs.Io.KnownBytes.{Appends}
 use Rattle.ndn_tlv.specs.declared.memory.Memory.{Memory}
 use Rattle.info_rules.specs.Rule.{PlainRule}
-use Rattle.node_core.specs.declared.verdict.Verdict.{Verdict}
-use Rattle.node_core.specs.Event.{PlainEvent, Send}
-use Rattle.node_core.specs.Node.{NodeState, IsStep, Unharmed, AsksNoMemory}
-use Rattle.node_core.specs.Policy.{Policy}
-use Rattle.node_core.specs.Verdict.{verdict_of}
+use Rattle.forwarder.specs.declared.verdict.Verdict.{Verdict}
+use Rattle.forwarder.specs.Event.{PlainEvent, Send}
+use Rattle.forwarder.specs.Node.{NodeState, IsStep, Unharmed, AsksNoMemory}
+use Rattle.forwarder.specs.Policy.{Policy}
+use Rattle.forwarder.specs.Verdict.{verdict_of}
 use Rattle.std.specs.Prelude.{IsOk}
 use Rattle.node_core.specs.Script.Line.{Lacks, IsSkipped, IsEventLine, IsBadLine}
 use Rattle.node_core.specs.Outcomes.{Outcome, Answered, NoMemory, IsOutcome, AreOutcomes}
@@ -20,7 +20,7 @@ use Rattle.node_core.specs.Script.{ended, joined, AreLines, Say}
 use Rattle.node_core.specs.Script.Play.{Place, IsPending, PlaysEvent, EventStops, AddStops, Plays, TurnsBad, FeedStops, LineStops}
 use Rattle.node_core.specs.declared.script.RunFault.{RunFault}
 use Rattle.node_core.specs.declared.script.RunFault.TheVariants as fault
-use Rattle.node_core.proofs.LaterMoments.{after_rules}
+use Rattle.forwarder.proofs.LaterMoments.{after_rules}
 use Rattle.node_core.proofs.Outcomes.{AreOutcomes-append}
 use Rattle.node_core.proofs.Known.{Appends-start, Appends-then, Appends-kept, AppendsFront-after, AppendsFront-all}
 

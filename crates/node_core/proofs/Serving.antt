@@ -3,12 +3,12 @@ use Rattle.std.proofs.Common.{◌≡◌, ℕ, zero, suc, ◌+◌, ◌-◌, ◌^�
 use Rattle.std.specs.Prelude.{Option, Some, None, slice_get, true, false, Result, Ok, Err, OnOk, OnErr, IsOk, min}
 use Rattle.std.specs.Result.{is_err}
 use Rattle.std.proofs.lemmas.List.{map-append}
-use Rattle.node_core.specs.Event.{PlainEvent, Send}
+use Rattle.forwarder.specs.Event.{PlainEvent, Send}
 use Rattle.ndn_tlv.specs.declared.memory.Memory.{Memory}
-use Rattle.node_core.specs.declared.ports.serving.TheConstants.{FRAME_ROOM}
-use Rattle.node_core.specs.declared.verdict.Verdict.{Verdict}
-use Rattle.node_core.specs.Node.{NodeState, IsStep, Unharmed, AsksNoMemory}
-use Rattle.node_core.specs.Verdict.{Answer, verdict_of}
+use Rattle.node_core.specs.declared.ports.TheConstants.{FRAME_ROOM}
+use Rattle.forwarder.specs.declared.verdict.Verdict.{Verdict}
+use Rattle.forwarder.specs.Node.{NodeState, IsStep, Unharmed, AsksNoMemory}
+use Rattle.forwarder.specs.Verdict.{Answer, verdict_of}
 use Rattle.node_core.specs.Outcomes.{Outcome, Answered, NoMemory, IsOutcome, AreOutcomes}
 use Rattle.node_core.specs.Ports.{Gives, Takes, count_of, cut_to, one_more}
 use Rattle.node_core.specs.Ports.Serving.{Shown, HasEnded, GivesAll, AreTakenOf, many_more, sends_of, all_sends, refused_count, GoesOn, Handles, EndsNext, Serves}

@@ -5,9 +5,9 @@ use Rattle.std.proofs.Common.{◌==◌, Bool, true, false, cond}
 use Rattle.hex.specs.declared.error.FromHexError.{FromHexError}
 use Rattle.hex.specs.Hex.{decode_of, decode_pairs}
 use Rattle.hex.proofs.HexLemmas.{decode_pairs-ok}
-use Rattle.node_core.specs.declared.event.Scope.{Scope}
-use Rattle.node_core.specs.declared.event.Scope.TheVariants.{Local, Far}
-use Rattle.node_core.specs.Event.{PlainEvent, Packet, FaceUp, FaceDown, Tick}
+use Rattle.forwarder.specs.declared.event.Scope.{Scope}
+use Rattle.forwarder.specs.declared.event.Scope.TheVariants.{Local, Far}
+use Rattle.forwarder.specs.Event.{PlainEvent, Packet, FaceUp, FaceDown, Tick}
 use Rattle.node_core.specs.Script.Line.{Lacks, scope_word, HexSpells, LineSpells, AreNumbers}
 use Rattle.node_core.proofs.Lists.{Lacks-from_test, cut_once, cut_twice_once, Lacks-no_cut}
 use Rattle.node_core.proofs.Numbers.{decimal-Lacks}

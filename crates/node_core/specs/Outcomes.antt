@@ -1,9 +1,9 @@
 -- What becomes of events that come one after another.
 use Rattle.std.specs.Prelude.{◌≡◌, List, [], ◌∷◌}
-use Rattle.node_core.specs.Event.{PlainEvent}
-use Rattle.node_core.specs.Node.{NodeState, IsStep, Unharmed, AsksNoMemory}
-use Rattle.node_core.specs.Runs.{Run, Then}
-use Rattle.node_core.specs.Verdict.{Answer}
+use Rattle.forwarder.specs.Event.{PlainEvent}
+use Rattle.forwarder.specs.Node.{NodeState, IsStep, Unharmed, AsksNoMemory}
+use Rattle.forwarder.specs.Runs.{Run, Then}
+use Rattle.forwarder.specs.Verdict.{Answer}
 
 -- how an event was handled: answered, or refused for want of memory
 pub data Outcome : Type 0 where

@@ -2,7 +2,7 @@
 use Rattle.std.specs.Prelude.{◌≡◌, ℕ, ◌+◌, ◌-◌, ◌^◌, ◌≤◌, min, List, [], ◌∷◌, ◌++◌, take, Option, None, Some, ⊤}
 use Rattle.node_core.specs.declared.ports.Arrival.{Arrival}
 use Rattle.node_core.specs.declared.ports.Arrival.TheVariants as code
-use Rattle.node_core.specs.Event.{PlainEvent, Packet, FaceUp, FaceDown, Tick, Send}
+use Rattle.forwarder.specs.Event.{PlainEvent, Packet, FaceUp, FaceDown, Tick, Send}
 pub mod Serving
 pub mod Memory
 

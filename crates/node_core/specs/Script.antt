@@ -1,10 +1,10 @@
 -- Scripts: which events a text is, how they are answered, and what is written.
 use Rattle.std.specs.Prelude.{◌≡◌, ℕ, ◌+◌, ◌⊎◌, List, [], ◌∷◌, ◌++◌, length}
 use Rattle.std.specs.List.{AllByRecursion, flat_map}
-use Rattle.node_core.specs.Event.{PlainEvent}
-use Rattle.node_core.specs.Node.{NodeState}
+use Rattle.forwarder.specs.Event.{PlainEvent}
+use Rattle.forwarder.specs.Node.{NodeState}
 use Rattle.node_core.specs.Outcomes.{Outcome, AreOutcomes, run_from}
-use Rattle.node_core.specs.Runs.{Start, IsRun, Stands}
+use Rattle.forwarder.specs.Runs.{Start, IsRun, Stands}
 use Rattle.node_core.specs.Script.Line.{Lacks, IsSkipped, IsEventLine, IsBadLine}
 use Rattle.node_core.specs.Script.Writing.{script_text}
 pub mod Line

@@ -1,7 +1,8 @@
 -- What UDP ports keep, and what they give. What a socket gives or takes is not said.
 use Rattle.std.specs.Prelude.{◌≡◌, ◌≢◌, ℕ, ◌+◌, ◌<◌, ◌≤◌, ◌⊎◌, List, [], ◌∷◌, ◌++◌, length, Option, None, Some, nat_le, if◌then◌else◌}
-use Rattle.node_core.specs.declared.event.Scope.{Scope}
-use Rattle.node_core.specs.declared.event.Scope.TheVariants.{Local, Far}
+use Rattle.forwarder.specs.declared.event.Scope.{Scope}
+use Rattle.forwarder.specs.declared.event.Scope.TheVariants.{Local, Far}
+use Rattle.pit_fib.specs.declared.faces.TheConstants.{MAX_FACES}
 use Rattle.node_core.specs.declared.ports.Arrival.{Arrival}
 use Rattle.node_core.specs.declared.ports.Arrival.TheVariants.{End, Packet, FaceUp, FaceDown, Tick}
 
@@ -38,7 +39,7 @@ Listens before = (before.opened ≡ length before.ports) × (before.waiting ≡ 
 -- the next face, of a port that was not known; its datagram waits
 abbrev pub OpensNew : UdpState → UdpState → ℕ → Scope → Type 0
 OpensNew before after face scope =
-    Listens before × (length before.ports < 64) × (face ≡ before.opened + 1) × (scope ≡ Far)
+    Listens before × (length before.ports < MAX_FACES) × (face ≡ before.opened + 1) × (scope ≡ Far)
     × ((port : ℕ) × (after ≡ record before {
       ports = before.ports ++ (port ∷ []);
       opened = face;
@@ -48,8 +49,8 @@ OpensNew before after face scope =
 -- face 65, while 64 ports are known; the datagram waits, and its port is not kept
 abbrev pub OpensNone : UdpState → UdpState → ℕ → Scope → Type 0
 OpensNone before after face scope =
-    Listens before × (length before.ports ≡ 64) × (face ≡ 65) × (scope ≡ Far)
-    × (after ≡ record before { waiting = Some 65 })
+    Listens before × (length before.ports ≡ MAX_FACES) × (face ≡ MAX_FACES + 1) × (scope ≡ Far)
+    × (after ≡ record before { waiting = Some (MAX_FACES + 1) })
 
 -- the datagram that waited, or one of a face that is open
 abbrev pub Brings : UdpState → UdpState → ℕ → Type 0

@@ -2,13 +2,11 @@ ghost use Rattle.std.specs.Prelude.{◌≡◌, ◌++◌, ◌∷◌, codes, OnOk}
 ghost use Rattle.std.specs.Fmt.{decimal};
 ghost use Rattle.std.specs.List.{flat_map};
 ghost use Rattle.info_rules.specs.Names.{reason_name};
-ghost use Rattle.node_core.specs.Commands.{id_of};
+ghost use Rattle.forwarder.specs.Commands.{id_of};
 ghost use Rattle.node_core.specs.Script.Writing.{drop_name, kind_name as kind_name_of, lines_text, said_line, said_text, send_text, verdict_text};
-ghost use Rattle.node_core.specs.Verdict.{reason_of, verdict_of};
+ghost use Rattle.forwarder.specs.Verdict.{reason_of, verdict_of};
 
-use crate::denial::id_of;
-use crate::outbox::Outbox;
-use crate::verdict::{DropReason, Verdict};
+use forwarder::{DropReason, Outbox, Verdict, id_of};
 use info_rules::{Kind, Reason, RuleNo, Rules};
 use ndn_tlv::Memory;
 use std::alloc::Global;

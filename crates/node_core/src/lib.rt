@@ -1,33 +1,13 @@
-//! The forwarder as a machine over events.
+//! What leads the forwarder's events and sends: scripts, and ports.
 #![tactic(auto)]
 
 mod answer;
-mod command;
-mod data;
-mod dataset;
-mod denial;
-mod event;
-mod faces;
-mod freshness;
-mod interest;
-mod law;
-mod nack;
-mod next_hops;
-mod node;
-mod open_faces;
-mod outbox;
-mod packet;
 mod ports;
-mod reply;
-mod request;
 mod script;
-mod sends;
-mod state;
-mod verdict;
 
 pub use answer::{put_refused, put_sends, put_verdict};
-pub use event::{Event, OwnedEvent, Scope};
-pub use law::{
+pub use forwarder::{
+    DropReason, Event, MAX_FACES, Node, NodeFault, NodeParts, Outbox, OwnedEvent, Scope, Verdict,
     cached_data_were_allowed, commands_are_allowed_once, denials_name_their_rule,
     denied_events_change_nothing, each_send_is_explained, events_have_one_effect,
     guards_hold_allowed_commands, histories_decide, new_nodes_stand_in_the_empty_run,
@@ -35,11 +15,8 @@ pub use law::{
     routes_are_read_off_the_run, steps_go_on_with_runs, steps_have_one_effect,
     steps_keep_nodes_sound, unanswered_interests_wait,
 };
-pub use node::{Node, NodeFault, NodeParts};
-pub use outbox::Outbox;
 pub use ports::{
     ANSWER_SECONDS, Arrival, MemoryPorts, Moments, PortFault, Ports, ServeFault, Served, Turn,
     UdpPorts, receive_one, send_from, send_one, serve, serve_turn,
 };
 pub use script::{RunFault, run_script, scripts_have_one_reading};
-pub use verdict::{DropReason, Verdict};

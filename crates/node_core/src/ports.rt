@@ -1,5 +1,5 @@
 ghost use Rattle.std.specs.Prelude.{◌≡◌, ℕ, List, [], ◌∷◌, Option, length, IfOk, OnOk, OnErr};
-ghost use Rattle.node_core.specs.Event.{PlainEvent, Send};
+ghost use Rattle.forwarder.specs.Event.{PlainEvent, Send};
 ghost use Rattle.node_core.specs.Ports.{Gives, LiesWithin, Takes, arrived, one_more};
 
 mod datagram;
@@ -8,12 +8,17 @@ mod memory;
 mod serving;
 mod udp;
 
-use crate::event::Scope;
 pub use datagram::{ANSWER_SECONDS, receive_one, send_from, send_one};
+use forwarder::Scope;
 pub use memory::MemoryPorts;
+use ndn_packets::MAX_FRAME;
 pub use serving::{ServeFault, Served, Turn, serve, serve_turn};
 use thiserror::Error;
 pub use udp::{Moments, UdpPorts};
+
+/// How many octets of a packet or datagram are taken up: one more than a node accepts, so that the
+/// node drops a longer packet as too long.
+pub const FRAME_ROOM: usize = MAX_FRAME + 1;
 
 /// What a port gives for one turn. Moments are milliseconds since 1970.
 #[derive(Clone, Copy, Debug, PartialEq, Eq)]

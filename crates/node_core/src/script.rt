@@ -1,6 +1,6 @@
 ghost use Rattle.std.specs.Prelude.{◌≡◌, ℕ, List, Err, OnOk, IfErr, MatchOption};
-ghost use Rattle.node_core.specs.Parts.{first_node, parts_fault};
-ghost use Rattle.node_core.specs.Event.{PlainEvent};
+ghost use Rattle.forwarder.specs.Parts.{first_node, parts_fault};
+ghost use Rattle.forwarder.specs.Event.{PlainEvent};
 ghost use Rattle.node_core.specs.Script.{IsScript, IsBadAt};
 ghost use Rattle.node_core.specs.Script.Ending.{Ends, Stops, ComesWithGoodParts};
 
@@ -10,9 +10,8 @@ mod output;
 mod player;
 mod word;
 
-use crate::node::{Node, NodeFault, NodeParts};
-use crate::outbox::Outbox;
 use crate::script::player::Player;
+use forwarder::{Node, NodeFault, NodeParts, Outbox};
 use std::alloc::Global;
 use std::io::{Read, Write};
 use thiserror::Error;

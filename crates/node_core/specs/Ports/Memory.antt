@@ -1,6 +1,6 @@
 -- A port in memory.
 use Rattle.std.specs.Prelude.{ℕ, List}
-use Rattle.node_core.specs.Event.{PlainEvent, Send}
+use Rattle.forwarder.specs.Event.{PlainEvent, Send}
 
 -- what is still to come, what was taken, how many calls failed, and which call of each kind is told
 -- to fail, counted from 1, or 0 for none

@@ -3,16 +3,16 @@ use Rattle.std.specs.Prelude.{◌≡◌, ℕ, zero, suc, ◌+◌, ◌<◌, ◌�
 use Rattle.std.specs.List.{flat_map}
 use Rattle.node_core.specs.declared.ports.serving.ServeFault.{ServeFault}
 use Rattle.node_core.specs.declared.ports.serving.ServeFault.TheVariants as fault
-use Rattle.node_core.specs.declared.ports.serving.TheConstants.{FRAME_ROOM}
+use Rattle.node_core.specs.declared.ports.TheConstants.{FRAME_ROOM}
 use Rattle.node_core.specs.declared.ports.serving.Turn.{Turn}
 use Rattle.node_core.specs.declared.ports.serving.Turn.TheVariants as turn
-use Rattle.node_core.specs.Event.{PlainEvent, Send}
-use Rattle.node_core.specs.Node.{NodeState}
+use Rattle.forwarder.specs.Event.{PlainEvent, Send}
+use Rattle.forwarder.specs.Node.{NodeState}
 use Rattle.node_core.specs.Outcomes.{Outcome, Answered, NoMemory, IsOutcome, AreOutcomes, run_from}
-use Rattle.node_core.specs.Policy.{Policy}
+use Rattle.forwarder.specs.Policy.{Policy}
 use Rattle.node_core.specs.Ports.{Gives, Takes, cut_to, one_more}
-use Rattle.node_core.specs.Runs.{Run, IsRun, Stands}
-use Rattle.node_core.specs.Verdict.{verdict_of}
+use Rattle.forwarder.specs.Runs.{Run, IsRun, Stands}
+use Rattle.forwarder.specs.Verdict.{verdict_of}
 
 -- what a port shows: how many calls failed and, where it knows them, the events still to come and
 -- the packets that were taken

@@ -2,10 +2,10 @@
 -- a writer held and holds, where they are known.
 use Rattle.std.specs.Prelude.{◌≡◌, ℕ, Option, IfSome, List, ◌++◌}
 use Rattle.std.specs.Io.KnownBytes.{Appends, Consumes, Keeps, IsAtEnd}
-use Rattle.node_core.specs.Event.{PlainEvent}
-use Rattle.node_core.specs.Node.{NodeState}
+use Rattle.forwarder.specs.Event.{PlainEvent}
+use Rattle.forwarder.specs.Node.{NodeState}
 use Rattle.node_core.specs.Script.{IsScript, BeginsWithEvents, IsScriptSoFar, IsBadAt, IsTextOfRun}
-use Rattle.node_core.specs.declared.node.NodeFault.TheVariants as node
+use Rattle.forwarder.specs.declared.node.NodeFault.TheVariants as node
 use Rattle.node_core.specs.declared.script.RunFault.{RunFault}
 use Rattle.node_core.specs.declared.script.RunFault.TheVariants as fault
 

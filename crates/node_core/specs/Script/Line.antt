@@ -3,11 +3,11 @@ use Rattle.std.specs.Prelude.{◌≡◌, ◌≢◌, ℕ, ◌<◌, ◌≤◌, ◌
 use Rattle.std.specs.List.{AllByRecursion, join_with_byte}
 use Rattle.std.specs.Fmt.{decimal}
 use Rattle.hex.specs.Hex.{decode_of}
-use Rattle.node_core.specs.declared.event.Scope.{Scope}
-use Rattle.node_core.specs.declared.event.Scope.TheVariants.{Local, Far}
+use Rattle.forwarder.specs.declared.event.Scope.{Scope}
+use Rattle.forwarder.specs.declared.event.Scope.TheVariants.{Local, Far}
 use Rattle.node_core.specs.declared.script.line.Line.{Line}
 use Rattle.node_core.specs.declared.script.line.Line.TheVariants as said
-use Rattle.node_core.specs.Event.{PlainEvent, Packet, FaceUp, FaceDown, Tick, plain_owned}
+use Rattle.forwarder.specs.Event.{PlainEvent, Packet, FaceUp, FaceDown, Tick, plain_owned}
 
 -- the octet does not stand in the text
 abbrev pub Lacks : ℕ → List ℕ → Type 0

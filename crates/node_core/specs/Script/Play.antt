@@ -1,10 +1,10 @@
 -- A script on its way: what lines that were read did.
 use Rattle.std.specs.Prelude.{◌≡◌, ℕ, ◌+◌, ◌<◌, ◌≤◌, ◌^◌, Option, List, [], ◌∷◌, ◌++◌, length}
 use Rattle.std.specs.Io.KnownBytes.{Appends, Keeps}
-use Rattle.node_core.specs.Event.{PlainEvent}
-use Rattle.node_core.specs.Node.{NodeState}
+use Rattle.forwarder.specs.Event.{PlainEvent}
+use Rattle.forwarder.specs.Node.{NodeState}
 use Rattle.node_core.specs.Outcomes.{Outcome, IsOutcome, AreOutcomes}
-use Rattle.node_core.specs.Runs.{Start, Stands}
+use Rattle.forwarder.specs.Runs.{Start, Stands}
 use Rattle.node_core.specs.Script.Line.{Lacks, IsBadLine}
 use Rattle.node_core.specs.Script.Writing.{outcome_text, outcomes_text}
 use Rattle.node_core.specs.Script.{AreLines, Say, ended, joined}

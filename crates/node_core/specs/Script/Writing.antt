@@ -9,11 +9,11 @@ use Rattle.info_rules.specs.Names.{reason_name}
 use Rattle.info_rules.specs.Rule.{PlainRule}
 use Rattle.info_rules.specs.declared.rule.Kind.{Kind}
 use Rattle.info_rules.specs.declared.rule.Kind.TheVariants as kinds
-use Rattle.node_core.specs.declared.verdict.Verdict as code
-use Rattle.node_core.specs.Commands.{id_of}
-use Rattle.node_core.specs.Event.{Send}
+use Rattle.forwarder.specs.declared.verdict.Verdict as code
+use Rattle.forwarder.specs.Commands.{id_of}
+use Rattle.forwarder.specs.Event.{Send}
 use Rattle.node_core.specs.Outcomes.{Outcome, Answered, NoMemory}
-use Rattle.node_core.specs.Verdict.{DropReason, NoFace, Malformed, Idle, HopLimit, Scope, Loop, PitFull, NoPending, NoSegment, BadFace, FaceOpen, FacesFull, Verdict, Passed, Allowed, DataAllowed, Denied, NoRule, Dropped, verdict_of}
+use Rattle.forwarder.specs.Verdict.{DropReason, NoFace, Malformed, Idle, HopLimit, Scope, Loop, PitFull, NoPending, NoSegment, BadFace, FaceOpen, FacesFull, Verdict, Passed, Allowed, DataAllowed, Denied, NoRule, Dropped, verdict_of}
 
 abbrev pub drop_name : DropReason → List ℕ
 drop_name NoFace = codes "NoFace"

@@ -1,35 +1,34 @@
 //! The ports that have faces.
 ghost use Rattle.std.specs.Prelude.{◌≡◌, ◌∷◌, ◌++◌, [], ◌<◌, ◌≤◌, ◌==◌, length, slice_get, position, IfSome};
 
+use forwarder::MAX_FACES;
 use std::marker::Model;
 
-/// The greatest number of ports that are known at once.
-pub const MAX_PORTS: usize = 64;
-
-/// At most 64 ports, in the order of their faces.
+/// At most as many ports as a node has faces, 64, in the order of their faces.
 #[derive(Drop)]
 pub struct KnownPorts {
-    ports: [u16; MAX_PORTS],
+    ports: [u16; MAX_FACES],
     len: usize,
 }
 
 impl Model for KnownPorts {
     ghost use Rattle.std.specs.Prelude.{List, ℕ, ◌≤◌, take};
+    ghost use Rattle.pit_fib.specs.declared.faces.TheConstants.{MAX_FACES};
 
     ghost Value = { List ℕ };
 
     ghost view = { λ k. take k.len k.ports };
 
-    ghost invariant = { λ k. k.len ≤ 64 };
+    ghost invariant = { λ k. k.len ≤ MAX_FACES };
 }
 
 impl KnownPorts {
     /// These ports, of which there are at most 64.
     pub fn new(ports: &[u16]) -> KnownPorts
-        requires { length ports.now ≤ 64 }
+        requires { length ports.now ≤ MAX_FACES }
         ensures { result ≡ ports.now }
     {
-        let mut known = [0; MAX_PORTS];
+        let mut known = [0; MAX_FACES];
         known[..ports.len()].copy_from_slice(ports);
         KnownPorts {
             ports: known,
@@ -39,7 +38,7 @@ impl KnownPorts {
 
     /// Adds a port at the end.
     pub fn push(&mut self, port: u16)
-        requires { length self.old < 64 }
+        requires { length self.old < MAX_FACES }
         ensures { self.new ≡ self.old ++ (port ∷ []) }
     {
         self.ports[self.len] = port;
@@ -49,7 +48,7 @@ impl KnownPorts {
     /// The number of ports.
     pub fn len(&self) -> usize
         ensures exact { result ≡ length self.now }
-        ensures small { result ≤ 64 }
+        ensures small { result ≤ MAX_FACES }
     {
         self.len
     }

@@ -1,10 +1,9 @@
 ghost use Rattle.std.specs.Prelude.{◌≡◌, ◌-◌, ◌↔◌, [], ◌∷◌, Some, length, map, min, take, IfOk, IsErr, IsTrue, OnErr, OnOk};
-ghost use Rattle.node_core.specs.Event.{plain_owned};
+ghost use Rattle.forwarder.specs.Event.{plain_owned};
 ghost use Rattle.node_core.specs.Ports.{Gives, LiesWithin, Takes, arrived, cut_to, one_more};
 
-use crate::event::OwnedEvent;
-use crate::outbox::Outbox;
 use crate::ports::{Arrival, PortFault, Ports};
+use forwarder::{Outbox, OwnedEvent};
 use std::alloc::Global;
 use std::marker::Model;
 
@@ -23,7 +22,7 @@ pub struct MemoryPorts {
 
 impl Model for MemoryPorts {
     ghost use Rattle.std.specs.Prelude.{drop, map};
-    ghost use Rattle.node_core.specs.Event.{plain_owned};
+    ghost use Rattle.forwarder.specs.Event.{plain_owned};
     ghost use Rattle.node_core.specs.Ports.Memory.{MemoryState};
 
     ghost Value = { MemoryState };
@@ -134,7 +133,7 @@ impl Ports for MemoryPorts {
         if is_told(&mut self.send_told) {
             return Err(self.fail());
         }
-        if self.taken.sends.push(face, octets).is_err() {
+        if self.taken.push(face, octets).is_err() {
             return Err(self.fail());
         }
         Ok(())

@@ -1,20 +1,13 @@
 ghost use Rattle.std.specs.Prelude.{◌≡◌, ◌≤◌, [], ℕ, List, length, IfOk, IfErr, OnErr};
 ghost use Rattle.std.specs.Option.{option_map};
-ghost use Rattle.node_core.specs.Event.{Send, plain};
+ghost use Rattle.forwarder.specs.Event.{Send, plain};
 ghost use Rattle.node_core.specs.Ports.{LiesWithin, Takes, arrived, count_of};
 ghost use Rattle.node_core.specs.Ports.Serving.{AreTakenOf, EndsAfter, FailsNext, IsTurn, Serves, StopsServing, many_more, shown};
 
-use crate::event::Event;
-use crate::node::Node;
-use crate::outbox::Outbox;
-use crate::ports::{Arrival, Ports};
-use crate::verdict::Verdict;
+use crate::ports::{Arrival, FRAME_ROOM, Ports};
+use forwarder::{Event, Node, Outbox, Verdict};
 use std::alloc::Global;
 use thiserror::Error;
-
-/// The octets of a packet that a turn takes up: one more than a node accepts, so that the node drops
-/// a longer packet as too long.
-pub const FRAME_ROOM: usize = 9_001;
 
 /// What one turn did.
 #[derive(Clone, Copy, Debug, PartialEq, Eq)]

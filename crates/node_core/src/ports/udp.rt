@@ -3,15 +3,11 @@ ghost use Rattle.std.specs.Prelude.{◌≡◌, ◌≢◌, ◌<◌, ◌≤◌, No
 ghost use Rattle.node_core.specs.Ports.{LiesWithin, one_more};
 ghost use Rattle.node_core.specs.Udp.{Listens, UdpGives, bound_to};
 
-use crate::event::Scope;
-use crate::ports::known_ports::{KnownPorts, MAX_PORTS};
-use crate::ports::{Arrival, PortFault, Ports};
+use crate::ports::known_ports::KnownPorts;
+use crate::ports::{Arrival, FRAME_ROOM, PortFault, Ports};
+use forwarder::{MAX_FACES, Scope};
 use std::marker::Model;
 use std::net::{Ipv4Addr, Net, UdpSocket};
-
-/// How many octets of a datagram are kept while its face opens. A datagram of so many octets is too
-/// long for a packet.
-const LONGEST: usize = 9_001;
 
 /// Where moments come from.
 pub trait Moments: Drop {
@@ -35,7 +31,7 @@ pub struct UdpPorts<M> {
     opened: usize,
     local: u64,
     // The datagram that waits until it is asked for, and its face.
-    octets: [u8; LONGEST],
+    octets: [u8; FRAME_ROOM],
     len: usize,
     waiting: Option<u64>,
     failures: u64,
@@ -44,6 +40,7 @@ pub struct UdpPorts<M> {
 impl<M> Model for UdpPorts<M> {
     ghost use Rattle.std.specs.Prelude.{◌≤◌, length};
     ghost use Rattle.node_core.specs.Udp.{UdpState};
+    ghost use Rattle.node_core.specs.declared.ports.TheConstants.{FRAME_ROOM};
 
     ghost Value = { UdpState };
 
@@ -55,7 +52,7 @@ impl<M> Model for UdpPorts<M> {
       failures = u.failures;
     } };
 
-    ghost invariant = { λ u. (u.opened ≤ length u.known) × (u.len ≤ 9001) };
+    ghost invariant = { λ u. (u.opened ≤ length u.known) × (u.len ≤ FRAME_ROOM) };
 }
 
 impl<M: Moments> UdpPorts<M> {
@@ -69,7 +66,7 @@ impl<M: Moments> UdpPorts<M> {
         local: u64,
         moments: M,
     ) -> Result<UdpPorts<M>, PortFault>
-        requires few { length peers.now ≤ 64 }
+        requires few { length peers.now ≤ MAX_FACES }
         ensures { IfOk result (λ ports. ports ≡ bound_to peers.now local) }
     {
         let Ok(socket) = UdpSocket::bind(rt, (Ipv4Addr::LOCALHOST, listen)) else {
@@ -81,7 +78,7 @@ impl<M: Moments> UdpPorts<M> {
             known: KnownPorts::new(peers),
             opened: 0,
             local,
-            octets: [0; LONGEST],
+            octets: [0; FRAME_ROOM],
             len: 0,
             waiting: None,
             failures: 0,
@@ -111,7 +108,7 @@ impl<M: Moments> UdpPorts<M> {
     fn keep(&mut self, face: u64, datagram: &[u8])
         ensures { self.new ≡ record self.old { waiting = Some face } }
     {
-        let len = datagram.len().min(LONGEST);
+        let len = datagram.len().min(FRAME_ROOM);
         self.octets[..len].copy_from_slice(&datagram[..len]);
         self.len = len;
         self.waiting = Some(face);
@@ -153,7 +150,7 @@ impl<M: Moments> UdpPorts<M> {
             };
         }
         let count = self.known.len();
-        if count < MAX_PORTS {
+        if count < MAX_FACES {
             self.known.push(port);
             self.opened += 1;
         }

@@ -1,9 +1,9 @@
 ghost use Rattle.std.specs.Prelude.{◌≡◌, ◌∷◌, ◌++◌, codes, IfSome, IfNone, IfOk};
-ghost use Rattle.node_core.specs.Event.{PlainEvent, plain_owned};
+ghost use Rattle.forwarder.specs.Event.{PlainEvent, plain_owned};
 ghost use Rattle.node_core.specs.Script.Line.{LineSpells, LineIs};
 
-use crate::event::OwnedEvent;
 use crate::script::word::{cut, octets_of, parse_decimal, scope_of, three_words};
+use forwarder::OwnedEvent;
 use ndn_tlv::Memory;
 use std::alloc::Global;
 

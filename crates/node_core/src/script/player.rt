@@ -1,20 +1,18 @@
 ghost use Rattle.std.specs.Prelude.{◌≡◌, ◌+◌, ◌≤◌, List, [], ◌∷◌, ◌++◌, ℕ, length, OnOk, IfErr};
 ghost use Rattle.std.specs.Io.KnownBytes.{Appends};
-ghost use Rattle.node_core.specs.Event.{plain_owned};
+ghost use Rattle.forwarder.specs.Event.{plain_owned};
 ghost use Rattle.node_core.specs.Script.Line.{Lacks};
 ghost use Rattle.node_core.specs.Script.{joined};
 ghost use Rattle.node_core.specs.Script.Ending.{Ends, Stops, ComesWithGoodParts};
 ghost use Rattle.node_core.specs.Script.Play.{place_of, HasRoom, IsNear, IsStart, IsPending, PlaysEvent, Plays, EventStops, LineStops, AddStops, FeedStops};
 
 use crate::answer::put_answer;
-use crate::event::OwnedEvent;
-use crate::node::Node;
-use crate::outbox::Outbox;
 use crate::script::RunFault;
 use crate::script::input::read_some;
 use crate::script::line::{LONGEST_LINE, Line, line_of};
 use crate::script::output::put_all;
 use crate::script::word::cut;
+use forwarder::{Node, Outbox, OwnedEvent};
 use std::alloc::Global;
 use std::io::{Read, Write};
 

@@ -1,9 +1,9 @@
 ghost use Rattle.std.specs.Prelude.{◌≡◌, ℕ, ◌<◌, ◌^◌, List, ◌∷◌, ◌++◌, IfSome, IfNone, IfOk};
 ghost use Rattle.std.specs.Fmt.{decimal};
 ghost use Rattle.node_core.specs.Script.Line.{Lacks, scope_word, HexSpells};
-ghost use Rattle.node_core.specs.declared.event.Scope.{Scope};
+ghost use Rattle.forwarder.specs.declared.event.Scope.{Scope};
 
-use crate::event::Scope;
+use forwarder::Scope;
 use hex::FromHexError;
 use ndn_tlv::Memory;
 use std::alloc::Global;

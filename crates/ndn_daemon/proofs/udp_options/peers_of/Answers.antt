@@ -1,4 +1,4 @@
-use Rattle.std.proofs.Common.{◌≡◌, ◌<◌, map, ℕ, List, length, subst, sym, zero-le}
+use Rattle.std.proofs.Common.{◌<◌, map, length, subst, sym, zero-le}
 use Rattle.std.proofs.lemmas.List.{get_or-map, length-map}
 use Rattle.std.proofs.lemmas.Result.{err_from_is_err_and}
 use Rattle.ndn_daemon.proofs.Spelling.{wrong_in_memory}

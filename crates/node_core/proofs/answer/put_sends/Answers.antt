@@ -1,7 +1,8 @@
-use Rattle.std.proofs.Common.{◌++◌, ◌∙◌, sym, ap, List, ℕ, length, arith, add-one, take, ◌<◌}
+use Rattle.std.proofs.Common.{◌++◌, ◌∙◌, sym, ap, List, [], ℕ, length, arith, add-one, take, ◌<◌}
 use Rattle.std.specs.List.{flat_map}
 use Rattle.node_core.specs.Script.Writing.{send_text}
-use Rattle.node_core.proofs.Outboxes.{appended, flat_map-take_next, slice_get-there}
+use Rattle.std.proofs.lemmas.Option.{slice_get-get_or}
+use Rattle.node_core.proofs.Appending.{appended, flat_map-take_next}
 use Rattle.node_core.proofs.answer.put_sends.Goals as goal
 use Rattle.node_core.proofs.answer.put_sends.Goals.{in-Some+in_ok-put_send, in_default}
 
@@ -15,5 +16,5 @@ loop-i-preserved c =
           rw (w.text-is, add-one)
           (appended w.put_send.new.text.items c.loop-i.text.items sent c.args.text.now.items (flat_map send_text (take c.loop-i.i c.args.outbox.now)) w.in_ok-put_send.ensures c.loop-i.invariant
           ∙ ap (λ (t : List ℕ). c.args.text.now.items ++ t) (sym next))
-      | in_default w ↦ absurd (slice_get-there c.args.outbox.now c.loop-i.i more (sym w.in_default.ensures))
+      | in_default w ↦ let there = slice_get-get_or c.args.outbox.now c.loop-i.i (0, []) more in cc (there, w.in_default.ensures)
     ]

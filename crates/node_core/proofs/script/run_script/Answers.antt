@@ -1,7 +1,7 @@
 use Rattle.std.proofs.Common.{◌≡◌, refl, sym, subst}
 use Rattle.std.specs.Prelude.{IfErr, OnOk}
-use Rattle.node_core.specs.Node.{NodeState}
-use Rattle.node_core.specs.Parts.{first_node, parts_fault}
+use Rattle.forwarder.specs.Node.{NodeState}
+use Rattle.forwarder.specs.Parts.{first_node, parts_fault}
 use Rattle.node_core.specs.Script.Ending.{Ends, Stops}
 use Rattle.node_core.specs.Script.Play.{IsNew}
 use Rattle.node_core.proofs.Finishing.{first_is_new, made_of_good_parts}

@@ -1,7 +1,5 @@
-use Rattle.std.proofs.Common.{◌≡◌, length, rules, Vec, ℕ, Global}
+use Rattle.std.proofs.Common.{◌≡◌, length, rules}
 use Rattle.std.proofs.lemmas.Result.{err_from_is_err_and}
-use Rattle.ndn_daemon.specs.Options.{rows_in}
-use Rattle.ndn_daemon.specs.UdpOptions.{ArePorts, values_at}
 use Rattle.ndn_daemon.proofs.Spelling.{refused_part, wrong_in_memory}
 use Rattle.ndn_daemon.proofs.Peers.{same_local}
 use Rattle.ndn_daemon.proofs.udp_options.UdpOptions.read.Goals as goal

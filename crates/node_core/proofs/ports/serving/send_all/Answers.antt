@@ -1,5 +1,5 @@
 use Rattle.std.proofs.Common.{◌<◌, ◌∙◌, [], length, sym, ap, arith, add-zero}
-use Rattle.node_core.specs.Event.{Send}
+use Rattle.forwarder.specs.Event.{Send}
 use Rattle.node_core.specs.Ports.{one_more}
 use Rattle.node_core.proofs.Serving.{AreTakenOf-one, AreTakenOf-failed, Takes-same, many_more-one, none_is_no_send, sent_next, when_err, when_ok}
 use Rattle.node_core.proofs.ports.serving.send_all.Goals as goal

@@ -1,5 +1,5 @@
 use Rattle.std.proofs.Common.{◌≡◌, ◌≤◌, List, take}
-use Rattle.node_core.specs.Event.{Send}
+use Rattle.forwarder.specs.Event.{Send}
 use Rattle.node_core.specs.Ports.{Takes}
 use Rattle.node_core.specs.Ports.Serving.{AreTakenOf, many_more}
 use Rattle.node_core.proofs.ports.serving.send_all.Given as goal

@@ -1,5 +1,5 @@
 use Rattle.std.proofs.Common.{◌∙◌}
-use Rattle.node_core.specs.Event.{plain}
+use Rattle.forwarder.specs.Event.{plain}
 use Rattle.node_core.specs.Ports.{arrived}
 use Rattle.node_core.specs.Ports.Serving.{shown}
 use Rattle.node_core.proofs.Serving.{Handles-refused, Handles-answered}

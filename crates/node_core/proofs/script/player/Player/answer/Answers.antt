@@ -1,5 +1,5 @@
 use Rattle.std.proofs.Common.{◌+◌, refl}
-use Rattle.node_core.specs.Event.{plain}
+use Rattle.forwarder.specs.Event.{plain}
 use Rattle.node_core.specs.Script.Play.{Place, PlaysEvent, place_of}
 use Rattle.node_core.proofs.Playing.{PlaysEvent-from_step}
 use Rattle.node_core.proofs.script.player.Player.answer.Goals as goal

@@ -1,7 +1,7 @@
 use Rattle.std.proofs.Common.{refl, []}
 use Rattle.std.proofs.lemmas.Result.{err_from_is_err_and}
 use Rattle.node_core.specs.Script.Play.{place_of}
-use Rattle.node_core.specs.Event.{plain_owned}
+use Rattle.forwarder.specs.Event.{plain_owned}
 use Rattle.node_core.proofs.Known.{Appends-start}
 use Rattle.node_core.proofs.Playing.{LineStops-from_reply, Plays-skipped, Plays-event}
 use Rattle.node_core.proofs.script.player.Player.end_line.Goals as goal

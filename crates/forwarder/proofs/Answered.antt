@@ -1,0 +1,114 @@
+-- Packets that are answered once their moment has come.
+use Rattle.std.proofs.Common.{◌≡◌, ℕ, true, false, not, List, [], refl, sym, ap, subst, ◌∙◌}
+use Rattle.std.specs.Prelude.{Result, Ok, Err, IfOk, IsErr, IsOk, nat_lt}
+use Rattle.std.proofs.lemmas.Bool.{false≢true}
+use Rattle.std.specs.List.{list_any}
+use Rattle.std.specs.FinMap.{entries}
+use Rattle.std.proofs.lemmas.List.Elements.{All-contains_itself}
+use Rattle.sha2.specs.Sha256.{sha256}
+use Rattle.ndn_tlv.specs.Element.{Field}
+use Rattle.ndn_tlv.specs.declared.memory.Memory.{Memory}
+use Rattle.ndn_packets.specs.Answers.{answers}
+use Rattle.ndn_packets.specs.Packet.{PlainData, PlainFrame, AData}
+use Rattle.info_rules.specs.declared.decision.Decision.TheVariants as decided
+use Rattle.info_rules.specs.declared.decision.Reason.{Reason}
+use Rattle.info_rules.specs.declared.rule.Kind.TheVariants as kinds
+use Rattle.info_rules.specs.declared.rules.RuleNo.{RuleNo}
+use Rattle.pit_fib.specs.Cause.{Follows, Satisfied}
+use Rattle.pit_fib.specs.Records.{HoldsTheLiving}
+use Rattle.repo_core.specs.Repo.{after_offer}
+use Rattle.repo_core.specs.Wants.{Wants, is_wanted, want_cmp, wants_after}
+use Rattle.repo_core.proofs.Kept.{entries-kept}
+use Rattle.repo_core.proofs.Spares.{any_of_part}
+use Rattle.forwarder.specs.declared.state.State.{State}
+use Rattle.forwarder.specs.declared.verdict.Verdict as code
+use Rattle.forwarder.specs.Event.{Send}
+use Rattle.forwarder.specs.Verdict.{DataAllowed, Denied, NoRule, Scope, dropped}
+use Rattle.forwarder.specs.Policy.{Policy}
+use Rattle.forwarder.specs.Request.{is_out_of_scope}
+use Rattle.forwarder.specs.Said.{IsSaid}
+use Rattle.forwarder.specs.Replies.{IsSentToAskers}
+use Rattle.forwarder.specs.Handling.{HandlesPacket, IsAnswered, IsHandled, IsPacketEffect, seen_by}
+use Rattle.forwarder.specs.Node.{CacheAfterData, MayForget, NodeState, Unharmed}
+use Rattle.forwarder.specs.State.{IsLater, state_of}
+use Rattle.forwarder.proofs.Handled.{where_true, where_false}
+
+-- ---- what stays
+
+-- a packet for which memory was refused
+pub refused_packet : {old new : State} {before after : List Send} {face moment : ℕ} {packet : PlainFrame} (r : Result code.Verdict Memory) → IsErr r
+    → Unharmed (state_of old) (state_of new) × (after ≡ before) → HandlesPacket old new before after face moment packet r
+refused_packet (Ok verdict) refused kept = absurd (false≢true refused)
+refused_packet (Err memory) refused kept = record { handled = tt; memory = kept }
+
+-- a packet for which it was not
+pub sure_packet : {old new : State} {before after : List Send} {face moment : ℕ} {packet : PlainFrame} (r : Result code.Verdict Memory) → IsOk r
+    → IfOk r (IsHandled old new before after face moment packet) → HandlesPacket old new before after face moment packet r
+sure_packet (Ok verdict) done handled = record { handled = handled; memory = tt }
+sure_packet (Err memory) done handled = absurd (false≢true done)
+
+pub unharmed : (old new : NodeState) → new.policy ≡ old.policy → new.pending ≡ old.pending → new.cache ≡ old.cache → Unharmed old new
+unharmed old new policy pending cache = record {
+  policy = policy;
+  pending = pending;
+  cache = subst (MayForget old.cache) (sym cache) (All-contains_itself old.cache.cached, refl);
+}
+
+-- time changes neither what is out of scope nor what is wanted by then
+pub later_scope : (old was : NodeState) (face now : ℕ) (name : List Field) → IsLater old now was
+    → is_out_of_scope was.policy face name ≡ is_out_of_scope old.policy face name
+later_scope old was face now name later = ap (λ (p : Policy). is_out_of_scope p face name) later.policy
+
+pub still_wanted : (now : ℕ) (name : List Field) (digest : List ℕ) (wants : Wants) → is_wanted name digest (wants_after now wants) ≡ true → is_wanted name digest wants ≡ true
+still_wanted now name digest wants some =
+    any_of_part (λ w. answers name digest w.0.0 w.0.1) (λ w. nat_lt now w.1) (entries wants)
+    (sym (ap (list_any (λ w. answers name digest w.0.0 w.0.1)) (entries-kept want_cmp (λ w. nat_lt now w.1) wants)) ∙ some)
+
+-- ---- Data
+
+module _ (was new : NodeState) (face : ℕ) (whole : List ℕ) (d : PlainData) where
+  module _ (sends : List Send) (rule : RuleNo) (here : is_out_of_scope was.policy face d.name ≡ false)
+      (said : IsSaid was.policy (AData whole d) (decided.Allowed rule)) where
+    pub data_delivered : IsSentToAskers (seen_by was) face whole d sends
+        → new.policy ≡ record was.policy { held = after_offer d.name (sha256 whole) whole was.policy.held }
+        → Follows (Satisfied d.name (sha256 whole)) was.pending new.pending → HoldsTheLiving new.pending
+        → CacheAfterData was.policy.now was.pending whole d was.cache new.cache
+        → IsAnswered was face (AData whole d) (record { verdict = DataAllowed rule.0; sends = sends }) new
+    data_delivered sent policy pending living cache = record {
+      replies = where_false _ _ (is_out_of_scope was.policy face d.name) here (decided.Allowed rule, said, (refl, sent));
+      policy = subst (λ b. IsPacketEffect was.policy face (AData whole d) new.policy (not b)) (sym here) (decided.Allowed rule, said, policy);
+      pending = pending;
+      alive = living;
+      cache = cache;
+    }
+
+module _ (was : NodeState) (face : ℕ) (whole : List ℕ) (d : PlainData) (living : HoldsTheLiving was.pending) where
+  pub data_out_of_scope : is_out_of_scope was.policy face d.name ≡ true → IsAnswered was face (AData whole d) (dropped Scope) was
+  data_out_of_scope here = record {
+    replies = where_true _ _ (is_out_of_scope was.policy face d.name) here refl;
+    policy = subst (λ b. IsPacketEffect was.policy face (AData whole d) was.policy (not b)) (sym here) refl;
+    pending = λ key. refl;
+    alive = living;
+    cache = refl;
+  }
+
+  module _ (here : is_out_of_scope was.policy face d.name ≡ false) where
+    pub data_denied : (rule : RuleNo) (reason : Reason) → IsSaid was.policy (AData whole d) (decided.Denied rule reason)
+        → IsAnswered was face (AData whole d) (record { verdict = Denied kinds.Data rule.0 reason; sends = [] }) was
+    data_denied rule reason said = record {
+      replies = where_false _ _ (is_out_of_scope was.policy face d.name) here (decided.Denied rule reason, said, refl);
+      policy = subst (λ b. IsPacketEffect was.policy face (AData whole d) was.policy (not b)) (sym here) (decided.Denied rule reason, said, refl);
+      pending = λ key. refl;
+      alive = living;
+      cache = refl;
+    }
+
+    pub data_by_no_rule : IsSaid was.policy (AData whole d) decided.NoRule
+        → IsAnswered was face (AData whole d) (record { verdict = NoRule kinds.Data; sends = [] }) was
+    data_by_no_rule said = record {
+      replies = where_false _ _ (is_out_of_scope was.policy face d.name) here (decided.NoRule, said, refl);
+      policy = subst (λ b. IsPacketEffect was.policy face (AData whole d) was.policy (not b)) (sym here) (decided.NoRule, said, refl);
+      pending = λ key. refl;
+      alive = living;
+      cache = refl;
+    }

@@ -1,0 +1,187 @@
+-- An Interest for Data is answered: by a Nack where it loops, from the cache or the repository, or by
+-- sending it on.
+use Rattle.std.proofs.Common.{◌≡◌, ℕ, ◌≤◌, Bool, true, false, cond, List, [], ◌∷◌, length, None, Some, Result, Ok, Err, refl, sym, ap, subst, ◌∙◌}
+use Rattle.std.specs.Prelude.{IfOk}
+use Rattle.std.specs.List.{All}
+use Rattle.std.specs.FinMap.{entries, find, get-entries}
+use Rattle.std.specs.Ordering.{is_eq}
+use Rattle.std.proofs.Math.Bridge.{le_prop}
+use Rattle.std.proofs.Math.Logic.{∥∥₁_elim}
+use Rattle.std.proofs.lemmas.Cmp.{tied_itself}
+use Rattle.std.proofs.lemmas.List.Elements.{All-head}
+use Rattle.ndn_tlv.specs.Element.{Field, element}
+use Rattle.ndn_tlv.specs.Number.{spelling}
+use Rattle.ndn_tlv.specs.declared.memory.Memory.{Memory}
+use Rattle.ndn_names.specs.Key.{name_cmp-total}
+use Rattle.ndn_names.specs.Order.{name_cmp}
+use Rattle.ndn_packets.specs.Grammar.{IsData, IsInterest}
+use Rattle.ndn_packets.specs.Key.{PlainKey, key_of}
+use Rattle.ndn_packets.specs.Packet.{PlainData, PlainInterest, AnInterest}
+use Rattle.ndn_packets.specs.Writing.{nack_text}
+use Rattle.ndn_packets.specs.declared.types.TheConstants.{DATA, DUPLICATE}
+use Rattle.pit_fib.specs.Pit.{loops}
+use Rattle.pit_fib.specs.Records.{HoldsTheLiving, records_at}
+use Rattle.pit_fib.specs.Cause.{Cause}
+use Rattle.content_store.specs.Store.{Finds, IsCachedData, IsStore, StoreState}
+use Rattle.repo_core.specs.Objects.{AreObjects, IsObject, Objects, first_octets, full_name_answers, kept, served}
+use Rattle.repo_core.proofs.Kept.{entries-kept}
+use Rattle.repo_core.proofs.Stored.{kept_objects}
+use Rattle.forwarder.specs.declared.state.State.{State}
+use Rattle.forwarder.specs.declared.verdict.Verdict as code
+use Rattle.forwarder.specs.Causes.{is_nack, packet_causes}
+use Rattle.forwarder.specs.Event.{Send}
+use Rattle.forwarder.specs.Verdict.{Answer, DropReason, Dropped, HopLimit, Loop, Scope, dropped, passed, verdict_of}
+use Rattle.forwarder.specs.Policy.{Policy}
+use Rattle.forwarder.specs.Request.{ForData, Refused, Request, has_no_hops, is_command, is_out_of_scope, list_asked, named_request, request_of}
+use Rattle.forwarder.specs.Replies.{RepliesForData, RepliesToRequest, unserved}
+use Rattle.forwarder.specs.Forwarding.{ForwardsBy, IsForwarded, choice_from}
+use Rattle.forwarder.specs.Handling.{IsAnswered, IsHandled, IsPacketEffect, seen_by}
+use Rattle.forwarder.specs.Node.{CacheAfterInterest, CacheAfterRequest, FollowAll, NodeState}
+use Rattle.forwarder.specs.State.{IsLater, IsSound, state_of}
+use Rattle.forwarder.proofs.GoingOn.{tick_step}
+use Rattle.forwarder.proofs.Handled.{where_true, where_false}
+use Rattle.forwarder.proofs.ListSteps.{back_causes}
+use Rattle.forwarder.proofs.Soundness.{step_sound}
+
+-- ---- what is held is Data
+
+-- octets that fit a packet, and are no Nack
+abbrev pub CanGoBack : List ℕ → Type 0
+CanGoBack octets = (length octets ≤ 8800) × (is_nack octets ≡ false)
+
+data_begins : (value : List ℕ) → is_nack (element (DATA, value)) ≡ false
+unfolding spelling
+data_begins value = refl
+
+data_goes_back : (octets : List ℕ) (d : PlainData) → IsData octets d → CanGoBack octets
+data_goes_back octets d read = (read.fields.short, ap is_nack read.fields.outer.1 ∙ data_begins read.fields.value)
+
+pub cached_goes_back : (key : PlainKey) (now : ℕ) (before after : StoreState) (octets : List ℕ) → IsStore after → Finds key now before (Some octets) after → CanGoBack octets
+cached_goes_back key now before after octets store (c, least, is, used) =
+    let first : IsCachedData c = All-head IsCachedData c _ (subst (λ (s : StoreState). All IsCachedData s.cached) used store.each_data) in
+    subst CanGoBack (sym is) (data_goes_back c.octets first.packet first.read)
+
+pub served_goes_back : (name : List Field) (flag : Bool) (objects : Objects) (octets : List ℕ) → AreObjects objects → served name flag objects ≡ Some octets → CanGoBack octets
+served_goes_back name flag objects octets are is =
+    first (entries (kept test objects)) refl (ap first_octets (entries-kept name_cmp test objects) ∙ is)
+  where
+    test : List Field × List ℕ → Bool
+    test = λ o. full_name_answers name flag o.0
+
+    first : (rows : List (List Field × List ℕ)) → entries (kept test objects) ≡ rows → first_octets rows ≡ Some octets → CanGoBack octets
+    first [] e none = absurd cc
+    first (o ∷ os) e some =
+        let found = get-entries (kept test objects) o.0 ∙ ap (find name_cmp o.0) e
+        ∙ ap (λ r. cond (is_eq r) (Some o.1) (find name_cmp o.0 os)) (tied_itself name_cmp-total o.0) ∙ some in
+        let object : IsObject o.0 octets = kept_objects test objects are o.0 octets found in
+        data_goes_back octets object.packet object.read
+
+pub interest_is_short : (whole : List ℕ) (i : PlainInterest) → ∥ IsInterest whole i ∥₁ → length whole ≤ 8800
+interest_is_short whole i spelled = ∥∥₁_elim spelled le_prop (λ h. h.fields.short)
+
+-- ---- the moment of an Interest
+
+pub later_sound : (old was : NodeState) (moment : ℕ) → IsSound old → IsLater old moment was → IsSound was
+later_sound old was moment sound later = step_sound old was _ _ sound (tick_step old was moment later)
+
+-- ---- an Interest that is refused
+
+pub no_hops_refused : (p : Policy) (face : ℕ) (i : PlainInterest) → has_no_hops i.hop_limit ≡ true → request_of p face i ≡ Refused HopLimit
+no_hops_refused p face i none = ap (λ (b : Bool). cond b (Refused HopLimit) (cond (is_out_of_scope p face i.name) (Refused Scope) (named_request p i (list_asked i)))) none
+
+module _ (p : Policy) (face : ℕ) (i : PlainInterest) (some : has_no_hops i.hop_limit ≡ false) where
+  by_scope : request_of p face i ≡ cond (is_out_of_scope p face i.name) (Refused Scope) (named_request p i (list_asked i))
+  by_scope = ap (λ (b : Bool). cond b (Refused HopLimit) (cond (is_out_of_scope p face i.name) (Refused Scope) (named_request p i (list_asked i)))) some
+
+  pub scope_refused : is_out_of_scope p face i.name ≡ true → request_of p face i ≡ Refused Scope
+  scope_refused out = by_scope ∙ ap (λ (b : Bool). cond b (Refused Scope) (named_request p i (list_asked i))) out
+
+  pub request_by_name : is_out_of_scope p face i.name ≡ false → request_of p face i ≡ named_request p i (list_asked i)
+  request_by_name here = by_scope ∙ ap (λ (b : Bool). cond b (Refused Scope) (named_request p i (list_asked i))) here
+
+module _ (old was : NodeState) (moment face : ℕ) (whole : List ℕ) (i : PlainInterest) (later : IsLater old moment was) where
+  same_request : request_of was.policy face i ≡ request_of old.policy face i
+  same_request = ap (λ (p : Policy). request_of p face i) later.policy
+
+  pub refused_answered : (reason : DropReason) → request_of old.policy face i ≡ Refused reason → IsAnswered was face (AnInterest whole i) (dropped reason) was
+  refused_answered reason is =
+      let request : request_of was.policy face i ≡ Refused reason = same_request ∙ is in
+      record {
+        replies = subst (λ (r : Request). RepliesToRequest (seen_by was) face whole i (dropped reason) r) (sym request) refl;
+        policy = subst (λ (r : Request). IsPacketEffect was.policy face (AnInterest whole i) was.policy (is_command r)) (sym request) refl;
+        pending = λ key. refl;
+        alive = later.living;
+        cache = subst (λ (r : Request). CacheAfterRequest was.policy.now was.pending face i (Dropped reason) was.cache was.cache r) (sym request) refl;
+      }
+
+  -- ---- an Interest for Data
+
+  module _ (is : request_of old.policy face i ≡ ForData) where
+    data_answered : (new : NodeState) (answer : Answer) → RepliesForData (seen_by was) face whole i answer → new.policy ≡ was.policy
+        → FollowAll (packet_causes was.policy.now face (Ok (AnInterest whole i)) answer) was.pending new.pending → HoldsTheLiving new.pending
+        → CacheAfterInterest was.policy.now (records_at was.pending (key_of i)) face i was.cache new.cache
+        → IsAnswered was face (AnInterest whole i) answer new
+    data_answered new answer replies policy pending living cache =
+        let request : request_of was.policy face i ≡ ForData = same_request ∙ is in
+        record {
+          replies = subst (λ (r : Request). RepliesToRequest (seen_by was) face whole i answer r) (sym request) replies;
+          policy = subst (λ (r : Request). IsPacketEffect was.policy face (AnInterest whole i) new.policy (is_command r)) (sym request) policy;
+          pending = pending;
+          alive = living;
+          cache = subst (λ (r : Request). CacheAfterRequest was.policy.now was.pending face i answer.verdict was.cache new.cache r) (sym request) cache;
+        }
+
+    abbrev is_loop : Bool
+    is_loop = loops (records_at was.pending (key_of i)) face i.nonce
+
+    pub loop_answered : is_loop ≡ true → IsAnswered was face (AnInterest whole i) (record { verdict = Dropped Loop; sends = (face, nack_text DUPLICATE whole) ∷ [] }) was
+    loop_answered loop = data_answered was _ (where_true _ _ is_loop loop refl) refl (λ key. refl) later.living (where_true _ _ is_loop loop refl)
+
+    module _ (once : is_loop ≡ false) (after : StoreState) where
+      back_follows : (octets : List ℕ) → is_nack octets ≡ false
+          → FollowAll (packet_causes was.policy.now face (Ok (AnInterest whole i)) (passed ((face, octets) ∷ []))) was.pending was.pending
+      back_follows octets other =
+          subst (λ (causes : List Cause). FollowAll causes was.pending was.pending) (sym (back_causes was.policy.now face whole i octets other)) (λ key. refl)
+
+      pub cache_answered : (octets : List ℕ) → is_nack octets ≡ false → Finds (key_of i) was.policy.now was.cache (Some octets) after
+          → IsAnswered was face (AnInterest whole i) (passed ((face, octets) ∷ [])) (record was { cache = after })
+      cache_answered octets other found =
+          data_answered (record was { cache = after }) (passed ((face, octets) ∷ []))
+          (where_false _ _ is_loop once (Some octets, (found.0, found.1, found.2), refl)) refl (back_follows octets other) later.living
+          (where_false _ _ is_loop once (Some octets, found))
+
+      module _ (none : Finds (key_of i) was.policy.now was.cache None after) where
+        pub repository_answered : (octets : List ℕ) → is_nack octets ≡ false → served i.name i.can_be_prefix was.policy.held.objects ≡ Some octets
+            → IsAnswered was face (AnInterest whole i) (passed ((face, octets) ∷ [])) (record was { cache = after })
+        repository_answered octets other some =
+            data_answered (record was { cache = after }) (passed ((face, octets) ∷ []))
+            (where_false _ _ is_loop once (None, none.0, sym (ap (unserved (seen_by was) face whole i) some))) refl (back_follows octets other) later.living
+            (where_false _ _ is_loop once (None, none))
+
+        module _ (unheld : served i.name i.can_be_prefix was.policy.held.objects ≡ None) where
+          forward_answered : (answer : Answer) (new : NodeState)
+              → IsForwarded (record was { cache = after }) face whole i (choice_from (record was { cache = after }) face i) answer new
+              → IsAnswered was face (AnInterest whole i) answer new
+          forward_answered answer new h =
+              data_answered new answer
+              (where_false _ _ is_loop once (None, none.0, h.replied ∙ sym (ap (unserved (seen_by was) face whole i) unheld))) h.policy h.pending h.alive
+              (where_false _ _ is_loop once (None, (none.0, h.cache ∙ none.1)))
+
+-- what was sent on was handled
+pub forwards_handled : (old passed new : State) (was : NodeState) (before after : List Send) (moment face : ℕ) (whole : List ℕ) (i : PlainInterest)
+    → IsLater (state_of old) moment was → request_of (state_of old).policy face i ≡ ForData
+    → loops (records_at was.pending (key_of i)) face i.nonce ≡ false
+    → state_of passed ≡ record was { cache = passed.tables.store }
+    → Finds (key_of i) was.policy.now was.cache None passed.tables.store
+    → served i.name i.can_be_prefix was.policy.held.objects ≡ None
+    → (r : Result code.Verdict Memory) → IfOk r (ForwardsBy passed new before after face whole i (choice_from (state_of passed) face i))
+    → IfOk r (IsHandled old new before after face moment (AnInterest whole i))
+forwards_handled old passed new was before after moment face whole i later is once same none unheld (Err memory) h = tt
+forwards_handled old passed new was before after moment face whole i later is once same none unheld (Ok verdict) (sends, sent, h) = (
+  was,
+  sends,
+  sent,
+  later,
+  forward_answered (state_of old) was moment face whole i later is once passed.tables.store none unheld (record { verdict = verdict_of verdict; sends = sends }) (state_of new)
+      (subst (λ (s : NodeState). IsForwarded s face whole i (choice_from s face i) (record { verdict = verdict_of verdict; sends = sends }) (state_of new)) same h),
+)

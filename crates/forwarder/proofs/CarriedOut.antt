@@ -1,0 +1,192 @@
+-- Allowed commands that were carried out.
+use Rattle.std.proofs.Common.{◌≡◌, ℕ, ◌≤◌, ◌+◌, Bool, true, false, List, [], ◌∷◌, length, arith, Option, None, Some, Result, Ok, refl, sym, ap, subst, ◌∙◌}
+use Rattle.std.specs.Prelude.{IfSome, IsSome, SomeIff, nat_lt, unwrap_or, ◌==◌, ◌||◌, if◌then◌else◌}
+use Rattle.std.proofs.lemmas.Bool.Decides.{nat_tests}
+use Rattle.std.specs.Result.{result_ok}
+use Rattle.ndn_tlv.specs.Element.{Field}
+use Rattle.ndn_tlv.specs.declared.memory.Memory.{Memory}
+use Rattle.ndn_names.specs.View.{components}
+use Rattle.ndn_packets.specs.declared.fault.WriteFault.TheVariants.{BadName, TooLong}
+use Rattle.ndn_packets.specs.declared.interest_writer.InterestWriter.{InterestWriter}
+use Rattle.ndn_packets.specs.Packet.{PlainInterest}
+use Rattle.ndn_packets.specs.Writing.{interest_name, interest_refusal, interest_text, is_bad_name}
+use Rattle.pit_fib.specs.Fib.{Routes}
+use Rattle.pit_fib.specs.StrategyTable.{Choices}
+use Rattle.mgmt_core.specs.Commands.{row_of, text_of}
+use Rattle.mgmt_core.specs.Reading.{PlainCommand, command_at}
+use Rattle.content_store.specs.Store.{StoreState}
+use Rattle.mgmt_core.specs.declared.action.Action.{Action}
+use Rattle.mgmt_core.specs.declared.action.Action.TheVariants.{AddNexthop, RemoveNexthop, SetStrategy, UnsetStrategy, EraseCache}
+use Rattle.mgmt_core.specs.declared.types.TheConstants.{OK}
+use Rattle.mgmt_core.specs.Tables.{CachedAfter, choices_after, first_status, if_done, refuses, routes_after, status_of}
+use Rattle.mgmt_core.specs.Writing.{body_after, reply_limit, response}
+use Rattle.mgmt_core.proofs.Bounds.{reply_is_bounded}
+use Rattle.mgmt_core.proofs.Statuses.{first_has_text}
+use Rattle.repo_core.specs.declared.reply.RepoReply.{RepoReply}
+use Rattle.repo_core.specs.declared.reply.Want.{Want}
+use Rattle.repo_core.specs.Commands.{repo_text_of}
+use Rattle.repo_core.specs.Reading.{RepoCommand, repo_command_at}
+use Rattle.repo_core.specs.Repo.{Held, IsCommandPrepared, RepoState, is_insert, reply_to}
+use Rattle.repo_core.specs.Writing.{repo_response}
+use Rattle.repo_core.proofs.Texts.{known_is_bounded, reply_has_text}
+use Rattle.pit_fib.specs.declared.faces.TheConstants.{MAX_FACES}
+use Rattle.forwarder.specs.Policy.{Policy, with_next_version}
+use Rattle.forwarder.specs.Request.{ForRepository, ForTables}
+use Rattle.forwarder.specs.Said.{recorded_of}
+use Rattle.forwarder.specs.Commands.{after_repository, after_tables, fetch_sends, replied, repository_content, repository_reply, tables_reply, tables_status, with_record}
+use Rattle.forwarder.specs.Node.{NodeState, CacheAfterCommand}
+use Rattle.forwarder.specs.Verdict.{WhereTrue}
+use Rattle.forwarder.specs.Commanding.{IsCommanded}
+
+module _ (was new : NodeState) (face status : ℕ) (i : PlainInterest) (content : List ℕ) where
+  -- a command on the tables, where this is read off its name
+  pub tables_done : (read : Result PlainCommand ℕ) → command_at i.name ≡ read
+      → status ≡ tables_status was.policy face read
+      → content ≡ tables_reply was.policy face read
+      → new.policy ≡ with_record (after_tables was.policy face read) (recorded_of i)
+      → new.pending ≡ was.pending
+      → CacheAfterCommand read status was.cache new.cache
+      → IsCommanded was face i ForTables status (replied face i content ∷ []) new
+  tables_done read is answered sent policy pending cache = record {
+    answered = answered ∙ ap (λ (c : Result PlainCommand ℕ). tables_status was.policy face c) (sym is);
+    sent = ap (λ (o : List ℕ). replied face i o ∷ []) (sent ∙ ap (λ (c : Result PlainCommand ℕ). tables_reply was.policy face c) (sym is));
+    policy = policy ∙ ap (λ (c : Result PlainCommand ℕ). with_record (after_tables was.policy face c) (recorded_of i)) (sym is);
+    pending = pending;
+    cache = λ rule. subst (λ (c : Result PlainCommand ℕ). CacheAfterCommand c status was.cache new.cache) (sym is) cache;
+  }
+
+-- the reply to a command on the tables is no longer than its limit
+pub response_fits : (c : PlainCommand) (face status : ℕ) (up : List ℕ) (routes : Routes) (choices : Choices)
+    → status ≡ status_of c face up routes choices
+    → length (response status (unwrap_or (text_of status) []) (body_after c face status)) ≤ reply_limit c
+response_fits c face status up routes choices is =
+    by_text (text_of status) refl (subst (λ (s : ℕ). IsSome (text_of s)) (sym is) (first_has_text (refuses c face up routes choices) (row_of c.action).refusals))
+  where
+    by_text : (o : Option (List ℕ)) → text_of status ≡ o → IsSome o → length (response status (unwrap_or o []) (body_after c face status)) ≤ reply_limit c
+    by_text (Some text) e h = reply_is_bounded c face status text e
+    by_text None e h = cc h
+
+pub response_within : (c : PlainCommand) (face status : ℕ) (up : List ℕ) (routes : Routes) (choices : Choices) (body : List ℕ) (limit : ℕ)
+    → status ≡ status_of c face up routes choices
+    → body ≡ body_after c face status → limit ≡ reply_limit c
+    → length (response status (unwrap_or (text_of status) []) body) ≤ limit
+response_within c face status up routes choices body limit is same most =
+    subst (λ (n : ℕ). length (response status (unwrap_or (text_of status) []) body) ≤ n) (sym most)
+    (subst (λ (b : List ℕ). length (response status (unwrap_or (text_of status) []) b) ≤ reply_limit c) (sym same)
+    (response_fits c face status up routes choices is))
+
+-- octets have room where their number does
+pub has_room : (len n limit cap : ℕ) → len ≡ 0 → n ≤ limit → limit ≤ cap → len + n ≤ cap
+has_room len n limit cap none few most = omega arith
+
+pub at_most : (n limit cap : ℕ) → n ≤ limit → limit ≤ cap → n ≤ cap
+at_most n limit cap few most = omega arith
+
+-- the tables after a command, by its status
+pub after_applied : (p : Policy) (c : PlainCommand) (face status : ℕ) (routes : Routes) (choices : Choices)
+    → status ≡ tables_status p face (Ok c)
+    → routes ≡ if_done status (routes_after c face p.routes) p.routes
+    → choices ≡ if_done status (choices_after c p.choices) p.choices
+    → with_next_version (record p { routes = routes; choices = choices }) ≡ after_tables p face (Ok c)
+after_applied p c face status routes choices is to_routes to_choices =
+    let r = to_routes ∙ ap (λ (s : ℕ). if_done s (routes_after c face p.routes) p.routes) is in
+    let k = to_choices ∙ ap (λ (s : ℕ). if_done s (choices_after c p.choices) p.choices) is in
+    λ j. with_next_version (record p { routes = r j; choices = k j })
+
+same_store : (old new : StoreState) → new.cached ≡ old.cached → new.capacity ≡ old.capacity → new ≡ old
+same_store old new cached capacity = λ j. record { cached = cached j; capacity = capacity j }
+
+-- the cache after a command, by its status
+pub cache_applied : (c : PlainCommand) (face status : ℕ) (up : List ℕ) (routes : Routes) (choices : Choices) (old new : StoreState)
+    → status ≡ status_of c face up routes choices
+    → CachedAfter c old.cached new.cached → new.capacity ≡ old.capacity
+    → CacheAfterCommand (Ok c) status old new
+cache_applied c face status up routes choices old new is cached capacity = by_status (status == OK) refl
+  where
+    -- a cache is erased whatever refuses, so its status is always 200
+    by_action : (a : Action) → status ≡ first_status (refuses c face up routes choices) (row_of a).refusals
+        → CachedAfter (record c { action = a }) old.cached new.cached → status == OK ≡ false → new ≡ old
+    by_action AddNexthop s h e = same_store old new h capacity
+    by_action RemoveNexthop s h e = same_store old new h capacity
+    by_action SetStrategy s h e = same_store old new h capacity
+    by_action UnsetStrategy s h e = same_store old new h capacity
+    by_action EraseCache s h e = cc (ap (λ (n : ℕ). n == OK) s)
+
+    by_status : (b : Bool) → status == OK ≡ b
+        → WhereTrue b (CachedAfter c old.cached new.cached × (new.capacity ≡ old.capacity)) (new ≡ old)
+    by_status true e = (cached, capacity)
+    by_status false e = by_action c.action is cached e
+
+-- a node whose tables are as before is as before
+pub with_tables : (n : NodeState) (routes : Routes) (choices : Choices) (cache : StoreState)
+    → routes ≡ n.policy.routes → choices ≡ n.policy.choices → cache ≡ n.cache
+    → record n { policy = record n.policy { routes = routes; choices = choices }; cache = cache } ≡ n
+with_tables n routes choices cache r k s =
+    λ j. record n { policy = record n.policy { routes = r j; choices = k j }; cache = s j }
+
+-- ---- commands to the repository
+
+-- what is prepared stays so
+pub still_prepared : (old new : RepoState) (name : List Field) → new.start ≡ old.start → new.prepared_want ≡ old.prepared_want
+    → IsCommandPrepared old name → IsCommandPrepared new name
+still_prepared old new name start want ready =
+    subst (λ (w : Option (List Field)). IfSome (repo_command_at new.start name) (λ c. is_insert c.verb ≡ true → w ≡ Some c.name)) (sym want)
+    (subst (λ (s : List Field). IfSome (repo_command_at s name) (λ c. is_insert c.verb ≡ true → old.prepared_want ≡ Some c.name)) (sym start) ready)
+
+-- the repository's reply is no longer than its limit
+pub content_fits : (s : Held) (c : Option RepoCommand) (reply : RepoReply) → reply ≡ reply_to s c → length (repository_content reply) ≤ 55
+content_fits s c reply is =
+    by_text (repo_text_of reply.status) refl (subst (λ (r : RepoReply). IsSome (repo_text_of r.status)) (sym is) (reply_has_text s c))
+  where
+    by_text : (o : Option (List ℕ)) → repo_text_of reply.status ≡ o → IsSome o → length (repo_response reply.status (unwrap_or o []) reply.count) ≤ 55
+    by_text (Some text) e h = known_is_bounded reply.status reply.count text e
+    by_text None e h = cc h
+
+-- where an Interest is sent does not depend on the repository
+pub same_fetches : (p : Policy) (start : List Field) (held : Held) (nonce : List ℕ) (want : Option Want)
+    → fetch_sends (record p { repo = start; held = held }) nonce want ≡ fetch_sends p nonce want
+same_fetches p start held nonce None = refl
+same_fetches p start held nonce (Some want) = refl
+
+-- a node whose repository is as before is as before
+pub with_repository : (n : NodeState) (start : List Field) (held : Held) → start ≡ n.policy.repo → held ≡ n.policy.held
+    → record n { policy = record n.policy { repo = start; held = held } } ≡ n
+with_repository n start held s h = λ j. record n { policy = record n.policy { repo = s j; held = h j } }
+
+-- a sum that fits
+pub sum_is : (o : Option ℕ) (r : Result ℕ Memory) (n sum : ℕ) (P : Type 0) → SomeIff o P sum → o ≡ result_ok r → r ≡ Ok n → n ≡ sum
+sum_is o r n sum P fits same given =
+    (subst (λ (o : Option ℕ). SomeIff o P sum) (same ∙ ap (λ (r : Result ℕ Memory). result_ok r) given) fits).1
+
+-- the room of a reply, and what is left of the room for a reply and a packet
+pub has_reply_room : (total room len space : ℕ) → total ≡ room + 8800 → len ≤ room → total ≤ space → len ≤ space
+has_reply_room total room len space is few most = omega arith
+
+pub has_packet_room : (total room len space left : ℕ) → total ≡ room + 8800 → len ≤ room → total ≤ space → space ≤ left + len → 8800 ≤ left
+has_packet_room total room len space left is few most rest = omega arith
+
+pub has_places : (places left : ℕ) → 1 + MAX_FACES ≤ places → places ≤ left + 1 → MAX_FACES ≤ left
+has_places places left most rest = omega arith
+
+-- an Interest that can be written is no longer than a packet may be
+pub written_fits : (w : InterestWriter) (space : ℕ) → interest_refusal w ≡ None → 8800 ≤ space → length (interest_text w) ≤ space
+written_fits w space none most = by (is_bad_name (components w.name)) (nat_lt 64 (length (interest_name w))) (nat_lt 8800 (length (interest_text w))) refl none
+  where
+    by : (bad many long : Bool) → nat_lt 8800 (length (interest_text w)) ≡ long
+        → (if bad then Some BadName else (if many || long then Some TooLong else None)) ≡ None → length (interest_text w) ≤ space
+    by true many long is none = absurd cc
+    by false true long is none = absurd cc
+    by false false true is none = absurd cc
+    by false false false is none = grind (arith, nat_tests, is, most)
+
+-- a command to the repository, where this is its reply
+pub repository_done : (was new : NodeState) (face : ℕ) (i : PlainInterest) (reply : RepoReply) → reply ≡ repository_reply was.policy i
+    → new.policy ≡ with_record (after_repository was.policy i) (recorded_of i) → new.pending ≡ was.pending → new.cache ≡ was.cache
+    → IsCommanded was face i ForRepository reply.status (replied face i (repository_content reply) ∷ fetch_sends was.policy i.nonce reply.fetch) new
+repository_done was new face i reply is policy pending cache = record {
+  answered = ap (λ (r : RepoReply). r.status) is;
+  sent = ap (λ (r : RepoReply). replied face i (repository_content r) ∷ fetch_sends was.policy i.nonce r.fetch) is;
+  policy = policy;
+  pending = pending;
+  cache = λ rule. cache;
+}

@@ -1,0 +1,106 @@
+-- What delivering a Data does.
+use Rattle.std.proofs.Common.{◌≡◌, ◌≢◌, inl, inr, ℕ, ◌<◌, ◌≤◌, Bool, true, false, cond, not, eqb, ltb, List, [], ◌∷◌, length, refl, sym, ap, subst, ◌∙◌, arith}
+use Rattle.std.specs.Prelude.{Some, IsSome, is_some, IsTrue, All, Contains, filter, ◌||◌, ◌↔◌}
+use Rattle.std.specs.Ordering.{nat_cmp, is_eq}
+use Rattle.std.specs.Cmp.{nat_cmp_total, tied_itself}
+use Rattle.std.specs.FinMap.{entries, find, get, get-entries, len, len-entries}
+use Rattle.std.proofs.lemmas.Bool.{eq-eqb, ne_eqb, eqb-true, lt-ltb}
+use Rattle.sha2.specs.Sha256.{sha256}
+use Rattle.ndn_packets.specs.Packet.{PlainData}
+use Rattle.pit_fib.specs.Faces.{IsRising, has_face}
+use Rattle.pit_fib.specs.Pit.{WaitsFor}
+use Rattle.pit_fib.specs.Records.{Ask, Asks, Records, is_alive, records_at}
+use Rattle.content_store.specs.Store.{StoreState, with_cached}
+use Rattle.forwarder.specs.Event.{to_each}
+use Rattle.forwarder.specs.Replies.{IsSentToAskers}
+use Rattle.forwarder.specs.Node.{CacheAfterData, IsAwaited, NodeState, held_from}
+use Rattle.forwarder.specs.Handling.{seen_by}
+use Rattle.forwarder.proofs.Members.{IsRising-filter, IsIn, IsIn-filter_from, IsIn-filter_to, any_from, any_to}
+
+-- ---- who waits
+
+never : {A : Type 0} → false ≡ true → A
+never e = absurd cc
+
+none_found : {A : Type 0} (m : Asks) (face : ℕ) → entries m ≡ [] → IsSome (get m face) → A
+none_found m face none some = never (sym (ap is_some (get-entries m face ∙ ap (find nat_cmp face) none)) ∙ some)
+
+-- an asker makes records alive
+pub asker_lives : (r : Records) (face : ℕ) → IsSome (get r.asks face) → is_alive r ≡ true
+asker_lives r face some = by_entries (entries r.asks) refl
+  where
+    by_entries : (es : List (ℕ × Ask)) → entries r.asks ≡ es → is_alive r ≡ true
+    by_entries [] none = none_found r.asks face none some
+    by_entries (e ∷ es) is = lt-ltb 0 (len r.asks) (omega (arith, len-entries r.asks, ap (λ (l : List (ℕ × Ask)). length l) is))
+
+-- records that are alive have an asker
+pub living_asker : (r : Records) → is_alive r ≡ true → (face : ℕ) × IsSome (get r.asks face)
+living_asker r alive = by_entries (entries r.asks) refl
+  where
+    by_entries : (es : List (ℕ × Ask)) → entries r.asks ≡ es → (face : ℕ) × IsSome (get r.asks face)
+    by_entries [] none = never (sym (ap (ltb 0) (len-entries r.asks ∙ ap length none)) ∙ alive)
+    by_entries (e ∷ es) is = (
+      e.0,
+      ap is_some (get-entries r.asks e.0 ∙ ap (find nat_cmp e.0) is
+          ∙ ap (λ b. cond b (Some e.1) (find nat_cmp e.0 es)) (ap is_eq (tied_itself nat_cmp_total e.0))),
+    )
+
+module _ (s : NodeState) (whole : List ℕ) (d : PlainData) (askers : List ℕ)
+    (all : (f : ℕ) → IsTrue (has_face f askers) ↔ WaitsFor s.pending d.name (sha256 whole) f) where
+  awaited_some : (faces : List ℕ) → askers ≡ faces → 0 < length faces → IsAwaited s.pending whole d
+  awaited_some [] is some = absurd (omega (arith, some))
+  awaited_some (f ∷ faces) is some =
+      let waits = (all f).0 (ap (has_face f) is ∙ ap (λ b. b || has_face f faces) (eq-eqb f f refl)) in
+      (waits.0, waits.1, asker_lives (records_at s.pending waits.0) f waits.2)
+
+  awaited_none : length askers ≤ 0 → ¬ IsAwaited s.pending whole d
+  awaited_none few (key, answered, alive) =
+      let asker = living_asker (records_at s.pending key) alive in
+      none_has asker.0 askers few ((all asker.0).1 (key, answered, asker.1))
+    where
+      none_has : (f : ℕ) (faces : List ℕ) → length faces ≤ 0 → has_face f faces ≡ true → ⊥
+      none_has f [] few has = never has
+      none_has f (g ∷ faces) few has = absurd (omega (arith, few))
+
+  -- ---- what goes out
+
+  pub sent_to_askers : (face : ℕ) → IsRising askers → IsSentToAskers (seen_by s) face whole d (to_each (filter (λ f. not (eqb f face)) askers) whole)
+  sent_to_askers face rising = (others, IsRising-filter but askers rising, λ f. (there f, here f), refl)
+    where
+      but : ℕ → Bool
+      but f = not (eqb f face)
+
+      others : List ℕ
+      others = filter but askers
+
+      in_list : (f : ℕ) (faces : List ℕ) → has_face f faces ≡ true → IsIn f faces
+      in_list f faces has =
+          let found = any_from (λ g. eqb g f) faces has in
+          subst (λ g. IsIn g faces) (eqb-true found.0 f found.2) found.1
+
+      has_in : (f : ℕ) (faces : List ℕ) → IsIn f faces → has_face f faces ≡ true
+      has_in f faces is = any_to (λ g. eqb g f) f faces is (eq-eqb f f refl)
+
+      other : (f : ℕ) → but f ≡ true → f ≢ face
+      other f is same = never (sym (ap not (eq-eqb f face same)) ∙ is)
+
+      there : (f : ℕ) → IsTrue (has_face f others) → (f ≢ face) × WaitsFor s.pending d.name (sha256 whole) f
+      there f has =
+          let kept = IsIn-filter_from but f askers (in_list f others has) in
+          (other f kept.1, (all f).0 (has_in f askers kept.0))
+
+      here : (f : ℕ) → (f ≢ face) × WaitsFor s.pending d.name (sha256 whole) f → IsTrue (has_face f others)
+      here f (differs, waits) =
+          has_in f others (IsIn-filter_to but f askers (in_list f askers ((all f).1 waits)) (ap not (ne_eqb f face differs)))
+
+  -- ---- what is cached
+
+  module _ (now : ℕ) (old new : StoreState) where
+    pub cached : 0 < length askers → (stored : Bool) → (stored ≡ true → new ≡ with_cached old (held_from now whole d))
+        → (stored ≡ false → All (λ c. Contains old.cached c) new.cached) → new.capacity ≡ old.capacity
+        → CacheAfterData now s.pending whole d old new
+    cached some true ok refused same = inl (awaited_some askers refl some, inl (ok refl))
+    cached some false ok refused same = inl (awaited_some askers refl some, inr (refused refl, same))
+
+    pub not_cached : length askers ≤ 0 → new ≡ old → CacheAfterData now s.pending whole d old new
+    not_cached none same = inr (awaited_none none, same)

@@ -1,0 +1,220 @@
+-- A denied event leaves no more than its moment.
+use Rattle.std.proofs.Common.{◌≡◌, ℕ, Bool, true, false, List, [], ◌∷◌, refl, sym, ap, subst, ◌∙◌, Result, Ok, Err}
+use Rattle.std.specs.Prelude.{Option, Some, None, nat_le, length, not, ◌==◌, ◌&&◌, if◌then◌else◌}
+use Rattle.hmac_keys.specs.KeyFile.{AreApart}
+use Rattle.ndn_packets.specs.FrameReading.{frame_at}
+use Rattle.ndn_packets.specs.Key.{PlainKey, key_of}
+use Rattle.ndn_packets.specs.Packet.{PlainInterest, PlainData, PlainFrame, AnInterest, AData, ANack, Idle}
+use Rattle.ndn_packets.specs.Writing.{nack_text}
+use Rattle.ndn_packets.specs.declared.fault.PacketFault.{PacketFault}
+use Rattle.ndn_packets.specs.declared.types.TheConstants.{DUPLICATE}
+use Rattle.info_rules.specs.declared.decision.Decision.{Decision}
+use Rattle.info_rules.specs.declared.decision.Decision.TheVariants as decided
+use Rattle.pit_fib.specs.declared.nacked.Nacked.{Nacked}
+use Rattle.pit_fib.specs.declared.nacked.Nacked.TheVariants as nacks
+use Rattle.pit_fib.specs.Pit.{loops, moments}
+use Rattle.pit_fib.specs.Records.{Asks, Records, Pending, is_alive}
+use Rattle.strategies.specs.declared.strategy.Choice.{Choice}
+use Rattle.strategies.specs.declared.strategy.Choice.TheVariants as choices
+use Rattle.content_store.specs.Store.{CachedData}
+use Rattle.mgmt_core.specs.Writing.{segment_at}
+use Rattle.repo_core.specs.Objects.{served}
+use Rattle.pit_fib.specs.declared.faces.TheConstants.{MAX_FACES}
+use Rattle.forwarder.specs.Event.{PlainEvent, Packet, FaceUp, FaceDown, Tick}
+use Rattle.forwarder.specs.Faces.{is_open}
+use Rattle.forwarder.specs.Event.{moment, to_each}
+use Rattle.forwarder.specs.Verdict.{Answer, Verdict, Passed, Allowed, DataAllowed, Denied, NoRule, Dropped, WhereTrue, BadFace, FaceOpen, FacesFull, Loop, NoFace, NoSegment, PitFull, Scope as OutOfScope, dropped, passed}
+use Rattle.forwarder.specs.Policy.{Policy}
+use Rattle.forwarder.specs.Request.{ListAsked, Request, Refused, ForList, ForTables, ForRepository, ForData, is_command, is_out_of_scope, request_of}
+use Rattle.forwarder.specs.NextHops.{ask_from, choice_for, sent_on}
+use Rattle.forwarder.specs.Said.{IsSaid}
+use Rattle.forwarder.specs.Commands.{command_answer}
+use Rattle.forwarder.specs.Datasets.{is_present, list_answer, dataset_text, segment_answer, segment_name}
+use Rattle.forwarder.specs.Replies.{Seen, Replies, RepliesBySaid, RepliesForData, RepliesToData, RepliesToPacket, RepliesToRequest, by_cache, forwarded, nack_answer, opening_answer, unserved}
+use Rattle.forwarder.specs.Effects.{IsEffect, after_said, decided_packet, packet_to_decide}
+use Rattle.forwarder.specs.Causes.{causes_of, closing_causes, packet_causes}
+use Rattle.forwarder.specs.Runs.{Brings, BringsPacket, is_denied}
+use Rattle.forwarder.proofs.OneEffect.{one_said}
+use Rattle.forwarder.proofs.RunSteps.{seen_with}
+
+-- ---- which answers deny
+
+abbrev pub Mild : Answer → Type 0
+Mild answer = is_denied answer.verdict ≡ false
+
+pub mild_is : (answer other : Answer) → answer ≡ other → Mild other → Mild answer
+mild_is answer other e m = ap (λ (a : Answer). is_denied a.verdict) e ∙ m
+
+pub mild_list : (p : Policy) (face : ℕ) (asked : ListAsked) → Mild (list_answer p face asked)
+mild_list p face asked = by_version (is_present p asked.version)
+  where
+    by_part : (part : Option (List ℕ × ℕ)) → Mild (segment_answer face (segment_name asked.kind p.table_number asked.segment) part)
+    by_part None = refl
+    by_part (Some part) = refl
+
+    by_version : (b : Bool)
+        → Mild (if b then segment_answer face (segment_name asked.kind p.table_number asked.segment) (segment_at (dataset_text p asked.kind) asked.segment) else dropped NoSegment)
+    by_version true = by_part (segment_at (dataset_text p asked.kind) asked.segment)
+    by_version false = refl
+
+mild_forwarded : (seen : Seen) (key : PlainKey) (whole : List ℕ) (i : PlainInterest) (face : ℕ) (choice : Choice) → Mild (forwarded seen key whole i face choice)
+mild_forwarded seen key whole i face choices.NoRoute = refl
+mild_forwarded seen key whole i face (choices.Send faces) = by_full (not (is_alive (seen.records key)) && seen.is_full)
+  where
+    by_full : (b : Bool) → Mild (if b then dropped PitFull else passed (to_each faces (sent_on whole i.hop_limit)))
+    by_full true = refl
+    by_full false = refl
+
+mild_unserved : (seen : Seen) (face : ℕ) (whole : List ℕ) (i : PlainInterest) (object : Option (List ℕ)) → Mild (unserved seen face whole i object)
+mild_unserved seen face whole i (Some octets) = refl
+mild_unserved seen face whole i None =
+    mild_forwarded seen (key_of i) whole i face (choice_for seen.policy i.name (moments (seen.records (key_of i)).asked) (ask_from seen.policy face i))
+
+mild_cache : (seen : Seen) (face : ℕ) (whole : List ℕ) (i : PlainInterest) (given : Option (List ℕ)) → Mild (by_cache seen face whole i given)
+mild_cache seen face whole i (Some octets) = refl
+mild_cache seen face whole i None = mild_unserved seen face whole i (served i.name i.can_be_prefix seen.policy.held.objects)
+
+pub mild_data : (seen : Seen) (face : ℕ) (whole : List ℕ) (i : PlainInterest) (answer : Answer) → RepliesForData seen face whole i answer → Mild answer
+mild_data seen face whole i answer h = by_loop (loops (seen.records (key_of i)) face i.nonce) h
+  where
+    by_loop : (b : Bool) → WhereTrue b (answer ≡ record { verdict = Dropped Loop; sends = (face, nack_text DUPLICATE whole) ∷ [] }) ((given : Option (List ℕ)) × seen.MayGive (key_of i) given × (answer ≡ by_cache seen face whole i given)) → Mild answer
+    by_loop true e = mild_is answer _ e refl
+    by_loop false h = mild_is answer _ h.2 (mild_cache seen face whole i h.0)
+
+pub mild_nack : (asks : Asks) (n : Nacked) → Mild (nack_answer asks n)
+mild_nack asks nacks.NoPending = refl
+mild_nack asks nacks.Waiting = refl
+mild_nack asks (nacks.All reason) = refl
+
+pub mild_opening : (p : Policy) (face : ℕ) → Mild (opening_answer p face)
+mild_opening p face = by_zero (face == 0) (is_open face p.faces) (nat_le MAX_FACES (length p.faces))
+  where
+    by_zero : (a b c : Bool) → Mild (if a then dropped BadFace else (if b then dropped FaceOpen else (if c then dropped FacesFull else passed [])))
+    by_zero true b c = refl
+    by_zero false true c = refl
+    by_zero false false true = refl
+    by_zero false false false = refl
+
+pub mild_closing : (b : Bool) → Mild (if b then passed [] else dropped NoFace)
+mild_closing true = refl
+mild_closing false = refl
+
+-- ---- what is denied has no effect
+
+-- where this is said, nothing changes
+abbrev IsIdle : Policy → ℕ → PlainFrame → Decision → Type 0
+IsIdle p face packet said = after_said p face packet said ≡ p
+
+module _ (p : Policy) (records : PlainKey → Records) (full : Bool) (G : PlainKey → Option (List ℕ) → Type 0) (apart : AreApart p.keys) (answer : Answer)
+    (denied : is_denied answer.verdict ≡ true) where
+  abbrev seen : Seen
+  seen = seen_with p records full G
+
+  never : {A : Type 0} → Mild answer → A
+  never m = cc (m, denied)
+
+  by_decision : (face : ℕ) (packet : PlainFrame) (said other : Decision) → IsSaid p packet said → IsSaid p packet other → IsIdle p face packet said → IsIdle p face packet other
+  by_decision face packet said other h k idle =
+      subst (λ (d : Decision). IsIdle p face packet d) (one_said p packet said other apart h k) idle
+
+  command_idle : (face : ℕ) (whole : List ℕ) (i : PlainInterest) (said : Decision) → answer ≡ command_answer p face i said → IsIdle p face (AnInterest whole i) said
+  command_idle face whole i (decided.Allowed rule) e = never (mild_is answer (command_answer p face i (decided.Allowed rule)) e refl)
+  command_idle face whole i (decided.Denied rule reason) e = refl
+  command_idle face whole i decided.NoRule e = refl
+
+  data_idle : (face : ℕ) (whole : List ℕ) (d : PlainData) (said : Decision) → RepliesBySaid seen face whole d answer said → IsIdle p face (AData whole d) said
+  data_idle face whole d (decided.Allowed rule) h = never (ap is_denied h.0)
+  data_idle face whole d (decided.Denied rule reason) h = refl
+  data_idle face whole d decided.NoRule h = refl
+
+  -- a packet that is decided is idle, whatever is said of it
+  abbrev Idles : ℕ → Option PlainFrame → Type 0
+  Idles face packet = (found : PlainFrame) (said : Decision) → packet ≡ Some found → IsSaid p found said → IsIdle p face found said
+
+  none_idles : (face : ℕ) → Idles face None
+  none_idles face found said e h = cc e
+
+  some_idles : (face : ℕ) (packet : PlainFrame) (said : Decision) → IsSaid p packet said → IsIdle p face packet said → Idles face (Some packet)
+  some_idles face packet said h idle found other e k =
+      let is : packet ≡ found = cc e in
+      subst (λ (f : PlainFrame). IsIdle p face f other) is (by_decision face packet said other h (subst (λ (f : PlainFrame). IsSaid p f other) (sym is) k) idle)
+
+  request_idles : (face : ℕ) (whole : List ℕ) (i : PlainInterest) (r : Request) → RepliesToRequest seen face whole i answer r
+      → Idles face (if is_command r then Some (AnInterest whole i) else None)
+  request_idles face whole i (Refused reason) h = none_idles face
+  request_idles face whole i (ForList asked) h = none_idles face
+  request_idles face whole i ForTables h = some_idles face (AnInterest whole i) h.0 h.1 (command_idle face whole i h.0 h.2)
+  request_idles face whole i ForRepository h = some_idles face (AnInterest whole i) h.0 h.1 (command_idle face whole i h.0 h.2)
+  request_idles face whole i ForData h = none_idles face
+
+  data_idles : (face : ℕ) (whole : List ℕ) (d : PlainData) → RepliesToData seen face whole d answer → Idles face (if not (is_out_of_scope p face d.name) then Some (AData whole d) else None)
+  data_idles face whole d h = by_scope (is_out_of_scope p face d.name) h
+    where
+      by_scope : (b : Bool) → WhereTrue b (answer ≡ dropped OutOfScope) ((said : Decision) × IsSaid p (AData whole d) said × RepliesBySaid seen face whole d answer said)
+          → Idles face (if not b then Some (AData whole d) else None)
+      by_scope true h = none_idles face
+      by_scope false h = some_idles face (AData whole d) h.0 h.1 (data_idle face whole d h.0 h.2)
+
+  packet_idles : (face : ℕ) (read : Result PlainFrame PacketFault) → RepliesToPacket seen face read answer → Idles face (packet_to_decide p face read)
+  packet_idles face (Err fault) h = none_idles face
+  packet_idles face (Ok (AnInterest whole i)) h = request_idles face whole i (request_of p face i) h
+  packet_idles face (Ok (AData whole d)) h = data_idles face whole d h
+  packet_idles face (Ok (ANack reason whole i)) h = none_idles face
+  packet_idles face (Ok Idle) h = none_idles face
+
+  by_packet : (face now : ℕ) (octets : List ℕ) (packet : Option PlainFrame) → Idles face packet → (new : Policy) → IsEffect p (Packet face now octets) new packet → new ≡ p
+  by_packet face now octets None idles new h = h
+  by_packet face now octets (Some packet) idles new h = h.2 ∙ idles packet h.0 refl h.1
+
+  pub denied_effect : (event : PlainEvent) → Replies seen event answer → (new : Policy) → IsEffect p event new (decided_packet p event) → new ≡ p
+  denied_effect (Packet face now octets) h new e = by_open (is_open face p.faces) h e
+    where
+      by_open : (b : Bool) → WhereTrue b (RepliesToPacket seen face (frame_at octets) answer) (answer ≡ dropped NoFace)
+          → IsEffect p (Packet face now octets) new (if b then packet_to_decide p face (frame_at octets) else None) → new ≡ p
+      by_open true h e = by_packet face now octets (packet_to_decide p face (frame_at octets)) (packet_idles face (frame_at octets) h) new e
+      by_open false h e = never (mild_is answer (dropped NoFace) h refl)
+  denied_effect (FaceUp face scope now) h new e = never (mild_is answer (opening_answer p face) h (mild_opening p face))
+  denied_effect (FaceDown face now) h new e =
+      never (mild_is answer (if is_open face p.faces then passed [] else dropped NoFace) h (mild_closing (is_open face p.faces)))
+  denied_effect (Tick now) h new e = never (mild_is answer (passed []) h refl)
+
+-- ---- no causes, nothing for the cache
+
+verdict_causes : (now face : ℕ) (packet : PlainFrame) (answer : Answer) (v : Verdict) → v ≡ answer.verdict → is_denied v ≡ true → packet_causes now face (Ok packet) (record answer { verdict = v }) ≡ []
+verdict_causes now face packet answer Passed e d = cc d
+verdict_causes now face packet answer (Allowed rule status) e d = refl
+verdict_causes now face packet answer (DataAllowed rule) e d = cc d
+verdict_causes now face packet answer (Denied kind rule reason) e d = refl
+verdict_causes now face packet answer (NoRule kind) e d = refl
+verdict_causes now face packet answer (Dropped reason) e d = refl
+
+closing_none : (face : ℕ) (v : Verdict) → is_denied v ≡ true → closing_causes face v ≡ []
+closing_none face Passed d = cc d
+closing_none face (Allowed rule status) d = refl
+closing_none face (DataAllowed rule) d = refl
+closing_none face (Denied kind rule reason) d = refl
+closing_none face (NoRule kind) d = refl
+closing_none face (Dropped reason) d = refl
+
+read_causes : (now face : ℕ) (read : Result PlainFrame PacketFault) (answer : Answer) → is_denied answer.verdict ≡ true → packet_causes now face read answer ≡ []
+read_causes now face (Err fault) answer d = refl
+read_causes now face (Ok packet) answer d = verdict_causes now face packet answer answer.verdict refl d
+
+pub denied_causes : (now : ℕ) (event : PlainEvent) (answer : Answer) → is_denied answer.verdict ≡ true → causes_of now event answer ≡ []
+denied_causes now (Packet face moment octets) answer d = read_causes now face (frame_at octets) answer d
+denied_causes now (FaceUp face scope moment) answer d = refl
+denied_causes now (FaceDown face moment) answer d = closing_none face answer.verdict d
+denied_causes now (Tick moment) answer d = refl
+
+read_brings : (now : ℕ) (waiting : Pending) (read : Result PlainFrame PacketFault) (v : Verdict) (c : CachedData) → is_denied v ≡ true → BringsPacket now waiting read v c → ⊥
+read_brings now waiting (Err fault) v c d b = b
+read_brings now waiting (Ok (AnInterest whole i)) v c d b = b
+read_brings now waiting (Ok (AData whole packet)) v c d b = let e : is_denied v ≡ false = ap is_denied b.0.1 in cc (d, e)
+read_brings now waiting (Ok (ANack reason whole i)) v c d b = b
+read_brings now waiting (Ok Idle) v c d b = b
+
+pub denied_brings : (now : ℕ) (waiting : Pending) (event : PlainEvent) (v : Verdict) (c : CachedData) → is_denied v ≡ true → Brings now waiting event v c → ⊥
+denied_brings now waiting (Packet face moment octets) v c d b = read_brings now waiting (frame_at octets) v c d b
+denied_brings now waiting (FaceUp face scope moment) v c d b = b
+denied_brings now waiting (FaceDown face moment) v c d b = b
+denied_brings now waiting (Tick moment) v c d b = b

@@ -1,0 +1,304 @@
+-- Each send of an answer is explained.
+use Rattle.std.proofs.Common.{ap, ◌≡◌, ℕ, zero, suc, ◌-◌, ◌<◌, arith, Bool, true, false, List, [], ◌∷◌, map, refl, sym, subst, Result, Ok, Err, inl, inr}
+use Rattle.std.specs.Prelude.{Option, Some, None, IsTrue, nat_le, length, not, is_some, slice_set, ◌==◌, ◌&&◌, ◌||◌, if◌then◌else◌}
+use Rattle.std.specs.List.{All}
+use Rattle.std.specs.FinMap as map_of
+use Rattle.std.proofs.lemmas.Bool.{eq-eqb}
+use Rattle.std.proofs.lemmas.List.Elements.{All-cons, All-nil}
+use Rattle.ndn_packets.specs.FrameReading.{frame_at}
+use Rattle.ndn_packets.specs.Key.{PlainKey, key_of}
+use Rattle.ndn_packets.specs.Packet.{PlainInterest, PlainData, PlainFrame, AnInterest, AData, ANack, Idle}
+use Rattle.ndn_tlv.specs.Element.{element}
+use Rattle.ndn_tlv.specs.Number.{spelling}
+use Rattle.ndn_tlv.specs.Reading.{element_at, on_result}
+use Rattle.ndn_packets.specs.Covered.{from_first}
+use Rattle.ndn_packets.specs.HopLimit.{hop_place, place_from, place_in}
+use Rattle.ndn_packets.specs.Writing.{AreOctets, nack_text, reply_text}
+use Rattle.ndn_packets.proofs.Packets.{frame_found}
+use Rattle.ndn_packets.specs.declared.fault.PacketFault.{PacketFault}
+use Rattle.ndn_packets.specs.declared.types.TheConstants.{DUPLICATE, HOP_LIMIT, INTEREST, LINK_PACKET, NO_ROUTE}
+use Rattle.info_rules.specs.declared.decision.Decision.{Decision}
+use Rattle.info_rules.specs.declared.decision.Decision.TheVariants as decided
+use Rattle.pit_fib.specs.declared.nacked.Nacked.{Nacked}
+use Rattle.pit_fib.specs.declared.nacked.Nacked.TheVariants as nacks
+use Rattle.pit_fib.specs.Faces.{has_face}
+use Rattle.pit_fib.specs.Pit.{loops, moments, nacked_answer}
+use Rattle.pit_fib.specs.Records.{Ask, Asks, is_alive}
+use Rattle.strategies.specs.declared.strategy.Choice.{Choice}
+use Rattle.strategies.specs.declared.strategy.Choice.TheVariants as choices
+use Rattle.mgmt_core.specs.Writing.{segment_at}
+use Rattle.repo_core.specs.declared.reply.Want.{Want}
+use Rattle.repo_core.specs.Objects.{served}
+use Rattle.pit_fib.specs.declared.faces.TheConstants.{MAX_FACES}
+use Rattle.forwarder.specs.Event.{PlainEvent, Packet, FaceUp, FaceDown, Tick, Send}
+use Rattle.forwarder.specs.Faces.{is_open}
+use Rattle.forwarder.specs.Event.{to_each}
+use Rattle.forwarder.specs.Verdict.{Answer, DropReason, Dropped, WhereTrue, BadFace, FaceOpen, FacesFull, Idle as IsIdle, Loop, Malformed, NoFace, NoSegment, PitFull, Scope as OutOfScope, dropped, passed}
+use Rattle.forwarder.specs.Request.{ListAsked, Request, Refused, ForList, ForTables, ForRepository, ForData, is_command, is_out_of_scope, list_asked, request_of}
+use Rattle.forwarder.specs.NextHops.{ask_for, ask_from, choice_for, sent_on}
+use Rattle.forwarder.specs.Said.{IsSaid}
+use Rattle.forwarder.specs.Commands.{repository_reply, allowed_reply, command_answer, fetch_sends, fetch_text, is_unwritable, reply_content, to_chosen}
+use Rattle.forwarder.specs.Datasets.{is_present, list_answer, dataset_text, segment_answer, segment_data, segment_name}
+use Rattle.forwarder.specs.Replies.{Seen, Replies, RepliesBySaid, RepliesForData, RepliesToData, RepliesToNack, RepliesToPacket, RepliesToRequest, by_cache, forwarded, nack_answer, opening_answer, unserved}
+use Rattle.forwarder.specs.Sends.{BringsOctets, EachIsExplained, IsAtHand, IsExplained, is_data}
+use Rattle.forwarder.proofs.Requests.{for_list}
+
+-- the same octets to each of some faces
+all_to_each : (P : Send → Type 0) (octets : List ℕ) (faces : List ℕ) → ((face : ℕ) → P (face, octets)) → All P (to_each faces octets)
+all_to_each P octets [] each = All-nil P
+all_to_each P octets (face ∷ faces) each = All-cons P (face, octets) (to_each faces octets) (each face) (all_to_each P octets faces each)
+
+one_send : (P : Send → Type 0) (sent : Send) → P sent → All P (sent ∷ [])
+one_send P sent p = All-cons P sent [] p (All-nil P)
+
+each_is : (seen : Seen) (event : PlainEvent) (answer other : Answer) → answer ≡ other → EachIsExplained seen event other → EachIsExplained seen event answer
+each_is seen event answer other e h = subst (λ (a : Answer). EachIsExplained seen event a) (sym e) h
+
+no_sends : (seen : Seen) (event : PlainEvent) (answer : Answer) (reason : DropReason) → answer ≡ dropped reason → EachIsExplained seen event answer
+no_sends seen event answer reason e = each_is seen event answer (dropped reason) e (All-nil (IsExplained seen event))
+
+-- a Nack and an Interest begin with their own types
+link_is_no_data : (value : List ℕ) → is_data (element (LINK_PACKET, value)) ≡ false
+unfolding spelling
+link_is_no_data value = refl
+
+interest_is_no_data : (value : List ℕ) → is_data (element (INTEREST, value)) ≡ false
+unfolding spelling
+interest_is_no_data value = refl
+
+nack_explained : (seen : Seen) (event : PlainEvent) (face reason : ℕ) (interest : List ℕ) → IsExplained seen event (face, nack_text reason interest)
+nack_explained seen event face reason interest = inr (inr (link_is_no_data _))
+
+-- a change behind the first octet
+set_is_no_data : (text : List ℕ) (at octet : ℕ) → 0 < at → is_data text ≡ false → is_data (slice_set text at octet) ≡ false
+set_is_no_data [] at octet low e = refl
+set_is_no_data (x ∷ text) zero octet low e = absurd (omega arith)
+set_is_no_data (x ∷ text) (suc at) octet low e = e
+
+pub hop_place_is_later : (text : List ℕ) → 0 < length text → 0 < hop_place text
+hop_place_is_later text some = by_frame (frame_at text)
+  where
+    by_from : (from : Option (List ℕ)) → 0 < place_from text from
+    by_from None = some
+    by_from (Some from) = omega arith
+
+    by_limit : (b : Bool) (from : Option (List ℕ)) → 0 < (if b then place_from text from else length text)
+    by_limit true from = by_from from
+    by_limit false from = some
+
+    by_frame : (r : Result PlainFrame PacketFault) → 0 < place_in text r
+    by_frame (Ok (AnInterest whole i)) =
+        by_limit ((length whole == length text) && is_some i.hop_limit) (on_result (λ outer. from_first HOP_LIMIT outer.0.1) (λ _. None) (element_at text))
+    by_frame (Ok (AData whole d)) = some
+    by_frame (Ok (ANack reason whole i)) = some
+    by_frame (Ok Idle) = some
+    by_frame (Err fault) = some
+
+-- an Interest as it is sent on is no Data
+sent_on_is_no_data : (whole : List ℕ) (limit : Option ℕ) → 0 < length whole → is_data whole ≡ false → is_data (sent_on whole limit) ≡ false
+sent_on_is_no_data whole None some e = e
+sent_on_is_no_data whole (Some n) some e = set_is_no_data whole (hop_place whole) (n - 1) (hop_place_is_later whole some) e
+
+interest_begins : (value : List ℕ) → (0 < length (element (INTEREST, value))) × (is_data (element (INTEREST, value)) ≡ false)
+unfolding spelling
+interest_begins value = (omega arith, refl)
+
+-- what is read as an Interest begins as one
+read_interest : (octets whole : List ℕ) (i : PlainInterest) → AreOctets octets → frame_at octets ≡ Ok (AnInterest whole i) → (0 < length whole) × (is_data whole ≡ false)
+read_interest octets whole i fits read =
+    let outer = (frame_found octets (AnInterest whole i) fits read).0.fields in
+    subst (λ (t : List ℕ). (0 < length t) × (is_data t ≡ false)) (sym outer.outer.1) (interest_begins outer.value)
+
+-- ---- an Interest
+
+module _ (seen : Seen) (face now : ℕ) (octets whole : List ℕ) (i : PlainInterest) (fits : AreOctets octets) (read : frame_at octets ≡ Ok (AnInterest whole i)) where
+  abbrev event : PlainEvent
+  event = Packet face now octets
+
+  hand : (text : List ℕ) → IsAtHand seen face whole i text → IsExplained seen event (face, text)
+  hand text h = inr (inl (record { now = now; octets = octets; whole = whole; interest = i; brings = refl; read = read; at_hand = h }))
+
+  reply_explained : is_command (request_of seen.policy face i) ≡ true → (said : Decision) → IsSaid seen.policy (AnInterest whole i) said
+      → IsExplained seen event (face, reply_text i.name (reply_content seen.policy face i said))
+  reply_explained is said says = hand _ (inr (inr (inl (is, (said, says, refl)))))
+
+  chosen_explained : (choice : Choice) (want : Want) → All (IsExplained seen event) (to_chosen choice (fetch_text want i.nonce))
+  chosen_explained choices.NoRoute want = All-nil (IsExplained seen event)
+  chosen_explained (choices.Send faces) want =
+      all_to_each (IsExplained seen event) (fetch_text want i.nonce) faces (λ f. inr (inr (interest_is_no_data _)))
+
+  fetch_explained : (want : Option Want) → All (IsExplained seen event) (fetch_sends seen.policy i.nonce want)
+  fetch_explained None = All-nil (IsExplained seen event)
+  fetch_explained (Some want) = by_writable (is_unwritable want i.nonce)
+    where
+      by_writable : (b : Bool) → All (IsExplained seen event) (if b then [] else to_chosen (choice_for seen.policy want.name map_of.empty (ask_for seen.policy want.name)) (fetch_text want i.nonce))
+      by_writable true = All-nil (IsExplained seen event)
+      by_writable false = chosen_explained (choice_for seen.policy want.name map_of.empty (ask_for seen.policy want.name)) want
+
+  fetches_explained : (r : Request) → All (IsExplained seen event) (allowed_reply seen.policy face i r).fetches
+  fetches_explained (Refused reason) = All-nil (IsExplained seen event)
+  fetches_explained (ForList asked) = All-nil (IsExplained seen event)
+  fetches_explained ForTables = All-nil (IsExplained seen event)
+  fetches_explained ForRepository = fetch_explained (repository_reply seen.policy i).fetch
+  fetches_explained ForData = All-nil (IsExplained seen event)
+
+  command_explained : is_command (request_of seen.policy face i) ≡ true → (said : Decision) → IsSaid seen.policy (AnInterest whole i) said
+      → EachIsExplained seen event (command_answer seen.policy face i said)
+  command_explained is (decided.Allowed rule) says =
+      let reply = allowed_reply seen.policy face i (request_of seen.policy face i) in
+      All-cons (IsExplained seen event) (face, reply_text i.name reply.content) reply.fetches (reply_explained is (decided.Allowed rule) says) (fetches_explained (request_of seen.policy face i))
+  command_explained is (decided.Denied rule reason) says = one_send (IsExplained seen event) _ (reply_explained is (decided.Denied rule reason) says)
+  command_explained is decided.NoRule says = one_send (IsExplained seen event) _ (reply_explained is decided.NoRule says)
+
+  part_explained : (asked : ListAsked) → list_asked i ≡ Some asked → (part : Option (List ℕ × ℕ))
+      → list_answer seen.policy face asked ≡ segment_answer face (segment_name asked.kind seen.policy.table_number asked.segment) part
+      → EachIsExplained seen event (list_answer seen.policy face asked)
+  part_explained asked is None e = no_sends seen event (list_answer seen.policy face asked) NoSegment e
+  part_explained asked is (Some part) e =
+      let text = segment_data (segment_name asked.kind seen.policy.table_number asked.segment) part.0 part.1 in
+      each_is seen event (list_answer seen.policy face asked) _ e (one_send (IsExplained seen event) (face, text) (hand text (inr (inr (inr (asked, is, e))))))
+
+  -- the answer to an Interest for a list, by whether its version is the present one
+  abbrev by_present : ListAsked → Bool → Answer
+  by_present asked b =
+      if b then segment_answer face (segment_name asked.kind seen.policy.table_number asked.segment) (segment_at (dataset_text seen.policy asked.kind) asked.segment) else dropped NoSegment
+
+  list_explained : (asked : ListAsked) → list_asked i ≡ Some asked → EachIsExplained seen event (list_answer seen.policy face asked)
+  list_explained asked is = by_version (is_present seen.policy asked.version) refl
+    where
+      by_version : (b : Bool) → is_present seen.policy asked.version ≡ b → EachIsExplained seen event (list_answer seen.policy face asked)
+      by_version true e = part_explained asked is (segment_at (dataset_text seen.policy asked.kind) asked.segment) (ap (by_present asked) e)
+      by_version false e = no_sends seen event (list_answer seen.policy face asked) NoSegment (ap (by_present asked) e)
+
+  forwarded_explained : (key : PlainKey) (choice : Choice) → EachIsExplained seen event (forwarded seen key whole i face choice)
+  forwarded_explained key choices.NoRoute = one_send (IsExplained seen event) (face, nack_text NO_ROUTE whole) (nack_explained seen event face NO_ROUTE whole)
+  forwarded_explained key (choices.Send faces) = by_full (not (is_alive (seen.records key)) && seen.is_full)
+    where
+      by_full : (b : Bool) → EachIsExplained seen event (if b then dropped PitFull else passed (to_each faces (sent_on whole i.hop_limit)))
+      by_full true = All-nil (IsExplained seen event)
+      by_full false =
+          let begins = read_interest octets whole i fits read in
+          all_to_each (IsExplained seen event) (sent_on whole i.hop_limit) faces (λ f. inr (inr (sent_on_is_no_data whole i.hop_limit begins.0 begins.1)))
+
+  object_explained : (object : Option (List ℕ)) → served i.name i.can_be_prefix seen.policy.held.objects ≡ object → EachIsExplained seen event (unserved seen face whole i object)
+  object_explained (Some text) e = one_send (IsExplained seen event) (face, text) (hand text (inr (inl e)))
+  object_explained None e =
+      forwarded_explained (key_of i) (choice_for seen.policy i.name (moments (seen.records (key_of i)).asked) (ask_from seen.policy face i))
+
+  given_explained : (given : Option (List ℕ)) → seen.MayGive (key_of i) given → EachIsExplained seen event (by_cache seen face whole i given)
+  given_explained (Some text) h = one_send (IsExplained seen event) (face, text) (hand text (inl h))
+  given_explained None h = object_explained (served i.name i.can_be_prefix seen.policy.held.objects) refl
+
+  data_explained : (answer : Answer) → RepliesForData seen face whole i answer → EachIsExplained seen event answer
+  data_explained answer h = by_loop (loops (seen.records (key_of i)) face i.nonce) h
+    where
+      by_loop : (b : Bool) → WhereTrue b (answer ≡ record { verdict = Dropped Loop; sends = (face, nack_text DUPLICATE whole) ∷ [] })
+          ((given : Option (List ℕ)) × seen.MayGive (key_of i) given × (answer ≡ by_cache seen face whole i given)) → EachIsExplained seen event answer
+      by_loop true e =
+          each_is seen event answer _ e (one_send (IsExplained seen event) (face, nack_text DUPLICATE whole) (nack_explained seen event face DUPLICATE whole))
+      by_loop false h = each_is seen event answer (by_cache seen face whole i h.0) h.2 (given_explained h.0 h.1)
+
+  pub interest_explained : (answer : Answer) (r : Request) → request_of seen.policy face i ≡ r → RepliesToRequest seen face whole i answer r → EachIsExplained seen event answer
+  interest_explained answer (Refused reason) e h = no_sends seen event answer reason h
+  interest_explained answer (ForList asked) e h = each_is seen event answer (list_answer seen.policy face asked) h (list_explained asked (for_list seen.policy face i asked e))
+  interest_explained answer ForTables e h = each_is seen event answer (command_answer seen.policy face i h.0) h.2 (command_explained (ap is_command e) h.0 h.1)
+  interest_explained answer ForRepository e h = each_is seen event answer (command_answer seen.policy face i h.0) h.2 (command_explained (ap is_command e) h.0 h.1)
+  interest_explained answer ForData e h = data_explained answer h
+
+-- ---- a Data, a Nack, and all events
+
+all_members : (P : Send → Type 0) (octets : List ℕ) (faces : List ℕ) → ((face : ℕ) → IsTrue (has_face face faces) → P (face, octets)) → All P (to_each faces octets)
+all_members P octets [] each = All-nil P
+all_members P octets (face ∷ faces) each =
+    All-cons P (face, octets) (to_each faces octets) (each face (here (face == face) (eq-eqb face face refl)))
+    (all_members P octets faces (λ f in'. each f (there f (face == f) in')))
+  where
+    here : (b : Bool) → b ≡ true → IsTrue (b || has_face face faces)
+    here true e = refl
+    here false e = cc e
+
+    there : (f : ℕ) (b : Bool) → IsTrue (has_face f faces) → IsTrue (b || has_face f faces)
+    there f true h = refl
+    there f false h = h
+
+module _ (seen : Seen) (face now : ℕ) (octets : List ℕ) (fits : AreOctets octets) (answer : Answer) where
+  abbrev arrival : PlainEvent
+  arrival = Packet face now octets
+
+  said_explained : (whole : List ℕ) (d : PlainData) → frame_at octets ≡ Ok (AData whole d) → (said : Decision) → IsSaid seen.policy (AData whole d) said
+      → RepliesBySaid seen face whole d answer said → EachIsExplained seen arrival answer
+  said_explained whole d read (decided.Allowed rule) said h =
+      let sent = h.1 in
+      subst (All (IsExplained seen arrival)) (sym sent.3)
+      (all_members (IsExplained seen arrival) whole sent.0
+      (λ f in'. let is = (sent.2 f).0 in' in inl (record {
+        face = face;
+        now = now;
+        octets = octets;
+        whole = whole;
+        packet = d;
+        rule = rule;
+        brings = refl;
+        read = read;
+        allowed = said;
+        other = is.0;
+        waits = is.1;
+        received = refl;
+      })))
+  said_explained whole d read (decided.Denied rule reason) said h = each_is seen arrival answer _ h (All-nil (IsExplained seen arrival))
+  said_explained whole d read decided.NoRule said h = each_is seen arrival answer _ h (All-nil (IsExplained seen arrival))
+
+  forwarding_explained : (whole : List ℕ) (d : PlainData) → frame_at octets ≡ Ok (AData whole d) → RepliesToData seen face whole d answer → EachIsExplained seen arrival answer
+  forwarding_explained whole d read h = by_scope (is_out_of_scope seen.policy face d.name) h
+    where
+      by_scope : (b : Bool) → WhereTrue b (answer ≡ dropped OutOfScope) ((said : Decision) × IsSaid seen.policy (AData whole d) said × RepliesBySaid seen face whole d answer said)
+          → EachIsExplained seen arrival answer
+      by_scope true e = no_sends seen arrival answer OutOfScope e
+      by_scope false h = said_explained whole d read h.0 h.1 h.2
+
+  all_nacks : (reason : ℕ) (asks : List (ℕ × Ask)) → All (IsExplained seen arrival) (map {A = ℕ × Ask} {B = Send} (λ e. (e.0, nack_text reason e.1.interest)) asks)
+  all_nacks reason [] = All-nil (IsExplained seen arrival)
+  all_nacks reason (e ∷ asks) =
+      All-cons (IsExplained seen arrival) (e.0, nack_text reason e.1.interest) _ (nack_explained seen arrival e.0 reason e.1.interest) (all_nacks reason asks)
+
+  nacked_explained : (asks : Asks) (n : Nacked) → EachIsExplained seen arrival (nack_answer asks n)
+  nacked_explained asks nacks.NoPending = All-nil (IsExplained seen arrival)
+  nacked_explained asks nacks.Waiting = All-nil (IsExplained seen arrival)
+  nacked_explained asks (nacks.All reason) = all_nacks reason (map_of.entries asks)
+
+  nack_explains : (reason : ℕ) (i : PlainInterest) → RepliesToNack seen face reason i answer → EachIsExplained seen arrival answer
+  nack_explains reason i h = by_scope (is_out_of_scope seen.policy face i.name) h
+    where
+      by_scope : (b : Bool) → WhereTrue b (answer ≡ dropped OutOfScope) (answer ≡ nack_answer (seen.records (key_of i)).asks (nacked_answer (seen.records (key_of i)) face i.nonce reason))
+          → EachIsExplained seen arrival answer
+      by_scope true e = no_sends seen arrival answer OutOfScope e
+      by_scope false e =
+          each_is seen arrival answer _ e (nacked_explained (seen.records (key_of i)).asks (nacked_answer (seen.records (key_of i)) face i.nonce reason))
+
+  packet_explained : (read : Result PlainFrame PacketFault) → frame_at octets ≡ read → RepliesToPacket seen face read answer → EachIsExplained seen arrival answer
+  packet_explained (Err fault) e h = no_sends seen arrival answer (Malformed fault) h
+  packet_explained (Ok (AnInterest whole i)) e h = interest_explained seen face now octets whole i fits e answer (request_of seen.policy face i) refl h
+  packet_explained (Ok (AData whole d)) e h = forwarding_explained whole d e h
+  packet_explained (Ok (ANack reason whole i)) e h = nack_explains reason i h
+  packet_explained (Ok Idle) e h = no_sends seen arrival answer IsIdle h
+
+pub all_explained : (seen : Seen) (event : PlainEvent) (answer : Answer) → BringsOctets event → Replies seen event answer → EachIsExplained seen event answer
+all_explained seen (Packet face now octets) answer fits h = by_open (is_open face seen.policy.faces) h
+  where
+    by_open : (b : Bool) → WhereTrue b (RepliesToPacket seen face (frame_at octets) answer) (answer ≡ dropped NoFace) → EachIsExplained seen (Packet face now octets) answer
+    by_open true h = packet_explained seen face now octets fits answer (frame_at octets) refl h
+    by_open false e = no_sends seen (Packet face now octets) answer NoFace e
+all_explained seen (FaceUp face scope now) answer fits h = each_is seen (FaceUp face scope now) answer (opening_answer seen.policy face) h
+    (by_zero (face == 0) (is_open face seen.policy.faces) (nat_le MAX_FACES (length seen.policy.faces)))
+  where
+    by_zero : (a b c : Bool) → EachIsExplained seen (FaceUp face scope now) (if a then dropped BadFace else (if b then dropped FaceOpen else (if c then dropped FacesFull else passed [])))
+    by_zero true b c = All-nil (IsExplained seen (FaceUp face scope now))
+    by_zero false true c = All-nil (IsExplained seen (FaceUp face scope now))
+    by_zero false false true = All-nil (IsExplained seen (FaceUp face scope now))
+    by_zero false false false = All-nil (IsExplained seen (FaceUp face scope now))
+all_explained seen (FaceDown face now) answer fits h = each_is seen (FaceDown face now) answer (if is_open face seen.policy.faces then passed [] else dropped NoFace) h (by_open (is_open face seen.policy.faces))
+  where
+    by_open : (b : Bool) → EachIsExplained seen (FaceDown face now) (if b then passed [] else dropped NoFace)
+    by_open true = All-nil (IsExplained seen (FaceDown face now))
+    by_open false = All-nil (IsExplained seen (FaceDown face now))
+all_explained seen (Tick now) answer fits h = each_is seen (Tick now) answer (passed []) h (All-nil (IsExplained seen (Tick now)))

@@ -1,0 +1,389 @@
+-- An Interest is sent on: there is room for its asker and for the faces that it is sent to, what is
+-- kept of it are the causes of its answer, and a Nack back has room in what is reserved.
+use Rattle.std.proofs.Common.{◌≡◌, ◌⊎◌, inl, inr, ℕ, zero, suc, ◌+◌, ◌<◌, ◌≤◌, Bool, true, false, cond, eqb, List, [], ◌∷◌, ◌++◌, length, map, take, leb, ◌-◌, Option, None, Some, Result, Ok, Err, refl, sym, ap, subst, ◌∙◌, arith, add-one}
+use Rattle.std.specs.Prelude.{slice_get, slice_set, is_some, not, ◌&&◌, ◌||◌, ◌==◌}
+use Rattle.std.specs.List.{AllByRecursion, list_any}
+use Rattle.std.proofs.lemmas.Bool.{eq-eqb, eqb-true, leb-true, ne_eqb}
+use Rattle.std.proofs.Math.Logic.{∥∥₁_elim}
+use Rattle.std.proofs.lemmas.List.{length-append, length-map}
+use Rattle.std.specs.FinMap as fin
+use Rattle.ndn_tlv.specs.Number.{shortest_nni, spelling}
+use Rattle.ndn_tlv.specs.Element.{element}
+use Rattle.ndn_tlv.specs.Reading.{on_result, element_at}
+use Rattle.ndn_tlv.proofs.Integers.{length-shortest_eight}
+use Rattle.ndn_tlv.proofs.Numbers.{length-spelling_nine, length-spelling_one, length-spelling_three}
+use Rattle.ndn_packets.specs.Key.{PlainKey, key_of}
+use Rattle.ndn_packets.specs.Packet.{PlainInterest, PlainFrame, AnInterest, AData, ANack, Idle}
+use Rattle.ndn_packets.specs.declared.fault.PacketFault.{PacketFault}
+use Rattle.ndn_packets.specs.Covered.{from_first}
+use Rattle.ndn_packets.specs.FrameReading.{frame_at}
+use Rattle.ndn_packets.specs.Grammar.{IsInterest}
+use Rattle.ndn_packets.specs.Writing.{nack_field, nack_text}
+use Rattle.ndn_packets.specs.HopLimit.{place_from, place_in, hop_place, with_octet}
+use Rattle.ndn_tlv.proofs.Lengths.{length-element}
+use Rattle.ndn_packets.proofs.NackWriting.{nack_parts, nack_value}
+use Rattle.pit_fib.specs.Cause.{Cause, Arrives, SentTo, Withdrawn, changed, settled, same_key, sent_at, records_after, Follows}
+use Rattle.pit_fib.specs.Faces.{IsRising, has_face, with_face}
+use Rattle.pit_fib.specs.Pit.{HasRecord, HasRoomFor, moments}
+use Rattle.pit_fib.specs.declared.hops.Hop.{Hop}
+use Rattle.pit_fib.specs.Tables.{ByFace}
+use Rattle.pit_fib.specs.Records.{Ask, Pending, Records, no_records, is_alive, records_at}
+use Rattle.pit_fib.proofs.PendingFaces.{had_record}
+use Rattle.pit_fib.proofs.PendingPlaces.{alive_insert}
+use Rattle.pit_fib.proofs.PendingTables.{same_self}
+use Rattle.pit_fib.proofs.RisingFaces.{with_rises}
+use Rattle.mgmt_core.specs.Tables.{AllAreUp}
+use Rattle.strategies.specs.Choice.{faces_of}
+use Rattle.strategies.specs.declared.strategy.Choice.TheVariants.{NoRoute, Send as SendTo}
+use Rattle.strategies.specs.Eligible.{eligible, is_eligible}
+use Rattle.pit_fib.specs.declared.faces.TheConstants.{MAX_FACES}
+use Rattle.forwarder.specs.Causes.{after_causes, ask_of, interest_causes, is_answered, is_nack, is_nacked, sent_causes}
+use Rattle.forwarder.specs.Event.{Send, to_each}
+use Rattle.forwarder.specs.Faces.{FaceEntry, is_open, numbers}
+use Rattle.forwarder.specs.Forwarding.{choice_from}
+use Rattle.forwarder.specs.NextHops.{ask_from, hops_for, selection_of, sent_on, strategy_for}
+use Rattle.forwarder.specs.Policy.{Policy, open_faces}
+use Rattle.forwarder.specs.Node.{NodeState, FollowAll}
+use Rattle.forwarder.specs.State.{IsSound}
+use Rattle.forwarder.proofs.Chosen.{chosen_hop, chosen_up}
+use Rattle.forwarder.proofs.Outboxes.{map-take_next}
+use Rattle.forwarder.proofs.Soundness.{has_numbers}
+
+-- ---- room for an open face
+
+-- one that stands in a list above a number is above it
+pub member_above : (y x : ℕ) (faces : List ℕ) → AllByRecursion (λ m. y < m) faces → has_face x faces ≡ true → y < x
+member_above y x [] all has = absurd cc
+member_above y x (z ∷ faces) all has =
+    elim (eqb z x) as (λ b. eqb z x ≡ b → (b || has_face x faces) ≡ true → y < x) [
+      | true ↦ λ e h. subst (λ (n : ℕ). y < n) (eqb-true z x e) all.0
+      | false ↦ λ e h. member_above y x faces all.1 h
+    ] refl has
+
+all_above : (y x : ℕ) (faces : List ℕ) → y < x → AllByRecursion (λ m. x < m) faces → AllByRecursion (λ m. y < m) faces
+all_above y x [] lt all = tt
+all_above y x (z ∷ faces) lt all = (omega (arith, lt, all.0), all_above y x faces lt all.1)
+
+-- those above a list's first are among the later ones
+in_rest : (y : ℕ) (some faces : List ℕ) → AllByRecursion (λ m. y < m) some → AllByRecursion (λ f. has_face f (y ∷ faces) ≡ true) some
+    → AllByRecursion (λ f. has_face f faces ≡ true) some
+in_rest y [] faces above all = tt
+in_rest y (x ∷ some) faces above all = (
+  sym (ap (λ (b : Bool). b || has_face x faces) (ne_eqb y x (λ is. let lt : y < x = above.0 in omega (arith, lt, is)))) ∙ all.0,
+  in_rest y some faces above.1 all.1,
+)
+
+-- of two rising lists, one that has all of the other is no shorter
+rising_within : (some faces : List ℕ) → IsRising some → IsRising faces → AllByRecursion (λ f. has_face f faces ≡ true) some → length some ≤ length faces
+rising_within [] faces rises rising all = omega arith
+rising_within (x ∷ some) [] rises rising all = absurd (never all.0)
+  where
+    never : false ≡ true → ⊥
+    never e = cc
+rising_within (x ∷ some) (y ∷ faces) rises rising all =
+    elim (eqb y x) as (λ b. eqb y x ≡ b → (b || has_face x faces) ≡ true → suc (length some) ≤ suc (length faces)) [
+      | true ↦ λ e h.
+          let above = subst (λ (n : ℕ). AllByRecursion (λ m. n < m) some) (sym (eqb-true y x e)) rises.0 in
+          let rest = rising_within some faces rises.1 rising.1 (in_rest y some faces above all.1) in
+          omega (arith, rest)
+      | false ↦ λ e h.
+          let above = all_above y x some (member_above y x faces rising.0 h) rises.0 in
+          let rest = rising_within (x ∷ some) faces rises rising.1 (h, in_rest y some faces above all.1) in
+          omega (arith, rest)
+    ] refl all.0
+
+module _ (faces : List FaceEntry) (few : length faces ≤ MAX_FACES) (rising : IsRising (numbers faces))
+    (pending : Pending) (records : (f : ℕ) → HasRecord pending f → is_open f faces ≡ true) where
+  each_open : (face : ℕ) (some : List ℕ) → is_open face faces ≡ true → AllByRecursion (λ f. HasRecord pending f ⊎ (f ≡ face)) some
+      → AllByRecursion (λ f. has_face f (numbers faces) ≡ true) some
+  each_open face [] here all = tt
+  each_open face (f ∷ some) here all = (has_numbers f faces ∙ one all.0, each_open face some here all.1)
+    where
+      one : HasRecord pending f ⊎ (f ≡ face) → is_open f faces ≡ true
+      one (inl has) = records f has
+      one (inr is) = subst (λ (g : ℕ). is_open g faces ≡ true) (sym is) here
+
+  -- where whoever has a record is open
+  pub room_within : (face : ℕ) → is_open face faces ≡ true → HasRoomFor pending face
+  room_within face here some rises all =
+      let most = rising_within some (numbers faces) rises rising (each_open face some here all) in
+      omega (arith, most, few, length-map faces (λ (entry : FaceEntry). entry.0))
+
+pub room_for_open : (s : NodeState) (face : ℕ) → IsSound s → is_open face s.policy.faces ≡ true → HasRoomFor s.pending face
+room_for_open s face sound here = room_within s.policy.faces sound.few sound.rising s.pending sound.records face here
+
+-- ---- one more sending
+
+settled_alive : (r : Records) → is_alive r ≡ true → is_alive (settled r) ≡ true
+settled_alive r alive = subst (λ (b : Bool). is_alive (cond b r no_records) ≡ true) (sym alive) alive
+
+-- who asks still does
+pub sent_alive : (key : PlainKey) (face : ℕ) (nonce : List ℕ) (now : ℕ) (k : PlainKey) (r : Records) → is_alive r ≡ true
+    → is_alive (records_after (SentTo key face nonce now) k r) ≡ true
+sent_alive key face nonce now k r alive =
+    settled_alive (changed (SentTo key face nonce now) k r)
+    (elim (same_key k key) as (λ b. is_alive (cond b (record { asks = r.asks; asked = fin.insert r.asked face (sent_at nonce now) }) r) ≡ true) [
+      | true ↦ alive
+      | false ↦ alive
+    ])
+
+after_more : (causes : List Cause) (cause : Cause) (k : PlainKey) (r : Records) → after_causes (causes ++ cause ∷ []) k r ≡ records_after cause k (after_causes causes k r)
+after_more [] cause k r = refl
+after_more (c ∷ causes) cause k r = after_more causes cause k (records_after c k r)
+
+module _ (key : PlainKey) (nonce : List ℕ) (now : ℕ) where
+  pub one_more_sent : (faces : List ℕ) (i face : ℕ) (old before after : Pending) → slice_get faces i ≡ Some face
+      → FollowAll (sent_causes key nonce now (take i faces)) old before → Follows (SentTo key face nonce now) before after
+      → FollowAll (sent_causes key nonce now (take (i + 1) faces)) old after
+  one_more_sent faces i face old before after at all one k =
+      let causes = sent_causes key nonce now (take i faces) in
+      let next = map-take_next (λ (f : ℕ). SentTo key f nonce now) faces i face at in
+      one k ∙ ap (records_after (SentTo key face nonce now) k) (all k) ∙ sym (after_more causes (SentTo key face nonce now) k (records_at old k))
+      ∙ ap (λ (cs : List Cause). after_causes cs k (records_at old k)) (sym next) ∙ rw add-one refl
+
+  pub sent_open : (faces : List FaceEntry) (face : ℕ) (before after : Pending) → ((f : ℕ) → HasRecord before f → is_open f faces ≡ true)
+      → is_open face faces ≡ true → Follows (SentTo key face nonce now) before after → (f : ℕ) → HasRecord after f → is_open f faces ≡ true
+  sent_open faces face before after records here one f has =
+      elim (had_record (SentTo key face nonce now) before after one f has) [
+        | inl was ↦ records f was
+        | inr is ↦ subst (λ (g : ℕ). is_open g faces ≡ true) (sym is) here
+      ]
+
+or_true : (b : Bool) → (b || true) ≡ true
+or_true true = refl
+or_true false = refl
+
+-- a face at a place stands in the list
+pub has_at : (faces : List ℕ) (i face : ℕ) → slice_get faces i ≡ Some face → has_face face faces ≡ true
+has_at [] i face at = absurd cc
+has_at (f ∷ faces) zero face at = let is : f ≡ face = cc at in ap (λ (b : Bool). b || has_face face faces) (eq-eqb f face is)
+has_at (f ∷ faces) (suc i) face at = ap (λ (b : Bool). (f == face) || b) (has_at faces i face at) ∙ or_true (f == face)
+
+-- ---- the asker
+
+-- who arrives asks
+pub arrived_alive : (key : PlainKey) (face : ℕ) (ask : Ask) (r : Records) → is_alive (records_after (Arrives key face ask) key r) ≡ true
+arrived_alive key face ask r =
+    let asking : Records = record { asks = fin.insert r.asks face ask; asked = r.asked } in
+    settled_alive (changed (Arrives key face ask) key r)
+    (subst (λ (b : Bool). is_alive (cond b asking r) ≡ true) (sym (same_self key)) (alive_insert r.asks r.asked face ask))
+
+-- a node stays sound where an open face arrives
+pub arrived_sound : (old new : NodeState) (key : PlainKey) (face : ℕ) (ask : Ask) → IsSound old → is_open face old.policy.faces ≡ true
+    → new.policy ≡ old.policy → Follows (Arrives key face ask) old.pending new.pending → IsSound new
+arrived_sound old new key face ask sound here same arrives = record {
+  few = subst (λ (p : Policy). length p.faces ≤ MAX_FACES) (sym same) sound.few;
+  rising = subst (λ (p : Policy). IsRising (numbers p.faces)) (sym same) sound.rising;
+  records = λ f has. subst (λ (p : Policy). is_open f p.faces ≡ true) (sym same)
+      (elim (had_record (Arrives key face ask) old.pending new.pending arrives f has) [
+        | inl was ↦ sound.records f was
+        | inr is ↦ subst (λ (g : ℕ). is_open g old.policy.faces ≡ true) (sym is) here
+      ]);
+  routes = subst (λ (p : Policy). AllAreUp p.routes (open_faces p)) (sym same) sound.routes;
+}
+
+-- ---- the chosen faces
+
+faces_rise : (hops : List Hop) → IsRising (faces_of hops)
+faces_rise [] = tt
+faces_rise (hop ∷ hops) =
+    let rest = faces_of hops in
+    elim (has_face hop.face rest) as (λ b. has_face hop.face rest ≡ b → IsRising (cond b rest (with_face hop.face rest))) [
+      | true ↦ λ e. faces_rise hops
+      | false ↦ λ e. with_rises hop.face rest (faces_rise hops) e
+    ] refl
+
+sent_faces : (b : Bool) (hops : List Hop) (faces : List ℕ) → cond b (SendTo (faces_of hops)) NoRoute ≡ SendTo faces → faces_of hops ≡ faces
+sent_faces true hops faces is = cc is
+sent_faces false hops faces is = cc is
+
+module _ (s : NodeState) (sound : IsSound s) (face : ℕ) (i : PlainInterest) (faces : List ℕ) (chosen : choice_from s face i ≡ SendTo faces) where
+  abbrev asked : ByFace
+  asked = moments (records_at s.pending (key_of i)).asked
+
+  pub chosen_open : (f : ℕ) → has_face f faces ≡ true → is_open f s.policy.faces ≡ true
+  chosen_open f has =
+      sym (has_numbers f s.policy.faces)
+      ∙ chosen_up s.policy (open_faces s.policy) i.name asked (ask_from s.policy face i) faces f sound.routes chosen has
+
+  chosen_rise : IsRising faces
+  chosen_rise =
+      let ask = ask_from s.policy face i in
+      let hops = hops_for s.policy i.name in
+      let taken = selection_of (strategy_for s.policy i.name) (eligible ask hops) asked ask.now in
+      subst IsRising (sent_faces (list_any (is_eligible ask) hops) taken faces chosen) (faces_rise taken)
+
+  pub chosen_few : length faces ≤ MAX_FACES
+  chosen_few =
+      let most = rising_within faces (numbers s.policy.faces) chosen_rise sound.rising (all_open faces (λ f has. has)) in
+      omega (arith, most, sound.few, length-map s.policy.faces (λ (entry : FaceEntry). entry.0))
+    where
+      all_open : (some : List ℕ) → ((f : ℕ) → has_face f some ≡ true → has_face f faces ≡ true) → AllByRecursion (λ f. has_face f (numbers s.policy.faces) ≡ true) some
+      all_open [] are = tt
+      all_open (f ∷ some) are = (
+        has_numbers f s.policy.faces ∙ chosen_open f (are f (has_at (f ∷ some) 0 f refl)),
+        all_open some (λ g has. are g (ap (λ (b : Bool). (f == g) || b) has ∙ or_true (f == g))),
+      )
+
+  -- none is the asker
+  pub asker_not_chosen : has_face face faces ≡ false
+  asker_not_chosen =
+      elim (has_face face faces) as (λ b. has_face face faces ≡ b → b ≡ false) [
+        | true ↦ λ has. absurd (never has)
+        | false ↦ λ has. refl
+      ] refl
+    where
+      never : has_face face faces ≡ true → ⊥
+      never has =
+          let hop = chosen_hop s.policy i.name asked (ask_from s.policy face i) faces face chosen has in
+          let same : eqb face hop.0.face ≡ true = eq-eqb face hop.0.face (sym hop.3) in
+          absurd (refused (hop.0.local || not ((ask_from s.policy face i).localhost || (ask_from s.policy face i).hop_zero))
+          (subst (λ (b : Bool). (not b && (hop.0.local || not ((ask_from s.policy face i).localhost || (ask_from s.policy face i).hop_zero))) ≡ true) same hop.2))
+        where
+          refused : (b : Bool) → (not true && b) ≡ true → ⊥
+          refused b e = cc e
+
+-- ---- what is sent
+
+sends_to : (face : ℕ) (faces octets : List ℕ) → is_answered face (to_each faces octets) ≡ has_face face faces
+sends_to face [] octets = refl
+sends_to face (f ∷ faces) octets = ap (λ (b : Bool). (f == face) || b) (sends_to face faces octets)
+
+none_nacked : (faces octets : List ℕ) → is_nack octets ≡ false → is_nacked (to_each faces octets) ≡ false
+none_nacked [] octets other = refl
+none_nacked (f ∷ faces) octets other = ap (λ (b : Bool). b || is_nacked (to_each faces octets)) other ∙ none_nacked faces octets other
+
+sent_to_each : (key : PlainKey) (nonce : List ℕ) (now : ℕ) (faces octets : List ℕ)
+    → map (λ (sent : Send). SentTo key sent.0 nonce now) (to_each faces octets) ≡ sent_causes key nonce now faces
+sent_to_each key nonce now [] octets = refl
+sent_to_each key nonce now (f ∷ faces) octets = ap (λ (causes : List Cause). SentTo key f nonce now ∷ causes) (sent_to_each key nonce now faces octets)
+
+-- the octets of an Interest begin with its type
+element_no_nack : (value : List ℕ) → is_nack (element (5, value)) ≡ false
+unfolding spelling
+element_no_nack value = refl
+
+interest_no_nack : (whole : List ℕ) (i : PlainInterest) → IsInterest whole i → is_nack whole ≡ false
+interest_no_nack whole i h = ap is_nack h.fields.outer.1 ∙ element_no_nack h.fields.value
+
+-- its HopLimit stands later
+from_later : (octet : ℕ) (octets : List ℕ) (from : Option (List ℕ)) → 0 < place_from (octet ∷ octets) from
+from_later octet octets None = omega arith
+from_later octet octets (Some from) = omega arith
+
+either_later : (b : Bool) (octet : ℕ) (octets : List ℕ) (from : Option (List ℕ)) → 0 < cond b (place_from (octet ∷ octets) from) (length (octet ∷ octets))
+either_later true octet octets from = from_later octet octets from
+either_later false octet octets from = omega arith
+
+place_later : (octet : ℕ) (octets : List ℕ) (read : Result PlainFrame PacketFault) → 0 < place_in (octet ∷ octets) read
+place_later octet octets (Ok (AnInterest whole i)) =
+    either_later ((length whole == length (octet ∷ octets)) && is_some i.hop_limit) octet octets
+    (on_result (λ outer. from_first 34 outer.0.1) (λ _. None) (element_at (octet ∷ octets)))
+place_later octet octets (Ok (AData whole d)) = omega arith
+place_later octet octets (Ok (ANack reason whole i)) = omega arith
+place_later octet octets (Ok Idle) = omega arith
+place_later octet octets (Err fault) = omega arith
+
+set_later : (octet : ℕ) (octets : List ℕ) (place new : ℕ) → 0 < place → is_nack (slice_set (octet ∷ octets) place new) ≡ is_nack (octet ∷ octets)
+set_later octet octets zero new later = absurd (omega (arith, later))
+set_later octet octets (suc place) new later = refl
+
+with_octet_no_nack : (whole : List ℕ) (limit : ℕ) → is_nack whole ≡ false → is_nack (with_octet whole limit) ≡ false
+with_octet_no_nack [] limit other = refl
+with_octet_no_nack (octet ∷ octets) limit other =
+    set_later octet octets (hop_place (octet ∷ octets)) limit (place_later octet octets (frame_at (octet ∷ octets))) ∙ other
+
+sent_on_no_nack : (whole : List ℕ) (limit : Option ℕ) → is_nack whole ≡ false → is_nack (sent_on whole limit) ≡ false
+sent_on_no_nack whole None other = other
+sent_on_no_nack whole (Some limit) other = with_octet_no_nack whole (limit - 1) other
+
+no_nack_spelled : (whole : List ℕ) (i : PlainInterest) → ∥ IsInterest whole i ∥₁ → is_nack whole ≡ false
+no_nack_spelled whole i spelled = by_octet (is_nack whole) refl
+  where
+    never : is_nack whole ≡ true → ⊥
+    never is = ∥∥₁_elim spelled (λ a b. absurd a) (λ h. let other = interest_no_nack whole i h in cc (is, other))
+
+    by_octet : (b : Bool) → is_nack whole ≡ b → b ≡ false
+    by_octet true is = absurd (never is)
+    by_octet false is = refl
+
+-- ---- the causes of what is sent on
+
+-- an arrival, by values that are the same
+pub arrives_as : {k key : PlainKey} (face : ℕ) (whole nonce : List ℕ) {d deadline : ℕ} (old new : Pending) → k ≡ key → d ≡ deadline
+    → Follows (Arrives k face (record { interest = whole; nonce = nonce; deadline = d })) old new
+    → Follows (Arrives key face (record { interest = whole; nonce = nonce; deadline = deadline })) old new
+arrives_as {k} {key} face whole nonce {d} {deadline} old new same until arrives =
+    subst (λ (n : ℕ). Follows (Arrives key face (record { interest = whole; nonce = nonce; deadline = n })) old new) until
+    (subst (λ (q : PlainKey). Follows (Arrives q face (record { interest = whole; nonce = nonce; deadline = d })) old new) same arrives)
+
+-- an asker that nothing goes back to
+kept_causes : (now face : ℕ) (whole : List ℕ) (i : PlainInterest) (sends : List Send) → is_nacked sends ≡ false → is_answered face sends ≡ false
+    → interest_causes now face whole i sends
+    ≡ Arrives (key_of i) face (ask_of now whole i) ∷ map (λ (sent : Send). SentTo (key_of i) sent.0 i.nonce now) sends
+kept_causes now face whole i sends nacked answered =
+    let kept = Arrives (key_of i) face (ask_of now whole i) ∷ map (λ (sent : Send). SentTo (key_of i) sent.0 i.nonce now) sends in
+    ap (λ (b : Bool). cond b (Withdrawn (key_of i) face ∷ []) (cond (is_answered face sends) [] kept)) nacked
+    ∙ ap (λ (b : Bool). cond b [] kept) answered
+
+pub sent_on_causes : (now face : ℕ) (whole : List ℕ) (i : PlainInterest) (faces : List ℕ) (old mid new : Pending)
+    → ∥ IsInterest whole i ∥₁ → has_face face faces ≡ false
+    → Follows (Arrives (key_of i) face (ask_of now whole i)) old mid → FollowAll (sent_causes (key_of i) i.nonce now faces) mid new
+    → FollowAll (interest_causes now face whole i (to_each faces (sent_on whole i.hop_limit))) old new
+sent_on_causes now face whole i faces old mid new spelled apart arrives sent key =
+    let octets = sent_on whole i.hop_limit in
+    let other = sent_on_no_nack whole i.hop_limit (no_nack_spelled whole i spelled) in
+    let is = kept_causes now face whole i (to_each faces octets) (none_nacked faces octets other) (sends_to face faces octets ∙ apart) in
+    let arrived = Arrives (key_of i) face (ask_of now whole i) in
+    sent key ∙ ap (λ (r : Records). after_causes (sent_causes (key_of i) i.nonce now faces) key r) (arrives key)
+    ∙ ap (λ (causes : List Cause). after_causes causes key (records_after arrived key (records_at old key))) (sym (sent_to_each (key_of i) i.nonce now faces octets))
+    ∙ ap (λ (causes : List Cause). after_causes causes key (records_at old key)) (sym is)
+
+-- a table that takes an Interest is not full for it
+pub takes_key : (alive : Bool) (n : ℕ) → ((alive ≡ false) × (4096 ≤ n) → ⊥) → (not alive && leb 4096 n) ≡ false
+takes_key true n never = refl
+takes_key false n never =
+    elim (leb 4096 n) as (λ b. leb 4096 n ≡ b → b ≡ false) [
+      | true ↦ λ e. absurd (never (refl, leb-true 4096 n e))
+      | false ↦ λ e. refl
+    ] refl
+
+-- ---- a Nack back
+
+-- its header field, whose reason takes 8 octets at most
+nack_field_fits : (reason : ℕ) → length (nack_field reason) ≤ 16
+nack_field_fits reason =
+    let why = element (801, shortest_nni reason) in
+    let eight = length-shortest_eight reason in
+    let inner = length-element 801 (shortest_nni reason) in
+    let short : length why ≤ 12 = omega (arith, eight, inner, length-spelling_three 801 (omega arith), length-spelling_one (length (shortest_nni reason)) (omega (arith, eight))) in
+    omega (arith, short, length-element 800 why, length-spelling_three 800 (omega arith), length-spelling_one (length why) (omega (arith, short)))
+
+pub nack_is_short : (reason : ℕ) (interest : List ℕ) → length (nack_text reason interest) ≤ length interest + 40
+nack_is_short reason interest =
+    let value = nack_value reason interest in
+    omega (
+      arith,
+      nack_parts reason interest (length value) refl,
+      nack_field_fits reason,
+      length-append (spelling 100) (spelling (length value)),
+      length-spelling_one 100 (omega arith),
+      length-spelling_nine (length value),
+      length-element 80 interest,
+      length-spelling_one 80 (omega arith),
+      length-spelling_nine (length interest),
+    )
+
+nack_begins : (reason : ℕ) (interest : List ℕ) → is_nack (nack_text reason interest) ≡ true
+unfolding spelling
+nack_begins reason interest = refl
+
+-- a Nack back ends that its face waits
+pub nack_causes_are : (now face reason : ℕ) (whole : List ℕ) (i : PlainInterest) (old new : Pending) → Follows (Withdrawn (key_of i) face) old new
+    → FollowAll (interest_causes now face whole i ((face, nack_text reason whole) ∷ [])) old new
+nack_causes_are now face reason whole i old new withdrawn key =
+    let sends = (face, nack_text reason whole) ∷ [] in
+    let kept = Arrives (key_of i) face (ask_of now whole i) ∷ map (λ (sent : Send). SentTo (key_of i) sent.0 i.nonce now) sends in
+    let is : interest_causes now face whole i sends ≡ Withdrawn (key_of i) face ∷ [] =
+    ap (λ (b : Bool). cond (b || false) (Withdrawn (key_of i) face ∷ []) (cond (is_answered face sends) [] kept)) (nack_begins reason whole) in
+    withdrawn key ∙ ap (λ (causes : List Cause). after_causes causes key (records_at old key)) (sym is)

@@ -1,0 +1,63 @@
+-- What a step of a node leaves, and how runs go on by it.
+use Rattle.std.proofs.Common.{◌≡◌, ℕ, List, [], length, drop, Result, Ok, Err, refl, sym, ap, subst, ◌∙◌}
+use Rattle.std.specs.Prelude.{IfOk, OnErr}
+use Rattle.std.proofs.lemmas.List.{append-nil, drop_at}
+use Rattle.ndn_tlv.specs.declared.memory.Memory.{Memory}
+use Rattle.pit_fib.specs.Records.{Pending}
+use Rattle.forwarder.specs.declared.verdict.Verdict as code
+use Rattle.forwarder.specs.Event.{PlainEvent, Send, Tick}
+use Rattle.forwarder.specs.Node.{NodeState, IsStep, Unharmed}
+use Rattle.forwarder.specs.Policy.{Policy}
+use Rattle.forwarder.specs.Runs.{Run, Then, IsRun, Stands}
+use Rattle.forwarder.specs.State.{IsLater, IsSound}
+use Rattle.forwarder.specs.Verdict.{passed, verdict_of}
+use Rattle.forwarder.proofs.Handled.{StepsBy}
+use Rattle.forwarder.proofs.Soundness.{step_sound}
+use Rattle.forwarder.proofs.Standing.{step_goes_on}
+
+-- what was refused memory is as sound as before
+unharmed_sound : (old new : NodeState) → IsSound old → Unharmed old new → IsSound new
+unharmed_sound old new sound unharmed =
+    subst (λ (p : Policy). IsSound (record { policy = p; pending = new.pending; cache = new.cache })) (sym unharmed.policy)
+    (subst (λ (t : Pending). IsSound (record { policy = old.policy; pending = t; cache = new.cache })) (sym unharmed.pending) (record {
+      few = sound.few;
+      rising = sound.rising;
+      records = sound.records;
+      routes = sound.routes;
+    }))
+
+pub sound_after : (old new : NodeState) (before after : List Send) (event : PlainEvent) (r : Result code.Verdict Memory) → IsSound old
+    → IfOk r (StepsBy old new before after event) → OnErr r (Unharmed old new × (after ≡ before)) → IsSound new
+sound_after old new before after event (Ok verdict) sound (sends, is, step) none = step_sound old new event (record { verdict = verdict_of verdict; sends = sends }) sound step
+sound_after old new before after event (Err memory) sound none (unharmed, is) = unharmed_sound old new sound unharmed
+
+abbrev pub GoesOn : NodeState → NodeState → List Send → PlainEvent → code.Verdict → Type 0
+GoesOn old new sends event verdict =
+    (first : Policy) (past : Run) → first.now ≡ 0 → IsRun first past → Stands first past old
+    → IsRun first (Then past event (record { verdict = verdict_of verdict; sends = sends }))
+    × Stands first (Then past event (record { verdict = verdict_of verdict; sends = sends })) new
+
+pub goes_on : (old new : NodeState) (before after : List Send) (event : PlainEvent) (verdict : code.Verdict) → StepsBy old new before after event verdict
+    → GoesOn old new (drop (length before) after) event verdict
+goes_on old new before after event verdict (sends, is, step) first past begins is_run stands =
+    let same : drop (length before) after ≡ sends = ap (drop (length before)) is ∙ drop_at before sends (length before) refl in
+    subst (λ (s : List Send). IsRun first (Then past event (record { verdict = verdict_of verdict; sends = s }))
+    × Stands first (Then past event (record { verdict = verdict_of verdict; sends = s })) new) (sym same)
+    (step_goes_on first past old new event (record { verdict = verdict_of verdict; sends = sends }) begins is_run stands step)
+
+pub stays_quiet : (old new : NodeState) (before : List Send) (event : PlainEvent) (verdict : code.Verdict)
+    → IsStep old event (record { verdict = verdict_of verdict; sends = [] }) new → StepsBy old new before before event verdict
+stays_quiet old new before event verdict step = ([], sym (append-nil before), step)
+
+-- time passes, and nothing else happens
+pub tick_step : (old new : NodeState) (now : ℕ) → IsLater old now new → IsStep old (Tick now) (passed []) new
+tick_step old new now later = record {
+  waiting = new.pending;
+  living = later.living;
+  expiry = later.expiry;
+  replies = refl;
+  policy = later.policy;
+  pending = λ key. refl;
+  alive = later.living;
+  cache = later.cache;
+}

@@ -1,0 +1,67 @@
+-- An Interest for a list is answered by a segment, or dropped.
+use Rattle.std.proofs.Common.{◌≡◌, ℕ, Bool, true, false, cond, List, [], ◌∷◌, Option, None, Some, Ok, refl, sym, ap, subst, ◌∙◌}
+use Rattle.std.specs.Prelude.{map, ◌||◌, ◌==◌}
+use Rattle.std.proofs.lemmas.Bool.{eq-eqb}
+use Rattle.ndn_tlv.specs.Element.{Field}
+use Rattle.ndn_tlv.specs.Number.{spelling}
+use Rattle.ndn_packets.specs.Key.{key_of}
+use Rattle.ndn_packets.specs.Packet.{PlainInterest, AnInterest}
+use Rattle.mgmt_core.specs.Writing.{segment_at}
+use Rattle.pit_fib.specs.Cause.{Cause, Arrives, SentTo, Withdrawn}
+use Rattle.forwarder.specs.Event.{Send}
+use Rattle.forwarder.specs.Verdict.{Answer, NoSegment, dropped}
+use Rattle.forwarder.specs.Policy.{Policy}
+use Rattle.forwarder.specs.Request.{ForList, ListAsked, Request, is_command, request_of}
+use Rattle.forwarder.specs.Datasets.{dataset_text, is_present, list_answer, segment_answer, segment_data, segment_name}
+use Rattle.forwarder.specs.Causes.{ask_of, interest_causes, is_nack, packet_causes}
+use Rattle.forwarder.specs.Replies.{RepliesToRequest}
+use Rattle.forwarder.specs.Handling.{IsAnswered, IsPacketEffect, seen_by}
+use Rattle.forwarder.specs.Node.{CacheAfterRequest, FollowAll, NodeState}
+use Rattle.forwarder.specs.State.{IsLater}
+
+-- what goes back to the asker and is no Nack leaves the records as they are
+pub back_causes : (now face : ℕ) (whole : List ℕ) (i : PlainInterest) (octets : List ℕ) → is_nack octets ≡ false
+    → interest_causes now face whole i ((face, octets) ∷ []) ≡ []
+back_causes now face whole i octets other =
+    let kept : List Cause = Arrives (key_of i) face (ask_of now whole i) ∷ map (λ (sent : Send). SentTo (key_of i) sent.0 i.nonce now) ((face, octets) ∷ []) in
+    let gone : List Cause = Withdrawn (key_of i) face ∷ [] in
+    ap (λ (b : Bool). cond (b || false) gone (cond ((face == face) || false) [] kept)) other
+    ∙ ap (λ (b : Bool). cond (b || false) [] kept) (eq-eqb face face refl)
+
+segment_begins : (name : List Field) (content : List ℕ) (last : ℕ) → is_nack (segment_data name content last) ≡ false
+unfolding spelling
+segment_begins name content last = refl
+
+segment_causes : (now face : ℕ) (whole : List ℕ) (i : PlainInterest) (name : List Field) (part : Option (List ℕ × ℕ))
+    → packet_causes now face (Ok (AnInterest whole i)) (segment_answer face name part) ≡ []
+segment_causes now face whole i name None = refl
+segment_causes now face whole i name (Some part) = back_causes now face whole i (segment_data name part.0 part.1) (segment_begins name part.0 part.1)
+
+list_causes : (p : Policy) (now face : ℕ) (whole : List ℕ) (i : PlainInterest) (asked : ListAsked)
+    → packet_causes now face (Ok (AnInterest whole i)) (list_answer p face asked) ≡ []
+list_causes p now face whole i asked =
+    let name = segment_name asked.kind p.table_number asked.segment in
+    let part = segment_at (dataset_text p asked.kind) asked.segment in
+    elim (is_present p asked.version) as (λ b. packet_causes now face (Ok (AnInterest whole i)) (cond b (segment_answer face name part) (dropped NoSegment)) ≡ []) [
+      | true ↦ segment_causes now face whole i name part
+      | false ↦ refl
+    ]
+
+pub list_answered : (old was : NodeState) (moment face : ℕ) (whole : List ℕ) (i : PlainInterest) (asked : ListAsked) → IsLater old moment was
+    → request_of old.policy face i ≡ ForList asked → IsAnswered was face (AnInterest whole i) (list_answer was.policy face asked) was
+list_answered old was moment face whole i asked later is =
+    let request : request_of was.policy face i ≡ ForList asked = ap (λ (p : Policy). request_of p face i) later.policy ∙ is in
+    let answer = list_answer was.policy face asked in
+    record {
+      replies = subst (λ (r : Request). RepliesToRequest (seen_by was) face whole i answer r) (sym request) refl;
+      policy = subst (λ (r : Request). IsPacketEffect was.policy face (AnInterest whole i) was.policy (is_command r)) (sym request) refl;
+      pending = subst (λ (causes : List Cause). FollowAll causes was.pending was.pending) (sym (list_causes was.policy was.policy.now face whole i asked)) (λ key. refl);
+      alive = later.living;
+      cache = subst (λ (r : Request). CacheAfterRequest was.policy.now was.pending face i answer.verdict was.cache was.cache r) (sym request) refl;
+    }
+
+-- what was given for a list is the answer
+pub list_handled : (old was : NodeState) (moment face : ℕ) (whole : List ℕ) (i : PlainInterest) (asked : ListAsked) (answer : Answer) → IsLater old moment was
+    → request_of old.policy face i ≡ ForList asked → list_answer was.policy face asked ≡ answer → IsAnswered was face (AnInterest whole i) answer was
+list_handled old was moment face whole i asked answer later is given =
+    subst (λ (a : Answer). IsAnswered was face (AnInterest whole i) a was) given (list_answered old was moment face whole i asked later is)

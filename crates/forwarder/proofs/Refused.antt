@@ -1,0 +1,190 @@
+-- Commands are answered once their moment has come: they are carried out, or refused.
+use Rattle.std.proofs.Common.{◌≡◌, ℕ, Bool, true, List, [], ◌∷◌, ◌++◌, Ok, refl, sym, ap, subst, ◌∙◌}
+use Rattle.std.specs.Prelude.{codes, max}
+use Rattle.ndn_packets.specs.Packet.{PlainInterest, AnInterest}
+use Rattle.info_rules.specs.declared.decision.Decision.{Decision}
+use Rattle.info_rules.specs.declared.decision.Decision.TheVariants as decided
+use Rattle.info_rules.specs.declared.decision.Reason.{Reason}
+use Rattle.info_rules.specs.declared.rule.Kind.TheVariants as kinds
+use Rattle.info_rules.specs.declared.rules.RuleNo.{RuleNo}
+use Rattle.replay_guard.specs.Guard.{Table}
+use Rattle.pit_fib.specs.Cause.{Cause}
+use Rattle.pit_fib.specs.Records.{HoldsTheLiving, Pending, records_at}
+use Rattle.forwarder.specs.declared.request.NamedRequest.{NamedRequest}
+use Rattle.forwarder.specs.declared.request.NamedRequest.TheVariants as named
+use Rattle.forwarder.specs.declared.state.State.{State}
+use Rattle.forwarder.specs.declared.verdict.Verdict.TheVariants as code
+use Rattle.forwarder.specs.Event.{Send}
+use Rattle.forwarder.specs.Verdict.{Allowed, Answer, Denied, NoRule}
+use Rattle.forwarder.specs.Policy.{Policy}
+use Rattle.forwarder.specs.Request.{Request, Refused, ForList, ForTables, ForRepository, ForData, is_command, request_named, request_of}
+use Rattle.forwarder.specs.Said.{IsSaid, recorded_of}
+use Rattle.forwarder.specs.Commands.{after_request, allowed_reply, command_answer, denial_text, refused_content, replied, with_record}
+use Rattle.forwarder.specs.Commanding.{IsCarriedOut, IsCommanded}
+use Rattle.forwarder.specs.Causes.{packet_causes}
+use Rattle.forwarder.specs.Effects.{after_said}
+use Rattle.forwarder.specs.Replies.{RepliesToCommand, RepliesToRequest}
+use Rattle.forwarder.specs.Handling.{IsAnswered, IsHandled, IsPacketEffect, seen_by}
+use Rattle.forwarder.specs.Node.{CacheAfterRequest, FollowAll, NodeState, Unharmed}
+use Rattle.forwarder.specs.State.{IsLater, policy_of, state_of}
+use Rattle.forwarder.proofs.Answered.{unharmed}
+
+-- what is said of a command at this moment
+abbrev pub SaysAt : Policy → ℕ → List ℕ → PlainInterest → Decision → Type 0
+SaysAt old now whole i said =
+    (p : Policy) → p.rules ≡ old.rules → p.keys ≡ old.keys → p.guard ≡ old.guard → p.now ≡ max old.now now → IsSaid p (AnInterest whole i) said
+
+pub said_as : (old : Policy) (now moment : ℕ) (whole : List ℕ) (i : PlainInterest) (given said : Decision) → moment ≡ max old.now now → given ≡ said
+    → ((p : Policy) → p.rules ≡ old.rules → p.keys ≡ old.keys → p.guard ≡ old.guard → p.now ≡ moment → IsSaid p (AnInterest whole i) given)
+    → SaysAt old now whole i said
+said_as old now moment whole i given said at is says =
+    λ p rules keys guard then. subst (λ (d : Decision). IsSaid p (AnInterest whole i) d) is (says p rules keys guard (then ∙ sym at))
+
+-- it is so once the moment has come
+said_then : (old was : NodeState) (now : ℕ) (whole : List ℕ) (i : PlainInterest) (said : Decision) → IsLater old now was
+    → SaysAt old.policy now whole i said → IsSaid was.policy (AnInterest whole i) said
+said_then old was now whole i said later says =
+    says was.policy (ap (λ (p : Policy). p.rules) later.policy) (ap (λ (p : Policy). p.keys) later.policy)
+    (ap (λ (p : Policy). p.guard) later.policy) (ap (λ (p : Policy). p.now) later.policy)
+
+-- a command that is not on the tables is one to the repository
+pub other_command : (r : NamedRequest) → (r ≡ named.ForTables → ⊥) → is_command (request_named r) ≡ true → request_named r ≡ ForRepository
+other_command (named.ForList asked) other e = absurd cc
+other_command named.ForTables other e = absurd (other refl)
+other_command named.ForRepository other e = refl
+other_command named.ForData other e = absurd cc
+
+-- a node whose guard is as before is as before
+pub with_guard : (n : NodeState) (guard : Table) → guard ≡ n.policy.guard → record n { policy = record n.policy { guard = guard } } ≡ n
+with_guard n guard g = λ j. record n { policy = record n.policy { guard = g j } }
+
+-- a node that is as before is unharmed
+pub kept_unharmed : (old new : NodeState) (before after : List Send) → (new ≡ old) × (after ≡ before) → Unharmed old new × (after ≡ before)
+kept_unharmed old new before after (same, sent) =
+    (unharmed old new (ap (λ (n : NodeState). n.policy) same) (ap (λ (n : NodeState). n.pending) same) (ap (λ (n : NodeState). n.cache) same), sent)
+
+-- the request is the same by then
+request_then : (old was : NodeState) (now face : ℕ) (i : PlainInterest) (request : Request) → IsLater old now was
+    → request_of old.policy face i ≡ request → request_of was.policy face i ≡ request
+request_then old was now face i request later is = ap (λ (p : Policy). request_of p face i) later.policy ∙ is
+
+module _ (was new : NodeState) (face : ℕ) (whole : List ℕ) (i : PlainInterest) (request : Request) (is : request_of was.policy face i ≡ request)
+    (command : is_command request ≡ true) (living : HoldsTheLiving was.pending) where
+  replies_by : (answer : Answer) → RepliesToCommand (seen_by was) face whole i answer → (r : Request) → is_command r ≡ true
+      → RepliesToRequest (seen_by was) face whole i answer r
+  replies_by answer h (Refused reason) e = absurd cc
+  replies_by answer h (ForList asked) e = absurd cc
+  replies_by answer h ForTables e = h
+  replies_by answer h ForRepository e = h
+  replies_by answer h ForData e = absurd cc
+
+  no_causes : (said : Decision) (now : ℕ) → packet_causes now face (Ok (AnInterest whole i)) (command_answer was.policy face i said) ≡ []
+  no_causes (decided.Allowed rule) now = refl
+  no_causes (decided.Denied rule reason) now = refl
+  no_causes decided.NoRule now = refl
+
+  -- a command of which this is said
+  command_answered : (said : Decision) (answer : Answer) → command_answer was.policy face i said ≡ answer → IsSaid was.policy (AnInterest whole i) said
+      → new.policy ≡ after_said was.policy face (AnInterest whole i) said → new.pending ≡ was.pending
+      → CacheAfterRequest was.policy.now was.pending face i answer.verdict was.cache new.cache request → IsAnswered was face (AnInterest whole i) answer new
+  command_answered said answer given says policy pending cache = record {
+    replies = subst (λ (r : Request). RepliesToRequest (seen_by was) face whole i answer r) (sym is) (replies_by answer (said, says, sym given) request command);
+    policy = subst (λ (b : Bool). IsPacketEffect was.policy face (AnInterest whole i) new.policy b) (sym (ap is_command is ∙ command)) (said, says, policy);
+    pending = subst (λ (causes : List Cause). FollowAll causes was.pending new.pending)
+        (sym (no_causes said was.policy.now) ∙ ap (λ (a : Answer). packet_causes was.policy.now face (Ok (AnInterest whole i)) a) given)
+        (λ key. ap (λ (p : Pending). records_at p key) pending);
+    alive = subst HoldsTheLiving (sym pending) living;
+    cache = subst (λ (r : Request). CacheAfterRequest was.policy.now was.pending face i answer.verdict was.cache new.cache r) (sym is) cache;
+  }
+
+  allowed_answered : (rule : RuleNo) (status : ℕ) (sends : List Send) → IsSaid was.policy (AnInterest whole i) (decided.Allowed rule)
+      → IsCommanded was face i request status sends new
+      → IsAnswered was face (AnInterest whole i) (record { verdict = Allowed rule.0 status; sends = sends }) new
+  allowed_answered rule status sends says done =
+      let answered = ap (λ (r : Request). (allowed_reply was.policy face i r).status) is ∙ sym done.answered in
+      let sent = ap (λ (r : Request). replied face i (allowed_reply was.policy face i r).content ∷ (allowed_reply was.policy face i r).fetches) is ∙ sym done.sent in
+      command_answered (decided.Allowed rule) (record { verdict = Allowed rule.0 status; sends = sends })
+      (λ j. record { verdict = Allowed rule.0 (answered j); sends = sent j }) says
+      (done.policy ∙ ap (λ (r : Request). with_record (after_request was.policy face i r) (recorded_of i)) (sym is))
+      done.pending (done.cache rule.0)
+
+-- ---- refusals
+
+module _ (was : NodeState) (face : ℕ) (whole : List ℕ) (i : PlainInterest) (request : Request) (is : request_of was.policy face i ≡ request)
+    (command : is_command request ≡ true) (living : HoldsTheLiving was.pending) where
+  denied_cache : (rule : ℕ) (reason : Reason) (r : Request) → is_command r ≡ true
+      → CacheAfterRequest was.policy.now was.pending face i (Denied kinds.Interest rule reason) was.cache was.cache r
+  denied_cache rule reason (Refused dropped) e = absurd cc
+  denied_cache rule reason (ForList asked) e = absurd cc
+  denied_cache rule reason ForTables e = refl
+  denied_cache rule reason ForRepository e = refl
+  denied_cache rule reason ForData e = absurd cc
+
+  no_rule_cache : (r : Request) → is_command r ≡ true
+      → CacheAfterRequest was.policy.now was.pending face i (NoRule kinds.Interest) was.cache was.cache r
+  no_rule_cache (Refused dropped) e = absurd cc
+  no_rule_cache (ForList asked) e = absurd cc
+  no_rule_cache ForTables e = refl
+  no_rule_cache ForRepository e = refl
+  no_rule_cache ForData e = absurd cc
+
+  command_denied : (rule : RuleNo) (reason : Reason) (text : List ℕ) → text ≡ denial_text was.policy rule.0 reason
+      → IsSaid was.policy (AnInterest whole i) (decided.Denied rule reason)
+      → IsAnswered was face (AnInterest whole i) (record { verdict = Denied kinds.Interest rule.0 reason; sends = replied face i (refused_content request text) ∷ [] }) was
+  command_denied rule reason text written says =
+      let same = ap (λ (r : Request). refused_content r (denial_text was.policy rule.0 reason)) is ∙ ap (refused_content request) (sym written) in
+      command_answered was was face whole i request is command living (decided.Denied rule reason) _
+      (λ j. record { verdict = Denied kinds.Interest rule.0 reason; sends = replied face i (same j) ∷ [] }) says refl refl (denied_cache rule.0 reason request command)
+
+  command_by_no_rule : IsSaid was.policy (AnInterest whole i) decided.NoRule
+      → IsAnswered was face (AnInterest whole i) (record { verdict = NoRule kinds.Interest; sends = replied face i (refused_content request (codes "no rule")) ∷ [] }) was
+  command_by_no_rule says =
+      let same = ap (λ (r : Request). refused_content r (codes "no rule")) is in
+      command_answered was was face whole i request is command living decided.NoRule _
+      (λ j. record { verdict = NoRule kinds.Interest; sends = replied face i (same j) ∷ [] }) says refl refl (no_rule_cache request command)
+
+-- ---- what a handler does
+
+module _ (old : State) (before after : List Send) (face now : ℕ) (whole : List ℕ) (i : PlainInterest) (request : Request)
+    (is : request_of (policy_of old) face i ≡ request) (command : is_command request ≡ true) where
+  -- a command that is carried out, where what was prepared for it changed nothing
+  pub carried_handled : (prepared new : State) (rule : RuleNo) (status : ℕ) → state_of prepared ≡ state_of old → SaysAt (policy_of old) now whole i (decided.Allowed rule)
+      → IsCarriedOut prepared new before after face now i request status → IsHandled old new before after face now (AnInterest whole i) (code.Allowed rule status)
+  carried_handled prepared new rule status same says (was, sends, sent, then, done) =
+      let later = subst (λ (n : NodeState). IsLater n now was) same then in (
+        was,
+        sends,
+        sent,
+        later,
+        allowed_answered was (state_of new) face whole i request (request_then (state_of old) was now face i request later is) command later.living rule status sends
+            (said_then (state_of old) was now whole i (decided.Allowed rule) later says) done,
+      )
+
+  module _ (new : State) (later : IsLater (state_of old) now (state_of new)) where
+    abbrev was : NodeState
+    was = state_of new
+
+    is_then : request_of was.policy face i ≡ request
+    is_then = request_then (state_of old) was now face i request later is
+
+    pub denied_handled : (rule : RuleNo) (reason : Reason) (text : List ℕ) → ((p : Policy) → p.rules ≡ old.rules → text ≡ denial_text p rule.0 reason)
+        → SaysAt (policy_of old) now whole i (decided.Denied rule reason) → after ≡ before ++ replied face i (refused_content request text) ∷ []
+        → IsHandled old new before after face now (AnInterest whole i) (code.Denied kinds.Interest rule reason)
+    denied_handled rule reason text written says sent = (
+      was,
+      _,
+      sent,
+      later,
+      command_denied was face whole i request is_then command later.living rule reason text (written was.policy (ap (λ (p : Policy). p.rules) later.policy))
+          (said_then (state_of old) was now whole i (decided.Denied rule reason) later says),
+    )
+
+    pub no_rule_handled : SaysAt (policy_of old) now whole i decided.NoRule → after ≡ before ++ replied face i (refused_content request (codes "no rule")) ∷ []
+        → IsHandled old new before after face now (AnInterest whole i) (code.NoRule kinds.Interest)
+    no_rule_handled says sent = (
+      was,
+      _,
+      sent,
+      later,
+      command_by_no_rule was face whole i request is_then command later.living (said_then (state_of old) was now whole i decided.NoRule later says),
+    )

@@ -1,0 +1,40 @@
+-- Where nodes stand in runs.
+use Rattle.std.proofs.Common.{◌≡◌, ℕ, [], refl, sym, ap, subst, ◌∙◌}
+use Rattle.std.specs.Prelude.{Option, unwrap_or}
+use Rattle.std.specs.FinMap as map
+use Rattle.std.specs.FinMap.{get-empty}
+use Rattle.std.proofs.lemmas.List.Elements.{All-nil}
+use Rattle.ndn_packets.specs.Key.{key_cmp}
+use Rattle.pit_fib.specs.Records.{Pending, Records, no_records, records_at}
+use Rattle.forwarder.specs.Event.{PlainEvent}
+use Rattle.forwarder.specs.Node.{NodeState, IsStep, Unharmed}
+use Rattle.forwarder.specs.Policy.{Policy}
+use Rattle.forwarder.specs.Runs.{Run, Start, Then, IsPolicyOf, IsRun, MayHold, Stands}
+use Rattle.forwarder.specs.Verdict.{Answer}
+use Rattle.forwarder.proofs.RunSteps.{may_reply, pending_is}
+use Rattle.forwarder.proofs.RunCaches.{all_forgotten, cache_held}
+
+-- a node without records and with an empty cache
+pub new_stands : (first : Policy) (capacity : ℕ) → Stands first Start (record { policy = first; pending = map.empty; cache = record { cached = []; capacity = capacity } })
+new_stands first capacity =
+    record { policy = refl; pending = λ key. ap (λ (o : Option Records). unwrap_or o no_records) (get-empty key_cmp key); cache = All-nil (MayHold Start) }
+
+-- a step goes on with a run
+pub step_goes_on : (first : Policy) (past : Run) (old new : NodeState) (event : PlainEvent) (answer : Answer) → first.now ≡ 0 → IsRun first past → Stands first past old → IsStep old event answer new
+    → IsRun first (Then past event answer) × Stands first (Then past event answer) new
+step_goes_on first past old new event answer begins is_run stands step = (
+  (is_run, may_reply first past old new event answer begins stands step),
+  record {
+    policy = (old.policy, stands.policy, step.policy);
+    pending = pending_is first past old new event answer begins stands step;
+    cache = cache_held first past old new event answer begins stands step;
+  },
+)
+
+-- a step that is refused memory stands still
+pub refused_stands : (first : Policy) (past : Run) (old new : NodeState) → Stands first past old → Unharmed old new → Stands first past new
+refused_stands first past old new stands unharmed = record {
+  policy = subst (λ (p : Policy). IsPolicyOf first past p) (sym unharmed.policy) stands.policy;
+  pending = λ key. ap (λ (t : Pending). records_at t key) unharmed.pending ∙ stands.pending key;
+  cache = all_forgotten (MayHold past) old.cache.cached new.cache.cached stands.cache unharmed.cache.0;
+}

@@ -1,0 +1,79 @@
+use Rattle.std.proofs.Common.{[]}
+use Rattle.std.proofs.lemmas.Result.{IfOk-weaker}
+use Rattle.forwarder.specs.Event.{Packet, FaceUp, FaceDown, Tick}
+use Rattle.forwarder.specs.State.{state_of}
+use Rattle.forwarder.specs.Verdict.{passed}
+use Rattle.forwarder.specs.declared.verdict.Verdict.TheVariants as said
+use Rattle.forwarder.proofs.GoingOn.{goes_on, sound_after, stays_quiet, tick_step}
+use Rattle.forwarder.proofs.Soundness.{step_sound}
+use Rattle.forwarder.proofs.StoredData.{later_stores, undecided_stores}
+use Rattle.forwarder.proofs.node.Node.step.Goals as goal
+
+pub receive-requires-clause-sound : goal.receive-requires-clause-sound
+receive-requires-clause-sound c = c.self.invariant.0
+
+pub receive-requires-clause-objects : goal.receive-requires-clause-objects
+receive-requires-clause-objects c = c.self.invariant.1
+
+pub open-requires : goal.open-requires
+open-requires c = c.self.invariant.0
+
+pub close-requires : goal.close-requires
+close-requires c = c.self.invariant.0
+
+pub invariant_of-self : goal.invariant_of-self
+invariant_of-self c = (
+  sound_after (state_of c.self.inside.state) (state_of c.receive.new.self) _ _ (Packet c.in-Packet.face c.in-Packet.now c.in-Packet.octets.now)
+      c.receive.result c.self.invariant.0 c.receive.ensures.handled c.receive.ensures.memory,
+  c.receive.ensures.objects,
+)
+
+pub invariant_of-self-in-FaceUp : goal.invariant_of-self-in-FaceUp
+invariant_of-self-in-FaceUp c = (
+  step_sound _ _ _ _ c.self.invariant.0 c.open.ensures,
+  undecided_stores (state_of c.self.inside.state).policy (state_of c.open.new.self).policy (FaceUp c.in-FaceUp.face c.in-FaceUp.scope c.in-FaceUp.now) c.open.ensures.policy c.self.invariant.1,
+)
+
+pub invariant_of-self-in-FaceDown : goal.invariant_of-self-in-FaceDown
+invariant_of-self-in-FaceDown c = (
+  step_sound _ _ _ _ c.self.invariant.0 c.close.ensures,
+  undecided_stores (state_of c.self.inside.state).policy (state_of c.close.new.self).policy (FaceDown c.in-FaceDown.face c.in-FaceDown.now) c.close.ensures.policy c.self.invariant.1,
+)
+
+pub invariant_of-self-in-Tick : goal.invariant_of-self-in-Tick
+invariant_of-self-in-Tick c = (
+  step_sound (state_of c.self.inside.state) (state_of c.pass_time.new.self) (Tick c.in-Tick.now) (passed []) c.self.invariant.0
+      (tick_step (state_of c.self.inside.state) (state_of c.pass_time.new.self) c.in-Tick.now c.pass_time.ensures.later),
+  later_stores c.self.inside.state c.pass_time.new.self c.in-Tick.now c.pass_time.ensures.later c.self.invariant.1,
+)
+
+pub returns-in-Packet-clause-run : goal.returns-in-Packet-clause-run
+returns-in-Packet-clause-run c =
+    rw (← c.self.view_is, ← c.outbox.view_is, c.in-Packet.is)
+    (IfOk-weaker c.receive.result _ _
+    (λ verdict step. goes_on (state_of c.self.inside.state) (state_of c.receive.new.self) c.outbox.inside.sends.sends c.receive.new.out.sends
+    (Packet c.in-Packet.face c.in-Packet.now c.in-Packet.octets.now) verdict step) c.receive.ensures.handled)
+
+pub returns-in-FaceUp-clause-run : goal.returns-in-FaceUp-clause-run
+returns-in-FaceUp-clause-run c =
+    rw (← c.self.view_is, ← c.outbox.view_is, c.in-FaceUp.is)
+    (goes_on (state_of c.self.inside.state) (state_of c.open.new.self) c.outbox.inside.sends.sends c.outbox.inside.sends.sends
+    (FaceUp c.in-FaceUp.face c.in-FaceUp.scope c.in-FaceUp.now) c.open.result (stays_quiet _ _ _ _ c.open.result c.open.ensures))
+
+pub returns-in-FaceDown-clause-run : goal.returns-in-FaceDown-clause-run
+returns-in-FaceDown-clause-run c =
+    rw (← c.self.view_is, ← c.outbox.view_is, c.in-FaceDown.is)
+    (goes_on (state_of c.self.inside.state) (state_of c.close.new.self) c.outbox.inside.sends.sends c.outbox.inside.sends.sends
+    (FaceDown c.in-FaceDown.face c.in-FaceDown.now) c.close.result (stays_quiet _ _ _ _ c.close.result c.close.ensures))
+
+pub returns-in-Tick-clause-answered : goal.returns-in-Tick-clause-answered
+returns-in-Tick-clause-answered c =
+    rw (← c.self.view_is, ← c.outbox.view_is, c.in-Tick.is)
+    (stays_quiet (state_of c.self.inside.state) (state_of c.pass_time.new.self) c.outbox.inside.sends.sends (Tick c.in-Tick.now) said.Passed
+    (tick_step (state_of c.self.inside.state) (state_of c.pass_time.new.self) c.in-Tick.now c.pass_time.ensures.later))
+
+pub returns-in-Tick-clause-run : goal.returns-in-Tick-clause-run
+returns-in-Tick-clause-run c =
+    rw (← c.self.view_is, ← c.outbox.view_is, c.in-Tick.is)
+    (goes_on (state_of c.self.inside.state) (state_of c.pass_time.new.self) c.outbox.inside.sends.sends c.outbox.inside.sends.sends (Tick c.in-Tick.now) said.Passed
+    (stays_quiet _ _ _ _ said.Passed (tick_step (state_of c.self.inside.state) (state_of c.pass_time.new.self) c.in-Tick.now c.pass_time.ensures.later)))

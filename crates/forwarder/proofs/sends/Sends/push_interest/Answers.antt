@@ -1,0 +1,17 @@
+use Rattle.std.proofs.Common.{◌≡◌, ◌<◌, length, ap, arith}
+use Rattle.forwarder.specs.Sending.{SendsState}
+use Rattle.forwarder.proofs.Outboxes.{octets_placed, sends_placed}
+use Rattle.forwarder.proofs.sends.Sends.push_interest.Goals as goal
+
+pub invariant_of-self-2 : goal.invariant_of-self-2
+invariant_of-self-2 c =
+    let start : c.len-start.result ≡ length c.self.inside.octets.items = omega (arith, c.self.inside.octets.ok.0) in
+    let end : c.len.result ≡ length c.put_sent_on.new.out.items = omega (arith, c.put_sent_on.new.out.ok.0) in
+    let some : 0 < length c.args.faces.now = omega (arith, c.if-count-eq0.false, c.len-count.ensures.exact) in
+    octets_placed _ c.args.faces.now start end c.in_ok-put_sent_on.ensures.ok c.in_ok-reserve.ensures.items c.place_each.ensures.items c.self.invariant some
+
+pub returns-clause-ok : goal.returns-clause-ok
+returns-clause-ok c =
+    let start : c.len-start.result ≡ length c.self.inside.octets.items = omega (arith, c.self.inside.octets.ok.0) in
+    let end : c.len.result ≡ length c.put_sent_on.new.out.items = omega (arith, c.put_sent_on.new.out.ok.0) in
+    sends_placed _ c.args.faces.now start end c.in_ok-put_sent_on.ensures.ok c.in_ok-reserve.ensures.items c.place_each.ensures.items c.self.invariant (ap (λ (s : SendsState). s.sends) c.self.view_is)

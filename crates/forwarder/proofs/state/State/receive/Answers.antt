@@ -1,0 +1,96 @@
+use Rattle.std.proofs.Common.{sym, ap, ◌∙◌, Result, Ok}
+use Rattle.ndn_packets.specs.Packet.{PlainFrame}
+use Rattle.ndn_packets.specs.View.{plain_data, plain_frame}
+use Rattle.ndn_packets.proofs.Held.{data_held}
+use Rattle.ndn_packets.specs.declared.frame.Frame.{Frame}
+use Rattle.ndn_packets.specs.declared.fault.PacketFault.{PacketFault}
+use Rattle.forwarder.specs.Event.{Packet}
+use Rattle.forwarder.specs.State.{state_of}
+use Rattle.forwarder.specs.declared.verdict.DropReason.TheVariants as why
+use Rattle.forwarder.proofs.Handled.{closed_step, drops_by, handles_by, idle_step, malformed_step}
+use Rattle.forwarder.proofs.StoredData.{handled_stores, later_stores}
+use Rattle.forwarder.proofs.state.State.receive.Goals as goal
+
+abbrev as_read : Frame → Result PlainFrame PacketFault
+as_read frame = Ok (plain_frame frame)
+
+pub returns-then-not-contains-clause-handled : goal.returns-then-not-contains-clause-handled
+returns-then-not-contains-clause-handled c =
+    drops_by (state_of c.args.self.now) (state_of c.drop_packet.new.self) c.args.out.now.sends (Packet c.args.face c.args.now c.args.octets.now)
+    c.drop_packet.result why.NoFace c.drop_packet.ensures.verdict
+    (closed_step (state_of c.args.self.now) (state_of c.drop_packet.new.self) c.args.face c.args.now c.args.octets.now c.drop_packet.ensures.later
+    (sym c.contains.ensures ∙ c.if-not-contains.true))
+
+pub returns-in-Err-clause-handled : goal.returns-in-Err-clause-handled
+returns-in-Err-clause-handled c =
+    drops_by (state_of c.args.self.now) (state_of c.drop_packet-in-Err.new.self) c.args.out.now.sends (Packet c.args.face c.args.now c.args.octets.now)
+    c.drop_packet-in-Err.result (why.Malformed c.in-Err.fault) c.drop_packet-in-Err.ensures.verdict
+    (malformed_step (state_of c.args.self.now) (state_of c.drop_packet-in-Err.new.self) c.args.face c.args.now c.args.octets.now c.drop_packet-in-Err.ensures.later
+    (sym c.contains.ensures ∙ c.if-not-contains.false) c.in-Err.fault (sym c.in-Err.ensures.exact))
+
+pub returns-in-Ok-Idle-clause-handled : goal.returns-in-Ok-Idle-clause-handled
+returns-in-Ok-Idle-clause-handled c =
+    drops_by (state_of c.args.self.now) (state_of c.drop_packet-in-Ok-Idle.new.self) c.args.out.now.sends (Packet c.args.face c.args.now c.args.octets.now)
+    c.drop_packet-in-Ok-Idle.result why.Idle c.drop_packet-in-Ok-Idle.ensures.verdict
+    (idle_step (state_of c.args.self.now) (state_of c.drop_packet-in-Ok-Idle.new.self) c.args.face c.args.now c.args.octets.now c.drop_packet-in-Ok-Idle.ensures.later
+    (sym c.contains.ensures ∙ c.if-not-contains.false) (sym c.in-Ok-Idle.ensures.exact ∙ ap as_read c.in-Ok-Idle.field-0-is))
+
+pub returns-in-Ok-Interest-clause-handled : goal.returns-in-Ok-Interest-clause-handled
+returns-in-Ok-Interest-clause-handled c =
+    handles_by c.args.self.now c.receive_interest.new.self c.args.out.now.sends c.receive_interest.new.out.sends c.args.face c.args.now c.args.octets.now _
+    c.receive_interest.result (sym c.contains.ensures ∙ c.if-not-contains.false) (sym c.in-Ok-Interest.ensures.exact ∙ ap as_read c.in-Ok-Interest.field-0-is) c.receive_interest.ensures.handled
+
+pub returns-in-Ok-Data-clause-handled : goal.returns-in-Ok-Data-clause-handled
+returns-in-Ok-Data-clause-handled c =
+    handles_by c.args.self.now c.receive_data.new.self c.args.out.now.sends c.receive_data.new.out.sends c.args.face c.args.now c.args.octets.now _
+    c.receive_data.result (sym c.contains.ensures ∙ c.if-not-contains.false) (sym c.in-Ok-Data.ensures.exact ∙ ap as_read c.in-Ok-Data.field-0-is) c.receive_data.ensures.handled
+
+pub returns-in-Ok-Nack-clause-handled : goal.returns-in-Ok-Nack-clause-handled
+returns-in-Ok-Nack-clause-handled c =
+    handles_by c.args.self.now c.receive_nack.new.self c.args.out.now.sends c.receive_nack.new.out.sends c.args.face c.args.now c.args.octets.now _
+    c.receive_nack.result (sym c.contains.ensures ∙ c.if-not-contains.false) (sym c.in-Ok-Nack.ensures.exact ∙ ap as_read c.in-Ok-Nack.field-0-is) c.receive_nack.ensures.handled
+
+pub returns-then-not-contains-clause-objects : goal.returns-then-not-contains-clause-objects
+returns-then-not-contains-clause-objects c = later_stores c.args.self.now c.drop_packet.new.self c.args.now c.drop_packet.ensures.later c.requires.objects
+
+pub returns-in-Err-clause-objects : goal.returns-in-Err-clause-objects
+returns-in-Err-clause-objects c = later_stores c.args.self.now c.drop_packet-in-Err.new.self c.args.now c.drop_packet-in-Err.ensures.later c.requires.objects
+
+pub returns-in-Ok-Idle-clause-objects : goal.returns-in-Ok-Idle-clause-objects
+returns-in-Ok-Idle-clause-objects c = later_stores c.args.self.now c.drop_packet-in-Ok-Idle.new.self c.args.now c.drop_packet-in-Ok-Idle.ensures.later c.requires.objects
+
+pub receive_interest-requires : goal.receive_interest-requires
+receive_interest-requires c = record {
+  ready = record { sound = c.requires.sound; from = sym c.contains.ensures ∙ c.if-not-contains.false; objects = c.requires.objects };
+}
+
+pub returns-in-Ok-Interest-clause-memory : goal.returns-in-Ok-Interest-clause-memory
+returns-in-Ok-Interest-clause-memory c = c.receive_interest.ensures.memory
+
+pub returns-in-Ok-Interest-clause-objects : goal.returns-in-Ok-Interest-clause-objects
+returns-in-Ok-Interest-clause-objects c =
+    handled_stores c.args.self.now c.receive_interest.new.self c.args.out.now.sends c.receive_interest.new.out.sends c.args.face c.args.now _ c.receive_interest.result c.receive_interest.ensures tt c.requires.objects
+
+pub receive_data-requires : goal.receive_data-requires
+receive_data-requires c = record {
+  ready = record { sound = c.requires.sound; from = sym c.contains.ensures ∙ c.if-not-contains.false; objects = c.requires.objects };
+}
+
+pub returns-in-Ok-Data-clause-memory : goal.returns-in-Ok-Data-clause-memory
+returns-in-Ok-Data-clause-memory c = c.receive_data.ensures.memory
+
+pub returns-in-Ok-Data-clause-objects : goal.returns-in-Ok-Data-clause-objects
+returns-in-Ok-Data-clause-objects c =
+    handled_stores c.args.self.now c.receive_data.new.self c.args.out.now.sends c.receive_data.new.out.sends c.args.face c.args.now _ c.receive_data.result c.receive_data.ensures (data_held c.in-Ok-Data.data.whole.now (plain_data c.in-Ok-Data.data) c.in-Ok-Data.data.spelled) c.requires.objects
+
+pub receive_nack-requires : goal.receive_nack-requires
+receive_nack-requires c = record {
+  ready = record { sound = c.requires.sound; from = sym c.contains.ensures ∙ c.if-not-contains.false; objects = c.requires.objects };
+}
+
+pub returns-in-Ok-Nack-clause-memory : goal.returns-in-Ok-Nack-clause-memory
+returns-in-Ok-Nack-clause-memory c = c.receive_nack.ensures.memory
+
+pub returns-in-Ok-Nack-clause-objects : goal.returns-in-Ok-Nack-clause-objects
+returns-in-Ok-Nack-clause-objects c =
+    handled_stores c.args.self.now c.receive_nack.new.self c.args.out.now.sends c.receive_nack.new.out.sends c.args.face c.args.now _ c.receive_nack.result c.receive_nack.ensures tt c.requires.objects

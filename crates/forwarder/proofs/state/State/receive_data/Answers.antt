@@ -1,0 +1,80 @@
+use Rattle.std.proofs.Common.{[], refl, sym, ap, subst, ◌∙◌}
+use Rattle.std.proofs.lemmas.List.{append-nil}
+use Rattle.ndn_packets.specs.Packet.{AData}
+use Rattle.ndn_packets.specs.View.{plain_data}
+use Rattle.info_rules.specs.declared.decision.Decision.{Decision}
+use Rattle.forwarder.specs.Event.{Send}
+use Rattle.forwarder.specs.Handling.{IsAnswered}
+use Rattle.forwarder.specs.Policy.{Policy}
+use Rattle.forwarder.specs.Said.{IsSaid}
+use Rattle.forwarder.specs.State.{state_of}
+use Rattle.forwarder.specs.Verdict.{verdict_of}
+use Rattle.forwarder.specs.declared.verdict.Verdict as code
+use Rattle.forwarder.proofs.Answered.{data_by_no_rule, data_denied, data_out_of_scope, later_scope, refused_packet, unharmed}
+use Rattle.forwarder.proofs.state.State.receive_data.Goals as goal
+
+pub returns-then-is_out_of_scope : goal.returns-then-is_out_of_scope
+returns-then-is_out_of_scope c = record {
+  handled =
+      let was = state_of c.drop_packet.new.self in
+      let later = c.drop_packet.ensures.later in
+      let whole = c.args.arrived.now.packet.now.whole.now in
+      let d = plain_data c.args.arrived.now.packet.now in (
+        was,
+        [],
+        sym (append-nil {A = Send} c.args.out.now.sends),
+        later,
+        subst (λ (v : code.Verdict). IsAnswered was c.args.arrived.now.face (AData whole d) (record { verdict = verdict_of v; sends = [] }) was) (sym c.drop_packet.ensures.verdict)
+            (data_out_of_scope was c.args.arrived.now.face whole d later.living
+            (later_scope (state_of c.args.self.now) was c.args.arrived.now.face c.args.arrived.now.moment d.name later ∙ sym c.is_out_of_scope.ensures ∙ c.if-is_out_of_scope.true)),
+      );
+  memory = tt;
+}
+
+pub returns-in_err-rule : goal.returns-in_err-rule
+returns-in_err-rule c = refused_packet c.from_residual.result c.from_residual.ensures.0 (unharmed _ _ refl refl refl, refl)
+
+pub receive_allowed-requires-clause-allowed : goal.receive_allowed-requires-clause-allowed
+receive_allowed-requires-clause-allowed c = λ p rules keys.
+    subst (λ (said : Decision). IsSaid p (AData c.args.arrived.now.packet.now.whole.now (plain_data c.args.arrived.now.packet.now)) said) c.in-Allowed.is (c.in_ok-rule.ensures p rules keys)
+
+pub returns-in-Denied : goal.returns-in-Denied
+returns-in-Denied c = record {
+  handled =
+      let old = state_of c.args.self.now in
+      let was = state_of c.pass_time.new.self in
+      let later = c.pass_time.ensures.later in
+      let whole = c.args.arrived.now.packet.now.whole.now in
+      let d = plain_data c.args.arrived.now.packet.now in (
+        was,
+        [],
+        sym (append-nil {A = Send} c.args.out.now.sends),
+        later,
+        data_denied was c.args.arrived.now.face whole d later.living
+            (later_scope old was c.args.arrived.now.face c.args.arrived.now.moment d.name later ∙ sym c.is_out_of_scope.ensures ∙ c.if-is_out_of_scope.false)
+            c.in-Denied.rule c.in-Denied.reason
+            (subst (λ (said : Decision). IsSaid was.policy (AData whole d) said) c.in-Denied.is
+            (c.in_ok-rule.ensures was.policy (ap (λ (p : Policy). p.rules) later.policy) (ap (λ (p : Policy). p.keys) later.policy))),
+      );
+  memory = tt;
+}
+
+pub returns-in-NoRule : goal.returns-in-NoRule
+returns-in-NoRule c = record {
+  handled =
+      let old = state_of c.args.self.now in
+      let was = state_of c.pass_time-in-NoRule.new.self in
+      let later = c.pass_time-in-NoRule.ensures.later in
+      let whole = c.args.arrived.now.packet.now.whole.now in
+      let d = plain_data c.args.arrived.now.packet.now in (
+        was,
+        [],
+        sym (append-nil {A = Send} c.args.out.now.sends),
+        later,
+        data_by_no_rule was c.args.arrived.now.face whole d later.living
+            (later_scope old was c.args.arrived.now.face c.args.arrived.now.moment d.name later ∙ sym c.is_out_of_scope.ensures ∙ c.if-is_out_of_scope.false)
+            (subst (λ (said : Decision). IsSaid was.policy (AData whole d) said) c.in-NoRule.is
+            (c.in_ok-rule.ensures was.policy (ap (λ (p : Policy). p.rules) later.policy) (ap (λ (p : Policy). p.keys) later.policy))),
+      );
+  memory = tt;
+}

@@ -1,0 +1,63 @@
+use Rattle.std.proofs.Common.{ℕ, List, [], ◌∷◌, ◌++◌, Global, Option, Vec, refl, sym, ap, subst, ◌∙◌}
+use Rattle.std.specs.Option.{option_map}
+use Rattle.std.proofs.lemmas.List.{append-nil}
+use Rattle.ndn_packets.specs.Packet.{AnInterest}
+use Rattle.ndn_packets.specs.View.{plain_interest}
+use Rattle.forwarder.specs.Datasets.{answered_with}
+use Rattle.forwarder.specs.Event.{Send}
+use Rattle.forwarder.specs.Handling.{IsAnswered}
+use Rattle.forwarder.specs.Policy.{Policy}
+use Rattle.forwarder.specs.State.{state_of}
+use Rattle.forwarder.specs.Verdict.{dropped, NoSegment, passed, verdict_of}
+use Rattle.forwarder.specs.declared.verdict.Verdict as code
+use Rattle.forwarder.proofs.Answered.{refused_packet, unharmed}
+use Rattle.forwarder.proofs.ListSteps.{list_handled}
+use Rattle.forwarder.proofs.state.State.send_list.Goals as goal
+
+pub returns-in_err-octets : goal.returns-in_err-octets
+returns-in_err-octets c = refused_packet c.from_residual.result c.from_residual.ensures.0 (unharmed _ _ refl refl refl, refl)
+
+pub returns-in_default : goal.returns-in_default
+returns-in_default c = record {
+  handled =
+      let old = state_of c.args.self.now in
+      let was = state_of c.drop_packet.new.self in
+      let later = c.drop_packet.ensures.later in
+      let face = c.args.arrived.now.face in
+      let whole = c.args.arrived.now.packet.now.whole.now in
+      let i = plain_interest c.args.arrived.now.packet.now in
+      let none = c.in_ok-octets.ensures.answer was.policy face (ap (λ (p : Policy). p.routes) later.policy)
+      (ap (λ (p : Policy). p.choices) later.policy) (ap (λ (p : Policy). p.table_number) later.policy) in (
+        was,
+        [],
+        sym (append-nil {A = Send} c.args.out.now.sends),
+        later,
+        subst (λ (v : code.Verdict). IsAnswered was face (AnInterest whole i) (record { verdict = verdict_of v; sends = [] }) was) (sym c.drop_packet.ensures.verdict)
+            (list_handled old was c.args.arrived.now.moment face whole i c.args.asked (dropped NoSegment) later c.requires.for_list (none ∙ ap (λ (o : Option (Vec ℕ Global)). answered_with face (option_map (λ v. v.items) o)) c.in_default.is)),
+      );
+  memory = tt;
+}
+
+pub returns-in_err-push : goal.returns-in_err-push
+returns-in_err-push c = refused_packet c.from_residual-in_err-push.result c.from_residual-in_err-push.ensures.0 (unharmed _ _ refl refl refl, c.in_err-push.ensures.err)
+
+pub returns : goal.returns
+returns c = record {
+  handled =
+      let old = state_of c.args.self.now in
+      let was = state_of c.pass_time.new.self in
+      let later = c.pass_time.ensures.later in
+      let face = c.args.arrived.now.face in
+      let whole = c.args.arrived.now.packet.now.whole.now in
+      let i = plain_interest c.args.arrived.now.packet.now in
+      let octets = c.in-Some.octets.items in
+      let some = c.in_ok-octets.ensures.answer was.policy face (ap (λ (p : Policy). p.routes) later.policy)
+      (ap (λ (p : Policy). p.choices) later.policy) (ap (λ (p : Policy). p.table_number) later.policy) in (
+        was,
+        (face, octets) ∷ [],
+        c.in_ok-push.ensures.ok ∙ ap (λ (o : List ℕ). c.args.out.now.sends ++ (face, o) ∷ []) c.deref.ensures.value,
+        later,
+        list_handled old was c.args.arrived.now.moment face whole i c.args.asked (passed ((face, octets) ∷ [])) later c.requires.for_list (some ∙ ap (λ (o : Option (Vec ℕ Global)). answered_with face (option_map (λ v. v.items) o)) c.in-Some.is),
+      );
+  memory = tt;
+}

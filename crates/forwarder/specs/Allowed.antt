@@ -1,0 +1,24 @@
+-- Which commands and Data of a run were allowed.
+use Rattle.std.specs.Prelude.{◌≡◌, ◌⊎◌, Some}
+use Rattle.ndn_packets.specs.Packet.{PlainFrame}
+use Rattle.info_rules.specs.declared.rules.RuleNo.{RuleNo}
+use Rattle.info_rules.specs.declared.decision.Decision.TheVariants.{Allowed}
+use Rattle.forwarder.specs.Event.{PlainEvent}
+use Rattle.forwarder.specs.Event.{moment}
+use Rattle.forwarder.specs.Policy.{Policy, at_moment}
+use Rattle.forwarder.specs.Said.{IsSaid}
+use Rattle.forwarder.specs.Effects.{decided_packet}
+use Rattle.forwarder.specs.Runs.{Run, Start, Then, IsPolicyOf}
+
+-- at this policy the event brings this packet, and its first matching rule allows it
+pub record Allows (was : Policy) (event : PlainEvent) (packet : PlainFrame) : Type 0 where
+  pub rule : RuleNo
+  pub brings : decided_packet (at_moment was (moment event)) event ≡ Some packet
+  pub said : IsSaid (at_moment was (moment event)) packet (Allowed rule)
+
+-- some event of the run brought this packet, and it was allowed then
+abbrev pub AllowedIn : Policy → Run → PlainFrame → Type 0
+AllowedIn first Start packet = ⊥
+AllowedIn first (Then before event answer) packet =
+    AllowedIn first before packet
+    ⊎ ((was : Policy) × IsPolicyOf first before was × Allows was event packet)

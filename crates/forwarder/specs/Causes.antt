@@ -1,0 +1,106 @@
+-- What an event and its answer do to the records of pending Interests (NFD Developer's Guide,
+-- "Pending Interest Table").
+use Rattle.std.specs.Prelude.{ℕ, ◌+◌, ◌-◌, ◌^◌, List, [], ◌∷◌, map, min, Bool, false, Result, Ok, Err, ◌==◌, if◌then◌else◌}
+use Rattle.std.specs.List.{list_any}
+use Rattle.sha2.specs.Sha256.{sha256}
+use Rattle.ndn_packets.specs.FrameReading.{frame_at}
+use Rattle.ndn_packets.specs.Key.{PlainKey, key_of}
+use Rattle.ndn_packets.specs.Reading.{is_nil}
+use Rattle.ndn_packets.specs.Packet.{PlainInterest, PlainFrame, AnInterest, AData, ANack, Idle}
+use Rattle.ndn_packets.specs.declared.fault.PacketFault.{PacketFault}
+use Rattle.ndn_packets.specs.declared.types.TheConstants.{LINK_PACKET}
+use Rattle.pit_fib.specs.Cause.{Cause, Arrives, SentTo, Satisfied, NackCame, Withdrawn, Removed, Closed, records_after}
+use Rattle.pit_fib.specs.Records.{Ask, Records}
+use Rattle.forwarder.specs.Event.{PlainEvent, Packet, FaceUp, FaceDown, Tick, Send}
+use Rattle.forwarder.specs.Verdict.{Verdict, Passed, Allowed, DataAllowed, Denied, NoRule, Dropped, Answer}
+
+-- a moment and a period after it, which stops at the last moment
+abbrev pub deadline : ℕ → ℕ → ℕ
+deadline now lifetime = min (now + lifetime) (2 ^ 64 - 1)
+
+-- an Interest as its asker sent it, until its lifetime is over
+abbrev pub ask_of : ℕ → List ℕ → PlainInterest → Ask
+ask_of now whole i =
+    record { interest = whole; nonce = i.nonce; deadline = deadline now i.lifetime }
+
+-- whether something went back to the face: a Data, or a Nack
+abbrev pub is_answered : ℕ → List Send → Bool
+is_answered face sends = list_any (λ sent. sent.0 == face) sends
+
+-- whether that is a Nack: a link packet, by its first octet
+abbrev pub is_nack : List ℕ → Bool
+is_nack [] = false
+is_nack (octet ∷ octets) = octet == LINK_PACKET
+
+abbrev pub is_nacked : List Send → Bool
+is_nacked sends = list_any (λ sent. is_nack sent.1) sends
+
+-- an Interest of this Nonce was sent to each of these faces
+abbrev pub sent_causes : PlainKey → List ℕ → ℕ → List ℕ → List Cause
+sent_causes key nonce now faces = map (λ face. SentTo key face nonce now) faces
+
+-- An Interest that is passed is kept where nothing went back to its face: it waits there, and was
+-- sent to each of the faces. Where a Nack went back, the face waits under its key no more.
+abbrev pub interest_causes : ℕ → ℕ → List ℕ → PlainInterest → List Send → List Cause
+interest_causes now face whole i sends =
+    let key = key_of i in
+    if is_nacked sends then Withdrawn key face ∷ [] else (
+    if is_answered face sends then [] else
+    Arrives key face (ask_of now whole i)
+    ∷ map (λ (sent : Send). SentTo key sent.0 i.nonce now) sends)
+
+-- A Nack that is passed has its reason kept; where it was sent on, nobody waits any more.
+abbrev pub nack_causes : ℕ → ℕ → PlainInterest → List Send → List Cause
+nack_causes face reason i sends =
+    NackCame (key_of i) face i.nonce reason
+    ∷ (if is_nil sends then [] else Removed (key_of i) ∷ [])
+
+abbrev pub passed_causes : ℕ → ℕ → PlainFrame → List Send → List Cause
+passed_causes now face (AnInterest whole i) sends = interest_causes now face whole i sends
+passed_causes now face (AData whole d) sends = []
+passed_causes now face (ANack reason whole i) sends = nack_causes face reason i sends
+passed_causes now face Idle sends = []
+
+-- all that an allowed Data answers was answered, sent or not
+abbrev pub data_causes : PlainFrame → List Cause
+data_causes (AnInterest whole i) = []
+data_causes (AData whole d) = Satisfied d.name (sha256 whole) ∷ []
+data_causes (ANack reason whole i) = []
+data_causes Idle = []
+
+abbrev pub packet_causes : ℕ → ℕ → Result PlainFrame PacketFault → Answer → List Cause
+packet_causes now face (Err fault) answer = []
+packet_causes now face (Ok packet) answer = elim answer.verdict [
+  | Passed ↦ passed_causes now face packet answer.sends
+  | Allowed rule status ↦ []
+  | DataAllowed rule ↦ data_causes packet
+  | Denied kind rule reason ↦ []
+  | NoRule kind ↦ []
+  | Dropped reason ↦ []
+]
+
+abbrev pub closing_causes : ℕ → Verdict → List Cause
+closing_causes face Passed = Closed face ∷ []
+closing_causes face (Allowed rule status) = []
+closing_causes face (DataAllowed rule) = []
+closing_causes face (Denied kind rule reason) = []
+closing_causes face (NoRule kind) = []
+closing_causes face (Dropped reason) = []
+
+-- the causes of an event and its answer in their order, at this moment, where what was due has
+-- expired
+abbrev pub causes_of : ℕ → PlainEvent → Answer → List Cause
+causes_of now (Packet face t octets) answer = packet_causes now face (frame_at octets) answer
+causes_of now (FaceUp face scope t) answer = []
+causes_of now (FaceDown face t) answer = closing_causes face answer.verdict
+causes_of now (Tick t) answer = []
+
+-- the records of a key after these causes, in their order
+abbrev pub after_causes : List Cause → PlainKey → Records → Records
+after_causes [] key r = r
+after_causes (cause ∷ causes) key r = after_causes causes key (records_after cause key r)
+
+-- the causes, the last one first, before others that came earlier
+abbrev pub before_earlier : List Cause → List Cause → List Cause
+before_earlier [] earlier = earlier
+before_earlier (cause ∷ causes) earlier = before_earlier causes (cause ∷ earlier)

@@ -1,0 +1,34 @@
+-- An allowed command that is carried out: its moment comes, and then it is answered and has its
+-- effect.
+use Rattle.std.specs.Prelude.{◌≡◌, ◌∷◌, ◌++◌, ℕ, List}
+use Rattle.ndn_packets.specs.Packet.{PlainInterest}
+use Rattle.forwarder.specs.declared.state.State.{State}
+use Rattle.forwarder.specs.Event.{Send}
+use Rattle.forwarder.specs.Verdict.{Allowed}
+use Rattle.forwarder.specs.Request.{Request}
+use Rattle.forwarder.specs.Said.{recorded_of}
+use Rattle.forwarder.specs.Commands.{after_request, allowed_reply, replied, with_record}
+use Rattle.forwarder.specs.Node.{NodeState, CacheAfterRequest}
+use Rattle.forwarder.specs.State.{IsLater, state_of}
+
+-- an allowed command that is this request was answered and had its effect, at whose moment the node
+-- was this
+pub record IsCommanded (was : NodeState) (face : ℕ) (i : PlainInterest) (request : Request)
+    (status : ℕ) (sends : List Send) (new : NodeState) : Type 0 where
+  pub answered : status ≡ (allowed_reply was.policy face i request).status
+  pub sent : sends
+      ≡ replied face i (allowed_reply was.policy face i request).content
+      ∷ (allowed_reply was.policy face i request).fetches
+  pub policy : new.policy ≡ with_record (after_request was.policy face i request) (recorded_of i)
+  pub pending : new.pending ≡ was.pending
+  pub cache : (rule : ℕ)
+      → CacheAfterRequest was.policy.now was.pending face i (Allowed rule status)
+      was.cache new.cache request
+
+-- the sends stand after the earlier ones
+abbrev pub IsCarriedOut : State → State → List Send → List Send → ℕ → ℕ → PlainInterest → Request
+    → ℕ → Type 0
+IsCarriedOut old new before after face moment i request status =
+    (was : NodeState) × (sends : List Send) × (after ≡ before ++ sends)
+    × IsLater (state_of old) moment was
+    × IsCommanded was face i request status sends (state_of new)

@@ -1,0 +1,192 @@
+-- What commands are answered with, and what they change (NFD Management, "Control Command"). A
+-- command that is allowed is recorded and replied to in the same step, whatever its status, and has
+-- its effect where the status says so.
+use Rattle.std.specs.Prelude.{ℕ, List, [], ◌∷◌, ◌++◌, length, Bool, Option, None, Some, unwrap_or, slice_get, codes, nat_lt, ◌||◌, Result, Ok, Err, if◌then◌else◌}
+use Rattle.std.specs.Option.{option_map}
+use Rattle.std.specs.FinMap as map
+use Rattle.ndn_tlv.specs.Element.{element}
+use Rattle.ndn_tlv.specs.Number.{shortest_nni}
+use Rattle.ndn_names.specs.Name.{octets_of}
+use Rattle.ndn_packets.specs.Packet.{PlainInterest}
+use Rattle.ndn_packets.specs.declared.types.TheConstants.{CAN_BE_PREFIX, INTEREST, INTEREST_LIFETIME, NAME, NONCE}
+use Rattle.ndn_tlv.specs.Writing.{octets, flag}
+use Rattle.ndn_packets.specs.Writing.{is_bad_name, reply_text}
+use Rattle.info_rules.specs.Names.{reason_name}
+use Rattle.info_rules.specs.Rule.{PlainRule}
+use Rattle.info_rules.specs.declared.decision.Reason.{Reason}
+use Rattle.info_rules.specs.declared.decision.Decision.{Decision}
+use Rattle.info_rules.specs.declared.decision.Decision.TheVariants as decided
+use Rattle.info_rules.specs.declared.rule.Kind.TheVariants as kinds
+use Rattle.replay_guard.specs.Guard.{with_recorded}
+use Rattle.replay_guard.specs.Freshness.{Recorded}
+use Rattle.strategies.specs.declared.strategy.Choice.{Choice}
+use Rattle.strategies.specs.declared.strategy.Choice.TheVariants as choices
+use Rattle.mgmt_core.specs.Commands.{text_of}
+use Rattle.mgmt_core.specs.Reading.{PlainCommand, command_at}
+use Rattle.mgmt_core.specs.Tables.{choices_after, if_done, routes_after, status_of}
+use Rattle.mgmt_core.specs.Writing.{body_after, response}
+use Rattle.repo_core.specs.declared.reply.RepoReply.{RepoReply}
+use Rattle.repo_core.specs.declared.reply.Want.{Want}
+use Rattle.repo_core.specs.Commands.{repo_text_of}
+use Rattle.repo_core.specs.Reading.{repo_command_at}
+use Rattle.repo_core.specs.Repo.{after_command, reply_to}
+use Rattle.repo_core.specs.Writing.{repo_response}
+use Rattle.forwarder.specs.Event.{Send}
+use Rattle.forwarder.specs.Event.{to_each}
+use Rattle.forwarder.specs.Policy.{Policy, open_faces, with_next_version}
+use Rattle.forwarder.specs.Request.{Request, Refused, ForList, ForTables, ForRepository, ForData, request_of}
+use Rattle.forwarder.specs.Said.{recorded_of}
+use Rattle.forwarder.specs.NextHops.{choice_for, ask_for}
+use Rattle.forwarder.specs.Verdict.{Answer, Allowed, Denied, NoRule}
+
+-- the status of a command that no rule allows
+abbrev pub NOT_AUTHORIZED : ℕ
+NOT_AUTHORIZED = 403
+
+-- ---- commands on routes, strategies and the cache
+
+-- the status of a command that came from a face
+abbrev pub tables_status : Policy → ℕ → Result PlainCommand ℕ → ℕ
+tables_status p face (Err status) = status
+tables_status p face (Ok c) = status_of c face (open_faces p) p.routes p.choices
+
+abbrev pub tables_body : Policy → ℕ → Result PlainCommand ℕ → List ℕ
+tables_body p face (Err status) = []
+tables_body p face (Ok c) = body_after c face (tables_status p face (Ok c))
+
+abbrev pub tables_reply : Policy → ℕ → Result PlainCommand ℕ → List ℕ
+tables_reply p face c =
+    let status = tables_status p face c in
+    response status (unwrap_or (text_of status) []) (tables_body p face c)
+
+-- the routes and strategies after the command, and the next version of the lists
+abbrev pub after_tables : Policy → ℕ → Result PlainCommand ℕ → Policy
+after_tables p face (Err status) = with_next_version p
+after_tables p face (Ok c) =
+    let status = tables_status p face (Ok c) in
+    with_next_version (record p {
+      routes = if_done status (routes_after c face p.routes) p.routes;
+      choices = if_done status (choices_after c p.choices) p.choices;
+    })
+
+-- ---- commands to the repository
+
+abbrev pub repository_reply : Policy → PlainInterest → RepoReply
+repository_reply p i = reply_to p.held (repo_command_at p.repo i.name)
+
+abbrev pub repository_content : RepoReply → List ℕ
+repository_content r = repo_response r.status (unwrap_or (repo_text_of r.status) []) r.count
+
+abbrev pub after_repository : Policy → PlainInterest → Policy
+after_repository p i = record p { held = after_command p.repo i.name p.now p.held }
+
+-- the Interest by which the node asks for what is wanted
+abbrev pub fetch_text : Want → List ℕ → List ℕ
+fetch_text want nonce =
+    element (
+      INTEREST,
+      octets ((NAME, octets_of want.name) ∷ (flag CAN_BE_PREFIX want.can_be_prefix
+          ++ (NONCE, nonce) ∷ (INTEREST_LIFETIME, shortest_nni want.lifetime) ∷ [])),
+    )
+
+-- such an Interest cannot be written: its name is empty or has a digest of parameters, or it is too
+-- long, which is not to be expected, since the command is longer
+abbrev pub is_unwritable : Want → List ℕ → Bool
+is_unwritable want nonce =
+    is_bad_name want.name || nat_lt 8800 (length (fetch_text want nonce))
+
+abbrev pub to_chosen : Choice → List ℕ → List Send
+to_chosen choices.NoRoute text = []
+to_chosen (choices.Send faces) text = to_each faces text
+
+-- It goes where the strategy sends a new Interest that no face asked for.
+abbrev pub fetch_sends : Policy → List ℕ → Option Want → List Send
+fetch_sends p nonce None = []
+fetch_sends p nonce (Some want) =
+    if is_unwritable want nonce then [] else
+    to_chosen (choice_for p want.name map.empty (ask_for p want.name)) (fetch_text want nonce)
+
+-- ---- all commands
+
+-- the reply to a command, and what is fetched for it
+pub record Reply : Type 0 where
+  pub status : ℕ
+  pub content : List ℕ
+  pub fetches : List Send
+
+-- no other request is decided
+abbrev pub allowed_reply : Policy → ℕ → PlainInterest → Request → Reply
+allowed_reply p face i (Refused reason) = record { status = 0; content = []; fetches = [] }
+allowed_reply p face i (ForList asked) = record { status = 0; content = []; fetches = [] }
+allowed_reply p face i ForTables =
+    let c = command_at i.name in
+    record { status = tables_status p face c; content = tables_reply p face c; fetches = [] }
+allowed_reply p face i ForRepository =
+    let r = repository_reply p i in
+    record {
+      status = r.status;
+      content = repository_content r;
+      fetches = fetch_sends p i.nonce r.fetch;
+    }
+allowed_reply p face i ForData = record { status = 0; content = []; fetches = [] }
+
+-- a reply of status 403
+abbrev pub refused_content : Request → List ℕ → List ℕ
+refused_content (Refused reason) text = []
+refused_content (ForList asked) text = []
+refused_content ForTables text = response NOT_AUTHORIZED text []
+refused_content ForRepository text = repo_response NOT_AUTHORIZED text 0
+refused_content ForData text = []
+
+-- why a command is denied, and by which rule
+abbrev pub id_of : List PlainRule → ℕ → List ℕ
+id_of rules rule = unwrap_or (option_map (λ r. r.id) (slice_get rules rule)) []
+
+abbrev pub denial_text : Policy → ℕ → Reason → List ℕ
+denial_text p rule reason = reason_name reason ++ (codes " by " ++ id_of p.rules rule)
+
+-- a Data of the command's name, on the face that the command came from
+abbrev pub replied : ℕ → PlainInterest → List ℕ → Send
+replied face i content = (face, reply_text i.name content)
+
+-- the Content of the reply to a command, of which this is said
+abbrev pub reply_content : Policy → ℕ → PlainInterest → Decision → List ℕ
+reply_content p face i (decided.Allowed rule) =
+    (allowed_reply p face i (request_of p face i)).content
+reply_content p face i (decided.Denied rule reason) =
+    refused_content (request_of p face i) (denial_text p rule.0 reason)
+reply_content p face i decided.NoRule = refused_content (request_of p face i) (codes "no rule")
+
+-- how a command is answered, of which this is said
+abbrev pub command_answer : Policy → ℕ → PlainInterest → Decision → Answer
+command_answer p face i (decided.Allowed rule) =
+    let reply = allowed_reply p face i (request_of p face i) in
+    record {
+      verdict = Allowed rule.0 reply.status;
+      sends = replied face i (reply_content p face i (decided.Allowed rule)) ∷ reply.fetches;
+    }
+command_answer p face i (decided.Denied rule reason) = record {
+  verdict = Denied kinds.Interest rule.0 reason;
+  sends = replied face i (reply_content p face i (decided.Denied rule reason)) ∷ [];
+}
+command_answer p face i decided.NoRule = record {
+  verdict = NoRule kinds.Interest;
+  sends = replied face i (reply_content p face i decided.NoRule) ∷ [];
+}
+
+-- the signer, time and number of an allowed command are recorded
+abbrev pub with_record : Policy → Option Recorded → Policy
+with_record p None = p
+with_record p (Some r) = record p { guard = with_recorded p.guard r }
+
+-- what an allowed command changes
+abbrev pub after_request : Policy → ℕ → PlainInterest → Request → Policy
+after_request p face i (Refused reason) = p
+after_request p face i (ForList asked) = p
+after_request p face i ForTables = after_tables p face (command_at i.name)
+after_request p face i ForRepository = after_repository p i
+after_request p face i ForData = p
+
+abbrev pub after_allowed : Policy → ℕ → PlainInterest → Policy
+after_allowed p face i =
+    with_record (after_request p face i (request_of p face i)) (recorded_of i)

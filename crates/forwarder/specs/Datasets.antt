@@ -1,0 +1,52 @@
+-- The lists of routes and strategies as Data (NFD Management, "Status Dataset").
+use Rattle.std.specs.Prelude.{ℕ, List, [], ◌∷◌, ◌++◌, Option, None, Some, Bool, true, ◌==◌, if◌then◌else◌}
+use Rattle.ndn_tlv.specs.Element.{Field}
+use Rattle.ndn_tlv.specs.Number.{shortest_nni}
+use Rattle.ndn_names.specs.declared.component_type.TheConstants.{SEGMENT, VERSION}
+use Rattle.ndn_packets.specs.declared.signature.Sign.TheVariants as sign
+use Rattle.ndn_packets.specs.Writing.{meta_fields, meta_of, signed_data}
+use Rattle.mgmt_core.specs.Writing.{fib_text, segment_at, strategy_text}
+use Rattle.forwarder.specs.Policy.{Policy}
+use Rattle.forwarder.specs.Request.{ListKind, RouteList, StrategyList, ListAsked, list_name}
+use Rattle.forwarder.specs.Verdict.{Answer, NoSegment, dropped, passed}
+
+abbrev pub dataset_text : Policy → ListKind → List ℕ
+dataset_text p RouteList = fib_text p.routes
+dataset_text p StrategyList = strategy_text p.choices
+
+-- the name of a segment: the list, its version and the segment's number
+abbrev pub segment_name : ListKind → ℕ → ℕ → List Field
+segment_name kind version segment =
+    list_name kind ++ (VERSION, shortest_nni version) ∷ (SEGMENT, shortest_nni segment) ∷ []
+
+-- the FreshnessPeriod of a segment, in milliseconds
+abbrev pub LIST_FRESHNESS : ℕ
+LIST_FRESHNESS = 1000
+
+-- a segment, as Data that names the last one, signed with DigestSha256
+abbrev pub segment_data : List Field → List ℕ → ℕ → List ℕ
+segment_data name content last =
+    signed_data sign.Digest name (meta_of (meta_fields (Some LIST_FRESHNESS) (Some last)))
+    (Some content)
+
+abbrev pub segment_answer : ℕ → List Field → Option (List ℕ × ℕ) → Answer
+segment_answer face name None = dropped NoSegment
+segment_answer face name (Some part) = passed ((face, segment_data name part.0 part.1) ∷ [])
+
+-- the version that is asked for is the present one, or none is
+abbrev pub is_present : Policy → Option ℕ → Bool
+is_present p None = true
+is_present p (Some version) = version == p.table_number
+
+-- how an Interest for a segment is answered
+abbrev pub list_answer : Policy → ℕ → ListAsked → Answer
+list_answer p face asked =
+    if is_present p asked.version
+    then segment_answer face (segment_name asked.kind p.table_number asked.segment)
+    (segment_at (dataset_text p asked.kind) asked.segment)
+    else dropped NoSegment
+
+-- an answer with a segment's octets, if there are some
+abbrev pub answered_with : ℕ → Option (List ℕ) → Answer
+answered_with face None = dropped NoSegment
+answered_with face (Some octets) = passed ((face, octets) ∷ [])

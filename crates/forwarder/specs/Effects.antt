@@ -1,0 +1,93 @@
+-- What an event changes of what follows from events alone (NFD Developer's Guide, "Forwarding"; NFD
+-- Management).
+use Rattle.std.specs.Prelude.{◌≡◌, ℕ, Bool, true, false, Option, None, Some, Result, Ok, Err, nat_le, length, ◌==◌, if◌then◌else◌}
+use Rattle.sha2.specs.Sha256.{sha256}
+use Rattle.ndn_packets.specs.FrameReading.{frame_at}
+use Rattle.ndn_packets.specs.Packet.{PlainFrame, AnInterest, AData, ANack, Idle}
+use Rattle.ndn_packets.specs.declared.fault.PacketFault.{PacketFault}
+use Rattle.info_rules.specs.declared.decision.Decision.{Decision}
+use Rattle.info_rules.specs.declared.decision.Decision.TheVariants.{Allowed, Denied, NoRule}
+use Rattle.pit_fib.specs.Fib.{without_face}
+use Rattle.repo_core.specs.Repo.{after_offer}
+use Rattle.pit_fib.specs.declared.faces.TheConstants.{MAX_FACES}
+use Rattle.forwarder.specs.declared.event.Scope.{Scope}
+use Rattle.forwarder.specs.Event.{PlainEvent, Packet, FaceUp, FaceDown, Tick}
+use Rattle.forwarder.specs.Faces.{is_open}
+use Rattle.forwarder.specs.Event.{moment}
+use Rattle.forwarder.specs.Faces.{with_face, without_entry}
+use Rattle.forwarder.specs.Policy.{Policy, at_moment, with_next_version}
+use Rattle.forwarder.specs.Request.{is_decided}
+use Rattle.forwarder.specs.Said.{IsSaid}
+use Rattle.forwarder.specs.Commands.{after_allowed}
+
+abbrev pub can_open : Policy → ℕ → Bool
+can_open p face =
+    if face == 0 then false else (
+    if is_open face p.faces then false else (
+    if nat_le MAX_FACES (length p.faces) then false else
+    true))
+
+abbrev pub with_open : Policy → ℕ → Scope → Policy
+with_open p face scope =
+    if can_open p face then record p { faces = with_face face scope p.faces } else p
+
+-- a face closes: its routes go, and the lists have another version
+abbrev pub with_closed : Policy → ℕ → Policy
+with_closed p face =
+    if is_open face p.faces then with_next_version (record p {
+      faces = without_entry face p.faces;
+      routes = without_face p.routes face;
+    }) else p
+
+-- the packet of an event that rules decide, if there is one
+abbrev pub packet_to_decide : Policy → ℕ → Result PlainFrame PacketFault → Option PlainFrame
+packet_to_decide p face (Err fault) = None
+packet_to_decide p face (Ok packet) = if is_decided p face packet then Some packet else None
+
+abbrev pub decided_packet : Policy → PlainEvent → Option PlainFrame
+decided_packet p (Packet face now octets) =
+    if is_open face p.faces then packet_to_decide p face (frame_at octets) else None
+decided_packet p (FaceUp face scope now) = None
+decided_packet p (FaceDown face now) = None
+decided_packet p (Tick now) = None
+
+-- what an allowed packet changes: a command has its effect, and a Data is stored where it is wanted
+abbrev pub after_packet : Policy → ℕ → PlainFrame → Policy
+after_packet p face (AnInterest whole i) = after_allowed p face i
+after_packet p face (AData whole d) =
+    record p { held = after_offer d.name (sha256 whole) whole p.held }
+after_packet p face (ANack reason whole i) = p
+after_packet p face Idle = p
+
+-- what is denied changes nothing
+abbrev pub after_said : Policy → ℕ → PlainFrame → Decision → Policy
+after_said p face packet (Allowed rule) = after_packet p face packet
+after_said p face packet (Denied rule reason) = p
+after_said p face packet NoRule = p
+
+abbrev pub face_in : PlainEvent → ℕ
+face_in (Packet face now octets) = face
+face_in (FaceUp face scope now) = face
+face_in (FaceDown face now) = face
+face_in (Tick now) = 0
+
+-- an event that brings nothing to be decided
+abbrev pub undecided_effect : Policy → PlainEvent → Policy
+undecided_effect p (Packet face now octets) = p
+undecided_effect p (FaceUp face scope now) = with_open p face scope
+undecided_effect p (FaceDown face now) = with_closed p face
+undecided_effect p (Tick now) = p
+
+-- what an event changes once its moment has come
+abbrev pub IsEffect : Policy → PlainEvent → Policy → Option PlainFrame → Type 0
+IsEffect p event new None = new ≡ undecided_effect p event
+IsEffect p event new (Some packet) =
+    (said : Decision) × IsSaid p packet said
+    × (new ≡ after_said p (face_in event) packet said)
+
+-- A moment comes, and then the event has its effect. It is a function of the old policy and the
+-- event, since of each packet one decision is said.
+abbrev pub IsAfter : Policy → PlainEvent → Policy → Type 0
+IsAfter old event new =
+    let p = at_moment old (moment event) in
+    IsEffect p event new (decided_packet p event)

@@ -1,0 +1,40 @@
+-- Events and what is sent, as plain data.
+use Rattle.std.specs.Prelude.{ℕ, List, map}
+use Rattle.forwarder.specs.declared.event.Scope.{Scope}
+use Rattle.forwarder.specs.declared.event.Event.{Event}
+use Rattle.forwarder.specs.declared.event.Event.TheVariants as code
+use Rattle.forwarder.specs.declared.event.OwnedEvent.{OwnedEvent}
+use Rattle.forwarder.specs.declared.event.OwnedEvent.TheVariants as owned
+
+pub data PlainEvent : Type 0 where
+  Packet : (face now : ℕ) (octets : List ℕ) → PlainEvent
+  FaceUp : (face : ℕ) (scope : Scope) (now : ℕ) → PlainEvent
+  FaceDown : (face now : ℕ) → PlainEvent
+  Tick : (now : ℕ) → PlainEvent
+
+-- an event without where its octets lie in memory
+abbrev pub plain : Event → PlainEvent
+plain (code.Packet face now octets) = Packet face now octets.now
+plain (code.FaceUp face scope now) = FaceUp face scope now
+plain (code.FaceDown face now) = FaceDown face now
+plain (code.Tick now) = Tick now
+
+abbrev pub plain_owned : OwnedEvent → PlainEvent
+plain_owned (owned.Packet face now octets) = Packet face now octets.items
+plain_owned (owned.FaceUp face scope now) = FaceUp face scope now
+plain_owned (owned.FaceDown face now) = FaceDown face now
+plain_owned (owned.Tick now) = Tick now
+
+abbrev pub moment : PlainEvent → ℕ
+moment (Packet face now octets) = now
+moment (FaceUp face scope now) = now
+moment (FaceDown face now) = now
+moment (Tick now) = now
+
+-- octets that go to a face
+abbrev pub Send : Type 0
+Send = ℕ × List ℕ
+
+-- the octets to each of these faces
+abbrev pub to_each : List ℕ → List ℕ → List Send
+to_each faces octets = map (λ face. (face, octets)) faces

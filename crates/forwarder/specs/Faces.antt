@@ -1,0 +1,45 @@
+-- The open faces of a node (NFD Developer's Guide, "Face Scope").
+use Rattle.std.specs.Prelude.{◌≡◌, ℕ, List, [], ◌∷◌, Option, None, Some, Bool, ◌==◌, if◌then◌else◌, nat_lt, not, filter, map}
+use Rattle.std.specs.List.{list_any}
+use Rattle.pit_fib.specs.Faces.{has_face}
+use Rattle.forwarder.specs.declared.event.Scope.{Scope}
+use Rattle.forwarder.specs.declared.event.Scope.TheVariants.{Local, Far}
+
+-- an open face
+abbrev pub FaceEntry : Type 0
+FaceEntry = ℕ × Scope
+
+abbrev pub is_open : ℕ → List FaceEntry → Bool
+is_open face faces = list_any (λ entry. entry.0 == face) faces
+
+-- the scope of a face that is open
+abbrev pub find_scope : ℕ → List FaceEntry → Option Scope
+find_scope face [] = None
+find_scope face (entry ∷ faces) = if entry.0 == face then Some entry.1 else find_scope face faces
+
+abbrev pub numbers : List FaceEntry → List ℕ
+numbers faces = map (λ entry. entry.0) faces
+
+-- the faces with this one, at its place in rising order
+abbrev pub with_face : ℕ → Scope → List FaceEntry → List FaceEntry
+with_face face scope [] = (face, scope) ∷ []
+with_face face scope (entry ∷ faces) =
+    if nat_lt face entry.0 then (face, scope) ∷ entry ∷ faces
+    else entry ∷ with_face face scope faces
+
+abbrev pub without_entry : ℕ → List FaceEntry → List FaceEntry
+without_entry face faces = filter (λ entry. not (entry.0 == face)) faces
+
+-- ---- as two lists of numbers
+
+-- the scope of an open face, where these are the Local ones
+abbrev pub scope_in : List ℕ → ℕ → Scope
+scope_in local face = if has_face face local then Local else Far
+
+-- the faces of these numbers, where those are the Local ones
+abbrev pub entries_of : List ℕ → List ℕ → List FaceEntry
+entries_of all local = map (λ face. (face, scope_in local face)) all
+
+-- each Local face is open
+abbrev pub AreOpen : List ℕ → List ℕ → Type 0
+AreOpen all local = local ≡ filter (λ face. has_face face local) all

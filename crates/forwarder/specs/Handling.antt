@@ -1,0 +1,74 @@
+-- One step by a packet that came on an open face and was read: its moment comes, and then it is
+-- answered and has its effect.
+use Rattle.std.specs.Prelude.{◌≡◌, ◌++◌, ℕ, List, Bool, true, false, Result, Ok, IfOk, OnErr}
+use Rattle.ndn_tlv.specs.declared.memory.Memory.{Memory}
+use Rattle.ndn_packets.specs.Packet.{PlainFrame, AnInterest, AData}
+use Rattle.ndn_packets.specs.View.{plain_data, plain_interest}
+use Rattle.ndn_packets.specs.declared.data.Data.{Data}
+use Rattle.ndn_packets.specs.declared.interest.Interest.{Interest}
+use Rattle.info_rules.specs.declared.decision.Decision.{Decision}
+use Rattle.pit_fib.specs.Records.{HoldsTheLiving}
+use Rattle.repo_core.specs.Objects.{AreObjects}
+use Rattle.forwarder.specs.declared.state.State.{State}
+use Rattle.forwarder.specs.declared.verdict.Verdict as code
+use Rattle.forwarder.specs.Event.{Send}
+use Rattle.forwarder.specs.Faces.{is_open}
+use Rattle.forwarder.specs.Verdict.{Answer, verdict_of}
+use Rattle.forwarder.specs.Policy.{Policy}
+use Rattle.forwarder.specs.Request.{is_decided}
+use Rattle.forwarder.specs.Said.{IsSaid}
+use Rattle.forwarder.specs.Effects.{after_said}
+use Rattle.forwarder.specs.Causes.{packet_causes}
+use Rattle.forwarder.specs.Replies.{Seen, RepliesToPacket}
+use Rattle.forwarder.specs.Node.{NodeState, CacheAfterPacket, FollowAll, Unharmed, seen_in}
+use Rattle.forwarder.specs.State.{IsLater, IsSound, state_of}
+
+-- what a packet changes, by whether rules decide it
+abbrev pub IsPacketEffect : Policy → ℕ → PlainFrame → Policy → Bool → Type 0
+IsPacketEffect p face packet new true =
+    (said : Decision) × IsSaid p packet said × (new ≡ after_said p face packet said)
+IsPacketEffect p face packet new false = new ≡ p
+
+abbrev pub seen_by : NodeState → Seen
+seen_by s = seen_in s.policy s.pending s.cache
+
+-- a packet was answered and had its effect, at whose moment the node was this
+pub record IsAnswered (was : NodeState) (face : ℕ) (packet : PlainFrame) (answer : Answer)
+    (new : NodeState) : Type 0 where
+  pub replies : RepliesToPacket (seen_by was) face (Ok packet) answer
+  pub policy : IsPacketEffect was.policy face packet new.policy
+      (is_decided was.policy face packet)
+  pub pending : FollowAll (packet_causes was.policy.now face (Ok packet) answer)
+      was.pending new.pending
+  pub alive : HoldsTheLiving new.pending
+  pub cache : CacheAfterPacket was.policy was.pending face (Ok packet) answer.verdict
+      was.cache new.cache
+
+-- the sends stand after the earlier ones
+abbrev pub IsHandled : State → State → List Send → List Send → ℕ → ℕ → PlainFrame → code.Verdict
+    → Type 0
+IsHandled old new before after face moment packet verdict =
+    (was : NodeState) × (sends : List Send) × (after ≡ before ++ sends)
+    × IsLater (state_of old) moment was
+    × IsAnswered was face packet (record { verdict = verdict_of verdict; sends = sends })
+    (state_of new)
+
+-- an Interest and a Data as packets
+abbrev pub interest_packet : Interest → PlainFrame
+interest_packet i = AnInterest i.whole.now (plain_interest i)
+
+abbrev pub data_packet : Data → PlainFrame
+data_packet d = AData d.whole.now (plain_data d)
+
+-- What is true where a packet comes on a face: the node is sound, the face is open, and what the
+-- repository stores is Data.
+pub record AwaitsPacket (s : State) (face : ℕ) : Type 0 where
+  pub sound : IsSound (state_of s)
+  pub from : is_open face s.faces ≡ true
+  pub objects : AreObjects s.repo.held.objects
+
+-- a packet was handled, or nothing but the cache changed for want of memory
+pub record HandlesPacket (old new : State) (before after : List Send) (face moment : ℕ)
+    (packet : PlainFrame) (result : Result code.Verdict Memory) : Type 0 where
+  pub handled : IfOk result (IsHandled old new before after face moment packet)
+  pub memory : OnErr result (Unharmed (state_of old) (state_of new) × (after ≡ before))

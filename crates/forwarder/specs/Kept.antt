@@ -1,0 +1,51 @@
+-- Which Interests become pending (NFD Developer's Guide, "Incoming Interest Pipeline"): those that
+-- are passed, where neither a Data nor a Nack goes back to their face.
+use Rattle.std.specs.Prelude.{◌≡◌, ◌⊎◌, ℕ, List, [], ◌∷◌, false, Ok}
+use Rattle.ndn_packets.specs.FrameReading.{frame_at}
+use Rattle.ndn_packets.specs.Key.{PlainKey, key_of}
+use Rattle.ndn_packets.specs.Packet.{PlainInterest, AnInterest}
+use Rattle.ndn_packets.specs.Writing.{nack_text}
+use Rattle.ndn_packets.specs.declared.types.TheConstants.{NO_ROUTE}
+use Rattle.pit_fib.specs.Faces.{has_face}
+use Rattle.pit_fib.specs.Records.{Ask}
+use Rattle.forwarder.specs.Event.{PlainEvent, Packet, Send, to_each}
+use Rattle.forwarder.specs.Verdict.{Answer, Passed}
+use Rattle.forwarder.specs.Causes.{ask_of, is_answered, is_nacked}
+use Rattle.forwarder.specs.NextHops.{sent_on}
+use Rattle.forwarder.specs.Replies.{Seen}
+use Rattle.forwarder.specs.Sends.{IsAtHand}
+
+-- the event brings this Interest on this face, and it is passed
+pub record IsPassed (event : PlainEvent) (answer : Answer) (face : ℕ) (whole : List ℕ)
+    (interest : PlainInterest) : Type 0 where
+  pub now : ℕ
+  pub octets : List ℕ
+  pub brings : event ≡ Packet face now octets
+  pub read : frame_at octets ≡ Ok (AnInterest whole interest)
+  pub passed : answer.verdict ≡ Passed
+
+-- The event brings an Interest of this key that is passed, nothing goes back to its face, and no
+-- Nack is sent. So the face waits, by this record.
+pub record IsKept (now : ℕ) (event : PlainEvent) (answer : Answer) (key : PlainKey) (face : ℕ)
+    (ask : Ask) : Type 0 where
+  pub whole : List ℕ
+  pub interest : PlainInterest
+  pub is_passed : IsPassed event answer face whole interest
+  pub unanswered : is_answered face answer.sends ≡ false
+  pub not_nacked : is_nacked answer.sends ≡ false
+  pub is_key : key ≡ key_of interest
+  pub is_ask : ask ≡ ask_of now whole interest
+
+-- it goes on to other faces alone, as it came but for its HopLimit; to none, where the strategy
+-- waits for those that were asked before
+abbrev pub IsSentOn : ℕ → List ℕ → PlainInterest → List Send → Type 0
+IsSentOn face whole i sends =
+    (faces : List ℕ) × (has_face face faces ≡ false)
+    × (sends ≡ to_each faces (sent_on whole i.hop_limit))
+
+-- one packet goes back to its face, and nothing to others: a Nack NoRoute, or a Data that the cache
+-- gives, the repository stores or the node makes
+abbrev pub IsAnswered : Seen → ℕ → List ℕ → PlainInterest → List Send → Type 0
+IsAnswered seen face whole i sends =
+    (octets : List ℕ) × (sends ≡ (face, octets) ∷ [])
+    × ((octets ≡ nack_text NO_ROUTE whole) ⊎ IsAtHand seen face whole i octets)

@@ -1,0 +1,65 @@
+-- Where Interests go: the choice of the name's strategy among the next hops of its longest prefix
+-- (NFD Developer's Guide, "Strategies", "Outgoing Interest Pipeline").
+use Rattle.std.specs.Prelude.{ℕ, ◌-◌, List, Bool, false, Option, None, Some, unwrap_or, ◌==◌}
+use Rattle.ndn_tlv.specs.Element.{Field}
+use Rattle.ndn_packets.specs.HopLimit.{with_octet}
+use Rattle.ndn_packets.specs.Packet.{PlainInterest}
+use Rattle.pit_fib.specs.declared.hops.Hop.{Hop}
+use Rattle.pit_fib.specs.declared.strategy_table.StrategyId.{StrategyId}
+use Rattle.pit_fib.specs.declared.strategy_table.StrategyId.TheVariants.{BestRoute, Multicast}
+use Rattle.pit_fib.specs.Fib.{longest_hops}
+use Rattle.pit_fib.specs.Hops.{marked}
+use Rattle.pit_fib.specs.Tables.{ByFace}
+use Rattle.pit_fib.specs.ByName.{longest}
+use Rattle.strategies.specs.declared.strategy.Ask.{Ask}
+use Rattle.strategies.specs.declared.strategy.Choice.{Choice}
+use Rattle.strategies.specs.Choice.{chosen}
+use Rattle.strategies.specs.Selection.{Selection, best_route, multicast}
+use Rattle.forwarder.specs.Policy.{Policy, local_faces}
+use Rattle.forwarder.specs.Request.{is_local_name}
+
+abbrev pub selection_of : StrategyId → Selection
+selection_of BestRoute = best_route
+selection_of Multicast = multicast
+
+-- the strategy of the longest prefix that has one; `/` always has one
+abbrev pub strategy_for : Policy → List Field → StrategyId
+strategy_for p name = unwrap_or (longest p.choices name) BestRoute
+
+-- the next hops of the longest prefix that has some
+abbrev pub hops_for : Policy → List Field → List Hop
+hops_for p name = marked (local_faces p) (longest_hops p.routes name)
+
+-- where an Interest of this name goes, of which these faces were asked before
+abbrev pub choice_for : Policy → List Field → ByFace → Ask → Choice
+choice_for p name asked ask =
+    chosen (selection_of (strategy_for p name)) (hops_for p name) asked ask
+
+-- whether HopLimit is 0 once it is lowered
+abbrev pub is_last_hop : Option ℕ → Bool
+is_last_hop None = false
+is_last_hop (Some limit) = limit == 1
+
+-- an Interest that came on a face
+abbrev pub ask_from : Policy → ℕ → PlainInterest → Ask
+ask_from p face i = record {
+  asker = Some face;
+  localhost = is_local_name i.name;
+  hop_zero = is_last_hop i.hop_limit;
+  now = p.now;
+}
+
+-- an Interest of the node itself
+abbrev pub ask_for : Policy → List Field → Ask
+ask_for p name = record {
+  asker = None;
+  localhost = is_local_name name;
+  hop_zero = false;
+  now = p.now;
+}
+
+-- the received octets of an Interest with this HopLimit, as they are sent on: HopLimit is lowered,
+-- and nothing else changes
+abbrev pub sent_on : List ℕ → Option ℕ → List ℕ
+sent_on whole None = whole
+sent_on whole (Some limit) = with_octet whole (limit - 1)

@@ -1,0 +1,30 @@
+-- How an outbox keeps its sends.
+use Rattle.std.specs.Prelude.{ℕ, ◌≤◌, ◌-◌, List, map, length, slice_range, sum_by}
+use Rattle.std.specs.List.{AllByRecursion}
+use Rattle.forwarder.specs.Event.{Send}
+use Rattle.forwarder.specs.declared.sends.Sent.{Sent}
+
+-- the places lie within the octets
+abbrev pub IsWithin : List ℕ → Sent → Type 0
+IsWithin octets sent = (sent.start ≤ sent.end) × (sent.end ≤ length octets)
+
+abbrev pub AreWithin : List ℕ → List Sent → Type 0
+AreWithin octets sends = AllByRecursion (IsWithin octets) sends
+
+abbrev pub size_of : Sent → ℕ
+size_of sent = sent.end - sent.start
+
+-- the places lie within the octets, which are no more than those of all sends together
+pub record AreOctetsOf (octets : List ℕ) (sends : List Sent) : Type 0 where
+  pub within : AreWithin octets sends
+  pub no_more : length octets ≤ sum_by size_of sends
+
+-- a face, and the octets between the places
+abbrev pub send_of : List ℕ → Sent → Send
+send_of octets sent = (sent.face, slice_range octets sent.start sent.end)
+
+abbrev pub sends_of : List ℕ → List Sent → List Send
+sends_of octets sends = map (send_of octets) sends
+
+abbrev pub placed : ℕ → ℕ → ℕ → Sent
+placed start end face = record { face = face; start = start; end = end }

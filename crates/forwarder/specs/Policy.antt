@@ -1,0 +1,78 @@
+-- What of a node follows from its events alone: all but pending Interests and the cache (NFD
+-- Developer's Guide, "Forwarding"; NFD Management).
+use Rattle.std.specs.Prelude.{ℕ, ◌+◌, ◌-◌, ◌^◌, List, [], Bool, true, false, not, Option, None, Some, filter, max, min}
+use Rattle.std.specs.FinMap as map
+use Rattle.ndn_tlv.specs.Element.{Field}
+use Rattle.hmac_keys.specs.KeyFile.{NamedKey}
+use Rattle.info_rules.specs.Rule.{PlainRule}
+use Rattle.replay_guard.specs.Guard.{Table}
+use Rattle.pit_fib.specs.Fib.{Routes}
+use Rattle.pit_fib.specs.StrategyTable.{Choices, only_best_route}
+use Rattle.repo_core.specs.Repo.{Held}
+use Rattle.repo_core.specs.Wants.{wants_after}
+use Rattle.forwarder.specs.declared.event.Scope.{Scope}
+use Rattle.forwarder.specs.declared.event.Scope.TheVariants.{Local, Far}
+use Rattle.forwarder.specs.Faces.{FaceEntry, find_scope, numbers}
+
+pub record Policy : Type 0 where
+  -- the greatest moment so far, in milliseconds since 1970
+  pub now : ℕ
+  -- the version of the lists: how many commands under /localhost/nfd were allowed, and how many
+  -- faces were closed, so far; it stops at the greatest u64
+  pub table_number : ℕ
+  pub rules : List PlainRule
+  pub keys : List NamedKey
+  -- the repository's prefix
+  pub repo : List Field
+  -- the open faces, in rising order of their numbers
+  pub faces : List FaceEntry
+  pub routes : Routes
+  pub choices : Choices
+  -- of each signer of allowed commands the greatest time and number
+  pub guard : Table
+  -- what the repository stores and wants
+  pub held : Held
+
+-- a node of these rules, keys and prefix before its first event
+abbrev pub first_policy : List PlainRule → List NamedKey → List Field → Policy
+first_policy rules keys repo = record {
+  now = 0;
+  table_number = 0;
+  rules = rules;
+  keys = keys;
+  repo = repo;
+  faces = [];
+  routes = map.empty;
+  choices = only_best_route;
+  guard = map.empty;
+  held = record { objects = map.empty; wants = map.empty };
+}
+
+-- a moment comes: time rises, and the wants that are due go
+abbrev pub at_moment : Policy → ℕ → Policy
+at_moment p moment =
+    let now = max p.now moment in
+    record p { now = now; held = record p.held { wants = wants_after now p.held.wants } }
+
+-- the lists have another version
+abbrev pub with_next_version : Policy → Policy
+with_next_version p = record p { table_number = min (p.table_number + 1) (2 ^ 64 - 1) }
+
+-- the numbers of the open faces, and of those that are Local
+abbrev pub open_faces : Policy → List ℕ
+open_faces p = numbers p.faces
+
+abbrev pub is_local_scope : Scope → Bool
+is_local_scope Local = true
+is_local_scope Far = false
+
+abbrev pub local_faces : Policy → List ℕ
+local_faces p = numbers (filter (λ entry. is_local_scope entry.1) p.faces)
+
+-- whether a face leads to another machine
+abbrev pub is_far_scope : Option Scope → Bool
+is_far_scope None = false
+is_far_scope (Some scope) = not (is_local_scope scope)
+
+abbrev pub is_far : Policy → ℕ → Bool
+is_far p face = is_far_scope (find_scope face p.faces)

@@ -1,0 +1,170 @@
+-- How a node may answer an event (NFD Developer's Guide, "Forwarding Pipelines"). One definition
+-- serves a step, where the node's tables show what it reads, and a run, where the past does.
+use Rattle.std.specs.Prelude.{◌≡◌, ◌≢◌, ◌↔◌, ℕ, List, [], ◌∷◌, map as map_list, Bool, not, Option, None, Some, IsSome, IsTrue, Result, Ok, Err, nat_le, length, ◌==◌, ◌&&◌, if◌then◌else◌}
+use Rattle.std.specs.FinMap as map
+use Rattle.sha2.specs.Sha256.{sha256}
+use Rattle.ndn_tlv.specs.Element.{Field}
+use Rattle.ndn_packets.specs.Answers.{answers}
+use Rattle.ndn_packets.specs.FrameReading.{frame_at}
+use Rattle.ndn_packets.specs.Key.{PlainKey, key_of}
+use Rattle.ndn_packets.specs.Packet.{PlainInterest, PlainData, PlainFrame, AnInterest, AData, ANack, Idle as AnIdle}
+use Rattle.ndn_packets.specs.Writing.{nack_text}
+use Rattle.ndn_packets.specs.declared.fault.PacketFault.{PacketFault}
+use Rattle.ndn_packets.specs.declared.types.TheConstants.{DUPLICATE, NO_ROUTE}
+use Rattle.info_rules.specs.declared.decision.Decision.{Decision}
+use Rattle.info_rules.specs.declared.decision.Decision.TheVariants as decided
+use Rattle.info_rules.specs.declared.rule.Kind.TheVariants as kinds
+use Rattle.pit_fib.specs.declared.nacked.Nacked.{Nacked}
+use Rattle.pit_fib.specs.declared.nacked.Nacked.TheVariants as nacks
+use Rattle.pit_fib.specs.Faces.{IsRising, has_face}
+use Rattle.pit_fib.specs.Pit.{loops, moments, nacked_answer}
+use Rattle.pit_fib.specs.Records.{Ask, Asks, Records, is_alive}
+use Rattle.strategies.specs.declared.strategy.Choice.{Choice}
+use Rattle.strategies.specs.declared.strategy.Choice.TheVariants as choices
+use Rattle.repo_core.specs.Objects.{served}
+use Rattle.pit_fib.specs.declared.faces.TheConstants.{MAX_FACES}
+use Rattle.forwarder.specs.Event.{PlainEvent, Packet, FaceUp, FaceDown, Tick, Send}
+use Rattle.forwarder.specs.Faces.{is_open}
+use Rattle.forwarder.specs.Event.{to_each}
+use Rattle.forwarder.specs.Verdict.{WhereTrue, Answer, Dropped, NoFace, Malformed, Idle, Loop, PitFull, NoPending, BadFace, FaceOpen, FacesFull, Scope as OutOfScope, DataAllowed, Denied, NoRule, dropped, passed}
+use Rattle.forwarder.specs.Policy.{Policy}
+use Rattle.forwarder.specs.Request.{Request, Refused, ForList, ForTables, ForRepository, ForData, request_of, is_out_of_scope}
+use Rattle.forwarder.specs.Said.{IsSaid}
+use Rattle.forwarder.specs.Commands.{command_answer}
+use Rattle.forwarder.specs.Datasets.{list_answer}
+use Rattle.forwarder.specs.NextHops.{choice_for, ask_from, sent_on}
+
+-- what an answer may depend on, once the event's moment has come
+pub record Seen : Type 1 where
+  pub policy : Policy
+  -- the records of each key, and whether 4,096 keys have some
+  pub records : PlainKey → Records
+  pub is_full : Bool
+  -- the cache may give these octets for an Interest of this key, or nothing
+  pub MayGive : PlainKey → Option (List ℕ) → Type 0
+
+-- ---- Interests for Data
+
+-- An Interest that nothing held answers: back to its face where no next hop may get it; not
+-- forwarded where its key would be one too many; else to the chosen faces.
+abbrev pub forwarded : Seen → PlainKey → List ℕ → PlainInterest → ℕ → Choice → Answer
+forwarded seen key whole i face choices.NoRoute =
+    passed ((face, nack_text NO_ROUTE whole) ∷ [])
+forwarded seen key whole i face (choices.Send faces) =
+    if not (is_alive (seen.records key)) && seen.is_full then dropped PitFull
+    else passed (to_each faces (sent_on whole i.hop_limit))
+
+-- the repository answers, or a face is asked; MustBeFresh does not bind the repository
+abbrev pub unserved : Seen → ℕ → List ℕ → PlainInterest → Option (List ℕ) → Answer
+unserved seen face whole i (Some octets) = passed ((face, octets) ∷ [])
+unserved seen face whole i None =
+    forwarded seen (key_of i) whole i face
+    (choice_for seen.policy i.name (moments (seen.records (key_of i)).asked)
+    (ask_from seen.policy face i))
+
+abbrev pub without_cache : Seen → ℕ → List ℕ → PlainInterest → Answer
+without_cache seen face whole i =
+    unserved seen face whole i (served i.name i.can_be_prefix seen.policy.held.objects)
+
+abbrev pub by_cache : Seen → ℕ → List ℕ → PlainInterest → Option (List ℕ) → Answer
+by_cache seen face whole i (Some octets) = passed ((face, octets) ∷ [])
+by_cache seen face whole i None = without_cache seen face whole i
+
+-- A loop is answered by a Nack; else the cache answers, or the repository, or a face is asked.
+abbrev pub RepliesForData : Seen → ℕ → List ℕ → PlainInterest → Answer → Type 0
+RepliesForData seen face whole i answer =
+    WhereTrue (loops (seen.records (key_of i)) face i.nonce)
+    (answer ≡ record {
+      verdict = Dropped Loop;
+      sends = (face, nack_text DUPLICATE whole) ∷ [];
+    })
+    ((given : Option (List ℕ)) × seen.MayGive (key_of i) given
+    × (answer ≡ by_cache seen face whole i given))
+
+-- ---- each kind of packet
+
+abbrev pub RepliesToCommand : Seen → ℕ → List ℕ → PlainInterest → Answer → Type 0
+RepliesToCommand seen face whole i answer =
+    (said : Decision) × IsSaid seen.policy (AnInterest whole i) said
+    × (answer ≡ command_answer seen.policy face i said)
+
+abbrev pub RepliesToRequest : Seen → ℕ → List ℕ → PlainInterest → Answer → Request → Type 0
+RepliesToRequest seen face whole i answer (Refused reason) = answer ≡ dropped reason
+RepliesToRequest seen face whole i answer (ForList asked) =
+    answer ≡ list_answer seen.policy face asked
+RepliesToRequest seen face whole i answer ForTables = RepliesToCommand seen face whole i answer
+RepliesToRequest seen face whole i answer ForRepository = RepliesToCommand seen face whole i answer
+RepliesToRequest seen face whole i answer ForData = RepliesForData seen face whole i answer
+
+-- a face asks under a key that a Data of this name and implicit digest answers
+abbrev pub Waits : Seen → List Field → List ℕ → ℕ → Type 0
+Waits seen name digest face =
+    (key : PlainKey) × IsTrue (answers name digest key.name key.can_be_prefix)
+    × IsSome (map.get (seen.records key).asks face)
+
+-- The received octets go once to each face that waits for the Data, but for the one that it came
+-- from, in rising order.
+abbrev pub IsSentToAskers : Seen → ℕ → List ℕ → PlainData → List Send → Type 0
+IsSentToAskers seen face whole d sends =
+    (faces : List ℕ) × IsRising faces
+    × ((f : ℕ) → IsTrue (has_face f faces) ↔ ((f ≢ face) × Waits seen d.name (sha256 whole) f))
+    × (sends ≡ to_each faces whole)
+
+abbrev pub RepliesBySaid : Seen → ℕ → List ℕ → PlainData → Answer → Decision → Type 0
+RepliesBySaid seen face whole d answer (decided.Allowed rule) =
+    (answer.verdict ≡ DataAllowed rule.0) × IsSentToAskers seen face whole d answer.sends
+RepliesBySaid seen face whole d answer (decided.Denied rule reason) =
+    answer ≡ record { verdict = Denied kinds.Data rule.0 reason; sends = [] }
+RepliesBySaid seen face whole d answer decided.NoRule =
+    answer ≡ record { verdict = NoRule kinds.Data; sends = [] }
+
+abbrev pub RepliesToData : Seen → ℕ → List ℕ → PlainData → Answer → Type 0
+RepliesToData seen face whole d answer =
+    WhereTrue (is_out_of_scope seen.policy face d.name) (answer ≡ dropped OutOfScope)
+    ((said : Decision) × IsSaid seen.policy (AData whole d) said
+    × RepliesBySaid seen face whole d answer said)
+
+-- a Nack of this reason around the Interest that each asker sent, in rising order of their faces
+abbrev pub nacks_to : Asks → ℕ → List Send
+nacks_to asks reason =
+    map_list {A = ℕ × Ask} {B = Send} (λ e. (e.0, nack_text reason e.1.interest)) (map.entries asks)
+
+abbrev pub nack_answer : Asks → Nacked → Answer
+nack_answer asks nacks.NoPending = dropped NoPending
+nack_answer asks nacks.Waiting = passed []
+nack_answer asks (nacks.All reason) = passed (nacks_to asks reason)
+
+abbrev pub RepliesToNack : Seen → ℕ → ℕ → PlainInterest → Answer → Type 0
+RepliesToNack seen face reason i answer =
+    let r = seen.records (key_of i) in
+    WhereTrue (is_out_of_scope seen.policy face i.name) (answer ≡ dropped OutOfScope)
+    (answer ≡ nack_answer r.asks (nacked_answer r face i.nonce reason))
+
+abbrev pub RepliesToPacket : Seen → ℕ → Result PlainFrame PacketFault → Answer → Type 0
+RepliesToPacket seen face (Err fault) answer = answer ≡ dropped (Malformed fault)
+RepliesToPacket seen face (Ok (AnInterest whole i)) answer =
+    RepliesToRequest seen face whole i answer (request_of seen.policy face i)
+RepliesToPacket seen face (Ok (AData whole d)) answer = RepliesToData seen face whole d answer
+RepliesToPacket seen face (Ok (ANack reason whole i)) answer =
+    RepliesToNack seen face reason i answer
+RepliesToPacket seen face (Ok AnIdle) answer = answer ≡ dropped Idle
+
+-- ---- all events
+
+-- a face opens, unless its number is 0, or it is open, or 64 are
+abbrev pub opening_answer : Policy → ℕ → Answer
+opening_answer p face =
+    if face == 0 then dropped BadFace else (
+    if is_open face p.faces then dropped FaceOpen else (
+    if nat_le MAX_FACES (length p.faces) then dropped FacesFull else
+    passed []))
+
+-- what may be answered to an event, where this is seen once its moment has come
+abbrev pub Replies : Seen → PlainEvent → Answer → Type 0
+Replies seen (Packet face now octets) answer =
+    WhereTrue (is_open face seen.policy.faces) (RepliesToPacket seen face (frame_at octets) answer)
+    (answer ≡ dropped NoFace)
+Replies seen (FaceUp face scope now) answer = answer ≡ opening_answer seen.policy face
+Replies seen (FaceDown face now) answer =
+    answer ≡ (if is_open face seen.policy.faces then passed [] else dropped NoFace)
+Replies seen (Tick now) answer = answer ≡ passed []

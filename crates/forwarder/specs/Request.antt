@@ -1,0 +1,135 @@
+-- What an Interest is to a node: a request for a segment of a list, a command, or a request for
+-- Data (NFD Management, "Control Command", "Status Dataset"; NDN Naming Conventions, revision 3).
+use Rattle.std.specs.Prelude.{ℕ, List, [], ◌∷◌, ◌++◌, Bool, true, false, not, Option, None, Some, is_some, drop, length, codes, bytes_eq, ◌==◌, ◌&&◌, if◌then◌else◌}
+use Rattle.std.specs.Option.{option_map, option_or}
+use Rattle.ndn_tlv.specs.Element.{Field}
+use Rattle.ndn_tlv.specs.Number.{shortest_nni}
+use Rattle.ndn_tlv.specs.Reading.{nni_at, on_result}
+use Rattle.ndn_names.specs.declared.component_type.TheConstants.{GENERIC, SEGMENT, VERSION}
+use Rattle.ndn_packets.specs.Answers.{begins_with}
+use Rattle.ndn_packets.specs.Packet.{PlainInterest, PlainFrame, AnInterest, AData, ANack, Idle}
+use Rattle.repo_core.specs.Reading.{verb_at}
+use Rattle.forwarder.specs.Verdict.{DropReason, HopLimit, Scope}
+use Rattle.forwarder.specs.Policy.{Policy, is_far}
+use Rattle.forwarder.specs.declared.request.NamedRequest.{NamedRequest}
+use Rattle.forwarder.specs.declared.request.NamedRequest.TheVariants as named
+pub use Rattle.forwarder.specs.declared.request.ListKind.{ListKind}
+pub use Rattle.forwarder.specs.declared.request.ListKind.TheVariants.{RouteList, StrategyList}
+pub use Rattle.forwarder.specs.declared.request.ListAsked.{ListAsked}
+
+abbrev pub generic : List ℕ → Field
+generic text = (GENERIC, text)
+
+-- /localhost, whose names stay on this machine, and /localhost/nfd, whose names are commands and
+-- lists
+abbrev pub localhost : List Field
+localhost = generic (codes "localhost") ∷ []
+
+abbrev pub management : List Field
+management = generic (codes "localhost") ∷ generic (codes "nfd") ∷ []
+
+abbrev pub is_local_name : List Field → Bool
+is_local_name name = begins_with localhost name
+
+-- a name of this machine, from another one
+abbrev pub is_out_of_scope : Policy → ℕ → List Field → Bool
+is_out_of_scope p face name = is_local_name name && is_far p face
+
+-- ---- lists
+
+abbrev pub list_name : ListKind → List Field
+list_name RouteList = management ++ generic (codes "fib") ∷ generic (codes "list") ∷ []
+list_name StrategyList =
+    management ++ generic (codes "strategy-choice") ∷ generic (codes "list") ∷ []
+
+-- a number in its shortest form
+abbrev pub shortest_number : List ℕ → Option ℕ
+shortest_number value =
+    on_result (λ n. if bytes_eq value (shortest_nni n) then Some n else None) (λ _. None)
+    (nni_at value)
+
+-- the number of a component of this type
+abbrev pub numbered : ℕ → Field → Option ℕ
+numbered kind c = if c.0 == kind then shortest_number c.1 else None
+
+abbrev pub versioned : ListKind → ℕ → Option ℕ → Option ListAsked
+versioned kind segment version =
+    option_map (λ v. record { kind = kind; version = Some v; segment = segment }) version
+
+abbrev pub segmented : ListKind → Option ℕ → Option ℕ → Option ListAsked
+segmented kind version None = None
+segmented kind version (Some segment) = versioned kind segment version
+
+-- By what stands after a list's name: nothing or a version, and CanBePrefix, for the first segment;
+-- or a version and a segment. All else is no list.
+abbrev pub list_after : ListKind → Bool → List Field → Option ListAsked
+list_after kind can_be_prefix [] =
+    if can_be_prefix then Some (record { kind = kind; version = None; segment = 0 }) else None
+list_after kind can_be_prefix (v ∷ []) =
+    if can_be_prefix then versioned kind 0 (numbered VERSION v) else None
+list_after kind can_be_prefix (v ∷ (k ∷ [])) =
+    segmented kind (numbered VERSION v) (numbered SEGMENT k)
+list_after kind can_be_prefix (v ∷ (k ∷ (c ∷ cs))) = None
+
+abbrev pub list_of_kind : ListKind → PlainInterest → Option ListAsked
+list_of_kind kind i =
+    if begins_with (list_name kind) i.name
+    then list_after kind i.can_be_prefix (drop (length (list_name kind)) i.name)
+    else None
+
+-- the list that an Interest asks for, if it does
+abbrev pub list_asked : PlainInterest → Option ListAsked
+list_asked i = option_or (list_of_kind RouteList i) (list_of_kind StrategyList i)
+
+-- ---- requests
+
+pub data Request : Type 0 where
+  -- it is dropped for its HopLimit or its scope
+  Refused : (reason : DropReason) → Request
+  ForList : (asked : ListAsked) → Request
+  -- an Interest under /localhost/nfd that asks for no list
+  ForTables : Request
+  -- a command to the repository
+  ForRepository : Request
+  ForData : Request
+
+-- the request of an Interest by its name
+abbrev pub named_request : Policy → PlainInterest → Option ListAsked → Request
+named_request p i (Some asked) = ForList asked
+named_request p i None =
+    if begins_with management i.name then ForTables else (
+    if is_some (verb_at p.repo i.name) then ForRepository else
+    ForData)
+
+-- the request that is read off a name
+abbrev pub request_named : NamedRequest → Request
+request_named (named.ForList asked) = ForList asked
+request_named named.ForTables = ForTables
+request_named named.ForRepository = ForRepository
+request_named named.ForData = ForData
+
+abbrev pub has_no_hops : Option ℕ → Bool
+has_no_hops None = false
+has_no_hops (Some limit) = limit == 0
+
+-- HopLimit 0 comes first, then names of this machine from another one
+abbrev pub request_of : Policy → ℕ → PlainInterest → Request
+request_of p face i =
+    if has_no_hops i.hop_limit then Refused HopLimit else (
+    if is_out_of_scope p face i.name then Refused Scope else
+    named_request p i (list_asked i))
+
+abbrev pub is_command : Request → Bool
+is_command (Refused reason) = false
+is_command (ForList asked) = false
+is_command ForTables = true
+is_command ForRepository = true
+is_command ForData = false
+
+-- whether rules decide a packet that came on an open face: every command, and every Data that is in
+-- scope
+abbrev pub is_decided : Policy → ℕ → PlainFrame → Bool
+is_decided p face (AnInterest whole i) = is_command (request_of p face i)
+is_decided p face (AData whole d) = not (is_out_of_scope p face d.name)
+is_decided p face (ANack reason whole i) = false
+is_decided p face Idle = false

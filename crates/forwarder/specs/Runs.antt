@@ -1,0 +1,216 @@
+-- What a run of events and answers says: readings of the past, which keep no timer and no cache; of
+-- tables only how many keys are alive.
+use Rattle.std.specs.Prelude.{◌≡◌, ◌⊎◌, ℕ, Bool, true, false, List, [], ◌∷◌, Option, None, Some, All, Result, Ok, Err, max, nat_le, ⊤}
+use Rattle.std.specs.FinMap as map
+use Rattle.ndn_names.specs.Name.{IsPrefix}
+use Rattle.ndn_packets.specs.FrameReading.{frame_at}
+use Rattle.ndn_packets.specs.Key.{PlainKey}
+use Rattle.ndn_packets.specs.Packet.{PlainFrame, AnInterest, AData, ANack, Idle}
+use Rattle.ndn_packets.specs.declared.fault.PacketFault.{PacketFault}
+use Rattle.pit_fib.specs.declared.pit.TheConstants.{MAX_PENDING}
+use Rattle.pit_fib.specs.Cause.{Cause, Expires, records_after}
+use Rattle.pit_fib.specs.Records.{Records, Pending, HoldsTheLiving, no_records, records_at}
+use Rattle.content_store.specs.Store.{CachedData, CanServe, full_name_of}
+use Rattle.mgmt_core.specs.declared.action.Action.TheVariants.{EraseCache}
+use Rattle.mgmt_core.specs.declared.types.TheConstants.{OK}
+use Rattle.mgmt_core.specs.Reading.{PlainCommand, command_at}
+use Rattle.forwarder.specs.Event.{PlainEvent, Packet, FaceUp, FaceDown, Tick}
+use Rattle.forwarder.specs.Event.{moment}
+use Rattle.forwarder.specs.Verdict.{Verdict, Passed, Allowed, DataAllowed, Denied, NoRule, Dropped, Answer, passed}
+use Rattle.forwarder.specs.Policy.{Policy, at_moment}
+use Rattle.forwarder.specs.Request.{Request, Refused, ForList, ForTables, ForRepository, ForData, request_of}
+use Rattle.forwarder.specs.Effects.{IsAfter}
+use Rattle.forwarder.specs.Causes.{causes_of, after_causes, before_earlier}
+use Rattle.forwarder.specs.Replies.{Seen, Replies}
+use Rattle.forwarder.specs.Node.{NodeState, IsAwaited, held_from}
+
+-- a run: nothing, or a run and then an event with its answer. An event that was refused memory is
+-- in none.
+pub data Run : Type 0 where
+  Start : Run
+  Then : (before : Run) (event : PlainEvent) (answer : Answer) → Run
+
+-- the greatest moment so far
+abbrev pub now_of : Run → ℕ
+now_of Start = 0
+now_of (Then before event answer) = max (now_of before) (moment event)
+
+-- The policy that the events of a run leave, from this first one on. No answer is read.
+abbrev pub IsPolicyOf : Policy → Run → Policy → Type 0
+IsPolicyOf first Start p = p ≡ first
+IsPolicyOf first (Then before event answer) p =
+    (was : Policy) × IsPolicyOf first before was × IsAfter was event p
+
+-- ---- pending Interests (NFD Developer's Guide, "Pending Interest Table")
+
+-- the records of a key: of each event what is due expires first, and then it has its causes
+abbrev pub records_of : Run → PlainKey → Records
+records_of Start key = no_records
+records_of (Then before event answer) key =
+    let now = max (now_of before) (moment event) in
+    after_causes (causes_of now event answer) key
+    (records_after (Expires now) key (records_of before key))
+
+-- all that ended or began records in a run, the last first: of each event what is due expires, and
+-- then its own causes follow
+abbrev pub past_causes : Run → List Cause
+past_causes Start = []
+past_causes (Then before event answer) =
+    let now = max (now_of before) (moment event) in
+    before_earlier (causes_of now event answer) (Expires now ∷ past_causes before)
+
+-- the keys that are alive after a run, with their records, once this moment has come
+pub record IsWaiting (past : Run) (now : ℕ) (waiting : Pending) : Type 0 where
+  pub living : HoldsTheLiving waiting
+  pub records : (key : PlainKey)
+      → records_at waiting key ≡ records_after (Expires now) key (records_of past key)
+
+-- ---- what the cache may hold (NFD Developer's Guide, "Content Store")
+
+-- the event brings this Data, which is allowed, and which some face waits for
+abbrev pub BringsPacket : ℕ → Pending → Result PlainFrame PacketFault → Verdict → CachedData
+    → Type 0
+BringsPacket now waiting (Err fault) verdict c = ⊥
+BringsPacket now waiting (Ok (AnInterest whole i)) verdict c = ⊥
+BringsPacket now waiting (Ok (AData whole d)) verdict c =
+    ((rule : ℕ) × (verdict ≡ DataAllowed rule)) × IsAwaited waiting whole d
+    × (c ≡ held_from now whole d)
+BringsPacket now waiting (Ok (ANack reason whole i)) verdict c = ⊥
+BringsPacket now waiting (Ok Idle) verdict c = ⊥
+
+abbrev pub Brings : ℕ → Pending → PlainEvent → Verdict → CachedData → Type 0
+Brings now waiting (Packet face t octets) verdict c =
+    BringsPacket now waiting (frame_at octets) verdict c
+Brings now waiting (FaceUp face scope t) verdict c = ⊥
+Brings now waiting (FaceDown face t) verdict c = ⊥
+Brings now waiting (Tick t) verdict c = ⊥
+
+-- an allowed erase without Count, of a name that the full name begins with
+abbrev pub ErasesByCommand : Result PlainCommand ℕ → CachedData → Type 0
+ErasesByCommand (Err status) c = ⊥
+ErasesByCommand (Ok command) c =
+    (command.action ≡ EraseCache) × (command.count ≡ None) × IsPrefix command.name (full_name_of c)
+
+abbrev pub ErasesByPacket : Result PlainFrame PacketFault → Verdict → CachedData → Type 0
+ErasesByPacket (Err fault) verdict c = ⊥
+ErasesByPacket (Ok (AnInterest whole i)) verdict c =
+    ((rule : ℕ) × (verdict ≡ Allowed rule OK)) × ErasesByCommand (command_at i.name) c
+ErasesByPacket (Ok (AData whole d)) verdict c = ⊥
+ErasesByPacket (Ok (ANack reason whole i)) verdict c = ⊥
+ErasesByPacket (Ok Idle) verdict c = ⊥
+
+abbrev pub ErasesData : PlainEvent → Verdict → CachedData → Type 0
+ErasesData (Packet face t octets) verdict c = ErasesByPacket (frame_at octets) verdict c
+ErasesData (FaceUp face scope t) verdict c = ⊥
+ErasesData (FaceDown face t) verdict c = ⊥
+ErasesData (Tick t) verdict c = ⊥
+
+-- The Data came, was allowed and was waited for, and no erase has taken it since. Whether the cache
+-- still holds it is not said.
+abbrev pub MayHold : Run → CachedData → Type 0
+MayHold Start c = ⊥
+MayHold (Then before event answer) c =
+    let now = max (now_of before) (moment event) in
+    ((waiting : Pending) × IsWaiting before now waiting × Brings now waiting event answer.verdict c)
+    ⊎ (MayHold before c × ¬ ErasesData event answer.verdict c)
+
+-- what the cache may give for an Interest of a key: nothing, or a Data that it may hold and that
+-- can serve it
+abbrev pub MayCache : Run → ℕ → PlainKey → Option (List ℕ) → Type 0
+MayCache past now key None = ⊤
+MayCache past now key (Some octets) =
+    (c : CachedData) × MayHold past c × CanServe key now c × (octets ≡ c.octets)
+
+-- ---- runs
+
+abbrev pub seen_after : Run → Policy → Pending → Seen
+seen_after past p waiting = record {
+  policy = p;
+  records = records_at waiting;
+  is_full = nat_le MAX_PENDING (map.len waiting);
+  MayGive = MayCache past p.now;
+}
+
+-- The answer is one that the past allows: by the policy, the records of the keys that are alive,
+-- and what the cache may hold.
+pub record MayReply (first : Policy) (past : Run) (event : PlainEvent)
+    (answer : Answer) : Type 0 where
+  pub was : Policy
+  pub is_policy : IsPolicyOf first past was
+  pub waiting : Pending
+  pub is_waiting : IsWaiting past (max (now_of past) (moment event)) waiting
+  pub replies : Replies (seen_after past (at_moment was (moment event)) waiting) event answer
+
+abbrev pub IsRun : Policy → Run → Type 0
+IsRun first Start = ⊤
+IsRun first (Then before event answer) = IsRun first before × MayReply first before event answer
+
+-- the node keeps what the past says
+pub record Stands (first : Policy) (past : Run) (node : NodeState) : Type 0 where
+  pub policy : IsPolicyOf first past node.policy
+  pub pending : (key : PlainKey) → records_at node.pending key ≡ records_of past key
+  pub cache : All (MayHold past) node.cache.cached
+
+-- ---- equal histories
+
+-- the events are the same, whatever was answered to them
+abbrev pub HaveOneHistory : Run → Run → Type 0
+HaveOneHistory Start Start = ⊤
+HaveOneHistory Start (Then before event answer) = ⊥
+HaveOneHistory (Then before event answer) Start = ⊥
+HaveOneHistory (Then before event answer) (Then other another reply) =
+    (event ≡ another) × HaveOneHistory before other
+
+-- an Interest that is a command, or asks for a segment of a list
+abbrev pub is_request : Request → Bool
+is_request (Refused reason) = false
+is_request (ForList asked) = true
+is_request ForTables = true
+is_request ForRepository = true
+is_request ForData = false
+
+abbrev pub IsRequestPacket : Policy → ℕ → Result PlainFrame PacketFault → Type 0
+IsRequestPacket p face (Err fault) = ⊥
+IsRequestPacket p face (Ok (AnInterest whole i)) = is_request (request_of p face i) ≡ true
+IsRequestPacket p face (Ok (AData whole d)) = ⊥
+IsRequestPacket p face (Ok (ANack reason whole i)) = ⊥
+IsRequestPacket p face (Ok Idle) = ⊥
+
+abbrev pub BringsRequest : Policy → PlainEvent → Type 0
+BringsRequest p (Packet face t octets) = IsRequestPacket p face (frame_at octets)
+BringsRequest p (FaceUp face scope t) = ⊥
+BringsRequest p (FaceDown face t) = ⊥
+BringsRequest p (Tick t) = ⊥
+
+-- a Data, allowed or not
+abbrev pub IsDataPacket : Result PlainFrame PacketFault → Type 0
+IsDataPacket (Err fault) = ⊥
+IsDataPacket (Ok (AnInterest whole i)) = ⊥
+IsDataPacket (Ok (AData whole d)) = ⊤
+IsDataPacket (Ok (ANack reason whole i)) = ⊥
+IsDataPacket (Ok Idle) = ⊥
+
+abbrev pub BringsData : PlainEvent → Type 0
+BringsData (Packet face t octets) = IsDataPacket (frame_at octets)
+BringsData (FaceUp face scope t) = ⊥
+BringsData (FaceDown face t) = ⊥
+BringsData (Tick t) = ⊥
+
+-- ---- denied events
+
+abbrev pub is_denied : Verdict → Bool
+is_denied Passed = false
+is_denied (Allowed rule status) = false
+is_denied (DataAllowed rule) = false
+is_denied (Denied kind rule reason) = true
+is_denied (NoRule kind) = true
+is_denied (Dropped reason) = false
+
+-- the second run has, in the place of some events that were denied, their moments alone
+abbrev pub HasTicksFor : Run → Run → Type 0
+HasTicksFor Start Start = ⊤
+HasTicksFor Start (Then other another reply) = ⊥
+HasTicksFor (Then before event answer) Start = ⊥
+HasTicksFor (Then before event answer) (Then other another reply) =
+    HasTicksFor before other × (((another ≡ event) × (reply ≡ answer))
+    ⊎ ((is_denied answer.verdict ≡ true) × (another ≡ Tick (moment event)) × (reply ≡ passed [])))

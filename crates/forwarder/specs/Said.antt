@@ -1,0 +1,62 @@
+-- What is decided of commands and Data: by the rules, and of a command also by what its signer
+-- said before (NDN Packet Format 0.3, "Signed Interest").
+use Rattle.std.specs.Prelude.{◌≡◌, ◌⊎◌, ◌==◌, ℕ, Option, None, Some, IfSome, ⊤, if◌then◌else◌}
+use Rattle.ndn_packets.specs.Packet.{PlainLocator, Missing, KeyName, Digest, Other, PlainSignatureInfo, PlainInterest, PlainFrame, AnInterest, AData, ANack, Idle}
+use Rattle.ndn_packets.specs.declared.types.TheConstants.{DIGEST_SHA256}
+use Rattle.info_rules.specs.declared.decision.Reason.TheVariants.{Replay}
+use Rattle.info_rules.specs.declared.decision.Decision.{Decision}
+use Rattle.info_rules.specs.declared.decision.Decision.TheVariants.{Allowed, Denied, NoRule}
+use Rattle.info_rules.specs.Decides.{Decides}
+use Rattle.replay_guard.specs.Freshness.{Signer, Recorded}
+use Rattle.replay_guard.specs.Guard.{IsFresh, signer_of}
+use Rattle.forwarder.specs.declared.freshness.Signed.{Signed}
+use Rattle.forwarder.specs.Policy.{Policy}
+
+-- the key that a signature names
+abbrev pub key_named : PlainLocator → Signer
+key_named Missing = None
+key_named (KeyName name) = Some name
+key_named Digest = None
+key_named Other = None
+
+-- who signs: all DigestSha256 commands are of one signer
+abbrev pub signer_in : PlainSignatureInfo → Signer
+signer_in info = if info.kind == DIGEST_SHA256 then None else key_named info.locator
+
+-- what is recorded of a command: each that is allowed says who signed it and when
+abbrev pub recorded_with : PlainSignatureInfo → Option ℕ → Option Recorded
+recorded_with info None = None
+recorded_with info (Some time) =
+    Some (record { signer = signer_in info; time = time; number = info.seq })
+
+abbrev pub recorded_of : PlainInterest → Option Recorded
+recorded_of i = elim i.signature [
+  | None ↦ None
+  | Some signature ↦ recorded_with signature.info signature.info.time
+]
+
+-- the same, as it is read off an Interest
+abbrev pub recorded_by : Signed → Recorded
+recorded_by s = record { signer = signer_of s.signer; time = s.time; number = s.seq }
+
+-- a command is near to now, and newer than all that was recorded of its signer
+abbrev pub IsFreshCommand : Policy → PlainInterest → Type 0
+IsFreshCommand p i =
+    IfSome (recorded_of i) (λ r. IsFresh p.guard r.signer r.time r.number p.now)
+
+-- a command has to be fresh; of Data nothing more is asked
+abbrev pub IsFreshPacket : Policy → PlainFrame → Type 0
+IsFreshPacket p (AnInterest whole i) = IsFreshCommand p i
+IsFreshPacket p (AData whole d) = ⊤
+IsFreshPacket p (ANack reason whole i) = ⊤
+IsFreshPacket p Idle = ⊤
+
+-- The first rule that applies decides. A command that it allows and that is not fresh is denied by
+-- that rule, as a replay.
+abbrev pub IsSaid : Policy → PlainFrame → Decision → Type 0
+IsSaid p packet (Allowed rule) =
+    Decides p.rules p.keys packet (Allowed rule) × IsFreshPacket p packet
+IsSaid p packet (Denied rule reason) =
+    Decides p.rules p.keys packet (Denied rule reason)
+    ⊎ ((reason ≡ Replay) × Decides p.rules p.keys packet (Allowed rule) × ¬ IsFreshPacket p packet)
+IsSaid p packet NoRule = Decides p.rules p.keys packet NoRule

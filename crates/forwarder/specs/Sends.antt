@@ -1,0 +1,89 @@
+-- Why Data are sent: each answers an Interest that is pending on its face, or the Interest of the
+-- event itself.
+use Rattle.std.specs.Prelude.{◌≡◌, ◌≢◌, ◌⊎◌, ℕ, List, [], ◌∷◌, Bool, true, false, Some, All, Ok, ⊤, ◌==◌}
+use Rattle.sha2.specs.Sha256.{sha256}
+use Rattle.ndn_packets.specs.FrameReading.{frame_at}
+use Rattle.ndn_packets.specs.Key.{key_of}
+use Rattle.ndn_packets.specs.Packet.{PlainInterest, PlainData, AnInterest, AData}
+use Rattle.ndn_packets.specs.Writing.{AreOctets, reply_text}
+use Rattle.ndn_packets.specs.declared.types.TheConstants.{DATA}
+use Rattle.info_rules.specs.declared.rules.RuleNo.{RuleNo}
+use Rattle.info_rules.specs.declared.decision.Decision.{Decision}
+use Rattle.info_rules.specs.declared.decision.Decision.TheVariants.{Allowed}
+use Rattle.repo_core.specs.Objects.{served}
+use Rattle.forwarder.specs.Event.{PlainEvent, Packet, FaceUp, FaceDown, Tick, Send}
+use Rattle.forwarder.specs.Said.{IsSaid}
+use Rattle.forwarder.specs.Commands.{reply_content}
+use Rattle.forwarder.specs.Datasets.{list_answer}
+use Rattle.forwarder.specs.Policy.{Policy}
+use Rattle.forwarder.specs.Request.{ListAsked, is_command, list_asked, request_of}
+use Rattle.forwarder.specs.Replies.{Seen, Waits}
+use Rattle.forwarder.specs.Verdict.{Answer, passed}
+
+-- The event brings a Data that is allowed. Its received octets go to another face, which waits for
+-- it: under some key that it answers, an Interest is pending there.
+pub record IsForwardedData (seen : Seen) (event : PlainEvent) (sent : Send) : Type 0 where
+  pub face : ℕ
+  pub now : ℕ
+  pub octets : List ℕ
+  pub whole : List ℕ
+  pub packet : PlainData
+  pub rule : RuleNo
+  pub brings : event ≡ Packet face now octets
+  pub read : frame_at octets ≡ Ok (AData whole packet)
+  pub allowed : IsSaid seen.policy (AData whole packet) (Allowed rule)
+  pub other : sent.0 ≢ face
+  pub waits : Waits seen packet.name (sha256 whole) sent.0
+  pub received : sent.1 ≡ whole
+
+-- the reply to a command, by what is said of it
+abbrev pub IsReplyToCommand : Policy → ℕ → List ℕ → PlainInterest → List ℕ → Type 0
+IsReplyToCommand p face whole i octets =
+    (is_command (request_of p face i) ≡ true)
+    × ((said : Decision) × IsSaid p (AnInterest whole i) said
+    × (octets ≡ reply_text i.name (reply_content p face i said)))
+
+-- the segment that is asked for, of the list as it is now
+abbrev pub IsSegmentAskedFor : Policy → ℕ → PlainInterest → List ℕ → Type 0
+IsSegmentAskedFor p face i octets =
+    (asked : ListAsked) × (list_asked i ≡ Some asked)
+    × (list_answer p face asked ≡ passed ((face, octets) ∷ []))
+
+-- where a Data comes from that answers an Interest at once: the cache gives it, the repository
+-- stores it, or the node makes it
+abbrev pub IsAtHand : Seen → ℕ → List ℕ → PlainInterest → List ℕ → Type 0
+IsAtHand seen face whole i octets =
+    seen.MayGive (key_of i) (Some octets)
+    ⊎ ((served i.name i.can_be_prefix seen.policy.held.objects ≡ Some octets)
+    ⊎ (IsReplyToCommand seen.policy face whole i octets
+    ⊎ IsSegmentAskedFor seen.policy face i octets))
+
+-- the event brings an Interest, and such a Data goes back to its face
+pub record IsReply (seen : Seen) (event : PlainEvent) (sent : Send) : Type 0 where
+  pub now : ℕ
+  pub octets : List ℕ
+  pub whole : List ℕ
+  pub interest : PlainInterest
+  pub brings : event ≡ Packet sent.0 now octets
+  pub read : frame_at octets ≡ Ok (AnInterest whole interest)
+  pub at_hand : IsAtHand seen sent.0 whole interest sent.1
+
+-- whether octets are those of a Data, by their first one, which is its type
+abbrev pub is_data : List ℕ → Bool
+is_data [] = false
+is_data (octet ∷ octets) = octet == DATA
+
+-- each Data that is sent is one of these two; what else is sent is no Data
+abbrev pub IsExplained : Seen → PlainEvent → Send → Type 0
+IsExplained seen event sent =
+    IsForwardedData seen event sent ⊎ (IsReply seen event sent ⊎ (is_data sent.1 ≡ false))
+
+abbrev pub EachIsExplained : Seen → PlainEvent → Answer → Type 0
+EachIsExplained seen event answer = All (IsExplained seen event) answer.sends
+
+-- the octets of an event are numbers below 256
+abbrev pub BringsOctets : PlainEvent → Type 0
+BringsOctets (Packet face now octets) = AreOctets octets
+BringsOctets (FaceUp face scope now) = ⊤
+BringsOctets (FaceDown face now) = ⊤
+BringsOctets (Tick now) = ⊤

@@ -1,0 +1,47 @@
+-- What a node keeps, as its tables show it, and what is true of every node.
+use Rattle.std.specs.Prelude.{◌≡◌, ℕ, ◌≤◌, length, max, true}
+use Rattle.pit_fib.specs.Cause.{Expires, Follows}
+use Rattle.pit_fib.specs.Faces.{IsRising}
+use Rattle.pit_fib.specs.Pit.{HasRecord}
+use Rattle.pit_fib.specs.Records.{HoldsTheLiving}
+use Rattle.mgmt_core.specs.Tables.{AllAreUp}
+use Rattle.pit_fib.specs.declared.faces.TheConstants.{MAX_FACES}
+use Rattle.forwarder.specs.declared.state.State.{State}
+use Rattle.forwarder.specs.Faces.{is_open, numbers}
+use Rattle.forwarder.specs.Policy.{Policy, at_moment, open_faces}
+use Rattle.forwarder.specs.Node.{NodeState}
+
+abbrev pub policy_of : State → Policy
+policy_of s = record {
+  now = s.now;
+  table_number = s.table_number;
+  rules = s.rules;
+  keys = s.keys;
+  repo = s.repo.start;
+  faces = s.faces;
+  routes = s.tables.fib.table;
+  choices = s.tables.strategies.table;
+  guard = s.guard.latest;
+  held = s.repo.held;
+}
+
+abbrev pub state_of : State → NodeState
+state_of s = record {
+  policy = policy_of s;
+  pending = s.pit.pending;
+  cache = s.tables.store;
+}
+
+-- Whoever has a record or a route is an open face, and of those there are at most 64.
+pub record IsSound (s : NodeState) : Type 0 where
+  pub few : length s.policy.faces ≤ MAX_FACES
+  pub rising : IsRising (numbers s.policy.faces)
+  pub records : (face : ℕ) → HasRecord s.pending face → is_open face s.policy.faces ≡ true
+  pub routes : AllAreUp s.policy.routes (open_faces s.policy)
+
+-- a moment came, and what was due by then expired
+pub record IsLater (old : NodeState) (moment : ℕ) (new : NodeState) : Type 0 where
+  pub policy : new.policy ≡ at_moment old.policy moment
+  pub expiry : Follows (Expires (max old.policy.now moment)) old.pending new.pending
+  pub living : HoldsTheLiving new.pending
+  pub cache : new.cache ≡ old.cache

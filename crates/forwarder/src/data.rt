@@ -1,0 +1,109 @@
+ghost use Rattle.std.specs.Prelude.{◌≡◌, ◌≤◌, ◌++◌, true, false, List, length, IsOk};
+ghost use Rattle.sha2.specs.Sha256.{sha256};
+ghost use Rattle.ndn_names.specs.View.{components};
+ghost use Rattle.ndn_packets.specs.View.{plain_data};
+ghost use Rattle.info_rules.specs.declared.decision.Decision.TheVariants as said;
+ghost use Rattle.pit_fib.specs.Cause.{Satisfied, Follows};
+ghost use Rattle.pit_fib.specs.Records.{HoldsTheLiving};
+ghost use Rattle.repo_core.specs.Repo.{IsOfferPrepared, after_offer};
+ghost use Rattle.forwarder.specs.Event.{Send};
+ghost use Rattle.forwarder.specs.Handling.{AwaitsPacket, HandlesPacket, data_packet, seen_by};
+ghost use Rattle.forwarder.specs.Node.{CacheAfterData};
+ghost use Rattle.forwarder.specs.Policy.{Policy};
+ghost use Rattle.forwarder.specs.Replies.{IsSentToAskers};
+ghost use Rattle.forwarder.specs.Request.{is_out_of_scope};
+ghost use Rattle.forwarder.specs.Said.{IsSaid};
+ghost use Rattle.forwarder.specs.State.{policy_of, state_of};
+
+use crate::arrived::Arrived;
+use crate::freshness::said_of_data;
+use crate::open_faces::without_face;
+use crate::sends::Sends;
+use crate::state::State;
+use crate::verdict::{DropReason, Verdict};
+use info_rules::{Decision, Kind, RuleNo};
+use ndn_packets::Data;
+use ndn_tlv::Memory;
+use pit_fib::MAX_FACES;
+
+impl State {
+    /// Handles a Data (NFD Developer's Guide, "Incoming Data Pipeline"). Where the rules allow it,
+    /// its received octets go to each other face that waits for it, it is cached if there was such
+    /// a face, and stored where the repository wants it.
+    pub fn receive_data(
+        &mut self,
+        arrived: &Arrived<'_, Data<'_>>,
+        out: &mut Sends,
+    ) -> Result<Verdict, Memory>
+        requires ready { AwaitsPacket self.old arrived.now.face }
+        ensures { HandlesPacket self.old self.new out.old.sends out.new.sends
+            arrived.now.face arrived.now.moment (data_packet arrived.now.packet.now) result }
+    {
+        if self.is_out_of_scope(arrived.face, arrived.packet.name) {
+            return Ok(self.drop_packet(arrived.moment, DropReason::Scope));
+        }
+        match said_of_data(self.alloc, &self.rules, &self.keys, arrived.packet)? {
+            Decision::Allowed(rule) => self.receive_allowed(arrived, rule, out),
+            Decision::Denied(rule, reason) => {
+                self.pass_time(arrived.moment);
+                Ok(Verdict::Denied(Kind::Data, rule, reason))
+            }
+            Decision::NoRule => {
+                self.pass_time(arrived.moment);
+                Ok(Verdict::NoRule(Kind::Data))
+            }
+        }
+    }
+
+    /// Reserves what a Data that is allowed may need, lets time pass, and delivers it.
+    fn receive_allowed(
+        &mut self,
+        arrived: &Arrived<'_, Data<'_>>,
+        rule: RuleNo,
+        out: &mut Sends,
+    ) -> Result<Verdict, Memory>
+        requires scope { is_out_of_scope (policy_of self.old) arrived.now.face
+            (components arrived.now.packet.now.name) ≡ false }
+        requires allowed { (p : Policy) → p.rules ≡ self.old.rules → p.keys ≡ self.old.keys
+            → IsSaid p (data_packet arrived.now.packet.now) (said.Allowed rule) }
+        ensures { HandlesPacket self.old self.new out.old.sends out.new.sends
+            arrived.now.face arrived.now.moment (data_packet arrived.now.packet.now) result }
+    {
+        self.repo.prepare_offer(arrived.packet)?;
+        out.reserve(MAX_FACES, arrived.packet.whole.len())?;
+        self.pass_time(arrived.moment);
+        self.deliver(arrived.face, arrived.packet, out)?;
+        Ok(Verdict::DataAllowed(rule))
+    }
+
+    /// Sends an allowed Data to whoever waits for it, and keeps it where it is wanted. It takes no
+    /// memory: room for 64 sends, and for the octets of one, and the offer are prepared.
+    fn deliver(&mut self, face: u64, packet: &Data<'_>, out: &mut Sends) -> Result<(), Memory>
+        requires places { MAX_FACES ≤ out.old.places }
+        requires space { length packet.now.whole.now ≤ out.old.space }
+        requires prepared { IsOfferPrepared self.old.repo (components packet.now.name)
+            (sha256 packet.now.whole.now) packet.now.whole.now }
+        ensures ok { IsOk result }
+        ensures sends { (sends : List Send) × (out.new.sends ≡ out.old.sends ++ sends)
+            × IsSentToAskers (seen_by (state_of self.old)) face packet.now.whole.now
+            (plain_data packet.now) sends }
+        ensures policy { policy_of self.new ≡ record (policy_of self.old) {
+          held = after_offer (components packet.now.name) (sha256 packet.now.whole.now)
+              packet.now.whole.now self.old.repo.held;
+        } }
+        ensures pending { Follows (Satisfied (components packet.now.name)
+            (sha256 packet.now.whole.now)) self.old.pit.pending self.new.pit.pending }
+        ensures living { HoldsTheLiving self.new.pit.pending }
+        ensures cache { CacheAfterData self.old.now self.old.pit.pending packet.now.whole.now
+            (plain_data packet.now) self.old.tables.store self.new.tables.store }
+    {
+        let askers = self.pit.satisfy(packet);
+        let is_awaited = askers.len() > 0;
+        out.push_to_each(&without_face(&askers, face), packet.whole)?;
+        if is_awaited {
+            self.tables.store.put(packet, self.now);
+        }
+        self.repo.offer(packet)?;
+        Ok(())
+    }
+}

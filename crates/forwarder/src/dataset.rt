@@ -1,0 +1,157 @@
+ghost use Rattle.std.specs.Prelude.{◌≡◌, ℕ, ◌≤◌, ◌++◌, ◌∷◌, [], IfOk, IfSome, OnOk, length};
+ghost use Rattle.std.specs.Option.{option_map};
+ghost use Rattle.ndn_tlv.specs.Number.{shortest_nni};
+ghost use Rattle.ndn_names.specs.Name.{octets_of};
+ghost use Rattle.ndn_names.specs.View.{components};
+ghost use Rattle.ndn_packets.specs.View.{plain_interest};
+ghost use Rattle.forwarder.specs.Datasets.{answered_with, dataset_text, is_present, list_answer, segment_data, segment_name};
+ghost use Rattle.forwarder.specs.Handling.{HandlesPacket, interest_packet};
+ghost use Rattle.forwarder.specs.Policy.{Policy};
+ghost use Rattle.forwarder.specs.Request.{ForList, generic, list_name, request_of};
+ghost use Rattle.forwarder.specs.State.{policy_of};
+
+use crate::arrived::Arrived;
+use crate::request::{ListAsked, ListKind};
+use crate::sends::Sends;
+use crate::state::State;
+use crate::verdict::{DropReason, Verdict};
+use mgmt_core::{Tables, fib_dataset, segment_of, strategy_dataset};
+use ndn_names::component_type::{GENERIC, SEGMENT, VERSION};
+use ndn_names::{Name, NameBuf};
+use ndn_packets::{DataWriter, Interest, Sign};
+use ndn_tlv::{Memory, put_nni};
+use std::alloc::Global;
+
+/// The FreshnessPeriod of a segment, in milliseconds.
+const FRESHNESS: u64 = 1000;
+
+/// The Data of a segment that is asked for (NFD Management, "Status Dataset"), where the lists have
+/// this version. `None` where another version is asked for, or the list has no such segment.
+pub(crate) fn list_segment(
+    alloc: Global,
+    tables: &Tables,
+    table_number: u64,
+    asked: ListAsked,
+) -> Result<Option<Vec<u8>>, Memory>
+    ensures answer { IfOk result (λ octets. (p : Policy) (face : ℕ)
+        → p.routes ≡ tables.now.fib.table → p.choices ≡ tables.now.strategies.table
+        → p.table_number ≡ table_number
+        → list_answer p face asked ≡ answered_with face (option_map (λ o. o.items) octets)) }
+    // It is no longer than a packet may be.
+    ensures short { IfOk result (λ octets. IfSome octets (λ o. length o.items ≤ 8800)) }
+{
+    if !is_present(asked.version, table_number) {
+        return Ok(None);
+    }
+    let text = list_text(alloc, tables, asked.kind)?;
+    let Some((content, last)) = segment_of(&text, asked.segment) else {
+        return Ok(None);
+    };
+    let name = segment_name(alloc, asked.kind, table_number, asked.segment)?;
+    let octets = segment_data(alloc, name.view(), content, last)?;
+    Ok(Some(octets))
+}
+
+/// Whether the version that is asked for, if any, is the present one.
+fn is_present(asked: Option<u64>, table_number: u64) -> bool
+    ensures { (p : Policy) → p.table_number ≡ table_number → result ≡ is_present p asked }
+{
+    match asked {
+        Some(version) => version == table_number,
+        None => true,
+    }
+}
+
+/// The octets of a list.
+fn list_text(alloc: Global, tables: &Tables, kind: ListKind) -> Result<Vec<u8>, Memory>
+    ensures { IfOk result (λ text. (p : Policy) → p.routes ≡ tables.now.fib.table
+        → p.choices ≡ tables.now.strategies.table → text.items ≡ dataset_text p kind) }
+{
+    match kind {
+        ListKind::RouteList => fib_dataset(alloc, &tables.fib),
+        ListKind::StrategyList => strategy_dataset(alloc, &tables.strategies),
+    }
+}
+
+/// The name of a segment: the list's, its version, and the segment's number.
+fn segment_name(
+    alloc: Global,
+    kind: ListKind,
+    version: u64,
+    segment: u64,
+) -> Result<NameBuf, Memory>
+    ensures { IfOk result (λ name. name ≡ segment_name kind version segment) }
+{
+    let mut name = NameBuf::new(alloc);
+    append_word(&mut name, b"localhost")?;
+    append_word(&mut name, b"nfd")?;
+    append_word(&mut name, kind.module())?;
+    append_word(&mut name, b"list")?;
+    append_number(alloc, &mut name, VERSION, version)?;
+    append_number(alloc, &mut name, SEGMENT, segment)?;
+    Ok(name)
+}
+
+/// Appends a GenericNameComponent.
+fn append_word(name: &mut NameBuf, word: &[u8]) -> Result<(), Memory>
+    ensures { OnOk result (name.new ≡ name.old ++ generic word.now ∷ []) }
+{
+    name.append(GENERIC, word).map_err(|_| Memory)
+}
+
+/// Appends a component of this type that is a number.
+fn append_number(alloc: Global, name: &mut NameBuf, kind: u16, number: u64) -> Result<(), Memory>
+    ensures { OnOk result (name.new ≡ name.old ++ (kind, shortest_nni number) ∷ []) }
+{
+    let mut value = Vec::new(alloc);
+    put_nni(&mut value, number)?;
+    name.append(kind, &value).map_err(|_| Memory)
+}
+
+/// The Data of a segment: it names the last one, and is signed with DigestSha256. It is never too
+/// long to be written, so only memory is refused.
+fn segment_data<'a>(
+    alloc: Global,
+    name: Name<'a>,
+    content: &'a [u8],
+    last: u64,
+) -> Result<Vec<u8>, Memory>
+    requires name { length (octets_of (components name)) ≤ 100 }
+    requires content { length content.now ≤ 4096 }
+    ensures ok { IfOk result
+        (λ octets. octets.items ≡ segment_data (components name.entry) content.now last) }
+    ensures short { length (segment_data (components name.entry) content.now last) ≤ 8800 }
+{
+    let data = DataWriter {
+        name,
+        freshness: Some(FRESHNESS),
+        last: Some(last),
+        content: Some(content),
+        sign: Sign::Digest,
+    };
+    let mut octets = Vec::new(alloc);
+    data.write(&mut octets).map_err(|_| Memory)?;
+    Ok(octets)
+}
+
+impl State {
+    /// Sends a segment of a list to the face that asks for it.
+    pub fn send_list(
+        &mut self,
+        arrived: &Arrived<'_, Interest<'_>>,
+        asked: ListAsked,
+        out: &mut Sends,
+    ) -> Result<Verdict, Memory>
+        requires for_list { request_of (policy_of self.old) arrived.now.face
+            (plain_interest arrived.now.packet.now) ≡ ForList asked }
+        ensures { HandlesPacket self.old self.new out.old.sends out.new.sends
+            arrived.now.face arrived.now.moment (interest_packet arrived.now.packet.now) result }
+    {
+        let Some(octets) = list_segment(self.alloc, &self.tables, self.table_number, asked)? else {
+            return Ok(self.drop_packet(arrived.moment, DropReason::NoSegment));
+        };
+        out.push(arrived.face, &octets)?;
+        self.pass_time(arrived.moment);
+        Ok(Verdict::Passed)
+    }
+}

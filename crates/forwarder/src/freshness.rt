@@ -1,0 +1,127 @@
+ghost use Rattle.std.specs.Prelude.{◌≡◌, ◌↔◌, Some, IsTrue, IfOk, IfSome, IsOk, OnOk};
+ghost use Rattle.std.specs.Option.{option_map};
+ghost use Rattle.ndn_packets.specs.Packet.{AData, AnInterest, plain_signature};
+ghost use Rattle.ndn_packets.specs.View.{plain_data, plain_interest};
+ghost use Rattle.replay_guard.specs.Guard.{signer_of};
+ghost use Rattle.forwarder.specs.Commands.{with_record};
+ghost use Rattle.forwarder.specs.Policy.{Policy};
+ghost use Rattle.forwarder.specs.Said.{IsFreshCommand, IsSaid, recorded_by, recorded_of, signer_in};
+
+use hmac_keys::KeyBook;
+use info_rules::{Decision, Packet, Reason, Rules};
+use ndn_packets::{DIGEST_SHA256, Data, Interest, Locator, Signature};
+use ndn_tlv::Memory;
+use replay_guard::{Guard, Signer};
+use std::alloc::Global;
+
+/// Who signed a command, and when.
+#[derive(Clone, Copy, Debug)]
+pub(crate) struct Signed<'a> {
+    pub signer: Signer<'a>,
+    /// The SignatureTime, in milliseconds since 1970.
+    pub time: u64,
+    /// The SignatureSeqNum.
+    pub seq: Option<u64>,
+}
+
+/// Who signs: all that is signed with DigestSha256 is of one signer.
+fn signer_in<'a>(signature: Signature<'a>) -> Signer<'a>
+    ensures { signer_of result ≡ signer_in (plain_signature signature.entry).info }
+{
+    if signature.kind == DIGEST_SHA256 {
+        return Signer::Digest;
+    }
+    match signature.locator {
+        Locator::Name(name) => Signer::Key(name),
+        _ => Signer::Digest,
+    }
+}
+
+/// Who signed an Interest, and when, where it says both.
+fn signed_by<'a>(interest: &Interest<'a>) -> Option<Signed<'a>>
+    ensures { option_map recorded_by result ≡ recorded_of (plain_interest interest.now) }
+{
+    let signature = interest.signature?;
+    let time = signature.time?;
+    Some(Signed {
+        signer: signer_in(signature),
+        time,
+        seq: signature.seq,
+    })
+}
+
+/// Whether a command is near to this moment, in milliseconds since 1970, and newer than all that
+/// was recorded of its signer.
+fn is_fresh(guard: &Guard, interest: &Interest<'_>, now: u64) -> bool
+    ensures { (p : Policy) → p.guard ≡ guard.now.latest → p.now ≡ now
+        → IsTrue result ↔ IsFreshCommand p (plain_interest interest.now) }
+{
+    match signed_by(interest) {
+        Some(signed) => guard.check(signed.signer, signed.time, signed.seq, now),
+        None => true,
+    }
+}
+
+/// What is said of a command at this moment, in milliseconds since 1970: what the rules decide, but
+/// that a command is denied as a replay where they allow it and it is not fresh.
+pub(crate) fn said(
+    alloc: Global,
+    rules: &Rules,
+    keys: &KeyBook,
+    guard: &Guard,
+    interest: &Interest<'_>,
+    now: u64,
+) -> Result<Decision, Memory>
+    ensures { IfOk result (λ said. (p : Policy) → p.rules ≡ rules.now → p.keys ≡ keys.now
+        → p.guard ≡ guard.now.latest → p.now ≡ now
+        → IsSaid p (AnInterest interest.now.whole.now (plain_interest interest.now)) said) }
+{
+    let decision = rules.decide(alloc, keys, Packet::Interest(interest))?;
+    let Decision::Allowed(rule) = decision else {
+        return Ok(decision);
+    };
+    if is_fresh(guard, interest, now) {
+        return Ok(decision);
+    }
+    Ok(Decision::Denied(rule, Reason::Replay))
+}
+
+/// What is said of a Data: what the rules decide.
+pub(crate) fn said_of_data(
+    alloc: Global,
+    rules: &Rules,
+    keys: &KeyBook,
+    packet: &Data<'_>,
+) -> Result<Decision, Memory>
+    ensures { IfOk result (λ said. (p : Policy) → p.rules ≡ rules.now → p.keys ≡ keys.now
+        → IsSaid p (AData packet.now.whole.now (plain_data packet.now)) said) }
+{
+    rules.decide(alloc, keys, Packet::Data(packet))
+}
+
+/// Prepares one `record` of this command, until the guard's next `record` or `prepare`.
+pub(crate) fn prepare_record(guard: &mut Guard, interest: &Interest<'_>) -> Result<(), Memory>
+    ensures latest { guard.new.latest ≡ guard.old.latest }
+    ensures ok { OnOk result (IfSome (recorded_of (plain_interest interest.now))
+        (λ r. guard.new.prepared ≡ Some r.signer)) }
+{
+    match signed_by(interest) {
+        Some(signed) => guard.prepare(signed.signer),
+        None => Ok(()),
+    }
+}
+
+/// Records who signed a command, and when. It takes no memory.
+pub(crate) fn record(guard: &mut Guard, interest: &Interest<'_>) -> Result<(), Memory>
+    requires { IfSome (recorded_of (plain_interest interest.now))
+        (λ r. guard.old.prepared ≡ Some r.signer) }
+    ensures ok { IsOk result }
+    ensures recorded { (p : Policy) → p.guard ≡ guard.old.latest
+        → with_record p (recorded_of (plain_interest interest.now))
+        ≡ record p { guard = guard.new.latest } }
+{
+    match signed_by(interest) {
+        Some(signed) => guard.record(signed.signer, signed.time, signed.seq),
+        None => Ok(()),
+    }
+}

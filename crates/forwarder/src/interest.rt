@@ -1,0 +1,175 @@
+ghost use Rattle.std.specs.Prelude.{◌≡◌, ◌≢◌, ◌+◌, ◌≤◌, ℕ, true, false, length, Some, IfOk, IsOk};
+ghost use Rattle.ndn_packets.specs.Key.{key_of};
+ghost use Rattle.ndn_packets.specs.View.{plain_interest};
+ghost use Rattle.pit_fib.specs.Cause.{Arrives};
+ghost use Rattle.pit_fib.specs.Faces.{has_face};
+ghost use Rattle.pit_fib.specs.Records.{HoldsTheLiving, is_alive, records_at};
+ghost use Rattle.strategies.specs.declared.strategy.Choice.TheVariants as choices;
+ghost use Rattle.forwarder.specs.Causes.{sent_causes};
+ghost use Rattle.forwarder.specs.Faces.{is_open};
+ghost use Rattle.forwarder.specs.Forwarding.{ForwardsBy, choice_from};
+ghost use Rattle.forwarder.specs.Handling.{AwaitsPacket, HandlesPacket, interest_packet};
+ghost use Rattle.forwarder.specs.Node.{FollowAll};
+ghost use Rattle.forwarder.specs.Request.{ForData, request_of};
+ghost use Rattle.forwarder.specs.State.{IsSound, policy_of, state_of};
+
+use crate::arrived::Arrived;
+use crate::nack::NACK_EXTRA;
+use crate::request::{NamedRequest, has_no_hops, named_request};
+use crate::sends::Sends;
+use crate::state::State;
+use crate::verdict::{DropReason, Verdict};
+use ndn_packets::{DUPLICATE, Interest, MAX_PACKET, NO_ROUTE};
+use ndn_tlv::Memory;
+use pit_fib::{Faces, MAX_FACES, PitFault};
+use strategies::Choice;
+
+impl State {
+    /// Handles an Interest (NFD Developer's Guide, "Incoming Interest Pipeline").
+    pub fn receive_interest(
+        &mut self,
+        arrived: &Arrived<'_, Interest<'_>>,
+        out: &mut Sends,
+    ) -> Result<Verdict, Memory>
+        requires ready { AwaitsPacket self.old arrived.now.face }
+        ensures { HandlesPacket self.old self.new out.old.sends out.new.sends
+            arrived.now.face arrived.now.moment (interest_packet arrived.now.packet.now) result }
+    {
+        if has_no_hops(arrived.packet) {
+            return Ok(self.drop_packet(arrived.moment, DropReason::HopLimit));
+        }
+        if self.is_out_of_scope(arrived.face, arrived.packet.name) {
+            return Ok(self.drop_packet(arrived.moment, DropReason::Scope));
+        }
+        match named_request(&self.repo, arrived.packet) {
+            NamedRequest::ForList(asked) => self.send_list(arrived, asked, out),
+            NamedRequest::ForData => self.answer(arrived, out),
+            command => self.receive_command(arrived, command, out),
+        }
+    }
+
+    /// Answers an Interest for Data: by a Nack where it loops, from the cache or the repository, or
+    /// by sending it on.
+    fn answer(
+        &mut self,
+        arrived: &Arrived<'_, Interest<'_>>,
+        out: &mut Sends,
+    ) -> Result<Verdict, Memory>
+        requires ready { AwaitsPacket self.old arrived.now.face }
+        requires for_data { request_of (policy_of self.old) arrived.now.face
+            (plain_interest arrived.now.packet.now) ≡ ForData }
+        requires hops { arrived.now.packet.now.hop_limit ≢ Some 0 }
+        ensures { HandlesPacket self.old self.new out.old.sends out.new.sends
+            arrived.now.face arrived.now.moment (interest_packet arrived.now.packet.now) result }
+    {
+        let face = arrived.face;
+        let interest = arrived.packet;
+        let key = interest.key();
+        self.pit.prepare(key, interest.whole.len())?;
+        out.reserve(MAX_FACES, MAX_PACKET + NACK_EXTRA)?;
+        self.pass_time(arrived.moment);
+        if self.pit.loops(key, face, interest.nonce) {
+            out.push_nack(face, DUPLICATE, interest.whole)?;
+            return Ok(Verdict::Dropped(DropReason::Loop));
+        }
+        if let Some(octets) = self.tables.store.find(key, self.now) {
+            out.push(face, octets)?;
+            return Ok(Verdict::Passed);
+        }
+        if let Some(octets) = self.repo.serve(interest) {
+            out.push(face, octets)?;
+            return Ok(Verdict::Passed);
+        }
+        self.forward(face, interest, out)
+    }
+
+    /// Sends an Interest that nothing held answers to where its strategy chooses, or a Nack back.
+    fn forward(
+        &mut self,
+        face: u64,
+        interest: &Interest<'_>,
+        out: &mut Sends,
+    ) -> Result<Verdict, Memory>
+        requires sound { IsSound (state_of self.old) }
+        requires from { is_open face self.old.faces ≡ true }
+        requires hops { interest.now.hop_limit ≢ Some 0 }
+        requires prepared { self.old.pit.prepared
+            ≡ Some (key_of (plain_interest interest.now), length interest.now.whole.now) }
+        requires places { MAX_FACES ≤ out.old.places }
+        requires space { length interest.now.whole.now + NACK_EXTRA ≤ out.old.space }
+        ensures ok { IsOk result }
+        ensures forwards { IfOk result (ForwardsBy self.old self.new out.old.sends out.new.sends
+            face interest.now.whole.now (plain_interest interest.now)
+            (choice_from (state_of self.old) face (plain_interest interest.now))) }
+    {
+        let key = interest.key();
+        let used = self.pit.used(key);
+        match self.choose(interest.name, &used, self.ask_from(face, interest)) {
+            Choice::NoRoute => {
+                self.pit.withdraw(key, face);
+                out.push_nack(face, NO_ROUTE, interest.whole)?;
+                Ok(Verdict::Passed)
+            }
+            Choice::Send(faces) => self.send_on(face, interest, &faces, out),
+        }
+    }
+
+    /// Keeps that the face waits, and sends its Interest to these faces.
+    fn send_on(
+        &mut self,
+        face: u64,
+        interest: &Interest<'_>,
+        faces: &Faces,
+        out: &mut Sends,
+    ) -> Result<Verdict, Memory>
+        requires sound { IsSound (state_of self.old) }
+        requires from { is_open face self.old.faces ≡ true }
+        requires hops { interest.now.hop_limit ≢ Some 0 }
+        requires chosen { choice_from (state_of self.old) face (plain_interest interest.now)
+            ≡ choices.Send faces.now }
+        requires prepared { self.old.pit.prepared
+            ≡ Some (key_of (plain_interest interest.now), length interest.now.whole.now) }
+        requires places { MAX_FACES ≤ out.old.places }
+        requires space { length interest.now.whole.now + NACK_EXTRA ≤ out.old.space }
+        ensures ok { IsOk result }
+        ensures forwards { IfOk result (ForwardsBy self.old self.new out.old.sends out.new.sends
+            face interest.now.whole.now (plain_interest interest.now) (choices.Send faces.now)) }
+    {
+        let key = interest.key();
+        let deadline = self.now.saturating_add(interest.lifetime);
+        match self
+            .pit
+            .arrive(key, face, interest.nonce, interest.whole, deadline)
+        {
+            Ok(()) => {}
+            Err(PitFault::PitFull) => return Ok(Verdict::Dropped(DropReason::PitFull)),
+            Err(PitFault::Memory) => return Err(Memory),
+        }
+        self.record_sent(interest, faces)?;
+        out.push_interest(faces, interest)?;
+        Ok(Verdict::Passed)
+    }
+
+    /// Keeps that the Interest was sent to these faces now.
+    fn record_sent(&mut self, interest: &Interest<'_>, faces: &Faces) -> Result<(), Memory>
+        requires alive { is_alive (records_at self.old.pit.pending
+            (key_of (plain_interest interest.now))) ≡ true }
+        requires sound { IsSound (state_of self.old) }
+        requires known { (f : ℕ) → has_face f faces.now ≡ true
+            → is_open f self.old.faces ≡ true }
+        ensures ok { IsOk result }
+        ensures pending { FollowAll (sent_causes (key_of (plain_interest interest.now))
+            (plain_interest interest.now).nonce self.old.now faces.now)
+            self.old.pit.pending self.new.pit.pending }
+        ensures living { HoldsTheLiving self.old.pit.pending → HoldsTheLiving self.new.pit.pending }
+        ensures rest { self.new ≡ record self.old { pit = self.new.pit } }
+    {
+        for i in 0..faces.len() {
+            if let Some(face) = faces.get(i) {
+                self.pit
+                    .sent(interest.key(), face, interest.nonce, self.now)?;
+            }
+        }
+        Ok(())
+    }
+}

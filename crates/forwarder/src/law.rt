@@ -1,0 +1,218 @@
+ghost use Rattle.std.specs.Prelude.{◌≡◌, ◌⊎◌, ◌↔◌, ◌<◌, ℕ, List, [], Some, All, Contains, max};
+ghost use Rattle.std.specs.FinMap as map;
+ghost use Rattle.hmac_keys.specs.KeyFile.{AreApart};
+ghost use Rattle.forwarder.specs.Event.{PlainEvent};
+ghost use Rattle.forwarder.specs.Policy.{Policy, at_moment};
+ghost use Rattle.forwarder.specs.Event.{moment};
+ghost use Rattle.forwarder.specs.Verdict.{Answer};
+ghost use Rattle.forwarder.specs.Effects.{IsAfter, decided_packet};
+ghost use Rattle.info_rules.specs.declared.decision.Decision.TheVariants as decided;
+ghost use Rattle.info_rules.specs.declared.decision.Reason.{Reason};
+ghost use Rattle.info_rules.specs.declared.rule.Kind.{Kind};
+ghost use Rattle.info_rules.specs.declared.rules.RuleNo.{RuleNo};
+ghost use Rattle.forwarder.specs.Said.{IsSaid, recorded_of};
+ghost use Rattle.forwarder.specs.Verdict as verdicts;
+ghost use Rattle.forwarder.specs.Sends.{BringsOctets, EachIsExplained};
+ghost use Rattle.forwarder.specs.Allowed.{AllowedIn, Allows};
+ghost use Rattle.ndn_packets.specs.Packet.{PlainData, PlainFrame, PlainInterest, AData, AnInterest};
+ghost use Rattle.ndn_packets.specs.Answers.{full_name};
+ghost use Rattle.content_store.specs.Store.{CachedData};
+ghost use Rattle.ndn_packets.specs.Key.{PlainKey, key_of};
+ghost use Rattle.ndn_tlv.specs.Element.{Field};
+ghost use Rattle.pit_fib.specs.Cause.{Arrives};
+ghost use Rattle.pit_fib.specs.Fib.{costs_at};
+ghost use Rattle.pit_fib.specs.Past.{ask_of, sent_of};
+ghost use Rattle.pit_fib.specs.Records.{Ask};
+ghost use Rattle.sha2.specs.Sha256.{sha256};
+ghost use Rattle.replay_guard.specs.Freshness.{NumberRises, Recorded};
+ghost use Rattle.replay_guard.specs.Guard.{table_of};
+ghost use Rattle.forwarder.specs.State.{IsSound};
+ghost use Rattle.forwarder.specs.Node.{NodeState, IsStep, Unharmed};
+ghost use Rattle.forwarder.specs.Causes.{ask_of as asked_now, causes_of};
+ghost use Rattle.forwarder.specs.Hops.{cost_of};
+ghost use Rattle.forwarder.specs.Kept.{IsAnswered, IsKept, IsPassed, IsSentOn};
+ghost use Rattle.forwarder.specs.Runs.{Run, Start, Then, BringsData, BringsRequest, HasTicksFor, HaveOneHistory, IsPolicyOf, IsRun, MayHold, MayReply, Stands, now_of, past_causes, records_of, seen_after};
+
+/// Law: what follows from events alone is a function of them, where the keys of a book have
+/// different names.
+pub fn events_have_one_effect()
+    ensures { (old new other : Policy) (event : PlainEvent) → AreApart old.keys
+        → IsAfter old event new → IsAfter old event other → new ≡ other }
+{}
+
+/// Law: two steps from one node by one event leave the same, but for pending Interests and the
+/// cache, whatever they answer.
+pub fn steps_have_one_effect()
+    ensures { (old new other : NodeState) (event : PlainEvent) (answer another : Answer)
+        → AreApart old.policy.keys → IsStep old event answer new → IsStep old event another other
+        → new.policy ≡ other.policy }
+{}
+
+/// Law: a step leaves a sound node sound: whoever has a record or a route is an open face, and of
+/// those there are at most 64.
+pub fn steps_keep_nodes_sound()
+    ensures { (old new : NodeState) (event : PlainEvent) (answer : Answer) → IsSound old
+        → IsStep old event answer new → IsSound new }
+{}
+
+/// Law: where a node stands in a run that began at the moment 0, a step goes on with the run by its
+/// event and answer, and the node stands in it.
+pub fn steps_go_on_with_runs()
+    ensures { (first : Policy) (past : Run) (old new : NodeState) (event : PlainEvent)
+        (answer : Answer) → first.now ≡ 0 → IsRun first past → Stands first past old
+        → IsStep old event answer new
+        → IsRun first (Then past event answer) × Stands first (Then past event answer) new }
+{}
+
+/// Law: a node without records and with an empty cache stands in the empty run of its policy.
+pub fn new_nodes_stand_in_the_empty_run()
+    ensures { (first : Policy) (capacity : ℕ) → IsRun first Start × Stands first Start (record {
+      policy = first;
+      pending = map.empty;
+      cache = record { cached = []; capacity = capacity };
+    }) }
+{}
+
+/// Law: a step that was refused memory leaves the node where it stands.
+pub fn refused_steps_stand_still()
+    ensures { (first : Policy) (past : Run) (old new : NodeState) → Stands first past old
+        → Unharmed old new → Stands first past new }
+{}
+
+/// Law: two runs of the same events leave the same policy, and of one more event they allow one
+/// answer, where it is a command or asks for a list, and one verdict, where it brings a Data. So it
+/// is at each event of two whole runs.
+pub fn histories_decide()
+    ensures policy { (first p q : Policy) (past other : Run) → AreApart first.keys
+        → HaveOneHistory past other → IsPolicyOf first past p → IsPolicyOf first other q → p ≡ q }
+    ensures answers { (first p : Policy) (past other : Run) (event : PlainEvent) (a b : Answer)
+        → AreApart first.keys → HaveOneHistory past other → IsPolicyOf first past p
+        → BringsRequest (at_moment p (moment event)) event
+        → MayReply first past event a → MayReply first other event b → a ≡ b }
+    ensures verdicts { (first : Policy) (past other : Run) (event : PlainEvent) (a b : Answer)
+        → AreApart first.keys → HaveOneHistory past other → BringsData event
+        → MayReply first past event a → MayReply first other event b → a.verdict ≡ b.verdict }
+{}
+
+/// Law: where some events of a run that were denied give way to their moments alone, it stays a
+/// run, and leaves the same policy.
+pub fn denied_events_change_nothing()
+    ensures run { (first : Policy) (past other : Run) → AreApart first.keys → IsRun first past
+        → HasTicksFor past other → IsRun first other }
+    ensures policy { (first p : Policy) (past other : Run) → AreApart first.keys
+        → IsRun first past → HasTicksFor past other → IsPolicyOf first past p
+        → IsPolicyOf first other p }
+{}
+
+/// Law: each Data of an answer that the past allows came in this event, is allowed, and goes to
+/// another face that waits for it; or it answers the Interest of the event, from the cache, the
+/// repository or the node itself, and goes back to its face. What else is sent is no Data.
+pub fn each_send_is_explained()
+    ensures { (first : Policy) (past : Run) (event : PlainEvent) (answer : Answer)
+        (reply : MayReply first past event answer) → BringsOctets event
+        → EachIsExplained (seen_after past (at_moment reply.was (moment event)) reply.waiting)
+        event answer }
+{}
+
+/// Law: of one signer's commands each that is allowed has a greater time than all that were allowed
+/// before and, where both have a number, a greater number. So none is allowed again, whatever
+/// stands beside its signature.
+pub fn commands_are_allowed_once()
+    ensures newer { (first was : Policy) (past : Run) (event : PlainEvent) (whole other : List ℕ)
+        (i j : PlainInterest) (r s : Recorded) → AreApart first.keys
+        → AllowedIn first past (AnInterest whole i) → IsPolicyOf first past was
+        → Allows was event (AnInterest other j) → recorded_of i ≡ Some r → recorded_of j ≡ Some s
+        → r.signer ≡ s.signer → (r.time < s.time) × NumberRises r.number s.number }
+    ensures once { (first was : Policy) (past : Run) (event : PlainEvent) (whole other : List ℕ)
+        (i j : PlainInterest) → AreApart first.keys → AllowedIn first past (AnInterest whole i)
+        → IsPolicyOf first past was → Allows was event (AnInterest other j)
+        → i.signature ≡ j.signature → ⊥ }
+{}
+
+/// Law: a guard that was empty at first holds the times and numbers of commands that were allowed,
+/// and no others.
+pub fn guards_hold_allowed_commands()
+    ensures { (first p : Policy) (past : Run) → first.guard ≡ map.empty → IsPolicyOf first past p
+        → (records : List Recorded) × (p.guard ≡ table_of records)
+        × All (λ r. (whole : List ℕ) × (i : PlainInterest)
+        × AllowedIn first past (AnInterest whole i) × (recorded_of i ≡ Some r)) records }
+{}
+
+/// Law: each object of a repository is a Data that came in an event that allowed it, under its full
+/// name.
+pub fn objects_were_allowed()
+    ensures { (first p : Policy) (past : Run) (name : List Field) (octets : List ℕ)
+        → first.held.objects ≡ map.empty → IsPolicyOf first past p
+        → map.get p.held.objects name ≡ Some octets
+        → (d : PlainData) × AllowedIn first past (AData octets d)
+        × (name ≡ full_name d.name (sha256 octets)) }
+{}
+
+/// Law: what a cache may hold after a run is a Data that came in an event that allowed it.
+pub fn cached_data_were_allowed()
+    ensures { (first : Policy) (past : Run) (c : CachedData) → IsRun first past → MayHold past c
+        → (d : PlainData) × AllowedIn first past (AData c.octets d) × (c.name ≡ d.name)
+        × (c.freshness ≡ d.freshness) }
+{}
+
+/// Law: the records of a key after a run are, face by face, readings of its past: the last Interest
+/// that the face asked with under the key, and the last sending to it, that nothing has ended
+/// since.
+pub fn records_are_read_off_the_run()
+    ensures asks { (past : Run) (key : PlainKey) (face : ℕ)
+        → map.get (records_of past key).asks face ≡ ask_of (past_causes past) key face }
+    ensures asked { (past : Run) (key : PlainKey) (face : ℕ)
+        → map.get (records_of past key).asked face ≡ sent_of (past_causes past) key face }
+{}
+
+/// Law: an Interest becomes pending exactly where it was passed, nothing went back to its face, and
+/// no Nack was sent. Who waits after an event was kept by it, or waited before. Where the past
+/// allows the answer, a passed Interest is sent on to other faces, or to none, and waits; or one
+/// packet goes back to its face: a Nack, or what is at hand.
+pub fn unanswered_interests_wait()
+    ensures arrives { (now : ℕ) (event : PlainEvent) (answer : Answer) (key : PlainKey) (face : ℕ)
+        (ask : Ask) → Contains (causes_of now event answer) (Arrives key face ask)
+        ↔ IsKept now event answer key face ask }
+    ensures waits { (past : Run) (event : PlainEvent) (answer : Answer) (key : PlainKey) (face : ℕ)
+        (ask : Ask) → IsKept (max (now_of past) (moment event)) event answer key face ask
+        → map.get (records_of (Then past event answer) key).asks face ≡ Some ask }
+    ensures others { (past : Run) (event : PlainEvent) (answer : Answer) (key : PlainKey) (face : ℕ)
+        (ask : Ask) → map.get (records_of (Then past event answer) key).asks face ≡ Some ask
+        → IsKept (max (now_of past) (moment event)) event answer key face ask
+        ⊎ (map.get (records_of past key).asks face ≡ Some ask) }
+    ensures answers { (first : Policy) (past : Run) (event : PlainEvent) (answer : Answer)
+        (face : ℕ) (whole : List ℕ) (i : PlainInterest) (reply : MayReply first past event answer)
+        → BringsOctets event → IsPassed event answer face whole i
+        → let now = max (now_of past) (moment event) in
+        let seen = seen_after past (at_moment reply.was (moment event)) reply.waiting in
+        (IsKept now event answer (key_of i) face (asked_now now whole i)
+        × IsSentOn face whole i answer.sends)
+        ⊎ IsAnswered seen face whole i answer.sends }
+{}
+
+/// Law: the cost of a hop of the routes after a run is that of the last add-nexthop of its name and
+/// face that was answered with status 200, where since then no remove-nexthop of the two was so
+/// answered, and the face was not closed; and else there is no such hop.
+pub fn routes_are_read_off_the_run()
+    ensures { (first p : Policy) (past : Run) (name : List Field) (face : ℕ) → AreApart first.keys
+        → first.routes ≡ map.empty → IsRun first past → IsPolicyOf first past p
+        → map.get (costs_at p.routes name) face ≡ cost_of past name face }
+{}
+
+/// Law: a denial that the past allows is what is said of the event's packet, by the rule that it
+/// names; or no rule applies.
+pub fn denials_name_their_rule()
+    ensures denied { (first : Policy) (past : Run) (event : PlainEvent) (answer : Answer)
+        (kind : Kind) (rule : ℕ) (reason : Reason) (reply : MayReply first past event answer)
+        → answer.verdict ≡ verdicts.Denied kind rule reason
+        → (packet : PlainFrame) × (n : RuleNo)
+        × (decided_packet (at_moment reply.was (moment event)) event ≡ Some packet)
+        × IsSaid (at_moment reply.was (moment event)) packet (decided.Denied n reason)
+        × (rule ≡ n.0) }
+    ensures no_rule { (first : Policy) (past : Run) (event : PlainEvent) (answer : Answer)
+        (kind : Kind) (reply : MayReply first past event answer)
+        → answer.verdict ≡ verdicts.NoRule kind
+        → (packet : PlainFrame)
+        × (decided_packet (at_moment reply.was (moment event)) event ≡ Some packet)
+        × IsSaid (at_moment reply.was (moment event)) packet decided.NoRule }
+{}

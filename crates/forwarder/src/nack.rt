@@ -1,0 +1,103 @@
+ghost use Rattle.std.specs.Prelude.{◌≡◌, ◌+◌, ◌++◌, ◌≤◌, ℕ, true, IfOk, IsOk, IsSome};
+ghost use Rattle.std.specs.FinMap as map;
+ghost use Rattle.ndn_packets.specs.Key.{plain_key};
+ghost use Rattle.ndn_packets.specs.Packet.{ANack};
+ghost use Rattle.ndn_packets.specs.View.{plain_interest};
+ghost use Rattle.forwarder.specs.Faces.{is_open, numbers};
+ghost use Rattle.forwarder.specs.Handling.{AwaitsPacket, HandlesPacket};
+ghost use Rattle.forwarder.specs.NackRoom.{asks_at, nack_room};
+ghost use Rattle.forwarder.specs.Replies.{nacks_to};
+
+use crate::arrived::Arrived;
+use crate::sends::Sends;
+use crate::state::State;
+use crate::verdict::{DropReason, Verdict};
+use ndn_packets::{Interest, Key};
+use ndn_tlv::Memory;
+use pit_fib::{MAX_FACES, Nacked};
+
+/// A Nack is at most so many octets longer than the Interest in it.
+pub const NACK_EXTRA: usize = 40;
+
+impl State {
+    /// Handles a Nack (NFD Developer's Guide, "Incoming Nack Pipeline"). Once all faces that were
+    /// asked have answered by a Nack, each asker gets one of the least reason.
+    pub fn receive_nack(
+        &mut self,
+        reason: u64,
+        arrived: &Arrived<'_, Interest<'_>>,
+        out: &mut Sends,
+    ) -> Result<Verdict, Memory>
+        requires ready { AwaitsPacket self.old arrived.now.face }
+        ensures { HandlesPacket self.old self.new out.old.sends out.new.sends
+            arrived.now.face arrived.now.moment (ANack reason arrived.now.packet.now.whole.now
+            (plain_interest arrived.now.packet.now)) result }
+    {
+        let interest = arrived.packet;
+        if self.is_out_of_scope(arrived.face, interest.name) {
+            return Ok(self.drop_packet(arrived.moment, DropReason::Scope));
+        }
+        let key = interest.key();
+        let room = self.nack_room(key)?;
+        out.reserve(MAX_FACES, room)?;
+        self.pass_time(arrived.moment);
+        match self.pit.nacked(key, arrived.face, interest.nonce, reason) {
+            Nacked::NoPending => Ok(Verdict::Dropped(DropReason::NoPending)),
+            Nacked::Waiting => Ok(Verdict::Passed),
+            Nacked::All(least) => {
+                self.push_nacks(key, least, out)?;
+                self.pit.remove(key);
+                Ok(Verdict::Passed)
+            }
+        }
+    }
+
+    /// How many octets the Nacks to all askers of a key take at most.
+    fn nack_room(&self, key: Key<'_>) -> Result<usize, Memory>
+        ensures { IfOk result (λ room. room
+            ≡ nack_room (asks_at self.entry.now.pit.pending (plain_key key.entry))
+            (numbers self.entry.now.faces)) }
+    {
+        let mut room = 0usize;
+        for i in 0..self.faces.len() {
+            let Some(face) = self.faces.get(i) else {
+                continue;
+            };
+            if let Some(octets) = self.pit.interest_of(key, face) {
+                room = room_with(room, octets.len())?;
+            }
+        }
+        Ok(room)
+    }
+
+    /// Sends a Nack of this reason to each asker of a key, around the Interest that it sent. Room
+    /// for them is reserved.
+    fn push_nacks(&self, key: Key<'_>, reason: u64, out: &mut Sends) -> Result<(), Memory>
+        requires known { (f : ℕ) → IsSome (map.get (asks_at self.now.pit.pending (plain_key key)) f)
+            → is_open f self.now.faces ≡ true }
+        requires places { MAX_FACES ≤ out.old.places }
+        requires space { nack_room (asks_at self.now.pit.pending (plain_key key))
+            (numbers self.now.faces) ≤ out.old.space }
+        ensures ok { IsOk result }
+        ensures sends { out.new.sends ≡ out.old.sends
+            ++ nacks_to (asks_at self.entry.now.pit.pending (plain_key key.entry)) reason }
+    {
+        for i in 0..self.faces.len() {
+            let Some(face) = self.faces.get(i) else {
+                continue;
+            };
+            if let Some(octets) = self.pit.interest_of(key, face) {
+                out.push_nack(face, reason, octets)?;
+            }
+        }
+        Ok(())
+    }
+}
+
+/// The room with that of one more Nack, around so many octets.
+fn room_with(room: usize, octets: usize) -> Result<usize, Memory>
+    ensures { IfOk result (λ sum. sum ≡ room + (octets + NACK_EXTRA)) }
+{
+    let more = octets.checked_add(NACK_EXTRA).ok_or(Memory)?;
+    room.checked_add(more).ok_or(Memory)
+}

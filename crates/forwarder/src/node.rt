@@ -1,0 +1,176 @@
+ghost use Rattle.std.specs.Prelude.{◌≡◌, ◌++◌, List, length, drop, Err, IfOk, IfErr, OnErr, IsOk, MatchOption};
+ghost use Rattle.forwarder.specs.Event.{plain, Send};
+ghost use Rattle.forwarder.specs.Node.{AsksNoMemory, IsStep, Unharmed};
+ghost use Rattle.forwarder.specs.Parts.{first_node, is_bad_prefix as is_bad_prefix_of, parts_fault};
+ghost use Rattle.forwarder.specs.Policy.{Policy};
+ghost use Rattle.forwarder.specs.Runs.{Run, Start, Then, IsRun, Stands};
+ghost use Rattle.forwarder.specs.Verdict.{verdict_of};
+
+use crate::event::Event;
+use crate::open_faces::OpenFaces;
+use crate::outbox::Outbox;
+use crate::state::State;
+use crate::verdict::Verdict;
+use content_store::{Store, StoreFault};
+use hmac_keys::KeyBook;
+use info_rules::Rules;
+use mgmt_core::Tables;
+use ndn_names::NameBuf;
+use ndn_names::component_type::GENERIC;
+use ndn_tlv::Memory;
+use pit_fib::{Fib, Pit, StrategyTable};
+use replay_guard::Guard;
+use repo_core::Repo;
+use std::alloc::{AllocError, Global};
+use std::marker::Model;
+use thiserror::Error;
+
+/// What a node is made of.
+#[derive(Drop)]
+pub struct NodeParts {
+    /// Who may give commands, and whose Data may pass.
+    pub rules: Rules,
+    /// The keys that the rules name.
+    pub keys: KeyBook,
+    /// The repository's prefix, neither empty nor under `/localhost`.
+    pub repo: NameBuf,
+    /// How many Data the cache holds, from 1 to 65,536.
+    pub cache: u32,
+}
+
+/// Why a node cannot be made. Of several faults, the first in this order is reported.
+#[derive(Clone, Copy, Debug, PartialEq, Eq, Error)]
+pub enum NodeFault {
+    #[error("the repository's prefix is empty, or begins with /localhost")]
+    BadRepoPrefix,
+    #[error("the cache's capacity is not from 1 to 65536")]
+    BadCapacity,
+    #[error("out of memory")]
+    Memory,
+}
+
+/// A forwarder with a cache and a repository.
+#[derive(Drop)]
+pub struct Node {
+    state: State,
+}
+
+impl Model for Node {
+    ghost use Rattle.forwarder.specs.Node.{NodeState};
+    ghost use Rattle.forwarder.specs.State.{IsSound, state_of};
+    ghost use Rattle.std.specs.Coded.{codes};
+    ghost use Rattle.content_store.specs.Store.{state_code as store_code};
+    ghost use Rattle.repo_core.specs.Repo.{held_code};
+    ghost use Rattle.repo_core.specs.Objects.{AreObjects};
+    ghost use Rattle.forwarder.specs.Coded.{routes_code, choices_code, guard_code, pending_code};
+
+    ghost Value = { NodeState };
+
+    ghost coded = { Prim.hlevel (codes, routes_code, choices_code, guard_code, pending_code, held_code, store_code) };
+
+    ghost view = { λ n. state_of n.state };
+
+    ghost invariant = { λ n. IsSound (state_of n.state) × AreObjects n.state.repo.held.objects };
+}
+
+impl From<AllocError> for NodeFault {
+    ghost use Rattle.std.specs.Prelude.{◌≡◌};
+    ghost use Rattle.forwarder.specs.declared.node.NodeFault.TheVariants.{Memory};
+
+    ghost from_gives = { λ _ fault. fault ≡ Memory };
+
+    fn from(_error: AllocError) -> NodeFault {
+        NodeFault::Memory
+    }
+}
+
+/// Whether a name cannot be the repository's prefix.
+fn is_bad_prefix(repo: &NameBuf) -> bool
+    ensures { result ≡ is_bad_prefix_of repo.now }
+{
+    match repo.view().component(0) {
+        None => true,
+        Some(first) => first.kind == GENERIC && first.value == b"localhost".as_slice(),
+    }
+}
+
+impl Node {
+    /// A node without faces.
+    ///
+    /// Refuses parts by the first fault in the order of `NodeFault`.
+    pub fn new(alloc: Global, parts: NodeParts) -> Result<Node, NodeFault>
+        ensures ok { IfOk result
+            (λ node. node ≡ first_node parts.rules parts.keys parts.repo parts.cache) }
+        ensures fault { MatchOption (parts_fault parts.repo parts.cache)
+            (IfErr result (λ fault. fault ≡ NodeFault.Memory))
+            (λ fault. result ≡ Err fault) }
+    {
+        if is_bad_prefix(&parts.repo) {
+            return Err(NodeFault::BadRepoPrefix);
+        }
+        let store = match Store::new(alloc, parts.cache as usize) {
+            Ok(store) => store,
+            Err(StoreFault::BadCapacity) => return Err(NodeFault::BadCapacity),
+            Err(StoreFault::Memory) => return Err(NodeFault::Memory),
+        };
+        let Ok(repo) = Repo::new(alloc, parts.repo) else {
+            return Err(NodeFault::Memory);
+        };
+        let state = State {
+            alloc,
+            now: 0,
+            table_number: 0,
+            rules: parts.rules,
+            keys: parts.keys,
+            faces: OpenFaces::new(),
+            pit: Pit::new(alloc),
+            tables: Tables::new(alloc, Fib::new(alloc), StrategyTable::new(alloc), store),
+            guard: Guard::new(alloc),
+            repo,
+        };
+        Ok(Node { state })
+    }
+
+    /// The rules that decide of commands and Data.
+    pub fn rules(&self) -> &Rules
+        ensures { result.now ≡ self.now.policy.rules }
+    {
+        &self.state.rules
+    }
+
+    /// Handles one event (NFD Developer's Guide, "Forwarding"): the verdict, and the sends at the
+    /// end of the outbox.
+    ///
+    /// On `Memory` the cache may have forgotten Data or changed their order of use, and nothing
+    /// else changes. Face changes, moments, packets on faces that are not open and what is no
+    /// packet take no memory.
+    pub fn step(&mut self, event: Event<'_>, outbox: &mut Outbox) -> Result<Verdict, Memory>
+        // One step, octets to octets.
+        ensures answered { IfOk result
+            (λ verdict. (sends : List Send) × (outbox.new ≡ outbox.old ++ sends)
+            × IsStep self.old (plain event.entry)
+            (record { verdict = verdict_of verdict; sends = sends }) self.new) }
+        // Every run in which the node stands goes on with this event and its answer.
+        ensures run { IfOk result (λ verdict. let sends = drop (length outbox.old) outbox.new in
+            (first : Policy) (past : Run) → first.now ≡ 0 → IsRun first past
+            → Stands first past self.old
+            → IsRun first (Then past (plain event.entry)
+            (record { verdict = verdict_of verdict; sends = sends }))
+            × Stands first (Then past (plain event.entry)
+            (record { verdict = verdict_of verdict; sends = sends })) self.new) }
+        ensures memory { OnErr result (Unharmed self.old self.new × (outbox.new ≡ outbox.old)) }
+        ensures without_memory { AsksNoMemory self.old (plain event.entry) → IsOk result }
+    {
+        match event {
+            Event::Packet { face, now, octets } => {
+                self.state.receive(face, now, octets, &mut outbox.sends)
+            }
+            Event::FaceUp { face, scope, now } => Ok(self.state.open(face, scope, now)),
+            Event::FaceDown { face, now } => Ok(self.state.close(face, now)),
+            Event::Tick { now } => {
+                self.state.pass_time(now);
+                Ok(Verdict::Passed)
+            }
+        }
+    }
+}

@@ -1,0 +1,125 @@
+ghost use Rattle.std.specs.Prelude.{◌≡◌, ◌≤◌, ◌<◌, ◌==◌, [], false, length, filter, not, slice_get};
+ghost use Rattle.pit_fib.specs.Faces.{IsRising};
+ghost use Rattle.forwarder.specs.Faces.{find_scope, is_open, numbers, with_face, without_entry};
+ghost use Rattle.forwarder.specs.Policy.{is_far_scope, is_local_scope};
+
+use crate::event::Scope;
+use pit_fib::{Faces, MAX_FACES};
+use std::marker::Model;
+
+/// The open faces, each Local or Far: at most 64, in rising order of their numbers.
+#[derive(Drop)]
+pub struct OpenFaces {
+    /// All of them.
+    all: Faces,
+    /// The Local ones.
+    local: Faces,
+}
+
+impl Model for OpenFaces {
+    ghost use Rattle.std.specs.Prelude.{List};
+    ghost use Rattle.pit_fib.specs.Faces.{IsRising};
+    ghost use Rattle.forwarder.specs.Faces.{FaceEntry, entries_of, AreOpen};
+
+    ghost Value = { List FaceEntry };
+
+    ghost view = { λ f. entries_of f.all f.local };
+
+    ghost invariant = { λ f. AreOpen f.all f.local × IsRising f.all };
+}
+
+impl OpenFaces {
+    /// No faces.
+    pub fn new() -> OpenFaces
+        ensures { result ≡ [] }
+    {
+        OpenFaces {
+            all: Faces::new(),
+            local: Faces::new(),
+        }
+    }
+
+    /// Whether the face is open.
+    pub fn contains(&self, face: u64) -> bool
+        ensures { result ≡ is_open face self.now }
+    {
+        self.all.contains(face)
+    }
+
+    /// The number of open faces. The clauses beside `exact` are true of all open faces.
+    pub fn len(&self) -> usize
+        ensures exact { result ≡ length self.now }
+        ensures small { result ≤ MAX_FACES }
+        ensures rising { IsRising (numbers self.now) }
+    {
+        self.all.len()
+    }
+
+    /// The open face at a place, counted from 0 in rising order.
+    pub fn get(&self, i: usize) -> Option<u64>
+        ensures { result ≡ slice_get (numbers self.now) i }
+    {
+        self.all.get(i)
+    }
+
+    /// Whether the face is open and leads to another machine.
+    pub fn is_far(&self, face: u64) -> bool
+        ensures { result ≡ is_far_scope (find_scope face self.now) }
+    {
+        self.all.contains(face) && !self.local.contains(face)
+    }
+
+    /// Opens a face.
+    pub fn open(&mut self, face: u64, scope: Scope)
+        requires new { is_open face self.old ≡ false }
+        requires room { length self.old < MAX_FACES }
+        ensures { self.new ≡ with_face face scope self.old }
+    {
+        self.all.insert(face);
+        match scope {
+            Scope::Local => {
+                self.local.insert(face);
+            }
+            Scope::Far => {}
+        }
+    }
+
+    /// Closes a face, if it is open.
+    pub fn remove(&mut self, face: u64)
+        ensures { self.new ≡ without_entry face self.old }
+    {
+        let all = without_face(&self.all, face);
+        let local = without_face(&self.local, face);
+        *self = OpenFaces { all, local };
+    }
+
+    /// The numbers of the open faces.
+    pub fn numbers(&self) -> &Faces
+        ensures { result.now ≡ numbers self.now }
+    {
+        &self.all
+    }
+
+    /// The numbers of the Local ones.
+    pub fn locals(&self) -> &Faces
+        ensures { result.now ≡ numbers (filter (λ entry. is_local_scope entry.1) self.now) }
+    {
+        &self.local
+    }
+}
+
+/// The faces but for this one.
+pub fn without_face(faces: &Faces, face: u64) -> Faces
+    ensures { result ≡ filter (λ f. not (f == face)) faces.now }
+{
+    let mut rest = Faces::new();
+    for i in 0..faces.len() {
+        let Some(other) = faces.get(i) else {
+            continue;
+        };
+        if other != face {
+            rest.insert(other);
+        }
+    }
+    rest
+}

@@ -1,0 +1,69 @@
+ghost use Rattle.std.specs.Prelude.{◌≡◌, ◌↔◌, List, [], ◌∷◌, ◌++◌, length, map, slice_get, IsTrue, OnOk, OnErr};
+ghost use Rattle.std.specs.Option.{option_map};
+
+use crate::sends::Sends;
+use ndn_tlv::Memory;
+use std::alloc::Global;
+use std::marker::Model;
+
+/// What goes out: octets, each with the number of the face that they go to, in order.
+#[derive(Drop)]
+pub struct Outbox {
+    pub(crate) sends: Sends,
+}
+
+impl Model for Outbox {
+    ghost use Rattle.std.specs.Prelude.{List};
+    ghost use Rattle.forwarder.specs.Event.{Send};
+
+    ghost Value = { List Send };
+
+    ghost view = { λ o. o.sends.sends };
+}
+
+impl Outbox {
+    /// An outbox with no sends.
+    pub fn new(alloc: Global) -> Outbox
+        ensures { result ≡ [] }
+    {
+        Outbox {
+            sends: Sends::new(alloc),
+        }
+    }
+
+    /// The number of sends.
+    pub fn len(&self) -> usize
+        ensures { result ≡ length self.now }
+    {
+        self.sends.len()
+    }
+
+    /// Whether there are no sends.
+    pub fn is_empty(&self) -> bool
+        ensures { IsTrue result ↔ (self.now ≡ []) }
+    {
+        self.sends.is_empty()
+    }
+
+    /// The face and the octets of the send at `i`, counted from 0.
+    pub fn sent(&self, i: usize) -> Option<(u64, &[u8])>
+        ensures { option_map (λ sent. (sent.0, sent.1.now)) result ≡ slice_get self.now i }
+    {
+        self.sends.sent(i)
+    }
+
+    /// Adds a send of these octets. Where memory is refused, the sends stay as they were.
+    pub fn push(&mut self, face: u64, octets: &[u8]) -> Result<(), Memory>
+        ensures ok { OnOk result (self.new ≡ self.old ++ (face, octets.now) ∷ []) }
+        ensures err { OnErr result (self.new ≡ self.old) }
+    {
+        self.sends.push(face, octets)
+    }
+
+    /// Removes the sends and their octets. The room that they took stays reserved.
+    pub fn clear(&mut self)
+        ensures { self.new ≡ [] }
+    {
+        self.sends.clear();
+    }
+}

@@ -1,0 +1,81 @@
+ghost use Rattle.std.specs.Prelude.{◌≡◌, true, false, ◌++◌, ◌⊎◌, List, IfOk, IsOk, OnErr};
+ghost use Rattle.ndn_packets.specs.FrameReading.{frame_at};
+ghost use Rattle.repo_core.specs.Objects.{AreObjects};
+ghost use Rattle.forwarder.specs.Event.{Packet, Send};
+ghost use Rattle.forwarder.specs.Faces.{is_open};
+ghost use Rattle.forwarder.specs.Node.{HoldsNoPacket, IsStep, Unharmed};
+ghost use Rattle.forwarder.specs.State.{IsLater, IsSound, state_of};
+ghost use Rattle.forwarder.specs.Verdict.{verdict_of};
+ghost use Rattle.forwarder.specs.declared.verdict.Verdict.TheVariants as said;
+
+use crate::arrived::Arrived;
+use crate::sends::Sends;
+use crate::state::State;
+use crate::verdict::{DropReason, Verdict};
+use ndn_packets::{Frame, read_frame};
+use ndn_tlv::Memory;
+
+impl State {
+    /// Handles octets that came on a face (NFD Developer's Guide, "Forwarding Pipelines").
+    pub fn receive(
+        &mut self,
+        face: u64,
+        now: u64,
+        octets: &[u8],
+        out: &mut Sends,
+    ) -> Result<Verdict, Memory>
+        requires sound { IsSound (state_of self.old) }
+        requires objects { AreObjects self.old.repo.held.objects }
+        ensures handled { IfOk result (λ verdict. (sends : List Send)
+            × (out.new.sends ≡ out.old.sends ++ sends)
+            × IsStep (state_of self.old) (Packet face now octets.now)
+            (record { verdict = verdict_of verdict; sends = sends }) (state_of self.new)) }
+        ensures memory { OnErr result (Unharmed (state_of self.old) (state_of self.new)
+            × (out.new.sends ≡ out.old.sends)) }
+        ensures objects { AreObjects self.new.repo.held.objects }
+        ensures without_memory { (is_open face self.old.faces ≡ false)
+            ⊎ HoldsNoPacket (frame_at octets.now) → IsOk result }
+    {
+        if !self.faces.contains(face) {
+            return Ok(self.drop_packet(now, DropReason::NoFace));
+        }
+        match read_frame(octets) {
+            Err(fault) => Ok(self.drop_packet(now, DropReason::Malformed(fault))),
+            Ok(Frame::Idle) => Ok(self.drop_packet(now, DropReason::Idle)),
+            Ok(Frame::Interest(interest)) => self.receive_interest(
+                &Arrived {
+                    face,
+                    moment: now,
+                    packet: &interest,
+                },
+                out,
+            ),
+            Ok(Frame::Data(data)) => self.receive_data(
+                &Arrived {
+                    face,
+                    moment: now,
+                    packet: &data,
+                },
+                out,
+            ),
+            Ok(Frame::Nack { reason, interest }) => self.receive_nack(
+                reason,
+                &Arrived {
+                    face,
+                    moment: now,
+                    packet: &interest,
+                },
+                out,
+            ),
+        }
+    }
+
+    /// Lets time pass, and does no more.
+    pub fn drop_packet(&mut self, now: u64, reason: DropReason) -> Verdict
+        ensures verdict { result ≡ said.Dropped reason }
+        ensures later { IsLater (state_of self.old) now (state_of self.new) }
+    {
+        self.pass_time(now);
+        Verdict::Dropped(reason)
+    }
+}

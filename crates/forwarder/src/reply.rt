@@ -1,0 +1,59 @@
+ghost use Rattle.std.specs.Prelude.{◌≡◌, ◌≤◌, ◌+◌, ◌++◌, [], List, ℕ, IfOk, IsOk, OnErr, OnOk, length, unwrap_or, vec_len};
+ghost use Rattle.std.specs.Vec.{vec_capacity};
+ghost use Rattle.ndn_names.specs.View.{components};
+ghost use Rattle.ndn_packets.specs.Writing.{reply_text};
+ghost use Rattle.mgmt_core.specs.Commands.{text_of};
+ghost use Rattle.mgmt_core.specs.Writing.{response};
+ghost use Rattle.forwarder.specs.Commands.{repository_content};
+
+use mgmt_core::{put_response, status_text};
+use ndn_names::Name;
+use ndn_tlv::Memory;
+use repo_core::{RepoReply, put_repo_reply, repo_status_text};
+
+/// A reply has at most so many octets beyond those of its name and its Content: the headers and the
+/// signature.
+const REPLY_EXTRA: usize = 77;
+
+/// A number of octets that is enough for a reply of this name, where its Content is no longer than
+/// that. `Memory` where no memory has so many.
+pub(crate) fn reply_room(name: Name<'_>, content_len: usize) -> Result<usize, Memory>
+    ensures { IfOk result (λ room. (content : List ℕ) → length content ≤ content_len
+        → length (reply_text (components name.entry) content) ≤ room) }
+{
+    let Some(len) = name.as_octets().len().checked_add(content_len) else {
+        return Err(Memory);
+    };
+    let Some(room) = len.checked_add(REPLY_EXTRA) else {
+        return Err(Memory);
+    };
+    Ok(room)
+}
+
+/// Appends the Content of a reply of this status, with its own text. Nothing is appended where
+/// memory is refused.
+pub(crate) fn put_status(out: &mut Vec<u8>, status: u16, body: &[u8]) -> Result<(), Memory>
+    ensures ok { OnOk result (out.new.items ≡ out.old.items
+        ++ response status (unwrap_or (text_of status) []) body.now) }
+    ensures err { OnErr result (out.new.items ≡ out.old.items) }
+    // Where there is room, memory is not refused.
+    ensures room { vec_len out.old
+        + length (response status (unwrap_or (text_of status) []) body.now)
+        ≤ vec_capacity out.old → IsOk result }
+{
+    let text = status_text(status).unwrap_or("");
+    put_response(out, status, text, body)
+}
+
+/// Appends the Content of the repository's reply. Nothing is appended where memory is refused.
+pub(crate) fn put_repo_status(out: &mut Vec<u8>, reply: &RepoReply) -> Result<(), Memory>
+    ensures ok { OnOk result
+        (out.new.items ≡ out.old.items ++ repository_content reply.now) }
+    ensures err { OnErr result (out.new.items ≡ out.old.items) }
+    // Where there is room, memory is not refused.
+    ensures room { vec_len out.old + length (repository_content reply.now) ≤ vec_capacity out.old
+        → IsOk result }
+{
+    let text = repo_status_text(reply.status).unwrap_or("");
+    put_repo_reply(out, reply.status, text, reply.count)
+}

@@ -1,0 +1,205 @@
+ghost use Rattle.std.specs.Prelude.{◌≡◌, [], ◌∷◌, drop, length};
+ghost use Rattle.ndn_names.specs.View.{components, field_of};
+ghost use Rattle.ndn_packets.specs.Answers.{begins_with};
+ghost use Rattle.ndn_packets.specs.View.{plain_interest};
+ghost use Rattle.forwarder.specs.Policy.{Policy};
+ghost use Rattle.forwarder.specs.Request.{generic, has_no_hops as has_no_hops_of, is_local_name as is_local, list_after, list_asked, list_name, list_of_kind, management, named_request, numbered, request_named, shortest_number, versioned as versioned_as};
+
+use ndn_names::component_type::{GENERIC, SEGMENT, VERSION};
+use ndn_names::{Component, Name};
+use ndn_packets::Interest;
+use ndn_tlv::{nni_len, nni_of};
+use repo_core::Repo;
+
+/// What a list is of.
+#[derive(Clone, Copy, Debug, PartialEq, Eq)]
+pub(crate) enum ListKind {
+    RouteList,
+    StrategyList,
+}
+
+/// A segment of a list that is asked for (NFD Management, "Status Dataset").
+#[derive(Clone, Copy, Debug, PartialEq, Eq)]
+pub(crate) struct ListAsked {
+    pub kind: ListKind,
+    /// The version, where one is asked for.
+    pub version: Option<u64>,
+    /// The segment's number, counted from 0.
+    pub segment: u64,
+}
+
+/// What an Interest asks for by its name.
+#[derive(Clone, Copy, Debug, PartialEq, Eq)]
+pub(crate) enum NamedRequest {
+    ForList(ListAsked),
+    /// A command on routes, strategies or the cache: any name under `/localhost/nfd` that is no
+    /// list's.
+    ForTables,
+    /// A command to the repository.
+    ForRepository,
+    ForData,
+}
+
+/// Whether the component at this place is a GenericNameComponent of these octets.
+fn has_word(name: Name<'_>, at: usize, word: &[u8]) -> bool
+    ensures { result ≡ begins_with (generic word.now ∷ []) (drop at (components name.entry)) }
+{
+    match name.component(at) {
+        Some(component) => component.kind == GENERIC && component.value == word,
+        None => false,
+    }
+}
+
+/// Whether the name stays on this machine: it begins with `/localhost`.
+pub(crate) fn is_local_name(name: Name<'_>) -> bool
+    ensures { result ≡ is_local (components name.entry) }
+{
+    has_word(name, 0, b"localhost")
+}
+
+/// Whether the name is a command's or a list's: it begins with `/localhost/nfd`.
+pub(crate) fn is_management(name: Name<'_>) -> bool
+    ensures { result ≡ begins_with management (components name.entry) }
+{
+    has_word(name, 0, b"localhost") && has_word(name, 1, b"nfd")
+}
+
+impl ListKind {
+    ghost use Rattle.std.specs.Prelude.{◌≡◌, ◌++◌, ◌∷◌, [], codes};
+    ghost use Rattle.forwarder.specs.Request.{generic, list_name, management};
+
+    /// The third component of the list's name.
+    pub fn module(self) -> &'static [u8]
+        ensures { list_name self
+            ≡ management ++ generic result.now ∷ generic (codes "list") ∷ [] }
+    {
+        match self {
+            ListKind::RouteList => b"fib".as_slice(),
+            ListKind::StrategyList => b"strategy-choice".as_slice(),
+        }
+    }
+}
+
+/// Whether the name begins with that of a list.
+fn is_list_name(kind: ListKind, name: Name<'_>) -> bool
+    ensures { result ≡ begins_with (list_name kind) (components name.entry) }
+{
+    if !is_management(name) {
+        return false;
+    }
+    if !has_word(name, 2, kind.module()) {
+        return false;
+    }
+    has_word(name, 3, b"list")
+}
+
+/// A number in its shortest form.
+fn shortest_number(value: &[u8]) -> Option<u64>
+    ensures { result ≡ shortest_number value.now }
+{
+    let Ok(number) = nni_of(value) else {
+        return None;
+    };
+    if nni_len(number) != value.len() {
+        return None;
+    }
+    Some(number)
+}
+
+/// The number of a component of this type.
+fn numbered(kind: u16, component: Component<'_>) -> Option<u64>
+    ensures { result ≡ numbered kind (field_of component.entry) }
+{
+    if component.kind == kind {
+        shortest_number(component.value)
+    } else {
+        None
+    }
+}
+
+/// What is asked for by the components after a list's name: nothing or a version, and CanBePrefix,
+/// or a version and a segment.
+fn list_after(kind: ListKind, can_be_prefix: bool, name: Name<'_>) -> Option<ListAsked>
+    ensures { result ≡ list_after kind can_be_prefix (drop 4 (components name.entry)) }
+{
+    let Some(version) = name.component(4) else {
+        return if can_be_prefix {
+            Some(ListAsked {
+                kind,
+                version: None,
+                segment: 0,
+            })
+        } else {
+            None
+        };
+    };
+    let Some(segment) = name.component(5) else {
+        return if can_be_prefix {
+            versioned(kind, 0, version)
+        } else {
+            None
+        };
+    };
+    if name.len() > 6 {
+        return None;
+    }
+    versioned(kind, numbered(SEGMENT, segment)?, version)
+}
+
+/// A segment of the list of the version that a component says.
+fn versioned(kind: ListKind, segment: u64, version: Component<'_>) -> Option<ListAsked>
+    ensures { result ≡ versioned_as kind segment (numbered VERSION (field_of version.entry)) }
+{
+    let version = numbered(VERSION, version)?;
+    Some(ListAsked {
+        kind,
+        version: Some(version),
+        segment,
+    })
+}
+
+/// The segment of a list of this kind that an Interest asks for.
+fn list_of_kind(kind: ListKind, interest: &Interest<'_>) -> Option<ListAsked>
+    ensures { result ≡ list_of_kind kind (plain_interest interest.now) }
+{
+    if is_list_name(kind, interest.name) {
+        list_after(kind, interest.can_be_prefix, interest.name)
+    } else {
+        None
+    }
+}
+
+/// The segment of a list that an Interest asks for.
+pub(crate) fn list_asked(interest: &Interest<'_>) -> Option<ListAsked>
+    ensures { result ≡ list_asked (plain_interest interest.now) }
+{
+    match list_of_kind(ListKind::RouteList, interest) {
+        Some(asked) => Some(asked),
+        None => list_of_kind(ListKind::StrategyList, interest),
+    }
+}
+
+/// What an Interest asks for by its name, where the repository stands under its prefix.
+pub(crate) fn named_request(repo: &Repo, interest: &Interest<'_>) -> NamedRequest
+    ensures { (p : Policy) → p.repo ≡ repo.now.start
+        → request_named result
+        ≡ named_request p (plain_interest interest.now) (list_asked (plain_interest interest.now)) }
+{
+    if let Some(asked) = list_asked(interest) {
+        return NamedRequest::ForList(asked);
+    }
+    if is_management(interest.name) {
+        return NamedRequest::ForTables;
+    }
+    match repo.verb_of(interest.name) {
+        Some(_) => NamedRequest::ForRepository,
+        None => NamedRequest::ForData,
+    }
+}
+
+/// Whether the Interest may go no further, not even here: its HopLimit is 0.
+pub(crate) fn has_no_hops(interest: &Interest<'_>) -> bool
+    ensures { result ≡ has_no_hops_of interest.now.hop_limit }
+{
+    interest.hop_limit == Some(0)
+}

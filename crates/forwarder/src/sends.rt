@@ -1,0 +1,328 @@
+ghost use Rattle.std.specs.Prelude.{◌≡◌, ◌≢◌, ◌↔◌, ◌+◌, ◌<◌, ◌≤◌, ℕ, List, [], ◌∷◌, ◌++◌, length, map, slice_get, vec_len, Some, None, IsTrue, IsOk, OnOk, OnErr, IfOk, Err, is_ok};
+ghost use Rattle.std.specs.Option.{option_map, is_none};
+ghost use Rattle.std.specs.Vec.{vec_capacity};
+ghost use Rattle.ndn_names.specs.View.{components};
+ghost use Rattle.ndn_packets.specs.HopLimit.{HasHopLimit, with_octet};
+ghost use Rattle.ndn_packets.specs.Writing.{data_refusal, data_text, interest_refusal, interest_text, nack_text, reply_text};
+ghost use Rattle.forwarder.specs.Event.{Send, to_each};
+ghost use Rattle.forwarder.specs.NextHops.{sent_on};
+ghost use Rattle.forwarder.specs.Outbox.{placed};
+ghost use Rattle.forwarder.specs.Sending.{data_sends, fetched};
+
+use ndn_names::Name;
+use ndn_packets::{
+    DataWriter, Interest, InterestWriter, WriteFault, hop_limit_mut, put_nack, put_reply,
+};
+use ndn_tlv::Memory;
+use pit_fib::{Faces, MAX_FACES};
+use std::alloc::Global;
+use std::marker::Model;
+
+/// Where the octets of one send stand.
+#[derive(Clone, Copy)]
+struct Sent {
+    face: u64,
+    start: usize,
+    end: usize,
+}
+
+/// What goes out, in order, and the room that is reserved for more. Where a call is refused for
+/// memory, the sends stay as they were.
+#[derive(Drop)]
+pub struct Sends {
+    octets: Vec<u8>,
+    places: Vec<Sent>,
+}
+
+impl Model for Sends {
+    ghost use Rattle.std.specs.Prelude.{◌-◌, vec_len};
+    ghost use Rattle.std.specs.Vec.{vec_capacity};
+    ghost use Rattle.forwarder.specs.Outbox.{sends_of, AreOctetsOf};
+    ghost use Rattle.forwarder.specs.Sending.{SendsState};
+
+    ghost Value = { SendsState };
+
+    ghost view = { λ o. record {
+      sends = sends_of o.octets.items o.places.items;
+      places = vec_capacity o.places - vec_len o.places;
+      space = vec_capacity o.octets - vec_len o.octets;
+    } };
+
+    ghost invariant = { λ o. AreOctetsOf o.octets.items o.places.items };
+}
+
+impl Sends {
+    /// No sends.
+    pub fn new(alloc: Global) -> Sends
+        ensures { result.sends ≡ [] }
+    {
+        Sends {
+            octets: Vec::new(alloc),
+            places: Vec::new(alloc),
+        }
+    }
+
+    /// The number of sends.
+    pub fn len(&self) -> usize
+        ensures { result ≡ length self.now.sends }
+    {
+        self.places.len()
+    }
+
+    /// Whether there are no sends.
+    pub fn is_empty(&self) -> bool
+        ensures { IsTrue result ↔ (self.now.sends ≡ []) }
+    {
+        self.places.is_empty()
+    }
+
+    /// The face and the octets of the send at `i`, counted from 0.
+    pub fn sent(&self, i: usize) -> Option<(u64, &[u8])>
+        ensures { option_map (λ sent. (sent.0, sent.1.now)) result ≡ slice_get self.now.sends i }
+    {
+        let sent = self.places.get(i)?;
+        Some((sent.face, &self.octets[sent.start..sent.end]))
+    }
+
+    /// Removes the sends and their octets. The room that they took stays reserved.
+    pub fn clear(&mut self)
+        ensures sends { self.new.sends ≡ [] }
+        ensures places { self.old.places + length self.old.sends ≤ self.new.places }
+        ensures space { self.old.space ≤ self.new.space }
+    {
+        self.places.clear();
+        self.octets.clear();
+    }
+
+    /// Reserves room for so many more sends, whose octets take so much space together.
+    pub fn reserve(&mut self, places: usize, space: usize) -> Result<(), Memory>
+        ensures sends { self.new.sends ≡ self.old.sends }
+        ensures places { OnOk result (places ≤ self.new.places) }
+        ensures space { OnOk result (space ≤ self.new.space) }
+        // Room that was there stays.
+        ensures places_kept { self.old.places ≤ self.new.places }
+        ensures space_kept { self.old.space ≤ self.new.space }
+    {
+        self.places.reserve(places)?;
+        self.octets.reserve(space)?;
+        Ok(())
+    }
+
+    /// Adds a send of these octets.
+    pub fn push(&mut self, face: u64, octets: &[u8]) -> Result<(), Memory>
+        ensures ok { OnOk result (self.new.sends ≡ self.old.sends ++ (face, octets.now) ∷ []) }
+        ensures err { OnErr result (self.new.sends ≡ self.old.sends) }
+        // Where there is room, memory is not refused.
+        ensures promised { 1 ≤ self.old.places → length octets.now ≤ self.old.space
+            → IsOk result }
+        // What is left for later sends.
+        ensures room { self.old.places ≤ self.new.places + 1 }
+        ensures space { self.old.space ≤ self.new.space + length octets.now }
+    {
+        self.places.reserve(1)?;
+        let start = self.octets.len();
+        self.octets.extend_from_slice(octets)?;
+        place(&mut self.places, face, start, self.octets.len())?;
+        Ok(())
+    }
+
+    /// Adds a Nack of this reason around an Interest's octets.
+    pub fn push_nack(&mut self, face: u64, reason: u64, interest: &[u8]) -> Result<(), Memory>
+        ensures ok { OnOk result
+            (self.new.sends ≡ self.old.sends ++ (face, nack_text reason interest.now) ∷ []) }
+        ensures err { OnErr result (self.new.sends ≡ self.old.sends) }
+        // Where there is room, memory is not refused.
+        ensures promised { 1 ≤ self.old.places
+            → length (nack_text reason interest.now) ≤ self.old.space → IsOk result }
+        // What is left for later sends.
+        ensures room { self.old.places ≤ self.new.places + 1 }
+        ensures space { self.old.space ≤ self.new.space + length (nack_text reason interest.now) }
+    {
+        self.places.reserve(1)?;
+        let start = self.octets.len();
+        put_nack(&mut self.octets, reason, interest)?;
+        place(&mut self.places, face, start, self.octets.len())?;
+        Ok(())
+    }
+
+    /// Adds a reply: a Data of this name and Content, without MetaInfo, signed with DigestSha256.
+    pub fn push_reply(&mut self, face: u64, name: Name<'_>, content: &[u8]) -> Result<(), Memory>
+        ensures ok { OnOk result (self.new.sends
+            ≡ self.old.sends ++ (face, reply_text (components name.entry) content.now) ∷ []) }
+        ensures err { OnErr result (self.new.sends ≡ self.old.sends) }
+        // Where there is room, memory is not refused.
+        ensures promised { 1 ≤ self.old.places
+            → length (reply_text (components name.entry) content.now) ≤ self.old.space
+            → IsOk result }
+        // What is left for later sends.
+        ensures room { self.old.places ≤ self.new.places + 1 }
+        ensures space { self.old.space
+            ≤ self.new.space + length (reply_text (components name.entry) content.now) }
+    {
+        self.places.reserve(1)?;
+        let start = self.octets.len();
+        put_reply(&mut self.octets, name, content)?;
+        place(&mut self.places, face, start, self.octets.len())?;
+        Ok(())
+    }
+
+    /// Adds a send of these octets to each face. The octets are stored once, and not at all without
+    /// a face.
+    pub fn push_to_each(&mut self, faces: &Faces, octets: &[u8]) -> Result<(), Memory>
+        ensures ok { OnOk result
+            (self.new.sends ≡ self.old.sends ++ to_each faces.now octets.now) }
+        ensures err { OnErr result (self.new.sends ≡ self.old.sends) }
+        // Where there is room, memory is not refused.
+        ensures promised { length faces.now ≤ self.old.places → length octets.now ≤ self.old.space
+            → IsOk result }
+    {
+        let count = faces.len();
+        if count == 0 {
+            return Ok(());
+        }
+        self.places.reserve(count)?;
+        let start = self.octets.len();
+        self.octets.extend_from_slice(octets)?;
+        place_each(&mut self.places, faces, start, self.octets.len())?;
+        Ok(())
+    }
+
+    /// Adds an Interest as it is sent on to each face, its HopLimit lowered by one, where it has
+    /// one, and nothing else changed. Its octets are stored once, and not at all without a face.
+    pub fn push_interest(&mut self, faces: &Faces, interest: &Interest<'_>) -> Result<(), Memory>
+        requires hops { interest.now.hop_limit ≢ Some 0 }
+        ensures ok { OnOk result (self.new.sends ≡ self.old.sends
+            ++ to_each faces.now (sent_on interest.now.whole.now interest.now.hop_limit)) }
+        ensures err { OnErr result (self.new.sends ≡ self.old.sends) }
+        // Where there is room, memory is not refused.
+        ensures promised { length faces.now ≤ self.old.places
+            → length interest.now.whole.now ≤ self.old.space → IsOk result }
+    {
+        let count = faces.len();
+        if count == 0 {
+            return Ok(());
+        }
+        self.places.reserve(count)?;
+        let start = self.octets.len();
+        put_sent_on(&mut self.octets, interest)?;
+        place_each(&mut self.places, faces, start, self.octets.len())?;
+        Ok(())
+    }
+
+    /// Adds a Data, and answers true. Answers false, and adds nothing, for one that is too long for
+    /// a packet.
+    pub fn push_data(&mut self, face: u64, writer: &DataWriter<'_>) -> Result<bool, Memory>
+        ensures ok { OnOk result (self.new.sends ≡ self.old.sends ++ data_sends face writer.now) }
+        ensures written { IfOk result (λ written. written ≡ is_none (data_refusal writer.now)) }
+        ensures err { OnErr result (self.new.sends ≡ self.old.sends) }
+        // Where there is room, memory is not refused.
+        ensures promised { 1 ≤ self.old.places → length (data_text writer.now) ≤ self.old.space
+            → IsOk result }
+        // What is left for later sends.
+        ensures room { self.old.places ≤ self.new.places + 1 }
+        ensures space { self.old.space ≤ self.new.space + length (data_text writer.now) }
+    {
+        self.places.reserve(1)?;
+        let start = self.octets.len();
+        let written = written(writer.write(&mut self.octets))?;
+        if written {
+            place(&mut self.places, face, start, self.octets.len())?;
+        }
+        Ok(written)
+    }
+
+    /// Adds an Interest of the node itself to each face, and nothing where it cannot be written. Its
+    /// octets are stored once, and not at all without a face.
+    pub fn push_fetch(&mut self, faces: &Faces, interest: &InterestWriter<'_>) -> Result<(), Memory>
+        ensures ok { OnOk result
+            (self.new.sends ≡ self.old.sends ++ fetched faces.now interest.now) }
+        ensures err { OnErr result (self.new.sends ≡ self.old.sends) }
+        // Where there is room, memory is not refused.
+        ensures promised { length faces.now ≤ self.old.places
+            → (interest_refusal interest.now ≡ None
+            → length (interest_text interest.now) ≤ self.old.space) → IsOk result }
+        // A list of faces is never longer.
+        ensures few { length faces.now ≤ MAX_FACES }
+    {
+        let count = faces.len();
+        if count == 0 {
+            return Ok(());
+        }
+        self.places.reserve(count)?;
+        let start = self.octets.len();
+        if written(interest.write(&mut self.octets))? {
+            place_each(&mut self.places, faces, start, self.octets.len())?;
+        }
+        Ok(())
+    }
+}
+
+/// Adds the place of one send. There is room for it.
+fn place(places: &mut Vec<Sent>, face: u64, start: usize, end: usize) -> Result<(), Memory>
+    requires { vec_len places.old < vec_capacity places.old }
+    ensures ok { IsOk result }
+    ensures items { places.new.items ≡ places.old.items ++ placed start end face ∷ [] }
+    ensures len { vec_len places.new ≡ vec_len places.old + 1 }
+    ensures capacity { vec_capacity places.old ≤ vec_capacity places.new }
+{
+    places.push(Sent { face, start, end })?;
+    Ok(())
+}
+
+/// Adds the place of a send to each face. There is room for them.
+fn place_each(places: &mut Vec<Sent>, faces: &Faces, start: usize, end: usize) -> Result<(), Memory>
+    requires { vec_len places.old + length faces.now ≤ vec_capacity places.old }
+    ensures ok { IsOk result }
+    ensures items { places.new.items ≡ places.old.items ++ map (placed start end) faces.now }
+    ensures len { vec_len places.new ≡ vec_len places.old + length faces.now }
+    ensures capacity { vec_capacity places.old ≤ vec_capacity places.new }
+{
+    for i in 0..faces.len() {
+        if let Some(face) = faces.get(i) {
+            place(places, face, start, end)?;
+        }
+    }
+    Ok(())
+}
+
+/// Whether a packet was written that a writer may have refused for another fault than memory.
+fn written(done: Result<(), WriteFault>) -> Result<bool, Memory>
+    ensures ok { IfOk result (λ written. written ≡ is_ok done) }
+    ensures other { OnOk result (done ≢ Err WriteFault.Memory) }
+    ensures memory { OnErr result (done ≡ Err WriteFault.Memory) }
+{
+    match done {
+        Ok(()) => Ok(true),
+        Err(WriteFault::Memory) => Err(Memory),
+        Err(_) => Ok(false),
+    }
+}
+
+/// Appends an Interest as it is sent on. Where memory is refused, nothing is appended.
+fn put_sent_on(out: &mut Vec<u8>, interest: &Interest<'_>) -> Result<(), Memory>
+    requires hops { interest.now.hop_limit ≢ Some 0 }
+    ensures ok { OnOk result (out.new.items
+        ≡ out.old.items ++ sent_on interest.now.whole.now interest.now.hop_limit) }
+    ensures err { OnErr result (out.new.items ≡ out.old.items) }
+    ensures room { vec_len out.old + length interest.now.whole.now ≤ vec_capacity out.old
+        → IsOk result }
+    ensures capacity { vec_capacity out.old ≤ vec_capacity out.new }
+{
+    let start = out.len();
+    out.extend_from_slice(interest.whole)?;
+    if let Some(limit) = interest.hop_limit {
+        let (_, copy) = out.as_mut_slice().split_at_mut(start);
+        set_hop_limit(copy, limit - 1);
+    }
+    Ok(())
+}
+
+/// Writes the HopLimit of an Interest that has one.
+fn set_hop_limit(octets: &mut [u8], limit: u8)
+    requires { ∥ ((old : ℕ) × HasHopLimit octets.old old) ∥₁ }
+    ensures { octets.new ≡ with_octet octets.old limit }
+{
+    if let Some(place) = hop_limit_mut(octets) {
+        *place = limit;
+    }
+}

@@ -1,0 +1,55 @@
+ghost use Rattle.std.specs.Prelude.{◌≡◌, ◌+◌, ◌-◌, ◌^◌, min, max};
+ghost use Rattle.forwarder.specs.State.{IsLater, state_of};
+
+use crate::open_faces::OpenFaces;
+use hmac_keys::KeyBook;
+use info_rules::Rules;
+use mgmt_core::Tables;
+use pit_fib::Pit;
+use replay_guard::Guard;
+use repo_core::Repo;
+use std::alloc::Global;
+
+/// What a node keeps between events.
+#[derive(Drop)]
+pub struct State {
+    pub alloc: Global,
+    /// The greatest moment so far, in milliseconds since 1970.
+    pub now: u64,
+    /// The version of the lists of routes and strategies.
+    pub table_number: u64,
+    pub rules: Rules,
+    pub keys: KeyBook,
+    pub faces: OpenFaces,
+    pub pit: Pit,
+    /// Routes, strategies and the cache.
+    pub tables: Tables,
+    /// Who signed commands that were allowed, and when.
+    pub guard: Guard,
+    pub repo: Repo,
+}
+
+impl State {
+    /// Advances time, which is the greatest moment so far: what is due expires. What is prepared
+    /// stays so.
+    pub fn pass_time(&mut self, moment: u64)
+        ensures later { IsLater (state_of self.old) moment (state_of self.new) }
+        ensures pit { self.new.pit.prepared ≡ self.old.pit.prepared }
+        ensures tables { self.new.tables ≡ self.old.tables }
+        ensures guard { self.new.guard ≡ self.old.guard }
+        ensures want { self.new.repo.prepared_want ≡ self.old.repo.prepared_want }
+        ensures object { self.new.repo.prepared_object ≡ self.old.repo.prepared_object }
+    {
+        self.now = self.now.max(moment);
+        self.pit.expire(self.now);
+        self.repo.expire(self.now);
+    }
+
+    /// Gives the lists their next version, which stops at the greatest u64.
+    pub fn next_version(&mut self)
+        ensures { self.new
+            ≡ record self.old { table_number = min (self.old.table_number + 1) (2 ^ 64 - 1) } }
+    {
+        self.table_number = self.table_number.saturating_add(1);
+    }
+}

@@ -1,5 +1,0 @@
-use Rattle.node_core.proofs.OneEffect.{one_effect}
-use Rattle.node_core.proofs.law.events_have_one_effect.Goals as goal
-
-pub returns : goal.returns
-returns c = λ old new other event apart x y. one_effect old new other event apart x y

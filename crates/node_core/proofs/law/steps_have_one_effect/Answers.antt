@@ -1,5 +1,0 @@
-use Rattle.node_core.proofs.OneEffect.{one_effect}
-use Rattle.node_core.proofs.law.steps_have_one_effect.Goals as goal
-
-pub returns : goal.returns
-returns c = λ old new other event answer another apart x y. one_effect old.policy new.policy other.policy event apart x.policy y.policy

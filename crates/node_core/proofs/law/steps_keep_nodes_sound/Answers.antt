@@ -1,5 +1,0 @@
-use Rattle.node_core.proofs.Soundness.{step_sound}
-use Rattle.node_core.proofs.law.steps_keep_nodes_sound.Goals as goal
-
-pub returns : goal.returns
-returns c = λ old new event answer sound step. step_sound old new event answer sound step

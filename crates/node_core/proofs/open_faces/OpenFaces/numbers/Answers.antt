@@ -1,7 +1,0 @@
-use Rattle.std.proofs.Common.{sym, ap, ◌∙◌}
-use Rattle.node_core.specs.Faces.{numbers}
-use Rattle.node_core.proofs.Openness.{numbers_of_entries}
-use Rattle.node_core.proofs.open_faces.OpenFaces.numbers.Goals as goal
-
-pub returns : goal.returns
-returns c = sym (numbers_of_entries c.self.inside.all c.self.inside.local) ∙ ap numbers c.self.view_is

@@ -1,7 +1,0 @@
-use Rattle.std.proofs.Common.{◌≡◌, take}
-use Rattle.std.specs.Prelude.{filter, not, ◌==◌}
-use Rattle.node_core.proofs.open_faces.without_face.Given as goal
-
--- the faces so far but for the one
-abbrev pub invariant-loop-i : goal.invariant-loop-i
-invariant-loop-i l = l.rest ≡ filter (λ f. not (f == l.face)) (take l.i l.faces)
