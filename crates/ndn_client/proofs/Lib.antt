@@ -5,6 +5,5 @@ pub mod Commands
 pub mod Lines
 pub mod Jobs
 pub mod ShortForms
-pub mod Singles
 pub mod RepositoryForms
 pub mod Inputs

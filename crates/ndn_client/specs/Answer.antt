@@ -20,14 +20,14 @@ use Rattle.ndn_client.specs.declared.job.DataJob.{DataJob}
 use Rattle.ndn_client.specs.declared.job.CommandJob.{CommandJob}
 use Rattle.ndn_client.specs.declared.job.TagJob.{TagJob}
 use Rattle.ndn_client.specs.declared.job.ExplainJob.{ExplainJob}
-use Rattle.ndn_client.specs.declared.tag_check.TagCheck.{TagCheck}
+use Rattle.ndn_explain.specs.declared.tag_check.TagCheck.{TagCheck}
 use Rattle.ndn_client.specs.declared.job.Job.{Job}
 use Rattle.ndn_client.specs.declared.job.Job.TheVariants as job
 use Rattle.ndn_client.specs.declared.fault.ToolFault.{ToolFault}
 use Rattle.ndn_client.specs.declared.fault.ToolFault.TheVariants as fault
-use Rattle.ndn_client.specs.Show.{frame_lines}
-use Rattle.ndn_client.specs.TagCheck.{MayBeChecked}
-use Rattle.ndn_client.specs.Explain.{explanation}
+use Rattle.ndn_explain.specs.Show.{frame_lines}
+use Rattle.ndn_explain.specs.TagCheck.{MayBeChecked}
+use Rattle.ndn_explain.specs.Explain.{explanation}
 use Rattle.ndn_client.specs.Parameters.{command_name, IsTooLong}
 
 -- octets in hexadecimal of lower case, on a line

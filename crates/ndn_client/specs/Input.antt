@@ -4,17 +4,18 @@ use Rattle.std.specs.Prelude.{◌≡◌, ◌⊎◌, ℕ, ◌-◌, List, [], ◌�
 use Rattle.hex.specs.declared.error.FromHexError.{FromHexError}
 use Rattle.hex.specs.Hex.{decode_of}
 use Rattle.hmac_keys.specs.KeyFile.{NamedKey, lines_of}
-use Rattle.hmac_keys.specs.KeyReading.{on_option, at_last_space}
+use Rattle.ndn_tlv.specs.Options.{on_option}
+use Rattle.hmac_keys.specs.KeyReading.{at_last_space}
 use Rattle.ndn_packets.specs.declared.fault.PacketFault.{PacketFault}
 use Rattle.ndn_packets.specs.declared.fault.PacketFault.TheVariants as packet
 use Rattle.ndn_packets.specs.Packet.{PlainFrame}
 use Rattle.ndn_packets.specs.Link.{IsFrame}
 use Rattle.ndn_packets.specs.FrameFaults.{FaultOf}
 use Rattle.ndn_packets.specs.FaultName.{packet_name}
-use Rattle.ndn_client.specs.declared.tag_check.TagCheck.{TagCheck}
-use Rattle.ndn_client.specs.Show.{line, named_line}
-use Rattle.ndn_client.specs.TagCheck.{MayBeChecked}
-use Rattle.ndn_client.specs.Explain.{explanation}
+use Rattle.ndn_explain.specs.declared.tag_check.TagCheck.{TagCheck}
+use Rattle.ndn_explain.specs.Show.{line, named_line}
+use Rattle.ndn_explain.specs.TagCheck.{MayBeChecked}
+use Rattle.ndn_explain.specs.Explain.{explanation}
 
 -- a text without the LF at its end
 abbrev pub without_lf : List ℕ → List ℕ

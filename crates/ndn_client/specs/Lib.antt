@@ -8,13 +8,9 @@ pub mod Fault
 pub mod KeyFile
 pub mod CommandLine
 pub mod Command
-pub mod Show
-pub mod Fields
-pub mod Meaning
-pub mod Dataset
-pub mod Segment
-pub mod TagCheck
-pub mod Explain
 pub mod Input
 pub mod Parameters
 pub mod Answer
+pub use Rattle.ndn_explain.specs.Show
+pub use Rattle.ndn_explain.specs.TagCheck
+pub use Rattle.ndn_explain.specs.Explain

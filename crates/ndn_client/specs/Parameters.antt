@@ -5,11 +5,11 @@ use Rattle.std.specs.Option.{option_map}
 use Rattle.ndn_tlv.specs.Element.{Field, element}
 use Rattle.ndn_names.specs.declared.component_type.TheConstants.{GENERIC}
 use Rattle.ndn_names.specs.Name.{octets_of}
-use Rattle.ndn_packets.specs.Fields.{optional, flag}
-use Rattle.ndn_packets.specs.Writing.{octets, number}
+use Rattle.ndn_tlv.specs.Writing.{octets, number, optional, flag}
 use Rattle.ndn_packets.specs.declared.fault.WriteFault.{WriteFault}
 use Rattle.ndn_packets.specs.declared.fault.WriteFault.TheVariants.{TooLong}
-use Rattle.ndn_client.specs.declared.parameters.TheConstants.{PARAMETERS, REPOSITORY_PARAMETERS, NAME, INTEREST_LIFETIME, CAN_BE_PREFIX, FACE_ID, COST, STRATEGY, COUNT}
+use Rattle.ndn_packets.specs.declared.command_types.TheConstants.{CONTROL_PARAMETERS, REPO_COMMAND_PARAMETER, FACE_ID, COST, STRATEGY, COUNT}
+use Rattle.ndn_packets.specs.declared.types.TheConstants.{NAME, INTEREST_LIFETIME, CAN_BE_PREFIX}
 use Rattle.ndn_client.specs.declared.job.Parameters.{Parameters}
 use Rattle.ndn_client.specs.declared.job.CommandJob.{CommandJob}
 use Rattle.ndn_client.specs.declared.fault.ToolFault.{ToolFault}
@@ -54,8 +54,8 @@ repository_fields p =
 abbrev pub parameters_element : CommandJob → List ℕ
 parameters_element job =
     if is_of_node job.name
-    then element (PARAMETERS, octets (node_fields job.parameters))
-    else element (REPOSITORY_PARAMETERS, octets (repository_fields job.parameters))
+    then element (CONTROL_PARAMETERS, octets (node_fields job.parameters))
+    else element (REPO_COMMAND_PARAMETER, octets (repository_fields job.parameters))
 
 -- the name of the command's Interest, without its digest
 abbrev pub command_name : CommandJob → List Field

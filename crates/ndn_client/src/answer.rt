@@ -5,12 +5,11 @@ ghost use Rattle.ndn_packets.specs.View.{plain_frame};
 ghost use Rattle.ndn_client.specs.Answer.{IsAnswer, IsRefusal, IsInterestAnswer, IsInterestRefusal, IsDataAnswer, IsDataRefusal, IsCommandPacket, IsCommandAnswer, IsCommandRefusal, IsTagAnswer, IsTagRefusal, IsShown, IsExplained, IsExplainAnswer, IsExplainRefusal, IsNotShown, keys_given, IsHmac, SignsInterest, SignsData, IsNoKey, hex_line};
 ghost use Rattle.ndn_client.specs.Parameters.{command_name};
 
-use crate::explain::{check_of, put_explanation};
 use crate::fault::ToolFault;
 use crate::job::{CommandJob, DataJob, ExplainJob, InterestJob, Job, TagJob};
 use crate::parameters::command_name;
-use crate::show::put_frame;
 use hmac_keys::{KeyBook, hmac_sha256};
+use ndn_explain::{check_of, put_explanation, put_frame};
 use ndn_names::NameBuf;
 use ndn_packets::{DataWriter, Frame, InterestWriter, Sign, read_frame};
 use ndn_tlv::Memory;

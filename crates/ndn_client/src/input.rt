@@ -6,14 +6,13 @@ ghost use Rattle.ndn_client.specs.Value.{AreOctets, ReadsInMemory};
 ghost use Rattle.ndn_client.specs.Input.{without_lf, is_send, parts_of, repeated, IsSaidPacket, IsSaidPart, IsSaidLine, IsSaidInput};
 ghost use Rattle.hex.specs.Hex.{decode_of};
 ghost use Rattle.ndn_packets.specs.FaultName.{packet_name};
-ghost use Rattle.ndn_client.specs.Show.{named_line};
+ghost use Rattle.ndn_explain.specs.Show.{named_line};
 
-use crate::explain::{check_of, put_explanation};
 use crate::fault::ToolFault;
 use crate::short_form::refusal;
-use crate::show::{put_label, put_value};
 use hex::FromHexError;
-use hmac_keys::KeyBook;
+use hmac_keys::{KeyBook, first_line};
+use ndn_explain::{check_of, put_explanation, put_label, put_value};
 use ndn_packets::{PacketFault, read_frame};
 use ndn_tlv::Memory;
 use std::alloc::Global;
@@ -62,19 +61,6 @@ pub fn put_input(
         rest = after;
     }
     Ok(())
-}
-
-/// The first line, and the text after its LF; all of the text and nothing, where it has no LF.
-fn first_line(text: &str) -> (&str, &str)
-    requires { text.now ≢ [] }
-    ensures lines { (lines_of text.now ≡ result.0.now ∷ lines_of result.1.now)
-        ⊎ ((lines_of text.now ≡ result.0.now ∷ []) × (result.1.now ≡ [])) }
-    ensures shorter { length result.1.now < length text.now }
-{
-    match text.split_once('\n') {
-        Some(parts) => parts,
-        None => (text, ""),
-    }
 }
 
 fn put_line(

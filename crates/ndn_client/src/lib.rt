@@ -1,28 +1,21 @@
-//! What the client `ndn_tool` does: it reads its command line, writes packets, and says what packets
-//! hold.
+//! What the client `ndn_tool` does: it reads its command line, writes packets, and answers with them or
+//! with what they say.
 #![tactic(auto)]
 
 mod answer;
 mod argument;
 mod command;
-mod dataset;
-mod explain;
 mod fault;
-mod fields;
 mod help;
 mod input;
 mod job;
 mod key_file;
-mod meaning;
 mod nonce;
 mod options;
 mod parameters;
 mod repository_form;
-mod segment;
 mod short_form;
-mod show;
 mod subcommand;
-mod tag_check;
 mod value;
 
 pub use answer::{command_packet, explained_text, hex_line, keys_given, put_answer};

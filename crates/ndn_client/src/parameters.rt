@@ -5,8 +5,7 @@ ghost use Rattle.std.specs.Prelude.{◌≡◌, ◌++◌, ◌⊎◌, ◌≤◌, [
 ghost use Rattle.ndn_tlv.specs.Element.{element};
 ghost use Rattle.ndn_tlv.specs.Number.{shortest_nni};
 ghost use Rattle.ndn_names.specs.View.{components};
-ghost use Rattle.ndn_packets.specs.Fields.{optional, flag};
-ghost use Rattle.ndn_packets.specs.Writing.{octets, number};
+ghost use Rattle.ndn_tlv.specs.Writing.{octets, number, optional, flag};
 ghost use Rattle.ndn_client.specs.Parameters.{is_generic_at, is_of_node, name_field, strategy_value, node_fields, repository_fields, parameters_element, command_name, IsNameRefusal};
 
 use crate::fault::ToolFault;
@@ -14,29 +13,12 @@ use crate::job::{CommandJob, Parameters};
 use ndn_names::component_type::GENERIC;
 use ndn_names::{Name, NameBuf, NameFault};
 use ndn_packets::WriteFault;
-use ndn_tlv::{Memory, nni_len, put_element, put_nni, put_number};
+use ndn_packets::command_types::{
+    CONTROL_PARAMETERS, COST, COUNT, FACE_ID, REPO_COMMAND_PARAMETER, STRATEGY,
+};
+use ndn_packets::types::{CAN_BE_PREFIX, INTEREST_LIFETIME, NAME};
+use ndn_tlv::{Memory, put_element, put_flag, put_number_field};
 use std::alloc::{AllocError, Global};
-
-/// The parameters of a command of the node.
-pub const PARAMETERS: u32 = 104;
-
-/// The parameters of a command of a repository.
-pub const REPOSITORY_PARAMETERS: u32 = 201;
-
-/// The fields of parameters.
-pub const NAME: u32 = 7;
-
-pub const INTEREST_LIFETIME: u32 = 12;
-
-pub const CAN_BE_PREFIX: u32 = 33;
-
-pub const FACE_ID: u32 = 105;
-
-pub const COST: u32 = 106;
-
-pub const STRATEGY: u32 = 107;
-
-pub const COUNT: u32 = 132;
 
 /// The name of the command's Interest without its digest: the command's own, and its parameters as
 /// the last component.
@@ -62,10 +44,10 @@ fn parameters_element(alloc: Global, job: &CommandJob) -> Result<Vec<u8>, Memory
     let mut text = Vec::new(alloc);
     if is_of_node(job.name.view()) {
         put_node_fields(alloc, &mut fields, &job.parameters)?;
-        put_element(&mut text, PARAMETERS, &fields)?;
+        put_element(&mut text, CONTROL_PARAMETERS, &fields)?;
     } else {
         put_repository_fields(&mut fields, &job.parameters)?;
-        put_element(&mut text, REPOSITORY_PARAMETERS, &fields)?;
+        put_element(&mut text, REPO_COMMAND_PARAMETER, &fields)?;
     }
     Ok(text)
 }
@@ -125,34 +107,4 @@ fn put_strategy(alloc: Global, out: &mut Vec<u8>, name: &Option<NameBuf>) -> Res
     let mut value = Vec::new(alloc);
     put_name(&mut value, name)?;
     put_element(out, STRATEGY, &value)
-}
-
-fn put_flag(out: &mut Vec<u8>, kind: u32, is_there: bool) -> Result<(), Memory>
-    requires { 1 ≤ kind }
-    ensures { OnOk result (out.new.items ≡ out.old.items ++ octets (flag kind is_there)) }
-{
-    if is_there {
-        put_element(out, kind, &[])
-    } else {
-        Ok(())
-    }
-}
-
-/// Appends a number's field, where it is there.
-fn put_number_field(out: &mut Vec<u8>, kind: u32, given: Option<u64>) -> Result<(), Memory>
-    ensures { OnOk result (out.new.items ≡ out.old.items ++ octets (number kind given)) }
-{
-    match given {
-        None => Ok(()),
-        Some(number) => put_nni_element(out, kind, number),
-    }
-}
-
-/// Appends an element whose value is a number.
-fn put_nni_element(out: &mut Vec<u8>, kind: u32, number: u64) -> Result<(), Memory>
-    ensures { OnOk result (out.new.items ≡ out.old.items ++ element (kind, shortest_nni number)) }
-{
-    put_number(out, u64::from(kind))?;
-    put_number(out, nni_len(number) as u64)?;
-    put_nni(out, number)
 }

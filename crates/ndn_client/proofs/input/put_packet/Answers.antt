@@ -1,7 +1,7 @@
 use Rattle.std.proofs.Common.{refl, inr, codes}
 use Rattle.std.proofs.lemmas.Result.{on_ok_weaker}
 use Rattle.ndn_packets.specs.FaultName.{packet_name}
-use Rattle.ndn_client.specs.Show.{named_line}
+use Rattle.ndn_explain.specs.Show.{named_line}
 use Rattle.ndn_client.proofs.input.put_packet.Goals as goal
 
 pub returns-in-Err : goal.returns-in-Err

@@ -2,21 +2,13 @@
 
 ghost use Rattle.std.specs.Prelude.{◌≡◌, ◌++◌, OnOk, Some};
 ghost use Rattle.ndn_names.specs.View.{components};
-ghost use Rattle.ndn_client.specs.Segment.{number_in, segment_of, last_segment, segment_line, segment_lines};
+ghost use Rattle.ndn_explain.specs.Segment.{number_in, segment_of, last_segment, segment_line, segment_lines};
 
-use crate::fields::{first_field, single_element};
 use ndn_names::Name;
 use ndn_names::component_type::SEGMENT;
-use ndn_tlv::{Memory, nni_of};
+use ndn_packets::types::{DATA, FINAL_BLOCK_ID, META_INFO};
+use ndn_tlv::{Memory, first_field, nni_of, single_element};
 use std::io::Write;
-
-/// A Data, and what gives the last segment in it (NDN Packet Format 0.3, "Data Packet",
-/// "MetaInfo").
-pub const DATA: u32 = 6;
-
-pub const META_INFO: u32 = 20;
-
-pub const FINAL_BLOCK_ID: u32 = 26;
 
 /// Appends the line of a segment, of a Data with this name and these received octets; nothing for
 /// another Data.

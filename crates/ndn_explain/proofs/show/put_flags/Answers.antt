@@ -1,6 +1,6 @@
 use Rattle.std.proofs.Common.{◌≡◌, ◌++◌, ℕ, List, Result, Ok, Err, OnOk, ap, ◌∙◌, append_assoc}
 use Rattle.ndn_tlv.specs.declared.memory.Memory.{Memory}
-use Rattle.ndn_client.proofs.show.put_flags.Goals as goal
+use Rattle.ndn_explain.proofs.show.put_flags.Goals as goal
 
 -- what was appended in two steps
 two_steps : (r : Result Unit Memory) (old middle new first second : List ℕ)

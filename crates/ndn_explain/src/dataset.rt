@@ -3,20 +3,14 @@
 ghost use Rattle.std.specs.Prelude.{◌≡◌, ◌++◌, OnOk, Ok, flat_map};
 ghost use Rattle.std.specs.Option.{option_map};
 ghost use Rattle.ndn_tlv.specs.Reading.{elements_of};
-ghost use Rattle.ndn_client.specs.Fields.{first_of};
-ghost use Rattle.ndn_client.specs.Dataset.{short_strategy, choice_line, number_word, hop_words, hop_line, entry_name, named_entry, entry_lines, dataset_lines};
+ghost use Rattle.ndn_tlv.specs.Fields.{first_of};
+ghost use Rattle.ndn_explain.specs.Dataset.{short_strategy, choice_line, number_word, hop_words, hop_line, entry_name, named_entry, entry_lines, dataset_lines};
 
-use crate::fields::first_field;
 use crate::meaning::{Form, put_form};
-use crate::parameters::{COST, FACE_ID, NAME, STRATEGY};
-use ndn_tlv::{Memory, first_element};
+use ndn_packets::command_types::{COST, ENTRY, FACE_ID, NEXT_HOP, STRATEGY};
+use ndn_packets::types::NAME;
+use ndn_tlv::{Memory, first_element, first_field};
 use std::alloc::Global;
-
-/// An entry of a list, and a next hop in it (NFD Management, "FIB Dataset", "Strategy Choice
-/// Dataset").
-pub const ENTRY: u32 = 128;
-
-pub const NEXT_HOP: u32 = 129;
 
 /// Appends the lines of the entries that a content holds; nothing for a content without any.
 pub fn put_entries(alloc: Global, text: &mut Vec<u8>, content: &[u8]) -> Result<(), Memory>

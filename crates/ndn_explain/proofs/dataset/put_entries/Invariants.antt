@@ -1,14 +1,14 @@
 use Rattle.std.proofs.Common.{◌≡◌, ◌++◌, length}
 use Rattle.std.specs.Prelude.{flat_map}
 use Rattle.ndn_tlv.specs.Reading.{elements_of}
-use Rattle.ndn_client.specs.Dataset.{hop_line}
-use Rattle.ndn_client.proofs.dataset.put_hops.Given as goal
+use Rattle.ndn_explain.specs.Dataset.{entry_lines}
+use Rattle.ndn_explain.proofs.dataset.put_entries.Given as goal
 
 -- what was appended, and the lines of what is left
 abbrev pub invariant-loop-rest : goal.invariant-loop-rest
 invariant-loop-rest l =
-    l.text.items ++ flat_map (hop_line l.name) (elements_of l.rest)
-    ≡ l.fn.text.items ++ flat_map (hop_line l.name) (elements_of l.entry)
+    l.text.items ++ flat_map entry_lines (elements_of l.rest)
+    ≡ l.fn.text.items ++ flat_map entry_lines (elements_of l.content)
 
 abbrev pub decreases-loop-rest : goal.decreases-loop-rest
 decreases-loop-rest l = length l.rest

@@ -5,7 +5,7 @@ ghost use Rattle.sha2.specs.Sha256.{sha256};
 ghost use Rattle.hmac_keys.specs.Mac.{Mac};
 ghost use Rattle.ndn_packets.specs.Packet.{AnInterest, plain_signature, plain_locator};
 ghost use Rattle.ndn_packets.specs.View.{plain_frame, plain_interest};
-ghost use Rattle.ndn_client.specs.TagCheck.{IsValueCheck, IsLocatorCheck, IsKindCheck, IsPartsCheck, IsSignedCheck, IsTagCheck, parts_of};
+ghost use Rattle.ndn_explain.specs.TagCheck.{IsValueCheck, IsLocatorCheck, IsKindCheck, IsPartsCheck, IsSignedCheck, IsTagCheck, parts_of};
 
 use hmac_keys::{KeyBook, hmac_sha256, tags_equal};
 use ndn_packets::{DIGEST_SHA256, Frame, HMAC_WITH_SHA256, Interest, Locator, Parts, Signature};

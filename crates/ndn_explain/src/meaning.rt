@@ -5,33 +5,21 @@ ghost use Rattle.std.specs.Option.{option_map};
 ghost use Rattle.std.specs.List.{list_all};
 ghost use Rattle.ndn_tlv.specs.Reading.{elements_of};
 ghost use Rattle.ndn_names.specs.View.{components};
-ghost use Rattle.ndn_client.specs.Fields.{first_of};
-ghost use Rattle.ndn_client.specs.Show.{named_line, optional_line};
-ghost use Rattle.ndn_client.specs.Meaning.{bad_text, number_text, name_text, form_text, field_line, hop_lines, wanted_lines, field_lines, parameters_of, parameters_in, command_lines, is_printable, status_text, status_line, body_lines, node_reply_lines, repository_reply_lines, reply_lines};
+ghost use Rattle.ndn_tlv.specs.Fields.{first_of};
+ghost use Rattle.ndn_explain.specs.Show.{named_line, optional_line};
+ghost use Rattle.ndn_explain.specs.Meaning.{bad_text, number_text, name_text, form_text, field_line, hop_lines, wanted_lines, field_lines, parameters_of, parameters_in, command_lines, is_printable, status_text, status_line, body_lines, node_reply_lines, repository_reply_lines, reply_lines};
 
-use crate::fields::{first_field, single_element};
-use crate::parameters::{
-    CAN_BE_PREFIX, COST, COUNT, FACE_ID, INTEREST_LIFETIME, NAME, PARAMETERS,
-    REPOSITORY_PARAMETERS, STRATEGY,
-};
 use crate::show::{put_flag, put_hex, put_name};
 use ndn_names::component_type::{GENERIC, PARAMETERS_SHA256_DIGEST};
 use ndn_names::{Name, NameBuf};
-use ndn_tlv::{Memory, nni_of};
+use ndn_packets::command_types::{
+    CONTROL_PARAMETERS, CONTROL_RESPONSE, COST, COUNT, FACE_ID, REPO_COMMAND_PARAMETER,
+    REPO_COMMAND_RESPONSE, REPO_STATUS_CODE, STATUS_CODE, STATUS_TEXT, STRATEGY,
+};
+use ndn_packets::types::{CAN_BE_PREFIX, INTEREST_LIFETIME, NAME};
+use ndn_tlv::{Memory, first_field, nni_of, single_element};
 use std::alloc::Global;
 use std::io::Write;
-
-/// A reply of the node (NFD Management, "Control Command", ControlResponse).
-pub const RESPONSE: u32 = 101;
-
-pub const STATUS_CODE: u32 = 102;
-
-pub const STATUS_TEXT: u32 = 103;
-
-/// A reply of a repository.
-pub const REPOSITORY_RESPONSE: u32 = 207;
-
-pub const REPOSITORY_STATUS_CODE: u32 = 208;
 
 /// What the value of a field is.
 #[derive(Clone, Copy, Debug, PartialEq, Eq)]
@@ -80,9 +68,9 @@ fn parameters_in<'a>(name: Name<'a>) -> Option<&'a [u8]>
 fn parameters_of(value: &[u8]) -> Option<&[u8]>
     ensures { option_map (λ v. v.now) result ≡ parameters_of value.now }
 {
-    match single_element(value, PARAMETERS) {
+    match single_element(value, CONTROL_PARAMETERS) {
         Some(fields) => Some(fields),
-        None => single_element(value, REPOSITORY_PARAMETERS),
+        None => single_element(value, REPO_COMMAND_PARAMETER),
     }
 }
 
@@ -90,10 +78,10 @@ fn parameters_of(value: &[u8]) -> Option<&[u8]>
 pub fn put_reply(alloc: Global, text: &mut Vec<u8>, content: &[u8]) -> Result<(), Memory>
     ensures { OnOk result (text.new.items ≡ text.old.items ++ reply_lines content.now) }
 {
-    if let Some(fields) = single_element(content, RESPONSE) {
+    if let Some(fields) = single_element(content, CONTROL_RESPONSE) {
         return put_node_reply(alloc, text, fields);
     }
-    match single_element(content, REPOSITORY_RESPONSE) {
+    match single_element(content, REPO_COMMAND_RESPONSE) {
         Some(fields) => put_repository_reply(alloc, text, fields),
         None => Ok(()),
     }
@@ -104,7 +92,7 @@ fn put_node_reply(alloc: Global, text: &mut Vec<u8>, fields: &[u8]) -> Result<()
         ≡ text.old.items ++ node_reply_lines (elements_of fields.now)) }
 {
     put_status(alloc, text, fields, STATUS_CODE)?;
-    match first_field(fields, PARAMETERS) {
+    match first_field(fields, CONTROL_PARAMETERS) {
         Some(body) => put_fields(alloc, text, body),
         None => Ok(()),
     }
@@ -114,7 +102,7 @@ fn put_repository_reply(alloc: Global, text: &mut Vec<u8>, fields: &[u8]) -> Res
     ensures { OnOk result (text.new.items
         ≡ text.old.items ++ repository_reply_lines (elements_of fields.now)) }
 {
-    put_status(alloc, text, fields, REPOSITORY_STATUS_CODE)?;
+    put_status(alloc, text, fields, REPO_STATUS_CODE)?;
     put_fields(alloc, text, fields)
 }
 

@@ -9,9 +9,9 @@ use Rattle.ndn_packets.specs.declared.covered.Parts.{Parts}
 use Rattle.ndn_packets.specs.declared.types.TheConstants.{DIGEST_SHA256, HMAC_WITH_SHA256}
 use Rattle.ndn_packets.specs.Packet.{PlainLocator, KeyName, PlainSignature, PlainFrame, AnInterest, AData, ANack, Idle}
 use Rattle.ndn_packets.specs.Covered.{Covered}
-use Rattle.ndn_client.specs.declared.tag_check.TagCheck.{TagCheck}
-use Rattle.ndn_client.specs.declared.tag_check.TagCheck.TheVariants.{Right, Wrong, UnknownKey, Unchecked}
-use Rattle.ndn_client.specs.Show.{line}
+use Rattle.ndn_explain.specs.declared.tag_check.TagCheck.{TagCheck}
+use Rattle.ndn_explain.specs.declared.tag_check.TagCheck.TheVariants.{Right, Wrong, UnknownKey, Unchecked}
+use Rattle.ndn_explain.specs.Show.{line}
 
 -- the covered octets, one part after the other
 abbrev pub parts_of : Parts → List ℕ

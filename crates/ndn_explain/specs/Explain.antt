@@ -6,12 +6,12 @@ use Rattle.std.specs.Option.{option_map}
 use Rattle.std.specs.Fmt.{decimal}
 use Rattle.ndn_names.specs.Uri.{uri_of}
 use Rattle.ndn_packets.specs.Packet.{PlainLocator, Missing, KeyName, Digest, Other, PlainSignature, PlainSignatureInfo, PlainData, PlainFrame, AnInterest, AData, ANack, Idle}
-use Rattle.ndn_client.specs.Show.{optional_line, frame_lines}
-use Rattle.ndn_client.specs.Meaning.{command_lines, reply_lines}
-use Rattle.ndn_client.specs.Dataset.{dataset_lines}
-use Rattle.ndn_client.specs.Segment.{segment_lines}
-use Rattle.ndn_client.specs.declared.tag_check.TagCheck.{TagCheck}
-use Rattle.ndn_client.specs.TagCheck.{check_lines}
+use Rattle.ndn_explain.specs.Show.{optional_line, frame_lines}
+use Rattle.ndn_explain.specs.Meaning.{command_lines, reply_lines}
+use Rattle.ndn_explain.specs.Dataset.{dataset_lines}
+use Rattle.ndn_explain.specs.Segment.{segment_lines}
+use Rattle.ndn_explain.specs.declared.tag_check.TagCheck.{TagCheck}
+use Rattle.ndn_explain.specs.TagCheck.{check_lines}
 
 -- a URI, or which other kind of KeyLocator it is
 abbrev pub locator_text : PlainLocator → Option (List ℕ)

@@ -6,9 +6,9 @@ use Rattle.std.specs.Fmt.{decimal}
 use Rattle.ndn_tlv.specs.Element.{Field}
 use Rattle.ndn_tlv.specs.Reading.{elements_of, nni_at}
 use Rattle.ndn_names.specs.declared.component_type.TheConstants.{SEGMENT}
-use Rattle.ndn_client.specs.declared.segment.TheConstants.{DATA, META_INFO, FINAL_BLOCK_ID}
-use Rattle.ndn_client.specs.Fields.{first_of, single}
-use Rattle.ndn_client.specs.Show.{named_line}
+use Rattle.ndn_packets.specs.declared.types.TheConstants.{DATA, META_INFO, FINAL_BLOCK_ID}
+use Rattle.ndn_tlv.specs.Fields.{first_of, single}
+use Rattle.ndn_explain.specs.Show.{named_line}
 
 abbrev pub number_in : List ℕ → Option ℕ
 number_in value = result_ok (nni_at value)

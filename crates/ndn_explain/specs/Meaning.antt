@@ -9,12 +9,13 @@ use Rattle.ndn_tlv.specs.Reading.{elements_of, nni_at, on_result}
 use Rattle.ndn_names.specs.declared.component_type.TheConstants.{GENERIC, PARAMETERS_SHA256_DIGEST}
 use Rattle.ndn_names.specs.Reading.{name_at}
 use Rattle.ndn_names.specs.Uri.{uri_of}
-use Rattle.ndn_client.specs.declared.parameters.TheConstants.{PARAMETERS, REPOSITORY_PARAMETERS, NAME, INTEREST_LIFETIME, CAN_BE_PREFIX, FACE_ID, COST, STRATEGY, COUNT}
-use Rattle.ndn_client.specs.declared.meaning.Form.{Form}
-use Rattle.ndn_client.specs.declared.meaning.Form.TheVariants.{Number, Name, Strategy}
-use Rattle.ndn_client.specs.declared.meaning.TheConstants.{RESPONSE, STATUS_CODE, STATUS_TEXT, REPOSITORY_RESPONSE, REPOSITORY_STATUS_CODE}
-use Rattle.ndn_client.specs.Fields.{Elements, first_of, single}
-use Rattle.ndn_client.specs.Show.{named_line, flag_line, optional_line, hex_or_dash}
+use Rattle.ndn_packets.specs.declared.command_types.TheConstants.{CONTROL_PARAMETERS, REPO_COMMAND_PARAMETER, FACE_ID, COST, STRATEGY, COUNT}
+use Rattle.ndn_packets.specs.declared.types.TheConstants.{NAME, INTEREST_LIFETIME, CAN_BE_PREFIX}
+use Rattle.ndn_explain.specs.declared.meaning.Form.{Form}
+use Rattle.ndn_explain.specs.declared.meaning.Form.TheVariants.{Number, Name, Strategy}
+use Rattle.ndn_packets.specs.declared.command_types.TheConstants.{CONTROL_RESPONSE, STATUS_CODE, STATUS_TEXT, REPO_COMMAND_RESPONSE, REPO_STATUS_CODE}
+use Rattle.ndn_tlv.specs.Fields.{Elements, first_of, single}
+use Rattle.ndn_explain.specs.Show.{named_line, flag_line, optional_line, hex_or_dash}
 
 -- ---- fields
 
@@ -72,8 +73,8 @@ or_else (Some x) other = Some x
 -- the fields of parameters, which are one element
 abbrev pub parameters_of : List ℕ → Option (List ℕ)
 parameters_of value =
-    or_else (single PARAMETERS (elements_of value))
-    (single REPOSITORY_PARAMETERS (elements_of value))
+    or_else (single CONTROL_PARAMETERS (elements_of value))
+    (single REPO_COMMAND_PARAMETER (elements_of value))
 
 abbrev pub has_kind : ℕ → Option Field → Bool
 has_kind kind None = false
@@ -123,10 +124,10 @@ body_lines None = []
 body_lines (Some fields) = field_lines (elements_of fields)
 
 abbrev pub node_reply_lines : Elements → List ℕ
-node_reply_lines es = status_line STATUS_CODE es ++ body_lines (first_of PARAMETERS es)
+node_reply_lines es = status_line STATUS_CODE es ++ body_lines (first_of CONTROL_PARAMETERS es)
 
 abbrev pub repository_reply_lines : Elements → List ℕ
-repository_reply_lines es = status_line REPOSITORY_STATUS_CODE es ++ field_lines es
+repository_reply_lines es = status_line REPO_STATUS_CODE es ++ field_lines es
 
 -- of a Data with this Content, if it is a reply
 abbrev pub or_repository : Option (List ℕ) → Option (List ℕ) → List ℕ
@@ -136,5 +137,5 @@ or_repository None None = []
 
 abbrev pub reply_lines : List ℕ → List ℕ
 reply_lines content =
-    or_repository (single RESPONSE (elements_of content))
-    (single REPOSITORY_RESPONSE (elements_of content))
+    or_repository (single CONTROL_RESPONSE (elements_of content))
+    (single REPO_COMMAND_RESPONSE (elements_of content))

@@ -4,11 +4,12 @@ use Rattle.std.specs.Prelude.{ℕ, List, [], ◌++◌, flat_map, ◌==◌, bytes
 use Rattle.ndn_tlv.specs.declared.fault.TlvFault.{TlvFault}
 use Rattle.ndn_tlv.specs.Element.{Field}
 use Rattle.ndn_tlv.specs.Reading.{elements_of}
-use Rattle.ndn_client.specs.declared.parameters.TheConstants.{NAME, FACE_ID, COST, STRATEGY}
-use Rattle.ndn_client.specs.declared.dataset.TheConstants.{ENTRY, NEXT_HOP}
-use Rattle.ndn_client.specs.Fields.{Elements, first_of}
-use Rattle.ndn_client.specs.Meaning.{name_text, number_text, strategy_text}
-use Rattle.ndn_client.specs.Show.{named_line}
+use Rattle.ndn_packets.specs.declared.command_types.TheConstants.{FACE_ID, COST, STRATEGY}
+use Rattle.ndn_packets.specs.declared.types.TheConstants.{NAME}
+use Rattle.ndn_packets.specs.declared.command_types.TheConstants.{ENTRY, NEXT_HOP}
+use Rattle.ndn_tlv.specs.Fields.{Elements, first_of}
+use Rattle.ndn_explain.specs.Meaning.{name_text, number_text, strategy_text}
+use Rattle.ndn_explain.specs.Show.{named_line}
 
 -- ---- entries
 

@@ -4,9 +4,9 @@ ghost use Rattle.std.specs.Prelude.{◌≡◌, ◌++◌, OnOk, Some, option_map,
 ghost use Rattle.std.specs.Fmt.{decimal};
 ghost use Rattle.ndn_packets.specs.Packet.{plain_signature, plain_locator};
 ghost use Rattle.ndn_packets.specs.View.{plain_frame, plain_data};
-ghost use Rattle.ndn_client.specs.Show.{optional_line};
-ghost use Rattle.ndn_client.specs.TagCheck.{MayBeChecked, check_words, check_lines};
-ghost use Rattle.ndn_client.specs.Explain.{locator_text, info_lines, signer_lines, signature_of, content_lines, data_meaning, meaning, explanation};
+ghost use Rattle.ndn_explain.specs.Show.{optional_line};
+ghost use Rattle.ndn_explain.specs.TagCheck.{MayBeChecked, check_words, check_lines};
+ghost use Rattle.ndn_explain.specs.Explain.{locator_text, info_lines, signer_lines, signature_of, content_lines, data_meaning, meaning, explanation};
 
 use crate::dataset::put_entries;
 use crate::meaning::{put_command, put_reply};

@@ -5,7 +5,7 @@ ghost use Rattle.ndn_names.specs.View.{components};
 ghost use Rattle.ndn_names.specs.Uri.{uri_of};
 ghost use Rattle.ndn_packets.specs.Packet.{plain_signature};
 ghost use Rattle.ndn_packets.specs.View.{plain_frame, plain_interest, plain_data};
-ghost use Rattle.ndn_client.specs.Show.{line, named_line, flag_line, optional_line, hex_or_dash, signature_line, flag_lines, number_lines, parameter_lines, interest_lines, data_lines, frame_lines};
+ghost use Rattle.ndn_explain.specs.Show.{line, named_line, flag_line, optional_line, hex_or_dash, signature_line, flag_lines, number_lines, parameter_lines, interest_lines, data_lines, frame_lines};
 
 use ndn_names::{Name, NameBuf};
 use ndn_packets::{Data, Frame, Interest, Signature};

@@ -1,0 +1,6 @@
+pub mod Show
+pub mod Meaning
+pub mod Dataset
+pub mod Segment
+pub mod TagCheck
+pub mod Explain

@@ -1,0 +1,13 @@
+//! What packets say, in lines of text: their fields, commands, replies, lists and signatures.
+#![tactic(auto)]
+
+mod dataset;
+mod explain;
+mod meaning;
+mod segment;
+mod show;
+mod tag_check;
+
+pub use explain::{check_of, put_explanation};
+pub use show::{put_frame, put_label, put_value};
+pub use tag_check::TagCheck;
