@@ -206,11 +206,16 @@ fn refused_keys(alloc: Global, octets: &[u8]) -> Option<String> {
 }
 
 #[test]
-fn files(rt: HostRuntime) {
+fn rule_files(rt: HostRuntime) {
     let alloc = rt.alloc();
     assert!(rt; read_rules(alloc, b"").is_ok_and(|rules| rules.len() == 0));
     assert!(rt; refused_rules(alloc, b"rule").as_deref() == Some("1 rules:1: BadValue\n"));
     assert!(rt; refused_rules(alloc, b"\xff").as_deref() == Some("1 rules:0: Syntax\n"));
+}
+
+#[test]
+fn key_files(rt: HostRuntime) {
+    let alloc = rt.alloc();
     assert!(rt; read_keys(alloc, b"/k 6b6579\n").is_ok_and(|keys| !keys.is_empty()));
     assert!(rt; refused_keys(alloc, b"\n/k").as_deref() == Some("1 keys:2: BadLine\n"));
     let twice = b"/k 6b6579\n/k 6b6579\n";

@@ -5,4 +5,4 @@
 #[cfg(test)]
 mod daemon;
 #[cfg(test)]
-mod forwarder;
+mod node;

@@ -1,10 +1,12 @@
-//! What the tests of several crates share: rows of text, and the sample rules and keys.
+//! What the tests of several crates share: rows of text, Data, and the sample rules and keys.
 #![tactic(auto)]
 
+mod data;
 mod rows;
 mod samples;
 mod sequences;
 
-pub use rows::{first_wrong, octets, typed};
+pub use data::{content_shown, data_of, digest_of};
+pub use rows::{first_misshown, first_wrong, octets, typed};
 pub use samples::{KEYS, SAMPLE};
 pub use sequences::random;

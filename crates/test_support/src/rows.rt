@@ -33,6 +33,30 @@ pub fn first_wrong<F: Fn(Global, &str) -> bool>(alloc: Global, rows: &str, is_ri
     without_rows
 }
 
+/// The first row whose input is shown as another text, and what it is shown as. A row is an input,
+/// ` -> `, and the text that it has to be shown as. A text without rows is wrong.
+pub fn first_misshown<'a>(
+    alloc: Global,
+    rows: &'a str,
+    show: fn(Global, &str) -> Option<String>,
+) -> Option<(&'a str, Option<String>)>
+    requires { IsAlwaysCallable show }
+{
+    let mut without_rows = Some(("no rows", None));
+    for row in rows.lines() {
+        if row.is_empty() || row.starts_with('#') {
+            continue;
+        }
+        let (input, expected) = row.split_once(" -> ").unwrap_or((row, "no arrow"));
+        let shown = show(alloc, input);
+        if shown.as_deref() != Some(expected) {
+            return Some((row, shown));
+        }
+        without_rows = None;
+    }
+    without_rows
+}
+
 /// A row with the signs that its symbols stand for: a tab for `␉`, an LF for `␊`, a VT for `␋`, a CR
 /// for `␍`, a unit separator for `␟`, a delete for `␡`, and a space that does not break for `⍽`.
 pub fn typed(alloc: Global, row: &str) -> Option<String> {

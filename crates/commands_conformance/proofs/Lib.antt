@@ -1,0 +1,2 @@
+pub mod NoRoutes
+pub mod OpenRoutes

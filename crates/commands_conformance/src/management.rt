@@ -1,0 +1,249 @@
+//! Management commands, their effects, replies and lists.
+
+mod effects;
+mod segments_and_unknown_commands;
+
+use crate::rows::check_rows;
+use effects::Station;
+use mgmt_core::*;
+use ndn_names::NameBuf;
+use std::alloc::Global;
+use test_support::octets;
+
+fn action_shown(action: Action) -> &'static str {
+    match action {
+        Action::AddNexthop => "add",
+        Action::RemoveNexthop => "remove",
+        Action::SetStrategy => "set",
+        Action::UnsetStrategy => "unset",
+        Action::EraseCache => "erase",
+    }
+}
+
+/// A name: a URI, and the octets of components after it, in hexadecimal. The word `digest` stands
+/// for a digest of 32 zeros.
+pub fn name_in(alloc: Global, text: &str) -> Option<NameBuf> {
+    let mut words = text.split(' ');
+    let mut name = NameBuf::from_uri(alloc, words.next()?).ok()?;
+    for word in words {
+        append(alloc, &mut name, word)?;
+    }
+    Some(name)
+}
+
+fn append(alloc: Global, name: &mut NameBuf, word: &str) -> Option<()> {
+    if word == "digest" {
+        return name.append(2, &[0; 32]).ok();
+    }
+    name.append(8, &octets(alloc, word)?).ok()
+}
+
+/// What a command asks for: its action, name, face, cost, count and strategy, or the status that
+/// refuses it.
+fn command_shown(alloc: Global, row: &str) -> Option<String> {
+    let name = name_in(alloc, row)?;
+    match Command::read(name.view()) {
+        Ok(command) => fields_shown(alloc, &command),
+        Err(status) => format!(in alloc; "{status}").ok(),
+    }
+}
+
+fn fields_shown(alloc: Global, command: &Command<'_>) -> Option<String> {
+    let (action, name) = (action_shown(command.action), command.name);
+    let (face, cost) = (command.face, command.cost);
+    let mut text = format!(in alloc; "{action} {name} {face} {cost}").ok()?;
+    match command.count {
+        None => text.push_str(" -").ok()?,
+        Some(count) => write!(text, " {count}").ok()?,
+    }
+    if let Some(strategy) = command.strategy {
+        write!(text, " {strategy}").ok()?;
+    }
+    Some(text)
+}
+
+/// Absent fields: face 0 and cost 0.
+#[test]
+fn absent_fields(rt: HostRuntime) {
+    let rows = "
+/localhost/nfd/fib/add-nexthop 68050703080141 -> add /A 0 0 -
+/localhost/nfd/fib/add-nexthop 68050703080141 digest -> add /A 0 0 -
+/localhost/nfd/fib/add-nexthop 68020700 -> add / 0 0 -
+/localhost/nfd/fib/add-nexthop 680b07030801416901026a0105 -> add /A 2 5 -
+/localhost/nfd/fib/remove-nexthop 6808070308014169010a -> remove /A 10 0 -
+/localhost/nfd/strategy-choice/set 680c07030801416b050703080142 -> set /A 0 0 - /B
+/localhost/nfd/strategy-choice/set 680907030801416b020700 -> set /A 0 0 - /
+/localhost/nfd/strategy-choice/unset 68050703080141 -> unset /A 0 0 -
+/localhost/nfd/cs/erase 68080703080141840102 -> erase /A 0 0 2
+";
+    check_rows(&rt, rt.alloc(), rows, command_shown);
+}
+
+/// Any order, the first of each counts, unknown elements are ignored.
+#[test]
+fn the_first_of_each_field_counts(rt: HostRuntime) {
+    let rows = "
+/localhost/nfd/fib/add-nexthop 680b6a01056901020703080141 -> add /A 2 5 -
+/localhost/nfd/fib/add-nexthop 680b0703080141690102690103 -> add /A 2 0 -
+/localhost/nfd/fib/add-nexthop 680a07030801410703080142 -> add /A 0 0 -
+/localhost/nfd/fib/add-nexthop 68070703080141ff00 -> 400
+/localhost/nfd/fib/add-nexthop 680707030801416e00 -> add /A 0 0 -
+";
+    check_rows(&rt, rt.alloc(), rows, command_shown);
+}
+
+/// Numbers of each length, up to the greatest.
+#[test]
+fn numbers_of_each_length(rt: HostRuntime) {
+    let rows = "
+/localhost/nfd/fib/add-nexthop 680907030801416902000a -> add /A 10 0 -
+/localhost/nfd/fib/add-nexthop 680b070308014169040000000a -> add /A 10 0 -
+/localhost/nfd/fib/add-nexthop 681907030801416908ffffffffffffffff6a08ffffffffffffffff -> add /A 18446744073709551615 18446744073709551615 -
+/localhost/nfd/cs/erase 680f07030801418408ffffffffffffffff -> erase /A 0 0 18446744073709551615
+";
+    check_rows(&rt, rt.alloc(), rows, command_shown);
+}
+
+/// A field of wrong form, one that is needed, one that the command does not take.
+#[test]
+fn fields_that_commands_need_and_take(rt: HostRuntime) {
+    let rows = "
+/localhost/nfd/fib/add-nexthop 680707030801416900 -> 400
+/localhost/nfd/fib/add-nexthop 680a07030801416903000002 -> 400
+/localhost/nfd/fib/add-nexthop 68050703000141 -> 400
+/localhost/nfd/fib/add-nexthop 6803690102 -> 400
+/localhost/nfd/fib/add-nexthop 6800 -> 400
+/localhost/nfd/fib/add-nexthop 680807030801416c0100 -> 400
+/localhost/nfd/fib/add-nexthop 680807030801416d0100 -> 400
+/localhost/nfd/fib/add-nexthop 680807030801416f0100 -> 400
+/localhost/nfd/fib/add-nexthop 68080703080141840100 -> 400
+/localhost/nfd/fib/remove-nexthop 680807030801416a0100 -> 400
+/localhost/nfd/strategy-choice/unset 68080703080141690100 -> 400
+/localhost/nfd/strategy-choice/unset 68020700 -> 400
+/localhost/nfd/strategy-choice/set 68050703080141 -> 400
+/localhost/nfd/strategy-choice/set 680a07030801416b03080142 -> 400
+/localhost/nfd/cs/erase 68080703080141690100 -> 400
+";
+    check_rows(&rt, rt.alloc(), rows, command_shown);
+}
+
+/// What becomes of a command from face 9, while the faces 2 and 9 are up: its status, the body of
+/// its reply, and the list of routes or, of a command that sets a strategy, that of strategies.
+fn applied_shown(alloc: Global, row: &str) -> Option<String> {
+    let name = name_in(alloc, row)?;
+    let mut station = Station::new(alloc)?;
+    let applied = station.apply_prepared(&Command::read(name.view()).ok()?)?;
+    let list = station.list(
+        alloc,
+        row.starts_with("/localhost/nfd/strategy-choice/set "),
+    )?;
+    reply_and_list(alloc, &applied, &list)
+}
+
+fn reply_and_list(alloc: Global, applied: &Applied, list: &[u8]) -> Option<String> {
+    let status = applied.status;
+    let body = hex::encode(alloc, applied.body.as_slice()).ok()?;
+    let list = hex::encode(alloc, list).ok()?;
+    format!(in alloc; "{status} {body} {list}").ok()
+}
+
+/// A route of a face, of the asking face, and of one that is not up; the reply has the face.
+#[test]
+fn a_route_needs_an_open_face(rt: HostRuntime) {
+    let rows = "
+/localhost/nfd/fib/add-nexthop 68080703080141690102 -> 200 680b07030801416901026a0100 800d070308014181066901026a0100
+/localhost/nfd/fib/add-nexthop 68080703080141690107 -> 410  
+/localhost/nfd/fib/add-nexthop 680807030801416a0105 -> 200 680b07030801416901096a0105 800d070308014181066901096a0105
+/localhost/nfd/fib/add-nexthop 68080703080141690100 -> 200 680b07030801416901096a0100 800d070308014181066901096a0100
+";
+    check_rows(&rt, rt.alloc(), rows, applied_shown);
+}
+
+/// A strategy, without its Version component; an unknown one; a name of 33 components.
+#[test]
+fn a_strategy_is_known_by_its_name(rt: HostRuntime) {
+    let rows = "
+/localhost/nfd/strategy-choice/set 682e07030801416b27072508096c6f63616c686f737408036e66640808737472617465677908096d756c746963617374 -> 200 682e07030801416b27072508096c6f63616c686f737408036e66640808737472617465677908096d756c746963617374 802c07006b28072608096c6f63616c686f737408036e666408087374726174656779080a626573742d726f757465802e07030801416b27072508096c6f63616c686f737408036e66640808737472617465677908096d756c746963617374
+/localhost/nfd/strategy-choice/set 683107030801416b2a072808096c6f63616c686f737408036e66640808737472617465677908096d756c746963617374360105 -> 200 682e07030801416b27072508096c6f63616c686f737408036e66640808737472617465677908096d756c746963617374 802c07006b28072608096c6f63616c686f737408036e666408087374726174656779080a626573742d726f757465802e07030801416b27072508096c6f63616c686f737408036e66640808737472617465677908096d756c746963617374
+/localhost/nfd/strategy-choice/set 682b07006b27072508096c6f63616c686f737408036e66640808737472617465677908096d756c746963617374 -> 200 682b07006b27072508096c6f63616c686f737408036e66640808737472617465677908096d756c746963617374 802b07006b27072508096c6f63616c686f737408036e66640808737472617465677908096d756c746963617374
+/localhost/nfd/strategy-choice/set 683407030801416b2d072b08096c6f63616c686f737408036e66640808737472617465677908096d756c746963617374360105360105 -> 404  802c07006b28072608096c6f63616c686f737408036e666408087374726174656779080a626573742d726f757465
+/localhost/nfd/strategy-choice/set 682307030801416b1c071a08096c6f63616c686f737408036e666408087374726174656779 -> 404  802c07006b28072608096c6f63616c686f737408036e666408087374726174656779080a626573742d726f757465
+/localhost/nfd/strategy-choice/set 680907030801416b020700 -> 404  802c07006b28072608096c6f63616c686f737408036e666408087374726174656779080a626573742d726f757465
+/localhost/nfd/strategy-choice/set 688e07630801410801410801410801410801410801410801410801410801410801410801410801410801410801410801410801410801410801410801410801410801410801410801410801410801410801410801410801410801410801410801410801410801416b27072508096c6f63616c686f737408036e66640808737472617465677908096d756c746963617374 -> 414  802c07006b28072608096c6f63616c686f737408036e666408087374726174656779080a626573742d726f757465
+/localhost/nfd/strategy-choice/set 686907630801410801410801410801410801410801410801410801410801410801410801410801410801410801410801410801410801410801410801410801410801410801410801410801410801410801410801410801410801410801410801410801410801416b020700 -> 414  802c07006b28072608096c6f63616c686f737408036e666408087374726174656779080a626573742d726f757465
+/localhost/nfd/strategy-choice/set 688c07600801410801410801410801410801410801410801410801410801410801410801410801410801410801410801410801410801410801410801410801410801410801410801410801410801410801410801410801410801410801410801410801416b28072608096c6f63616c686f737408036e666408087374726174656779080a626573742d726f757465 -> 200 688c07600801410801410801410801410801410801410801410801410801410801410801410801410801410801410801410801410801410801410801410801410801410801410801410801410801410801410801410801410801410801410801410801416b28072608096c6f63616c686f737408036e666408087374726174656779080a626573742d726f757465 802c07006b28072608096c6f63616c686f737408036e666408087374726174656779080a626573742d726f757465808c07600801410801410801410801410801410801410801410801410801410801410801410801410801410801410801410801410801410801410801410801410801410801410801410801410801410801410801410801410801410801410801410801416b28072608096c6f63616c686f737408036e666408087374726174656779080a626573742d726f757465
+";
+    check_rows(&rt, rt.alloc(), rows, applied_shown);
+}
+
+/// A prefix of 32 components, and of 33, which comes before a face that is not up.
+#[test]
+fn prefixes_of_32_components(rt: HostRuntime) {
+    let rows = "
+/localhost/nfd/fib/add-nexthop 68650760080141080141080141080141080141080141080141080141080141080141080141080141080141080141080141080141080141080141080141080141080141080141080141080141080141080141080141080141080141080141080141080141690102 -> 200 686807600801410801410801410801410801410801410801410801410801410801410801410801410801410801410801410801410801410801410801410801410801410801410801410801410801410801410801410801410801410801410801410801416901026a0100 806a076008014108014108014108014108014108014108014108014108014108014108014108014108014108014108014108014108014108014108014108014108014108014108014108014108014108014108014108014108014108014108014108014181066901026a0100
+/localhost/nfd/fib/add-nexthop 68680763080141080141080141080141080141080141080141080141080141080141080141080141080141080141080141080141080141080141080141080141080141080141080141080141080141080141080141080141080141080141080141080141080141690102 -> 414  
+/localhost/nfd/fib/add-nexthop 68680763080141080141080141080141080141080141080141080141080141080141080141080141080141080141080141080141080141080141080141080141080141080141080141080141080141080141080141080141080141080141080141080141080141690107 -> 414  
+";
+    check_rows(&rt, rt.alloc(), rows, applied_shown);
+}
+
+/// A route that is not there, and a face that is not up.
+#[test]
+fn removals_of_what_is_not_there(rt: HostRuntime) {
+    let rows = "
+/localhost/nfd/fib/remove-nexthop 68080703080141690107 -> 200 68080703080141690107 
+/localhost/nfd/strategy-choice/unset 68050703080141 -> 200 68050703080141 
+";
+    check_rows(&rt, rt.alloc(), rows, applied_shown);
+}
+
+/// The Count is repeated, and not the number removed.
+#[test]
+fn the_count_of_an_erase_is_repeated(rt: HostRuntime) {
+    let rows = "
+/localhost/nfd/cs/erase 68080703080141840105 -> 200 68080703080141840105 
+/localhost/nfd/cs/erase 68050703080141 -> 200 68050703080141 
+";
+    check_rows(&rt, rt.alloc(), rows, applied_shown);
+}
+
+/// Whether a reply is these octets.
+fn replies(alloc: Global, status: u16, text: &str, body: &str, expected: &str) -> bool {
+    let (Some(body), Some(expected)) = (octets(alloc, body), octets(alloc, expected)) else {
+        return false;
+    };
+    let mut out: Vec<u8> = Vec::new(alloc);
+    put_response(&mut out, status, text, &body).is_ok() && out.as_slice() == expected.as_slice()
+}
+
+/// A reply of this status without a body, with the status's text.
+fn reply_written(alloc: Global, row: &str) -> Option<String> {
+    let status = row.parse().ok()?;
+    let mut out = Vec::new(alloc);
+    put_response(&mut out, status, status_text(status)?, &[]).ok()?;
+    hex::encode(alloc, &out).ok()
+}
+
+#[test]
+fn texts_of_statuses(rt: HostRuntime) {
+    let rows = "
+200 -> 65076601c867024f4b
+400 -> 651466020190670e62616420706172616d6574657273
+404 -> 6516660201946710756e6b6e6f776e207374726174656779
+410 -> 65136602019a670d66616365206e6f74206f70656e
+414 -> 65156602019e670f70726566697820746f6f206c6f6e67
+501 -> 6515660201f5670f756e6b6e6f776e20636f6d6d616e64
+503 -> 6510660201f7670a7461626c652066756c6c
+";
+    check_rows(&rt, rt.alloc(), rows, reply_written);
+    assert!(rt; status_text(403).is_none());
+}
+
+#[test]
+fn replies_of_commands(rt: HostRuntime) {
+    let body = "680b07030801416901026a0100";
+    let reply = "65146601c867024f4b680b07030801416901026a0100";
+    assert!(rt; replies(rt.alloc(), 200, "OK", body, reply));
+    let denial = "651066020193670a546167206279206f7073";
+    assert!(rt; replies(rt.alloc(), 403, "Tag by ops", "", denial));
+}

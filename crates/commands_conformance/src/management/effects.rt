@@ -1,0 +1,593 @@
+//! Commands one after the other on the same tables.
+
+ghost use Rattle.std.specs.Prelude.{◌≡◌};
+
+use super::name_in;
+use crate::rows::check_rows;
+use content_store::Store;
+use mgmt_core::*;
+use ndn_names::{Name, NameBuf};
+use ndn_packets::*;
+use pit_fib::{Faces, Fib, StrategyTable};
+use std::alloc::Global;
+use std::marker::Model;
+use test_support::octets;
+
+/// Tables, and the faces that are up, among them each face that has a route.
+#[derive(Drop)]
+pub struct Station {
+    tables: Tables,
+    up: Faces,
+}
+
+impl Model for Station {
+    ghost use Rattle.std.specs.FinMap as map;
+    ghost use Rattle.std.specs.Coded.{coded_ℕ};
+    ghost use Rattle.pit_fib.specs.Tables.{ByFace};
+    ghost use Rattle.pit_fib.specs.NameTable.{NameTable, name_table_code};
+    ghost use Rattle.mgmt_core.specs.Tables.{AllAreUp};
+
+    ghost Value = { NameTable ByFace };
+
+    ghost coded = { name_table_code (map.code coded_ℕ coded_ℕ) };
+
+    ghost view = { λ s. s.tables.fib };
+
+    ghost invariant = { λ s. AllAreUp s.tables.fib.table s.up };
+}
+
+impl Station {
+    /// Without routes and Data. The faces 2 and 9 are up.
+    pub fn new(alloc: Global) -> Option<Station> {
+        Station::of_faces(alloc, 2, 9)
+    }
+
+    /// Without routes and Data. These two faces are up.
+    fn of_faces(alloc: Global, first: u64, second: u64) -> Option<Station> {
+        let store = Store::new(alloc, 8).ok()?;
+        let mut up = Faces::new();
+        up.insert(first);
+        up.insert(second);
+        Some(Station {
+            tables: Tables::new(alloc, Fib::new(alloc), StrategyTable::new(alloc), store),
+            up,
+        })
+    }
+
+    /// What becomes of a command from face 9.
+    fn apply(&mut self, command: &Command<'_>) -> Option<Applied> {
+        apply(&mut self.tables, command, 9, &self.up).ok()
+    }
+
+    /// The status of a command from face 9, 0 where it is refused memory.
+    fn status_of(&mut self, command: &Command<'_>) -> u16 {
+        match self.apply(command) {
+            Some(applied) => applied.status,
+            None => 0,
+        }
+    }
+
+    fn prepare(&mut self, command: &Command<'_>) -> bool {
+        self.tables.prepare(command).is_ok()
+    }
+
+    pub fn apply_prepared(&mut self, command: &Command<'_>) -> Option<Applied> {
+        if !self.prepare(command) {
+            return None;
+        }
+        self.apply(command)
+    }
+
+    /// The list of strategies, or that of routes.
+    pub fn list(&self, alloc: Global, of_strategies: bool) -> Option<Vec<u8>> {
+        if of_strategies {
+            strategy_dataset(alloc, &self.tables.strategies).ok()
+        } else {
+            fib_dataset(alloc, &self.tables.fib).ok()
+        }
+    }
+
+    fn put(&mut self, packet: &[u8]) -> Option<bool> {
+        let Frame::Data(data) = read_frame(packet).ok()? else {
+            return None;
+        };
+        Some(self.tables.store.put(&data, 0))
+    }
+
+    /// Whether the cache has Data of this very name.
+    fn has(&mut self, name: Name<'_>) -> bool {
+        let key = Key {
+            name,
+            can_be_prefix: false,
+            must_be_fresh: false,
+        };
+        self.tables.store.find(key, 0).is_some()
+    }
+
+    /// How many hops Interests of this name have.
+    fn hops(&self, name: Name<'_>) -> usize {
+        self.tables.fib.longest(name).len()
+    }
+}
+
+fn verb_of(call: &str) -> Option<&'static str> {
+    match call {
+        "add" => Some("/localhost/nfd/fib/add-nexthop "),
+        "remove" => Some("/localhost/nfd/fib/remove-nexthop "),
+        "set" => Some("/localhost/nfd/strategy-choice/set "),
+        "unset" => Some("/localhost/nfd/strategy-choice/unset "),
+        "erase" => Some("/localhost/nfd/cs/erase "),
+        _ => None,
+    }
+}
+
+/// Octets in hexadecimal, `-` for none.
+fn hex_shown(alloc: Global, octets: &[u8]) -> Option<String> {
+    if octets.is_empty() {
+        return String::from_str(alloc, "-").ok();
+    }
+    hex::encode(alloc, octets).ok()
+}
+
+/// A command by its call and parameters: its status, and the body of its reply.
+fn command_shown(alloc: Global, station: &mut Station, call: &str, rest: &str) -> Option<String> {
+    let verb = verb_of(call)?;
+    let name = name_in(alloc, &format!(in alloc; "{verb}{rest}").ok()?)?;
+    status_and_body(alloc, &station.apply(&Command::read(name.view()).ok()?)?)
+}
+
+fn status_and_body(alloc: Global, applied: &Applied) -> Option<String> {
+    let (status, body) = (applied.status, hex_shown(alloc, applied.body.as_slice())?);
+    format!(in alloc; "{status} {body}").ok()
+}
+
+/// Whether a Data of this name is kept.
+fn put_data(alloc: Global, station: &mut Station, uri: &str) -> Option<&'static str> {
+    let name = NameBuf::from_uri(alloc, uri).ok()?;
+    let mut packet = Vec::new(alloc);
+    put_reply(&mut packet, name.view(), &[]).ok()?;
+    let is_kept = station.put(&packet)?;
+    Some(if is_kept { "kept" } else { "lost" })
+}
+
+/// `data` and `find` with a URI, `routes`, `strategies`, or a command.
+fn answer(alloc: Global, station: &mut Station, call: &str) -> Option<String> {
+    let (call, rest) = call.split_once(' ').unwrap_or((call, "/"));
+    match call {
+        "routes" => hex_shown(alloc, &station.list(alloc, false)?),
+        "strategies" => hex_shown(alloc, &station.list(alloc, true)?),
+        "data" => String::from_str(alloc, put_data(alloc, station, rest)?).ok(),
+        "find" => {
+            let name = NameBuf::from_uri(alloc, rest).ok()?;
+            let found = if station.has(name.view()) {
+                "there"
+            } else {
+                "gone"
+            };
+            String::from_str(alloc, found).ok()
+        }
+        _ => command_shown(alloc, station, call, rest),
+    }
+}
+
+/// The answers to calls that `, ` parts.
+fn answers(alloc: Global, row: &str) -> Option<String> {
+    let mut station = Station::new(alloc)?;
+    answers_of(alloc, &mut station, row)
+}
+
+fn answers_of(alloc: Global, station: &mut Station, row: &str) -> Option<String> {
+    let mut text = String::new(alloc);
+    for call in row.split(", ") {
+        put_answer(alloc, &mut text, station, call)?;
+    }
+    Some(text)
+}
+
+fn put_answer(alloc: Global, text: &mut String, station: &mut Station, call: &str) -> Option<()> {
+    if !text.is_empty() {
+        text.push_str(", ").ok()?;
+    }
+    text.push_str(&answer(alloc, station, call)?).ok()
+}
+
+/// A route that goes; its entry goes with its last hop.
+#[test]
+fn an_entry_goes_with_its_last_hop(rt: HostRuntime) {
+    let rows = "
+add 68080703080141690102, routes, remove 68080703080141690102, routes -> 200 680b07030801416901026a0100, 800d070308014181066901026a0100, 200 68080703080141690102, -
+";
+    check_rows(&rt, rt.alloc(), rows, answers);
+}
+
+/// One of two hops goes: the one of the asking face.
+#[test]
+fn the_hop_of_the_asking_face_goes(rt: HostRuntime) {
+    let rows = "
+add 68080703080141690102, add 680807030801416a0105, remove 68050703080141, routes -> 200 680b07030801416901026a0100, 200 680b07030801416901096a0105, 200 68080703080141690109, 800d070308014181066901026a0100
+";
+    check_rows(&rt, rt.alloc(), rows, answers);
+}
+
+/// Hops by cost, and then by face; names in canonical order.
+#[test]
+fn lists_are_in_order(rt: HostRuntime) {
+    let rows = "
+add 680b07030801416901026a0107, add 680b07030801416901096a0105, routes -> 200 680b07030801416901026a0107, 200 680b07030801416901096a0105, 8015070308014181066901096a010581066901026a0107
+add 68080703080142690109, add 68080703080142690102, add 68080703080141690102, routes -> 200 680b07030801426901096a0100, 200 680b07030801426901026a0100, 200 680b07030801416901026a0100, 800d070308014181066901026a01008015070308014281066901026a010081066901096a0100
+";
+    check_rows(&rt, rt.alloc(), rows, answers);
+}
+
+/// A second cost takes the place of the first.
+#[test]
+fn a_second_cost_replaces_the_first(rt: HostRuntime) {
+    let rows = "
+add 680b07030801416901026a0107, add 680b07030801416901026a0103, routes -> 200 680b07030801416901026a0107, 200 680b07030801416901026a0103, 800d070308014181066901026a0103
+";
+    check_rows(&rt, rt.alloc(), rows, answers);
+}
+
+/// A route of another name stays, and so do all where a command is refused.
+#[test]
+fn other_routes_stay(rt: HostRuntime) {
+    let rows = "
+add 68080703080141690102, remove 68080703080142690102, routes -> 200 680b07030801416901026a0100, 200 68080703080142690102, 800d070308014181066901026a0100
+add 68080703080141690102, add 68080703080141690107, remove 68080703080141690107, routes -> 200 680b07030801416901026a0100, 410 -, 200 68080703080141690107, 800d070308014181066901026a0100
+";
+    check_rows(&rt, rt.alloc(), rows, answers);
+}
+
+/// A strategy that goes, and one that stays.
+#[test]
+fn a_strategy_goes_and_another_stays(rt: HostRuntime) {
+    let rows = "
+set 682e07030801416b27072508096c6f63616c686f737408036e66640808737472617465677908096d756c746963617374, unset 68050703080142, unset 68050703080141, strategies -> 200 682e07030801416b27072508096c6f63616c686f737408036e66640808737472617465677908096d756c746963617374, 200 68050703080142, 200 68050703080141, 802c07006b28072608096c6f63616c686f737408036e666408087374726174656779080a626573742d726f757465
+";
+    check_rows(&rt, rt.alloc(), rows, answers);
+}
+
+/// Data that go: all under a name, or the first ones. The reply has the Count given, if any.
+#[test]
+fn erased_data_go(rt: HostRuntime) {
+    let rows = "
+data /A, data /A/B, data /C, erase 68050703080141, find /A, find /A/B, find /C -> kept, kept, kept, 200 68050703080141, gone, gone, there
+data /A, data /A/B, erase 68080703080141840101, find /A, find /A/B -> kept, kept, 200 68080703080141840101, gone, there
+data /A, data /A/B, erase 68080703080141840105, find /A, find /A/B -> kept, kept, 200 68080703080141840105, gone, gone
+data /A, erase 68080703080141840100, erase 68080703080142840105, find /A -> kept, 200 68080703080141840100, 200 68080703080142840105, there
+";
+    check_rows(&rt, rt.alloc(), rows, answers);
+}
+
+fn adds(name: Name<'_>, face: u64) -> Command<'_> {
+    Command {
+        action: Action::AddNexthop,
+        name,
+        face,
+        cost: 0,
+        strategy: None,
+        count: None,
+    }
+}
+
+/// A name of one component, of two octets.
+fn numbered(alloc: Global, number: u16) -> Option<NameBuf> {
+    let mut name = NameBuf::new(alloc);
+    name.append(8, &number.to_be_bytes()).ok()?;
+    Some(name)
+}
+
+/// A name of so many components `A`.
+fn deep(alloc: Global, depth: usize) -> Option<NameBuf> {
+    let mut name = NameBuf::new(alloc);
+    for _ in 0..depth {
+        name.append(8, b"A").ok()?;
+    }
+    Some(name)
+}
+
+/// The status of a new hop.
+fn added(station: &mut Station, name: &NameBuf, face: u64) -> u16 {
+    station.status_of(&adds(name.view(), face))
+}
+
+/// Tables with 4,096 routes to face 2.
+fn filled(alloc: Global) -> Option<Station> {
+    let mut station = Station::new(alloc)?;
+    add_4096(alloc, &mut station)?;
+    Some(station)
+}
+
+fn add_4096(alloc: Global, station: &mut Station) -> Option<()> {
+    for number in (0..4096).rev() {
+        if added(station, &numbered(alloc, number)?, 2) != 200 {
+            return None;
+        }
+    }
+    Some(())
+}
+
+/// Whether a name more is refused, after a name that is too long and a face that is not up, and a
+/// hop more is not.
+fn refuses_one_name_more(alloc: Global, station: &mut Station) -> Option<bool> {
+    let (more, known) = (numbered(alloc, 4096)?, numbered(alloc, 4095)?);
+    Some(is_full(station, &deep(alloc, 33)?, &more, &known))
+}
+
+fn names_are_limited(alloc: Global) -> Option<bool> {
+    refuses_one_name_more(alloc, &mut filled(alloc)?)
+}
+
+fn is_full(station: &mut Station, too_deep: &NameBuf, more: &NameBuf, known: &NameBuf) -> bool {
+    added(station, too_deep, 7) == 414
+        && added(station, more, 7) == 410
+        && added(station, more, 2) == 503
+        && added(station, known, 9) == 200
+        && station.hops(more.view()) == 0
+        && station.hops(known.view()) == 2
+}
+
+/// Whether the list of 4,096 routes has 16 octets for each, the first and the last as expected, and
+/// 16 segments.
+fn lists_4096_routes(alloc: Global) -> Option<bool> {
+    let text = filled(alloc)?.list(alloc, false)?;
+    Some(are_4096_routes(&text))
+}
+
+fn are_4096_routes(text: &[u8]) -> bool {
+    let Some((segment, 15)) = segment_of(text, 15) else {
+        return false;
+    };
+    text.len() == 65_536
+        && text.starts_with(b"\x80\x0e\x07\x04\x08\x02\x00\x00\x81\x06\x69\x01\x02\x6a\x01\x00")
+        && segment.len() == 4096
+        && segment.ends_with(b"\x80\x0e\x07\x04\x08\x02\x0f\xff\x81\x06\x69\x01\x02\x6a\x01\x00")
+        && segment_of(text, 16).is_none()
+}
+
+/// Whether 4,095 names find a strategy beside `/`, and one more does not, but comes after an unknown
+/// strategy.
+fn refuses_one_strategy_more(alloc: Global, station: &mut Station) -> Option<bool> {
+    let multicast = NameBuf::from_uri(alloc, "/localhost/nfd/strategy/multicast").ok()?;
+    let (more, known) = (numbered(alloc, 4096)?, numbered(alloc, 1)?);
+    let is_set = sets_4095(alloc, station, &multicast);
+    Some(is_set && refuses_strategy(station, &more, &known, &multicast))
+}
+
+fn strategies_are_limited(alloc: Global) -> Option<bool> {
+    refuses_one_strategy_more(alloc, &mut Station::new(alloc)?)
+}
+
+fn sets_4095(alloc: Global, station: &mut Station, strategy: &NameBuf) -> bool {
+    for number in (1..4096).rev() {
+        let Some(name) = numbered(alloc, number) else {
+            return false;
+        };
+        if set(station, &name, strategy) != 200 {
+            return false;
+        }
+    }
+    true
+}
+
+fn refuses_strategy(
+    station: &mut Station,
+    more: &NameBuf,
+    known: &NameBuf,
+    multicast: &NameBuf,
+) -> bool {
+    set(station, more, known) == 404
+        && set(station, more, multicast) == 503
+        && set(station, known, multicast) == 200
+}
+
+/// The status of a strategy for a name.
+fn set(station: &mut Station, name: &NameBuf, strategy: &NameBuf) -> u16 {
+    let command = Command {
+        action: Action::SetStrategy,
+        name: name.view(),
+        face: 0,
+        cost: 0,
+        strategy: Some(strategy.view()),
+        count: None,
+    };
+    station.status_of(&command)
+}
+
+#[test]
+fn names_with_routes_are_limited(rt: HostRuntime) {
+    assert!(rt; names_are_limited(rt.alloc()) == Some(true));
+}
+
+#[test]
+fn strategies_are_limited_to_4096(rt: HostRuntime) {
+    assert!(rt; strategies_are_limited(rt.alloc()) == Some(true));
+}
+
+#[test]
+fn list_of_4096_routes(rt: HostRuntime) {
+    assert!(rt; lists_4096_routes(rt.alloc()) == Some(true));
+}
+
+/// Whether a list of one route, whose name's component makes it so long, has these segments: the
+/// length of the last one, and its number.
+fn is_cut(alloc: Global, len: usize, last_len: usize, last: u64) -> Option<bool> {
+    let text = list_of_route(alloc, &long_name(alloc, len)?)?;
+    let (segment, number) = segment_of(&text, last)?;
+    Some(text.len() == len && segment.len() == last_len && number == last)
+}
+
+/// A name that makes the list of its one route so long.
+fn long_name(alloc: Global, len: usize) -> Option<NameBuf> {
+    let mut value = Vec::new(alloc);
+    // Three headers of four octets each stand before the value, and a hop of 8 octets after it.
+    value.resize(len.saturating_sub(20), 7).ok()?;
+    let mut name = NameBuf::new(alloc);
+    name.append(8, &value).ok()?;
+    Some(name)
+}
+
+/// The list of one route of this name.
+fn list_of_route(alloc: Global, name: &NameBuf) -> Option<Vec<u8>> {
+    let mut station = Station::new(alloc)?;
+    list_after(alloc, &mut station, name, 2)
+}
+
+/// The list of routes after a hop was added.
+fn list_after(alloc: Global, station: &mut Station, name: &NameBuf, face: u64) -> Option<Vec<u8>> {
+    if added(station, name, face) != 200 {
+        return None;
+    }
+    station.list(alloc, false)
+}
+
+#[test]
+fn lists_in_segments(rt: HostRuntime) {
+    assert!(rt; is_cut(rt.alloc(), 4096, 4096, 0) == Some(true));
+    assert!(rt; is_cut(rt.alloc(), 4097, 1, 1) == Some(true));
+}
+
+/// A signed add-nexthop of `/A` to face 2, at 1000000, by the key `6b6579` named `/ops/KEY/1`.
+const ADD_NEXTHOP: &str =
+    "0598075008096c6f63616c686f737408036e66640803666962080b6164642d6e657874686f70080a680807030801416901020220b3efe71974da9dc26e88d0c074c8f0ff34ea85c38b109d9e9c6400b87694f2f20a040102030424002c1a1b01041c0f070d08036f707308034b45590801312804000f42402e20d113cf38056af9bbbec876471f4b51934978ef69345464b05cb762148eaa5dbb";
+
+/// The segment of the list of routes, version 2, with `/A` to face 7.
+const LIST_OF_ONE_ROUTE: &str =
+    "0666072108096c6f63616c686f737408036e6664080366696208046c6973743601023201001409190203e81a03320100150f800d070308014181066901076a010016031b010017201b52e55cb80faba7d19cc92444e95d0d6409f1ae0cec3b48ddc33107b7684694";
+
+/// Whether the name of the signed packet is the command.
+fn reads_the_packet(alloc: Global) -> Option<bool> {
+    let packet = octets(alloc, ADD_NEXTHOP)?;
+    let Frame::Interest(interest) = read_frame(&packet).ok()? else {
+        return None;
+    };
+    let command = Command::read(interest.name).ok()?;
+    let is_about = command.name == NameBuf::from_uri(alloc, "/A").ok()?.view();
+    Some(is_about && command.action == Action::AddNexthop && command.face == 2 && command.cost == 0)
+}
+
+/// The Data of a list's segment.
+fn segment_packet<'a>(
+    alloc: Global,
+    name: Name<'a>,
+    segment: &'a [u8],
+    last: u64,
+) -> Option<Vec<u8>> {
+    let writer = DataWriter {
+        name,
+        freshness: Some(1000),
+        last: Some(last),
+        content: Some(segment),
+        sign: Sign::Digest,
+    };
+    let mut packet = Vec::new(alloc);
+    writer.write(&mut packet).ok()?;
+    Some(packet)
+}
+
+/// The Data of a list's first segment.
+fn first_segment(alloc: Global, text: &[u8]) -> Option<Vec<u8>> {
+    let (segment, last) = segment_of(text, 0)?;
+    let name = NameBuf::from_uri(alloc, "/localhost/nfd/fib/list/v=2/seg=0").ok()?;
+    segment_packet(alloc, name.view(), segment, last)
+}
+
+/// The list of a route of `/A` to face 7.
+fn one_route_listed(alloc: Global) -> Option<Vec<u8>> {
+    let name = NameBuf::from_uri(alloc, "/A").ok()?;
+    let mut station = Station::of_faces(alloc, 7, 9)?;
+    list_after(alloc, &mut station, &name, 7)
+}
+
+/// Whether the segment is written as it stands there.
+fn writes_the_segment(alloc: Global) -> Option<bool> {
+    let packet = first_segment(alloc, &one_route_listed(alloc)?)?;
+    Some(packet.as_slice() == octets(alloc, LIST_OF_ONE_ROUTE)?.as_slice())
+}
+
+#[test]
+fn a_command_in_a_packet(rt: HostRuntime) {
+    assert!(rt; reads_the_packet(rt.alloc()) == Some(true));
+}
+
+#[test]
+fn a_segment_in_a_packet(rt: HostRuntime) {
+    assert!(rt; writes_the_segment(rt.alloc()) == Some(true));
+}
+
+/// Whether a prepared command is not refused memory, and a refused preparation leaves the routes.
+fn applies_what_is_prepared(alloc: Global) -> Option<bool> {
+    let name = numbered(alloc, 1)?;
+    let mut station = Station::new(alloc)?;
+    Some(keeps_its_promise(&mut station, &name))
+}
+
+fn keeps_its_promise(station: &mut Station, name: &NameBuf) -> bool {
+    if !station.prepare(&adds(name.view(), 2)) {
+        return station.hops(name.view()) == 0;
+    }
+    added(station, name, 2) == 200 && station.hops(name.view()) == 1
+}
+
+/// Whether a command that nothing prepares has its effect, or none where it is refused memory.
+fn applies_or_leaves(alloc: Global) -> Option<bool> {
+    let name = numbered(alloc, 1)?;
+    let mut station = Station::new(alloc)?;
+    Some(adds_or_leaves(&mut station, &name))
+}
+
+fn adds_or_leaves(station: &mut Station, name: &NameBuf) -> bool {
+    let hops = match added(station, name, 2) {
+        200 => 1,
+        _ => 0,
+    };
+    station.hops(name.view()) == hops
+}
+
+/// Whether a reply for which there is no memory leaves what stood before it.
+fn replies_or_leaves(alloc: Global) -> Option<bool> {
+    let mut out = Vec::new(alloc);
+    out.push(7).ok()?;
+    let len = match put_response(&mut out, 200, "OK", &[]) {
+        Ok(()) => 10,
+        Err(_) => 1,
+    };
+    Some(out.len() == len && out.first() == Some(&7))
+}
+
+/// Whether the lists of a route and of the strategies are whole, or refused for want of memory.
+fn lists_or_refuses(alloc: Global) -> Option<bool> {
+    let name = numbered(alloc, 1)?;
+    let mut station = Station::new(alloc)?;
+    if added(&mut station, &name, 2) != 200 {
+        return None;
+    }
+    Some(
+        is_long_or_refused(&station, alloc, false, 16)
+            && is_long_or_refused(&station, alloc, true, 46),
+    )
+}
+
+/// Whether a list has so many octets, or is refused for want of memory.
+fn is_long_or_refused(station: &Station, alloc: Global, of_strategies: bool, len: usize) -> bool {
+    match station.list(alloc, of_strategies) {
+        Some(text) => text.len() == len,
+        None => true,
+    }
+}
+
+#[test]
+fn prepared_commands(rt: HostRuntime) {
+    assert!(rt; applies_what_is_prepared(rt.alloc()) == Some(true));
+    assert!(rt; applies_or_leaves(rt.alloc()) == Some(true));
+    assert!(rt; replies_or_leaves(rt.alloc()) == Some(true));
+    assert!(rt; lists_or_refuses(rt.alloc()) == Some(true));
+}
+
+#[test]
+fn refused_memory_for_commands(rt: HostRuntime) {
+    assert!(rt; applies_what_is_prepared(rt.alloc()) != Some(false));
+    assert!(rt; applies_or_leaves(rt.alloc()) != Some(false));
+    assert!(rt; replies_or_leaves(rt.alloc()) != Some(false));
+    assert!(rt; lists_or_refuses(rt.alloc()) != Some(false));
+}

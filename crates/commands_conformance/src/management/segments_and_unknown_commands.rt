@@ -1,0 +1,76 @@
+//! Names that are no command, and segments of lists.
+
+use super::command_shown;
+use crate::rows::check_rows;
+use mgmt_core::segment_of;
+use std::alloc::Global;
+
+/// Less than a module and a verb, with the digest and without.
+#[test]
+fn names_without_a_verb(rt: HostRuntime) {
+    let rows = "
+/ -> 400
+/localhost/nfd -> 400
+/localhost/nfd/fib -> 400
+/localhost/nfd/fib digest -> 400
+";
+    check_rows(&rt, rt.alloc(), rows, command_shown);
+}
+
+/// Commands that do not exist come before wrong parameters.
+#[test]
+fn commands_that_do_not_exist(rt: HostRuntime) {
+    let rows = "
+/localhost/nfd/rib/register 680507030801416a0100 -> 501
+/localhost/nfd/rib/register -> 501
+/localhost/nfd/fib/list digest -> 501
+/localhost/nfd/fib/add -> 501
+/localhost/nfd/cs/add-nexthop -> 501
+/localhost/nfd/strategy-choice/erase -> 501
+/localhop/nfd/fib/add-nexthop 68050703080141 -> 501
+/localhost/NFD/fib/add-nexthop 68050703080141 -> 501
+/localhost/nfd/fib/32=add-nexthop 68050703080141 -> 501
+";
+    check_rows(&rt, rt.alloc(), rows, command_shown);
+}
+
+/// A command has one element of parameters, and may have a digest after it.
+#[test]
+fn names_of_another_shape(rt: HostRuntime) {
+    let rows = "
+/localhost/nfd/fib/add-nexthop -> 400
+/localhost/nfd/fib/add-nexthop digest -> 400
+/localhost/nfd/fib/add-nexthop digest 68050703080141 -> 400
+/localhost/nfd/fib/add-nexthop 68050703080141 68050703080141 -> 400
+/localhost/nfd/fib/add-nexthop/32=h%05%07%03%08%01A -> 400
+/localhost/nfd/fib/add-nexthop 6805070308014100 -> 400
+/localhost/nfd/fib/add-nexthop 69050703080141 -> 400
+/localhost/nfd/fib/add-nexthop 6805070308 -> 400
+";
+    check_rows(&rt, rt.alloc(), rows, command_shown);
+}
+
+/// Whether a segment of so many octets has this length and this number of the last one.
+fn segment_is(alloc: Global, len: usize, number: u64, expected: Option<(usize, u64)>) -> bool {
+    let mut text: Vec<u8> = Vec::new(alloc);
+    if text.resize(len, 7).is_err() {
+        return false;
+    }
+    match segment_of(&text, number) {
+        None => expected.is_none(),
+        Some((segment, last)) => expected == Some((segment.len(), last)),
+    }
+}
+
+/// A list is cut every 4,096 octets.
+#[test]
+fn segments_of_4096_octets(rt: HostRuntime) {
+    assert!(rt; segment_is(rt.alloc(), 4097, 0, Some((4096, 1))));
+    assert!(rt; segment_is(rt.alloc(), 4097, 1, Some((1, 1))));
+    assert!(rt; segment_is(rt.alloc(), 4097, 2, None));
+    assert!(rt; segment_is(rt.alloc(), 4096, 0, Some((4096, 0))));
+    assert!(rt; segment_is(rt.alloc(), 4096, 1, None));
+    assert!(rt; segment_is(rt.alloc(), 0, 0, Some((0, 0))));
+    assert!(rt; segment_is(rt.alloc(), 0, 1, None));
+    assert!(rt; segment_is(rt.alloc(), 4097, u64::MAX, None));
+}

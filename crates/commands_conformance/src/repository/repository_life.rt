@@ -1,0 +1,68 @@
+//! What commands, Data and Interests do one after the other.
+
+use super::answers;
+use crate::rows::check_rows;
+
+/// What is inserted is pending, then stored and served, until it is deleted.
+#[test]
+fn from_insert_to_delete(rt: HostRuntime) {
+    let rows = "
+insert /A 1000000, offer /A 01, insert /A 1000000, serve /A, delete /A 1000000, check /A 1000000, serve /A -> 100:0 /A 4000, true, 200:1, 01, 200:1, 404:0, none
+";
+    check_rows(&rt, rt.alloc(), rows, answers);
+}
+
+/// Data that nobody wants are not stored.
+#[test]
+fn unwanted_data_are_not_stored(rt: HostRuntime) {
+    let rows = "
+offer /A 01, check /A 0, insert /A 0, offer /B 01, check /B 0, check /A 0 -> false, 404:0, 100:0 /A 4000, false, 404:0, 100:0
+";
+    check_rows(&rt, rt.alloc(), rows, answers);
+}
+
+/// A filled want is gone, and so are all that one Data fills.
+#[test]
+fn a_data_fills_all_wants_that_it_answers(rt: HostRuntime) {
+    let rows = "
+insert /A 0, insert /A* 0, insert /B 0, offer /A 01, offer /A 02, check /A 0, delete /A* 0, delete /A* 0, check /B 0 -> 100:0 /A 4000, 100:0 /A* 4000, 100:0 /B 4000, true, false, 200:1, 200:1, 404:0, 100:0
+";
+    check_rows(&rt, rt.alloc(), rows, answers);
+}
+
+/// Each object that answers is counted, and deleted.
+#[test]
+fn each_object_that_answers_is_counted(rt: HostRuntime) {
+    let rows = "
+insert /A/1* 0, offer /A/1/x 01, insert /A/2* 0, offer /A/2/y 02, check /A* 0, check /A 0, delete /A* 0, check /A* 0, serve /A/1/x -> 100:0 /A/1* 4000, true, 100:0 /A/2* 4000, true, 200:2, 404:0, 200:2, 404:0, none
+";
+    check_rows(&rt, rt.alloc(), rows, answers);
+}
+
+/// A delete takes the want of its own flag alone.
+#[test]
+fn a_delete_takes_the_want_of_its_own_flag(rt: HostRuntime) {
+    let rows = "
+insert /A 0, delete /A* 0, check /A 0, delete /A 0, check /A 0 -> 100:0 /A 4000, 404:0, 100:0, 200:0, 404:0
+";
+    check_rows(&rt, rt.alloc(), rows, answers);
+}
+
+/// What is served: the least full name that answers, fresh or not.
+#[test]
+fn the_least_full_name_is_served(rt: HostRuntime) {
+    let rows = "
+insert /A/2 0, offer /A/2 02, insert /A/1 0, offer /A/1 01, serve /A, serve /A*, serve /A*!, serve /A/2 -> 100:0 /A/2 4000, true, 100:0 /A/1 4000, true, none, 01, 01, 02
+";
+    check_rows(&rt, rt.alloc(), rows, answers);
+}
+
+/// Full names in wants and Interests. By another program the digests of /A are d995.. with the
+/// Content 01, and 39ca.. with 02.
+#[test]
+fn full_names_in_wants_and_interests(rt: HostRuntime) {
+    let rows = "
+insert /A/sha256digest=d995119f06c9061252b84b965bc440b037330601163443b3445e3e5cb367fcc5 0, offer /A 02, check /A 0, offer /A 01, check /A/sha256digest=d995119f06c9061252b84b965bc440b037330601163443b3445e3e5cb367fcc5 0, check /A/sha256digest=39caf7c279362f9f0fbef289ab00f666f3dccf5dd9151758293bd5d959cda26c* 0, serve /A/sha256digest=d995119f06c9061252b84b965bc440b037330601163443b3445e3e5cb367fcc5, delete /A/sha256digest=d995119f06c9061252b84b965bc440b037330601163443b3445e3e5cb367fcc5* 0 -> 100:0 /A/sha256digest=d995119f06c9061252b84b965bc440b037330601163443b3445e3e5cb367fcc5 4000, false, 404:0, true, 200:1, 404:0, 01, 200:1
+";
+    check_rows(&rt, rt.alloc(), rows, answers);
+}

@@ -1,4 +1,0 @@
-pub mod RouteRoom
-pub mod PendingRoom
-pub mod NoRoutes
-pub mod OpenRoutes

@@ -1,8 +1,0 @@
-use Rattle.std.proofs.Common.{ap, ◌∙◌}
-use Rattle.pit_fib.specs.NameTable.{NameTable}
-use Rattle.pit_fib.specs.Tables.{ByFace}
-use Rattle.conformance.proofs.NoRoutes.{no_routes}
-use Rattle.conformance.proofs.management.effects.Station.new.Goals as goal
-
-pub invariant_of-result : goal.invariant_of-result
-invariant_of-result c = no_routes _ _ (ap (λ (t : NameTable ByFace). t.table) c.new-4.ensures.fib ∙ c.new-2.ensures.table)

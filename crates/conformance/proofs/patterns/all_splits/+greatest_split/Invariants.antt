@@ -1,5 +1,0 @@
-use Rattle.std.proofs.Common.{length}
-use Rattle.conformance.proofs.patterns.all_splits.+greatest_split.Given as goal
-
-abbrev pub decreases-greatest_split : goal.decreases-greatest_split
-decreases-greatest_split l = length l.atoms.now

@@ -1,5 +1,0 @@
-use Rattle.conformance.proofs.PendingRoom.{none_below}
-use Rattle.conformance.proofs.pending.Table.new.Goals as goal
-
-pub invariant_of-result : goal.invariant_of-result
-invariant_of-result c = none_below c.new.result.pending c.new.ensures.pending

@@ -1,0 +1,114 @@
+//! The node, by its scripts and by its steps.
+
+mod cache;
+mod decisions;
+mod faces;
+mod full_pending;
+mod nodes;
+mod octets;
+mod packets;
+mod pending;
+mod ports;
+mod refused_memory;
+mod repository_life;
+mod routes;
+mod scripts;
+mod streams;
+mod udp;
+
+use hmac_keys::KeyBook;
+use info_rules::{InfoTree, Rules};
+use ndn_names::NameBuf;
+use node_core::{NodeParts, run_script};
+use octets::hexadecimal_of;
+use ports::prints;
+use std::alloc::Global;
+use std::io::Write;
+use std::process::Abort;
+use test_support::{KEYS, SAMPLE};
+
+/// The parts of a node whose repository is at `/repo`.
+fn parts_of(alloc: Global, rules: &str, cache: u32) -> Option<NodeParts> {
+    Some(NodeParts {
+        rules: Rules::read(alloc, &InfoTree::read(alloc, rules).ok()?).ok()?,
+        keys: KeyBook::read(alloc, KEYS).ok()?,
+        repo: NameBuf::from_uri(alloc, "/repo").ok()?,
+        cache,
+    })
+}
+
+/// The parts of a node under the sample rules.
+fn parts(alloc: Global) -> Option<NodeParts> {
+    parts_of(alloc, SAMPLE, 1024)
+}
+
+/// What is written for a script, and then how it ended.
+fn outcome(alloc: Global, parts: NodeParts, script: &str) -> Option<String> {
+    let mut output = Vec::new(alloc);
+    let end = run_script(alloc, &mut script.as_bytes(), &mut output, parts);
+    write!(output, "{end:?}").ok()?;
+    String::from_utf8(output).ok()
+}
+
+// A dialogue is a script in which each event is followed by its answer, with words for packets.
+
+/// Whether a line of a dialogue belongs to an answer: `3 passed`, or `> 2 INTEREST`.
+fn is_answer(line: &str) -> bool {
+    line.starts_with('>') || line.starts_with(|c: char| c.is_ascii_digit())
+}
+
+/// The lines of a dialogue that are not answers.
+fn script_of(alloc: Global, dialogue: &str) -> Option<String> {
+    let mut script = String::new(alloc);
+    for line in dialogue.lines() {
+        if !is_answer(line) {
+            script.push_str(line).ok()?;
+            script.push('\n').ok()?;
+        }
+    }
+    Some(script)
+}
+
+/// A dialogue with the hexadecimal that its words stand for.
+fn spelled(alloc: Global, dialogue: &str) -> Option<String> {
+    let mut text = String::new(alloc);
+    for line in dialogue.lines() {
+        for (before, word) in line.split(' ').enumerate() {
+            if before > 0 {
+                text.push(' ').ok()?;
+            }
+            text.push_str(hexadecimal_of(word)).ok()?;
+        }
+        text.push('\n').ok()?;
+    }
+    Some(text)
+}
+
+/// Plays the script of a dialogue, and checks each answer. After the last one the script ends well.
+/// The same events at a port have the same answers.
+fn replies_under(rt: &(impl Abort + AllocGlobal), rules: &str, cache: u32, dialogue: &str) {
+    let alloc = rt.alloc();
+    let parts = parts_of(alloc, rules, cache).expect(rt, "parts");
+    let dialogue = spelled(alloc, dialogue).expect(rt, "memory");
+    let script = script_of(alloc, dialogue.as_str()).expect(rt, "memory");
+    let outcome = outcome(alloc, parts, script.as_str()).expect(rt, "memory");
+    let mut answers = outcome.as_str().lines();
+    for line in dialogue.as_str().lines() {
+        assert!(rt;
+            !is_answer(line) || answers.next() == Some(line),
+            "not `{line}`"
+        );
+    }
+    assert!(rt; answers.next() == Some("Ok(())"), "not the end");
+    let answers = outcome.as_str().strip_suffix("Ok(())").unwrap_or("");
+    let parts = parts_of(alloc, rules, cache).expect(rt, "parts");
+    assert!(rt;
+        prints(alloc, parts, dialogue.as_str(), answers) == Some(true),
+        "not at a port"
+    );
+}
+
+/// The same under the sample rules, with a cache of 1,024 Data.
+fn replies(rt: &(impl Abort + AllocGlobal), dialogue: &str) {
+    replies_under(rt, SAMPLE, 1024, dialogue);
+}

@@ -1,0 +1,103 @@
+use super::octets::octets_of;
+use super::parts;
+use super::ports::node_of;
+use hmac_keys::KeyBook;
+use ndn_names::NameBuf;
+use node_core::{Event, Node, NodeFault, NodeParts, Outbox, Scope, Verdict};
+use std::alloc::Global;
+use test_support::first_wrong;
+
+/// A repository's prefix and a cache's capacity, and then what making a node of them comes to.
+const PARTS: &str = "
+/repo 1024 -> Ok(())
+/ 0 -> Err(BadRepoPrefix)
+/localhost/repo 1 -> Err(BadRepoPrefix)
+/repo 0 -> Err(BadCapacity)
+/repo 1 -> Ok(())
+/repo 65536 -> Ok(())
+/repo 65537 -> Err(BadCapacity)
+";
+
+/// What making a node of these parts comes to.
+fn made(alloc: Global, row: &str) -> Option<String> {
+    let (prefix, cache) = row.split_once(' ')?;
+    let parts = NodeParts {
+        rules: parts(alloc)?.rules,
+        keys: KeyBook::new(alloc),
+        repo: NameBuf::from_uri(alloc, prefix).ok()?,
+        cache: cache.parse::<u32>().ok()?,
+    };
+    let made = Node::new(alloc, parts).map(drop);
+    format!(in alloc; "{made:?}").ok()
+}
+
+/// Whether making a node of a row's parts comes to what stands after its arrow.
+fn is_made(alloc: Global, row: &str) -> bool {
+    let (parts, wanted) = row.split_once(" -> ").unwrap_or((row, "no arrow"));
+    made(alloc, parts).as_deref() == Some(wanted)
+}
+
+#[test]
+fn parts_of_a_node(rt: HostRuntime) {
+    assert!(rt; first_wrong(rt.alloc(), PARTS, is_made) == 0);
+}
+
+/// Opens the face 1.
+fn opens(node: &mut Node, outbox: &mut Outbox) -> bool {
+    let up = Event::FaceUp {
+        face: 1,
+        scope: Scope::Far,
+        now: 0,
+    };
+    node.step(up, outbox).is_ok()
+}
+
+/// Whether an Interest on face 1 is passed.
+fn passes(node: &mut Node, outbox: &mut Outbox, octets: &[u8]) -> bool {
+    let interest = Event::Packet {
+        face: 1,
+        now: 1000,
+        octets,
+    };
+    node.step(interest, outbox).ok() == Some(Verdict::Passed)
+}
+
+/// Whether an outbox holds two sends, and the second is this Nack.
+fn ends_with(outbox: &Outbox, nack: &[u8]) -> bool {
+    outbox.sent(1) == Some((1, nack)) && outbox.len() == 2 && outbox.sent(2).is_none()
+}
+
+/// Whether a Nack stands after an earlier one in the outbox, until it is cleared.
+fn sends_in_order(node: &mut Node, outbox: &mut Outbox, interest: &[u8], nack: &[u8]) -> bool {
+    let was_empty = outbox.is_empty();
+    let passed = opens(node, outbox)
+        && passes(node, outbox, interest)
+        && passes(node, outbox, interest);
+    let ended = ends_with(outbox, nack);
+    outbox.clear();
+    was_empty && passed && ended && outbox.is_empty()
+}
+
+/// The same of a new node, whose Interest has no route.
+fn new_node_sends_in_order(alloc: Global) -> Option<bool> {
+    let (interest, nack) = (octets_of(alloc, "INTEREST"), octets_of(alloc, "NO_ROUTE"));
+    let mut node = node_of(alloc)?;
+    Some(sends_in_order(&mut node, &mut Outbox::new(alloc), &interest, &nack))
+}
+
+#[test]
+fn sends(rt: HostRuntime) {
+    assert!(rt; new_node_sends_in_order(rt.alloc()) == Some(true));
+}
+
+/// Whether a node tells the ids of its rules.
+fn tells_rules(alloc: Global) -> Option<bool> {
+    let node = node_of(alloc)?;
+    let rules = node.rules();
+    Some(rules.len() == 3 && rules.id(info_rules::RuleNo(1)) == "repo-ops")
+}
+
+#[test]
+fn rules_of_a_node(rt: HostRuntime) {
+    assert!(rt; tells_rules(rt.alloc()) == Some(true));
+}

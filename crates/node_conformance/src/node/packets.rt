@@ -1,0 +1,74 @@
+use super::replies;
+
+const UNKNOWN_ELEMENTS: &str = "
+up 1 local 1000000
+1 passed
+up 2 far 1000000
+2 passed
+in 1 1000000 ADD
+3 allowed 200 ops
+> 1 ADDED
+in 1 1000000 EVEN
+4 passed
+> 2 EVEN
+in 1 1000000 ODD
+5 dropped Malformed CriticalUnknown
+";
+
+/// An Interest is sent on with an unknown element of an even type, and dropped for one of an odd
+/// type.
+#[test]
+fn unknown_elements(rt: HostRuntime) {
+    replies(&rt, UNKNOWN_ELEMENTS);
+}
+
+const PARAMETERS_DIGEST: &str = "
+up 1 local 1000000
+1 passed
+up 2 far 1000000
+2 passed
+in 1 1000000 ADD
+3 allowed 200 ops
+> 1 ADDED
+in 1 1000000 SIGNED
+4 passed
+> 2 SIGNED
+in 1 1000000 WRONG_DIGEST
+5 dropped Malformed DigestWrong
+in 1 1000000 NO_DIGEST
+6 dropped Malformed DigestMissing
+";
+
+/// A signed Interest whose name has the digest of its parameters is sent on; with another digest or
+/// none it is not.
+#[test]
+fn parameters_digest(rt: HostRuntime) {
+    replies(&rt, PARAMETERS_DIGEST);
+}
+
+const LINK_PACKETS: &str = "
+up 1 local 1000000
+1 passed
+up 2 far 1000000
+2 passed
+in 1 1000000 ADD
+3 allowed 200 ops
+> 1 ADDED
+in 1 1000000 IN_LINK_PACKET
+4 passed
+> 2 INTEREST
+in 1 1000000 LINK_FIELD
+5 dropped Malformed LpField
+in 1 1000000 FRAGMENT
+6 dropped Malformed Fragmented
+in 2 1000000 IDLE
+7 dropped Idle
+in 2 1000000 -
+8 dropped Malformed Tlv Truncated
+";
+
+/// A packet is handled without the link packet around it.
+#[test]
+fn link_packets(rt: HostRuntime) {
+    replies(&rt, LINK_PACKETS);
+}

@@ -1,0 +1,137 @@
+use super::replies;
+
+#[test]
+fn an_empty_script_has_no_answers(rt: HostRuntime) {
+    replies(&rt, "");
+}
+
+const AT_THE_DEADLINE: &str = "
+up 1 local 1000000
+1 passed
+up 2 far 1000000
+2 passed
+in 1 1000000 ADD
+3 allowed 200 ops
+> 1 ADDED
+in 1 1001000 LIFE
+4 passed
+> 2 LIFE
+in 2 1001100 D_A
+5 data any-data
+in 1 1000900 LIFE
+6 passed
+> 2 LIFE
+in 2 1001199 D_A
+7 data any-data
+> 1 D_A
+";
+
+const BEFORE_THE_DEADLINE: &str = "
+up 1 local 1000000
+1 passed
+up 2 far 1000000
+2 passed
+in 1 1000000 ADD
+3 allowed 200 ops
+> 1 ADDED
+in 1 1001000 LIFE
+4 passed
+> 2 LIFE
+in 2 1001099 D_A
+5 data any-data
+> 1 D_A
+";
+
+/// At its deadline an Interest is pending no more, and time does not turn back.
+#[test]
+fn deadlines(rt: HostRuntime) {
+    replies(&rt, BEFORE_THE_DEADLINE);
+    replies(&rt, AT_THE_DEADLINE);
+}
+
+const DATA_ANSWERS: &str = "
+up 1 local 1000000
+1 passed
+up 2 far 1000000
+2 passed
+up 3 far 1000000
+3 passed
+in 1 1000000 ADD_3
+4 allowed 200 ops
+> 1 ADDED_ROOT_3
+in 1 1000000 AB_PREFIX
+5 passed
+> 3 AB_PREFIX
+in 2 1000000 AB
+6 passed
+> 3 AB
+in 3 1000000 D_ABC
+7 data any-data
+> 1 D_ABC
+in 2 1000000 D_AB
+8 data any-data
+in 3 1000000 D_AB
+9 data any-data
+";
+
+/// Longer names answer where the Interest says so. Data never goes back to its face, and ends what
+/// it answers.
+#[test]
+fn data_answers(rt: HostRuntime) {
+    replies(&rt, DATA_ANSWERS);
+}
+
+pub const LOOPS_AND_RETRIES: &str = "
+up 1 local 1000000
+1 passed
+up 2 far 1000000
+2 passed
+in 1 1000000 ADD
+3 allowed 200 ops
+> 1 ADDED
+in 1 1001000 INTEREST
+4 passed
+> 2 INTEREST
+in 2 1001000 INTEREST
+5 dropped Loop
+> 2 BACK_2
+in 1 1001009 INTEREST
+6 passed
+in 1 1001010 INTEREST
+7 passed
+> 2 INTEREST
+";
+
+/// A loop is answered by a Nack Duplicate. An Interest that is sent again goes on after 10
+/// milliseconds.
+#[test]
+fn loops_and_retries(rt: HostRuntime) {
+    replies(&rt, LOOPS_AND_RETRIES);
+}
+
+pub const NACKS: &str = "
+up 1 local 1000000
+1 passed
+up 2 far 1000000
+2 passed
+in 1 1000000 ADD
+3 allowed 200 ops
+> 1 ADDED
+in 1 1001000 INTEREST
+4 passed
+> 2 INTEREST
+in 1 1001010 INTEREST
+5 passed
+> 2 INTEREST
+in 2 1001011 NO_ROUTE
+6 passed
+> 1 NO_ROUTE
+in 2 1001012 NO_ROUTE
+7 dropped NoPending
+";
+
+/// A Nack goes back once all have answered so.
+#[test]
+fn nacks(rt: HostRuntime) {
+    replies(&rt, NACKS);
+}

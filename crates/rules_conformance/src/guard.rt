@@ -1,0 +1,172 @@
+//! Which signed commands are new.
+
+mod replay_windows;
+
+use crate::rows::check_rows;
+use ndn_names::NameBuf;
+use replay_guard::*;
+use std::alloc::Global;
+
+/// The key of a signer: none for `digest`.
+fn key_in(alloc: Global, text: &str) -> Option<Option<NameBuf>> {
+    if text == "digest" {
+        return Some(None);
+    }
+    Some(Some(NameBuf::from_uri(alloc, text).ok()?))
+}
+
+fn signer_of(key: &Option<NameBuf>) -> Signer<'_> {
+    match key {
+        None => Signer::Digest,
+        Some(name) => Signer::Key(name.view()),
+    }
+}
+
+/// The number of a command: none for `-`.
+fn number_in(text: &str) -> Option<Option<u64>> {
+    if text == "-" {
+        return Some(None);
+    }
+    Some(Some(text.parse().ok()?))
+}
+
+/// Records a command: its signer, time and number. After `prepare` it prepares a signer's.
+fn record(alloc: Global, guard: &mut Guard, command: &str) -> Option<()> {
+    let (signer, rest) = command.split_once(' ')?;
+    if signer == "prepare" {
+        let key = key_in(alloc, rest)?;
+        return guard.prepare(signer_of(&key)).ok();
+    }
+    let (time, number) = rest.split_once(' ')?;
+    let (time, number) = (time.parse().ok()?, number_in(number)?);
+    let key = key_in(alloc, signer)?;
+    guard.record(signer_of(&key), time, number).ok()
+}
+
+/// Whether a command, its signer, time and number, is fresh at a moment.
+fn is_fresh(alloc: Global, guard: &Guard, command: &str) -> Option<bool> {
+    let (signer, rest) = command.split_once(' ')?;
+    let (time, rest) = rest.split_once(' ')?;
+    let (number, now) = rest.split_once(' ')?;
+    let (time, number, now) = (time.parse().ok()?, number_in(number)?, now.parse().ok()?);
+    let key = key_in(alloc, signer)?;
+    Some(guard.check(signer_of(&key), time, number, now))
+}
+
+/// Whether a command is fresh after others that were recorded.
+fn freshness(alloc: Global, row: &str) -> Option<String> {
+    let (past, command) = row.split_once("? ")?;
+    let mut guard = Guard::new(alloc);
+    for recorded in past.split_terminator(", ") {
+        record(alloc, &mut guard, recorded.trim())?;
+    }
+    let answer = if is_fresh(alloc, &guard, command)? {
+        "fresh"
+    } else {
+        "no"
+    };
+    String::from_str(alloc, answer).ok()
+}
+
+/// A preparation records nothing.
+#[test]
+fn a_preparation_records_nothing(rt: HostRuntime) {
+    let rows = "
+prepare /k, ? /k 0 - 0 -> fresh
+prepare digest, ? digest 0 - 0 -> fresh
+/k 5 5, prepare /k, ? /k 5 6 5 -> no
+/k 5 5, prepare /k, ? /k 6 6 5 -> fresh
+";
+    check_rows(&rt, rt.alloc(), rows, freshness);
+}
+
+/// The prepared call has its effect.
+#[test]
+fn prepared_calls_have_their_effect(rt: HostRuntime) {
+    let rows = "
+prepare /k, /k 0 0, ? /k 0 1 0 -> no
+prepare /k, /k 0 0, ? /k 1 0 0 -> no
+prepare /k, /k 0 0, ? /k 1 1 0 -> fresh
+prepare /k, /k 0 0, ? /l 0 0 0 -> fresh
+prepare digest, digest 0 0, ? digest 0 1 0 -> no
+prepare digest, digest 0 0, ? digest 1 1 0 -> fresh
+prepare digest, digest 0 0, ? /k 0 0 0 -> fresh
+/k 5 5, prepare /k, /k 6 6, ? /k 7 6 5 -> no
+/k 5 5, prepare /k, /k 6 6, ? /k 7 7 5 -> fresh
+";
+    check_rows(&rt, rt.alloc(), rows, freshness);
+}
+
+/// A call of another signer has its own effect, and so has the signer's own call after that.
+#[test]
+fn calls_of_others_after_a_preparation(rt: HostRuntime) {
+    let rows = "
+# A call of another signer has its own.
+prepare /k, /l 0 0, ? /l 0 1 0 -> no
+prepare /k, /l 0 0, ? /k 0 0 0 -> fresh
+prepare /k, digest 0 0, ? digest 0 1 0 -> no
+prepare /k, digest 0 0, ? /k 0 0 0 -> fresh
+prepare digest, /k 0 0, ? digest 0 0 0 -> fresh
+# So has the signer's own call after that.
+prepare /k, /l 0 0, /k 0 0, ? /k 0 1 0 -> no
+prepare /k, /l 0 0, /k 0 0, ? /l 0 1 0 -> no
+";
+    check_rows(&rt, rt.alloc(), rows, freshness);
+}
+
+/// The second of two preparations counts.
+#[test]
+fn the_second_of_two_preparations_counts(rt: HostRuntime) {
+    let rows = "
+prepare /k, prepare /l, /l 0 0, ? /l 0 1 0 -> no
+prepare /k, prepare /l, /l 0 0, ? /k 0 0 0 -> fresh
+prepare /k, prepare /l, /k 0 0, ? /k 0 1 0 -> no
+";
+    check_rows(&rt, rt.alloc(), rows, freshness);
+}
+
+/// Whether a prepared call is not refused memory, and a refused one changes nothing.
+fn keeps_its_promise(alloc: Global) -> Option<bool> {
+    let mut guard = Guard::new(alloc);
+    let key = key_in(alloc, "/k")?;
+    let signer = signer_of(&key);
+    if guard.prepare(signer).is_err() {
+        return Some(guard.check(signer, 0, None, 0));
+    }
+    let recorded = guard.record(signer, 0, None).is_ok();
+    Some(recorded && !guard.check(signer, 0, None, 0) && guard.record(signer, 1, None).is_ok())
+}
+
+#[test]
+fn refused_memory_for_records(rt: HostRuntime) {
+    assert!(rt; keeps_its_promise(rt.alloc()) != Some(false));
+}
+
+/// Whether a refused call for a new signer leaves what was recorded, as one does that another
+/// signer's call has taken the preparation from.
+fn leaves_earlier_records(alloc: Global) -> Option<bool> {
+    let mut guard = Guard::new(alloc);
+    let (first, second) = (key_in(alloc, "/k")?, key_in(alloc, "/l")?);
+    let (first, second) = (signer_of(&first), signer_of(&second));
+    guard.record(Signer::Digest, 5, Some(5)).ok()?;
+    guard.prepare(second).ok()?;
+    guard.record(first, 5, Some(5)).ok()?;
+    let was_recorded = guard.record(second, 5, Some(5)).is_ok();
+    Some(
+        guard.check(second, 5, Some(5), 5) != was_recorded
+            && is_recorded(&guard, Signer::Digest)
+            && is_recorded(&guard, first),
+    )
+}
+
+/// Whether just a command of the time 5 and the number 5 is recorded of a signer.
+fn is_recorded(guard: &Guard, signer: Signer<'_>) -> bool {
+    !guard.check(signer, 5, Some(6), 5)
+        && !guard.check(signer, 6, Some(5), 5)
+        && guard.check(signer, 6, Some(6), 5)
+}
+
+#[test]
+fn earlier_records_with_refused_memory(rt: HostRuntime) {
+    assert!(rt; leaves_earlier_records(rt.alloc()) != Some(false));
+}

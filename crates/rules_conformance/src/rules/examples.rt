@@ -1,0 +1,380 @@
+//! The files of `docs/RULES.md` and `examples`, and what they decide.
+
+use super::decisions::{first_wrong_under, told_of};
+use super::reading::rules_of;
+use crate::rows::assert_right;
+use info_rules::RuleNo;
+use std::alloc::Global;
+use test_support::{KEYS, SAMPLE};
+
+/// The whole file of `docs/RULES.md`.
+const WHOLE: &str = r"; Who may change routes and strategies.
+rule {
+  id operators
+  for interest
+  filter {
+    type name
+    name /localhost/nfd
+    relation is-prefix-of
+  }
+  checker {
+    type customized
+    key-locator {
+      type name
+      regex ^<ops><KEY><>$
+    }
+  }
+}
+
+; Who may delete from the repository: one key. This rule stands before the next one.
+rule {
+  id archive-delete
+  for interest
+  filter {
+    type name
+    name /repo/delete
+    relation is-prefix-of
+  }
+  checker {
+    type customized
+    key-locator {
+      type name
+      name /archive/KEY/1
+      relation equal
+    }
+  }
+}
+
+; Who may insert and check: any key of the laboratory.
+rule {
+  id archive-use
+  for interest
+  filter {
+    type name
+    name /repo
+    relation is-prefix-of
+  }
+  checker {
+    type customized
+    key-locator {
+      type name
+      regex ^<lab><>*<KEY><>$
+    }
+  }
+}
+
+; Data of the sensors: /sensors/roof/KEY/7 signs what is under /sensors/roof, and nothing else.
+rule {
+  id sensors
+  for data
+  filter {
+    type name
+    name /sensors
+    relation is-prefix-of
+  }
+  checker {
+    type hierarchical
+  }
+}
+
+; All other Data. A digest shows damaged octets, and not who made them.
+rule {
+  id others
+  for data
+  checker {
+    type customized
+    sig-type sha256
+  }
+}
+";
+
+const OF_WHOLE: &str = r"
+interest /localhost/nfd/fib/add-nexthop/P by /ops/KEY/1 key → allowed 0
+interest /localhost/nfd/fib/add-nexthop/P by digest → denied 0 SigType
+interest /repo/delete/P by /archive/KEY/1 key → allowed 1
+interest /repo/delete/P by /lab/roof/KEY/7 key → denied 1 KeyLocator
+interest /repo/insert/P by /lab/roof/KEY/7 key → allowed 2
+interest /elsewhere by /ops/KEY/1 key → no rule
+data /sensors/roof/1 by /sensors/roof/KEY/7 key → allowed 3
+data /sensors/roof/1 by digest → denied 3 SigType
+data /A by digest → allowed 4
+";
+
+#[test]
+fn a_whole_file(rt: HostRuntime) {
+    assert_right(&rt, first_wrong_under(rt.alloc(), WHOLE, OF_WHOLE));
+}
+
+/// The first part in `docs/RULES.md`.
+const OPERATORS: &str = r"rule
+{
+  id operators
+  for interest
+  filter
+  {
+    type name
+    name /localhost/nfd
+    relation is-prefix-of
+  }
+  checker
+  {
+    type customized
+    sig-type hmac-sha256
+    key-locator
+    {
+      type name
+      name /ops/KEY/1
+      relation equal
+    }
+  }
+}
+";
+
+const OF_OPERATORS: &str = r"
+interest /localhost/nfd/fib/add-nexthop/P by /ops/KEY/1 key → allowed 0
+interest /localhost/nfd/fib/add-nexthop/P by /archive/KEY/1 key → denied 0 KeyLocator
+interest /repo/insert/P by /ops/KEY/1 key → no rule
+";
+
+#[test]
+fn only_operators_change_routes(rt: HostRuntime) {
+    assert_right(&rt, first_wrong_under(rt.alloc(), OPERATORS, OF_OPERATORS));
+}
+
+/// The second part in `docs/RULES.md`.
+const ARCHIVE: &str = r"rule
+{
+  id archive-delete
+  for interest
+  filter
+  {
+    type name
+    name /repo/delete
+    relation is-prefix-of
+  }
+  checker
+  {
+    type customized
+    sig-type hmac-sha256
+    key-locator
+    {
+      type name
+      name /archive/KEY/1
+      relation equal
+    }
+  }
+}
+
+rule
+{
+  id archive-use
+  for interest
+  filter
+  {
+    type name
+    name /repo
+    relation is-prefix-of
+  }
+  checker
+  {
+    type customized
+    sig-type hmac-sha256
+    key-locator
+    {
+      type name
+      regex ^<lab><>*<KEY><>$
+    }
+  }
+}
+";
+
+const OF_ARCHIVE: &str = r"
+interest /repo/delete/P by /archive/KEY/1 key → allowed 0
+interest /repo/delete/P by /lab/roof/KEY/7 key → denied 0 KeyLocator
+interest /repo/insert/P by /lab/roof/KEY/7 key → allowed 1
+interest /repo/insert/P by /archive/KEY/1 key → denied 1 KeyLocator
+interest /repo/check/P by /lab/cellar/KEY/1 key → denied 1 KeyUnknown
+";
+
+#[test]
+fn one_key_deletes(rt: HostRuntime) {
+    assert_right(&rt, first_wrong_under(rt.alloc(), ARCHIVE, OF_ARCHIVE));
+}
+
+/// The third part in `docs/RULES.md`.
+const PRODUCERS: &str = r"rule
+{
+  id producers
+  for data
+  filter
+  {
+    type name
+    name /sensors
+    relation is-prefix-of
+  }
+  checker
+  {
+    type hierarchical
+    sig-type hmac-sha256
+  }
+}
+
+rule
+{
+  id others
+  for data
+  checker
+  {
+    type customized
+    sig-type sha256
+  }
+}
+";
+
+const OF_PRODUCERS: &str = r"
+data /sensors/roof/wind/v=1 by /sensors/roof/KEY/7 key → allowed 0
+data /sensors/cellar/wind/v=1 by /sensors/roof/KEY/7 key → denied 0 KeyLocator
+data /sensors/roof/wind/v=1 by digest → denied 0 SigType
+data /A by digest → allowed 1
+";
+
+#[test]
+fn producers_sign_below_their_names(rt: HostRuntime) {
+    assert_right(&rt, first_wrong_under(rt.alloc(), PRODUCERS, OF_PRODUCERS));
+}
+
+/// Two rules that take digests, and name key locators besides.
+const DIGESTS: &str = r"
+rule {␊ id customized␊ for data␊ filter {␊ type name␊ name /A␊ relation equal }␊ checker {␊ type customized␊ sig-type sha256␊ key-locator {␊ type name␊ name /nobody␊ relation equal } } }
+rule {␊ id hierarchical␊ for data␊ checker {␊ type hierarchical␊ sig-type sha256 } }
+";
+
+const OF_DIGESTS: &str = r"
+data /A by digest → allowed 0
+data /B by digest → allowed 1
+";
+
+/// A checker of digests does not look at the key locator.
+#[test]
+fn digests_need_no_key(rt: HostRuntime) {
+    assert_right(&rt, first_wrong_under(rt.alloc(), DIGESTS, OF_DIGESTS));
+}
+
+/// The hyper-relation of `docs/RULES.md` in a rule.
+const SHARED_PART: &str = r"rule
+{
+  id rooms
+  for data
+  checker
+  {
+    type customized
+    key-locator
+    {
+      type name
+      hyper-relation
+      {
+        k-regex ^<keys>(<>*)<KEY><>$
+        k-expand \1
+        h-relation is-prefix-of
+        p-regex ^<lab>(<>*)$
+        p-expand \1
+      }
+    }
+  }
+}
+";
+
+const OF_SHARED_PART: &str = r"
+data /lab/roof/wind by /keys/roof/KEY/7 key → allowed 0
+data /lab/cellar/wind by /keys/roof/KEY/7 key → denied 0 KeyLocator
+data /roof/wind by /keys/roof/KEY/7 key → denied 0 KeyLocator
+";
+
+#[test]
+fn a_shared_part_of_two_names(rt: HostRuntime) {
+    assert_right(
+        &rt,
+        first_wrong_under(rt.alloc(), SHARED_PART, OF_SHARED_PART),
+    );
+}
+
+const OF_SAMPLE: &str = r"
+interest /localhost/nfd/fib/add-nexthop/P by /ops/KEY/1 key → allowed 0
+interest /localhost/nfd/fib/add-nexthop/P by /archive/KEY/1 key → denied 0 KeyLocator
+interest /repo/insert/P by /ops/KEY/1 key → allowed 1
+interest /repo/insert/P by digest → denied 1 SigType
+data /A by digest → allowed 2
+data /A by /ops/KEY/1 key → denied 2 SigType
+";
+
+/// Which rule is for which packets.
+const FOR_SAMPLE: &str = r"
+any interest /localhost/nfd → rule 0
+any interest /repo → rule 1
+any interest /A → no rule
+any data /localhost/nfd → rule 2
+any data /repo → rule 2
+any data / → rule 2
+";
+
+/// Whether a rule of the sample has this id.
+fn has_id(alloc: Global, number: usize, id: &str) -> bool {
+    let Ok(rules) = rules_of(alloc, SAMPLE) else {
+        return false;
+    };
+    rules.len() == 3 && number < 3 && rules.id(RuleNo(number)) == id
+}
+
+#[test]
+fn ids_of_the_sample_rules(rt: HostRuntime) {
+    assert!(rt; has_id(rt.alloc(), 0, "ops"));
+    assert!(rt; has_id(rt.alloc(), 1, "repo-ops"));
+    assert!(rt; has_id(rt.alloc(), 2, "any-data"));
+}
+
+#[test]
+fn what_the_sample_rules_decide(rt: HostRuntime) {
+    assert_right(&rt, first_wrong_under(rt.alloc(), SAMPLE, OF_SAMPLE));
+}
+
+#[test]
+fn first_rules_of_the_sample(rt: HostRuntime) {
+    assert_right(&rt, first_wrong_under(rt.alloc(), SAMPLE, FOR_SAMPLE));
+}
+
+const OTHER_SIGNATURES: &str = r"
+octets 060c070308014116031b01011700 → denied 0 SigType
+octets 060c070308014116031b01031700 → denied 0 SigType
+octets 060c070308014116031b01051700 → denied 0 SigType
+";
+
+const OTHER_SIGNATURES_NO_RULE: &str = r"
+octets 060c070308014116031b01011700 → no rule
+octets 060c070308014116031b01031700 → no rule
+octets 060c070308014116031b01051700 → no rule
+";
+
+/// Signatures by RSA, ECDSA and Ed25519 can be read, and no checker passes them.
+#[test]
+fn other_signatures(rt: HostRuntime) {
+    assert_right(
+        &rt,
+        first_wrong_under(rt.alloc(), SHARED_PART, OTHER_SIGNATURES),
+    );
+    assert_right(
+        &rt,
+        first_wrong_under(rt.alloc(), OPERATORS, OTHER_SIGNATURES_NO_RULE),
+    );
+}
+
+/// Whether a Data is allowed, or memory was refused in what stands before the decision or in it.
+fn is_allowed_unless_memory(alloc: Global) -> bool {
+    let packet = "data /lab/roof/wind by /keys/roof/KEY/7 key";
+    told_of(alloc, SHARED_PART, KEYS, packet).is_none_or(|told| told.as_str() == "allowed 0")
+}
+
+/// Each growth of memory may be refused.
+#[test]
+fn decision_with_refused_memory(rt: HostRuntime) {
+    assert!(rt; is_allowed_unless_memory(rt.alloc()));
+}

@@ -1,0 +1,2 @@
+pub mod RouteRoom
+pub mod PendingRoom

@@ -1,0 +1,214 @@
+//! Data that are kept to answer Interests.
+
+mod random_sequences;
+
+use crate::rows::check_rows;
+use content_store::*;
+use ndn_names::NameBuf;
+use ndn_packets::*;
+use std::alloc::Global;
+use test_support::{content_shown, data_of};
+
+/// Puts a Data: its name, Content, FreshnessPeriod and arrival.
+fn put(alloc: Global, store: &mut Store, words: &str) -> Option<()> {
+    let (name, rest) = words.split_once(' ')?;
+    let (content, rest) = rest.split_once(' ')?;
+    let (freshness, arrival) = rest.split_once(' ')?;
+    let arrival = arrival.parse().ok()?;
+    let packet = data_of(alloc, name, content, Some(freshness.parse().ok()?))?;
+    put_packet(store, &packet, arrival)?.then_some(())
+}
+
+/// Whether the store keeps a Data.
+fn put_packet(store: &mut Store, packet: &[u8], arrival: u64) -> Option<bool> {
+    match read_frame(packet).ok()? {
+        Frame::Data(data) => Some(store.put(&data, arrival)),
+        _ => None,
+    }
+}
+
+/// The Content of what an Interest gets: its name, its flags (`p` CanBePrefix, `f` MustBeFresh) and
+/// the moment.
+fn find(alloc: Global, store: &mut Store, words: &str) -> Option<String> {
+    let (name, rest) = words.split_once(' ')?;
+    let (flags, now) = rest.split_once(' ')?;
+    let now = now.parse().ok()?;
+    let name = NameBuf::from_uri(alloc, name).ok()?;
+    let key = Key {
+        name: name.view(),
+        can_be_prefix: flags.contains('p'),
+        must_be_fresh: flags.contains('f'),
+    };
+    content_shown(alloc, store.find(key, now))
+}
+
+/// How many Data go: those under a name, at most a count, or `all`.
+fn erase(alloc: Global, store: &mut Store, words: &str) -> Option<String> {
+    let (name, count) = words.split_once(' ')?;
+    let count = match count {
+        "all" => None,
+        count => Some(count.parse().ok()?),
+    };
+    let name = NameBuf::from_uri(alloc, name).ok()?;
+    let erased = store.erase(name.view(), count);
+    format!(in alloc; "{erased}").ok()
+}
+
+/// What a call answers, if that is shown.
+fn answer(alloc: Global, store: &mut Store, call: &str) -> Option<Option<String>> {
+    let (verb, words) = call.split_once(' ')?;
+    match verb {
+        "put" => put(alloc, store, words).map(|()| None),
+        "find" => find(alloc, store, words).map(Some),
+        "erase" => erase(alloc, store, words).map(Some),
+        _ => None,
+    }
+}
+
+/// The answers of the calls after a capacity, and how many Data are then held.
+fn answers(alloc: Global, row: &str) -> Option<String> {
+    let (capacity, calls) = row.split_once(": ")?;
+    match Store::new(alloc, capacity.parse().ok()?) {
+        Ok(mut store) => answers_of(alloc, &mut store, calls),
+        Err(_) => String::from_str(alloc, "BadCapacity").ok(),
+    }
+}
+
+fn answers_of(alloc: Global, store: &mut Store, calls: &str) -> Option<String> {
+    let mut shown = String::new(alloc);
+    for call in calls.split_terminator(", ") {
+        put_answer(alloc, &mut shown, store, call)?;
+    }
+    let held = format!(in alloc; "({} of {})", store.len(), store.capacity()).ok()?;
+    shown.push_str(&held).ok()?;
+    Some(shown)
+}
+
+fn put_answer(alloc: Global, shown: &mut String, store: &mut Store, call: &str) -> Option<()> {
+    if let Some(text) = answer(alloc, store, call)? {
+        shown.push_str(&text).ok()?;
+        shown.push(' ').ok()?;
+    }
+    Some(())
+}
+
+#[test]
+fn store_erase(rt: HostRuntime) {
+    let rows = "
+8: put /A/1 01 0 0, put /A/2 02 0 0, put /A/3 03 0 0, erase /A 2, find /A/1 - 0, find /A/2 - 0, find /A/3 - 0 -> 2 none none 03 (1 of 8)
+8: put /A/3 03 0 0, put /A/2 02 0 0, put /A/1 01 0 0, erase /A 2, find /A p 0 -> 2 03 (1 of 8)
+8: put /A 01 0 0, put /A/B 02 0 0, put /AB 03 0 0, erase /A all, find / p 0 -> 2 03 (1 of 8)
+8: put /A 01 0 0, put /A/B 02 0 0, erase /A 18446744073709551615 -> 2 (0 of 8)
+8: put /A 01 0 0, erase /A 0, erase /B all, erase /A/B 1, erase / all -> 0 0 0 1 (0 of 8)
+8: erase / all, erase / 1 -> 0 0 (0 of 8)
+# A shorter name is less, then a shorter component.
+8: put /A/B 01 0 0, put /A 02 0 0, erase / 1, find /A p 0 -> 1 01 (1 of 8)
+8: put /AA 01 0 0, put /B 02 0 0, erase / 1, find / p 0 -> 1 01 (1 of 8)
+";
+    check_rows(&rt, rt.alloc(), rows, answers);
+}
+
+/// A store holds from 1 to 65,536 Data.
+#[test]
+fn store_capacities(rt: HostRuntime) {
+    let rows = "
+0:  -> BadCapacity
+1:  -> (0 of 1)
+65536:  -> (0 of 65536)
+65537:  -> BadCapacity
+18446744073709551615:  -> BadCapacity
+";
+    check_rows(&rt, rt.alloc(), rows, answers);
+}
+
+/// A full store loses the least recently used, and nothing where a Data replaces its like.
+#[test]
+fn eviction_order(rt: HostRuntime) {
+    let rows = "
+1: put /A 01 0 0, put /B 02 0 0, find /A - 0, find /B - 0 -> none 02 (1 of 1)
+1: put /A 01 0 0, put /A 01 0 5, find /A - 0 -> 01 (1 of 1)
+2: put /A 01 0 0, put /B 02 0 0, find /A - 0, put /C 03 0 0, find /B - 0, find /A - 0 -> 01 none 01 (2 of 2)
+2: put /A 01 0 0, put /B 02 0 0, put /A 01 0 0, put /C 03 0 0, find /A - 0, find /B - 0 -> 01 none (2 of 2)
+2: put /A 01 0 0, put /B 02 0 0, put /B 02 0 0, find /A - 0 -> 01 (2 of 2)
+";
+    check_rows(&rt, rt.alloc(), rows, answers);
+}
+
+/// Two Data of one name are two.
+#[test]
+fn two_data_of_one_name(rt: HostRuntime) {
+    let rows = "
+2: put /A 01 0 0, put /A 02 0 0, erase /A all -> 2 (0 of 2)
+";
+    check_rows(&rt, rt.alloc(), rows, answers);
+}
+
+/// Data are fresh until their FreshnessPeriod is over.
+#[test]
+fn cache_freshness(rt: HostRuntime) {
+    let rows = "
+8: put /A 01 1000 5000, find /A f 5999, find /A f 6000, find /A - 6000 -> 01 none 01 (1 of 8)
+8: put /A 01 0 5000, find /A f 0, find /A f 5000, find /A - 5000 -> 01 none 01 (1 of 8)
+# An arrival again counts from then on.
+8: put /A 01 1000 5000, put /A 01 1000 9000, find /A f 9999, find /A f 10000 -> 01 none (1 of 8)
+# The sum of the arrival and the period stops at the greatest moment.
+8: put /A 01 18446744073709551615 1, find /A f 18446744073709551614, find /A f 18446744073709551615 -> 01 none (1 of 8)
+8: put /A 01 1 18446744073709551615, find /A f 18446744073709551614, find /A f 18446744073709551615 -> 01 none (1 of 8)
+8: put /A 01 18446744073709551615 0, find /A pf 18446744073709551614 -> 01 (1 of 8)
+";
+    check_rows(&rt, rt.alloc(), rows, answers);
+}
+
+/// MustBeFresh passes over the names that are not fresh.
+#[test]
+fn the_least_name_that_is_fresh(rt: HostRuntime) {
+    let rows = "
+8: put /A/1 01 10 0, put /A/2 02 20 0, find /A pf 9, find /A pf 10, find /A pf 20, find /A p 20 -> 01 02 none 01 (2 of 8)
+";
+    check_rows(&rt, rt.alloc(), rows, answers);
+}
+
+/// Whatever was put is held with ample memory, and the least full name that answers is found.
+#[test]
+fn cache_kept(rt: HostRuntime) {
+    let rows = "
+8: put /A 01 0 0, put /B 02 0 0, put /C 03 0 0, put /D 04 0 0, put /E 05 0 0, put /F 06 0 0, put /G 07 0 0, put /H 08 0 0, find /A - 0, find /H - 0, find /D - 0 -> 01 08 04 (8 of 8)
+8: put /A/2 02 0 0, put /A/1 01 0 0, put /A/3 03 0 0, find /A - 0, find /A p 0, find /A/3 p 0, find /A p 0 -> none 01 03 01 (3 of 8)
+8: put / 01 0 0, put /A 02 0 0, find / - 0, find / p 0, find /A - 0 -> 01 01 02 (2 of 8)
+";
+    check_rows(&rt, rt.alloc(), rows, answers);
+}
+
+/// The least digest comes first, and a full name has one Data.
+#[test]
+fn cached_data_by_full_name(rt: HostRuntime) {
+    let rows = "
+# By another program the digests of /A with the Contents 01 to 05 sort as 05 03 02 04 01.
+8: put /A 01 0 0, put /A 02 0 0, put /A 03 0 0, put /A 04 0 0, put /A 05 0 0, find /A - 0, erase /A 1, find /A - 0, erase /A 1, find /A - 0, erase /A 1, find /A - 0 -> 05 1 03 1 02 1 04 (2 of 8)
+8: put /A 01 0 0, find /A/sha256digest=d243cbdcd4a6bee92ad57cfa968432fbb4f168e6fe9f40469546268ffebca066 - 0, find /A/sha256digest=d243cbdcd4a6bee92ad57cfa968432fbb4f168e6fe9f40469546268ffebca066 p 0, find /A/sha256digest=9a624381e55ec46acdd78e32c7f323e79845574069940c6be453a9f4ff3f09ca p 0, find /A/B p 0 -> 01 01 none none (1 of 8)
+8: put /A 01 0 0, put /A 02 0 0, erase /A/sha256digest=d243cbdcd4a6bee92ad57cfa968432fbb4f168e6fe9f40469546268ffebca066 all, find /A - 0 -> 1 02 (1 of 8)
+# The digest of a name is compared as a component: it may come before a component of the name.
+8: put /A 01 0 0, put /A/sha256digest=0000000000000000000000000000000000000000000000000000000000000000 02 0 0, find /A p 0 -> 02 (2 of 8)
+8: put /A 01 0 0, put /A/sha256digest=ffffffffffffffffffffffffffffffffffffffffffffffffffffffffffffffff 02 0 0, find /A p 0 -> 01 (2 of 8)
+";
+    check_rows(&rt, rt.alloc(), rows, answers);
+}
+
+/// Whether a Data is found exactly where it was kept, which a refusal of memory prevents.
+fn is_found_where_kept(alloc: Global) -> Option<bool> {
+    let packet = data_of(alloc, "/A", "01", Some(0))?;
+    let mut store = Store::new(alloc, 2).ok()?;
+    let was_kept = put_packet(&mut store, &packet, 0)?;
+    let name = NameBuf::from_uri(alloc, "/A").ok()?;
+    let key = Key {
+        name: name.view(),
+        can_be_prefix: false,
+        must_be_fresh: false,
+    };
+    Some(store.find(key, 0).is_some() == was_kept)
+}
+
+#[test]
+fn put_with_refused_memory(rt: HostRuntime) {
+    assert!(rt; is_found_where_kept(rt.alloc()) != Some(false));
+}

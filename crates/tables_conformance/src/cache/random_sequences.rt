@@ -1,0 +1,224 @@
+//! Random calls of a store, beside a plain list that is searched from end to end.
+
+use content_store::*;
+use ndn_names::NameBuf;
+use ndn_packets::*;
+use std::alloc::Global;
+use std::cmp::Ordering;
+use test_support::{data_of, digest_of, random};
+
+/// Names in canonical order.
+const NAMES: [&str; 6] = ["/", "/A", "/A/B", "/A/C", "/B", "/AA"];
+
+/// Two Data of each name, with the place of the name, the FreshnessPeriod and the digest.
+#[derive(Drop)]
+struct Made {
+    packet: Vec<u8>,
+    name: usize,
+    freshness: u64,
+    digest: [u8; 32],
+}
+
+/// A Data that is held: its place among those made, and its arrival.
+#[derive(Clone, Copy)]
+struct Held {
+    made: usize,
+    arrival: u64,
+}
+
+/// What an Interest asks for.
+#[derive(Clone, Copy)]
+struct Asked {
+    name: usize,
+    can_be_prefix: bool,
+    must_be_fresh: bool,
+    now: u64,
+}
+
+fn written_data(alloc: Global, name: usize, uri: &str, content: &str) -> Option<Made> {
+    let packet = data_of(alloc, uri, content, Some(5))?;
+    let digest = digest_of(&packet)?;
+    Some(Made {
+        packet,
+        name,
+        freshness: 5,
+        digest,
+    })
+}
+
+fn all_made(alloc: Global) -> Option<Vec<Made>> {
+    let mut all = Vec::new(alloc);
+    for (name, uri) in NAMES.iter().enumerate() {
+        all.push(written_data(alloc, name, uri, "01")?).ok()?;
+        all.push(written_data(alloc, name, uri, "02")?).ok()?;
+    }
+    Some(all)
+}
+
+fn all_names(alloc: Global) -> Option<Vec<NameBuf>> {
+    let mut names = Vec::new(alloc);
+    for uri in NAMES {
+        names.push(NameBuf::from_uri(alloc, uri).ok()?).ok()?;
+    }
+    Some(names)
+}
+
+/// Whether a name begins with another.
+fn is_under(name: usize, prefix: usize) -> bool {
+    let (Some(name), Some(prefix)) = (NAMES.get(name), NAMES.get(prefix)) else {
+        return false;
+    };
+    match name.strip_prefix(*prefix) {
+        Some(rest) => *prefix == "/" || rest.is_empty() || rest.starts_with('/'),
+        None => false,
+    }
+}
+
+fn can_serve(made: &Made, held: Held, asked: Asked) -> bool {
+    let answers = made.name == asked.name
+        || (asked.can_be_prefix && is_under(made.name, asked.name));
+    answers && (!asked.must_be_fresh || asked.now < held.arrival.saturating_add(made.freshness))
+}
+
+fn compare(made: &Made, other: &Made) -> Ordering {
+    made.name
+        .cmp(&other.name)
+        .then(made.digest.as_slice().cmp(other.digest.as_slice()))
+}
+
+/// Of what is held and can serve, the one of the least full name.
+fn least<'a>(all: &'a [Made], held: &[Held], asked: Asked) -> Option<(Held, &'a Made)> {
+    let mut least: Option<(Held, &Made)> = None;
+    for one in held {
+        let made = all.get(one.made)?;
+        let is_less = match least {
+            Some((_, other)) => compare(made, other).is_lt(),
+            None => true,
+        };
+        if is_less && can_serve(made, *one, asked) {
+            least = Some((*one, made));
+        }
+    }
+    least
+}
+
+fn forget(held: &mut Vec<Held>, made: usize) {
+    held.retain(|other| other.made != made);
+}
+
+/// Whether a `put` is true, which it has to be with ample memory.
+fn put_agrees(
+    all: &[Made],
+    store: &mut Store,
+    held: &mut Vec<Held>,
+    state: &mut u64,
+) -> Option<bool> {
+    let one = Held {
+        made: random(state, 12) as usize,
+        arrival: random(state, 20),
+    };
+    let Frame::Data(data) = read_frame(&all.get(one.made)?.packet).ok()? else {
+        return None;
+    };
+    forget(held, one.made);
+    held.insert(0, one).ok()?;
+    held.truncate(store.capacity());
+    Some(store.put(&data, one.arrival))
+}
+
+/// Whether a `find` gives what the list has.
+fn find_agrees(
+    all: &[Made],
+    names: &[NameBuf],
+    store: &mut Store,
+    held: &mut Vec<Held>,
+    state: &mut u64,
+) -> Option<bool> {
+    let asked = Asked {
+        name: random(state, 6) as usize,
+        can_be_prefix: random(state, 2) == 1,
+        must_be_fresh: random(state, 2) == 1,
+        now: random(state, 25),
+    };
+    let key = Key {
+        name: names.get(asked.name)?.view(),
+        can_be_prefix: asked.can_be_prefix,
+        must_be_fresh: asked.must_be_fresh,
+    };
+    let found = store.find(key, asked.now);
+    let Some((one, made)) = least(all, held, asked) else {
+        return Some(found.is_none());
+    };
+    forget(held, one.made);
+    held.insert(0, one).ok()?;
+    Some(found == Some(made.packet.as_slice()))
+}
+
+/// Whether an `erase` removes as many as the list loses.
+fn erase_agrees(
+    all: &[Made],
+    names: &[NameBuf],
+    store: &mut Store,
+    held: &mut Vec<Held>,
+    state: &mut u64,
+) -> Option<bool> {
+    let asked = Asked {
+        name: random(state, 6) as usize,
+        can_be_prefix: true,
+        must_be_fresh: false,
+        now: 0,
+    };
+    let count = match random(state, 4) {
+        3 => None,
+        count => Some(count),
+    };
+    let before = held.len();
+    for _ in 0..count.unwrap_or(12) {
+        let Some((one, _)) = least(all, held, asked) else {
+            break;
+        };
+        forget(held, one.made);
+    }
+    let erased = store.erase(names.get(asked.name)?.view(), count);
+    Some(before.checked_sub(held.len())? as u64 == erased)
+}
+
+/// Whether eight random calls answer as the list does, and leave as many Data.
+fn sequence_agrees(
+    alloc: Global,
+    all: &[Made],
+    names: &[NameBuf],
+    state: &mut u64,
+) -> Option<bool> {
+    let capacity = random(state, 4).saturating_add(1) as usize;
+    let mut store = Store::new(alloc, capacity).ok()?;
+    let mut held = Vec::new(alloc);
+    for _ in 0..8 {
+        let agrees = match random(state, 4) {
+            0 => erase_agrees(all, names, &mut store, &mut held, state)?,
+            1 => find_agrees(all, names, &mut store, &mut held, state)?,
+            _ => put_agrees(all, &mut store, &mut held, state)?,
+        };
+        if !agrees || store.len() != held.len() {
+            return Some(false);
+        }
+    }
+    Some(true)
+}
+
+/// Whether ten thousand sequences do.
+fn all_agree(alloc: Global) -> Option<bool> {
+    let (all, names) = (all_made(alloc)?, all_names(alloc)?);
+    let mut state = 0x2545_f491_4f6c_dd1d;
+    for _ in 0..10_000 {
+        if !sequence_agrees(alloc, &all, &names, &mut state)? {
+            return Some(false);
+        }
+    }
+    Some(true)
+}
+
+#[test]
+fn random_sequences(rt: HostRuntime) {
+    assert!(rt; all_agree(rt.alloc()) == Some(true));
+}

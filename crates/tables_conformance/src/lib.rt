@@ -1,0 +1,14 @@
+//! Tests of tables: routes and strategies by name, pending Interests, the choices of strategies, and
+//! the cache.
+#![tactic(auto)]
+
+#[cfg(test)]
+mod cache;
+#[cfg(test)]
+mod pending;
+#[cfg(test)]
+mod rows;
+#[cfg(test)]
+mod strategy_choices;
+#[cfg(test)]
+mod tables;

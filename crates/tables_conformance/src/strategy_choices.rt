@@ -1,0 +1,199 @@
+//! Which next hops a strategy chooses.
+
+ghost use Rattle.std.specs.Prelude.{Contains, take};
+ghost use Rattle.std.proofs.lemmas.List.Elements.{All-take, All-contains_itself};
+
+use crate::rows::check_rows;
+use crate::tables::routes_in;
+use ndn_names::NameBuf;
+use pit_fib::{Faces, Hops, Used};
+use std::alloc::Global;
+use strategies::*;
+
+/// A third strategy: the first eligible hop alone, whenever it was asked.
+struct First;
+
+impl Strategy for First {
+    ghost selection = { λ hops used now. take 1 hops };
+
+    ghost takes_eligible = { λ hops used now.
+        All-take (Contains hops) 1 hops (All-contains_itself hops) };
+
+    fn choose(&self, hops: &Hops, _used: &Used, ask: Ask) -> Choice {
+        if !any_eligible(hops, ask) {
+            return Choice::NoRoute;
+        }
+        let mut faces = Faces::new();
+        for i in (0..hops.len()).rev() {
+            if let Some(hop) = eligible_at(hops, i, ask) {
+                faces = Faces::new();
+                faces.insert(hop.face);
+            }
+        }
+        Choice::Send(faces)
+    }
+}
+
+/// A face and its number, as `2@5`.
+fn number_at(text: &str) -> Option<(u64, u64)> {
+    let (face, number) = text.split_once('@')?;
+    Some((face.parse().ok()?, number.parse().ok()?))
+}
+
+/// The hops of routes of the name `/`. Face 2 is Local.
+fn hops_in(alloc: Global, routes: &str) -> Option<Hops> {
+    let root = NameBuf::new(alloc);
+    let mut hops = routes_in(alloc, routes)?.longest(root.view());
+    let mut locals = Faces::new();
+    locals.insert(2);
+    hops.mark(&locals);
+    Some(hops)
+}
+
+/// Faces and when they were asked.
+fn used_in(text: &str) -> Option<Used> {
+    let mut used = Used::new();
+    for word in text.split_ascii_whitespace() {
+        let (face, time) = number_at(word)?;
+        used.insert(face, time);
+    }
+    Some(used)
+}
+
+/// The asker, or `-`; `localhost`, `zero` or `-`; and the moment.
+fn ask_in(text: &str) -> Option<Ask> {
+    let (asker, rest) = text.split_once(' ')?;
+    let (bound, now) = rest.split_once(' ')?;
+    Some(Ask {
+        asker: asker.parse().ok(),
+        localhost: bound == "localhost",
+        hop_zero: bound == "zero",
+        now: now.parse().ok()?,
+    })
+}
+
+fn shown(alloc: Global, choice: &Choice) -> Option<String> {
+    let Choice::Send(faces) = choice else {
+        return String::from_str(alloc, "no route").ok();
+    };
+    let mut text = String::from_str(alloc, "send").ok()?;
+    for i in 0..faces.len() {
+        let face = faces.get(i)?;
+        text.push_str(&format!(in alloc; " {face}").ok()?).ok()?;
+    }
+    Some(text)
+}
+
+/// What a strategy chooses: of a row with its name, the hops, what is asked, and the faces asked.
+fn choice(alloc: Global, row: &str) -> Option<String> {
+    let (strategy, rest) = row.split_once(": ")?;
+    let (hops, rest) = rest.split_once("; ")?;
+    let (ask, used) = rest.split_once(';')?;
+    let hops = hops_in(alloc, hops)?;
+    let (used, ask) = (used_in(used)?, ask_in(ask)?);
+    let choice = match strategy {
+        "best" => BestRoute.choose(&hops, &used, ask),
+        "all" => Multicast.choose(&hops, &used, ask),
+        "first" => First.choose(&hops, &used, ask),
+        _ => return None,
+    };
+    shown(alloc, &choice)
+}
+
+/// A new entry; only Local faces; not the asker.
+#[test]
+fn only_eligible_hops_are_chosen(rt: HostRuntime) {
+    let rows = "
+best: / 2 5, / 3 0; - - 1000; -> send 3
+best: / 2 5, / 3 0; - zero 1000; -> send 2
+best: / 2 5, / 3 0; - localhost 1000; -> send 2
+best: / 2 5, / 3 0; 3 - 1000; -> send 2
+all: / 2 5, / 3 0; - - 1000; -> send 2 3
+all: / 2 5, / 3 0; - zero 1000; -> send 2
+all: / 2 5, / 3 0; - localhost 1000; -> send 2
+all: / 2 5, / 3 0; 3 - 1000; -> send 2
+";
+    check_rows(&rt, rt.alloc(), rows, choice);
+}
+
+/// No hop, and none that is eligible.
+#[test]
+fn no_route_without_an_eligible_hop(rt: HostRuntime) {
+    let rows = "
+best: ; - - 1000; -> no route
+all: ; - - 1000; -> no route
+all: / 2 5, / 3 0; 2 localhost 1000; -> no route
+";
+    check_rows(&rt, rt.alloc(), rows, choice);
+}
+
+/// Best-route waits for any face that was asked, but not where it has no route.
+#[test]
+fn best_route_waits_10_milliseconds(rt: HostRuntime) {
+    let rows = "
+# 10 milliseconds after a face was asked, and before.
+best: / 2 5, / 3 0; - - 1009; 3@1000 -> send
+best: / 2 5, / 3 0; - - 1010; 3@1000 -> send 2
+best: / 2 5, / 3 0; - - 1020; 2@1010 3@1000 -> send 3
+# best-route waits for any face that was asked, but not where it has no route.
+best: / 2 5, / 3 0; - - 1009; 7@1000 -> send
+best: / 2 5, / 3 0; 2 zero 1009; 7@1000 -> no route
+";
+    check_rows(&rt, rt.alloc(), rows, choice);
+}
+
+/// Multicast asks no face again within 10 milliseconds.
+#[test]
+fn multicast_leaves_out_who_was_just_asked(rt: HostRuntime) {
+    let rows = "
+# 10 milliseconds after a face was asked, and before.
+all: / 2 5, / 3 0; - - 1015; 2@1010 3@1000 -> send 3
+all: / 2 5, / 3 0; - - 1009; 3@1000 -> send 2
+all: / 2 5, / 3 0; - - 1010; 3@1000 -> send 2 3
+all: / 2 5, / 3 0; - - 1009; 2@1000 3@1000 -> send
+# best-route waits for any face that was asked, but not where it has no route.
+all: / 2 5, / 3 0; - - 1009; 7@1000 -> send 2 3
+";
+    check_rows(&rt, rt.alloc(), rows, choice);
+}
+
+/// Of equal costs the lesser face; of equal moments the lesser cost, then the lesser face.
+#[test]
+fn best_route_takes_the_least_hop(rt: HostRuntime) {
+    let rows = "
+best: / 4 7, / 3 7; - - 0; -> send 3
+best: / 4 7, / 3 7; - - 20; 3@5 4@5 -> send 3
+best: / 4 7, / 3 7; - - 20; 3@6 4@5 -> send 4
+best: / 4 1, / 3 7; - - 20; 3@5 4@5 -> send 4
+";
+    check_rows(&rt, rt.alloc(), rows, choice);
+}
+
+/// The greatest faces, costs and moments.
+#[test]
+fn ends_of_faces_costs_and_moments(rt: HostRuntime) {
+    let rows = "
+# The ends of faces, costs and moments.
+best: / 2 18446744073709551615, / 18446744073709551615 18446744073709551615; - - 0; -> send 2
+best: / 2 5, / 18446744073709551615 0; 18446744073709551615 - 0; -> send 2
+best: / 2 5, / 3 0; - - 18446744073709551615; 3@18446744073709551606 -> send
+best: / 2 5, / 3 0; - - 18446744073709551615; 3@18446744073709551605 -> send 2
+best: / 2 5, / 3 0; - - 18446744073709551615; 3@18446744073709551615 -> send
+all: / 2 5, / 3 0; - - 18446744073709551615; 3@0 -> send 2 3
+# A moment still to come.
+best: / 2 5, / 3 0; - - 0; 3@18446744073709551615 -> send
+all: / 2 5, / 3 0; - - 0; 3@18446744073709551615 -> send 2
+";
+    check_rows(&rt, rt.alloc(), rows, choice);
+}
+
+/// The third strategy sends to the first eligible hop.
+#[test]
+fn a_third_strategy(rt: HostRuntime) {
+    let rows = "
+first: / 2 5, / 3 0; - - 1000; 3@1000 -> send 3
+first: / 2 5, / 3 0; 3 - 1000; -> send 2
+first: ; - - 1000; -> no route
+";
+    check_rows(&rt, rt.alloc(), rows, choice);
+}

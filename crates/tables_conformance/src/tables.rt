@@ -1,0 +1,421 @@
+//! Routes and strategies by name.
+
+ghost use Rattle.std.specs.Prelude.{List, IfSome, ◌≤◌};
+ghost use Rattle.std.specs.FinMap as map;
+ghost use Rattle.ndn_tlv.specs.Element.{Field};
+ghost use Rattle.pit_fib.specs.Fib.{costs_at};
+
+use crate::rows::check_rows;
+use ndn_names::NameBuf;
+use pit_fib::*;
+use std::alloc::Global;
+
+/// A table of routes, each a name, a face and a cost, as `/A 3 5`: at most 8 of them.
+pub fn routes_in(alloc: Global, text: &str) -> Option<Fib>
+    ensures { IfSome result (λ fib. (name : List Field) → map.len (costs_at fib.table name) ≤ 8) }
+{
+    let mut fib = Fib::new(alloc);
+    let mut added: usize = 0;
+    for route in text.split_terminator(", ") {
+        let (name, hop) = route.split_once(' ')?;
+        let (face, cost) = hop.split_once(' ')?;
+        let name = NameBuf::from_uri(alloc, name).ok()?;
+        if added == 8 {
+            return None;
+        }
+        fib.add(name.view(), face.parse().ok()?, cost.parse().ok()?)
+            .ok()?;
+        added += 1;
+    }
+    Some(fib)
+}
+
+/// Removes what `close` and a face, or `remove`, a name and a face tell.
+fn remove(alloc: Global, fib: &mut Fib, text: &str) -> Option<()> {
+    let (call, rest) = text.split_once(' ')?;
+    if call == "close" {
+        fib.close_face(rest.parse().ok()?);
+        return Some(());
+    }
+    let (name, face) = rest.split_once(' ')?;
+    let name = NameBuf::from_uri(alloc, name).ok()?;
+    fib.remove(name.view(), face.parse().ok()?);
+    Some(())
+}
+
+/// Each hop as ` 3@5`.
+fn hops_shown(alloc: Global, hops: &Hops) -> Option<String> {
+    let mut text = String::new(alloc);
+    for i in 0..hops.len() {
+        let Hop { face, cost, .. } = hops.get(i)?;
+        text.push_str(&format!(in alloc; " {face}@{cost}").ok()?)
+            .ok()?;
+    }
+    Some(text)
+}
+
+fn list_shown(alloc: Global, fib: &Fib) -> Option<String> {
+    let mut text = String::new(alloc);
+    for row in &fib.list(alloc).ok()? {
+        let name = row.0.to_uri(alloc).ok()?;
+        let hops = hops_shown(alloc, &row.1)?;
+        text.push_str(&format!(in alloc; "{name}{hops}, ").ok()?)
+            .ok()?;
+    }
+    Some(text)
+}
+
+/// The routes, `; ` and what is removed, `; ` and a name or `list`.
+fn next_hops(alloc: Global, row: &str) -> Option<String> {
+    let (routes, rest) = row.split_once("; ")?;
+    let (removal, question) = rest.split_once("; ")?;
+    let mut fib = routes_in(alloc, routes)?;
+    if removal != "-" {
+        remove(alloc, &mut fib, removal)?;
+    }
+    if question == "list" {
+        return list_shown(alloc, &fib);
+    }
+    let name = NameBuf::from_uri(alloc, question).ok()?;
+    hops_shown(alloc, &fib.longest(name.view()))
+}
+
+/// The longest prefix that has hops.
+#[test]
+fn longest_prefix(rt: HostRuntime) {
+    let rows = "
+/ 2 0, /A 3 5; -; /A/C ->  3@5
+/ 2 0, /A 3 5; -; /B ->  2@0
+/ 2 0, /A 3 5; remove /A 3; /A/C ->  2@0
+/ 2 0, /A 3 5; -; / ->  2@0
+/A 3 5, /A/B 4 1; -; /A/B/C/D ->  4@1
+/A 3 5, /A/B 4 1; remove /A 3; /A/C -> 
+/A/B 4 1; -; /A -> 
+; -; /A -> 
+; remove /A 3; list -> 
+";
+    check_rows(&rt, rt.alloc(), rows, next_hops);
+}
+
+/// By cost, and by face at one cost; a second cost of a face replaces the first.
+#[test]
+fn hops_by_cost_and_then_by_face(rt: HostRuntime) {
+    let rows = "
+/A 9 1, /A 4 7, /A 3 7, /A 2 0; -; /A ->  2@0 9@1 3@7 4@7
+/A 3 5, /A 3 4; -; /A ->  3@4
+/A 3 5, /A 4 5, /A 3 6; -; /A ->  4@5 3@6
+";
+    check_rows(&rt, rt.alloc(), rows, next_hops);
+}
+
+/// A hop that is removed leaves the others; an entry without hops goes.
+#[test]
+fn an_entry_without_hops_goes(rt: HostRuntime) {
+    let rows = "
+/A 3 5, /A 4 1; remove /A 4; /A ->  3@5
+/A 3 5, /A 4 1; remove /A 7; /A ->  4@1 3@5
+/A 3 5, /A 4 1; remove /B 4; list -> /A 4@1 3@5, 
+/ 2 0, /A 3 5; close 3; /A ->  2@0
+/ 2 0, /A 3 5, /A 2 1, /B 3 1; close 3; list -> / 2@0, /A 2@1, 
+/ 2 0, /A 2 5, /B 3 1; close 2; list -> /B 3@1, 
+/ 2 0; close 3; list -> / 2@0, 
+";
+    check_rows(&rt, rt.alloc(), rows, next_hops);
+}
+
+/// The list of routes is in canonical order.
+#[test]
+fn routes_in_canonical_order(rt: HostRuntime) {
+    let rows = "
+/AA 1 1, /B 1 2, /A/B 1 3, /A 1 4, / 1 5; -; list -> / 1@5, /A 1@4, /A/B 1@3, /B 1@2, /AA 1@1, 
+";
+    check_rows(&rt, rt.alloc(), rows, next_hops);
+}
+
+/// The ends of faces and costs.
+#[test]
+fn ends_of_faces_and_costs(rt: HostRuntime) {
+    let rows = "
+/A 18446744073709551615 18446744073709551615, /A 0 18446744073709551615; -; /A ->  0@18446744073709551615 18446744073709551615@18446744073709551615
+";
+    check_rows(&rt, rt.alloc(), rows, next_hops);
+}
+
+fn strategy_in(text: &str) -> Option<StrategyId> {
+    match text {
+        "best-route" => Some(StrategyId::BestRoute),
+        "multicast" => Some(StrategyId::Multicast),
+        _ => None,
+    }
+}
+
+fn strategy_shown(strategy: StrategyId) -> &'static str {
+    match strategy {
+        StrategyId::BestRoute => "best-route",
+        StrategyId::Multicast => "multicast",
+    }
+}
+
+/// A table of strategies: names with a strategy, as `/A multicast`, or to be unset, as `/A -`.
+fn strategies_in(alloc: Global, text: &str) -> Option<StrategyTable> {
+    let mut table = StrategyTable::new(alloc);
+    for call in text.split_terminator(", ") {
+        let (name, strategy) = call.split_once(' ')?;
+        let name = NameBuf::from_uri(alloc, name).ok()?;
+        match strategy_in(strategy) {
+            Some(strategy) => table.set(name.view(), strategy).ok()?,
+            None => table.unset(name.view()),
+        }
+    }
+    Some(table)
+}
+
+fn strategy_list_shown(alloc: Global, table: &StrategyTable) -> Option<String> {
+    let mut text = String::new(alloc);
+    for row in &table.list(alloc).ok()? {
+        let name = row.0.to_uri(alloc).ok()?;
+        let strategy = strategy_shown(row.1);
+        text.push_str(&format!(in alloc; "{name} {strategy}, ").ok()?)
+            .ok()?;
+    }
+    Some(text)
+}
+
+/// Calls, `; ` and a name or `list`.
+fn strategy(alloc: Global, row: &str) -> Option<String> {
+    let (calls, question) = row.split_once("; ")?;
+    let table = strategies_in(alloc, calls)?;
+    if question == "list" {
+        return strategy_list_shown(alloc, &table);
+    }
+    let name = NameBuf::from_uri(alloc, question).ok()?;
+    String::from_str(alloc, strategy_shown(table.longest(name.view()))).ok()
+}
+
+/// Best-route at `/`, until another is set there.
+#[test]
+fn best_route_at_the_empty_name(rt: HostRuntime) {
+    let rows = "
+; / -> best-route
+; /A/B -> best-route
+; list -> / best-route, 
+/ multicast; /A -> multicast
+/ multicast, / best-route; /A -> best-route
+/ multicast; list -> / multicast, 
+";
+    check_rows(&rt, rt.alloc(), rows, strategy);
+}
+
+/// The longest prefix that has one.
+#[test]
+fn longest_prefix_with_a_strategy(rt: HostRuntime) {
+    let rows = "
+/A multicast; /A -> multicast
+/A multicast; /A/B -> multicast
+/A multicast; /B -> best-route
+/A multicast; / -> best-route
+/A multicast, /A/B best-route; /A/B/C -> best-route
+/A multicast, /A/B best-route; /A/C -> multicast
+";
+    check_rows(&rt, rt.alloc(), rows, strategy);
+}
+
+/// The last one set counts.
+#[test]
+fn the_last_strategy_set_counts(rt: HostRuntime) {
+    let rows = "
+/A multicast, /A best-route; /A -> best-route
+/ multicast, /A best-route, /A multicast, / best-route; /A -> multicast
+";
+    check_rows(&rt, rt.alloc(), rows, strategy);
+}
+
+/// Unset, where the one of `/` stays.
+#[test]
+fn the_empty_name_keeps_its_strategy(rt: HostRuntime) {
+    let rows = "
+/A multicast, /A -; /A -> best-route
+/A multicast, /A/B best-route, /A/B -; /A/B -> multicast
+/A multicast, /B -; list -> / best-route, /A multicast, 
+/ multicast, / -; list -> / multicast, 
+/ multicast, / -; /A -> multicast
+";
+    check_rows(&rt, rt.alloc(), rows, strategy);
+}
+
+/// The list of strategies is in canonical order.
+#[test]
+fn strategies_in_canonical_order(rt: HostRuntime) {
+    let rows = "
+/AA multicast, /B best-route, /A/B multicast, /A best-route; list -> / best-route, /A best-route, /A/B multicast, /B best-route, /AA multicast, 
+";
+    check_rows(&rt, rt.alloc(), rows, strategy);
+}
+
+/// A name of so many components `A`.
+fn deep_name(alloc: Global, depth: usize) -> Option<NameBuf> {
+    let mut name = NameBuf::new(alloc);
+    for _ in 0..depth {
+        name.append(8, b"A").ok()?;
+    }
+    Some(name)
+}
+
+/// Whether both tables give this answer to a name of so many components.
+fn both_answer(alloc: Global, depth: usize, answer: Result<(), TableFault>) -> Option<bool> {
+    let name = deep_name(alloc, depth)?;
+    let mut fib = Fib::new(alloc);
+    let mut strategies = StrategyTable::new(alloc);
+    let added = fib.add(name.view(), 1, 0);
+    let set = strategies.set(name.view(), StrategyId::Multicast);
+    Some(added == answer && set == answer)
+}
+
+#[test]
+fn deep_names(rt: HostRuntime) {
+    let alloc = rt.alloc();
+    assert!(rt; both_answer(alloc, 0, Ok(())) == Some(true));
+    assert!(rt; both_answer(alloc, 32, Ok(())) == Some(true));
+    assert!(rt; both_answer(alloc, 33, Err(TableFault::TooDeep)) == Some(true));
+    assert!(rt; both_answer(alloc, 64, Err(TableFault::TooDeep)) == Some(true));
+}
+
+/// The first hop for 64 components `B` where `/` leads to 2 and `/A` to 3, and the searches that it
+/// takes.
+fn deep_hop(alloc: Global) -> Option<(u64, u64, u64)> {
+    let fib = routes_in(alloc, "/ 2 0, /A 3 0")?;
+    let mut name = NameBuf::new(alloc);
+    for _ in 0..64 {
+        name.append(8, b"B").ok()?;
+    }
+    let mut steps = 0;
+    let hops = fib.longest_counted(name.view(), &mut steps);
+    let hop = hops.get(0)?;
+    Some((hop.face, hop.cost, steps))
+}
+
+/// A look-up ends where no entry goes on, and searches at most once for each component.
+#[test]
+fn deep_lookup(rt: HostRuntime) {
+    let found = deep_hop(rt.alloc());
+    assert!(rt; found.is_some_and(|(face, cost, steps)| face == 2 && cost == 0 && steps <= 64));
+}
+
+/// A name of one component, of two octets.
+fn numbered(alloc: Global, number: u16) -> Option<NameBuf> {
+    let mut name = NameBuf::new(alloc);
+    name.append(8, &number.to_be_bytes()).ok()?;
+    Some(name)
+}
+
+/// Whether 4,096 routes find room, the greatest name first, and no further name, but a further hop.
+fn holds_4096_routes(alloc: Global) -> Option<bool> {
+    let mut fib = Fib::new(alloc);
+    for number in (0..4096).rev() {
+        fib.add(numbered(alloc, number)?.view(), 1, 0).ok()?;
+    }
+    let further = fib.add(numbered(alloc, 4096)?.view(), 1, 0);
+    let deep = fib.add(deep_name(alloc, 33)?.view(), 1, 0);
+    let known = fib.add(numbered(alloc, 7)?.view(), 1, 9);
+    Some(further == Err(TableFault::TableFull) && deep == Err(TableFault::TooDeep) && known.is_ok())
+}
+
+/// The same of strategies, where one name is `/`.
+fn holds_4096_strategies(alloc: Global) -> Option<bool> {
+    let mut table = StrategyTable::new(alloc);
+    for number in (1..4096).rev() {
+        let name = numbered(alloc, number)?;
+        table.set(name.view(), StrategyId::Multicast).ok()?;
+    }
+    let further = numbered(alloc, 4096)?;
+    let is_full = table.set(further.view(), StrategyId::Multicast) == Err(TableFault::TableFull);
+    let deep = table.set(deep_name(alloc, 33)?.view(), StrategyId::Multicast);
+    let known = table.set(numbered(alloc, 7)?.view(), StrategyId::BestRoute);
+    let root = table.set(deep_name(alloc, 0)?.view(), StrategyId::Multicast);
+    table.unset(numbered(alloc, 8)?.view());
+    let after_removal = table.set(further.view(), StrategyId::Multicast);
+    Some(
+        is_full
+            && deep == Err(TableFault::TooDeep)
+            && known.is_ok()
+            && root.is_ok()
+            && after_removal.is_ok(),
+    )
+}
+
+#[test]
+fn full_table_of_routes(rt: HostRuntime) {
+    assert!(rt; holds_4096_routes(rt.alloc()) == Some(true));
+}
+
+#[test]
+fn full_table_of_strategies(rt: HostRuntime) {
+    assert!(rt; holds_4096_strategies(rt.alloc()) == Some(true));
+}
+
+/// Whether lists of faces take 64 and no further one, but one of these again.
+fn take_64_faces() -> bool {
+    let mut faces = Faces::new();
+    let mut used = Used::new();
+    for face in 0..64 {
+        if !faces.insert(face) || !used.insert(face, 0) {
+            return false;
+        }
+    }
+    !faces.insert(64)
+        && !used.insert(64, 0)
+        && faces.insert(63)
+        && used.insert(63, 1)
+        && faces.len() == 64
+        && used.get(63) == Some(1)
+}
+
+#[test]
+fn sixty_four_faces(rt: HostRuntime) {
+    assert!(rt; take_64_faces());
+}
+
+/// Whether a prepared `add` is not refused memory, and a refused preparation leaves the routes.
+fn adds_what_is_prepared(alloc: Global) -> Option<bool> {
+    let name = numbered(alloc, 1)?;
+    let mut fib = routes_in(alloc, "/A 3 5")?;
+    if fib.prepare(name.view()).is_err() {
+        return Some(list_shown(alloc, &fib)?.as_str() == "/A 3@5, ");
+    }
+    let added = fib.add(name.view(), 1, 0).is_ok();
+    Some(added && list_shown(alloc, &fib)?.as_str() == "/A 3@5, /%00%01 1@0, ")
+}
+
+/// The same of `set`.
+fn sets_what_is_prepared(alloc: Global) -> Option<bool> {
+    let (name, other) = (numbered(alloc, 1)?, numbered(alloc, 2)?);
+    let mut table = strategies_in(alloc, "/A multicast")?;
+    if table.prepare(name.view()).is_err() {
+        return Some(table.longest(name.view()) == StrategyId::BestRoute);
+    }
+    table.unset(other.view());
+    let is_set = table.set(name.view(), StrategyId::Multicast).is_ok();
+    Some(is_set && table.longest(name.view()) == StrategyId::Multicast)
+}
+
+/// Whether a call of each table is prepared.
+fn are_prepared(alloc: Global) -> Option<bool> {
+    let name = numbered(alloc, 1)?;
+    let (mut fib, mut strategies) = (Fib::new(alloc), StrategyTable::new(alloc));
+    Some(fib.prepare(name.view()).is_ok() && strategies.prepare(name.view()).is_ok())
+}
+
+#[test]
+fn prepared_calls(rt: HostRuntime) {
+    assert!(rt; are_prepared(rt.alloc()) == Some(true));
+}
+
+#[test]
+fn refused_memory_for_routes(rt: HostRuntime) {
+    assert!(rt; adds_what_is_prepared(rt.alloc()) != Some(false));
+}
+
+#[test]
+fn refused_memory_for_strategies(rt: HostRuntime) {
+    assert!(rt; sets_what_is_prepared(rt.alloc()) != Some(false));
+}

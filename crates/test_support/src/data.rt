@@ -1,0 +1,49 @@
+//! Data that tests of several crates write and look at.
+
+use crate::rows::octets;
+use ndn_names::{Name, NameBuf};
+use ndn_packets::{DataWriter, Frame, Sign, read_frame};
+use std::alloc::Global;
+
+/// A Data of a URI and a Content in hexadecimal, signed by its digest.
+pub fn data_of(alloc: Global, uri: &str, content: &str, freshness: Option<u64>) -> Option<Vec<u8>> {
+    let name = NameBuf::from_uri(alloc, uri).ok()?;
+    written_data(alloc, name.view(), &octets(alloc, content)?, freshness)
+}
+
+fn written_data<'a>(
+    alloc: Global,
+    name: Name<'a>,
+    content: &'a [u8],
+    freshness: Option<u64>,
+) -> Option<Vec<u8>> {
+    let writer = DataWriter {
+        name,
+        freshness,
+        last: None,
+        content: Some(content),
+        sign: Sign::Digest,
+    };
+    let mut out = Vec::new(alloc);
+    writer.write(&mut out).ok()?;
+    Some(out)
+}
+
+/// The Content of a Data, or `none` for no Data.
+pub fn content_shown(alloc: Global, packet: Option<&[u8]>) -> Option<String> {
+    let Some(packet) = packet else {
+        return String::from_str(alloc, "none").ok();
+    };
+    match read_frame(packet).ok()? {
+        Frame::Data(data) => hex::encode(alloc, data.content?).ok(),
+        _ => None,
+    }
+}
+
+/// The implicit digest of a Data.
+pub fn digest_of(packet: &[u8]) -> Option<[u8; 32]> {
+    match read_frame(packet).ok()? {
+        Frame::Data(data) => Some(data.digest()),
+        _ => None,
+    }
+}
