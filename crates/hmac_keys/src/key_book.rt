@@ -3,7 +3,7 @@
 ghost use Rattle.std.specs.Prelude.{◌≡◌, ◌↔◌, ℕ, List, Ok, Err, MatchResult};
 ghost use Rattle.hmac_keys.specs.declared.fault.KeyFault.{KeyFault};
 ghost use Rattle.hmac_keys.specs.FirstFault.{FirstFault};
-ghost use Rattle.hmac_keys.specs.KeyFile.{NamedKey, KeysOf};
+ghost use Rattle.hmac_keys.specs.KeyFile.{AreApart, NamedKey, KeysOf};
 ghost use Rattle.hmac_keys.specs.KeyReading.{keys_in, AreKeys, IsFaultBeforeMemory, IsFaultOfOctets};
 
 use crate::fault::KeyFault;
@@ -172,9 +172,10 @@ impl KeyBook {
         None
     }
 
-    /// The number of keys, 256 at most.
+    /// The number of keys, 256 at most. The clause beside `exact` is true of every book.
     pub fn len(&self) -> usize
-        ensures { result ≡ length self.now }
+        ensures exact { result ≡ length self.now }
+        ensures apart { AreApart self.now }
     {
         self.keys.len()
     }

@@ -25,7 +25,7 @@ returns-then-is_some c =
 pub returns-then-len-eq-MAX_KEYS : goal.returns-then-len-eq-MAX_KEYS
 returns-then-len-eq-MAX_KEYS c =
     let lacks = sym (has_it (goal.at.returns-then-len-eq-MAX_KEYS c).After-is_some) ∙ c.if-is_some.false in
-    inl (one_too_many c.args.number c.args.self.now (c.args.key.name, c.args.key.octets.items) lacks (sym c.len.ensures ∙ c.if-len-eq-MAX_KEYS.true))
+    inl (one_too_many c.args.number c.args.self.now (c.args.key.name, c.args.key.octets.items) lacks (sym c.len.ensures.exact ∙ c.if-len-eq-MAX_KEYS.true))
 
 pub invariant_of-self-2 : goal.invariant_of-self-2
 invariant_of-self-2 c =
@@ -37,5 +37,5 @@ invariant_of-self-2 c =
 pub returns : goal.returns
 returns c =
     let lacks = sym (has_it (goal.at.returns c).After-is_some) ∙ c.if-is_some.false in
-    let room : length c.args.self.now ≢ 256 = λ full. c.if-len-eq-MAX_KEYS.false (c.len.ensures ∙ full) in
+    let room : length c.args.self.now ≢ 256 = λ full. c.if-len-eq-MAX_KEYS.false (c.len.ensures.exact ∙ full) in
     key_added c.args.number c.args.self.now (c.args.key.name, c.args.key.octets.items) lacks room ∙ ap (λ (keys : List NamedKey). Ok keys) (sym (grown (goal.at.returns c).In_ok-push))
