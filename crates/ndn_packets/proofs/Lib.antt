@@ -32,3 +32,4 @@ pub mod WrittenNacks
 pub mod WrittenInterests
 pub mod Answering
 pub mod FullNames
+pub mod Near

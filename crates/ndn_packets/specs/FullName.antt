@@ -1,12 +1,13 @@
 -- Full names, as a name and the implicit digest of its Data, and their octets, of which the last 34
 -- are the digest component (NDN Packet Format 0.3, "Name", "Implicit Digest Component").
-use Rattle.std.specs.Prelude.{◌≡◌, ℕ, ◌-◌, ◌≤◌, List, length, take, drop, refl}
+use Rattle.std.specs.Prelude.{◌≡◌, ℕ, ◌-◌, ◌≤◌, List, [], ◌∷◌, length, take, drop, Bool, true, nat_lt, ◌&&◌, ◌||◌, refl}
 use Rattle.std.specs.Coded.{Coded, code_by, coded×, coded_list, coded_ℕ}
 use Rattle.std.specs.List.{AllByRecursion}
 use Rattle.ndn_tlv.specs.Element.{Field, IsField}
 use Rattle.ndn_names.specs.Key.{name_code}
 use Rattle.ndn_names.specs.Name.{components_of, octets_of}
-use Rattle.ndn_packets.specs.Answers.{full_name}
+use Rattle.ndn_names.specs.declared.component_type.TheConstants.{PARAMETERS_SHA256_DIGEST}
+use Rattle.ndn_packets.specs.Answers.{begins_with, full_name}
 
 pub record PlainFullName : Type 0 where
   pub name : List Field
@@ -20,6 +21,18 @@ abbrev pub full_name_code : Coded PlainFullName
 full_name_code =
     code_by (List Field × List ℕ) (coded× name_code (coded_list coded_ℕ))
     (λ f. (f.name, f.digest)) (λ p. record { name = p.0; digest = p.1 }) (λ _. refl)
+
+-- ---- names before full names
+
+-- nothing, or first a component whose type is at most that of an implicit digest
+abbrev pub starts_small : List Field → Bool
+starts_small [] = true
+starts_small (c ∷ cs) = nat_lt c.0 PARAMETERS_SHA256_DIGEST
+
+-- Not far behind a name: only among these there are full names that answer it.
+abbrev pub is_near : List Field → Bool → List Field → Bool
+is_near name can_be_prefix full =
+    begins_with name full && (can_be_prefix || starts_small (drop (length name) full))
 
 -- ---- octets
 

@@ -6,12 +6,12 @@ ghost use Rattle.ndn_names.specs.Name.{IsPrefix};
 ghost use Rattle.ndn_names.specs.Order.{name_cmp};
 ghost use Rattle.ndn_names.specs.View.{components};
 ghost use Rattle.ndn_packets.specs.Answers.{begins_with};
-ghost use Rattle.ndn_packets.specs.FullName.{all_components, digest_in};
+ghost use Rattle.ndn_packets.specs.FullName.{all_components, digest_in, is_near};
 
 use crate::data::Data;
 use crate::writing::{DIGEST_COMPONENT_LEN, DIGEST_LEN};
 use ndn_names::Name;
-use ndn_names::component_type::IMPLICIT_SHA256_DIGEST;
+use ndn_names::component_type::{IMPLICIT_SHA256_DIGEST, PARAMETERS_SHA256_DIGEST};
 use ndn_tlv::{Memory, put_element};
 use std::alloc::Global;
 use std::cmp::Ordering;
@@ -101,6 +101,24 @@ impl FullName {
         ensures exact { result ≡ begins_with (components name.entry) (all_components self.now) }
     {
         self.octets.as_slice().starts_with(name.as_octets())
+    }
+
+    /// Whether it is near enough behind a name for one like it to be of a Data that answers an
+    /// Interest of this name and flag.
+    pub fn is_near(&self, name: Name<'_>, can_be_prefix: bool) -> bool
+        ensures { result ≡ is_near (components name.entry) can_be_prefix
+            (all_components self.now) }
+    {
+        if !self.is_under(name) {
+            return false;
+        }
+        if can_be_prefix {
+            return true;
+        }
+        match self.as_octets().get(name.as_octets().len()) {
+            Some(kind) => *kind < PARAMETERS_SHA256_DIGEST as u8,
+            None => true,
+        }
     }
 
     /// Whether this is the name before the digest.

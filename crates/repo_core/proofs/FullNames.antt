@@ -13,45 +13,8 @@ use Rattle.ndn_names.specs.Name.{IsPrefix, octets_of}
 use Rattle.ndn_names.proofs.Prefixes.{begins_with as begins}
 use Rattle.ndn_packets.specs.Answers.{Answers, answers, begins_with, full_name}
 use Rattle.ndn_packets.specs.FullName.{PlainFullName, all_components}
-use Rattle.repo_core.specs.Near.{starts_small}
+use Rattle.ndn_packets.proofs.Near.{after_front}
 use Rattle.repo_core.specs.Objects.{full_name_answers, is_digest_alone}
-
--- ---- what stands after a name
-
-after_front : (name rest : List Field) → drop (length name) (name ++ rest) ≡ rest
-after_front [] rest = refl
-after_front (c ∷ name) rest = after_front name rest
-
-get_after : (a b : List ℕ) → slice_get (a ++ b) (length a) ≡ slice_get b 0
-get_after [] b = refl
-get_after (x ∷ a) b = get_after a b
-
-abbrev pub octet_is_small : Option ℕ → Bool
-octet_is_small None = true
-octet_is_small (Some b) = nat_lt b 2
-
-small_head : (rest : List Field) → starts_small rest ≡ octet_is_small (slice_get (octets_of rest) 0)
-small_head [] = refl
-small_head (c ∷ cs) =
-    let more = (spelling (length c.1) ++ c.1) ++ octets_of cs in
-    let whole : octets_of (c ∷ cs) ≡ spelling c.0 ++ more = append_assoc (spelling c.0) (spelling (length c.1) ++ c.1) (octets_of cs) in
-    elim (spelling_head c.0 more) [
-      | inl p ↦ sym (ap (λ (t : List ℕ). octet_is_small (slice_get t 0)) (whole ∙ p.1))
-      | inr (inl p) ↦ large c.0 p.0 ∙ sym (ap (λ (t : List ℕ). octet_is_small (slice_get t 0)) (whole ∙ p.2))
-      | inr (inr (inl p)) ↦ large c.0 (omega arith) ∙ sym (ap (λ (t : List ℕ). octet_is_small (slice_get t 0)) (whole ∙ p.2))
-      | inr (inr (inr p)) ↦ large c.0 (omega arith) ∙ sym (ap (λ (t : List ℕ). octet_is_small (slice_get t 0)) (whole ∙ p.1))
-    ]
-  where
-    large : (kind : ℕ) → 253 ≤ kind → nat_lt kind 2 ≡ false
-    large kind le = grind arith
-
-pub small_at : (u value : List ℕ) (full name : List Field) → IsElements u full → IsElements value name → begins_with name full ≡ true
-    → starts_small (drop (length name) full) ≡ octet_is_small (slice_get u (length value))
-small_at u value full name h g begins =
-    let p = (prefix_is name full).0 begins in
-    let octets : u ≡ value ++ octets_of p.0 = h.1 ∙ ap octets_of p.1 ∙ flat_map-append element name p.0 ∙ ap (λ (t : List ℕ). t ++ octets_of p.0) (sym g.1) in
-    ap (λ (t : List Field). starts_small (drop (length name) t)) p.1 ∙ ap starts_small (after_front name p.0) ∙ small_head p.0
-    ∙ sym (ap (λ (t : List ℕ). octet_is_small (slice_get t (length value))) octets ∙ ap octet_is_small (get_after value (octets_of p.0)))
 
 -- ---- full names that answer without CanBePrefix
 
@@ -132,21 +95,3 @@ one_object f w octets name digest = (
       let full : all_components f ≡ full_name name (sha256 octets) = ap (λ o. o.0) e in
       (ap (λ o. o.1) e, sym (one_front f.name name (1, f.digest) (1, sha256 octets) full)),
 )
-
-get_some : (xs : List ℕ) (i b : ℕ) → i < length xs → b ≡ get_or xs i b → slice_get xs i ≡ Some b
-get_some [] i b lt is = absurd (omega arith)
-get_some (x ∷ xs) zero b lt is = ap (λ (n : ℕ). Some n) (sym is)
-get_some (x ∷ xs) (suc i) b lt is = get_some xs i b (omega arith) is
-
-get_none : (xs : List ℕ) (i : ℕ) → length xs ≤ i → slice_get xs i ≡ None
-get_none [] i le = refl
-get_none (x ∷ xs) zero le = absurd (omega arith)
-get_none (x ∷ xs) (suc i) le = get_none xs i (omega arith)
-
-pub small_some : (u value : List ℕ) (full name : List Field) (b : ℕ) → IsElements u full → IsElements value name → begins_with name full ≡ true
-    → length value < length u → b ≡ get_or u (length value) b → starts_small (drop (length name) full) ≡ nat_lt b 2
-small_some u value full name b h g begins lt is = small_at u value full name h g begins ∙ ap octet_is_small (get_some u (length value) b lt is)
-
-pub small_none : (u value : List ℕ) (full name : List Field) → IsElements u full → IsElements value name → begins_with name full ≡ true
-    → length u ≤ length value → starts_small (drop (length name) full) ≡ true
-small_none u value full name h g begins le = small_at u value full name h g begins ∙ ap octet_is_small (get_none u (length value) le)

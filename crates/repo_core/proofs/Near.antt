@@ -18,7 +18,8 @@ use Rattle.ndn_tlv.specs.Element.{Field}
 use Rattle.ndn_names.specs.Order.{component_cmp, name_cmp}
 use Rattle.ndn_names.specs.Key.{component_cmp-antisymmetric, component_cmp-total, name_cmp-total}
 use Rattle.ndn_packets.specs.Answers.{begins_with}
-use Rattle.repo_core.specs.Near.{is_near, starts_small}
+use Rattle.ndn_packets.specs.FullName.{is_near, starts_small}
+use Rattle.ndn_packets.proofs.Near.{between}
 use Rattle.repo_core.specs.Objects.{answering, full_name_answers, is_digest_alone}
 use Rattle.repo_core.specs.Room.{IsPlace}
 use Rattle.repo_core.proofs.Places.{rises, all_from}
@@ -64,48 +65,6 @@ begins_not (c ∷ name) (d ∷ full) e = by (component_cmp c d) refl (λ g. begi
 
 pub below_answers_not : (name : List Field) (flag : Bool) (full : List Field) → name_cmp name full ≡ Greater → full_name_answers name flag full ≡ false
 below_answers_not name flag full e = ap (λ b. b && (flag || is_digest_alone (drop (length name) full))) (begins_not name full e)
-
--- no greater type comes before a lesser one
-kind_of_lesser : (c d : Field) → component_cmp c d ≢ Greater → c.0 ≤ d.0
-kind_of_lesser c d h =
-    elim (cases_lt d.0 c.0) [
-      | inl lt ↦ absurd (h (ap (λ o. ordering_then o (ordering_then (nat_cmp (length c.1) (length d.1)) (slice_cmp nat_cmp c.1 d.1))) (greater c.0 d.0 lt)))
-      | inr le ↦ le
-    ]
-  where
-    greater : (m n : ℕ) → n < m → nat_cmp m n ≡ Greater
-    greater m n lt = grind arith
-
-pub between : (name u v : List Field) (flag : Bool) → is_near name flag v ≡ true → name_cmp name u ≢ Greater → name_cmp u v ≢ Greater → is_near name flag u ≡ true
-between [] u v true e low high = refl
-between [] [] v false e low high = refl
-between [] (c ∷ u) [] false e low high = absurd (high refl)
-between [] (c ∷ u) (d ∷ v) false e low high = small c.0 d.0 (kind_of_lesser c d (λ gt. high (ap (λ o. ordering_then o (name_cmp u v)) gt))) e
-  where
-    small : (m n : ℕ) → m ≤ n → nat_lt n 2 ≡ true → nat_lt m 2 ≡ true
-    small m n le e = grind arith
-between (n ∷ name) [] v flag e low high = absurd (low refl)
-between (n ∷ name) (c ∷ u) [] flag e low high = absurd cc
-between (n ∷ name) (c ∷ u) (d ∷ v) flag e low high =
-    let b = both_true _ _ e in
-    let parts = both_true (eq_by_cmp component_cmp n d) (begins_with name v) b.0 in
-    let same : n ≡ d = component_cmp-antisymmetric n d ((Equal-is (component_cmp n d)).0 parts.0) in
-    by (component_cmp n c) refl same (λ k. parts.1 k && b.1 k) (λ l h r. between name u v flag l h r)
-  where
-    by : (o : Ordering) → component_cmp n c ≡ o → n ≡ d → is_near name flag v ≡ true
-        → (is_near name flag v ≡ true → name_cmp name u ≢ Greater → name_cmp u v ≢ Greater → is_near name flag u ≡ true) → is_near (n ∷ name) flag (c ∷ u) ≡ true
-    by Less o same rest again =
-        absurd (let back : component_cmp c n ≡ Greater = component_cmp-total.antisymm c n ∙ ap ordering_reverse o in
-        high (ap (λ (x : Field). ordering_then (component_cmp c x) (name_cmp u v)) (sym same) ∙ ap (λ r. ordering_then r (name_cmp u v)) back))
-    by Greater o same rest again = absurd (low (ap (λ r. ordering_then r (name_cmp name u)) o))
-    by Equal o same rest again =
-        let one : n ≡ c = component_cmp-antisymmetric n c o in
-        let two : d ≡ c = sym same ∙ one in
-        let tie : component_cmp c d ≡ Equal = ap (λ (x : Field). component_cmp c x) two ∙ tied_itself component_cmp-total c in
-        let inner = again rest (λ gt. low (ap (λ r. ordering_then r (name_cmp name u)) o ∙ gt)) (λ gt. high (ap (λ r. ordering_then r (name_cmp u v)) tie ∙ gt)) in
-        let s = both_true _ _ inner in
-        let here : is_eq (component_cmp n c) ≡ true = ap is_eq o in
-        (λ k. (here k && s.0 k) && s.1 k)
 
 -- ---- the part of the rows where all that answer stand
 

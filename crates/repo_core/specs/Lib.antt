@@ -4,5 +4,4 @@ pub mod Objects
 pub mod Wants
 pub mod Repo
 pub mod Writing
-pub mod Near
 pub mod Room

@@ -5,10 +5,9 @@ ghost use Rattle.ndn_names.specs.Order.{name_cmp};
 ghost use Rattle.ndn_names.specs.View.{components};
 ghost use Rattle.ndn_packets.specs.Answers.{begins_with};
 ghost use Rattle.repo_core.specs.Objects.{full_name_answers, object_of};
-ghost use Rattle.repo_core.specs.Near.{is_near};
+ghost use Rattle.ndn_packets.specs.FullName.{is_near};
 
 use ndn_names::Name;
-use ndn_names::component_type::PARAMETERS_SHA256_DIGEST;
 use ndn_packets::{Data, FullName};
 use ndn_tlv::Memory;
 use std::alloc::Global;
@@ -114,15 +113,6 @@ impl Object {
     pub fn is_near(&self, name: Name<'_>, can_be_prefix: bool) -> bool
         ensures { result ≡ is_near (components name.entry) can_be_prefix self.now.0 }
     {
-        if !self.is_under(name) {
-            return false;
-        }
-        if can_be_prefix {
-            return true;
-        }
-        match self.full_name.as_octets().get(name.as_octets().len()) {
-            Some(kind) => *kind < PARAMETERS_SHA256_DIGEST as u8,
-            None => true,
-        }
+        self.full_name.is_near(name, can_be_prefix)
     }
 }

@@ -3,7 +3,7 @@ use Rattle.std.specs.List.Sorted.{IsPartitionedBy}
 use Rattle.std.proofs.lemmas.List.Sorted.{IsPartitionPoint-from_clause}
 use Rattle.ndn_tlv.specs.Element.{Field}
 use Rattle.ndn_names.specs.View.{components}
-use Rattle.repo_core.specs.Near.{is_near}
+use Rattle.ndn_packets.specs.FullName.{is_near}
 use Rattle.repo_core.proofs.Near.{near_parted, candidates_are}
 use Rattle.repo_core.proofs.objects.candidates.Goals as goal
 
