@@ -1,6 +1,6 @@
 -- The first row of a key, and the map of the rows.
 use Rattle.std.proofs.Common.{◌≡◌, ℕ, zero, suc, ◌+◌, ◌<◌, ◌≤◌, Bool, true, false, cond, List, [], ◌∷◌, ◌++◌, length, get_or, set, take, refl, sym, ap, subst, ◌∙◌, arith, add-one}
-use Rattle.std.specs.Prelude.{Option, Some, None, IsTrue}
+use Rattle.std.specs.Prelude.{◌↔◌, Option, Some, None, IsSome, IsTrue, MatchOption, is_some}
 use Rattle.std.specs.FinMap as map
 use Rattle.std.specs.FinMap.{find, from_entries, get-from_entries, get-insert, same_map, from_entries_push}
 use Rattle.std.specs.Ordering.{eq_by_cmp}
@@ -143,3 +143,16 @@ added table es new key s t n row shown none is row_is pushed =
     let one : row ≡ (s, record { time = t; number = n }) = row_is ∙ ap (λ (k : Signer). let r : Row = (k, record { time = t; number = n }) in r) is in
     ap (λ (l : List Row). from_entries {R = signer_cmp} l) (pushed ∙ ap (λ (r : Row). es ++ r ∷ []) one)
     ∙ push_is_insert s (record { time = t; number = n }) es found ∙ ap (λ (m : Table). map.insert m s (record { time = t; number = n })) shown
+
+pub not_recorded : (table kept : Table) (s : Signer) (b : Bool) → IsTrue b ↔ IsSome (map.get kept s) → b ≡ false → kept ≡ table → IsSome (map.get table s) → ⊥
+not_recorded table kept s b told is same some =
+    let yes : b ≡ true = told.1 (subst (λ (m : Table). IsSome (map.get m s)) (sym same) some) in
+    (let no = is in cc)
+
+pub place_tells : (table : Table) (rows : List Row) (s : Signer) (place : Option ℕ) → from_entries rows ≡ table → MatchOption place (find signer_cmp s rows ≡ None) (IsFirst s rows)
+    → IsTrue (is_some place) ↔ IsSome (map.get table s)
+place_tells table rows s None shown none = (λ never. absurd cc, λ some. absurd (let no = get_of_none table rows s shown none in let never = rw no at some in cc))
+place_tells table rows s (Some at) shown first =
+    let row = row_at rows at in
+    let got : map.get table s ≡ Some row.1 = ap (λ (m : Table). map.get m s) (sym shown) ∙ get_first s rows at row first (row_at_is rows at first.within) in
+    (λ _. rw got refl, λ _. refl)

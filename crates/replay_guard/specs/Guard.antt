@@ -1,6 +1,6 @@
 -- What a guard keeps of the commands that were recorded: of each signer the greatest time and the
 -- greatest number.
-use Rattle.std.specs.Prelude.{ℕ, ◌<◌, List, [], ◌∷◌, Option, None, Some, max, refl}
+use Rattle.std.specs.Prelude.{◌≡◌, ◌⊎◌, ℕ, ◌<◌, List, [], ◌∷◌, Option, None, Some, IsSome, max, refl}
 use Rattle.std.specs.Coded.{Coded, code_by, coded×, coded_ℕ, coded_option}
 use Rattle.std.specs.declared.cmp.Ordering.{Ordering}
 use Rattle.std.specs.Option.{option_cmp}
@@ -32,6 +32,10 @@ pub record GuardState : Type 0 where
   pub latest : Table
   -- the signer of the call of `record` that is prepared
   pub prepared : Option Signer
+
+-- a command of this signer is recorded without memory: one of it is, or the call is prepared
+abbrev pub IsPrepared : GuardState → Signer → Type 0
+IsPrepared g signer = IsSome (map.get g.latest signer) ⊎ (g.prepared ≡ Some signer)
 
 -- the greater of two numbers; a command without one forgets none
 abbrev pub greater_number : Option ℕ → Option ℕ → Option ℕ

@@ -1,7 +1,7 @@
 ghost use Rattle.std.specs.Prelude.{◌≡◌, ◌↔◌, ◌<◌, None, Some, length, slice_index_or, slice_set, IsTrue, IsSome, IsOk, IfOk, OnOk, OnErr, MatchOption};
 ghost use Rattle.std.specs.FinMap as map;
 ghost use Rattle.replay_guard.specs.Freshness.{AreNear};
-ghost use Rattle.replay_guard.specs.Guard.{signer_of, signer_cmp, raised, with_recorded, IsFresh};
+ghost use Rattle.replay_guard.specs.Guard.{signer_of, signer_cmp, raised, with_recorded, IsFresh, IsPrepared};
 ghost use Rattle.replay_guard.specs.Rows.{Row as PlainRow, IsFirst};
 
 use crate::row::{Row, is_key, key_of};
@@ -67,6 +67,13 @@ impl Guard {
         }
     }
 
+    /// Whether something is recorded of a signer.
+    fn is_recorded(&self, signer: Signer<'_>) -> bool
+        ensures { IsTrue result ↔ IsSome (map.get self.now.latest (signer_of signer.entry)) }
+    {
+        place_of(&self.rows, signer).is_some()
+    }
+
     /// Records a command. `Memory` comes only for a signer of which nothing is recorded, and
     /// changes nothing but that no call is prepared any more.
     pub fn record(&mut self, signer: Signer<'_>, time: u64, seq: Option<u64>) -> Result<(), Memory>
@@ -74,8 +81,7 @@ impl Guard {
             (record { signer = signer_of signer.entry; time = time; number = seq })) }
         ensures err { OnErr result (self.new.latest ≡ self.old.latest) }
         ensures ended { self.new.prepared ≡ None }
-        ensures known { IsSome (map.get self.old.latest (signer_of signer.entry)) → IsOk result }
-        ensures promised { self.old.prepared ≡ Some (signer_of signer.entry) → IsOk result }
+        ensures promised { IsPrepared self.old (signer_of signer.entry) → IsOk result }
     {
         match place_of(&self.rows, signer) {
             Some(at) => {
@@ -103,13 +109,18 @@ impl Guard {
     }
 
     /// Prepares one `record` of this signer, which is then not refused memory. The next `record` or
-    /// `prepare`, of any signer and a refused one too, ends the preparation.
+    /// `prepare`, of any signer and a refused one too, ends the preparation. A signer of which
+    /// something is recorded takes no memory.
     pub fn prepare(&mut self, signer: Signer<'_>) -> Result<(), Memory>
         ensures latest { self.new.latest ≡ self.old.latest }
-        ensures ok { OnOk result (self.new.prepared ≡ Some (signer_of signer.entry)) }
+        ensures ok { OnOk result (IsPrepared self.new (signer_of signer.entry)) }
+        ensures known { IsSome (map.get self.old.latest (signer_of signer.entry)) → IsOk result }
         ensures err { OnErr result (self.new.prepared ≡ None) }
     {
         self.spare = None;
+        if self.is_recorded(signer) {
+            return Ok(());
+        }
         self.rows.reserve(1)?;
         let key = key_of(self.alloc, signer)?;
         self.spare = Some(key);
