@@ -7,3 +7,6 @@ pub mod Counts
 pub mod Listed
 pub mod Closed
 pub mod Tidy
+pub mod Rings
+pub mod Flat
+pub mod Least

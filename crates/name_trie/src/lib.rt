@@ -7,7 +7,11 @@ mod component_buf;
 mod listing;
 mod name_map;
 mod node;
+mod timed;
+mod timed_map;
 mod trie;
 
 pub use change::Change;
 pub use name_map::NameMap;
+pub use timed::{Becomes, Timed};
+pub use timed_map::TimedMap;

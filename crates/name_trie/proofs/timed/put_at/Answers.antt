@@ -1,0 +1,31 @@
+use Rattle.std.proofs.Common.{ap, ◌∙◌, cond, sym, subst}
+use Rattle.std.specs.Prelude.{Some}
+use Rattle.slab.specs.Slab.{get}
+use Rattle.ndn_names.specs.View.{components}
+use Rattle.std.specs.Ordering.{eq_by_cmp}
+use Rattle.ndn_names.specs.Order.{name_cmp}
+use Rattle.name_trie.specs.Timed.{IsTimed}
+use Rattle.name_trie.proofs.Changed.{live, there_by_up, sound_set, lookup_set}
+use Rattle.name_trie.proofs.Rings.{same_timers}
+use Rattle.name_trie.proofs.timed.put_at.Goals as goal
+
+pub put_timed-requires-clause-timed : goal.put_timed-requires-clause-timed
+put_timed-requires-clause-timed g c =
+    same_timers g.V.Timed.timer (get c.args.nodes.now) (get c.make_path.new.nodes) c.reserve.new.self.timers c.make_path.ensures.values
+    (subst (IsTimed g.V.Timed.timer (get c.args.nodes.now)) (sym c.reserve.ensures.timers) c.requires.timed)
+
+pub put_timed-requires-clause-node : goal.put_timed-requires-clause-node
+put_timed-requires-clause-node g c =
+    let h = get c.make_path.new.nodes in
+    let up = live h c.make_path.new.root c.make_path.ensures.sound (components c.args.name) c.in_ok-k.k c.in_ok-k.ensures.ok in
+    there_by_up h c.in_ok-k.k up.0 up.1
+
+pub returns-clause-sound : goal.returns-clause-sound
+returns-clause-sound g c =
+    sound_set c.in_ok-k.k (Some c.args.value) (get c.make_path.new.nodes) (get c.put_timed.new.nodes) c.put_timed.ensures.sets c.make_path.new.root c.make_path.ensures.sound
+
+pub returns-clause-ok : goal.returns-clause-ok
+returns-clause-ok g c = λ q.
+    lookup_set c.in_ok-k.k (Some c.args.value) (get c.make_path.new.nodes) (get c.put_timed.new.nodes) c.put_timed.ensures.sets c.make_path.new.root c.make_path.ensures.sound
+    (components c.args.name) c.in_ok-k.ensures.ok q
+    ∙ ap (cond (eq_by_cmp name_cmp q (components c.args.name)) (Some c.args.value)) (c.make_path.ensures.same q)

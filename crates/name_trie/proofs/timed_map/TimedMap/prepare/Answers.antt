@@ -1,0 +1,14 @@
+use Rattle.std.proofs.Common.{ap, ◌∙◌}
+use Rattle.slab.specs.Slab.{get}
+use Rattle.name_trie.proofs.Walks.{same_table}
+use Rattle.name_trie.proofs.timed_map.TimedMap.prepare.Goals as goal
+
+pub returns-in_err-k-clause-table : goal.returns-in_err-k-clause-table
+returns-in_err-k-clause-table g c =
+    same_table (get c.self.inside.nodes) (get c.make_path.new.nodes) c.self.inside.root c.make_path.new.root c.make_path.ensures.same
+    ∙ ap (λ t. t.table) c.self.view_is ∙ c.forget_prepared.ensures.table
+
+pub returns-clause-table : goal.returns-clause-table
+returns-clause-table g c =
+    same_table (get c.self.inside.nodes) (get c.make_path.new.nodes) c.self.inside.root c.make_path.new.root c.make_path.ensures.same
+    ∙ ap (λ t. t.table) c.self.view_is ∙ c.forget_prepared.ensures.table

@@ -1,0 +1,37 @@
+-- Values that have to be looked at at a moment, and the timers for them.
+use Rattle.ndn_tlv.specs.Element.{Field}
+use Rattle.std.specs.Prelude.{◌≡◌, ◌<◌, List, ℕ, Bool, false, ◌==◌, Option, None, Some}
+use Rattle.std.specs.Option.{option_map}
+use Rattle.std.specs.FinSet as set
+use Rattle.timers.specs.declared.timers.Timer.{Timer}
+use Rattle.timers.specs.Due.{TimerSet, Waiting}
+use Rattle.name_trie.specs.Trie.{Heap, value}
+
+abbrev pub timer_at : {V : Type 0} → (V → ℕ) → Heap V → ℕ → Option ℕ
+timer_at timer h k = option_map timer (value h k)
+
+-- whether something rings at this moment
+abbrev pub rings : Option ℕ → ℕ → Bool
+rings None d = false
+rings (Some e) d = d == e
+
+-- each value has its timer, and there is no other
+abbrev pub IsTimed : {V : Type 0} → (V → ℕ) → Heap V → TimerSet → Type 0
+IsTimed timer h timers =
+    (t : Timer) → set.contains timers t ≡ rings (timer_at timer h t.key) t.deadline
+
+abbrev pub timer_for : ℕ → ℕ → Timer
+timer_for k deadline = record { deadline = deadline; key = k }
+
+abbrev pub stopped : ℕ → Option ℕ → TimerSet → TimerSet
+stopped k None timers = timers
+stopped k (Some d) timers = set.remove timers (timer_for k d)
+
+abbrev pub started : ℕ → Option ℕ → TimerSet → TimerSet
+started k None timers = timers
+started k (Some d) timers = set.insert timers (timer_for k d)
+
+-- while a call is prepared there is room for one timer more
+abbrev pub HasTimerRoom : Option (List Field × ℕ) → Waiting → Type 0
+HasTimerRoom None w = Unit {0}
+HasTimerRoom (Some p) w = set.len w.timers < w.capacity

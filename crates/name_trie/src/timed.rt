@@ -1,0 +1,262 @@
+ghost use Rattle.std.specs.Prelude.{◌≡◌, ◌+◌, ◌<◌, ◌≤◌, ℕ, List, Option, None, Some, IsSome, IsOk, OnOk, OnErr, cond, true, is_some, is_none, ◌&&◌};
+ghost use Rattle.std.specs.Option.{option_map, option_and_then};
+ghost use Rattle.std.specs.FinSet as set;
+ghost use Rattle.std.specs.FinMap as map;
+ghost use Rattle.std.specs.Ordering.{eq_by_cmp};
+ghost use Rattle.ndn_names.specs.Order.{name_cmp};
+ghost use Rattle.ndn_names.specs.View.{components};
+ghost use Rattle.slab.specs.Slab.{get};
+ghost use Rattle.ndn_tlv.specs.Element.{Field};
+ghost use Rattle.name_trie.specs.Trie.{value as value_in, walk, lookup, table_of, Sound};
+ghost use Rattle.name_trie.specs.Changes.{Turns, Sets, SameLookups, IsBare, IsTidy};
+ghost use Rattle.name_trie.specs.Timed.{timer_at as timer_in, timer_for, stopped, started, IsTimed};
+
+use crate::change::{Change, change_at, prune_all, take_value};
+use crate::node::{Node, make_path, prune, set_value, value_of};
+use ndn_names::Name;
+use ndn_tlv::Memory;
+use slab::Slab;
+use std::alloc::Global;
+use timers::{Timer, Timers};
+
+/// A value that has to be looked at at a moment.
+pub trait Timed {
+    ghost timer: { Self → ℕ };
+
+    fn timer(&self) -> u64
+        ensures { result ≡ timer self.now };
+}
+
+/// When a node's value has to be looked at.
+fn timer_at<V: Timed>(nodes: &Slab<Node<V>>, k: usize) -> Option<u64>
+    ensures { result ≡ timer_in V.timer (get nodes.now) k }
+{
+    let value = value_of(nodes, k)?;
+    Some(value.timer())
+}
+
+/// Takes a key's timer out.
+fn stop(timers: &mut Timers, key: usize, old: Option<u64>)
+    ensures timers { timers.new.timers ≡ stopped key old timers.old.timers }
+    ensures room { (d : ℕ) → old ≡ Some d
+        → set.contains timers.old.timers (timer_for key d) ≡ true
+        → set.len timers.new.timers < timers.new.capacity }
+    ensures few { set.len timers.new.timers ≤ set.len timers.old.timers }
+    ensures capacity { timers.new.capacity ≡ timers.old.capacity }
+{
+    if let Some(deadline) = old {
+        timers.remove(Timer { deadline, key });
+    }
+}
+
+/// Puts a key's timer in. There is room for it.
+fn start(timers: &mut Timers, key: usize, new: Option<u64>)
+    requires { IsSome new → set.len timers.old.timers < timers.old.capacity }
+    ensures timers { timers.new.timers ≡ started key new timers.old.timers }
+    ensures capacity { timers.old.capacity ≤ timers.new.capacity }
+{
+    if let Some(deadline) = new {
+        timers.insert(Timer { deadline, key }).unwrap_or(());
+    }
+}
+
+/// Puts a key's new timer in place of its old one. What asks for none had one.
+fn retime(timers: &mut Timers, key: usize, old: Option<u64>, new: Option<u64>)
+    requires had { IsSome new → IsSome old }
+    requires there { (d : ℕ) → old ≡ Some d
+        → set.contains timers.old.timers (timer_for key d) ≡ true }
+    ensures timers { timers.new.timers ≡ started key new (stopped key old timers.old.timers) }
+    ensures few { set.len timers.new.timers ≤ set.len timers.old.timers }
+    ensures capacity { timers.old.capacity ≤ timers.new.capacity }
+{
+    if old == new {
+        return;
+    }
+    stop(timers, key, old);
+    start(timers, key, new);
+}
+
+/// Changes a node's value, if it has one, and its timer. Answers whether the value went.
+pub fn change_timed<V: Timed + Drop, C: Change<V>>(
+    nodes: &mut Slab<Node<V>>,
+    timers: &mut Timers,
+    k: usize,
+    how: &C,
+) -> bool
+    requires { IsTimed V.timer (get nodes.old) timers.old.timers }
+    ensures turns { Turns k (option_and_then (C.change how.now) (value_in (get nodes.old) k))
+        (get nodes.old) (get nodes.new) }
+    ensures went { result ≡ (is_some (value_in (get nodes.old) k)
+        && is_none (option_and_then (C.change how.now) (value_in (get nodes.old) k))) }
+    ensures timed { IsTimed V.timer (get nodes.new) timers.new.timers }
+    ensures timers { timers.new.timers ≡ started k (timer_in V.timer (get nodes.new) k)
+        (stopped k (timer_in V.timer (get nodes.old) k) timers.old.timers) }
+    ensures few { set.len timers.new.timers ≤ set.len timers.old.timers }
+    ensures capacity { timers.old.capacity ≤ timers.new.capacity }
+{
+    let old = timer_at(nodes, k);
+    let went = change_at(nodes, k, how);
+    let new = timer_at(nodes, k);
+    retime(timers, k, old, new);
+    went
+}
+
+/// Changes each value that is due, and with it all those that change. Values that hold nothing go.
+pub fn expire<V: Timed + Drop, C: Change<V>>(
+    nodes: &mut Slab<Node<V>>,
+    root: &mut Option<usize>,
+    timers: &mut Timers,
+    kept: Option<usize>,
+    now: u64,
+    how: &C,
+)
+    requires sound { Sound (get nodes.old) root.old }
+    requires timed { IsTimed V.timer (get nodes.old) timers.old.timers }
+    requires tidy { IsTidy (get nodes.old) kept }
+    requires idle { (v : V) → now < V.timer v → C.change how.now v ≡ Some v }
+    requires later { (v w : V) → C.change how.now v ≡ Some w → now < V.timer w }
+    ensures sound { Sound (get nodes.new) root.new }
+    ensures timed { IsTimed V.timer (get nodes.new) timers.new.timers }
+    ensures tidy { IsTidy (get nodes.new) kept }
+    ensures changed { (q : List Field) → lookup (get nodes.new) root.new q
+        ≡ option_and_then (C.change how.now) (lookup (get nodes.old) root.old q) }
+    ensures kept { (q : List Field) → IsSome kept → walk (get nodes.old) root.old q ≡ kept
+        → walk (get nodes.new) root.new q ≡ kept }
+    ensures few { set.len timers.new.timers ≤ set.len timers.old.timers }
+    ensures capacity { timers.old.capacity ≤ timers.new.capacity }
+{
+    while let Some(timer) = timers.first_due(now) {
+        change_timed(nodes, timers, timer.key, how);
+        prune(nodes, root, timer.key, kept);
+    }
+}
+
+/// Takes a node's value, and its timer.
+pub fn take_timed<V: Timed + Drop>(
+    nodes: &mut Slab<Node<V>>,
+    timers: &mut Timers,
+    k: usize,
+) -> Option<V>
+    requires { IsTimed V.timer (get nodes.old) timers.old.timers }
+    ensures value { result ≡ value_in (get nodes.old) k }
+    ensures turns { Turns k None (get nodes.old) (get nodes.new) }
+    ensures timed { IsTimed V.timer (get nodes.new) timers.new.timers }
+    ensures room { IsSome result → set.len timers.new.timers < timers.new.capacity }
+    ensures few { set.len timers.new.timers ≤ set.len timers.old.timers }
+    ensures capacity { timers.new.capacity ≡ timers.old.capacity }
+{
+    let old = timer_at(nodes, k);
+    stop(timers, k, old);
+    take_value(nodes, k)
+}
+
+/// Sets the value of a node, and its timer.
+pub fn put_timed<V: Timed + Drop>(
+    nodes: &mut Slab<Node<V>>,
+    timers: &mut Timers,
+    k: usize,
+    value: V,
+)
+    requires timed { IsTimed V.timer (get nodes.old) timers.old.timers }
+    requires node { IsSome (get nodes.old k) }
+    requires room { set.len timers.old.timers < timers.old.capacity }
+    ensures sets { Sets k (Some value) (get nodes.old) (get nodes.new) }
+    ensures timed { IsTimed V.timer (get nodes.new) timers.new.timers }
+    ensures capacity { timers.old.capacity ≤ timers.new.capacity }
+{
+    let old = timer_at(nodes, k);
+    let new = Some(value.timer());
+    set_value(nodes, k, Some(value));
+    stop(timers, k, old);
+    start(timers, k, new);
+}
+
+/// What a value, or none, becomes.
+pub trait Becomes<V> {
+    ghost becomes: { Self → Option V → V };
+
+    fn apply(self, old: Option<V>) -> V
+        ensures { result ≡ becomes self old };
+}
+
+/// Puts what a name's value becomes in its place, and its timer.
+pub fn put_with_at<V: Timed + Drop, B: Becomes<V> + Drop>(
+    alloc: Global,
+    nodes: &mut Slab<Node<V>>,
+    root: &mut Option<usize>,
+    timers: &mut Timers,
+    name: Name<'_>,
+    how: B,
+) -> Result<(), Memory>
+    requires sound { Sound (get nodes.old) root.old }
+    requires timed { IsTimed V.timer (get nodes.old) timers.old.timers }
+    ensures sound { Sound (get nodes.new) root.new }
+    ensures timed { IsTimed V.timer (get nodes.new) timers.new.timers }
+    ensures ok { OnOk result ((q : List Field) → lookup (get nodes.new) root.new q
+        ≡ cond (eq_by_cmp name_cmp q (components name.entry))
+        (Some (B.becomes how (lookup (get nodes.old) root.old (components name.entry))))
+        (lookup (get nodes.old) root.old q)) }
+    ensures err { OnErr result (SameLookups (get nodes.old) root.old (get nodes.new) root.new) }
+    ensures tidy { (j : ℕ) → IsBare (get nodes.new) j → IsBare (get nodes.old) j }
+    ensures promised { IsSome (walk (get nodes.old) root.old (components name.entry))
+        → set.len timers.old.timers < timers.old.capacity → IsOk result }
+{
+    timers.reserve()?;
+    let k = make_path(alloc, nodes, root, name)?;
+    let old = take_timed(nodes, timers, k);
+    put_timed(nodes, timers, k, how.apply(old));
+    Ok(())
+}
+
+/// Sets the value of a name, and its timer.
+pub fn put_at<V: Timed + Drop>(
+    alloc: Global,
+    nodes: &mut Slab<Node<V>>,
+    root: &mut Option<usize>,
+    timers: &mut Timers,
+    name: Name<'_>,
+    value: V,
+) -> Result<(), Memory>
+    requires sound { Sound (get nodes.old) root.old }
+    requires timed { IsTimed V.timer (get nodes.old) timers.old.timers }
+    ensures sound { Sound (get nodes.new) root.new }
+    ensures timed { IsTimed V.timer (get nodes.new) timers.new.timers }
+    ensures ok { OnOk result ((q : List Field) → lookup (get nodes.new) root.new q
+        ≡ cond (eq_by_cmp name_cmp q (components name.entry)) (Some value)
+        (lookup (get nodes.old) root.old q)) }
+    ensures err { OnErr result (SameLookups (get nodes.old) root.old (get nodes.new) root.new) }
+    ensures tidy { (j : ℕ) → IsBare (get nodes.new) j → IsBare (get nodes.old) j }
+    ensures promised { IsSome (walk (get nodes.old) root.old (components name.entry))
+        → set.len timers.old.timers < timers.old.capacity → IsOk result }
+{
+    timers.reserve()?;
+    let k = make_path(alloc, nodes, root, name)?;
+    put_timed(nodes, timers, k, value);
+    Ok(())
+}
+
+/// Changes all values.
+pub fn change_all_timed<V: Timed + Drop, C: Change<V>>(
+    nodes: &mut Slab<Node<V>>,
+    root: &mut Option<usize>,
+    timers: &mut Timers,
+    kept: Option<usize>,
+    how: &C,
+)
+    requires sound { Sound (get nodes.old) root.old }
+    requires timed { IsTimed V.timer (get nodes.old) timers.old.timers }
+    ensures sound { Sound (get nodes.new) root.new }
+    ensures timed { IsTimed V.timer (get nodes.new) timers.new.timers }
+    ensures tidy { IsTidy (get nodes.new) kept }
+    ensures changed { (q : List Field) → lookup (get nodes.new) root.new q
+        ≡ option_and_then (C.change how.now) (lookup (get nodes.old) root.old q) }
+    ensures kept { (q : List Field) → IsSome kept → walk (get nodes.old) root.old q ≡ kept
+        → walk (get nodes.new) root.new q ≡ kept }
+    ensures few { set.len timers.new.timers ≤ set.len timers.old.timers }
+    ensures capacity { timers.old.capacity ≤ timers.new.capacity }
+{
+    for k in 0..nodes.capacity() {
+        change_timed(nodes, timers, k, how);
+    }
+    prune_all(nodes, root, kept);
+}

@@ -1,0 +1,181 @@
+ghost use Rattle.std.specs.Prelude.{◌≡◌, ◌<◌, ℕ, None, Some, IsSome, IsOk, OnOk, OnErr, option_and_then};
+ghost use Rattle.std.specs.Option.{option_map};
+ghost use Rattle.std.specs.FinMap as map;
+ghost use Rattle.ndn_names.specs.View.{components};
+ghost use Rattle.name_trie.specs.ByName.{revise, with_value};
+
+use crate::change::Change;
+use crate::node::{Node, find, make_path, prune, value_of};
+use crate::timed::{Becomes, Timed, change_all_timed, change_timed, expire, put_at, put_with_at};
+use crate::trie::{held_node, release};
+use ndn_names::{Name, NameBuf};
+use ndn_tlv::Memory;
+use slab::Slab;
+use std::alloc::Global;
+use std::marker::Model;
+use timers::Timers;
+
+/// Values by name, each with a moment at which it is looked at.
+#[derive(Drop)]
+pub struct TimedMap<V: Timed> {
+    alloc: Global,
+    nodes: Slab<Node<V>>,
+    root: Option<usize>,
+    // The name of the call that is prepared, and its node, which stays.
+    held: Option<(NameBuf, usize)>,
+    // One for each value. While a call is prepared there is room for one more.
+    timers: Timers,
+}
+
+impl<V: Timed> Model for TimedMap<V> {
+    ghost use Rattle.std.specs.Prelude.{option_map};
+    ghost use Rattle.slab.specs.Slab.{get};
+    ghost use Rattle.name_trie.specs.NameTable.{NameTable, name_table_code};
+    ghost use Rattle.name_trie.specs.Trie.{table_of, Sound};
+    ghost use Rattle.name_trie.specs.Changes.{IsHeld, IsTidy};
+    ghost use Rattle.name_trie.specs.Timed.{IsTimed, HasTimerRoom};
+
+    ghost Value = { NameTable V };
+
+    ghost coded = { name_table_code V.code };
+
+    ghost view = { λ m. record {
+      table = table_of (get m.nodes) m.root;
+      prepared = option_map (λ p. p.0) m.held;
+    } };
+
+    ghost invariant = { λ m. Sound (get m.nodes) m.root × IsHeld (get m.nodes) m.root m.held
+        × IsTidy (get m.nodes) (option_map (λ p. p.1) m.held)
+        × IsTimed V.timer (get m.nodes) m.timers.timers
+        × HasTimerRoom m.held m.timers };
+}
+
+impl<V: Timed + Drop> TimedMap<V> {
+    pub fn new(alloc: Global) -> TimedMap<V>
+        ensures table { result.table ≡ map.empty }
+        ensures prepared { result.prepared ≡ None }
+    {
+        TimedMap {
+            alloc,
+            nodes: Slab::new(alloc),
+            root: None,
+            held: None,
+            timers: Timers::new(alloc),
+        }
+    }
+
+    /// The value of a name.
+    pub fn get(&self, name: Name<'_>) -> Option<&V>
+        ensures { option_map (λ v. v.now) result ≡ map.get self.now.table (components name.entry) }
+    {
+        let k = find(&self.nodes, self.root, name)?;
+        value_of(&self.nodes, k)
+    }
+
+    /// Sets the value of a name.
+    pub fn put(&mut self, name: Name<'_>, value: V) -> Result<(), Memory>
+        ensures ok { OnOk result
+            (self.new.table ≡ map.insert self.old.table (components name.entry) value) }
+        ensures err { OnErr result (self.new.table ≡ self.old.table) }
+        ensures ended { self.new.prepared ≡ None }
+        ensures promised { self.old.prepared ≡ Some (components name.entry) → IsOk result }
+    {
+        let held = self.held.take();
+        let result = put_at(
+            self.alloc,
+            &mut self.nodes,
+            &mut self.root,
+            &mut self.timers,
+            name,
+            value,
+        );
+        release(&mut self.nodes, &mut self.root, held);
+        result
+    }
+
+    /// Puts what a name's value becomes in its place.
+    pub fn put_with<B: Becomes<V> + Drop>(&mut self, name: Name<'_>, how: B) -> Result<(), Memory>
+        ensures ok { OnOk result (self.new.table ≡ map.insert self.old.table
+            (components name.entry)
+            (B.becomes how (map.get self.old.table (components name.entry)))) }
+        ensures err { OnErr result (self.new.table ≡ self.old.table) }
+        ensures ended { self.new.prepared ≡ None }
+        ensures promised { self.old.prepared ≡ Some (components name.entry) → IsOk result }
+    {
+        let held = self.held.take();
+        let result = put_with_at(
+            self.alloc,
+            &mut self.nodes,
+            &mut self.root,
+            &mut self.timers,
+            name,
+            how,
+        );
+        release(&mut self.nodes, &mut self.root, held);
+        result
+    }
+
+    /// Prepares one `put` of this name, which is then not refused memory.
+    pub fn prepare(&mut self, name: Name<'_>) -> Result<(), Memory>
+        ensures table { self.new.table ≡ self.old.table }
+        ensures ok { OnOk result (self.new.prepared ≡ Some (components name.entry)) }
+        ensures err { OnErr result (self.new.prepared ≡ None) }
+    {
+        self.forget_prepared();
+        let key = NameBuf::from_name(self.alloc, name)?;
+        self.timers.reserve()?;
+        let k = make_path(self.alloc, &mut self.nodes, &mut self.root, name)?;
+        self.held = Some((key, k));
+        Ok(())
+    }
+
+    /// Ends what is prepared.
+    pub fn forget_prepared(&mut self)
+        ensures table { self.new.table ≡ self.old.table }
+        ensures prepared { self.new.prepared ≡ None }
+    {
+        let held = self.held.take();
+        release(&mut self.nodes, &mut self.root, held);
+    }
+
+    /// Changes the values that are due.
+    pub fn expire<C: Change<V>>(&mut self, now: u64, how: &C)
+        requires idle { (v : V) → now < V.timer v → C.change how.now v ≡ Some v }
+        requires later { (v w : V) → C.change how.now v ≡ Some w → now < V.timer w }
+        ensures table { self.new.table ≡ revise (C.change how.now) self.old.table }
+        ensures prepared { self.new.prepared ≡ self.old.prepared }
+    {
+        let kept = held_node(&self.held);
+        expire(
+            &mut self.nodes,
+            &mut self.root,
+            &mut self.timers,
+            kept,
+            now,
+            how,
+        );
+    }
+
+    /// Changes all values.
+    pub fn change_all<C: Change<V>>(&mut self, how: &C)
+        ensures table { self.new.table ≡ revise (C.change how.now) self.old.table }
+        ensures prepared { self.new.prepared ≡ self.old.prepared }
+    {
+        let kept = held_node(&self.held);
+        change_all_timed(&mut self.nodes, &mut self.root, &mut self.timers, kept, how);
+    }
+
+    /// Changes the value of a name, if it has one.
+    pub fn change<C: Change<V>>(&mut self, name: Name<'_>, how: &C)
+        ensures table { self.new.table ≡ with_value self.old.table (components name.entry)
+            (option_and_then (C.change how.now) (map.get self.old.table (components name.entry))) }
+        ensures prepared { self.new.prepared ≡ self.old.prepared }
+    {
+        let Some(k) = find(&self.nodes, self.root, name) else {
+            return;
+        };
+        let kept = held_node(&self.held);
+        change_timed(&mut self.nodes, &mut self.timers, k, how);
+        prune(&mut self.nodes, &mut self.root, k, kept);
+    }
+}
