@@ -1,5 +1,5 @@
 -- What a change of a trie's nodes does to walks and look-ups.
-use Rattle.std.proofs.Common.{◌≡◌, ◌≢◌, ℕ, true, false, cond, List, [], ◌∷◌, ◌++◌, refl, sym, ap, subst, ◌∙◌, arith, eqb, ◌⊎◌, inl, inr}
+use Rattle.std.proofs.Common.{◌≡◌, ◌≢◌, ◌≤◌, ℕ, true, false, cond, List, [], ◌∷◌, ◌++◌, length, refl, sym, ap, subst, ◌∙◌, arith, eqb, ◌⊎◌, inl, inr}
 use Rattle.std.specs.Prelude.{Option, None, Some, reverse, IsSome, Result, Ok, Err, IfOk, OnOk, OnErr}
 use Rattle.std.specs.Option.{option_and_then, option_map}
 use Rattle.std.specs.Ordering.{eq_by_cmp, is_eq}
@@ -14,7 +14,7 @@ use Rattle.name_trie.specs.declared.node.Node.{Node}
 use Rattle.name_trie.specs.ByName.{revise}
 use Rattle.name_trie.specs.Links.{unless, unless_is}
 use Rattle.name_trie.specs.Trie.{Heap, child, value, up, down, walk, lookup, Sound}
-use Rattle.name_trie.specs.Changes.{Joins, Starts, Cuts, IsBare, Sets, Lacks, SameLookups, IsHeld, HasRoomBelow}
+use Rattle.name_trie.specs.Changes.{Joins, Starts, Cuts, IsBare, Sets, Turns, Lacks, SameLookups, IsHeld, HasRoomBelow}
 use Rattle.name_trie.proofs.Revised.{equal, get-revise}
 use Rattle.name_trie.proofs.Walks.{walk_none}
 
@@ -99,6 +99,13 @@ module _ {V : Type 0} (h : Heap V) where
     pub live : (p : List Field) (k : ℕ) → walk h root p ≡ Some k → (u : Option ℕ) × (up h k ≡ Some u)
     live p k e = live_climb (reverse p) k (sym (climb_is root (reverse p)) ∙ ap (walk h root) (reverse-reverse p) ∙ e)
 
+    -- a name that leads to a node has at most 64 components
+    pub short_name : (p : List Field) (k : ℕ) → walk h root p ≡ Some k → length p ≤ 64
+    short_name p k e =
+        let up_k = live p k e in
+        let way = sound.reach k up_k.0 up_k.1 in
+        subst (λ (q : List Field). length q ≤ 64) (one_walk way.0 p k way.2 e) way.1
+
 -- ---- a node that holds nothing, there or not
 
 module _ {V : Type 0} (k : ℕ) (h : Heap V) (root : Option ℕ) (h' : Heap V) (root' : Option ℕ) (lacks : Lacks k h root h' root') where
@@ -176,6 +183,14 @@ module _ {V : Type 0} (k : ℕ) (v : Option V) (h h' : Heap V) (sets : Sets k v 
 
   value_kept : (a : ℕ) → a ≢ k → value h' a ≡ value h a
   value_kept a ne = ap (option_and_then (λ n. n.value)) (sets.others a ne)
+
+  pub set_turns : Turns k v h h'
+  set_turns = record {
+    links = same_children;
+    ups = same_up;
+    here = value_set;
+    others = value_kept;
+  }
 
   same_walk : (o : Option ℕ) (q : List Field) → walk h' o q ≡ walk h o q
   same_walk o [] = refl

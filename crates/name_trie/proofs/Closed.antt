@@ -17,6 +17,11 @@ use Rattle.name_trie.proofs.Counts.{len_fewer, len_set, not_empty as not_zero}
 use Rattle.name_trie.proofs.Changed.{same_or, one_walk, there_by_up}
 use Rattle.name_trie.proofs.Walks.{get-table, get-table_long, same_table, put_table, remove_table, by_length}
 
+-- a node that has a value is there
+pub up_of : {V : Type 0} (o : Option (Node V)) (x : V) → option_and_then (λ n. n.value) o ≡ Some x → (u : Option ℕ) × (option_map (λ n. n.parent) o ≡ Some u)
+up_of None x e = absurd cc
+up_of (Some n) x e = (n.parent, refl)
+
 module _ {V : Type 0} (k : ℕ) (v : Option V) (h h' : Heap V) (turns : Turns k v h h') where
   walk_same : (o : Option ℕ) (q : List Field) → walk h' o q ≡ walk h o q
   walk_same o [] = refl
@@ -53,7 +58,7 @@ module _ {V : Type 0} (k : ℕ) (v : Option V) (h h' : Heap V) (turns : Turns k 
         ] refl
 
     -- a value that is none stays none
-    unturned : value h k ≡ None → v ≡ None → (q : List Field) → lookup h' root q ≡ lookup h root q
+    pub unturned : value h k ≡ None → v ≡ None → (q : List Field) → lookup h' root q ≡ lookup h root q
     unturned was now q =
         ap (option_and_then (value h')) (walk_same root q) ∙ stays (walk h root q)
       where
@@ -69,7 +74,7 @@ module _ {V : Type 0} (k : ℕ) (v : Option V) (h h' : Heap V) (turns : Turns k 
           | None ↦ λ was now.
               let same : len (table_of h' root) ≡ len (table_of h root) = ap len (same_table h h' root root (unturned was now)) in omega (arith, same)
           | (Some x) ↦ λ was now.
-              let up_k = there (h k) x was in
+              let up_k = up_of (h k) x was in
               let way = sound.reach k up_k.0 up_k.1 in
               let at : get (table_of h root) way.0 ≡ Some x = get-table h root way.0 way.1 ∙ ap (option_and_then (value h)) way.2 ∙ was in
               let has : is_some (get (table_of h root) way.0) ≡ true = ap is_some at in
@@ -85,10 +90,6 @@ module _ {V : Type 0} (k : ℕ) (v : Option V) (h h' : Heap V) (turns : Turns k 
                     omega (arith, same)
               ] refl
         ] refl is
-      where
-        there : (o : Option (Node V)) (x : V) → option_and_then (λ n. n.value) o ≡ Some x → (u : Option ℕ) × (option_map (λ n. n.parent) o ≡ Some u)
-        there None x e = absurd cc
-        there (Some n) x e = (n.parent, refl)
 
   up_there : (f : Heap V) (j : ℕ) → IsSome (f j) → (u : Option ℕ) × (up f j ≡ Some u)
   up_there f j some = elim (f j) as (λ (o : Option (Node V)). IsSome o → (u : Option ℕ) × (option_map (λ n. n.parent) o ≡ Some u)) [ None ↦ λ e. absurd cc | (Some n) ↦ λ e. (n.parent, refl) ] some

@@ -112,7 +112,7 @@ module _ {N F K X : Type 0} {R : N → N → Ordering} {S : F → F → Ordering
   len-flatten t =
       len-entries (flatten Q key t) ∙ ap length (entries-from_sorted Q (flat key (entries t)) (sorted_flat (entries t) (entries_sorted t))) ∙ length_flat (entries t)
 
-below_less : {K X : Type 0} {R : K → K → Ordering} → IsTotalOrder R → (x y : K) (es : List (K × X)) → R x y ≡ Less → T (below_all R y es) → T (below_all R x es)
+pub below_less : {K X : Type 0} {R : K → K → Ordering} → IsTotalOrder R → (x y : K) (es : List (K × X)) → R x y ≡ Less → T (below_all R y es) → T (below_all R x es)
 below_less o x y [] p h = tt
 below_less {R = R} o x y (e ∷ es) p h = both_of _ _ (less_so (R x e.0) (o.trans x y e.0 p (is_less _ (first_of _ _ h)))) (below_less o x y es p (second_of _ _ h))
 

@@ -10,3 +10,4 @@ pub mod Tidy
 pub mod Rings
 pub mod Flat
 pub mod Least
+pub mod Totals

@@ -1,11 +1,13 @@
--- Values that have to be looked at at a moment, and the timers for them.
+-- Values that have to be looked at at a moment, the timers for them, and their count.
 use Rattle.ndn_tlv.specs.Element.{Field}
-use Rattle.std.specs.Prelude.{◌≡◌, ◌<◌, List, ℕ, Bool, false, ◌==◌, Option, None, Some}
+use Rattle.std.specs.Prelude.{◌≡◌, ◌<◌, ◌+◌, ◌%◌, ◌^◌, List, ℕ, Bool, false, ◌==◌, Option, None, Some}
 use Rattle.std.specs.Option.{option_map}
 use Rattle.std.specs.FinSet as set
+use Rattle.std.specs.FinMap.{entries}
 use Rattle.timers.specs.declared.timers.Timer.{Timer}
 use Rattle.timers.specs.Due.{TimerSet, Waiting}
-use Rattle.name_trie.specs.Trie.{Heap, value}
+use Rattle.name_trie.specs.Flat.{size_of, total}
+use Rattle.name_trie.specs.Trie.{Heap, value, table_of}
 
 abbrev pub timer_at : {V : Type 0} → (V → ℕ) → Heap V → ℕ → Option ℕ
 timer_at timer h k = option_map timer (value h k)
@@ -35,3 +37,18 @@ started k (Some d) timers = set.insert timers (timer_for k d)
 abbrev pub HasTimerRoom : Option (List Field × ℕ) → Waiting → Type 0
 HasTimerRoom None w = Unit {0}
 HasTimerRoom (Some p) w = set.len w.timers < w.capacity
+
+-- ---- the count
+
+-- how many entries a node's value counts for
+abbrev pub size_at : {V : Type 0} → (V → ℕ) → Heap V → ℕ → ℕ
+size_at size h k = size_of size (value h k)
+
+-- a count, which wraps, goes along with a sum in which one size takes the place of another
+abbrev pub Recounts : (was is len len' : ℕ) → Type 0
+Recounts was is len len' =
+    (sum sum' : ℕ) → sum' + was ≡ sum + is → len ≡ sum % 2 ^ 64 → len' ≡ sum' % 2 ^ 64
+
+-- the sizes of all values together; it wraps
+abbrev pub IsCounted : {V : Type 0} → (V → ℕ) → Heap V → Option ℕ → ℕ → Type 0
+IsCounted size h root len = len ≡ total size (entries (table_of h root)) % 2 ^ 64

@@ -1,4 +1,4 @@
-ghost use Rattle.std.specs.Prelude.{◌≡◌, ◌+◌, ◌<◌, ◌≤◌, ℕ, List, Option, None, Some, IsSome, IsOk, OnOk, OnErr, cond, true, is_some, is_none, ◌&&◌};
+ghost use Rattle.std.specs.Prelude.{◌≡◌, ◌+◌, ◌<◌, ◌≤◌, ℕ, List, Option, None, Some, IsSome, IsOk, OnOk, OnErr, cond, true};
 ghost use Rattle.std.specs.Option.{option_map, option_and_then};
 ghost use Rattle.std.specs.FinSet as set;
 ghost use Rattle.std.specs.FinMap as map;
@@ -9,7 +9,7 @@ ghost use Rattle.slab.specs.Slab.{get};
 ghost use Rattle.ndn_tlv.specs.Element.{Field};
 ghost use Rattle.name_trie.specs.Trie.{value as value_in, walk, lookup, table_of, Sound};
 ghost use Rattle.name_trie.specs.Changes.{Turns, Sets, SameLookups, IsBare, IsTidy};
-ghost use Rattle.name_trie.specs.Timed.{timer_at as timer_in, timer_for, stopped, started, IsTimed};
+ghost use Rattle.name_trie.specs.Timed.{timer_at as timer_in, timer_for, stopped, started, IsTimed, size_at as size_in, Recounts, IsCounted};
 
 use crate::change::{Change, change_at, prune_all, take_value};
 use crate::node::{Node, make_path, prune, set_value, value_of};
@@ -19,20 +19,42 @@ use slab::Slab;
 use std::alloc::Global;
 use timers::{Timer, Timers};
 
-/// A value that has to be looked at at a moment.
+/// A value that has to be looked at at a moment, and that counts for so many entries.
 pub trait Timed {
     ghost timer: { Self → ℕ };
 
+    ghost size: { Self → ℕ };
+
     fn timer(&self) -> u64
         ensures { result ≡ timer self.now };
+
+    fn size(&self) -> usize
+        ensures { result ≡ size self.now };
 }
 
 /// When a node's value has to be looked at.
-fn timer_at<V: Timed>(nodes: &Slab<Node<V>>, k: usize) -> Option<u64>
+pub fn timer_at<V: Timed>(nodes: &Slab<Node<V>>, k: usize) -> Option<u64>
     ensures { result ≡ timer_in V.timer (get nodes.now) k }
 {
     let value = value_of(nodes, k)?;
     Some(value.timer())
+}
+
+/// How many entries a node's value counts for.
+pub fn size_at<V: Timed>(nodes: &Slab<Node<V>>, k: usize) -> usize
+    ensures { result ≡ size_in V.size (get nodes.now) k }
+{
+    match value_of(nodes, k) {
+        Some(value) => value.size(),
+        None => 0,
+    }
+}
+
+/// A count with one size in place of another. It wraps, and so needs no bound.
+pub fn recount(len: usize, was: usize, is: usize) -> usize
+    ensures { Recounts was is len result }
+{
+    len.wrapping_sub(was).wrapping_add(is)
 }
 
 /// Takes a key's timer out.
@@ -61,7 +83,7 @@ fn start(timers: &mut Timers, key: usize, new: Option<u64>)
 }
 
 /// Puts a key's new timer in place of its old one. What asks for none had one.
-fn retime(timers: &mut Timers, key: usize, old: Option<u64>, new: Option<u64>)
+pub fn retime(timers: &mut Timers, key: usize, old: Option<u64>, new: Option<u64>)
     requires had { IsSome new → IsSome old }
     requires there { (d : ℕ) → old ≡ Some d
         → set.contains timers.old.timers (timer_for key d) ≡ true }
@@ -76,29 +98,32 @@ fn retime(timers: &mut Timers, key: usize, old: Option<u64>, new: Option<u64>)
     start(timers, key, new);
 }
 
-/// Changes a node's value, if it has one, and its timer. Answers whether the value went.
+/// Changes a node's value, if it has one, its timer and the count.
 pub fn change_timed<V: Timed + Drop, C: Change<V>>(
     nodes: &mut Slab<Node<V>>,
     timers: &mut Timers,
+    len: &mut usize,
     k: usize,
     how: &C,
-) -> bool
+)
     requires { IsTimed V.timer (get nodes.old) timers.old.timers }
     ensures turns { Turns k (option_and_then (C.change how.now) (value_in (get nodes.old) k))
         (get nodes.old) (get nodes.new) }
-    ensures went { result ≡ (is_some (value_in (get nodes.old) k)
-        && is_none (option_and_then (C.change how.now) (value_in (get nodes.old) k))) }
     ensures timed { IsTimed V.timer (get nodes.new) timers.new.timers }
+    ensures counted { Recounts (size_in V.size (get nodes.old) k)
+        (size_in V.size (get nodes.new) k) len.old len.new }
     ensures timers { timers.new.timers ≡ started k (timer_in V.timer (get nodes.new) k)
         (stopped k (timer_in V.timer (get nodes.old) k) timers.old.timers) }
     ensures few { set.len timers.new.timers ≤ set.len timers.old.timers }
     ensures capacity { timers.old.capacity ≤ timers.new.capacity }
 {
     let old = timer_at(nodes, k);
-    let went = change_at(nodes, k, how);
+    let was = size_at(nodes, k);
+    change_at(nodes, k, how);
     let new = timer_at(nodes, k);
+    let is = size_at(nodes, k);
     retime(timers, k, old, new);
-    went
+    *len = recount(*len, was, is);
 }
 
 /// Changes each value that is due, and with it all those that change. Values that hold nothing go.
@@ -106,17 +131,20 @@ pub fn expire<V: Timed + Drop, C: Change<V>>(
     nodes: &mut Slab<Node<V>>,
     root: &mut Option<usize>,
     timers: &mut Timers,
+    len: &mut usize,
     kept: Option<usize>,
     now: u64,
     how: &C,
 )
     requires sound { Sound (get nodes.old) root.old }
     requires timed { IsTimed V.timer (get nodes.old) timers.old.timers }
+    requires counted { IsCounted V.size (get nodes.old) root.old len.old }
     requires tidy { IsTidy (get nodes.old) kept }
     requires idle { (v : V) → now < V.timer v → C.change how.now v ≡ Some v }
     requires later { (v w : V) → C.change how.now v ≡ Some w → now < V.timer w }
     ensures sound { Sound (get nodes.new) root.new }
     ensures timed { IsTimed V.timer (get nodes.new) timers.new.timers }
+    ensures counted { IsCounted V.size (get nodes.new) root.new len.new }
     ensures tidy { IsTidy (get nodes.new) kept }
     ensures changed { (q : List Field) → lookup (get nodes.new) root.new q
         ≡ option_and_then (C.change how.now) (lookup (get nodes.old) root.old q) }
@@ -126,48 +154,54 @@ pub fn expire<V: Timed + Drop, C: Change<V>>(
     ensures capacity { timers.old.capacity ≤ timers.new.capacity }
 {
     while let Some(timer) = timers.first_due(now) {
-        change_timed(nodes, timers, timer.key, how);
+        change_timed(nodes, timers, len, timer.key, how);
         prune(nodes, root, timer.key, kept);
     }
 }
 
-/// Takes a node's value, and its timer.
+/// Takes a node's value, its timer and its count.
 pub fn take_timed<V: Timed + Drop>(
     nodes: &mut Slab<Node<V>>,
     timers: &mut Timers,
+    len: &mut usize,
     k: usize,
 ) -> Option<V>
     requires { IsTimed V.timer (get nodes.old) timers.old.timers }
     ensures value { result ≡ value_in (get nodes.old) k }
     ensures turns { Turns k None (get nodes.old) (get nodes.new) }
     ensures timed { IsTimed V.timer (get nodes.new) timers.new.timers }
+    ensures counted { Recounts (size_in V.size (get nodes.old) k) 0 len.old len.new }
     ensures room { IsSome result → set.len timers.new.timers < timers.new.capacity }
     ensures few { set.len timers.new.timers ≤ set.len timers.old.timers }
     ensures capacity { timers.new.capacity ≡ timers.old.capacity }
 {
     let old = timer_at(nodes, k);
+    let was = size_at(nodes, k);
     stop(timers, k, old);
+    *len = recount(*len, was, 0);
     take_value(nodes, k)
 }
 
-/// Sets the value of a node, and its timer.
+/// Sets the value of a node that has none, its timer and its count.
 pub fn put_timed<V: Timed + Drop>(
     nodes: &mut Slab<Node<V>>,
     timers: &mut Timers,
+    len: &mut usize,
     k: usize,
     value: V,
 )
     requires timed { IsTimed V.timer (get nodes.old) timers.old.timers }
     requires node { IsSome (get nodes.old k) }
+    requires empty { value_in (get nodes.old) k ≡ None }
     requires room { set.len timers.old.timers < timers.old.capacity }
     ensures sets { Sets k (Some value) (get nodes.old) (get nodes.new) }
     ensures timed { IsTimed V.timer (get nodes.new) timers.new.timers }
+    ensures counted { Recounts 0 (V.size value) len.old len.new }
     ensures capacity { timers.old.capacity ≤ timers.new.capacity }
 {
-    let old = timer_at(nodes, k);
     let new = Some(value.timer());
+    *len = recount(*len, 0, value.size());
     set_value(nodes, k, Some(value));
-    stop(timers, k, old);
     start(timers, k, new);
 }
 
@@ -185,13 +219,16 @@ pub fn put_with_at<V: Timed + Drop, B: Becomes<V> + Drop>(
     nodes: &mut Slab<Node<V>>,
     root: &mut Option<usize>,
     timers: &mut Timers,
+    len: &mut usize,
     name: Name<'_>,
     how: B,
 ) -> Result<(), Memory>
     requires sound { Sound (get nodes.old) root.old }
     requires timed { IsTimed V.timer (get nodes.old) timers.old.timers }
+    requires counted { IsCounted V.size (get nodes.old) root.old len.old }
     ensures sound { Sound (get nodes.new) root.new }
     ensures timed { IsTimed V.timer (get nodes.new) timers.new.timers }
+    ensures counted { IsCounted V.size (get nodes.new) root.new len.new }
     ensures ok { OnOk result ((q : List Field) → lookup (get nodes.new) root.new q
         ≡ cond (eq_by_cmp name_cmp q (components name.entry))
         (Some (B.becomes how (lookup (get nodes.old) root.old (components name.entry))))
@@ -203,35 +240,8 @@ pub fn put_with_at<V: Timed + Drop, B: Becomes<V> + Drop>(
 {
     timers.reserve()?;
     let k = make_path(alloc, nodes, root, name)?;
-    let old = take_timed(nodes, timers, k);
-    put_timed(nodes, timers, k, how.apply(old));
-    Ok(())
-}
-
-/// Sets the value of a name, and its timer.
-pub fn put_at<V: Timed + Drop>(
-    alloc: Global,
-    nodes: &mut Slab<Node<V>>,
-    root: &mut Option<usize>,
-    timers: &mut Timers,
-    name: Name<'_>,
-    value: V,
-) -> Result<(), Memory>
-    requires sound { Sound (get nodes.old) root.old }
-    requires timed { IsTimed V.timer (get nodes.old) timers.old.timers }
-    ensures sound { Sound (get nodes.new) root.new }
-    ensures timed { IsTimed V.timer (get nodes.new) timers.new.timers }
-    ensures ok { OnOk result ((q : List Field) → lookup (get nodes.new) root.new q
-        ≡ cond (eq_by_cmp name_cmp q (components name.entry)) (Some value)
-        (lookup (get nodes.old) root.old q)) }
-    ensures err { OnErr result (SameLookups (get nodes.old) root.old (get nodes.new) root.new) }
-    ensures tidy { (j : ℕ) → IsBare (get nodes.new) j → IsBare (get nodes.old) j }
-    ensures promised { IsSome (walk (get nodes.old) root.old (components name.entry))
-        → set.len timers.old.timers < timers.old.capacity → IsOk result }
-{
-    timers.reserve()?;
-    let k = make_path(alloc, nodes, root, name)?;
-    put_timed(nodes, timers, k, value);
+    let old = take_timed(nodes, timers, len, k);
+    put_timed(nodes, timers, len, k, how.apply(old));
     Ok(())
 }
 
@@ -240,13 +250,16 @@ pub fn change_all_timed<V: Timed + Drop, C: Change<V>>(
     nodes: &mut Slab<Node<V>>,
     root: &mut Option<usize>,
     timers: &mut Timers,
+    len: &mut usize,
     kept: Option<usize>,
     how: &C,
 )
     requires sound { Sound (get nodes.old) root.old }
     requires timed { IsTimed V.timer (get nodes.old) timers.old.timers }
+    requires counted { IsCounted V.size (get nodes.old) root.old len.old }
     ensures sound { Sound (get nodes.new) root.new }
     ensures timed { IsTimed V.timer (get nodes.new) timers.new.timers }
+    ensures counted { IsCounted V.size (get nodes.new) root.new len.new }
     ensures tidy { IsTidy (get nodes.new) kept }
     ensures changed { (q : List Field) → lookup (get nodes.new) root.new q
         ≡ option_and_then (C.change how.now) (lookup (get nodes.old) root.old q) }
@@ -256,7 +269,7 @@ pub fn change_all_timed<V: Timed + Drop, C: Change<V>>(
     ensures capacity { timers.old.capacity ≤ timers.new.capacity }
 {
     for k in 0..nodes.capacity() {
-        change_timed(nodes, timers, k, how);
+        change_timed(nodes, timers, len, k, how);
     }
     prune_all(nodes, root, kept);
 }

@@ -1,12 +1,13 @@
-ghost use Rattle.std.specs.Prelude.{◌≡◌, ◌<◌, ℕ, None, Some, IsSome, IsOk, OnOk, OnErr, option_and_then};
+ghost use Rattle.std.specs.Prelude.{◌≡◌, ◌<◌, ◌^◌, ℕ, None, Some, IsSome, IsOk, OnOk, OnErr, option_and_then};
 ghost use Rattle.std.specs.Option.{option_map};
 ghost use Rattle.std.specs.FinMap as map;
 ghost use Rattle.ndn_names.specs.View.{components};
 ghost use Rattle.name_trie.specs.ByName.{revise, with_value};
+ghost use Rattle.name_trie.specs.Flat.{total};
 
 use crate::change::Change;
 use crate::node::{Node, find, make_path, prune, value_of};
-use crate::timed::{Becomes, Timed, change_all_timed, change_timed, expire, put_at, put_with_at};
+use crate::timed::{Becomes, Timed, change_all_timed, change_timed, expire, put_with_at};
 use crate::trie::{held_node, release};
 use ndn_names::{Name, NameBuf};
 use ndn_tlv::Memory;
@@ -25,6 +26,8 @@ pub struct TimedMap<V: Timed> {
     held: Option<(NameBuf, usize)>,
     // One for each value. While a call is prepared there is room for one more.
     timers: Timers,
+    // The sizes of all values together. It wraps.
+    len: usize,
 }
 
 impl<V: Timed> Model for TimedMap<V> {
@@ -33,7 +36,7 @@ impl<V: Timed> Model for TimedMap<V> {
     ghost use Rattle.name_trie.specs.NameTable.{NameTable, name_table_code};
     ghost use Rattle.name_trie.specs.Trie.{table_of, Sound};
     ghost use Rattle.name_trie.specs.Changes.{IsHeld, IsTidy};
-    ghost use Rattle.name_trie.specs.Timed.{IsTimed, HasTimerRoom};
+    ghost use Rattle.name_trie.specs.Timed.{IsTimed, HasTimerRoom, IsCounted};
 
     ghost Value = { NameTable V };
 
@@ -47,7 +50,8 @@ impl<V: Timed> Model for TimedMap<V> {
     ghost invariant = { λ m. Sound (get m.nodes) m.root × IsHeld (get m.nodes) m.root m.held
         × IsTidy (get m.nodes) (option_map (λ p. p.1) m.held)
         × IsTimed V.timer (get m.nodes) m.timers.timers
-        × HasTimerRoom m.held m.timers };
+        × HasTimerRoom m.held m.timers
+        × IsCounted V.size (get m.nodes) m.root m.len };
 }
 
 impl<V: Timed + Drop> TimedMap<V> {
@@ -61,7 +65,16 @@ impl<V: Timed + Drop> TimedMap<V> {
             root: None,
             held: None,
             timers: Timers::new(alloc),
+            len: 0,
         }
+    }
+
+    /// The sizes of all values together.
+    pub fn len(&self) -> usize
+        requires { total V.size (map.entries self.now.table) < 2 ^ 64 }
+        ensures { result ≡ total V.size (map.entries self.now.table) }
+    {
+        self.len
     }
 
     /// The value of a name.
@@ -70,27 +83,6 @@ impl<V: Timed + Drop> TimedMap<V> {
     {
         let k = find(&self.nodes, self.root, name)?;
         value_of(&self.nodes, k)
-    }
-
-    /// Sets the value of a name.
-    pub fn put(&mut self, name: Name<'_>, value: V) -> Result<(), Memory>
-        ensures ok { OnOk result
-            (self.new.table ≡ map.insert self.old.table (components name.entry) value) }
-        ensures err { OnErr result (self.new.table ≡ self.old.table) }
-        ensures ended { self.new.prepared ≡ None }
-        ensures promised { self.old.prepared ≡ Some (components name.entry) → IsOk result }
-    {
-        let held = self.held.take();
-        let result = put_at(
-            self.alloc,
-            &mut self.nodes,
-            &mut self.root,
-            &mut self.timers,
-            name,
-            value,
-        );
-        release(&mut self.nodes, &mut self.root, held);
-        result
     }
 
     /// Puts what a name's value becomes in its place.
@@ -108,6 +100,7 @@ impl<V: Timed + Drop> TimedMap<V> {
             &mut self.nodes,
             &mut self.root,
             &mut self.timers,
+            &mut self.len,
             name,
             how,
         );
@@ -115,7 +108,7 @@ impl<V: Timed + Drop> TimedMap<V> {
         result
     }
 
-    /// Prepares one `put` of this name, which is then not refused memory.
+    /// Prepares one `put_with` of this name, which is then not refused memory.
     pub fn prepare(&mut self, name: Name<'_>) -> Result<(), Memory>
         ensures table { self.new.table ≡ self.old.table }
         ensures ok { OnOk result (self.new.prepared ≡ Some (components name.entry)) }
@@ -150,6 +143,7 @@ impl<V: Timed + Drop> TimedMap<V> {
             &mut self.nodes,
             &mut self.root,
             &mut self.timers,
+            &mut self.len,
             kept,
             now,
             how,
@@ -162,7 +156,14 @@ impl<V: Timed + Drop> TimedMap<V> {
         ensures prepared { self.new.prepared ≡ self.old.prepared }
     {
         let kept = held_node(&self.held);
-        change_all_timed(&mut self.nodes, &mut self.root, &mut self.timers, kept, how);
+        change_all_timed(
+            &mut self.nodes,
+            &mut self.root,
+            &mut self.timers,
+            &mut self.len,
+            kept,
+            how,
+        );
     }
 
     /// Changes the value of a name, if it has one.
@@ -175,7 +176,7 @@ impl<V: Timed + Drop> TimedMap<V> {
             return;
         };
         let kept = held_node(&self.held);
-        change_timed(&mut self.nodes, &mut self.timers, k, how);
+        change_timed(&mut self.nodes, &mut self.timers, &mut self.len, k, how);
         prune(&mut self.nodes, &mut self.root, k, kept);
     }
 }

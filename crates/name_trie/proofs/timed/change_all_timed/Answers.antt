@@ -1,10 +1,11 @@
-use Rattle.std.proofs.Common.{◌≡◌, ◌≢◌, ap, sym, ◌∙◌, arith}
+use Rattle.std.proofs.Common.{◌≡◌, ◌≢◌, ap, sym, ◌∙◌, refl, arith}
 use Rattle.std.specs.Option.{option_and_then}
 use Rattle.slab.specs.Slab.{get}
 use Rattle.name_trie.specs.Trie.{value}
 use Rattle.name_trie.proofs.Changed.{same_or}
 use Rattle.name_trie.proofs.Closed.{walk_turned, sound_turned}
 use Rattle.name_trie.proofs.Rings.{same_timers}
+use Rattle.name_trie.proofs.Totals.{counted_same, counted_turned}
 use Rattle.name_trie.proofs.timed.change_all_timed.Goals as goal
 
 pub loop-k-preserved : goal.loop-k-preserved
@@ -20,6 +21,7 @@ loop-k-preserved g c =
     record {
       sound = sound_turned k _ h h' turns root before.sound;
       timed = c.change_timed.ensures.timed;
+      counted = counted_turned g.V.Timed.size k _ h h' turns root before.sound (g.C.Change.change c.args.how.now) refl c.loop-k.len c.change_timed.new.len c.change_timed.ensures.counted before.counted;
       few = omega (arith, before.few, c.change_timed.ensures.few);
       capacity = omega (arith, before.capacity, c.change_timed.ensures.capacity);
       walks = λ q. walk_turned k _ h h' turns root q ∙ before.walks q;
@@ -34,3 +36,7 @@ loop-k-preserved g c =
 pub returns-clause-timed : goal.returns-clause-timed
 returns-clause-timed g c =
     same_timers g.V.Timed.timer (get c.loop-k.nodes) (get c.prune_all.new.nodes) c.loop-k.timers.timers c.prune_all.ensures.values c.loop-k.invariant.timed
+
+pub returns-clause-counted : goal.returns-clause-counted
+returns-clause-counted g c =
+    counted_same g.V.Timed.size (get c.loop-k.nodes) (get c.prune_all.new.nodes) c.args.root.now c.prune_all.new.root c.loop-k.len c.prune_all.ensures.same c.loop-k.invariant.counted

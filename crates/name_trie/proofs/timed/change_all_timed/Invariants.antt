@@ -4,7 +4,7 @@ use Rattle.std.specs.FinSet as set
 use Rattle.slab.specs.Slab.{get}
 use Rattle.ndn_tlv.specs.Element.{Field}
 use Rattle.name_trie.specs.Trie.{Sound, walk, value}
-use Rattle.name_trie.specs.Timed.{IsTimed}
+use Rattle.name_trie.specs.Timed.{IsTimed, IsCounted}
 use Rattle.name_trie.proofs.timed.change_all_timed.Given as goal
 
 abbrev pub invariant-loop-k : goal.invariant-loop-k
@@ -12,6 +12,7 @@ invariant-loop-k g l =
     record {
       sound : Sound (get l.nodes) l.root;
       timed : IsTimed g.V.Timed.timer (get l.nodes) l.timers.timers;
+      counted : IsCounted g.V.Timed.size (get l.nodes) l.root l.len;
       few : set.len l.timers.timers ≤ set.len l.fn.timers.timers;
       capacity : l.fn.timers.capacity ≤ l.timers.capacity;
       walks : (q : List Field) → walk (get l.nodes) l.root q ≡ walk (get l.fn.nodes) l.fn.root q;

@@ -12,7 +12,7 @@ retime-requires-clause-had g c = λ some.
     let timer = g.V.Timed.timer in
     let h = get c.args.nodes.now in
     let k = c.args.k in
-    let now : c.timer_at-new.result ≡ option_map timer (option_and_then (g.C.Change.change c.args.how.now) (value h k)) = c.timer_at-new.ensures ∙ ap (option_map timer) c.change_at-went.ensures.turns.here in
+    let now : c.timer_at-new.result ≡ option_map timer (option_and_then (g.C.Change.change c.args.how.now) (value h k)) = c.timer_at-new.ensures ∙ ap (option_map timer) c.change_at.ensures.turns.here in
     let had = had_timer timer (g.C.Change.change c.args.how.now) (value h k) (subst IsSome now some) in
     subst IsSome (sym (c.timer_at-old.ensures ∙ had.1)) refl
 
@@ -24,8 +24,8 @@ pub returns-clause-timed : goal.returns-clause-timed
 returns-clause-timed g c =
     let timer = g.V.Timed.timer in
     let h = get c.args.nodes.now in
-    let h' = get c.change_at-went.new.nodes in
+    let h' = get c.change_at.new.nodes in
     let k = c.args.k in
     let set : c.retime.new.timers.timers ≡ started k (timer_at timer h' k) (stopped k (timer_at timer h k) c.args.timers.now.timers) =
     c.retime.ensures.timers ∙ (λ i. started k (c.timer_at-new.ensures i) (stopped k (c.timer_at-old.ensures i) c.args.timers.now.timers)) in
-    subst (IsTimed timer h') (sym set) (retimed timer k h h' c.change_at-went.ensures.turns.others c.args.timers.now.timers c.requires)
+    subst (IsTimed timer h') (sym set) (retimed timer k h h' c.change_at.ensures.turns.others c.args.timers.now.timers c.requires)

@@ -1,4 +1,4 @@
-use Rattle.std.proofs.Common.{◌≡◌, ◌<◌, ℕ, ap, sym, subst, ◌∙◌, arith, inl, inr}
+use Rattle.std.proofs.Common.{◌≡◌, ◌<◌, ℕ, ap, sym, subst, ◌∙◌, refl, arith, inl, inr}
 use Rattle.std.specs.Prelude.{Some}
 use Rattle.std.specs.Option.{option_and_then, option_map}
 use Rattle.slab.specs.Slab.{get}
@@ -6,6 +6,7 @@ use Rattle.name_trie.specs.Trie.{value}
 use Rattle.name_trie.specs.Timed.{timer_at, started, stopped}
 use Rattle.name_trie.proofs.Closed.{sound_turned, walk_turned, bare_turned}
 use Rattle.name_trie.proofs.Rings.{due, fewer_due, rings_is, later_than, changed_early, none_due, same_timers}
+use Rattle.name_trie.proofs.Totals.{counted_same, counted_turned}
 use Rattle.name_trie.proofs.timed.expire.Goals as goal
 
 pub prune-requires : goal.prune-requires
@@ -36,6 +37,8 @@ loop-timer-preserved g c =
     record {
       sound = c.prune.ensures.sound;
       timed = same_timers g.V.Timed.timer h' (get c.prune.new.nodes) c.change_timed.new.timers.timers c.prune.ensures.values c.change_timed.ensures.timed;
+      counted = counted_same g.V.Timed.size h' (get c.prune.new.nodes) root c.prune.new.root c.change_timed.new.len c.prune.ensures.same
+          (counted_turned g.V.Timed.size k _ h h' turns root before.sound change refl c.loop-timer.len c.change_timed.new.len c.change_timed.ensures.counted before.counted);
       few = omega (arith, before.few, c.change_timed.ensures.few);
       capacity = omega (arith, before.capacity, c.change_timed.ensures.capacity);
       tidy = λ j bare. elim (c.prune.ensures.tidy j bare) as (λ _. c.args.kept ≡ Some j) [

@@ -6,7 +6,7 @@ use Rattle.slab.specs.Slab.{get}
 use Rattle.ndn_tlv.specs.Element.{Field}
 use Rattle.name_trie.specs.Trie.{Sound, walk, lookup}
 use Rattle.name_trie.specs.Changes.{IsTidy}
-use Rattle.name_trie.specs.Timed.{IsTimed}
+use Rattle.name_trie.specs.Timed.{IsTimed, IsCounted}
 use Rattle.name_trie.proofs.Rings.{due}
 use Rattle.name_trie.proofs.timed.expire.Given as goal
 
@@ -14,6 +14,7 @@ abbrev pub invariant-loop-timer : goal.invariant-loop-timer
 invariant-loop-timer g l = record {
   sound : Sound (get l.nodes) l.root;
   timed : IsTimed g.V.Timed.timer (get l.nodes) l.timers.timers;
+  counted : IsCounted g.V.Timed.size (get l.nodes) l.root l.len;
   few : set.len l.timers.timers ≤ set.len l.initial.timers.timers;
   capacity : l.initial.timers.capacity ≤ l.timers.capacity;
   tidy : IsTidy (get l.nodes) l.kept;

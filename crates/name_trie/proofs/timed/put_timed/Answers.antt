@@ -1,5 +1,5 @@
-use Rattle.std.proofs.Common.{◌≡◌, ap, sym, subst, ◌∙◌, arith}
-use Rattle.std.specs.Prelude.{Some}
+use Rattle.std.proofs.Common.{◌≡◌, ap, sym, subst, ◌∙◌}
+use Rattle.std.specs.Prelude.{Option, Some}
 use Rattle.std.specs.Option.{option_map, option_and_then}
 use Rattle.slab.specs.Slab.{get}
 use Rattle.name_trie.specs.Trie.{value}
@@ -8,7 +8,7 @@ use Rattle.name_trie.proofs.Rings.{retimed, set_others}
 use Rattle.name_trie.proofs.timed.put_timed.Goals as goal
 
 pub start-requires : goal.start-requires
-start-requires g c = λ _. omega (arith, c.requires.room, c.stop.ensures.few, c.stop.ensures.capacity)
+start-requires g c = λ _. c.requires.room
 
 pub returns-clause-timed : goal.returns-clause-timed
 returns-clause-timed g c =
@@ -19,7 +19,7 @@ returns-clause-timed g c =
     let old = c.args.timers.now.timers in
     let here : value h' k ≡ Some c.args.value = ap (option_and_then (λ n. n.value)) c.set_value.ensures.here in
     let now : c.start.new.timers.timers ≡ started k (timer_at timer h' k) (stopped k (timer_at timer h k) old) =
-    c.start.ensures.timers ∙ ap (λ d. started k (Some d) c.stop.new.timers.timers) c.timer.ensures
-    ∙ ap (λ o. started k (option_map timer o) c.stop.new.timers.timers) (sym here)
-    ∙ ap (started k (timer_at timer h' k)) (c.stop.ensures.timers ∙ ap (λ o. stopped k o old) c.timer_at-old.ensures) in
+    c.start.ensures.timers ∙ ap (λ d. started k (Some d) old) c.timer.ensures
+    ∙ ap (λ o. started k (option_map timer o) old) (sym here)
+    ∙ ap (λ (o : Option g.row.V.Denot). started k (timer_at timer h' k) (stopped k (option_map timer o) old)) (sym c.requires.empty) in
     subst (IsTimed timer h') (sym now) (retimed timer k h h' (set_others k h h' (Some c.args.value) c.set_value.ensures) old c.requires.timed)

@@ -1,4 +1,4 @@
-use Rattle.std.proofs.Common.{◌≡◌, inl, inr, ap, sym, ◌∙◌}
+use Rattle.std.proofs.Common.{◌≡◌, inl, inr, refl, ap, sym, ◌∙◌}
 use Rattle.std.specs.Prelude.{Option, None, Some}
 use Rattle.std.specs.Option.{option_and_then, option_map}
 use Rattle.std.specs.FinMap as map
@@ -10,6 +10,7 @@ use Rattle.name_trie.proofs.Walks.{get-table, same_table, remove_absent}
 use Rattle.name_trie.proofs.Closed.{walk_turned, sound_turned, lookup_turned, bare_turned, with_value_table}
 use Rattle.name_trie.proofs.Changed.{held_still}
 use Rattle.name_trie.proofs.Rings.{same_timers, still_room}
+use Rattle.name_trie.proofs.Totals.{counted_same, counted_turned}
 use Rattle.name_trie.proofs.timed_map.TimedMap.change.Goals as goal
 
 pub prune-requires : goal.prune-requires
@@ -31,6 +32,8 @@ invariant_of-self g c =
       ]),
       same_timers g.V.Timed.timer h1 (get c.prune.new.nodes) c.change_timed.new.timers.timers c.prune.ensures.values c.change_timed.ensures.timed,
       still_room c.self.inside.held c.self.inside.timers c.change_timed.new.timers c.change_timed.ensures.few c.change_timed.ensures.capacity c.self.invariant.4,
+      counted_same g.V.Timed.size h1 (get c.prune.new.nodes) root c.prune.new.root c.change_timed.new.len c.prune.ensures.same
+          (counted_turned g.V.Timed.size c.in-Some.k _ h h1 turns root c.self.invariant.0 (g.C.Change.change c.args.how.now) refl c.self.inside.len c.change_timed.new.len c.change_timed.ensures.counted c.self.invariant.5),
     )
 
 pub returns-clause-table : goal.returns-clause-table

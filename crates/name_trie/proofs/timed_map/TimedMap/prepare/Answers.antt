@@ -1,7 +1,28 @@
-use Rattle.std.proofs.Common.{ap, ◌∙◌}
+use Rattle.std.proofs.Common.{ap, ◌∙◌, rules}
 use Rattle.slab.specs.Slab.{get}
 use Rattle.name_trie.proofs.Walks.{same_table}
+use Rattle.name_trie.proofs.Totals.{counted_same}
 use Rattle.name_trie.proofs.timed_map.TimedMap.prepare.Goals as goal
+
+pub invariant_of-self-in_err-k : goal.invariant_of-self-in_err-k
+invariant_of-self-in_err-k g c = (
+  search rules,
+  search rules,
+  search rules,
+  search rules,
+  search rules,
+  counted_same g.V.Timed.size (get c.self.inside.nodes) (get c.make_path.new.nodes) c.self.inside.root c.make_path.new.root c.self.inside.len c.make_path.ensures.same c.self.invariant.5,
+)
+
+pub invariant_of-self-2 : goal.invariant_of-self-2
+invariant_of-self-2 g c = (
+  search rules,
+  search rules,
+  search rules,
+  search rules,
+  search rules,
+  counted_same g.V.Timed.size (get c.self.inside.nodes) (get c.make_path.new.nodes) c.self.inside.root c.make_path.new.root c.self.inside.len c.make_path.ensures.same c.self.invariant.5,
+)
 
 pub returns-in_err-k-clause-table : goal.returns-in_err-k-clause-table
 returns-in_err-k-clause-table g c =

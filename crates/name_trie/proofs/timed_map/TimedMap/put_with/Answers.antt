@@ -1,11 +1,22 @@
-use Rattle.std.proofs.Common.{◌≡◌, ap, sym, ◌∙◌}
+use Rattle.std.proofs.Common.{◌≡◌, ap, sym, ◌∙◌, rules}
 use Rattle.std.specs.FinMap as map
 use Rattle.slab.specs.Slab.{get}
 use Rattle.ndn_names.specs.View.{components}
 use Rattle.name_trie.specs.Trie.{lookup}
 use Rattle.name_trie.proofs.Walks.{get-table, same_table, put_table}
 use Rattle.name_trie.proofs.Changed.{on_ok_then, on_err_then}
+use Rattle.name_trie.proofs.Totals.{counted_same}
 use Rattle.name_trie.proofs.timed_map.TimedMap.put_with.Goals as goal
+
+pub invariant_of-self : goal.invariant_of-self
+invariant_of-self g c = (
+  search rules,
+  search rules,
+  search rules,
+  search rules,
+  search rules,
+  counted_same g.V.Timed.size (get c.put_with_at-result.new.nodes) (get c.release.new.nodes) c.put_with_at-result.new.root c.release.new.root c.put_with_at-result.new.len c.release.ensures.same c.put_with_at-result.ensures.counted,
+)
 
 pub returns-clause-ok : goal.returns-clause-ok
 returns-clause-ok g c =
