@@ -11,3 +11,4 @@ pub mod Rings
 pub mod Flat
 pub mod Least
 pub mod Totals
+pub mod Along

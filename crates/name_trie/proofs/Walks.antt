@@ -137,6 +137,14 @@ module _ {V : Type 0} (h : Heap V) where
   unfolding table_of
   get-table_long root q le = get-from_entries name_cmp-total (rows h 65 root) q ∙ rows_long 65 root q le
 
+  -- a name that leads to no value has none in the table
+  pub get_nothing : (root : Option ℕ) (q : List Field) → lookup h root q ≡ None → get (table_of h root) q ≡ None
+  get_nothing root q none =
+      elim (ltb (length q) 65) as (λ t. ltb (length q) 65 ≡ t → get (table_of h root) q ≡ None) [
+        | true ↦ λ t. get-table root q (omega (arith, ltb-true (length q) 65 t)) ∙ none
+        | false ↦ λ t. get-table_long root q (omega (arith, ltb-false (length q) 65 t))
+      ] refl
+
 module _ {V : Type 0} (h h' : Heap V) (root root' : Option ℕ) where
   pub by_length : {X : Type 0} (a b : Option X) (q : List Field) → (length q ≤ 64 → a ≡ b) → (65 ≤ length q → a ≡ b) → a ≡ b
   by_length a b q short long =
@@ -144,6 +152,12 @@ module _ {V : Type 0} (h h' : Heap V) (root root' : Option ℕ) where
         | true ↦ λ t. short (omega (arith, ltb-true (length q) 65 t))
         | false ↦ λ t. long (omega (arith, ltb-false (length q) 65 t))
       ] refl
+
+  -- a change of what a name leads to is one of the table
+  pub get_changed : (f : V → Option V) (q : List Field) → lookup h' root' q ≡ option_and_then f (lookup h root q) → get (table_of h' root') q ≡ option_and_then f (get (table_of h root) q)
+  get_changed f q is = by_length _ _ q
+      (λ le. get-table h' root' q le ∙ is ∙ sym (ap (option_and_then f) (get-table h root q le)))
+      (λ le. get-table_long h' root' q le ∙ sym (ap (option_and_then f) (get-table_long h root q le)))
 
   pub same_table : ((q : List Field) → lookup h' root' q ≡ lookup h root q) → table_of h' root' ≡ table_of h root
   same_table same = same_map name_cmp-total name_cmp-antisymmetric _ _ (λ q.

@@ -6,3 +6,4 @@ pub mod Changes
 pub mod Timed
 pub mod Flat
 pub mod Least
+pub mod Taken

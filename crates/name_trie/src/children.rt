@@ -1,4 +1,4 @@
-ghost use Rattle.std.specs.Prelude.{◌≡◌, ◌<◌, ◌≤◌, ℕ, None, Some, Option, List, length, insert, slice_set, slice_index_or, IfOk, IfErr, OnErr, OnOk, option_and_then, nat_eq, ◌==◌};
+ghost use Rattle.std.specs.Prelude.{◌≡◌, ◌<◌, ◌≤◌, ℕ, None, Some, Option, List, length, insert, slice_set, slice_index_or, IfOk, IfErr, OnErr, OnOk, option_and_then, nat_eq, ◌==◌, IsSome, IsTrue, false};
 ghost use lib.Dec.{T};
 ghost use Rattle.std.specs.FinMap as map;
 ghost use Rattle.ndn_tlv.specs.Element.{Field};
@@ -49,6 +49,19 @@ impl Children {
         ensures { result ≡ (map.len self.now == 0) }
     {
         self.rows.is_empty()
+    }
+
+    /// Whether there is a child whose component has this type or a lesser one.
+    pub fn has_up_to(&self, kind: u16) -> bool
+        ensures yes { IsTrue result
+            → (c : Field) × (c.0 ≤ kind) × IsSome (map.get self.now c) }
+        ensures no { result ≡ false
+            → (c : Field) → c.0 ≤ kind → map.get self.now c ≡ None }
+    {
+        match self.rows.first() {
+            Some(row) => row.0.view().kind <= kind,
+            None => false,
+        }
     }
 
     /// The children with their components, in canonical order.

@@ -7,11 +7,13 @@ mod component_buf;
 mod listing;
 mod name_map;
 mod node;
+mod take;
 mod timed;
 mod timed_map;
 mod trie;
 
 pub use change::Change;
 pub use name_map::NameMap;
+pub use take::Take;
 pub use timed::{Becomes, Timed};
 pub use timed_map::TimedMap;

@@ -1,4 +1,4 @@
-ghost use Rattle.std.specs.Prelude.{◌≡◌, ◌≢◌, ◌⊎◌, None, Some, Ok, option_copied, IfOk, IsSome, IsOk, OnErr, IfSome, ℕ, List, ◌+◌, ◌<◌, ◌≤◌, ◌^◌, ◌↔◌, IsTrue, length};
+ghost use Rattle.std.specs.Prelude.{◌≡◌, ◌≢◌, ◌⊎◌, None, Some, Ok, option_copied, IfOk, IsSome, IsOk, OnErr, IfSome, ℕ, List, ◌+◌, ◌<◌, ◌≤◌, ◌^◌, ◌↔◌, IsTrue, false, length};
 ghost use Rattle.std.specs.Option.{option_map};
 ghost use Rattle.std.specs.FinMap as map;
 ghost use Rattle.slab.specs.Slab.{get, slab_len, ContainsKey, SameValues};
@@ -29,6 +29,19 @@ pub fn child_of<V>(nodes: &Slab<Node<V>>, at: usize, component: Component<'_>) -
     ensures { result ≡ child (get nodes.now) at (field_of component.entry) }
 {
     nodes.get(at)?.children.get(component)
+}
+
+/// Whether a node has a child whose component has this type or a lesser one.
+pub fn has_child_up_to<V>(nodes: &Slab<Node<V>>, at: usize, kind: u16) -> bool
+    ensures yes { IsTrue result → (c : Field) × (c.0 ≤ kind)
+        × IsSome (child (get nodes.now) at c) }
+    ensures no { result ≡ false → (c : Field) → c.0 ≤ kind
+        → child (get nodes.now) at c ≡ None }
+{
+    match nodes.get(at) {
+        Some(node) => node.children.has_up_to(kind),
+        None => false,
+    }
 }
 
 /// The value of a node.

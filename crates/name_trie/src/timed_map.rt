@@ -1,15 +1,18 @@
-ghost use Rattle.std.specs.Prelude.{◌≡◌, ◌<◌, ◌^◌, ℕ, None, Some, IsSome, IsOk, OnOk, OnErr, option_and_then};
+ghost use Rattle.std.specs.Prelude.{◌≡◌, ◌<◌, ◌≤◌, ◌^◌, ℕ, List, [], ◌∷◌, ◌++◌, true, false, None, Some, IsSome, IsOk, OnOk, OnErr, option_and_then};
 ghost use Rattle.std.specs.Option.{option_map};
 ghost use Rattle.std.specs.FinMap as map;
-ghost use Rattle.ndn_names.specs.View.{components};
+ghost use Rattle.ndn_tlv.specs.Element.{Field};
+ghost use Rattle.ndn_names.specs.View.{components, field_of};
 ghost use Rattle.name_trie.specs.ByName.{revise, with_value};
 ghost use Rattle.name_trie.specs.Flat.{total};
+ghost use Rattle.name_trie.specs.Taken.{taken, taken_along, changed_along};
 
 use crate::change::Change;
-use crate::node::{Node, find, make_path, prune, value_of};
+use crate::node::{Node, child_of, find, has_child_up_to, make_path, prune, value_of};
+use crate::take::{Take, take_along, take_at};
 use crate::timed::{Becomes, Timed, change_all_timed, change_timed, expire, put_with_at};
 use crate::trie::{held_node, release};
-use ndn_names::{Name, NameBuf};
+use ndn_names::{Component, Name, NameBuf};
 use ndn_tlv::Memory;
 use slab::Slab;
 use std::alloc::Global;
@@ -177,6 +180,63 @@ impl<V: Timed + Drop> TimedMap<V> {
         };
         let kept = held_node(&self.held);
         change_timed(&mut self.nodes, &mut self.timers, &mut self.len, k, how);
+        prune(&mut self.nodes, &mut self.root, k, kept);
+    }
+
+    /// Takes from the values of a name's proper prefixes, the shortest first, and of the name, in
+    /// one walk. Answers whether the name may have values of names with one component more, of
+    /// this type or a lesser one.
+    pub fn take_along<T: Take<V>>(&mut self, name: Name<'_>, kind: u16, how: &mut T) -> bool
+        ensures changed { (q : List Field) → map.get self.new.table q ≡ option_and_then
+            (changed_along (T.left true) (T.left false) q (components name.entry))
+            (map.get self.old.table q) }
+        ensures taken { how.new ≡ taken_along (T.taken true) (T.taken false) how.old
+            (map.get self.old.table) [] (components name.entry) }
+        ensures below { result ≡ false → (c : Field) → c.0 ≤ kind
+            → map.get self.new.table (components name.entry ++ c ∷ []) ≡ None }
+        ensures prepared { self.new.prepared ≡ self.old.prepared }
+    {
+        let Some(end) = take_along(
+            &mut self.nodes,
+            self.root,
+            &mut self.timers,
+            &mut self.len,
+            name,
+            how,
+        ) else {
+            return false;
+        };
+        let below = end.is_whole && has_child_up_to(&self.nodes, end.at, kind);
+        let kept = held_node(&self.held);
+        prune(&mut self.nodes, &mut self.root, end.at, kept);
+        below
+    }
+
+    /// Takes from the value of a name with one component more, as from a name's own.
+    pub fn take_below<T: Take<V>>(&mut self, name: Name<'_>, component: Component<'_>, how: &mut T)
+        ensures table { self.new.table ≡ with_value self.old.table
+            (components name.entry ++ field_of component.entry ∷ [])
+            (option_and_then (T.left true) (map.get self.old.table
+            (components name.entry ++ field_of component.entry ∷ []))) }
+        ensures taken { how.new ≡ taken (T.taken true) how.old (map.get self.old.table
+            (components name.entry ++ field_of component.entry ∷ [])) }
+        ensures prepared { self.new.prepared ≡ self.old.prepared }
+    {
+        let Some(at) = find(&self.nodes, self.root, name) else {
+            return;
+        };
+        let Some(k) = child_of(&self.nodes, at, component) else {
+            return;
+        };
+        let kept = held_node(&self.held);
+        take_at(
+            &mut self.nodes,
+            &mut self.timers,
+            &mut self.len,
+            k,
+            true,
+            how,
+        );
         prune(&mut self.nodes, &mut self.root, k, kept);
     }
 }

@@ -1,0 +1,31 @@
+use Rattle.std.proofs.Common.{◌≡◌, ap, sym, subst, ◌∙◌, refl}
+use Rattle.std.specs.Prelude.{IsSome}
+use Rattle.std.specs.Option.{option_map, option_and_then}
+use Rattle.slab.specs.Slab.{get}
+use Rattle.name_trie.specs.Trie.{value}
+use Rattle.name_trie.specs.Timed.{timer_at, IsTimed, started, stopped}
+use Rattle.name_trie.proofs.Rings.{retimed, timer_there, had_timer}
+use Rattle.name_trie.proofs.take.take_at.Goals as goal
+
+pub retime-requires-clause-had : goal.retime-requires-clause-had
+retime-requires-clause-had g c = λ some.
+    let timer = g.V.Timed.timer in
+    let h = get c.args.nodes.now in
+    let k = c.args.k in
+    let now : c.timer_at-new.result ≡ option_map timer (option_and_then (g.T.Take.left c.args.is_own) (value h k)) = c.timer_at-new.ensures ∙ ap (option_map timer) c.take_from.ensures.turns.here in
+    let had = had_timer timer (g.T.Take.left c.args.is_own) (value h k) (subst IsSome now some) in
+    subst IsSome (sym (c.timer_at-old.ensures ∙ had.1)) refl
+
+pub retime-requires-clause-there : goal.retime-requires-clause-there
+retime-requires-clause-there g c = λ d is.
+    timer_there g.V.Timed.timer (get c.args.nodes.now) c.args.timers.now.timers c.requires c.args.k d (sym c.timer_at-old.ensures ∙ is)
+
+pub returns-clause-timed : goal.returns-clause-timed
+returns-clause-timed g c =
+    let timer = g.V.Timed.timer in
+    let h = get c.args.nodes.now in
+    let h' = get c.take_from.new.nodes in
+    let k = c.args.k in
+    let set : c.retime.new.timers.timers ≡ started k (timer_at timer h' k) (stopped k (timer_at timer h k) c.args.timers.now.timers) =
+    c.retime.ensures.timers ∙ (λ i. started k (c.timer_at-new.ensures i) (stopped k (c.timer_at-old.ensures i) c.args.timers.now.timers)) in
+    subst (IsTimed timer h') (sym set) (retimed timer k h h' c.take_from.ensures.turns.others c.args.timers.now.timers c.requires)

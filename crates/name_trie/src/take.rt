@@ -1,0 +1,131 @@
+ghost use Rattle.std.specs.Prelude.{◌≡◌, ◌⊎◌, ◌≤◌, ℕ, Bool, true, false, List, [], Option, None, Some, IsTrue, IfSome, MatchOption};
+ghost use Rattle.std.specs.Option.{option_map, option_and_then};
+ghost use Rattle.std.specs.FinSet as set;
+ghost use Rattle.slab.specs.Slab.{get, SameValues};
+ghost use Rattle.ndn_tlv.specs.Element.{Field};
+ghost use Rattle.ndn_names.specs.View.{components};
+ghost use Rattle.name_trie.specs.Trie.{value as value_in, walk, lookup, Sound};
+ghost use Rattle.name_trie.specs.Changes.{Turns, IsBare};
+ghost use Rattle.name_trie.specs.Timed.{IsTimed, IsCounted, Recounts, size_at as size_in};
+ghost use Rattle.name_trie.specs.Taken.{taken, taken_along, changed_along};
+
+use crate::change::take_value;
+use crate::node::{Node, child_of, set_value};
+use crate::timed::{Timed, recount, retime, size_at, timer_at};
+use ndn_names::Name;
+use slab::Slab;
+use timers::Timers;
+
+/// What takes something out of the values of a name and of its prefixes.
+pub trait Take<V> {
+    /// What it becomes; `true` says that the value is the name's own.
+    ghost taken: { Bool → Self → V → Self };
+
+    /// What is left of the value.
+    ghost left: { Bool → V → Option V };
+
+    /// Takes from a value, which is the name's own or that of a proper prefix.
+    fn take(&mut self, value: V, is_own: bool) -> Option<V>
+        ensures taken { self.new ≡ taken is_own self.old value }
+        ensures left { result ≡ left is_own value };
+}
+
+/// Takes from a node's value, if it has one.
+fn take_from<V: Drop, T: Take<V>>(nodes: &mut Slab<Node<V>>, k: usize, is_own: bool, how: &mut T)
+    ensures turns { Turns k (option_and_then (T.left is_own) (value_in (get nodes.old) k))
+        (get nodes.old) (get nodes.new) }
+    ensures taken { how.new ≡ taken (T.taken is_own) how.old (value_in (get nodes.old) k) }
+{
+    let Some(value) = take_value(nodes, k) else {
+        return;
+    };
+    let Some(left) = how.take(value, is_own) else {
+        return;
+    };
+    set_value(nodes, k, Some(left));
+}
+
+/// Takes from a node's value, if it has one. Its timer and the count follow.
+pub fn take_at<V: Timed + Drop, T: Take<V>>(
+    nodes: &mut Slab<Node<V>>,
+    timers: &mut Timers,
+    len: &mut usize,
+    k: usize,
+    is_own: bool,
+    how: &mut T,
+)
+    requires { IsTimed V.timer (get nodes.old) timers.old.timers }
+    ensures turns { Turns k (option_and_then (T.left is_own) (value_in (get nodes.old) k))
+        (get nodes.old) (get nodes.new) }
+    ensures taken { how.new ≡ taken (T.taken is_own) how.old (value_in (get nodes.old) k) }
+    ensures timed { IsTimed V.timer (get nodes.new) timers.new.timers }
+    ensures counted { Recounts (size_in V.size (get nodes.old) k)
+        (size_in V.size (get nodes.new) k) len.old len.new }
+    ensures few { set.len timers.new.timers ≤ set.len timers.old.timers }
+    ensures capacity { timers.old.capacity ≤ timers.new.capacity }
+{
+    let old = timer_at(nodes, k);
+    let was = size_at(nodes, k);
+    take_from(nodes, k, is_own, how);
+    let new = timer_at(nodes, k);
+    let is = size_at(nodes, k);
+    retime(timers, k, old, new);
+    *len = recount(*len, was, is);
+}
+
+/// The last node on the walk along a name, and whether it is the name's.
+#[derive(Clone, Copy)]
+pub struct End {
+    pub at: usize,
+    pub is_whole: bool,
+}
+
+/// Takes from the values of a name's proper prefixes, the shortest first, and of the name.
+pub fn take_along<V: Timed + Drop, T: Take<V>>(
+    nodes: &mut Slab<Node<V>>,
+    root: Option<usize>,
+    timers: &mut Timers,
+    len: &mut usize,
+    name: Name<'_>,
+    how: &mut T,
+) -> Option<End>
+    requires sound { Sound (get nodes.old) root }
+    requires timed { IsTimed V.timer (get nodes.old) timers.old.timers }
+    requires counted { IsCounted V.size (get nodes.old) root len.old }
+    ensures sound { Sound (get nodes.new) root }
+    ensures timed { IsTimed V.timer (get nodes.new) timers.new.timers }
+    ensures counted { IsCounted V.size (get nodes.new) root len.new }
+    ensures changed { (q : List Field) → lookup (get nodes.new) root q ≡ option_and_then
+        (changed_along (T.left true) (T.left false) q (components name.entry))
+        (lookup (get nodes.old) root q) }
+    ensures taken { how.new ≡ taken_along (T.taken true) (T.taken false) how.old
+        (lookup (get nodes.old) root) [] (components name.entry) }
+    ensures walks { (q : List Field) → walk (get nodes.new) root q ≡ walk (get nodes.old) root q }
+    ensures tidy { (j : ℕ) → IsBare (get nodes.new) j
+        → IsBare (get nodes.old) j ⊎ (option_map (λ end. end.at) result ≡ Some j) }
+    ensures whole { IfSome result (λ end. IsTrue end.is_whole
+        → walk (get nodes.new) root (components name.entry) ≡ Some end.at) }
+    ensures short { MatchOption result
+        (walk (get nodes.new) root (components name.entry) ≡ None)
+        (λ end. end.is_whole ≡ false
+        → walk (get nodes.new) root (components name.entry) ≡ None) }
+    ensures few { set.len timers.new.timers ≤ set.len timers.old.timers }
+    ensures capacity { timers.old.capacity ≤ timers.new.capacity }
+{
+    let mut end = None;
+    let mut next = root;
+    let mut rest = name.iter();
+    while let Some(at) = next {
+        let Some(component) = rest.next() else {
+            take_at(nodes, timers, len, at, true, how);
+            return Some(End { at, is_whole: true });
+        };
+        take_at(nodes, timers, len, at, false, how);
+        end = Some(End {
+            at,
+            is_whole: false,
+        });
+        next = child_of(nodes, at, component);
+    }
+    end
+}
