@@ -22,6 +22,18 @@ pub up_of : {V : Type 0} (o : Option (Node V)) (x : V) → option_and_then (λ n
 up_of None x e = absurd cc
 up_of (Some n) x e = (n.parent, refl)
 
+pub up_there : {V : Type 0} (f : Heap V) (j : ℕ) → IsSome (f j) → (u : Option ℕ) × (up f j ≡ Some u)
+up_there {V} f j some = elim (f j) as (λ (o : Option (Node V)). IsSome o → (u : Option ℕ) × (option_map (λ n. n.parent) o ≡ Some u)) [ None ↦ λ e. absurd cc | (Some n) ↦ λ e. (n.parent, refl) ] some
+
+-- a value that changes twice
+pub turned_twice : {V : Type 0} (k : ℕ) (v w : Option V) (h h1 h2 : Heap V) → Turns k v h h1 → Turns k w h1 h2 → Turns k w h h2
+turned_twice k v w h h1 h2 first second = record {
+  links = λ a c. second.links a c ∙ first.links a c;
+  ups = λ a. second.ups a ∙ first.ups a;
+  here = second.here;
+  others = λ a ne. second.others a ne ∙ first.others a ne;
+}
+
 module _ {V : Type 0} (k : ℕ) (v : Option V) (h h' : Heap V) (turns : Turns k v h h') where
   walk_same : (o : Option ℕ) (q : List Field) → walk h' o q ≡ walk h o q
   walk_same o [] = refl
@@ -90,9 +102,6 @@ module _ {V : Type 0} (k : ℕ) (v : Option V) (h h' : Heap V) (turns : Turns k 
                     omega (arith, same)
               ] refl
         ] refl is
-
-  up_there : (f : Heap V) (j : ℕ) → IsSome (f j) → (u : Option ℕ) × (up f j ≡ Some u)
-  up_there f j some = elim (f j) as (λ (o : Option (Node V)). IsSome o → (u : Option ℕ) × (option_map (λ n. n.parent) o ≡ Some u)) [ None ↦ λ e. absurd cc | (Some n) ↦ λ e. (n.parent, refl) ] some
 
   pub bare_turned : (j : ℕ) → j ≢ k → IsBare h' j → IsBare h j
   bare_turned j ne bare =

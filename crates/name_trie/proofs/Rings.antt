@@ -255,9 +255,9 @@ no_more k (Some d) (Some e) timers had there =
       | false ↦ λ is. omega (arith, is, gone k d timers (there d refl))
     ] added
 
-pub still_room : (held : Option (List Field × ℕ)) (old new : Waiting) → set.len new.timers ≤ set.len old.timers → old.capacity ≤ new.capacity → HasTimerRoom held old → HasTimerRoom held new
-still_room None old new few more room = tt
-still_room (Some p) old new few more room = omega (arith, few, more, room)
+pub still_room : (ready : Bool) (old new : Waiting) → set.len new.timers ≤ set.len old.timers → old.capacity ≤ new.capacity → HasTimerRoom ready old → HasTimerRoom ready new
+still_room false old new few more room = tt
+still_room true old new few more room = omega (arith, few, more, room)
 
 pub nothing_timed : {V : Type 0} (timer : V → ℕ) (h : Heap V) (timers : TimerSet) → ((j : ℕ) → h j ≡ None) → timers ≡ set.empty → IsTimed timer h timers
 nothing_timed timer h timers none is t = ap (λ s. contains s t) is ∙ contains-empty timer_cmp t ∙ ap (λ o. rings (option_map timer (option_and_then (λ n. n.value) o)) t.deadline) (sym (none t.key))

@@ -7,10 +7,9 @@ use Rattle.ndn_tlv.specs.Element.{Field}
 use Rattle.ndn_names.specs.Key.{name_cmp-total, name_cmp-antisymmetric}
 use Rattle.name_trie.specs.ByName.{ByName, with_value}
 use Rattle.name_trie.specs.Trie.{Heap, value, walk, table_of, Sound}
-use Rattle.name_trie.specs.Changes.{Turns, Sets, SameLookups}
+use Rattle.name_trie.specs.Changes.{Turns, SameLookups}
 use Rattle.name_trie.specs.Flat.{size_of, total}
 use Rattle.name_trie.specs.Timed.{size_at, Recounts, IsCounted}
-use Rattle.name_trie.proofs.Changed.{set_turns}
 use Rattle.name_trie.proofs.Closed.{up_of, lookup_turned, unturned, with_value_table}
 use Rattle.name_trie.proofs.Flat.{total-insert, total-remove}
 use Rattle.name_trie.proofs.Walks.{get-table, same_table}
@@ -48,10 +47,3 @@ module _ {V : Type 0} (size : V → ℕ) where
               let way = sound.reach k up_k.0 up_k.1 in
               counted_at way.0 way.1 way.2 len len' (λ sum sum' e. recounts sum sum' (e ∙ ap (λ w. sum + size_of size w) (sym turns.here))) is
         ] refl now
-
-  -- the value of a node that has none is set
-  pub counted_set : (k : ℕ) (v : V) (h h' : Heap V) → Sets k (Some v) h h' → value h k ≡ None → (root : Option ℕ) → Sound h root → (q : List Field) → length q ≤ 64 → walk h root q ≡ Some k
-      → (len len' : ℕ) → Recounts 0 (size v) len len' → IsCounted size h root len → IsCounted size h' root len'
-  counted_set k v h h' sets none root sound q le at len len' recounts is =
-      counted_at k (Some v) h h' (set_turns k (Some v) h h' sets) root sound q le at len len'
-      (λ sum sum' e. recounts sum sum' (ap (λ w. sum' + size_of size w) (sym none) ∙ e)) is

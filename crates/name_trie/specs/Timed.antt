@@ -1,6 +1,5 @@
 -- Values that have to be looked at at a moment, the timers for them, and their count.
-use Rattle.ndn_tlv.specs.Element.{Field}
-use Rattle.std.specs.Prelude.{◌≡◌, ◌<◌, ◌+◌, ◌%◌, ◌^◌, List, ℕ, Bool, false, ◌==◌, Option, None, Some}
+use Rattle.std.specs.Prelude.{◌≡◌, ◌<◌, ◌+◌, ◌%◌, ◌^◌, ℕ, Bool, true, false, ◌==◌, Option, None, Some}
 use Rattle.std.specs.Option.{option_map}
 use Rattle.std.specs.FinSet as set
 use Rattle.std.specs.FinMap.{entries}
@@ -34,9 +33,9 @@ started k None timers = timers
 started k (Some d) timers = set.insert timers (timer_for k d)
 
 -- while a call is prepared there is room for one timer more
-abbrev pub HasTimerRoom : Option (List Field × ℕ) → Waiting → Type 0
-HasTimerRoom None w = Unit {0}
-HasTimerRoom (Some p) w = set.len w.timers < w.capacity
+abbrev pub HasTimerRoom : Bool → Waiting → Type 0
+HasTimerRoom false w = Unit {0}
+HasTimerRoom true w = set.len w.timers < w.capacity
 
 -- ---- the count
 

@@ -4,6 +4,7 @@
 mod change;
 mod children;
 mod component_buf;
+mod held;
 mod listing;
 mod name_map;
 mod node;

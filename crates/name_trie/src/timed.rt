@@ -1,10 +1,6 @@
 ghost use Rattle.std.specs.Prelude.{◌≡◌, ◌+◌, ◌<◌, ◌≤◌, ℕ, List, Option, None, Some, IsSome, IsOk, OnOk, OnErr, cond, true};
 ghost use Rattle.std.specs.Option.{option_map, option_and_then};
 ghost use Rattle.std.specs.FinSet as set;
-ghost use Rattle.std.specs.FinMap as map;
-ghost use Rattle.std.specs.Ordering.{eq_by_cmp};
-ghost use Rattle.ndn_names.specs.Order.{name_cmp};
-ghost use Rattle.ndn_names.specs.View.{components};
 ghost use Rattle.slab.specs.Slab.{get};
 ghost use Rattle.ndn_tlv.specs.Element.{Field};
 ghost use Rattle.name_trie.specs.Trie.{value as value_in, walk, lookup, table_of, Sound};
@@ -12,11 +8,8 @@ ghost use Rattle.name_trie.specs.Changes.{Turns, Sets, SameLookups, IsBare, IsTi
 ghost use Rattle.name_trie.specs.Timed.{timer_at as timer_in, timer_for, stopped, started, IsTimed, size_at as size_in, Recounts, IsCounted};
 
 use crate::change::{Change, change_at, prune_all, take_value};
-use crate::node::{Node, make_path, prune, set_value, value_of};
-use ndn_names::Name;
-use ndn_tlv::Memory;
+use crate::node::{Node, prune, set_value, value_of};
 use slab::Slab;
-use std::alloc::Global;
 use timers::{Timer, Timers};
 
 /// A value that has to be looked at at a moment, and that counts for so many entries.
@@ -159,48 +152,36 @@ pub fn expire<V: Timed + Drop, C: Change<V>>(
     }
 }
 
-/// Takes a node's value, its timer and its count.
-pub fn take_timed<V: Timed + Drop>(
+/// Takes a node's value, and its timer.
+fn take_timed<V: Timed + Drop>(
     nodes: &mut Slab<Node<V>>,
     timers: &mut Timers,
-    len: &mut usize,
     k: usize,
 ) -> Option<V>
     requires { IsTimed V.timer (get nodes.old) timers.old.timers }
     ensures value { result ≡ value_in (get nodes.old) k }
     ensures turns { Turns k None (get nodes.old) (get nodes.new) }
     ensures timed { IsTimed V.timer (get nodes.new) timers.new.timers }
-    ensures counted { Recounts (size_in V.size (get nodes.old) k) 0 len.old len.new }
     ensures room { IsSome result → set.len timers.new.timers < timers.new.capacity }
     ensures few { set.len timers.new.timers ≤ set.len timers.old.timers }
     ensures capacity { timers.new.capacity ≡ timers.old.capacity }
 {
     let old = timer_at(nodes, k);
-    let was = size_at(nodes, k);
     stop(timers, k, old);
-    *len = recount(*len, was, 0);
     take_value(nodes, k)
 }
 
-/// Sets the value of a node that has none, its timer and its count.
-pub fn put_timed<V: Timed + Drop>(
-    nodes: &mut Slab<Node<V>>,
-    timers: &mut Timers,
-    len: &mut usize,
-    k: usize,
-    value: V,
-)
+/// Sets the value of a node that has none, and its timer.
+fn put_timed<V: Timed + Drop>(nodes: &mut Slab<Node<V>>, timers: &mut Timers, k: usize, value: V)
     requires timed { IsTimed V.timer (get nodes.old) timers.old.timers }
     requires node { IsSome (get nodes.old k) }
     requires empty { value_in (get nodes.old) k ≡ None }
     requires room { set.len timers.old.timers < timers.old.capacity }
     ensures sets { Sets k (Some value) (get nodes.old) (get nodes.new) }
     ensures timed { IsTimed V.timer (get nodes.new) timers.new.timers }
-    ensures counted { Recounts 0 (V.size value) len.old len.new }
     ensures capacity { timers.old.capacity ≤ timers.new.capacity }
 {
     let new = Some(value.timer());
-    *len = recount(*len, 0, value.size());
     set_value(nodes, k, Some(value));
     start(timers, k, new);
 }
@@ -213,36 +194,30 @@ pub trait Becomes<V> {
         ensures { result ≡ becomes self old };
 }
 
-/// Puts what a name's value becomes in its place, and its timer.
-pub fn put_with_at<V: Timed + Drop, B: Becomes<V> + Drop>(
-    alloc: Global,
+/// Puts what a node's value, or none, becomes in its place, its timer and its count. Where it has
+/// none there is room for a timer.
+pub fn replace_at<V: Timed + Drop, B: Becomes<V> + Drop>(
     nodes: &mut Slab<Node<V>>,
-    root: &mut Option<usize>,
     timers: &mut Timers,
     len: &mut usize,
-    name: Name<'_>,
+    k: usize,
     how: B,
-) -> Result<(), Memory>
-    requires sound { Sound (get nodes.old) root.old }
+)
     requires timed { IsTimed V.timer (get nodes.old) timers.old.timers }
-    requires counted { IsCounted V.size (get nodes.old) root.old len.old }
-    ensures sound { Sound (get nodes.new) root.new }
+    requires node { IsSome (get nodes.old k) }
+    requires room { value_in (get nodes.old) k ≡ None
+        → set.len timers.old.timers < timers.old.capacity }
+    ensures turns { Turns k (Some (B.becomes how (value_in (get nodes.old) k)))
+        (get nodes.old) (get nodes.new) }
     ensures timed { IsTimed V.timer (get nodes.new) timers.new.timers }
-    ensures counted { IsCounted V.size (get nodes.new) root.new len.new }
-    ensures ok { OnOk result ((q : List Field) → lookup (get nodes.new) root.new q
-        ≡ cond (eq_by_cmp name_cmp q (components name.entry))
-        (Some (B.becomes how (lookup (get nodes.old) root.old (components name.entry))))
-        (lookup (get nodes.old) root.old q)) }
-    ensures err { OnErr result (SameLookups (get nodes.old) root.old (get nodes.new) root.new) }
-    ensures tidy { (j : ℕ) → IsBare (get nodes.new) j → IsBare (get nodes.old) j }
-    ensures promised { IsSome (walk (get nodes.old) root.old (components name.entry))
-        → set.len timers.old.timers < timers.old.capacity → IsOk result }
+    ensures counted { Recounts (size_in V.size (get nodes.old) k)
+        (size_in V.size (get nodes.new) k) len.old len.new }
 {
-    timers.reserve()?;
-    let k = make_path(alloc, nodes, root, name)?;
-    let old = take_timed(nodes, timers, len, k);
-    put_timed(nodes, timers, len, k, how.apply(old));
-    Ok(())
+    let was = size_at(nodes, k);
+    let old = take_timed(nodes, timers, k);
+    put_timed(nodes, timers, k, how.apply(old));
+    let is = size_at(nodes, k);
+    *len = recount(*len, was, is);
 }
 
 /// Changes all values.

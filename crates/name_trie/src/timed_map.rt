@@ -8,10 +8,10 @@ ghost use Rattle.name_trie.specs.Flat.{total};
 ghost use Rattle.name_trie.specs.Taken.{taken, taken_along, changed_along};
 
 use crate::change::Change;
+use crate::held::{held_node, node_of, place_for, release, release_other};
 use crate::node::{Node, child_of, find, has_child_up_to, make_path, prune, value_of};
 use crate::take::{Take, take_along, take_at};
-use crate::timed::{Becomes, Timed, change_all_timed, change_timed, expire, put_with_at};
-use crate::trie::{held_node, release};
+use crate::timed::{Becomes, Timed, change_all_timed, change_timed, expire, replace_at};
 use ndn_names::{Component, Name, NameBuf};
 use ndn_tlv::Memory;
 use slab::Slab;
@@ -25,8 +25,11 @@ pub struct TimedMap<V: Timed> {
     alloc: Global,
     nodes: Slab<Node<V>>,
     root: Option<usize>,
-    // The name of the call that is prepared, and its node, which stays.
+    // The name that was prepared last, and its node, which stays: from it the calls of this name
+    // begin.
     held: Option<(NameBuf, usize)>,
+    // Whether the call that was prepared is still to come.
+    is_ready: bool,
     // One for each value. While a call is prepared there is room for one more.
     timers: Timers,
     // The sizes of all values together. It wraps.
@@ -34,7 +37,7 @@ pub struct TimedMap<V: Timed> {
 }
 
 impl<V: Timed> Model for TimedMap<V> {
-    ghost use Rattle.std.specs.Prelude.{option_map};
+    ghost use Rattle.std.specs.Prelude.{option_map, cond, None};
     ghost use Rattle.slab.specs.Slab.{get};
     ghost use Rattle.name_trie.specs.NameTable.{NameTable, name_table_code};
     ghost use Rattle.name_trie.specs.Trie.{table_of, Sound};
@@ -47,13 +50,13 @@ impl<V: Timed> Model for TimedMap<V> {
 
     ghost view = { λ m. record {
       table = table_of (get m.nodes) m.root;
-      prepared = option_map (λ p. p.0) m.held;
+      prepared = cond m.is_ready (option_map (λ p. p.0) m.held) None;
     } };
 
     ghost invariant = { λ m. Sound (get m.nodes) m.root × IsHeld (get m.nodes) m.root m.held
         × IsTidy (get m.nodes) (option_map (λ p. p.1) m.held)
         × IsTimed V.timer (get m.nodes) m.timers.timers
-        × HasTimerRoom m.held m.timers
+        × HasTimerRoom m.is_ready m.timers
         × IsCounted V.size (get m.nodes) m.root m.len };
 }
 
@@ -67,6 +70,7 @@ impl<V: Timed + Drop> TimedMap<V> {
             nodes: Slab::new(alloc),
             root: None,
             held: None,
+            is_ready: false,
             timers: Timers::new(alloc),
             len: 0,
         }
@@ -84,7 +88,7 @@ impl<V: Timed + Drop> TimedMap<V> {
     pub fn get(&self, name: Name<'_>) -> Option<&V>
         ensures { option_map (λ v. v.now) result ≡ map.get self.now.table (components name.entry) }
     {
-        let k = find(&self.nodes, self.root, name)?;
+        let k = node_of(&self.nodes, self.root, &self.held, name)?;
         value_of(&self.nodes, k)
     }
 
@@ -98,17 +102,18 @@ impl<V: Timed + Drop> TimedMap<V> {
         ensures promised { self.old.prepared ≡ Some (components name.entry) → IsOk result }
     {
         let held = self.held.take();
-        let result = put_with_at(
+        self.held = release_other(&mut self.nodes, &mut self.root, held, name);
+        self.is_ready = false;
+        let k = place_for(
             self.alloc,
             &mut self.nodes,
             &mut self.root,
             &mut self.timers,
-            &mut self.len,
+            &self.held,
             name,
-            how,
-        );
-        release(&mut self.nodes, &mut self.root, held);
-        result
+        )?;
+        replace_at(&mut self.nodes, &mut self.timers, &mut self.len, k, how);
+        Ok(())
     }
 
     /// Prepares one `put_with` of this name, which is then not refused memory.
@@ -117,11 +122,14 @@ impl<V: Timed + Drop> TimedMap<V> {
         ensures ok { OnOk result (self.new.prepared ≡ Some (components name.entry)) }
         ensures err { OnErr result (self.new.prepared ≡ None) }
     {
-        self.forget_prepared();
+        let held = self.held.take();
+        release(&mut self.nodes, &mut self.root, held);
+        self.is_ready = false;
         let key = NameBuf::from_name(self.alloc, name)?;
         self.timers.reserve()?;
         let k = make_path(self.alloc, &mut self.nodes, &mut self.root, name)?;
         self.held = Some((key, k));
+        self.is_ready = true;
         Ok(())
     }
 
@@ -132,6 +140,7 @@ impl<V: Timed + Drop> TimedMap<V> {
     {
         let held = self.held.take();
         release(&mut self.nodes, &mut self.root, held);
+        self.is_ready = false;
     }
 
     /// Changes the values that are due.
@@ -175,7 +184,7 @@ impl<V: Timed + Drop> TimedMap<V> {
             (option_and_then (C.change how.now) (map.get self.old.table (components name.entry))) }
         ensures prepared { self.new.prepared ≡ self.old.prepared }
     {
-        let Some(k) = find(&self.nodes, self.root, name) else {
+        let Some(k) = node_of(&self.nodes, self.root, &self.held, name) else {
             return;
         };
         let kept = held_node(&self.held);

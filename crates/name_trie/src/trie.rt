@@ -11,6 +11,7 @@ ghost use Rattle.name_trie.specs.Trie.{value as value_in, walk, lookup, Sound};
 ghost use Rattle.name_trie.specs.Changes.{SameLookups, IsBare, IsTidy};
 
 use crate::change::{Change, change_all, change_at};
+use crate::held::{held_node, release};
 use crate::listing::list;
 use crate::node::{Node, find, longest, make_path, prune, set_value, value_of};
 use ndn_names::{Name, NameBuf};
@@ -47,34 +48,6 @@ impl<V> Model for NameTrie<V> {
 
     ghost invariant = { λ m. Sound (get m.nodes) m.root × IsHeld (get m.nodes) m.root m.held
         × IsTidy (get m.nodes) (option_map (λ p. p.1) m.held) };
-}
-
-/// Ends what is held.
-pub fn release<V: Drop>(
-    nodes: &mut Slab<Node<V>>,
-    root: &mut Option<usize>,
-    held: Option<(NameBuf, usize)>,
-)
-    requires { Sound (get nodes.old) root.old }
-    ensures sound { Sound (get nodes.new) root.new }
-    ensures same { SameLookups (get nodes.old) root.old (get nodes.new) root.new }
-    ensures tidy { IsTidy (get nodes.old) (option_map (λ p. p.1) held)
-        → IsTidy (get nodes.new) None }
-    ensures values { (j : ℕ) → value_in (get nodes.new) j ≡ value_in (get nodes.old) j }
-{
-    if let Some((_, k)) = held {
-        prune(nodes, root, k, None);
-    }
-}
-
-/// The node that is held.
-pub fn held_node(held: &Option<(NameBuf, usize)>) -> Option<usize>
-    ensures { result ≡ option_map (λ p. p.1) held.now }
-{
-    match held {
-        Some((_, k)) => Some(*k),
-        None => None,
-    }
 }
 
 /// Sets the value of a name.

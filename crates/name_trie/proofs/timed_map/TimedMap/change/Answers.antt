@@ -31,7 +31,7 @@ invariant_of-self g c =
         | (inr was) ↦ c.self.invariant.2 j (bare_turned c.in-Some.k _ h h1 turns j was.0 was.1)
       ]),
       same_timers g.V.Timed.timer h1 (get c.prune.new.nodes) c.change_timed.new.timers.timers c.prune.ensures.values c.change_timed.ensures.timed,
-      still_room c.self.inside.held c.self.inside.timers c.change_timed.new.timers c.change_timed.ensures.few c.change_timed.ensures.capacity c.self.invariant.4,
+      still_room c.self.inside.is_ready c.self.inside.timers c.change_timed.new.timers c.change_timed.ensures.few c.change_timed.ensures.capacity c.self.invariant.4,
       counted_same g.V.Timed.size h1 (get c.prune.new.nodes) root c.prune.new.root c.change_timed.new.len c.prune.ensures.same
           (counted_turned g.V.Timed.size c.in-Some.k _ h h1 turns root c.self.invariant.0 (g.C.Change.change c.args.how.now) refl c.self.inside.len c.change_timed.new.len c.change_timed.ensures.counted c.self.invariant.5),
     )

@@ -70,7 +70,7 @@ invariant_of-self g c =
         | (inr was) ↦ c.self.invariant.2 j (bare_turned k _ h h1 turns j was.0 was.1)
       ]),
       same_timers g.V.Timed.timer h1 (get c.prune.new.nodes) c.take_at.new.timers.timers c.prune.ensures.values c.take_at.ensures.timed,
-      still_room c.self.inside.held c.self.inside.timers c.take_at.new.timers c.take_at.ensures.few c.take_at.ensures.capacity c.self.invariant.4,
+      still_room c.self.inside.is_ready c.self.inside.timers c.take_at.new.timers c.take_at.ensures.few c.take_at.ensures.capacity c.self.invariant.4,
       counted_same g.V.Timed.size h1 (get c.prune.new.nodes) root c.prune.new.root c.take_at.new.len c.prune.ensures.same
           (counted_turned g.V.Timed.size k _ h h1 turns root c.self.invariant.0 (g.T.Take.left true) refl c.self.inside.len c.take_at.new.len c.take_at.ensures.counted c.self.invariant.5),
     )

@@ -1,0 +1,177 @@
+ghost use Rattle.std.specs.Prelude.{◌≡◌, ◌⊎◌, ◌<◌, ◌≤◌, None, Some, Ok, ℕ, List, IfOk, OnOk, IfSome, IsOk, IsSome};
+ghost use Rattle.std.specs.Option.{option_map};
+ghost use Rattle.std.specs.FinSet as set;
+ghost use Rattle.slab.specs.Slab.{get};
+ghost use Rattle.ndn_tlv.specs.Element.{Field};
+ghost use Rattle.ndn_names.specs.View.{components};
+ghost use Rattle.name_trie.specs.Trie.{value as value_in, walk, lookup, Sound};
+ghost use Rattle.name_trie.specs.Changes.{SameLookups, IsBare, IsHeld, IsTidy};
+
+use crate::node::{Node, find, make_path, prune, value_of};
+use ndn_names::{Name, NameBuf};
+use ndn_tlv::Memory;
+use slab::Slab;
+use std::alloc::Global;
+use timers::Timers;
+
+/// Ends what is held.
+pub fn release<V: Drop>(
+    nodes: &mut Slab<Node<V>>,
+    root: &mut Option<usize>,
+    held: Option<(NameBuf, usize)>,
+)
+    requires { Sound (get nodes.old) root.old }
+    ensures sound { Sound (get nodes.new) root.new }
+    ensures same { SameLookups (get nodes.old) root.old (get nodes.new) root.new }
+    ensures tidy { IsTidy (get nodes.old) (option_map (λ p. p.1) held)
+        → IsTidy (get nodes.new) None }
+    ensures values { (j : ℕ) → value_in (get nodes.new) j ≡ value_in (get nodes.old) j }
+{
+    if let Some((_, k)) = held {
+        prune(nodes, root, k, None);
+    }
+}
+
+/// The node that is held.
+pub fn held_node(held: &Option<(NameBuf, usize)>) -> Option<usize>
+    ensures { result ≡ option_map (λ p. p.1) held.now }
+{
+    match held {
+        Some((_, k)) => Some(*k),
+        None => None,
+    }
+}
+
+/// The node that is held, where it is that of this name.
+fn held_for(held: &Option<(NameBuf, usize)>, name: Name<'_>) -> Option<usize>
+    ensures yes { IfSome result (λ k. held.now ≡ Some (components name.entry, k)) }
+    ensures no { result ≡ None → (k : ℕ) → held.now ≡ Some (components name.entry, k) → ⊥ }
+{
+    if let Some((key, k)) = held {
+        if key.view() == name {
+            return Some(*k);
+        }
+    }
+    None
+}
+
+/// As `find`, without a walk where the name is the one that is held.
+pub fn node_of<V>(
+    nodes: &Slab<Node<V>>,
+    root: Option<usize>,
+    held: &Option<(NameBuf, usize)>,
+    name: Name<'_>,
+) -> Option<usize>
+    requires { IsHeld (get nodes.now) root held.now }
+    ensures { result ≡ walk (get nodes.now) root (components name.entry) }
+{
+    if let Some(k) = held_for(held, name) {
+        return Some(k);
+    }
+    find(nodes, root, name)
+}
+
+/// Ends what is held, but for this name. Gives what is held then.
+pub fn release_other<V: Drop>(
+    nodes: &mut Slab<Node<V>>,
+    root: &mut Option<usize>,
+    held: Option<(NameBuf, usize)>,
+    name: Name<'_>,
+) -> Option<(NameBuf, usize)>
+    requires sound { Sound (get nodes.old) root.old }
+    requires held { IsHeld (get nodes.old) root.old held }
+    ensures sound { Sound (get nodes.new) root.new }
+    ensures same { SameLookups (get nodes.old) root.old (get nodes.new) root.new }
+    ensures held { IsHeld (get nodes.new) root.new result }
+    ensures own { IfSome result (λ p. p.0 ≡ components name.entry) }
+    ensures kept { (k : ℕ) → held ≡ Some (components name.entry, k) → IsSome result }
+    ensures tidy { IsTidy (get nodes.old) (option_map (λ p. p.1) held)
+        → IsTidy (get nodes.new) (option_map (λ p. p.1) result) }
+    ensures values { (j : ℕ) → value_in (get nodes.new) j ≡ value_in (get nodes.old) j }
+{
+    if held_for(&held, name).is_some() {
+        return held;
+    }
+    release(nodes, root, held);
+    None
+}
+
+/// As `make_path`, without a walk where a node is held, which is that of this name.
+fn path_to<V: Drop>(
+    alloc: Global,
+    nodes: &mut Slab<Node<V>>,
+    root: &mut Option<usize>,
+    held: &Option<(NameBuf, usize)>,
+    name: Name<'_>,
+) -> Result<usize, Memory>
+    requires sound { Sound (get nodes.old) root.old }
+    requires held { IsHeld (get nodes.old) root.old held.now }
+    requires own { IfSome held.now (λ p. p.0 ≡ components name) }
+    ensures sound { Sound (get nodes.new) root.new }
+    ensures same { SameLookups (get nodes.old) root.old (get nodes.new) root.new }
+    ensures ok { IfOk result
+        (λ k. walk (get nodes.new) root.new (components name.entry) ≡ Some k) }
+    ensures held { IsHeld (get nodes.new) root.new held.now }
+    ensures values { (j : ℕ) → value_in (get nodes.new) j ≡ value_in (get nodes.old) j }
+    ensures tidy { (j : ℕ) → IsBare (get nodes.new) j → (result ≡ Ok j) ⊎ IsBare (get nodes.old) j }
+    ensures known { IsSome (walk (get nodes.old) root.old (components name.entry)) → IsOk result }
+{
+    match held {
+        Some((_, k)) => Ok(*k),
+        None => make_path(alloc, nodes, root, name),
+    }
+}
+
+/// Makes room for the timer of a node's value, where it has none.
+fn reserve_for<V>(nodes: &Slab<Node<V>>, timers: &mut Timers, k: usize) -> Result<(), Memory>
+    ensures timers { timers.new.timers ≡ timers.old.timers }
+    ensures capacity { timers.old.capacity ≤ timers.new.capacity }
+    ensures ok { OnOk result (value_in (get nodes.now) k ≡ None
+        → set.len timers.new.timers < timers.new.capacity) }
+    ensures known { IsSome (value_in (get nodes.now) k) → IsOk result }
+    ensures promised { set.len timers.old.timers < timers.old.capacity → IsOk result }
+{
+    if value_of(nodes, k).is_some() {
+        return Ok(());
+    }
+    timers.reserve()?;
+    Ok(())
+}
+
+/// The node of a name, made where it is missing, and room for the timer of its value. The name is
+/// the one that is held, or none is held.
+pub fn place_for<V: Drop>(
+    alloc: Global,
+    nodes: &mut Slab<Node<V>>,
+    root: &mut Option<usize>,
+    timers: &mut Timers,
+    held: &Option<(NameBuf, usize)>,
+    name: Name<'_>,
+) -> Result<usize, Memory>
+    requires sound { Sound (get nodes.old) root.old }
+    requires held { IsHeld (get nodes.old) root.old held.now }
+    requires own { IfSome held.now (λ p. p.0 ≡ components name) }
+    ensures sound { Sound (get nodes.new) root.new }
+    ensures same { SameLookups (get nodes.old) root.old (get nodes.new) root.new }
+    ensures ok { IfOk result
+        (λ k. walk (get nodes.new) root.new (components name.entry) ≡ Some k) }
+    ensures room { IfOk result (λ k. value_in (get nodes.new) k ≡ None
+        → set.len timers.new.timers < timers.new.capacity) }
+    ensures held { IsHeld (get nodes.new) root.new held.now }
+    ensures values { (j : ℕ) → value_in (get nodes.new) j ≡ value_in (get nodes.old) j }
+    ensures tidy { IsTidy (get nodes.old) (option_map (λ p. p.1) held.now)
+        → (j : ℕ) → IsBare (get nodes.new) j
+        → (result ≡ Ok j) ⊎ (option_map (λ p. p.1) held.now ≡ Some j) }
+    ensures timers { timers.new.timers ≡ timers.old.timers }
+    ensures known { IsSome (lookup (get nodes.old) root.old (components name.entry))
+        → IsOk result }
+    ensures promised { IsSome held.now → set.len timers.old.timers < timers.old.capacity
+        → IsOk result }
+{
+    let k = path_to(alloc, nodes, root, held, name)?;
+    if let Err(error) = reserve_for(nodes, timers, k) {
+        prune(nodes, root, k, held_node(held));
+        return Err(error);
+    }
+    Ok(k)
+}
