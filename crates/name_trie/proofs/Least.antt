@@ -14,7 +14,7 @@ use Rattle.name_trie.proofs.Revised.{sorted_revised, get-revise}
 use Rattle.name_trie.proofs.Flat.{MakesKeys, get-flatten}
 
 module _ {K X : Type 0} (R : K → K → Ordering) (change : X → Option X) where
-  entries-revise : (m : FinMap R X) → entries (revise change m) ≡ revised change (entries m)
+  pub entries-revise : (m : FinMap R X) → entries (revise change m) ≡ revised change (entries m)
   unfolding revise
   entries-revise m = entries-from_sorted R (revised change (entries m)) (sorted_revised R change (entries m) (entries_sorted m))
 
