@@ -99,6 +99,7 @@ impl<V: Timed + Drop> TimedMap<V> {
             (B.becomes how (map.get self.old.table (components name.entry)))) }
         ensures err { OnErr result (self.new.table ≡ self.old.table) }
         ensures ended { self.new.prepared ≡ None }
+        ensures known { IsSome (map.get self.old.table (components name.entry)) → IsOk result }
         ensures promised { self.old.prepared ≡ Some (components name.entry) → IsOk result }
     {
         let held = self.held.take();

@@ -37,6 +37,14 @@ returns-in_err-k-clause-err g c =
     err_then c.from_residual.result (same_table (get c.release_other.new.nodes) (get c.place_for.new.nodes) c.release_other.new.root c.place_for.new.root c.place_for.ensures.same
     ∙ same_table (get c.self.inside.nodes) (get c.release_other.new.nodes) c.self.inside.root c.release_other.new.root c.release_other.ensures.same ∙ ap (λ t. t.table) c.self.view_is)
 
+pub returns-in_err-k-clause-known : goal.returns-in_err-k-clause-known
+returns-in_err-k-clause-known g c = λ some.
+    let name = components c.args.name in
+    let was = seen (get c.self.inside.nodes) (get c.release_other.new.nodes) c.self.inside.root c.release_other.new.root c.args.self.now.table name c.args.name.spelled.1.0 c.release_other.ensures.same
+    (ap (λ t. t.table) c.self.view_is) in
+    let known = c.in_err-k.ensures.known (subst (λ (o : Option g.row.V.Denot). IsSome o) (sym was) some) in
+    absurd cc
+
 pub returns-in_err-k-clause-promised : goal.returns-in_err-k-clause-promised
 returns-in_err-k-clause-promised g c = λ is.
     let ready = ready_of c.self.inside.is_ready c.self.inside.held (components c.args.name) (ap (λ t. t.prepared) c.self.view_is ∙ is) in
