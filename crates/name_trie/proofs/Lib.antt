@@ -12,3 +12,4 @@ pub mod Flat
 pub mod Least
 pub mod Totals
 pub mod Along
+pub mod Heads

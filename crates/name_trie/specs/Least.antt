@@ -8,7 +8,8 @@ abbrev pub nonempty : {K X : Type 0} {R : K → K → Ordering} → FinMap R X �
 nonempty m = if nat_eq (len m) 0 then None else Some m
 
 -- each value changed, or gone; and the map gone where none is left
-abbrev pub each : {K X : Type 0} {R : K → K → Ordering} → (X → Option X) → FinMap R X → Option (FinMap R X)
+abbrev pub each : {K X : Type 0} {R : K → K → Ordering} → (X → Option X) → FinMap R X
+    → Option (FinMap R X)
 each change m = nonempty (revise change m)
 
 -- the least of this and the moments of these values

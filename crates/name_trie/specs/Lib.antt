@@ -7,3 +7,4 @@ pub mod Timed
 pub mod Flat
 pub mod Least
 pub mod Taken
+pub mod Head

@@ -7,7 +7,7 @@ ghost use Rattle.ndn_names.specs.View.{field_of};
 ghost use Rattle.name_trie.specs.ByName.{revise};
 ghost use Rattle.name_trie.specs.Links.{unless_is};
 
-use crate::component_buf::{ComponentBuf, compare};
+use crate::component_buf::{ComponentBuf, head_of};
 use ndn_names::Component;
 use ndn_tlv::Memory;
 use std::alloc::Global;
@@ -115,11 +115,12 @@ fn place_of(rows: &[(ComponentBuf, usize)], component: Component<'_>) -> Result<
         ≡ insert rows.now at (field_of component.entry, k))
         × (map.find component_cmp (field_of component.entry) rows.now ≡ None)) }
 {
+    let head = head_of(component.value);
     let mut low = 0;
     let mut high = rows.len();
     while low < high {
         let mid = low + (high - low) / 2;
-        match compare(component, rows[mid].0.view()) {
+        match rows[mid].0.order_of(component, head) {
             Ordering::Greater => low = mid + 1,
             Ordering::Equal => return Ok(mid),
             Ordering::Less => high = mid,

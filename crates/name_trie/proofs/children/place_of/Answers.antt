@@ -16,7 +16,7 @@ loop-low-preserved-in-Greater c =
     let key = field_of c.args.component in
     let row = c.index-rows-mid.result in
     let is = c.index-rows-mid.is in
-    let same : c.compare.result ≡ component_cmp key row.0 = c.compare.ensures ∙ ap (component_cmp key) (c.view.ensures ∙ ap (λ (r : Field × ℕ). r.0) (sym is)) in
+    let same : c.order_of.result ≡ component_cmp key row.0 = c.order_of.ensures ∙ ap (component_cmp key) (ap (λ (r : Field × ℕ). r.0) (sym is)) in
     let greater : component_cmp key row.0 ≡ Greater = sym same ∙ c.in-Greater.is in
     (omega arith, omega arith, lower_upto component_cmp-total key rows _ row (omega arith) is c.requires greater, c.loop-low.invariant.3)
 
@@ -26,7 +26,7 @@ returns-in-Equal-clause-found c =
     let key = field_of c.args.component in
     let row = c.index-rows-mid.result in
     let is = c.index-rows-mid.is in
-    let same : c.compare.result ≡ component_cmp key row.0 = c.compare.ensures ∙ ap (component_cmp key) (c.view.ensures ∙ ap (λ (r : Field × ℕ). r.0) (sym is)) in
+    let same : c.order_of.result ≡ component_cmp key row.0 = c.order_of.ensures ∙ ap (component_cmp key) (ap (λ (r : Field × ℕ). r.0) (sym is)) in
     let tie : component_cmp key row.0 ≡ Equal = sym same ∙ c.in-Equal.is in
     let one : row.0 ≡ key = sym (component_cmp-antisymmetric key row.0 tie) in
     let low : AllLower component_cmp key _ = lower_before component_cmp-total key rows _ row (omega arith) is c.requires tie in (

@@ -1,0 +1,86 @@
+-- The number of the first octets goes before the octets.
+use Rattle.std.proofs.Common.{◌≡◌, ℕ, zero, suc, ◌+◌, ◌*◌, ◌^◌, ◌<◌, ◌≤◌, List, [], ◌∷◌, refl, sym, ap, subst, ◌∙◌, add-one, arith}
+use Rattle.std.proofs.Math.Nat.{pow-succ', pow-le-pow_right}
+use Rattle.std.proofs.lemmas.Nat.{mul-add-lt}
+use Rattle.std.specs.Prelude.{slice_index}
+use Rattle.std.specs.declared.cmp.Ordering.{Ordering}
+use Rattle.std.specs.declared.cmp.Ordering.TheVariants.{Less, Equal, Greater}
+use Rattle.std.specs.Ordering.{nat_cmp, ordering_then, ordering_reverse}
+use Rattle.std.specs.Cmp.{nat_cmp_is}
+use Rattle.std.specs.Cmp.Lexicographic.{slice_cmp}
+use Rattle.std.proofs.lemmas.Cmp.{ranked, nat_list_cmp_total}
+use Rattle.name_trie.specs.Head.{head}
+
+abbrev pub AreOctets : List ℕ → Type 0
+AreOctets octets = (i : ℕ) → slice_index octets i < 256
+
+pub small : (n : ℕ) (octets : List ℕ) → AreOctets octets → head n octets < 256 ^ n
+unfolding head
+small zero octets are = omega arith
+small (suc n) octets are =
+    let less : head n octets * 256 + slice_index octets n < 256 * 256 ^ n = mul-add-lt (head n octets) 256 (slice_index octets n) (256 ^ n) (small n octets are) (are n) in
+    subst (λ (m : ℕ). head n octets * 256 + slice_index octets n < m) (sym (pow-succ' 256 n)) less
+
+-- fewer than eight octets leave room for one more
+pub room : (n : ℕ) (octets : List ℕ) → AreOctets octets → n < 8 → head n octets < 2 ^ 56
+room n octets are lt =
+    let most : 256 ^ n ≤ 256 ^ 7 = pow-le-pow_right {n = 256} (omega arith) {i = n} {j = 7} (omega arith) in
+    omega (arith, small n octets are, most)
+
+pub next : (n : ℕ) (octets : List ℕ) → head (n + 1) octets ≡ head n octets * 256 + slice_index octets n
+unfolding head
+next n octets = rw add-one refl
+
+abbrev Agree : ℕ → List ℕ → List ℕ → Type 0
+Agree n a b = (j : ℕ) → j < n → slice_index a j ≡ slice_index b j
+
+agree : (n : ℕ) (a b : List ℕ) → AreOctets a → AreOctets b → head n a ≡ head n b → Agree n a b
+unfolding head
+agree zero a b are bare same j lt = absurd (omega arith)
+agree (suc n) a b are bare same j lt =
+    let x = are n in
+    let y = bare n in
+    let front : head n a ≡ head n b = omega (arith, same, x, y) in
+    let last : slice_index a n ≡ slice_index b n = omega (arith, same, x, y) in
+    let by : (o : Ordering) → o ≡ nat_cmp j n → slice_index a j ≡ slice_index b j = λ o. elim o as (λ (r : Ordering). r ≡ nat_cmp j n → slice_index a j ≡ slice_index b j) [
+      | Less ↦ λ e. agree n a b are bare front j (ranked j n Less e)
+      | Equal ↦ λ e. ap (slice_index a) (ranked j n Equal e) ∙ last ∙ sym (ap (slice_index b) (ranked j n Equal e))
+      | Greater ↦ λ e. absurd (let more : n < j = ranked j n Greater e in omega (arith, more, lt))
+    ] in
+    by (nat_cmp j n) refl
+
+differs : (n : ℕ) (a b : List ℕ) → Agree n a b → slice_index a n < slice_index b n → slice_cmp nat_cmp a b ≡ Less
+differs n [] [] same lt = absurd (omega arith)
+differs n [] (y ∷ b) same lt = refl
+differs zero (x ∷ a) [] same lt = absurd (omega arith)
+differs (suc n) (x ∷ a) [] same lt = absurd (omega arith)
+differs zero (x ∷ a) (y ∷ b) same lt = ap (λ o. ordering_then o (slice_cmp nat_cmp a b)) (sym (nat_cmp_is x y Less lt))
+differs (suc n) (x ∷ a) (y ∷ b) same lt =
+    ap (λ o. ordering_then o (slice_cmp nat_cmp a b)) (sym (nat_cmp_is x y Equal (same 0 (omega arith))))
+    ∙ differs n a b (λ j le. same (suc j) (omega arith)) lt
+
+less : (n : ℕ) (a b : List ℕ) → AreOctets a → AreOctets b → head n a < head n b → slice_cmp nat_cmp a b ≡ Less
+unfolding head
+less zero a b are bare lt = absurd (omega arith)
+less (suc n) a b are bare lt =
+    let x = are n in
+    let y = bare n in
+    let by : (o : Ordering) → o ≡ nat_cmp (head n a) (head n b) → slice_cmp nat_cmp a b ≡ Less = λ o. elim o as (λ (r : Ordering). r ≡ nat_cmp (head n a) (head n b) → slice_cmp nat_cmp a b ≡ Less) [
+      | Less ↦ λ e. less n a b are bare (ranked (head n a) (head n b) Less e)
+      | Equal ↦ λ e.
+          let front : head n a ≡ head n b = ranked (head n a) (head n b) Equal e in
+          differs n a b (agree n a b are bare front) (omega (arith, front, x, y, lt))
+      | Greater ↦ λ e. absurd (let more : head n b < head n a = ranked (head n a) (head n b) Greater e in omega (arith, more, x, y, lt))
+    ] in
+    by (nat_cmp (head n a) (head n b)) refl
+
+-- to compare the numbers first makes no difference
+pub by_head : (n : ℕ) (a b : List ℕ) → AreOctets a → AreOctets b → ordering_then (nat_cmp (head n a) (head n b)) (slice_cmp nat_cmp a b) ≡ slice_cmp nat_cmp a b
+by_head n a b are bare =
+    let by : (o : Ordering) → o ≡ nat_cmp (head n a) (head n b) → ordering_then o (slice_cmp nat_cmp a b) ≡ slice_cmp nat_cmp a b = λ o.
+    elim o as (λ (r : Ordering). r ≡ nat_cmp (head n a) (head n b) → ordering_then r (slice_cmp nat_cmp a b) ≡ slice_cmp nat_cmp a b) [
+      | Less ↦ λ e. sym (less n a b are bare (ranked (head n a) (head n b) Less e))
+      | Equal ↦ λ _. refl
+      | Greater ↦ λ e. sym (nat_list_cmp_total.antisymm a b ∙ ap ordering_reverse (less n b a bare are (ranked (head n a) (head n b) Greater e)))
+    ] in
+    by (nat_cmp (head n a) (head n b)) refl
