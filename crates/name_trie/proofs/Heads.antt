@@ -1,12 +1,13 @@
 -- The number of the first octets goes before the octets.
-use Rattle.std.proofs.Common.{◌≡◌, ℕ, zero, suc, ◌+◌, ◌*◌, ◌^◌, ◌<◌, ◌≤◌, List, [], ◌∷◌, refl, sym, ap, subst, ◌∙◌, add-one, arith}
+use Rattle.std.proofs.Common.{◌≡◌, ℕ, zero, suc, ◌+◌, ◌*◌, ◌^◌, ◌<◌, ◌≤◌, List, [], ◌∷◌, length, refl, sym, ap, subst, ◌∙◌, add-one, arith}
 use Rattle.std.proofs.Math.Nat.{pow-succ', pow-le-pow_right}
 use Rattle.std.proofs.lemmas.Nat.{mul-add-lt}
+use Rattle.std.proofs.lemmas.Grind.{same_number_lists}
 use Rattle.std.specs.Prelude.{slice_index}
 use Rattle.std.specs.declared.cmp.Ordering.{Ordering}
 use Rattle.std.specs.declared.cmp.Ordering.TheVariants.{Less, Equal, Greater}
 use Rattle.std.specs.Ordering.{nat_cmp, ordering_then, ordering_reverse}
-use Rattle.std.specs.Cmp.{nat_cmp_is}
+use Rattle.std.specs.Cmp.{nat_cmp_is, tied_itself}
 use Rattle.std.specs.Cmp.Lexicographic.{slice_cmp}
 use Rattle.std.proofs.lemmas.Cmp.{ranked, nat_list_cmp_total}
 use Rattle.name_trie.specs.Head.{head}
@@ -84,3 +85,16 @@ by_head n a b are bare =
       | Greater ↦ λ e. sym (nat_list_cmp_total.antisymm a b ∙ ap ordering_reverse (less n b a bare are (ranked (head n a) (head n b) Greater e)))
     ] in
     by (nat_cmp (head n a) (head n b)) refl
+
+-- of no more than eight octets the numbers tell all
+pub by_head_alone : (a b : List ℕ) → AreOctets a → AreOctets b → length a ≡ length b → length a ≤ 8 → nat_cmp (head 8 a) (head 8 b) ≡ slice_cmp nat_cmp a b
+by_head_alone a b are bare len short =
+    let by : (o : Ordering) → o ≡ nat_cmp (head 8 a) (head 8 b) → o ≡ slice_cmp nat_cmp a b = λ o.
+    elim o as (λ (r : Ordering). r ≡ nat_cmp (head 8 a) (head 8 b) → r ≡ slice_cmp nat_cmp a b) [
+      | Less ↦ λ e. sym (less 8 a b are bare (ranked (head 8 a) (head 8 b) Less e))
+      | Equal ↦ λ e.
+          let same : a ≡ b = same_number_lists a b len (λ k lt. agree 8 a b are bare (ranked (head 8 a) (head 8 b) Equal e) k (omega arith)) in
+          sym (ap (λ (l : List ℕ). slice_cmp nat_cmp l b) same ∙ tied_itself nat_list_cmp_total b)
+      | Greater ↦ λ e. ap (λ o. ordering_then o (slice_cmp nat_cmp a b)) e ∙ by_head 8 a b are bare
+    ] in
+    by (nat_cmp (head 8 a) (head 8 b)) refl
