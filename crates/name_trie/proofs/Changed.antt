@@ -7,13 +7,13 @@ use Rattle.std.specs.FinMap.{get, get-empty, get-insert}
 use Rattle.std.proofs.lemmas.Bool.{eqb-true, eqb-false, eq-eqb, ne_eqb}
 use Rattle.std.proofs.lemmas.List.{reverse-reverse, reverse-append, length-append}
 use Rattle.ndn_tlv.specs.Element.{Field}
-use Rattle.ndn_names.specs.Order.{component_cmp, name_cmp}
-use Rattle.ndn_names.specs.Key.{component_cmp-total, component_cmp-antisymmetric, name_cmp-total, name_cmp-antisymmetric}
+use Rattle.ndn_names.specs.Order.{component_cmp}
+use Rattle.ndn_names.specs.Key.{component_cmp-total, component_cmp-antisymmetric}
 use Rattle.std.specs.Cmp.{tied_itself}
 use Rattle.name_trie.specs.declared.node.Node.{Node}
 use Rattle.name_trie.specs.ByName.{revise}
 use Rattle.name_trie.specs.Links.{unless, unless_is}
-use Rattle.name_trie.specs.Trie.{Heap, child, value, up, down, walk, lookup, Sound}
+use Rattle.name_trie.specs.Trie.{Heap, child, value, up, down, walk, Sound}
 use Rattle.name_trie.specs.Changes.{Joins, Starts, Cuts, IsBare, Sets, Turns, Lacks, SameLookups, IsHeld, HasRoomBelow}
 use Rattle.name_trie.proofs.Revised.{equal, get-revise}
 use Rattle.name_trie.proofs.Walks.{walk_none}
@@ -191,41 +191,6 @@ module _ {V : Type 0} (k : ℕ) (v : Option V) (h h' : Heap V) (sets : Sets k v 
     here = value_set;
     others = value_kept;
   }
-
-  same_walk : (o : Option ℕ) (q : List Field) → walk h' o q ≡ walk h o q
-  same_walk o [] = refl
-  same_walk None (c ∷ cs) = same_walk None cs
-  same_walk (Some a) (c ∷ cs) = ap (λ o. walk h' o cs) (same_children a c) ∙ same_walk (child h a c) cs
-
-  pub walk_set : (root : Option ℕ) (q : List Field) → walk h' root q ≡ walk h root q
-  walk_set root q = same_walk root q
-
-  pub sound_set : (root : Option ℕ) → Sound h root → Sound h' root
-  sound_set root sound = record {
-    back = λ a c j e. same_up j ∙ sound.back a c j (sym (same_children a c) ∙ e);
-    once = λ a c d j e f. sound.once a c d j (sym (same_children a c) ∙ e) (sym (same_children a d) ∙ f);
-    top = λ j e. same_up j ∙ sound.top j e;
-    reach = λ j u e. let way = sound.reach j u (sym (same_up j) ∙ e) in (way.0, way.1, same_walk root way.0 ∙ way.2);
-  }
-
-  elsewhere : (o : Option ℕ) → o ≢ Some k → option_and_then (value h') o ≡ option_and_then (value h) o
-  elsewhere None ne = refl
-  elsewhere (Some j) ne = value_kept j (λ e. ne (ap Some e))
-
-  -- the value of one name is set
-  pub lookup_set : (root : Option ℕ) → Sound h root → (name : List Field) → walk h root name ≡ Some k
-      → (q : List Field) → lookup h' root q ≡ cond (eq_by_cmp name_cmp q name) v (lookup h root q)
-  lookup_set root sound name at q =
-      ap (option_and_then (value h')) (walk_set root q)
-      ∙ elim (eq_by_cmp name_cmp q name) as (λ b. eq_by_cmp name_cmp q name ≡ b → option_and_then (value h') (walk h root q) ≡ cond b v (lookup h root q)) [
-        | true ↦ λ t.
-            let one : q ≡ name = name_cmp-antisymmetric q name (equal _ t) in
-            ap (option_and_then (value h')) (ap (walk h root) one ∙ at) ∙ value_set
-        | false ↦ λ t. elsewhere (walk h root q) (λ e.
-            let one : q ≡ name = one_walk h root sound q name k e at in
-            let tied : eq_by_cmp name_cmp q name ≡ true = ap (λ (n : List Field). eq_by_cmp name_cmp n name) one ∙ ap is_eq (tied_itself name_cmp-total name) in
-            cc)
-      ] refl
 
 -- ---- a child is added
 

@@ -11,10 +11,10 @@ use Rattle.ndn_names.specs.Key.{name_cmp-total, name_cmp-antisymmetric}
 use Rattle.name_trie.specs.declared.node.Node.{Node}
 use Rattle.name_trie.specs.ByName.{revise, with_value}
 use Rattle.name_trie.specs.Trie.{Heap, child, value, up, walk, lookup, table_of, Sound}
-use Rattle.name_trie.specs.Changes.{Turns, IsBare}
+use Rattle.name_trie.specs.Changes.{Sets, Turns, IsBare}
 use Rattle.name_trie.proofs.Revised.{equal, get-revise}
 use Rattle.name_trie.proofs.Counts.{len_fewer, len_set, not_empty as not_zero}
-use Rattle.name_trie.proofs.Changed.{same_or, one_walk, there_by_up}
+use Rattle.name_trie.proofs.Changed.{same_or, one_walk, set_turns, there_by_up}
 use Rattle.name_trie.proofs.Walks.{get-table, get-table_long, same_table, put_table, remove_table, by_length}
 
 -- a node that has a value is there
@@ -111,6 +111,18 @@ module _ {V : Type 0} (k : ℕ) (v : Option V) (h h' : Heap V) (turns : Turns k 
         leaf = λ c. sym (turns.links j c) ∙ bare.leaf c;
         bare = sym (turns.others j ne) ∙ bare.bare;
       }
+
+-- a value that is set, as one that changes
+module _ {V : Type 0} (k : ℕ) (v : Option V) (h h' : Heap V) (sets : Sets k v h h') (root : Option ℕ) where
+  pub walk_set : (q : List Field) → walk h' root q ≡ walk h root q
+  walk_set = walk_turned k v h h' (set_turns k v h h' sets) root
+
+  module _ (sound : Sound h root) where
+    pub sound_set : Sound h' root
+    sound_set = sound_turned k v h h' (set_turns k v h h' sets) root sound
+
+    pub lookup_set : (name : List Field) → walk h root name ≡ Some k → (q : List Field) → lookup h' root q ≡ cond (eq_by_cmp name_cmp q name) v (lookup h root q)
+    lookup_set = lookup_turned k v h h' (set_turns k v h h' sets) root sound
 
 -- a table in which one name has this value, or none
 pub with_value_table : {V : Type 0} (h h' : Heap V) (root root' : Option ℕ) (name : List Field) (v : Option V) → length name ≤ 64

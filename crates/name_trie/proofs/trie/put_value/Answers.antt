@@ -5,7 +5,8 @@ use Rattle.ndn_names.specs.View.{components}
 use Rattle.std.proofs.Common.{cond}
 use Rattle.std.specs.Ordering.{eq_by_cmp}
 use Rattle.ndn_names.specs.Order.{name_cmp}
-use Rattle.name_trie.proofs.Changed.{live, there_by_up, sound_set, lookup_set}
+use Rattle.name_trie.proofs.Changed.{live, there_by_up}
+use Rattle.name_trie.proofs.Closed.{sound_set, lookup_set}
 use Rattle.name_trie.proofs.trie.put_value.Goals as goal
 
 pub set_value-requires : goal.set_value-requires

@@ -8,7 +8,8 @@ use Rattle.name_trie.specs.Trie.{value}
 use Rattle.name_trie.proofs.Walks.{get-table, same_table, remove_table, remove_absent}
 use Rattle.name_trie.proofs.Counts.{is_some_map}
 use Rattle.name_trie.proofs.Tidy.{bare_set}
-use Rattle.name_trie.proofs.Changed.{live, there_by_up, sound_set, lookup_set, walk_set, held_still}
+use Rattle.name_trie.proofs.Changed.{live, there_by_up, held_still}
+use Rattle.name_trie.proofs.Closed.{walk_set, sound_set, lookup_set}
 use Rattle.name_trie.proofs.trie.NameTrie.remove.Goals as goal
 
 pub set_value-requires : goal.set_value-requires

@@ -7,7 +7,8 @@ use Rattle.ndn_names.specs.View.{components}
 use Rattle.name_trie.specs.Trie.{value}
 use Rattle.name_trie.proofs.Walks.{get-table, put_table}
 use Rattle.name_trie.proofs.Tidy.{valued}
-use Rattle.name_trie.proofs.Changed.{live, there_by_up, sound_set, lookup_set, walk_set, held_still}
+use Rattle.name_trie.proofs.Changed.{live, there_by_up, held_still}
+use Rattle.name_trie.proofs.Closed.{walk_set, sound_set, lookup_set}
 use Rattle.name_trie.proofs.trie.NameTrie.replace.Goals as goal
 
 pub set_value-requires : goal.set_value-requires
