@@ -194,6 +194,38 @@ fn cached_data_by_full_name(rt: HostRuntime) {
     check_rows(&rt, rt.alloc(), rows, answers);
 }
 
+/// Keeps Data of other names: whether each is kept.
+fn put_others(alloc: Global, store: &mut Store, count: u32) -> Option<bool> {
+    for number in 0..count {
+        let name = format!(in alloc; "/other/{number}").ok()?;
+        let packet = data_of(alloc, &name, "01", None)?;
+        if !put_packet(store, &packet, 0)? {
+            return Some(false);
+        }
+    }
+    Some(true)
+}
+
+/// Whether a Data of 8,800 octets is kept and found among 1,000 others.
+fn is_greatest_kept(alloc: Global) -> Option<bool> {
+    let packet = data_of(alloc, "/big", "00x8746", None)?;
+    let mut store = Store::new(alloc, 1001).ok()?;
+    let is_kept = put_packet(&mut store, &packet, 0)? && put_others(alloc, &mut store, 1000)?;
+    let name = NameBuf::from_uri(alloc, "/big").ok()?;
+    let key = Key {
+        name: name.view(),
+        can_be_prefix: false,
+        must_be_fresh: false,
+    };
+    let is_found = store.find(key, 0) == Some(packet.as_slice());
+    Some(is_kept && is_found && packet.len() == 8800)
+}
+
+#[test]
+fn greatest_data_among_others(rt: HostRuntime) {
+    assert!(rt; is_greatest_kept(rt.alloc()) == Some(true));
+}
+
 /// Whether a Data is found exactly where it was kept, which a refusal of memory prevents.
 fn is_found_where_kept(alloc: Global) -> Option<bool> {
     let packet = data_of(alloc, "/A", "01", Some(0))?;
