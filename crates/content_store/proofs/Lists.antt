@@ -1,5 +1,5 @@
 -- Lists in which each full name stands once.
-use Rattle.std.proofs.Common.{◌≡◌, ℕ, zero, suc, ◌+◌, ◌-◌, ◌<◌, ◌≤◌, Bool, true, false, cond, not, List, [], ◌∷◌, length, get_or, take, filter, refl, sym, ap, subst, ◌∙◌, arith}
+use Rattle.std.proofs.Common.{◌≡◌, ℕ, zero, suc, ◌+◌, ◌-◌, ◌<◌, ◌≤◌, Bool, true, false, cond, not, ◌&&◌, ◌||◌, List, [], ◌∷◌, length, get_or, take, filter, refl, sym, ap, subst, ◌∙◌, arith}
 use Rattle.std.specs.Prelude.{◌≢◌, IsTrue}
 use Rattle.std.specs.List.{All, AllByRecursion, Contains, remove}
 use Rattle.std.specs.Ordering.{eq_by_cmp}
@@ -14,7 +14,7 @@ use Rattle.ndn_names.specs.Key.{name_cmp-total, name_cmp-antisymmetric}
 use Rattle.ndn_packets.specs.declared.data.Data.{Data}
 use Rattle.ndn_packets.specs.View.{plain_data}
 use Rattle.ndn_packets.proofs.Held.{data_read}
-use Rattle.content_store.specs.Store.{CachedData, IsCachedData, cached_at, StoreState, full_name_of, EachOnce, IsStore, without, with_used}
+use Rattle.content_store.specs.Store.{CachedData, IsCachedData, cached_at, StoreState, full_name_of, EachOnce, IsStore, LosesSome, without, with_used}
 
 pub is_same : (a b : List Field) → eq_by_cmp name_cmp a b ≡ true → a ≡ b
 is_same a b e = name_cmp-antisymmetric a b ((Equal-is (name_cmp a b)).0 e)
@@ -148,10 +148,58 @@ pub put_store : (s : StoreState) (c : CachedData) (new : List CachedData) (r : B
 put_store s c new true d h kept lost = kept_store s c new d h (kept refl)
 put_store s c new false d h kept lost = refused_store s c new h (lost refl)
 
-pub refused_held : (cs : List CachedData) (n : ℕ) (c : CachedData) (new : List CachedData) → new ≡ take n (without (full_name_of c) cs) → All (λ d. Contains cs d) new
-refused_held cs n c new is =
-    All-same (λ d. Contains cs d) _ _ is (All-take (λ d. Contains cs d) n (without (full_name_of c) cs)
-    (All-filter (λ d. not (eq_by_cmp name_cmp (full_name_of d) (full_name_of c))) (λ d. Contains cs d) cs (All-contains_itself cs)))
+pub filter_both : (p q : CachedData → Bool) (xs : List CachedData) → filter q (filter p xs) ≡ filter (λ x. p x && q x) xs
+filter_both p q [] = refl
+filter_both p q (x ∷ xs) = split (p x) (filter_both p q xs)
+  where
+    split : (b : Bool) → filter q (filter p xs) ≡ filter (λ y. p y && q y) xs
+        → filter q (cond b (x ∷ filter p xs) (filter p xs)) ≡ cond (b && q x) (x ∷ filter (λ y. p y && q y) xs) (filter (λ y. p y && q y) xs)
+    split true e = ap (λ (t : List CachedData). cond (q x) (x ∷ t) t) e
+    split false e = e
+
+none_stay : (cs : List CachedData) → [] ≡ filter (λ _. false) cs
+none_stay [] = refl
+none_stay (c ∷ cs) = none_stay cs
+
+same_stay : (p q : CachedData → Bool) (cs : List CachedData) → AllByRecursion (λ d. p d ≡ q d) cs → filter p cs ≡ filter q cs
+same_stay p q [] h = refl
+same_stay p q (c ∷ cs) h = λ i. cond (h.0 i) (c ∷ same_stay p q cs h.1 i) (same_stay p q cs h.1 i)
+
+-- the first of a list in which each full name stands once
+taken_part : (n : ℕ) (cs : List CachedData) → EachOnce cs → LosesSome cs (take n cs)
+taken_part zero cs h = record { stays = λ _. false; left = none_stay cs }
+taken_part (suc n) [] h = record { stays = λ _. false; left = refl }
+taken_part (suc n) (c ∷ cs) h =
+    let rest = taken_part n cs h.1 in
+    let stays : CachedData → Bool = λ d. eq_by_cmp name_cmp (full_name_of c) (full_name_of d) || rest.stays d in
+    record {
+      stays = stays;
+      left =
+          ap (λ (t : List CachedData). c ∷ t) (rest.left ∙ sym (same_stay stays rest.stays cs (others rest.stays cs h.0)))
+          ∙ sym (ap (λ (b : Bool). cond (b || rest.stays c) (c ∷ filter stays cs) (filter stays cs)) (tied (full_name_of c) (full_name_of c) refl));
+    }
+  where
+    others : (stays : CachedData → Bool) (ds : List CachedData) → AllByRecursion (λ d. full_name_of c ≢ full_name_of d) ds
+        → AllByRecursion (λ d. (eq_by_cmp name_cmp (full_name_of c) (full_name_of d) || stays d) ≡ stays d) ds
+    others stays [] a = tt
+    others stays (d ∷ ds) a = (ap (λ (b : Bool). b || stays d) (differ (full_name_of c) (full_name_of d) a.0), others stays ds a.1)
+
+pub nothing_lost : (cs : List CachedData) → LosesSome cs cs
+nothing_lost cs = record { stays = λ _. true; left = all_stay cs }
+  where
+    all_stay : (xs : List CachedData) → xs ≡ filter (λ _. true) xs
+    all_stay [] = refl
+    all_stay (x ∷ xs) = ap (λ (t : List CachedData). x ∷ t) (all_stay xs)
+
+pub refused_held : (cs : List CachedData) (n : ℕ) (c : CachedData) (new : List CachedData) → EachOnce cs → new ≡ take n (without (full_name_of c) cs) → LosesSome cs new
+refused_held cs n c new once is =
+    let other : CachedData → Bool = λ d. not (eq_by_cmp name_cmp (full_name_of d) (full_name_of c)) in
+    let part = taken_part n (without (full_name_of c) cs) (once_filter other cs once) in
+    record { stays = λ d. other d && part.stays d; left = is ∙ part.left ∙ filter_both other part.stays cs }
+
+-- what is left was there before
+pub loses_some-contained : (xs ys : List CachedData) → LosesSome xs ys → All (Contains xs) ys
+loses_some-contained xs ys h = All-same (Contains xs) _ _ h.left (All-filter h.stays (Contains xs) xs (All-contains_itself xs))
 
 pub fewer_store : (s : StoreState) (test : CachedData → Bool) → IsStore s → IsStore (record s { cached = filter test s.cached })
 fewer_store s test h =

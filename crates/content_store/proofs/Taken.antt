@@ -1,5 +1,5 @@
 -- What is left when the least full names are erased, one after another.
-use Rattle.std.proofs.Common.{◌≡◌, ℕ, ◌+◌, ◌≤◌, ◌⊎◌, inl, inr, Bool, true, false, cond, not, ◌&&◌, List, [], ◌∷◌, ◌++◌, length, get_or, filter, refl, sym, ap, subst, ◌∙◌, arith, append_assoc}
+use Rattle.std.proofs.Common.{◌≡◌, ℕ, ◌+◌, ◌≤◌, ◌⊎◌, inl, inr, Bool, true, false, not, ◌&&◌, List, [], ◌∷◌, ◌++◌, length, get_or, filter, refl, sym, ap, subst, ◌∙◌, arith, append_assoc}
 use Rattle.std.specs.Prelude.{Option, None, Some}
 use Rattle.std.specs.List.{All, remove}
 use Rattle.std.specs.Ordering.{eq_by_cmp}
@@ -16,7 +16,7 @@ use Rattle.content_store.specs.Store.{CachedData, StoreState, IsStore, full_name
 use Rattle.ndn_packets.specs.Answers.{begins_with}
 use Rattle.content_store.specs.Places.{IsLeastPlace, LeastSoFar}
 use Rattle.content_store.proofs.Places.{least_is}
-use Rattle.content_store.proofs.Lists.{is_same, apart, without_at, fewer_store}
+use Rattle.content_store.proofs.Lists.{is_same, apart, filter_both, without_at, fewer_store}
 
 -- the key that asks for what is under a name
 abbrev pub key_under : List Field → PlainKey
@@ -48,15 +48,6 @@ nothing_taken name xs = record {
   under = λ k d lt e. absurd cc;
   least = λ k d lt e. absurd cc;
 }
-
-filter_both : (p q : CachedData → Bool) (xs : List CachedData) → filter q (filter p xs) ≡ filter (λ x. p x && q x) xs
-filter_both p q [] = refl
-filter_both p q (x ∷ xs) = split (p x) (filter_both p q xs)
-  where
-    split : (b : Bool) → filter q (filter p xs) ≡ filter (λ y. p y && q y) xs
-        → filter q (cond b (x ∷ filter p xs) (filter p xs)) ≡ cond (b && q x) (x ∷ filter (λ y. p y && q y) xs) (filter (λ y. p y && q y) xs)
-    split true e = ap (λ (t : List CachedData). cond (q x) (x ∷ t) t) e
-    split false e = e
 
 gone : (a b : Bool) → (a && not b) ≡ false → (a ≡ false) ⊎ (b ≡ true)
 gone true true e = inr refl

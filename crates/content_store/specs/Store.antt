@@ -86,6 +86,11 @@ pub record IsLeast (P : CachedData → Type 0) (cs : List CachedData) (c : Cache
 abbrev pub without : List Field → List CachedData → List CachedData
 without name cached = filter (λ c. not (eq_by_cmp name_cmp (full_name_of c) name)) cached
 
+-- what is left of a list without some, in its order
+pub record LosesSome (before after : List CachedData) : Type 0 where
+  pub stays : CachedData → Bool
+  pub left : after ≡ filter stays before
+
 -- with one more, which takes the place of what has its full name; of the others as many as fit
 abbrev pub with_cached : StoreState → CachedData → StoreState
 with_cached s c = record s {

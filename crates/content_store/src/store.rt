@@ -1,9 +1,9 @@
 ghost use Rattle.std.specs.Prelude.{◌≡◌, ◌↔◌, ◌⊎◌, ◌+◌, ◌-◌, ◌∷◌, ◌<◌, ◌≤◌, [], length, take, slice_index_or, None, Some, Err, IsTrue, false, IfOk};
 ghost use Rattle.std.specs.Option.{option_map};
-ghost use Rattle.std.specs.List.{All, Contains, remove};
+ghost use Rattle.std.specs.List.{All, remove};
 ghost use Rattle.ndn_names.specs.View.{components};
 ghost use Rattle.ndn_packets.specs.Key.{plain_key};
-ghost use Rattle.content_store.specs.Store.{CachedData, IsStore, CanServe, Gives, Finds, Erases, cached_at, with_cached, without, full_name_of, EachOnce};
+ghost use Rattle.content_store.specs.Store.{CachedData, IsStore, CanServe, Gives, Finds, Erases, LosesSome, cached_at, with_cached, without, full_name_of, EachOnce};
 ghost use Rattle.content_store.specs.Places.{LeastSoFar, MovesLeast};
 ghost use Rattle.content_store.specs.declared.fault.StoreFault.TheVariants as faults;
 
@@ -90,8 +90,7 @@ impl Store {
     pub fn put(&mut self, packet: &Data<'_>, arrival: u64) -> bool
         ensures ok { IsTrue result
             → self.new ≡ with_cached self.old (cached_at packet.now arrival) }
-        ensures refused { result ≡ false
-            → All (λ c. Contains self.old.cached c) self.new.cached }
+        ensures refused { result ≡ false → LosesSome self.old.cached self.new.cached }
         ensures capacity { self.new.capacity ≡ self.old.capacity }
         ensures store { IsStore self.new }
     {

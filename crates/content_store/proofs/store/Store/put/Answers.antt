@@ -1,8 +1,6 @@
 use Rattle.std.proofs.Common.{◌-◌, subst, sym}
-use Rattle.std.specs.List.{All, Contains}
-use Rattle.std.proofs.lemmas.List.Elements.{All-contains_itself}
-use Rattle.content_store.specs.Store.{StoreState, IsStore, IsCachedData}
-use Rattle.content_store.proofs.Lists.{cached_is_data, put_store, refused_held}
+use Rattle.content_store.specs.Store.{StoreState, IsStore, IsCachedData, LosesSome}
+use Rattle.content_store.proofs.Lists.{cached_is_data, nothing_lost, put_store, refused_held}
 use Rattle.content_store.proofs.store.Store.put.Goals as goal
 use Rattle.content_store.proofs.store.Store.put.Goals.{After-put_first}
 
@@ -15,15 +13,15 @@ store c =
     c.put_first.ensures.ok c.put_first.ensures.refused
 
 pub returns-in_default-clause-refused : goal.returns-in_default-clause-refused
-returns-in_default-clause-refused c = λ _. All-contains_itself c.args.self.now.cached
+returns-in_default-clause-refused c = λ _. nothing_lost c.args.self.now.cached
 
 pub invariant_of-self : goal.invariant_of-self
 invariant_of-self c = store c
 
 pub returns-clause-refused : goal.returns-clause-refused
 returns-clause-refused c =
-    λ refused. subst (λ (s : StoreState). All (λ d. Contains s.cached d) c.put_first.new.entries.items) c.self.view_is
-    (refused_held c.self.inside.entries.items (c.self.inside.capacity - 1) c.in-Ok.entry c.put_first.new.entries.items (c.put_first.ensures.refused refused))
+    λ refused. subst (λ (s : StoreState). LosesSome s.cached c.put_first.new.entries.items) c.self.view_is
+    (refused_held c.self.inside.entries.items (c.self.inside.capacity - 1) c.in-Ok.entry c.put_first.new.entries.items c.self.invariant.each_once (c.put_first.ensures.refused refused))
 
 pub returns-clause-store : goal.returns-clause-store
 returns-clause-store c = store c
