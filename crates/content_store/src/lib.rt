@@ -6,4 +6,4 @@ mod fault;
 mod store;
 
 pub use fault::StoreFault;
-pub use store::Store;
+pub use store::{Store, store_limits_are_as_promised};

@@ -18,6 +18,11 @@ use std::marker::Model;
 /// The greatest number of Data that a store can hold.
 pub const MAX_CAPACITY: usize = 65_536;
 
+/// Law: a store may hold 65,536 Data.
+pub fn store_limits_are_as_promised()
+    ensures { MAX_CAPACITY ≡ 65536 }
+{}
+
 /// Data that answer later Interests (NFD Developer's Guide, "Content Store"). Of each full name it
 /// holds one, at most as many as its capacity; the least recently used goes first.
 #[derive(Drop)]
