@@ -1,3 +1,13 @@
-pub mod Places
-pub mod Lists
+pub mod Shown
+pub mod Under
+pub mod Uses
+pub mod Least
+pub mod Promotes
+pub mod Changes
+pub mod Edits
+pub mod Fresh
+pub mod Renewed
+pub mod Given
+pub mod Losses
 pub mod Taken
+pub mod Erased

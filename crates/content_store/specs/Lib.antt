@@ -1,4 +1,6 @@
 pub mod Store
 pub mod Entry
-pub mod Places
+pub mod Sought
+pub mod Rows
+pub mod Uses
 pub mod Find

@@ -1,9 +1,10 @@
 ghost use Rattle.std.specs.Prelude.{◌≡◌, ◌↔◌, IsTrue, IfOk};
-ghost use Rattle.std.specs.Ordering.{eq_by_cmp};
+ghost use Rattle.std.specs.Ordering.{eq_by_cmp, is_lt};
 ghost use Rattle.ndn_names.specs.Name.{IsPrefix};
 ghost use Rattle.ndn_names.specs.Order.{name_cmp};
 ghost use Rattle.ndn_names.specs.View.{components};
 ghost use Rattle.ndn_packets.specs.Answers.{begins_with};
+ghost use Rattle.ndn_packets.specs.FullName.{is_near};
 ghost use Rattle.ndn_packets.specs.Key.{plain_key};
 ghost use Rattle.content_store.specs.Store.{cached_at, full_name_of, IsFresh, CanServe};
 
@@ -70,12 +71,30 @@ impl Entry {
         self.full_name.is_same(&other.full_name)
     }
 
+    /// Whether the full name comes before a name in canonical order.
+    #[inline(always)]
+    pub fn is_below(&self, name: Name<'_>) -> bool
+        ensures { result ≡ is_lt (name_cmp (full_name_of self.now) (components name.entry)) }
+    {
+        self.full_name.is_below(name.as_octets())
+    }
+
     /// Whether the full name begins with a name.
     pub fn is_under(&self, name: Name<'_>) -> bool
         ensures prefix { IsTrue result ↔ IsPrefix (components name.entry) (full_name_of self.now) }
         ensures exact { result ≡ begins_with (components name.entry) (full_name_of self.now) }
     {
         self.full_name.is_under(name)
+    }
+
+    /// Whether the full name is near enough behind the name of a key for one like it to serve an
+    /// Interest of this key.
+    #[inline(always)]
+    pub fn is_near(&self, key: Key<'_>) -> bool
+        ensures { result
+            ≡ is_near (components key.entry.name) key.entry.can_be_prefix (full_name_of self.now) }
+    {
+        self.full_name.is_near(key.name, key.can_be_prefix)
     }
 
     /// Whether it can serve an Interest of this key.

@@ -3,6 +3,8 @@
 
 mod entry;
 mod fault;
+mod rows;
+mod sought;
 mod store;
 
 pub use fault::StoreFault;

@@ -1,19 +1,23 @@
-ghost use Rattle.std.specs.Prelude.{◌≡◌, ◌↔◌, ◌⊎◌, ◌+◌, ◌-◌, ◌∷◌, ◌<◌, ◌≤◌, [], length, take, slice_index_or, None, Some, Err, IsTrue, false, IfOk};
+ghost use Rattle.std.specs.Prelude.{◌≡◌, ◌↔◌, ◌⊎◌, ◌+◌, ◌-◌, ◌<◌, ◌≤◌, ◌^◌, [], ℕ, length, insert, slice_index_or, Err, IsTrue, false, IfOk};
 ghost use Rattle.std.specs.Option.{option_map};
-ghost use Rattle.std.specs.List.{All, remove};
+ghost use Rattle.std.specs.List.{All};
 ghost use Rattle.ndn_names.specs.View.{components};
 ghost use Rattle.ndn_packets.specs.Key.{plain_key};
-ghost use Rattle.content_store.specs.Store.{CachedData, IsStore, CanServe, Gives, Finds, Erases, LosesSome, cached_at, with_cached, without, full_name_of, EachOnce};
-ghost use Rattle.content_store.specs.Places.{LeastSoFar, MovesLeast};
+ghost use Rattle.content_store.specs.Store.{IsCachedData, IsStore, CanServe, Gives, Finds, Erases, LosesSome, StoreState, cached_at, full_name_of, with_cached};
+ghost use Rattle.content_store.specs.Rows.{FirstWith, Placed, Rising, name_at};
+ghost use Rattle.content_store.specs.Uses.{UsesAt, Sound, PutsNew, Renews};
 ghost use Rattle.content_store.specs.declared.fault.StoreFault.TheVariants as faults;
 
 use crate::entry::Entry;
 use crate::fault::StoreFault;
+use crate::rows::{Row, Rows};
+use crate::sought::Sought;
+use lru::LruCache;
 use ndn_names::Name;
 use ndn_packets::{Data, Key};
 use std::alloc::Global;
-use std::cmp::Ordering;
 use std::marker::Model;
+use std::num::NonZeroUsize;
 
 /// The greatest number of Data that a store can hold.
 pub const MAX_CAPACITY: usize = 65_536;
@@ -28,21 +32,24 @@ pub fn store_limits_are_as_promised()
 #[derive(Drop)]
 pub struct Store {
     alloc: Global,
-    // The most recently used first.
-    entries: Vec<Entry>,
     capacity: usize,
+    rows: Rows,
+    // Places of rows by serial numbers; the least recently used goes first.
+    used: LruCache<u64, u32>,
+    next: u64,
 }
 
 impl Model for Store {
-    ghost use Rattle.content_store.specs.Store.{StoreState, IsStore, state_code};
+    ghost use Rattle.content_store.specs.Store.{StoreState, state_code};
+    ghost use Rattle.content_store.specs.Uses.{cached_in, IsHeld};
 
     ghost Value = { StoreState };
 
     ghost coded = { state_code };
 
-    ghost view = { λ s. record { cached = s.entries.items; capacity = s.capacity } };
+    ghost view = { λ s. record { cached = cached_in s.rows s.used.entries; capacity = s.capacity } };
 
-    ghost invariant = { λ s. IsStore (record { cached = s.entries.items; capacity = s.capacity }) };
+    ghost invariant = { λ s. IsHeld s.rows s.used s.capacity s.next };
 }
 
 impl Store {
@@ -56,13 +63,21 @@ impl Store {
         ensures store { IfOk result IsStore }
         ensures bad { (result ≡ Err faults.BadCapacity) ↔ ((capacity ≡ 0) ⊎ (MAX_CAPACITY < capacity)) }
     {
-        if capacity == 0 || capacity > MAX_CAPACITY {
+        if capacity > MAX_CAPACITY {
             return Err(StoreFault::BadCapacity);
         }
+        let Some(most) = NonZeroUsize::new(capacity) else {
+            return Err(StoreFault::BadCapacity);
+        };
+        let Ok(used) = LruCache::sparse(alloc, most) else {
+            return Err(StoreFault::Memory);
+        };
         Ok(Store {
             alloc,
-            entries: Vec::new(alloc),
             capacity,
+            rows: Rows::new(alloc),
+            used,
+            next: 0,
         })
     }
 
@@ -78,14 +93,14 @@ impl Store {
         ensures exact { result ≡ length self.now.cached }
         ensures store { IsStore self.now }
     {
-        self.entries.len()
+        self.rows.len()
     }
 
     /// Whether it holds nothing.
     pub fn is_empty(&self) -> bool
         ensures { IsTrue result ↔ (self.now.cached ≡ []) }
     {
-        self.entries.is_empty()
+        self.len() == 0
     }
 
     /// Keeps a Data that arrived at this moment, in milliseconds since 1970, in place of one of the
@@ -96,13 +111,46 @@ impl Store {
         ensures ok { IsTrue result
             → self.new ≡ with_cached self.old (cached_at packet.now arrival) }
         ensures refused { result ≡ false → LosesSome self.old.cached self.new.cached }
+        ensures unharmed { result ≡ false
+            → (self.new ≡ self.old) ⊎ (self.new ≡ record self.old { cached = [] }) }
         ensures capacity { self.new.capacity ≡ self.old.capacity }
         ensures store { IsStore self.new }
     {
-        let Ok(entry) = Entry::new(self.alloc, packet, arrival) else {
+        match Entry::new(self.alloc, packet, arrival) {
+            Ok(entry) => self.keep(entry),
+            Err(_) => false,
+        }
+    }
+
+    /// Keeps an entry in place of one of the same full name, and as the most recently used.
+    fn keep(&mut self, entry: Entry) -> bool
+        requires { IsCachedData entry }
+        ensures ok { IsTrue result → self.new ≡ with_cached self.old entry }
+        ensures refused { result ≡ false
+            → (self.new ≡ self.old) ⊎ (self.new ≡ record self.old { cached = [] }) }
+        ensures capacity { self.new.capacity ≡ self.old.capacity }
+        ensures store { IsStore self.new }
+    {
+        if self.next == u64::MAX {
+            self.rows.clear();
+            self.used.clear();
+            self.next = 0;
             return false;
+        }
+        let at = self.rows.place_for(Sought::Held(&entry));
+        if self.rows.is_same(at, &entry) {
+            put_same(&mut self.rows, &mut self.used, at, entry);
+            return true;
+        }
+        let row = Row {
+            entry,
+            serial: self.next,
         };
-        put_first(&mut self.entries, entry, self.capacity)
+        if !put_new(&mut self.rows, &mut self.used, at, row) {
+            return false;
+        }
+        self.next += 1;
+        true
     }
 
     /// The octets of the Data that an Interest of this key gets at this moment, in milliseconds
@@ -114,10 +162,28 @@ impl Store {
         ensures* used { sem 𝓛 (EndsWith self.entry (λ after. IsStore after
             × Finds (plain_key key.entry) now self.old (option_map (λ o. o.now) result) after)) }
     {
-        if !move_least_first(&mut self.entries, key, now) {
+        let mut steps = 0;
+        let Some(at) = use_first(&self.rows, &mut self.used, key, now, &mut steps) else {
             return None;
-        }
-        Some(self.entries[0].octets())
+        };
+        Some(self.rows.row(at).entry.octets())
+    }
+
+    /// As `find`. Each comparison of the halving that seeks the first full name not less than the
+    /// Interest's name adds one to `steps`, at most 17.
+    pub fn find_counted(&mut self, key: Key<'_>, now: u64, steps: &mut u64) -> Option<&[u8]>
+        requires { steps.old ≤ 2 ^ 64 - 1 - 17 }
+        ensures found { Gives (plain_key key.entry) now self.old.cached
+            (option_map (λ o. o.now) result) }
+        ensures counted { steps.old ≤ steps.new }
+        ensures few { steps.new ≤ steps.old + 17 }
+        ensures* used { sem 𝓛 (EndsWith self.entry (λ after. IsStore after
+            × Finds (plain_key key.entry) now self.old (option_map (λ o. o.now) result) after)) }
+    {
+        let Some(at) = use_first(&self.rows, &mut self.used, key, now, steps) else {
+            return None;
+        };
+        Some(self.rows.row(at).entry.octets())
     }
 
     /// Erases Data whose full names begin with a name, the least full names first, at most `count`,
@@ -128,114 +194,67 @@ impl Store {
         ensures capacity { self.new.capacity ≡ self.old.capacity }
         ensures store { IsStore self.new }
     {
-        match count {
-            Some(count) => erase_least(&mut self.entries, name, count),
-            None => erase_all(&mut self.entries, name),
-        }
+        let most = count.unwrap_or(u64::MAX);
+        self.rows.remove_under(&mut self.used, name, most)
     }
 }
 
-/// Puts an entry first, in place of one of its full name, and keeps of the others as many as fit.
-fn put_first(entries: &mut Vec<Entry>, entry: Entry, capacity: usize) -> bool
-    requires { 1 ≤ capacity }
-    ensures ok { IsTrue result → entries.new.items
-        ≡ take capacity (entry ∷ without (full_name_of entry) entries.old.items) }
-    ensures refused { result ≡ false → entries.new.items
-        ≡ take (capacity - 1) (without (full_name_of entry) entries.old.items) }
+/// Puts an entry in place of one of its full name. It is then the most recently used, and keeps
+/// its serial number.
+fn put_same(rows: &mut Rows, used: &mut LruCache<u64, u32>, at: usize, entry: Entry)
+    requires within { at < length rows.old }
+    requires named { (d : Placed)
+        → name_at (slice_index_or rows.old at d) ≡ full_name_of entry }
+    ensures { Renews rows.old used.old at entry rows.new used.new }
 {
-    entries.retain(|other| !other.is_same(&entry));
-    entries.truncate(capacity - 1);
-    entries.insert(0, entry).is_ok()
+    let serial = rows.row(at).serial;
+    rows.renew(at, entry);
+    used.promote(&serial);
 }
 
-/// Moves the least full name that can serve an Interest of this key to the front. Answers false
-/// where there is none.
-fn move_least_first(entries: &mut Vec<Entry>, key: Key<'_>, now: u64) -> bool
-    requires { EachOnce entries.old.items }
-    ensures found { IsTrue result
-        → MovesLeast (plain_key key.entry) now entries.old.items entries.new.items }
-    ensures none { result ≡ false
-        → All (λ c. ¬ CanServe (plain_key key.entry) now c) entries.old.items
-        × (entries.new.items ≡ entries.old.items) }
-{
-    let Some(at) = least_place(entries, key, now) else {
-        return false;
-    };
-    move_to_front(entries, at);
-    true
-}
-
-/// Moves the entry at a place before all others.
-fn move_to_front(entries: &mut [Entry], at: usize)
-    requires { at < length entries.old }
-    ensures { (c : CachedData) → c ≡ slice_index_or entries.old at c
-        → entries.new ≡ c ∷ remove entries.old at }
-{
-    entries[..=at].rotate_right(1);
-}
-
-/// The place of the least full name that can serve an Interest of this key.
-fn least_place(entries: &[Entry], key: Key<'_>, now: u64) -> Option<usize>
-    ensures { LeastSoFar (CanServe (plain_key key.entry) now) entries.now
-        (length entries.now) result }
-{
-    let mut least = None;
-    for at in 0..entries.len() {
-        least = least_with(entries, least, at, key, now);
-    }
-    least
-}
-
-/// The least place, with one more that is looked at.
-fn least_with(
-    entries: &[Entry],
-    least: Option<usize>,
-    at: usize,
+/// Where the first is that can serve. It is then the most recently used.
+fn use_first(
+    rows: &Rows,
+    used: &mut LruCache<u64, u32>,
     key: Key<'_>,
     now: u64,
+    steps: &mut u64,
 ) -> Option<usize>
-    requires within { at < length entries.now }
-    requires so_far { LeastSoFar (CanServe (plain_key key) now) entries.now at least }
-    ensures { LeastSoFar (CanServe (plain_key key.entry) now) entries.now (at + 1) result }
+    requires short { length rows.now ≤ 65536 }
+    requires room { steps.old ≤ 2 ^ 64 - 1 - 17 }
+    ensures first { FirstWith (CanServe (plain_key key.entry) now) rows.now result }
+    ensures used { UsesAt rows.now used.old result used.new }
+    ensures counted { steps.old ≤ steps.new }
+    ensures few { steps.new ≤ steps.old + 17 }
 {
-    let entry = &entries[at];
-    if !entry.can_serve(key, now) {
-        return least;
-    }
-    let Some(place) = least else {
-        return Some(at);
-    };
-    match entries[place].compare(entry) {
-        Ordering::Greater => Some(at),
-        _ => Some(place),
-    }
+    let at = rows.first_serving(key, now, steps)?;
+    used.promote(&rows.row(at).serial);
+    Some(at)
 }
 
-/// Erases all under a name, and gives how many.
-fn erase_all(entries: &mut Vec<Entry>, name: Name<'_>) -> u64
-    ensures { Erases (components name.entry) None entries.old.items entries.new.items result }
+/// Puts a row before the one at a place of the list. What is displaced goes. Where memory is
+/// refused, all is as it was.
+fn put_new(rows: &mut Rows, used: &mut LruCache<u64, u32>, at: usize, row: Row) -> bool
+    requires sound { Sound rows.old used.old.entries row.serial }
+    requires short { length rows.old ≤ 65536 }
+    requires within { at ≤ length rows.old }
+    requires fits { (p : ℕ) → Rising (insert rows.old at (p, row)) }
+    ensures ok { IsTrue result → PutsNew rows.old used.old at row rows.new used.new }
+    ensures refused { result ≡ false → (rows.new ≡ rows.old) × (used.new ≡ used.old) }
 {
-    let before = entries.len();
-    entries.retain(|entry| !entry.is_under(name));
-    (before - entries.len()) as u64
-}
-
-/// Erases those under a name, the least full names first, at most `count`, and gives how many.
-fn erase_least(entries: &mut Vec<Entry>, name: Name<'_>, count: u64) -> u64
-    requires { EachOnce entries.old.items }
-    ensures { Erases (components name.entry) (Some count)
-        entries.old.items entries.new.items result }
-{
-    let key = Key {
-        name,
-        can_be_prefix: true,
-        must_be_fresh: false,
+    let serial = row.serial;
+    let Ok(place) = rows.insert(at, row) else {
+        return false;
     };
-    for erased in 0..count {
-        let Some(at) = least_place(entries, key, 0) else {
-            return erased;
-        };
-        entries.remove(at);
+    match used.push(serial, place) {
+        Ok(Some((_, other))) => {
+            rows.forget(other);
+            true
+        }
+        Ok(None) => true,
+        Err(_) => {
+            rows.forget(place);
+            false
+        }
     }
-    count
 }

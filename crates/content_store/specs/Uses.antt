@@ -1,0 +1,89 @@
+-- The order of use, as serial numbers that lead to places, for private contracts.
+use Rattle.std.specs.Prelude.{◌≡◌, ◌⊎◌, ℕ, ◌<◌, ◌≤◌, List, [], ◌∷◌, ◌++◌, length, take, drop, Option, None, Some, nat_eq, slice_index_or, insert}
+use Rattle.std.specs.Option.{option_map}
+use Rattle.std.specs.List.{All, AllByRecursion, IsDistinct}
+use Rattle.std.specs.Map.{keys_of, lookup, remove_entry, set_value}
+use Rattle.lru.specs.LruCache.{LruCache, lru_cache, promoted, put_entries, displaced}
+use Rattle.content_store.specs.declared.rows.Row.{Row}
+use Rattle.ndn_tlv.specs.Element.{Field}
+use Rattle.ndn_names.specs.Name.{IsPrefix}
+use Rattle.content_store.specs.Store.{CachedData, IsCachedData, TakesLeast, full_name_of}
+use Rattle.content_store.specs.declared.store.TheConstants.{MAX_CAPACITY}
+use Rattle.content_store.specs.Rows.{Placed, IsValidRows}
+
+abbrev pub with_held : Option CachedData → List CachedData → List CachedData
+with_held None rest = rest
+with_held (Some c) rest = c ∷ rest
+
+-- what these serial numbers lead to
+unfoldable pub cached_by : (ℕ → Option CachedData) → List (ℕ × ℕ) → List CachedData
+cached_by g [] = []
+cached_by g (u ∷ us) = with_held (g u.1) (cached_by g us)
+
+abbrev pub held_in : List Placed → ℕ → Option CachedData
+held_in rows p = option_map (λ row. row.entry) (lookup (nat_eq p) rows)
+
+abbrev pub cached_in : List Placed → List (ℕ × ℕ) → List CachedData
+cached_in rows used = cached_by (held_in rows) used
+
+-- the serial number leads to what has it
+pub record LeadsTo (rows : List Placed) (u : ℕ × ℕ) : Type 0 where
+  pub row : Row
+  pub there : lookup (nat_eq u.1) rows ≡ Some row
+  pub its : row.serial ≡ u.0
+
+pub record Sound (rows : List Placed) (used : List (ℕ × ℕ)) (next : ℕ) : Type 0 where
+  pub valid : IsValidRows rows
+  pub distinct : IsDistinct nat_eq (keys_of used)
+  pub there : AllByRecursion (LeadsTo rows) used
+  pub back : AllByRecursion (λ r. lookup (nat_eq r.1.serial) used ≡ Some r.0) rows
+  pub below : AllByRecursion (λ u. u.0 < next) used
+  pub long : length rows ≡ length used
+  pub each_data : AllByRecursion (λ r. IsCachedData r.1.entry) rows
+
+-- what a store is made of
+pub record IsHeld (rows : List Placed) (used : LruCache ℕ ℕ) (capacity next : ℕ) : Type 0 where
+  pub sound : Sound rows used.entries next
+  pub cap : used.cap ≡ capacity
+  pub within : length used.entries ≤ capacity
+  pub low : 1 ≤ capacity
+  pub high : capacity ≤ MAX_CAPACITY
+
+-- what stands at a place of the list is used, or nothing is
+abbrev pub UsesAt : List Placed → LruCache ℕ ℕ → Option ℕ → LruCache ℕ ℕ → Type 0
+UsesAt rows before None after = after ≡ before
+UsesAt rows before (Some at) after =
+    (d : Placed) → after ≡ lru_cache (promoted (nat_eq (slice_index_or rows at d).1.serial) before.entries) before.cap
+
+-- without what was displaced
+abbrev pub evicted : Option (ℕ × ℕ) → List Placed → List Placed
+evicted None rows = rows
+evicted (Some e) rows = remove_entry (nat_eq e.1) rows
+
+-- a row is put before the one at a place of the list, and what lru displaces goes
+pub record PutsNew (rows : List Placed) (used : LruCache ℕ ℕ) (at : ℕ) (row : Row) (rows' : List Placed) (used' : LruCache ℕ ℕ) : Type 0 where
+  pub place : ℕ
+  pub absent : lookup (nat_eq place) rows ≡ None
+  pub more : IsValidRows (insert rows at (place, row))
+  pub uses : used' ≡ lru_cache (put_entries nat_eq used row.serial place) used.cap
+  pub rows_are : rows' ≡ evicted (displaced nat_eq used row.serial place) (insert rows at (place, row))
+  pub valid : IsValidRows rows'
+
+-- an entry is put in place of what stands at a place of the list, which is used
+pub record Renews (rows : List Placed) (used : LruCache ℕ ℕ) (at : ℕ) (entry : CachedData) (rows' : List Placed) (used' : LruCache ℕ ℕ) : Type 0 where
+  pub rows_are : (d : Placed) → rows' ≡ set_value (nat_eq (slice_index_or rows at d).0) rows (record { entry = entry; serial = (slice_index_or rows at d).1.serial })
+  pub uses : (d : Placed) → used' ≡ lru_cache (promoted (nat_eq (slice_index_or rows at d).1.serial) used.entries) used.cap
+  pub valid : IsValidRows rows'
+
+-- without what stands from one place up to another
+abbrev pub without_range : {X : Type 0} → ℕ → ℕ → List X → List X
+without_range start end xs = take start xs ++ drop end xs
+
+-- what begins with a name goes, the least full names first and at most `most`
+pub record TakesUnder (name : List Field) (most : ℕ) (rows : List Placed) (used : LruCache ℕ ℕ) (rows' : List Placed) (used' : LruCache ℕ ℕ) (next gone : ℕ) : Type 0 where
+  pub sound : Sound rows' used'.entries next
+  pub cap : used'.cap ≡ used.cap
+  pub fewer : length used'.entries ≤ length used.entries
+  pub taken : TakesLeast name (cached_in rows used.entries) (cached_in rows' used'.entries) gone
+  pub at_most : gone ≤ most
+  pub ended : (gone ≡ most) ⊎ All (λ d. ¬ IsPrefix name (full_name_of d)) (cached_in rows' used'.entries)

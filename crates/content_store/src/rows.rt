@@ -1,0 +1,312 @@
+ghost use Rattle.std.specs.Prelude.{◌≡◌, ◌-◌, ◌+◌, ◌<◌, ◌≤◌, ◌^◌, length, insert, slice_index_or, IsSome, IfOk, OnOk, OnErr, Some, None, nat_eq, ℕ, slice_index, IsTrue, false, ◌≢◌, []};
+ghost use Rattle.std.specs.List.{remove};
+ghost use Rattle.std.specs.Map.{lookup, remove_entry, set_value};
+ghost use Rattle.slab.specs.Slab.{get};
+ghost use Rattle.ndn_names.specs.View.{components};
+ghost use Rattle.ndn_packets.specs.Key.{plain_key};
+ghost use Rattle.content_store.specs.Store.{CanServe, full_name_of};
+ghost use Rattle.content_store.specs.Rows.{Placed, Rising, IsRows, IsLower, FirstWith, IsValidRows, shown, name_at};
+ghost use Rattle.content_store.specs.Sought.{sought_name};
+ghost use Rattle.content_store.specs.Uses.{Sound, TakesUnder, without_range};
+
+use crate::entry::Entry;
+use crate::sought::{Sought, is_below};
+use lru::LruCache;
+use ndn_names::Name;
+use ndn_packets::Key;
+use ndn_tlv::Memory;
+use slab::Slab;
+use std::alloc::Global;
+use std::marker::Model;
+
+/// A Data that is held, and the serial number of its use.
+#[derive(Drop)]
+pub struct Row {
+    pub entry: Entry,
+    pub serial: u64,
+}
+
+/// What is held, by full name in canonical order.
+#[derive(Drop)]
+pub struct Rows {
+    entries: Slab<Row>,
+    order: Vec<u32>,
+}
+
+impl Model for Rows {
+    ghost use Rattle.std.specs.Prelude.{List};
+    ghost use Rattle.slab.specs.Slab.{get};
+    ghost use Rattle.content_store.specs.Rows.{Placed, shown, IsRows};
+
+    ghost Value = { List Placed };
+
+    ghost view = { λ r. shown (get r.entries) r.order.items };
+
+    ghost invariant = { λ r. IsRows (get r.entries) r.order.items };
+}
+
+/// Where the first full name that is not less than what is sought is. Each comparison counts.
+fn lower_bound(entries: &Slab<Row>, order: &[u32], sought: Sought<'_>, steps: &mut u64) -> usize
+    requires rows { IsRows (get entries.now) order.now }
+    requires short { length order.now < 131072 }
+    requires room { steps.old ≤ 2 ^ 64 - 1 - 17 }
+    ensures lower { IsLower (sought_name sought.entry) (shown (get entries.now) order.now) result }
+    ensures counted { steps.old ≤ steps.new }
+    ensures few { steps.new ≤ steps.old + 17 }
+{
+    let mut low = 0;
+    let mut high = order.len();
+    while low < high {
+        let mid = low + (high - low) / 2;
+        *steps += 1;
+        if is_below(&entries[order[mid] as usize].entry, sought) {
+            low = mid + 1;
+        } else {
+            high = mid;
+        }
+    }
+    low
+}
+
+/// Where the first is that can serve an Interest of this key.
+fn first_serving(
+    entries: &Slab<Row>,
+    order: &[u32],
+    key: Key<'_>,
+    now: u64,
+    steps: &mut u64,
+) -> Option<usize>
+    requires rows { IsRows (get entries.now) order.now }
+    requires short { length order.now < 131072 }
+    requires room { steps.old ≤ 2 ^ 64 - 1 - 17 }
+    ensures first { FirstWith (CanServe (plain_key key.entry) now)
+        (shown (get entries.now) order.now) result }
+    ensures counted { steps.old ≤ steps.new }
+    ensures few { steps.new ≤ steps.old + 17 }
+{
+    let start = lower_bound(entries, order, Sought::Named(key.name), steps);
+    first_from(entries, order, start, key, now)
+}
+
+/// Where the first is that can serve an Interest of this key, from where its name would stand.
+fn first_from(
+    entries: &Slab<Row>,
+    order: &[u32],
+    start: usize,
+    key: Key<'_>,
+    now: u64,
+) -> Option<usize>
+    requires rows { IsRows (get entries.now) order.now }
+    requires start { IsLower (components key.name) (shown (get entries.now) order.now) start }
+    ensures { FirstWith (CanServe (plain_key key.entry) now)
+        (shown (get entries.now) order.now) result }
+{
+    for at in start..order.len() {
+        let entry = &entries[order[at] as usize].entry;
+        if !entry.is_near(key) {
+            return None;
+        }
+        if entry.can_serve(key, now) {
+            return Some(at);
+        }
+    }
+    None
+}
+
+impl Rows {
+    pub fn new(alloc: Global) -> Rows
+        ensures { result ≡ [] }
+    {
+        Rows {
+            entries: Slab::new(alloc),
+            order: Vec::new(alloc),
+        }
+    }
+
+    /// Where the first is that can serve an Interest of this key.
+    pub fn first_serving(&self, key: Key<'_>, now: u64, steps: &mut u64) -> Option<usize>
+        requires short { length self.now < 131072 }
+        requires room { steps.old ≤ 2 ^ 64 - 1 - 17 }
+        ensures first { FirstWith (CanServe (plain_key key.entry) now) self.now result }
+        ensures counted { steps.old ≤ steps.new }
+        ensures few { steps.new ≤ steps.old + 17 }
+    {
+        first_serving(&self.entries, &self.order, key, now, steps)
+    }
+
+    /// How many there are. All that is true of them.
+    pub fn len(&self) -> usize
+        ensures len { result ≡ length self.now }
+        ensures valid { IsValidRows self.now }
+    {
+        self.order.len()
+    }
+
+    /// What stands at a place of the list.
+    pub fn row(&self, at: usize) -> &Row
+        requires { at < length self.now }
+        ensures { (d : Placed) → (slice_index_or self.now at d).1 ≡ result.now }
+    {
+        &self.entries[self.order[at] as usize]
+    }
+
+    /// Takes out all.
+    pub fn clear(&mut self)
+        ensures { self.new ≡ [] }
+    {
+        self.order.clear();
+        self.entries.clear();
+    }
+
+    /// Where what is sought stands, or would go.
+    pub fn place_for(&self, sought: Sought<'_>) -> usize
+        requires { length self.now < 131072 }
+        ensures { IsLower (sought_name sought.entry) self.now result }
+    {
+        let mut steps = 0;
+        lower_bound(&self.entries, &self.order, sought, &mut steps)
+    }
+
+    /// Whether what stands at a place of the list has the full name of an entry.
+    pub fn is_same(&self, at: usize, entry: &Entry) -> bool
+        ensures yes { IsTrue result → (at < length self.now)
+            × ((d : Placed) → name_at (slice_index_or self.now at d) ≡ full_name_of entry.now) }
+        ensures no { result ≡ false → (d : Placed) → at < length self.now
+            → name_at (slice_index_or self.now at d) ≢ full_name_of entry.now }
+    {
+        if at >= self.len() {
+            return false;
+        }
+        self.row(at).entry.is_same(entry)
+    }
+
+    /// Adds a row before the one at a place of the list. Gives its place in the slab.
+    pub fn insert(&mut self, at: usize, row: Row) -> Result<u32, Memory>
+        requires within { at ≤ length self.old }
+        requires fits { (p : ℕ) → Rising (insert self.old at (p, row)) }
+        ensures ok { IfOk result (λ p. (lookup (nat_eq p) self.old ≡ None)
+            × (self.new ≡ insert self.old at (p, row))) }
+        ensures err { OnErr result (self.new ≡ self.old) }
+        ensures valid { OnOk result (IsValidRows self.new) }
+    {
+        let place = hold(&mut self.entries, row)?;
+        match self.order.insert(at, place) {
+            Ok(()) => Ok(place),
+            Err(_) => {
+                self.entries.remove(place as usize);
+                Err(Memory)
+            }
+        }
+    }
+
+    /// Puts an entry of the same full name in place of what stands at a place of the list.
+    pub fn renew(&mut self, at: usize, entry: Entry)
+        requires within { at < length self.old }
+        requires named { (d : Placed)
+            → name_at (slice_index_or self.old at d) ≡ full_name_of entry }
+        ensures rows { (d : Placed) → let r = slice_index_or self.old at d in self.new
+            ≡ set_value (nat_eq r.0) self.old (record { entry = entry; serial = r.1.serial }) }
+        ensures valid { IsValidRows self.new }
+    {
+        let place = self.order[at];
+        self.entries[place as usize].entry = entry;
+    }
+
+    /// Takes out what stands at a place of the slab.
+    pub fn forget(&mut self, place: u32)
+        requires short { length self.old < 131072 }
+        requires there { IsSome (lookup (nat_eq place) self.old) }
+        ensures rows { self.new ≡ remove_entry (nat_eq place) self.old }
+        ensures valid { IsValidRows self.new }
+    {
+        let at = index_of(&self.entries, &self.order, place);
+        self.order.remove(at);
+        self.entries.remove(place as usize);
+    }
+
+    /// Takes out what begins with a name, the least full names first and at most `most`, and their
+    /// serial numbers. Gives how many.
+    pub fn remove_under(&mut self, used: &mut LruCache<u64, u32>, name: Name<'_>, most: u64) -> u64
+        requires { length self.old < 131072 }
+        ensures { (next : ℕ) → Sound self.old used.old.entries next
+            → TakesUnder (components name.entry) most self.old used.old self.new used.new next
+            result }
+    {
+        let start = self.place_for(Sought::Named(name));
+        let end = remove_under(&mut self.entries, used, &self.order, start, name, most);
+        cut(&mut self.order, start, end);
+        (end - start) as u64
+    }
+}
+
+/// Takes out of the slab and of `used` what begins with a name, from a place of the list on and at
+/// most `most`. Gives the place behind the last of them.
+fn remove_under(
+    entries: &mut Slab<Row>,
+    used: &mut LruCache<u64, u32>,
+    order: &[u32],
+    start: usize,
+    name: Name<'_>,
+    most: u64,
+) -> usize
+    requires rows { IsRows (get entries.old) order.now }
+    requires start { IsLower (components name) (shown (get entries.old) order.now) start }
+    ensures from { start ≤ result }
+    ensures within { result ≤ length order.now }
+    ensures rows { IsRows (get entries.new) (without_range start result order.now) }
+    ensures taken { (next : ℕ) → Sound (shown (get entries.old) order.now) used.old.entries next
+        → TakesUnder (components name.entry) most (shown (get entries.old) order.now) used.old
+        (shown (get entries.new) (without_range start result order.now)) used.new next
+        (result - start) }
+{
+    for end in start..order.len() {
+        let place = order[end] as usize;
+        if (end - start) as u64 == most || !entries[place].entry.is_under(name) {
+            return end;
+        }
+        let row = entries.remove(place);
+        used.pop(&row.serial);
+    }
+    order.len()
+}
+
+/// Takes a range out of a list.
+fn cut(order: &mut Vec<u32>, start: usize, end: usize)
+    requires ordered { start ≤ end }
+    requires within { end ≤ length order.old.items }
+    ensures { order.new.items ≡ without_range start end order.old.items }
+{
+    let left = order.len() - (end - start);
+    order[start..].rotate_left(end - start);
+    order.truncate(left);
+}
+
+/// Puts a row into the slab. Gives its place there.
+fn hold(entries: &mut Slab<Row>, row: Row) -> Result<u32, Memory>
+    ensures vacant { IfOk result (λ p. get entries.old p ≡ None) }
+    ensures held { IfOk result (λ p. get entries.new p ≡ Some row) }
+    ensures others { IfOk result (λ p. (q : ℕ) → q ≢ p → get entries.new q ≡ get entries.old q) }
+    ensures err { OnErr result ((q : ℕ) → get entries.new q ≡ get entries.old q) }
+{
+    let place = entries.insert(row)?;
+    match u32::try_from(place) {
+        Ok(short) => Ok(short),
+        Err(_) => {
+            entries.remove(place);
+            Err(Memory)
+        }
+    }
+}
+
+/// Where in the list a place of the slab stands.
+fn index_of(entries: &Slab<Row>, order: &[u32], place: u32) -> usize
+    requires rows { IsRows (get entries.now) order.now }
+    requires short { length order.now < 131072 }
+    requires there { IsSome (lookup (nat_eq place) (shown (get entries.now) order.now)) }
+    ensures within { result < length order.now }
+    ensures found { slice_index order.now result ≡ place }
+{
+    let mut steps = 0;
+    let entry = &entries[place as usize].entry;
+    lower_bound(entries, order, Sought::Held(entry), &mut steps)
+}
