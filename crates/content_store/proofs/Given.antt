@@ -15,17 +15,18 @@ abbrev pub seen : List Placed → LruCache ℕ ℕ → ℕ → StoreState
 seen rows used capacity = record { cached = cached_in rows used.entries; capacity = capacity }
 
 module _ (rows : List Placed) (used used' : LruCache ℕ ℕ) (capacity next : ℕ) (h : IsHeld rows used capacity next) (key : PlainKey) (now : ℕ) (s : StoreState) (is : seen rows used capacity ≡ s) where
-  pub gives_none : FirstWith (CanServe key now) rows None → used' ≡ used
-      → Gives key now s.cached None × IsStore (seen rows used' capacity) × Finds key now s None (seen rows used' capacity)
-  gives_none first same =
+  pub gives_none : FirstWith (CanServe key now) rows None → Gives key now s.cached None × IsStore s × Finds key now s None s
+  gives_none first =
       let none : All (λ d. CanServe key now d → ⊥) s.cached =
-      subst (λ (t : StoreState). All (λ d. CanServe key now d → ⊥) t.cached) is (none_serves (CanServe key now) rows used.entries next h.sound first) in (
-        none,
-        subst (λ (u : LruCache ℕ ℕ). IsStore (seen rows u capacity)) (sym same) (held_store rows used capacity next h),
-        (none, ap (λ u. seen rows u capacity) same ∙ is),
-      )
+      subst (λ (t : StoreState). All (λ d. CanServe key now d → ⊥) t.cached) is (none_serves (CanServe key now) rows used.entries next h.sound first) in
+      (none, subst IsStore is (held_store rows used capacity next h), (none, refl))
 
-  module _ (at : ℕ) (first : FirstWith (CanServe key now) rows (Some at)) (uses : UsesAt rows used (Some at) used') where
+  pub least_of : (at : ℕ) → FirstWith (CanServe key now) rows (Some at) → (c : CachedData) × IsLeast (CanServe key now) s.cached c
+  least_of at first =
+      let r = stands_at rows at first.0 in
+      (held_at r.0, subst (λ (t : StoreState). IsLeast (CanServe key now) t.cached (held_at r.0)) is (first_is_least (CanServe key now) rows used.entries next h.sound at r.0 (r.1 r.0) first))
+
+  module _ (at : ℕ) (first : FirstWith (CanServe key now) rows (Some at)) (uses : UsesAt rows used at used') where
     pub kept : IsHeld rows used' capacity next
     kept =
         let r = stands_at rows at first.0 in

@@ -9,7 +9,10 @@ use Rattle.std.proofs.lemmas.Option.{same_Some}
 use Rattle.std.proofs.lemmas.Map.Keys.{IsDistinct-from_apart}
 use Rattle.std.proofs.lemmas.Map.Entries.{length-keys_of}
 use Rattle.std.specs.List.{AllByRecursion}
-use Rattle.std.specs.declared.cmp.Ordering.TheVariants.{Less, Equal}
+use Rattle.std.specs.Prelude.{true}
+use Rattle.std.specs.Ordering.{is_lt}
+use Rattle.std.specs.declared.cmp.Ordering.{Ordering}
+use Rattle.std.specs.declared.cmp.Ordering.TheVariants.{Less, Equal, Greater}
 use Rattle.std.proofs.Math.Nat.{pow-succ'}
 use Rattle.ndn_tlv.specs.Element.{Field}
 use Rattle.ndn_names.specs.Order.{name_cmp}
@@ -39,6 +42,14 @@ module _ (h : ℕ → Option Row) where
       let r = some_is (h q) a.0 in
       ap (λ o. get_or (with_slot q o (shown h ps)) (suc k) d) r.1 ∙ shown_at ps k row a.1 (omega arith) at d
 
+pub less_is : (o : Ordering) → is_lt o ≡ true → o ≡ Less
+less_is Less e = refl
+less_is Equal e = absurd cc
+less_is Greater e = absurd cc
+
+pub lt_is : (o : Ordering) → o ≡ Less → is_lt o ≡ true
+lt_is o e = ap is_lt e
+
 -- how far a halving has come
 pub record LowerSoFar (name : List Field) (rows : List Placed) (low high : ℕ) : Type 0 where
   pub ordered : low ≤ high
@@ -49,25 +60,27 @@ same_or_less : (a b : ℕ) → a ≤ b → (a ≡ b) ⊎ (a < b)
 same_or_less a b le = grind arith
 
 module _ (name : List Field) (rows : List Placed) (rising : Rising rows) (mid : ℕ) (r : Placed) (within : mid < length rows) (at : (d : Placed) → get_or rows mid d ≡ r) where
+  -- all up to one that comes before a name
+  pub all_below : name_cmp (name_at r) name ≡ Less → (k : ℕ) (d : Placed) → k < mid + 1 → name_cmp (name_at (get_or rows k d)) name ≡ Less
+  all_below less k d lt =
+      elim (same_or_less k mid (omega arith)) [
+        | inl e ↦ ap (λ n. name_cmp (name_at (get_or rows n d)) name) e ∙ ap (λ x. name_cmp (name_at x) name) (at d) ∙ less
+        | inr before ↦ name_cmp-total.trans (name_at (get_or rows k d)) (name_at (get_or rows mid d)) name (rising k mid d before within) (ap (λ x. name_cmp (name_at x) name) (at d) ∙ less)
+      ]
+
+  -- all from one on that does not come before a name
+  pub none_below : (name_cmp (name_at r) name ≡ Less → ⊥) → (k : ℕ) (d : Placed) → mid ≤ k → k < length rows → name_cmp (name_at (get_or rows k d)) name ≡ Less → ⊥
+  none_below never k d ge lt less =
+      elim (same_or_less mid k ge) [
+        | inl e ↦ never (ap (λ x. name_cmp (name_at x) name) (sym (at d)) ∙ ap (λ n. name_cmp (name_at (get_or rows n d)) name) e ∙ less)
+        | inr after ↦ never (ap (λ x. name_cmp (name_at x) name) (sym (at d)) ∙ name_cmp-total.trans (name_at (get_or rows mid d)) (name_at (get_or rows k d)) name (rising mid k d after lt) less)
+      ]
+
   pub low_moves : (low high : ℕ) → LowerSoFar name rows low high → mid < high → name_cmp (name_at r) name ≡ Less → LowerSoFar name rows (mid + 1) high
-  low_moves low high so lt less = record {
-    ordered = omega arith;
-    below = λ k d k_lt. elim (same_or_less k mid (omega arith)) [
-      | inl e ↦ ap (λ n. name_cmp (name_at (get_or rows n d)) name) e ∙ ap (λ x. name_cmp (name_at x) name) (at d) ∙ less
-      | inr before ↦ name_cmp-total.trans (name_at (get_or rows k d)) (name_at (get_or rows mid d)) name (rising k mid d before within) (ap (λ x. name_cmp (name_at x) name) (at d) ∙ less)
-    ];
-    above = so.above;
-  }
+  low_moves low high so lt less = record { ordered = omega arith; below = all_below less; above = so.above }
 
   pub high_moves : (low high : ℕ) → LowerSoFar name rows low high → low ≤ mid → (name_cmp (name_at r) name ≡ Less → ⊥) → LowerSoFar name rows low mid
-  high_moves low high so le never = record {
-    ordered = le;
-    below = so.below;
-    above = λ k d k_ge k_lt less. elim (same_or_less mid k k_ge) [
-      | inl e ↦ never (ap (λ x. name_cmp (name_at x) name) (sym (at d)) ∙ ap (λ n. name_cmp (name_at (get_or rows n d)) name) e ∙ less)
-      | inr after ↦ never (ap (λ x. name_cmp (name_at x) name) (sym (at d)) ∙ name_cmp-total.trans (name_at (get_or rows mid d)) (name_at (get_or rows k d)) name (rising mid k d after k_lt) less)
-    ];
-  }
+  high_moves low high so le never = record { ordered = le; below = so.below; above = none_below never }
 
 -- one more halving
 pub halved : (left low high next : ℕ) → high - low < 2 ^ left → low < high → next ≤ (high - low) / 2

@@ -49,10 +49,9 @@ pub record IsHeld (rows : List Placed) (used : LruCache ℕ ℕ) (capacity next 
   pub low : 1 ≤ capacity
   pub high : capacity ≤ MAX_CAPACITY
 
--- what stands at a place of the list is used, or nothing is
-abbrev pub UsesAt : List Placed → LruCache ℕ ℕ → Option ℕ → LruCache ℕ ℕ → Type 0
-UsesAt rows before None after = after ≡ before
-UsesAt rows before (Some at) after =
+-- what stands at a place of the list is used
+abbrev pub UsesAt : List Placed → LruCache ℕ ℕ → ℕ → LruCache ℕ ℕ → Type 0
+UsesAt rows before at after =
     (d : Placed) → after ≡ lru_cache (promoted (nat_eq (slice_index_or rows at d).1.serial) before.entries) before.cap
 
 -- without what was displaced

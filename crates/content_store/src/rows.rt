@@ -1,7 +1,9 @@
-ghost use Rattle.std.specs.Prelude.{◌≡◌, ◌-◌, ◌+◌, ◌<◌, ◌≤◌, ◌^◌, length, insert, slice_index_or, IsSome, IfOk, OnOk, OnErr, Some, None, nat_eq, ℕ, slice_index, IsTrue, false, ◌≢◌, []};
+ghost use Rattle.std.specs.Prelude.{◌≡◌, ◌-◌, ◌+◌, ◌<◌, ◌≤◌, ◌^◌, length, insert, slice_index_or, IsSome, IfOk, OnOk, OnErr, Some, None, nat_eq, ℕ, slice_index, IsTrue, false, MatchOption, ◌≢◌, []};
 ghost use Rattle.std.specs.List.{remove};
 ghost use Rattle.std.specs.Map.{lookup, remove_entry, set_value};
+ghost use Rattle.std.specs.declared.cmp.Ordering.TheVariants as names;
 ghost use Rattle.slab.specs.Slab.{get};
+ghost use Rattle.ndn_names.specs.Order.{name_cmp};
 ghost use Rattle.ndn_names.specs.View.{components};
 ghost use Rattle.ndn_packets.specs.Key.{plain_key};
 ghost use Rattle.content_store.specs.Store.{CanServe, full_name_of};
@@ -113,6 +115,35 @@ fn first_from(
     None
 }
 
+/// Whether what stands before a place of the list comes before a name.
+fn is_above(entries: &Slab<Row>, order: &[u32], name: Name<'_>, at: usize) -> bool
+    requires rows { IsRows (get entries.now) order.now }
+    requires within { at ≤ length order.now }
+    ensures { IsTrue result → (k : ℕ) (d : Placed) → k < at
+        → name_cmp (name_at (slice_index_or (shown (get entries.now) order.now) k d))
+        (components name.entry) ≡ names.Less }
+{
+    if at == 0 {
+        return true;
+    }
+    entries[order[at - 1] as usize].entry.is_below(name)
+}
+
+/// Whether a name would stand at a place of the list.
+fn is_lower(entries: &Slab<Row>, order: &[u32], name: Name<'_>, at: usize) -> bool
+    requires { IsRows (get entries.now) order.now }
+    ensures { IsTrue result
+        → IsLower (components name.entry) (shown (get entries.now) order.now) at }
+{
+    if at > order.len() || !is_above(entries, order, name, at) {
+        return false;
+    }
+    if at == order.len() {
+        return true;
+    }
+    !entries[order[at] as usize].entry.is_below(name)
+}
+
 impl Rows {
     pub fn new(alloc: Global) -> Rows
         ensures { result ≡ [] }
@@ -132,6 +163,32 @@ impl Rows {
         ensures few { steps.new ≤ steps.old + 17 }
     {
         first_serving(&self.entries, &self.order, key, now, steps)
+    }
+
+    /// Where the name of a key would stand, if one can serve an Interest of this key.
+    pub fn start_for(&self, key: Key<'_>, now: u64) -> Option<usize>
+        requires { length self.now < 131072 }
+        ensures { MatchOption result (FirstWith (CanServe (plain_key key.entry) now) self.now None)
+            (λ _. (at : ℕ) × FirstWith (CanServe (plain_key key.entry) now) self.now (Some at)) }
+    {
+        let start = self.place_for(Sought::Named(key.name));
+        match first_from(&self.entries, &self.order, start, key, now) {
+            Some(_) => Some(start),
+            None => None,
+        }
+    }
+
+    /// Where the first is that can serve an Interest of this key. Its name may stand at `place`.
+    pub fn first_at(&self, place: usize, key: Key<'_>, now: u64) -> Option<usize>
+        requires { length self.now < 131072 }
+        ensures { FirstWith (CanServe (plain_key key.entry) now) self.now result }
+    {
+        let start = if is_lower(&self.entries, &self.order, key.name, place) {
+            place
+        } else {
+            self.place_for(Sought::Named(key.name))
+        };
+        first_from(&self.entries, &self.order, start, key, now)
     }
 
     /// How many there are. All that is true of them.

@@ -1,10 +1,10 @@
-ghost use Rattle.std.specs.Prelude.{◌≡◌, ◌↔◌, ◌⊎◌, ◌+◌, ◌-◌, ◌<◌, ◌≤◌, ◌^◌, [], ℕ, length, insert, slice_index_or, Err, IsTrue, false, IfOk};
+ghost use Rattle.std.specs.Prelude.{◌≡◌, ◌↔◌, ◌⊎◌, ◌+◌, ◌-◌, ◌<◌, ◌≤◌, ◌^◌, [], ℕ, length, insert, slice_index_or, Err, IsTrue, false, IfOk, MatchOption};
 ghost use Rattle.std.specs.Option.{option_map};
 ghost use Rattle.std.specs.List.{All};
 ghost use Rattle.ndn_names.specs.View.{components};
 ghost use Rattle.ndn_packets.specs.Key.{plain_key};
-ghost use Rattle.content_store.specs.Store.{IsCachedData, IsStore, CanServe, Gives, Finds, Erases, LosesSome, StoreState, cached_at, full_name_of, with_cached};
-ghost use Rattle.content_store.specs.Rows.{FirstWith, Placed, Rising, name_at};
+ghost use Rattle.content_store.specs.Store.{CachedData, IsCachedData, IsLeast, IsStore, CanServe, Gives, Finds, Erases, LosesSome, StoreState, cached_at, full_name_of, with_cached};
+ghost use Rattle.content_store.specs.Rows.{Placed, Rising, name_at};
 ghost use Rattle.content_store.specs.Uses.{UsesAt, Sound, PutsNew, Renews};
 ghost use Rattle.content_store.specs.declared.fault.StoreFault.TheVariants as faults;
 
@@ -163,9 +163,10 @@ impl Store {
             × Finds (plain_key key.entry) now self.old (option_map (λ o. o.now) result) after)) }
     {
         let mut steps = 0;
-        let Some(at) = use_first(&self.rows, &mut self.used, key, now, &mut steps) else {
+        let Some(at) = self.rows.first_serving(key, now, &mut steps) else {
             return None;
         };
+        promote(&self.rows, &mut self.used, at);
         Some(self.rows.row(at).entry.octets())
     }
 
@@ -180,9 +181,33 @@ impl Store {
         ensures* used { sem 𝓛 (EndsWith self.entry (λ after. IsStore after
             × Finds (plain_key key.entry) now self.old (option_map (λ o. o.now) result) after)) }
     {
-        let Some(at) = use_first(&self.rows, &mut self.used, key, now, steps) else {
+        let Some(at) = self.rows.first_serving(key, now, steps) else {
             return None;
         };
+        promote(&self.rows, &mut self.used, at);
+        Some(self.rows.row(at).entry.octets())
+    }
+
+    /// A place for `serve_at`, where `find` would give something for this key at this moment.
+    pub fn place_for(&self, key: Key<'_>, now: u64) -> Option<usize>
+        ensures { MatchOption result (All (λ c. ¬ CanServe (plain_key key.entry) now c) self.now.cached)
+            (λ _. (c : CachedData) × IsLeast (CanServe (plain_key key.entry) now) self.now.cached c) }
+    {
+        self.rows.start_for(key, now)
+    }
+
+    /// As `find`, without its halving where `place_for` gave this place for this key, and the store
+    /// is as it was then.
+    pub fn serve_at(&mut self, place: usize, key: Key<'_>, now: u64) -> Option<&[u8]>
+        ensures found { Gives (plain_key key.entry) now self.old.cached
+            (option_map (λ o. o.now) result) }
+        ensures* used { sem 𝓛 (EndsWith self.entry (λ after. IsStore after
+            × Finds (plain_key key.entry) now self.old (option_map (λ o. o.now) result) after)) }
+    {
+        let Some(at) = self.rows.first_at(place, key, now) else {
+            return None;
+        };
+        promote(&self.rows, &mut self.used, at);
         Some(self.rows.row(at).entry.octets())
     }
 
@@ -212,24 +237,12 @@ fn put_same(rows: &mut Rows, used: &mut LruCache<u64, u32>, at: usize, entry: En
     used.promote(&serial);
 }
 
-/// Where the first is that can serve. It is then the most recently used.
-fn use_first(
-    rows: &Rows,
-    used: &mut LruCache<u64, u32>,
-    key: Key<'_>,
-    now: u64,
-    steps: &mut u64,
-) -> Option<usize>
-    requires short { length rows.now ≤ 65536 }
-    requires room { steps.old ≤ 2 ^ 64 - 1 - 17 }
-    ensures first { FirstWith (CanServe (plain_key key.entry) now) rows.now result }
-    ensures used { UsesAt rows.now used.old result used.new }
-    ensures counted { steps.old ≤ steps.new }
-    ensures few { steps.new ≤ steps.old + 17 }
+/// Makes what stands at a place of the list the most recently used.
+fn promote(rows: &Rows, used: &mut LruCache<u64, u32>, at: usize)
+    requires { at < length rows.now }
+    ensures { UsesAt rows.now used.old at used.new }
 {
-    let at = rows.first_serving(key, now, steps)?;
     used.promote(&rows.row(at).serial);
-    Some(at)
 }
 
 /// Puts a row before the one at a place of the list. What is displaced goes. Where memory is

@@ -7,17 +7,9 @@ use Rattle.slab.specs.Slab.{get}
 use Rattle.ndn_names.specs.Order.{name_cmp}
 use Rattle.content_store.specs.Sought.{sought_name}
 use Rattle.content_store.specs.Rows.{Placed, shown, name_at}
-use Rattle.content_store.proofs.Shown.{length-shown, shown_at, low_moves, high_moves, halved}
+use Rattle.content_store.proofs.Shown.{length-shown, less_is, lt_is, shown_at, low_moves, high_moves, halved}
 use Rattle.content_store.proofs.rows.lower_bound.Goals as goal
 use Rattle.content_store.proofs.rows.lower_bound.Goals.{After-is_below}
-
-less_is : (o : Ordering) → is_lt o ≡ true → o ≡ Less
-less_is Less e = refl
-less_is Equal e = absurd cc
-less_is Greater e = absurd cc
-
-lt_is : (o : Ordering) → o ≡ Less → is_lt o ≡ true
-lt_is o e = ap is_lt e
 
 -- the middle: its place in the list, and how it compares
 abbrev mid_of : After-is_below → ℕ
