@@ -1,18 +1,17 @@
 -- Rows under a name go, one after another.
 use Rattle.std.proofs.Common.{◌≡◌, ◌≢◌, ◌⊎◌, inl, inr, ℕ, zero, suc, ◌+◌, ◌-◌, ◌<◌, ◌≤◌, List, [], ◌∷◌, ◌++◌, length, get_or, take, drop, refl, sym, ap, subst, ◌∙◌, arith, All}
-use Rattle.std.specs.Prelude.{IsSome, Option, None, Some, nat_eq}
+use Rattle.std.specs.Prelude.{IsSome, Option, Some, nat_eq}
 use Rattle.std.specs.List.{remove}
 use Rattle.std.specs.Map.{lookup, remove_entry}
 use Rattle.std.proofs.lemmas.List.{length-append, length-take-le, length-drop, get_or-append_right, get_or-drop}
 use Rattle.std.proofs.lemmas.List.Edits.{length-remove, get_or-remove_below, get_or-remove_above}
-use Rattle.std.specs.declared.cmp.Ordering.TheVariants.{Less}
 use Rattle.lru.specs.LruCache.{LruCache}
 use Rattle.ndn_tlv.specs.Element.{Field}
 use Rattle.ndn_names.specs.Name.{IsPrefix}
 use Rattle.ndn_names.specs.Order.{name_cmp}
 use Rattle.content_store.specs.declared.rows.Row.{Row}
 use Rattle.content_store.specs.Store.{CachedData, IsLeast, TakesLeast, full_name_of, without}
-use Rattle.content_store.specs.Rows.{Placed, FirstWith, IsLower, IsRows, IsValidRows, held_at, name_at, shown}
+use Rattle.content_store.specs.Rows.{Placed, IsLower, IsRows, IsValidRows, name_at, shown}
 use Rattle.content_store.specs.Uses.{Sound, cached_in, without_range}
 use Rattle.content_store.proofs.Shown.{all_there, length-shown, shown_at, valid_shown}
 use Rattle.content_store.proofs.Under.{none_after, under_not_less}

@@ -1,10 +1,10 @@
 -- What a store gives, and what it is then.
-use Rattle.std.proofs.Common.{◌≡◌, ℕ, List, length, get_or, refl, ap, sym, subst, ◌∙◌, ◌∷◌, All}
+use Rattle.std.proofs.Common.{◌≡◌, ℕ, List, get_or, refl, ap, sym, subst, ◌∙◌, All}
 use Rattle.std.specs.Prelude.{None, Some, nat_eq}
 use Rattle.lru.specs.LruCache.{LruCache, lru_cache, promoted}
 use Rattle.ndn_packets.specs.Key.{PlainKey}
 use Rattle.content_store.specs.declared.rows.Row.{Row}
-use Rattle.content_store.specs.Store.{CachedData, StoreState, IsStore, IsLeast, CanServe, Gives, Finds, full_name_of, with_used, without}
+use Rattle.content_store.specs.Store.{CachedData, StoreState, IsStore, IsLeast, CanServe, Gives, Finds, with_used}
 use Rattle.content_store.specs.Rows.{Placed, FirstWith, held_at}
 use Rattle.content_store.specs.Uses.{IsHeld, UsesAt, cached_in}
 use Rattle.content_store.proofs.Least.{held_store, none_serves, first_is_least}

@@ -7,6 +7,7 @@ pub mod Changes
 pub mod Edits
 pub mod Fresh
 pub mod Renewed
+pub mod FullNames
 pub mod Given
 pub mod Losses
 pub mod Taken

@@ -1,5 +1,5 @@
 -- What is left of a list without some; what is cached is a Data.
-use Rattle.std.proofs.Common.{◌≡◌, ◌⊎◌, inl, inr, Bool, true, false, cond, not, ◌&&◌, List, [], ◌∷◌, filter, refl, sym, ap, subst, All, Contains}
+use Rattle.std.proofs.Common.{◌≡◌, ◌⊎◌, inl, inr, Bool, true, false, cond, ◌&&◌, List, [], ◌∷◌, filter, refl, sym, ap, subst, All, Contains}
 use Rattle.std.proofs.lemmas.List.Elements.{All-same, All-filter, All-contains_itself}
 use Rattle.ndn_packets.specs.declared.data.Data.{Data}
 use Rattle.ndn_packets.specs.View.{plain_data}

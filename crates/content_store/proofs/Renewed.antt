@@ -21,6 +21,7 @@ use Rattle.content_store.proofs.Uses.{sound_used, promoted_to, length_front}
 use Rattle.content_store.proofs.Least.{found_at, length_cached}
 use Rattle.content_store.proofs.Promotes.{stands_at, uses_at}
 use Rattle.content_store.proofs.Changes.{all_both, from_keys, cached_kept}
+use Rattle.content_store.proofs.Given.{seen}
 
 all_valued : {X : Type 0} (P : ℕ × X → Type 0) (p : ℕ) (x : X) (rows : List (ℕ × X)) → P (p, x) → AllByRecursion P rows → AllByRecursion P (set_value (nat_eq p) rows x)
 all_valued P p x [] px h = tt
@@ -170,3 +171,18 @@ held_new rows used capacity r u low high = (
       (record { sound = sound_none; cap = refl; within = omega arith; low = low; high = high })),
   (λ i. cached_in (r i) (u i).entries) ∙ none_cached,
 )
+
+-- the full name is held: its Data is renewed, or nothing changes
+pub held_same : (r : Bool) (rows rows' : List Placed) (used used' : LruCache ℕ ℕ) (capacity next at : ℕ) (entry : CachedData) → IsHeld rows used capacity next → IsCachedData entry → at < length rows
+    → ((d : Placed) → name_at (get_or rows at d) ≡ full_name_of entry) → (r ≡ true → Renews rows used at entry rows' used') → (r ≡ false → (rows' ≡ rows) × (used' ≡ used))
+    → IsHeld rows' used' capacity next × (r ≡ true → cached_in rows' used'.entries ≡ take capacity (entry ∷ without (full_name_of entry) (cached_in rows used.entries)))
+    × (r ≡ false → seen rows' used' capacity ≡ seen rows used capacity)
+held_same true rows rows' used used' capacity next at entry h data' lt named renews stays =
+    let all = held_renewed rows rows' used used' capacity next at entry h data' lt named (renews refl) in
+    (all.0, λ _. all.1, λ e. absurd cc)
+held_same false rows rows' used used' capacity next at entry h data' lt named renews stays =
+    let s = stays refl in (
+      subst (λ (rs : List Placed). IsHeld rs used' capacity next) (sym s.0) (subst (λ (u : LruCache ℕ ℕ). IsHeld rows u capacity next) (sym s.1) h),
+      λ e. absurd cc,
+      λ _ i. seen (s.0 i) (s.1 i) capacity,
+    )

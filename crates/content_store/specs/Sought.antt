@@ -1,11 +1,12 @@
 -- What a halving seeks, for private contracts.
 use Rattle.std.specs.Prelude.{List}
+use Rattle.sha2.specs.Sha256.{sha256}
 use Rattle.ndn_tlv.specs.Element.{Field}
 use Rattle.ndn_names.specs.View.{components}
+use Rattle.ndn_packets.specs.Answers.{full_name}
 use Rattle.content_store.specs.declared.sought.Sought.{Sought}
-use Rattle.content_store.specs.declared.sought.Sought.TheVariants.{Named, Held}
-use Rattle.content_store.specs.Store.{full_name_of}
+use Rattle.content_store.specs.declared.sought.Sought.TheVariants.{Full, Named}
 
 abbrev pub sought_name : Sought → List Field
 sought_name (Named name) = components name
-sought_name (Held entry) = full_name_of entry.now
+sought_name (Full name octets) = full_name (components name) (sha256 octets.now)

@@ -1,24 +1,27 @@
-ghost use Rattle.std.specs.Prelude.{◌≡◌, ◌↔◌, IsTrue, IfOk};
-ghost use Rattle.std.specs.Ordering.{eq_by_cmp, is_lt};
+ghost use Rattle.std.specs.Prelude.{◌≡◌, ◌↔◌, ◌⊎◌, IsTrue, IfOk};
+ghost use Rattle.std.specs.Ordering.{is_lt};
+ghost use Rattle.sha2.specs.Sha256.{sha256};
 ghost use Rattle.ndn_names.specs.Name.{IsPrefix};
 ghost use Rattle.ndn_names.specs.Order.{name_cmp};
 ghost use Rattle.ndn_names.specs.View.{components};
-ghost use Rattle.ndn_packets.specs.Answers.{begins_with};
+ghost use Rattle.ndn_packets.specs.Answers.{full_name};
 ghost use Rattle.ndn_packets.specs.FullName.{is_near};
 ghost use Rattle.ndn_packets.specs.Key.{plain_key};
 ghost use Rattle.content_store.specs.Store.{cached_at, full_name_of, IsFresh, CanServe};
 
-use ndn_names::Name;
-use ndn_packets::{Data, FullName, Key};
+use crate::full_name::{compare_full_names, compare_with_name};
+use ndn_names::component_type::PARAMETERS_SHA256_DIGEST;
+use ndn_names::{Name, NameBuf};
+use ndn_packets::{Data, Key};
 use ndn_tlv::Memory;
 use std::alloc::Global;
 use std::cmp::Ordering;
 use std::marker::Model;
 
-/// A Data that is held.
+/// A Data that is held. Its implicit digest is computed where a comparison turns on it.
 #[derive(Drop)]
 pub struct Entry {
-    full_name: FullName,
+    name: NameBuf,
     octets: Vec<u8>,
     freshness: u64,
     arrival: u64,
@@ -32,43 +35,63 @@ impl Model for Entry {
 
     ghost coded = { cached_code };
 
-    ghost view = { λ e. shown e.full_name e.octets.items e.freshness e.arrival };
+    ghost view = { λ e. shown e.name e.octets.items e.freshness e.arrival };
 }
 
 impl Entry {
-    /// A copy of a Data that arrived at this moment. The digest is computed here, and never again.
+    /// A copy of a Data that arrived at this moment.
     pub fn new(alloc: Global, packet: &Data<'_>, arrival: u64) -> Result<Entry, Memory>
         ensures { IfOk result (λ e. e ≡ cached_at packet.now arrival) }
     {
-        let full_name = FullName::new(alloc, packet)?;
+        let name = NameBuf::from_name(alloc, packet.name)?;
         let octets = Vec::from_slice(alloc, packet.whole)?;
         Ok(Entry {
-            full_name,
+            name,
             octets,
             freshness: packet.freshness,
             arrival,
         })
     }
 
+    /// Makes it one that arrived at this moment.
+    pub fn renew(&mut self, freshness: u64, arrival: u64)
+        ensures { self.new ≡ record self.old { freshness = freshness; arrival = arrival } }
+    {
+        self.freshness = freshness;
+        self.arrival = arrival;
+    }
+
     /// The octets of the Data.
     pub fn octets(&self) -> &[u8]
-        ensures { result.now ≡ self.now.octets }
+        ensures exact { result.now ≡ self.now.octets }
+        ensures digest { self.now.digest ≡ sha256 result.now }
     {
         &self.octets
     }
 
-    /// Compares full names in canonical order.
-    pub fn compare(&self, other: &Entry) -> Ordering
-        ensures { result ≡ name_cmp (full_name_of self.now) (full_name_of other.now) }
+    /// The name of the Data.
+    #[inline(always)]
+    pub fn name(&self) -> Name<'_>
+        ensures { components result ≡ self.now.name }
     {
-        self.full_name.compare(&other.full_name)
+        self.name.view()
     }
 
-    /// Whether two have one full name.
-    pub fn is_same(&self, other: &Entry) -> bool
-        ensures { result ≡ eq_by_cmp name_cmp (full_name_of self.now) (full_name_of other.now) }
+    /// Compares the full name with a name in canonical order.
+    #[inline(always)]
+    fn compare(&self, name: Name<'_>) -> Ordering
+        ensures { result ≡ name_cmp (full_name_of self.now) (components name.entry) }
     {
-        self.full_name.is_same(&other.full_name)
+        compare_with_name(self.name.view(), &self.octets, name)
+    }
+
+    /// Compares the full name with that of a Data of a name and octets.
+    #[inline(always)]
+    pub fn compare_full(&self, name: Name<'_>, octets: &[u8]) -> Ordering
+        ensures { result ≡ name_cmp (full_name_of self.now)
+            (full_name (components name.entry) (sha256 octets.now)) }
+    {
+        compare_full_names(self.name.view(), &self.octets, name, octets)
     }
 
     /// Whether the full name comes before a name in canonical order.
@@ -76,15 +99,22 @@ impl Entry {
     pub fn is_below(&self, name: Name<'_>) -> bool
         ensures { result ≡ is_lt (name_cmp (full_name_of self.now) (components name.entry)) }
     {
-        self.full_name.is_below(name.as_octets())
+        self.compare(name).is_lt()
     }
 
     /// Whether the full name begins with a name.
     pub fn is_under(&self, name: Name<'_>) -> bool
-        ensures prefix { IsTrue result ↔ IsPrefix (components name.entry) (full_name_of self.now) }
-        ensures exact { result ≡ begins_with (components name.entry) (full_name_of self.now) }
+        ensures { IsTrue result ↔ IsPrefix (components name.entry) (full_name_of self.now) }
     {
-        self.full_name.is_under(name)
+        name.is_prefix_of(self.name.view()) || self.compare(name).is_eq()
+    }
+
+    /// Whether this is the name or the full name.
+    fn is_named(&self, name: Name<'_>) -> bool
+        ensures { IsTrue result ↔ ((components name.entry ≡ self.now.name)
+            ⊎ (components name.entry ≡ full_name_of self.now)) }
+    {
+        self.name.view().compare(name).is_eq() || self.compare(name).is_eq()
     }
 
     /// Whether the full name is near enough behind the name of a key for one like it to serve an
@@ -94,15 +124,23 @@ impl Entry {
         ensures { result
             ≡ is_near (components key.entry.name) key.entry.can_be_prefix (full_name_of self.now) }
     {
-        self.full_name.is_near(key.name, key.can_be_prefix)
+        if !self.is_under(key.name) {
+            return false;
+        }
+        if key.can_be_prefix {
+            return true;
+        }
+        match self.name.view().as_octets().get(key.name.as_octets().len()) {
+            Some(kind) => *kind < PARAMETERS_SHA256_DIGEST as u8,
+            None => true,
+        }
     }
 
     /// Whether it can serve an Interest of this key.
     pub fn can_serve(&self, key: Key<'_>, now: u64) -> bool
         ensures { IsTrue result ↔ CanServe (plain_key key.entry) now self.now }
     {
-        let answers = self.full_name.is_named(key.name)
-            || (key.can_be_prefix && self.is_under(key.name));
+        let answers = self.is_named(key.name) || (key.can_be_prefix && self.is_under(key.name));
         answers && (!key.must_be_fresh || self.is_fresh(now))
     }
 

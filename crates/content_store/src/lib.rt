@@ -3,6 +3,7 @@
 
 mod entry;
 mod fault;
+mod full_name;
 mod rows;
 mod sought;
 mod store;

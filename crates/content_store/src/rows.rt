@@ -5,6 +5,8 @@ ghost use Rattle.std.specs.declared.cmp.Ordering.TheVariants as names;
 ghost use Rattle.slab.specs.Slab.{get};
 ghost use Rattle.ndn_names.specs.Order.{name_cmp};
 ghost use Rattle.ndn_names.specs.View.{components};
+ghost use Rattle.sha2.specs.Sha256.{sha256};
+ghost use Rattle.ndn_packets.specs.Answers.{full_name};
 ghost use Rattle.ndn_packets.specs.Key.{plain_key};
 ghost use Rattle.content_store.specs.Store.{CanServe, full_name_of};
 ghost use Rattle.content_store.specs.Rows.{Placed, Rising, IsRows, IsLower, FirstWith, IsValidRows, shown, name_at};
@@ -224,17 +226,19 @@ impl Rows {
         lower_bound(&self.entries, &self.order, sought, &mut steps)
     }
 
-    /// Whether what stands at a place of the list has the full name of an entry.
-    pub fn is_same(&self, at: usize, entry: &Entry) -> bool
+    /// Whether what stands at a place of the list has the full name of a Data of a name and octets.
+    pub fn is_full(&self, at: usize, name: Name<'_>, octets: &[u8]) -> bool
         ensures yes { IsTrue result → (at < length self.now)
-            × ((d : Placed) → name_at (slice_index_or self.now at d) ≡ full_name_of entry.now) }
+            × ((d : Placed) → name_at (slice_index_or self.now at d)
+            ≡ full_name (components name.entry) (sha256 octets.now)) }
         ensures no { result ≡ false → (d : Placed) → at < length self.now
-            → name_at (slice_index_or self.now at d) ≢ full_name_of entry.now }
+            → name_at (slice_index_or self.now at d)
+            ≢ full_name (components name.entry) (sha256 octets.now) }
     {
         if at >= self.len() {
             return false;
         }
-        self.row(at).entry.is_same(entry)
+        self.row(at).entry.compare_full(name, octets).is_eq()
     }
 
     /// Adds a row before the one at a place of the list. Gives its place in the slab.
@@ -256,17 +260,18 @@ impl Rows {
         }
     }
 
-    /// Puts an entry of the same full name in place of what stands at a place of the list.
-    pub fn renew(&mut self, at: usize, entry: Entry)
-        requires within { at < length self.old }
-        requires named { (d : Placed)
-            → name_at (slice_index_or self.old at d) ≡ full_name_of entry }
+    /// Makes what stands at a place of the list one that arrived at this moment.
+    pub fn renew(&mut self, at: usize, freshness: u64, arrival: u64)
+        requires { at < length self.old }
         ensures rows { (d : Placed) → let r = slice_index_or self.old at d in self.new
-            ≡ set_value (nat_eq r.0) self.old (record { entry = entry; serial = r.1.serial }) }
+            ≡ set_value (nat_eq r.0) self.old (record {
+              entry = record r.1.entry { freshness = freshness; arrival = arrival };
+              serial = r.1.serial;
+            }) }
         ensures valid { IsValidRows self.new }
     {
         let place = self.order[at];
-        self.entries[place as usize].entry = entry;
+        self.entries[place as usize].entry.renew(freshness, arrival);
     }
 
     /// Takes out what stands at a place of the slab.
@@ -365,5 +370,6 @@ fn index_of(entries: &Slab<Row>, order: &[u32], place: u32) -> usize
 {
     let mut steps = 0;
     let entry = &entries[place as usize].entry;
-    lower_bound(entries, order, Sought::Held(entry), &mut steps)
+    let sought = Sought::Full(entry.name(), entry.octets());
+    lower_bound(entries, order, sought, &mut steps)
 }

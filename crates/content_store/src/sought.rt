@@ -12,8 +12,8 @@ use ndn_names::Name;
 pub enum Sought<'a> {
     /// A name.
     Named(Name<'a>),
-    /// The full name of an entry.
-    Held(&'a Entry),
+    /// The full name of a Data of this name and these octets.
+    Full(Name<'a>, &'a [u8]),
 }
 
 /// Whether the full name of an entry comes before what is sought.
@@ -23,6 +23,6 @@ pub fn is_below(entry: &Entry, sought: Sought<'_>) -> bool
 {
     match sought {
         Sought::Named(name) => entry.is_below(name),
-        Sought::Held(other) => entry.compare(other).is_lt(),
+        Sought::Full(name, octets) => entry.compare_full(name, octets).is_lt(),
     }
 }

@@ -3,7 +3,7 @@ ghost use Rattle.std.specs.Option.{option_map};
 ghost use Rattle.std.specs.List.{All};
 ghost use Rattle.ndn_names.specs.View.{components};
 ghost use Rattle.ndn_packets.specs.Key.{plain_key};
-ghost use Rattle.content_store.specs.Store.{CachedData, IsCachedData, IsLeast, IsStore, CanServe, Gives, Finds, Erases, LosesSome, StoreState, cached_at, full_name_of, with_cached};
+ghost use Rattle.content_store.specs.Store.{CachedData, IsLeast, IsStore, CanServe, Gives, Finds, Erases, LosesSome, StoreState, cached_at, full_name_of, with_cached};
 ghost use Rattle.content_store.specs.Rows.{Placed, Rising, name_at};
 ghost use Rattle.content_store.specs.Uses.{UsesAt, Sound, PutsNew, Renews};
 ghost use Rattle.content_store.specs.declared.fault.StoreFault.TheVariants as faults;
@@ -105,28 +105,14 @@ impl Store {
 
     /// Keeps a Data that arrived at this moment, in milliseconds since 1970, in place of one of the
     /// same full name, and as the most recently used. Where there was none and the store is full,
-    /// the least recently used goes. Answers false for want of memory, and may then have forgotten
-    /// some.
+    /// the least recently used goes. One that is held already takes no memory. Answers false for
+    /// want of memory, and for other octets of a full name that is held, and is then as it was; or
+    /// where the numbers of its 2^64 - 1 uses are used up: then it forgets all, and counts anew.
     pub fn put(&mut self, packet: &Data<'_>, arrival: u64) -> bool
         ensures ok { IsTrue result
             → self.new ≡ with_cached self.old (cached_at packet.now arrival) }
         ensures refused { result ≡ false → LosesSome self.old.cached self.new.cached }
         ensures unharmed { result ≡ false
-            → (self.new ≡ self.old) ⊎ (self.new ≡ record self.old { cached = [] }) }
-        ensures capacity { self.new.capacity ≡ self.old.capacity }
-        ensures store { IsStore self.new }
-    {
-        match Entry::new(self.alloc, packet, arrival) {
-            Ok(entry) => self.keep(entry),
-            Err(_) => false,
-        }
-    }
-
-    /// Keeps an entry in place of one of the same full name, and as the most recently used.
-    fn keep(&mut self, entry: Entry) -> bool
-        requires { IsCachedData entry }
-        ensures ok { IsTrue result → self.new ≡ with_cached self.old entry }
-        ensures refused { result ≡ false
             → (self.new ≡ self.old) ⊎ (self.new ≡ record self.old { cached = [] }) }
         ensures capacity { self.new.capacity ≡ self.old.capacity }
         ensures store { IsStore self.new }
@@ -137,11 +123,13 @@ impl Store {
             self.next = 0;
             return false;
         }
-        let at = self.rows.place_for(Sought::Held(&entry));
-        if self.rows.is_same(at, &entry) {
-            put_same(&mut self.rows, &mut self.used, at, entry);
-            return true;
+        let at = self.rows.place_for(Sought::Full(packet.name, packet.whole));
+        if self.rows.is_full(at, packet.name, packet.whole) {
+            return put_same(&mut self.rows, &mut self.used, at, packet, arrival);
         }
+        let Ok(entry) = Entry::new(self.alloc, packet, arrival) else {
+            return false;
+        };
         let row = Row {
             entry,
             serial: self.next,
@@ -224,17 +212,30 @@ impl Store {
     }
 }
 
-/// Puts an entry in place of one of its full name. It is then the most recently used, and keeps
-/// its serial number.
-fn put_same(rows: &mut Rows, used: &mut LruCache<u64, u32>, at: usize, entry: Entry)
+/// Renews the Data of this full name, as one that arrived at this moment. It is then the most
+/// recently used, and keeps its serial number. Answers false where its octets are others.
+fn put_same(
+    rows: &mut Rows,
+    used: &mut LruCache<u64, u32>,
+    at: usize,
+    packet: &Data<'_>,
+    arrival: u64,
+) -> bool
     requires within { at < length rows.old }
-    requires named { (d : Placed)
-        → name_at (slice_index_or rows.old at d) ≡ full_name_of entry }
-    ensures { Renews rows.old used.old at entry rows.new used.new }
+    requires named { (d : Placed) → name_at (slice_index_or rows.old at d)
+        ≡ full_name_of (cached_at packet.now arrival) }
+    ensures ok { IsTrue result
+        → Renews rows.old used.old at (cached_at packet.now arrival) rows.new used.new }
+    ensures refused { result ≡ false → (rows.new ≡ rows.old) × (used.new ≡ used.old) }
 {
-    let serial = rows.row(at).serial;
-    rows.renew(at, entry);
+    let row = rows.row(at);
+    if row.entry.octets() != packet.whole {
+        return false;
+    }
+    let serial = row.serial;
+    rows.renew(at, packet.freshness, arrival);
     used.promote(&serial);
+    true
 }
 
 /// Makes what stands at a place of the list the most recently used.

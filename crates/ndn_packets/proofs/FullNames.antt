@@ -33,6 +33,15 @@ digest_octets : (digest : List ℕ) → length digest ≡ 32 → element (1, dig
 unfolding spelling
 digest_octets digest len = ap (λ (n : ℕ). spelling 1 ++ (spelling n ++ digest)) len
 
+-- the octets of a full name
+pub full_octets : (value digest : List ℕ) (name : List Field) → IsNameValue value name → length digest ≡ 32
+    → (octets_of (full_name name digest) ≡ value ++ 1 ∷ 32 ∷ digest) × AllByRecursion IsField (full_name name digest)
+full_octets value digest name h len =
+    let digest_len : length digest < 2 ^ 64 = omega arith in (
+      octets_more name (1, digest) ∙ (λ k. sym h.0.1 k ++ digest_octets digest len k),
+      fields_more name (1, digest) h.0.0 (omega arith, omega arith, digest_len),
+    )
+
 -- the octets that one is made of
 pub made : (value digest full : List ℕ) (name : List Field) → IsNameValue value name → components_of value ≡ name → length digest ≡ 32
     → full ≡ value ++ element (1, digest) → (name_in full ≡ name) × (digest_in full ≡ digest) × IsFullName full

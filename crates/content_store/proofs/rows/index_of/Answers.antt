@@ -1,3 +1,6 @@
+use Rattle.sha2.specs.Sha256.{sha256}
+use Rattle.ndn_names.specs.View.{components}
+use Rattle.ndn_packets.specs.Answers.{full_name}
 use Rattle.content_store.specs.Store.{full_name_of}
 use Rattle.std.proofs.Common.{◌≡◌, ◌<◌, List, length, get_or, ap, refl, sym, subst, ◌∙◌}
 use Rattle.std.specs.Prelude.{IsSome, nat_eq}
@@ -23,7 +26,8 @@ ends c =
     let r = some_is (lookup (nat_eq c.args.place) (shown (get c.args.entries.now) c.args.order.now)) c.requires.there in
     let at = lookup_shown (get c.args.entries.now) c.args.order.now c.args.place r.0 r.1 in
     let one : c.index.result.now ≡ r.0 = same_Some c.index.result.now r.0 (sym c.index.ensures ∙ at) in
-    let name : full_name_of c.index.result.now.entry ≡ full_name_of r.0.entry = ap (λ (x : Row). full_name_of x.entry) one in
+    let name : full_name (components c.name.result) (sha256 c.octets.result.now) ≡ full_name_of r.0.entry =
+    (λ k. full_name (c.name.ensures k) (sym c.octets.ensures.digest k)) ∙ ap (λ (x : Row). full_name_of x.entry) one in
     own_place (get c.args.entries.now) c.args.order.now c.args.place c.lower_bound.result r.0 c.requires.rows r.1
     (subst (λ (n : List Field). IsLower n (shown (get c.args.entries.now) c.args.order.now) c.lower_bound.result) name c.lower_bound.ensures.lower)
 

@@ -1,4 +1,4 @@
-use Rattle.std.proofs.Common.{◌≡◌, ◌<◌, Bool, true, false, not, refl, get_or, length, sym, ◌∙◌, arith}
+use Rattle.std.proofs.Common.{◌≡◌, ◌<◌, Bool, true, false, not, refl, get_or, length, ◌∙◌, arith}
 use Rattle.slab.specs.Slab.{get}
 use Rattle.ndn_names.specs.View.{components}
 use Rattle.content_store.specs.Rows.{shown}

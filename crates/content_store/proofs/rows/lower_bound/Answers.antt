@@ -1,8 +1,6 @@
 use Rattle.content_store.specs.Store.{full_name_of}
-use Rattle.std.proofs.Common.{◌≡◌, ◌-◌, ◌+◌, ◌/◌, ◌<◌, ◌≤◌, ℕ, length, get_or, true, refl, ap, sym, ◌∙◌, subst, arith}
-use Rattle.std.specs.Ordering.{is_lt}
-use Rattle.std.specs.declared.cmp.Ordering.{Ordering}
-use Rattle.std.specs.declared.cmp.Ordering.TheVariants.{Less, Equal, Greater}
+use Rattle.std.proofs.Common.{◌≡◌, ◌-◌, ◌+◌, ◌/◌, ◌<◌, ◌≤◌, ℕ, length, get_or, sym, ◌∙◌, subst, arith}
+use Rattle.std.specs.declared.cmp.Ordering.TheVariants.{Less}
 use Rattle.slab.specs.Slab.{get}
 use Rattle.ndn_names.specs.Order.{name_cmp}
 use Rattle.content_store.specs.Sought.{sought_name}

@@ -1,5 +1,5 @@
-use Rattle.std.proofs.Common.{◌≡◌, ◌≢◌, ◌+◌, ◌-◌, ◌<◌, ◌≤◌, ℕ, inl, inr, List, length, get_or, refl, sym, ap, subst, ◌∙◌, arith}
-use Rattle.std.specs.Prelude.{IsSome, nat_eq}
+use Rattle.std.proofs.Common.{◌≡◌, ◌+◌, ◌-◌, ℕ, inl, inr, List, length, get_or, refl, sym, ap, subst, ◌∙◌, arith}
+use Rattle.std.specs.Prelude.{nat_eq}
 use Rattle.std.specs.Map.{remove_entry}
 use Rattle.std.proofs.lemmas.List.{take-append-drop}
 use Rattle.std.proofs.lemmas.Option.{same_Some}
@@ -61,7 +61,7 @@ returns-then-end-start-clause-taken c =
           elim c.then-end-start.branch [
             | then-end-start-via-then-end-start w ↦ inl w.if-end-start.true
             | then-end-start-via-else-end-start+then-not-is_under w ↦
-                let never : IsPrefix (components c.args.name) (full_name_of w.index.result.now.entry) → ⊥ = λ p. (let t = w.is_under.ensures.prefix.1 p in let f = w.if-not-is_under.true in cc) in
+                let never : IsPrefix (components c.args.name) (full_name_of w.index.result.now.entry) → ⊥ = λ p. (let t = w.is_under.ensures.1 p in let f = w.if-not-is_under.true in cc) in
                 inr (none_left (components c.args.name) _ c.loop-end.used.entries next c.args.start so.sound inv.lower
                 (λ d within p. never (subst (λ (r : Placed). IsPrefix (components c.args.name) (name_at r))
                 (here (get c.loop-end.entries) (get c.loop-end.entries) c.args.order.now c.args.start c.loop-end.end (get_or c.args.order.now c.loop-end.end 0) w.index.result.now (components c.args.name)
@@ -81,7 +81,7 @@ loop-end-preserved c =
     let row : Row = c.remove-row.result in
     let one : c.index.result.now ≡ row = same_Some c.index.result.now row (sym c.index.ensures ∙ c.remove-row.ensures.value) in
     let under : IsPrefix (components c.args.name) (full_name_of row.entry) =
-    subst (λ (r : Row). IsPrefix (components c.args.name) (full_name_of r.entry)) one (c.is_under.ensures.prefix.0 c.if-not-is_under.false) in
+    subst (λ (r : Row). IsPrefix (components c.args.name) (full_name_of r.entry)) one (c.is_under.ensures.0 c.if-not-is_under.false) in
     let used : LruCache ℕ ℕ = c.pop.new.self in
     let uses = c.pop.ensures.entries in
     record {

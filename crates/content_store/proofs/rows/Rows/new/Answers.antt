@@ -1,4 +1,4 @@
-use Rattle.std.proofs.Common.{refl, rules}
+use Rattle.std.proofs.Common.{rules}
 use Rattle.content_store.proofs.Shown.{rows_none}
 use Rattle.content_store.proofs.rows.Rows.new.Goals as goal
 

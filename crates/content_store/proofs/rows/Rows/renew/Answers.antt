@@ -5,16 +5,17 @@ use Rattle.std.proofs.lemmas.List.{get_or_default}
 use Rattle.slab.specs.Slab.{get, with_value}
 use Rattle.slab.proofs.SlabLemmas.{Updates-with_value}
 use Rattle.content_store.specs.declared.rows.Row.{Row}
-use Rattle.content_store.specs.Rows.{Placed, shown, IsRows, name_at}
+use Rattle.content_store.specs.Store.{full_name_of}
+use Rattle.content_store.specs.Rows.{Placed, shown, IsRows}
 use Rattle.content_store.proofs.Shown.{length-shown, shown_at, all_there, valid_shown}
 use Rattle.content_store.proofs.Edits.{valued}
 use Rattle.content_store.proofs.rows.Rows.renew.Goals as goal
-use Rattle.content_store.proofs.rows.Rows.renew.Goals.{After-index-place, After-index_mut}
+use Rattle.content_store.proofs.rows.Rows.renew.Goals.{After-index-place, After-index_mut, After-renew}
 
 inside : (c : After-index-place) → c.args.at < length c.self.inside.order.items
 inside c =
     let len = length-shown (get c.self.inside.entries) c.self.inside.order.items c.self.invariant.there in
-    let lt = c.requires.within in
+    let lt = c.requires in
     omega (arith, ap length c.self.view_is)
 
 stands : (c : After-index-place) → c.index-place.result.now ≡ get_or c.self.inside.order.items c.args.at 0
@@ -24,7 +25,7 @@ pub index-place-requires : goal.index-place-requires
 index-place-requires c =
     let count : vec_len c.self.inside.order ≡ length c.self.inside.order.items = search rules in
     let len = length-shown (get c.self.inside.entries) c.self.inside.order.items c.self.invariant.there in
-    let lt = c.requires.within in
+    let lt = c.requires in
     omega (arith, ap length c.self.view_is)
 
 there : (c : After-index-place) → IsSome (get c.self.inside.entries c.index-place.result.now)
@@ -37,34 +38,38 @@ row_at : (c : After-index_mut) → (d : Placed) → get_or c.args.self.now c.arg
 row_at c d =
     let order = c.self.inside.order.items in
     let len = length-shown (get c.self.inside.entries) order c.self.invariant.there in
-    let lt = c.requires.within in
+    let lt = c.requires in
     let within : c.args.at < length order = omega (arith, ap length c.self.view_is) in
     let place : c.index-place.result.now ≡ get_or order c.args.at 0 = c.index-place.ensures ∙ get_or_default order c.args.at c.index-place.result.now 0 within in
     let at = ap (get c.self.inside.entries) (sym place) ∙ c.index_mut.ensures.value in
     ap (λ (rows : List Placed). get_or rows c.args.at d) (sym c.self.view_is)
     ∙ shown_at (get c.self.inside.entries) order c.args.at c.index_mut.result.now c.self.invariant.there within at d ∙ (λ i. (sym place i, c.index_mut.result.now))
 
-abbrev new_row : After-index_mut → Row
-new_row c = record { entry = c.args.entry; serial = c.index_mut.result.now.serial }
+abbrev new_row : After-renew → Row
+new_row c = record { entry = c.renew.new.self; serial = c.index_mut.result.now.serial }
 
-whole : (c : After-index_mut) → (shown (get (with_value c.self.inside.entries c.index-place.result.now (new_row c))) c.self.inside.order.items
+whole : (c : After-renew) → (shown (get (with_value c.self.inside.entries c.index-place.result.now (new_row c))) c.self.inside.order.items
     ≡ set_value (nat_eq c.index-place.result.now) (shown (get c.self.inside.entries) c.self.inside.order.items) (new_row c))
     × IsRows (get (with_value c.self.inside.entries c.index-place.result.now (new_row c))) c.self.inside.order.items
 whole c =
-    let d : Placed = (c.index-place.result.now, c.index_mut.result.now) in
     let some : IsSome (get c.self.inside.entries c.index-place.result.now) = subst IsSome (sym c.index_mut.ensures.value) refl in
     let wrote = Updates-with_value c.self.inside.entries c.index-place.result.now (new_row c) some in
     valued (get c.self.inside.entries) (get (with_value c.self.inside.entries c.index-place.result.now (new_row c))) c.self.inside.order.items c.index-place.result.now c.index_mut.result.now (new_row c)
-    c.self.invariant c.index_mut.ensures.value wrote.changed wrote.others (sym (c.requires.named d) ∙ ap name_at (row_at c d))
+    c.self.invariant c.index_mut.ensures.value wrote.changed wrote.others (ap full_name_of c.renew.ensures)
 
 pub invariant_of-self : goal.invariant_of-self
-invariant_of-self c = (whole (goal.at.invariant_of-self c).After-index_mut).1
+invariant_of-self c = (whole (goal.at.invariant_of-self c).After-renew).1
 
 pub returns-clause-rows : goal.returns-clause-rows
 returns-clause-rows c =
     let b = (goal.at.returns-clause-rows c).After-index_mut in
-    λ d. (whole b).0 ∙ ap (λ (rows : List Placed). set_value (nat_eq c.index-place.result.now) rows (new_row b)) c.self.view_is
-    ∙ (λ i. set_value (nat_eq (sym (row_at b d) i).0) c.args.self.now (record { entry = c.args.entry; serial = (sym (row_at b d) i).1.serial }))
+    let r = (goal.at.returns-clause-rows c).After-renew in
+    λ d. (whole r).0 ∙ ap (λ (rows : List Placed). set_value (nat_eq c.index-place.result.now) rows (new_row r)) c.self.view_is
+    ∙ (λ i. set_value (nat_eq c.index-place.result.now) c.args.self.now (record { entry = c.renew.ensures i; serial = c.index_mut.result.now.serial }))
+    ∙ (λ i. set_value (nat_eq (sym (row_at b d) i).0) c.args.self.now
+    (record { entry = record (sym (row_at b d) i).1.entry { freshness = c.args.freshness; arrival = c.args.arrival }; serial = (sym (row_at b d) i).1.serial }))
 
 pub returns-clause-valid : goal.returns-clause-valid
-returns-clause-valid c = valid_shown (get (with_value c.self.inside.entries c.index-place.result.now (new_row (goal.at.returns-clause-valid c).After-index_mut))) c.self.inside.order.items (whole (goal.at.returns-clause-valid c).After-index_mut).1
+returns-clause-valid c =
+    let r = (goal.at.returns-clause-valid c).After-renew in
+    valid_shown (get (with_value c.self.inside.entries c.index-place.result.now (new_row r))) c.self.inside.order.items (whole r).1

@@ -1,4 +1,4 @@
-use Rattle.std.proofs.Common.{◌≡◌, ap, sym, subst, ◌∙◌, arith}
+use Rattle.std.proofs.Common.{subst, ◌∙◌, arith}
 use Rattle.ndn_names.specs.View.{components}
 use Rattle.content_store.specs.Store.{Erases, StoreState}
 use Rattle.content_store.specs.Uses.{IsHeld, TakesUnder, cached_in}

@@ -20,5 +20,5 @@ pub returns : goal.returns
 returns c =
     let g =
     gives_some c.self.inside.rows c.self.inside.used c.promote.new.used c.self.inside.capacity c.self.inside.next c.self.invariant (plain_key c.args.key) c.args.now c.args.self.now c.self.view_is
-    c.in-Some.at c.in-Some.ensures.first c.promote.ensures c.row.result.now c.octets.result.now c.row.ensures c.octets.ensures in
+    c.in-Some.at c.in-Some.ensures.first c.promote.ensures c.row.result.now c.octets.result.now c.row.ensures c.octets.ensures.exact in
     ((refl, λ _. tt, (g.1, g.2)), record { found = g.0; used = tt })

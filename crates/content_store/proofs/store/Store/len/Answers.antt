@@ -1,4 +1,4 @@
-use Rattle.std.proofs.Common.{◌≡◌, length, ap, sym, subst, ◌∙◌}
+use Rattle.std.proofs.Common.{length, ap, sym, subst, ◌∙◌}
 use Rattle.content_store.specs.Store.{IsStore, StoreState}
 use Rattle.content_store.proofs.Changes.{length_held}
 use Rattle.content_store.proofs.Least.{held_store}

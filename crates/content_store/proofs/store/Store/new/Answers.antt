@@ -1,6 +1,6 @@
 use Rattle.std.proofs.Common.{◌≡◌, ◌∙◌, ◌<◌, ℕ, List, [], ap, subst, arith}
-use Rattle.lru.specs.LruCache.{LruCache, lru_cache}
-use Rattle.content_store.specs.Store.{CachedData, StoreState}
+use Rattle.lru.specs.LruCache.{lru_cache}
+use Rattle.content_store.specs.Store.{CachedData}
 use Rattle.content_store.specs.Uses.{IsHeld, cached_in}
 use Rattle.content_store.proofs.Least.{held_store}
 use Rattle.content_store.proofs.Renewed.{held_new}

@@ -1,0 +1,104 @@
+ghost use Rattle.std.specs.Prelude.{◌≡◌, ◌∷◌, ◌<◌, ℕ, List, length};
+ghost use Rattle.std.specs.Cmp.Lexicographic.{slice_cmp};
+ghost use Rattle.std.specs.Ordering.{nat_cmp};
+ghost use Rattle.sha2.specs.Sha256.{sha256};
+ghost use Rattle.ndn_names.specs.Order.{name_cmp};
+ghost use Rattle.ndn_names.specs.View.{components};
+ghost use Rattle.ndn_packets.specs.Answers.{full_name};
+ghost use Rattle.content_store.specs.Entry.{digest_octets, AreShorter};
+
+use ndn_names::Name;
+use ndn_names::component_type::IMPLICIT_SHA256_DIGEST;
+use sha2::{Digest, Sha256};
+use std::cmp::Ordering;
+
+/// The octets of an implicit digest.
+const DIGEST_LEN: u8 = 32;
+
+/// Compares the full name of a Data, of this name and these octets, with a name in canonical order.
+#[inline(always)]
+pub fn compare_with_name(name: Name<'_>, octets: &[u8], other: Name<'_>) -> Ordering
+    ensures { result ≡ name_cmp (full_name (components name.entry) (sha256 octets.now))
+        (components other.entry) }
+{
+    let mine = name.as_octets();
+    let its = other.as_octets();
+    if its.len() <= mine.len() {
+        return mine.cmp(its).then(Ordering::Greater);
+    }
+    let (front, rest) = its.split_at(mine.len());
+    match mine.cmp(front) {
+        Ordering::Equal => compare_digest(octets, rest),
+        order => order,
+    }
+}
+
+/// Compares the full names of two Data, each of a name and octets, in canonical order.
+pub fn compare_full_names(
+    name: Name<'_>,
+    octets: &[u8],
+    other: Name<'_>,
+    other_octets: &[u8],
+) -> Ordering
+    ensures { result ≡ name_cmp (full_name (components name.entry) (sha256 octets.now))
+        (full_name (components other.entry) (sha256 other_octets.now)) }
+{
+    let mine = name.as_octets();
+    let its = other.as_octets();
+    if mine.len() < its.len() {
+        return compare_longer(name, octets, other);
+    }
+    if its.len() < mine.len() {
+        return compare_longer(other, other_octets, name).reverse();
+    }
+    match mine.cmp(its) {
+        Ordering::Equal => compare_digests(octets, other_octets),
+        order => order,
+    }
+}
+
+/// Compares the full name of a Data, of this name and these octets, with any of a longer name.
+fn compare_longer(name: Name<'_>, octets: &[u8], other: Name<'_>) -> Ordering
+    requires { AreShorter name other }
+    ensures { (digest : List ℕ) → length digest ≡ 32
+        → result ≡ name_cmp (full_name (components name.entry) (sha256 octets.now))
+        (full_name (components other.entry) digest) }
+{
+    let mine = name.as_octets();
+    let (front, rest) = other.as_octets().split_at(mine.len());
+    match mine.cmp(front) {
+        Ordering::Equal => compare_digest(octets, rest).then(Ordering::Less),
+        order => order,
+    }
+}
+
+/// Compares the component of the implicit digest of a Data with the octets of components.
+fn compare_digest(octets: &[u8], rest: &[u8]) -> Ordering
+    ensures { result ≡ slice_cmp nat_cmp (digest_octets (sha256 octets.now)) rest.now }
+{
+    let Some((kind, after_kind)) = rest.split_first() else {
+        return Ordering::Greater;
+    };
+    let order = (IMPLICIT_SHA256_DIGEST as u8).cmp(kind);
+    if order.is_ne() {
+        return order;
+    }
+    let Some((len, value)) = after_kind.split_first() else {
+        return Ordering::Greater;
+    };
+    DIGEST_LEN
+        .cmp(len)
+        .then(Sha256::digest(octets).as_slice().cmp(value))
+}
+
+/// Compares the implicit digests of two Data.
+fn compare_digests(octets: &[u8], other: &[u8]) -> Ordering
+    ensures { result ≡ slice_cmp nat_cmp (sha256 octets.now) (sha256 other.now) }
+{
+    if octets == other {
+        return Ordering::Equal;
+    }
+    Sha256::digest(octets)
+        .as_slice()
+        .cmp(Sha256::digest(other).as_slice())
+}
