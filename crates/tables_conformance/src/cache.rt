@@ -226,6 +226,59 @@ fn greatest_data_among_others(rt: HostRuntime) {
     assert!(rt; is_greatest_kept(rt.alloc()) == Some(true));
 }
 
+/// A Data of which the last four octets of the name are a number.
+fn put_number(packet: &mut [u8], number: u32) {
+    for (octet, digit) in packet.iter_mut().skip(9).zip(number.to_be_bytes()) {
+        *octet = digit;
+    }
+}
+
+/// Whether a store holds a Data, if its look-up takes from one to so many comparisons.
+fn is_held(store: &mut Store, packet: &[u8], most: u64) -> Option<bool> {
+    let Frame::Data(data) = read_frame(packet).ok()? else {
+        return None;
+    };
+    let key = Key {
+        name: data.name,
+        can_be_prefix: false,
+        must_be_fresh: false,
+    };
+    let mut counted = 0;
+    let found = store.find_counted(key, 0, &mut counted);
+    let is_found = found == Some(packet);
+    (counted >= 1 && counted <= most).then_some(is_found)
+}
+
+/// Whether the first of so many Data and one more goes, and the second and the last stay.
+fn is_first_gone(alloc: Global, capacity: u32, most: u64) -> Option<bool> {
+    let mut packet = data_of(alloc, "/n/0000", "01", Some(0))?;
+    let mut store = Store::new(alloc, capacity as usize).ok()?;
+    for number in 0..=capacity {
+        put_number(&mut packet, number);
+        if !put_packet(&mut store, &packet, 0)? {
+            return Some(false);
+        }
+    }
+    let last = is_held(&mut store, &packet, most)?;
+    put_number(&mut packet, 0);
+    let first = is_held(&mut store, &packet, most)?;
+    Some(last && !first && store.len() == capacity as usize)
+}
+
+#[test]
+fn full_caches(rt: HostRuntime) {
+    assert!(rt; is_first_gone(rt.alloc(), 1, 1) == Some(true));
+    assert!(rt; is_first_gone(rt.alloc(), 2, 2) == Some(true));
+    assert!(rt; is_first_gone(rt.alloc(), 3, 2) == Some(true));
+    assert!(rt; is_first_gone(rt.alloc(), 8, 4) == Some(true));
+    assert!(rt; is_first_gone(rt.alloc(), 1000, 10) == Some(true));
+}
+
+#[test]
+fn greatest_cache(rt: HostRuntime) {
+    assert!(rt; is_first_gone(rt.alloc(), 65_536, 17) == Some(true));
+}
+
 /// Whether a Data is found exactly where it was kept, which a refusal of memory prevents.
 fn is_found_where_kept(alloc: Global) -> Option<bool> {
     let packet = data_of(alloc, "/A", "01", Some(0))?;

@@ -7,8 +7,16 @@ use std::alloc::Global;
 use std::cmp::Ordering;
 use test_support::{data_of, digest_of, random};
 
-/// Names in canonical order.
-const NAMES: [&str; 6] = ["/", "/A", "/A/B", "/A/C", "/B", "/AA"];
+/// Names in canonical order. The third is behind all full names of the second.
+const NAMES: [&str; 7] = [
+    "/",
+    "/A",
+    "/A/sha256digest=ffffffffffffffffffffffffffffffffffffffffffffffffffffffffffffffff",
+    "/A/B",
+    "/A/C",
+    "/B",
+    "/AA",
+];
 
 /// Two Data of each name, with the place of the name, the FreshnessPeriod and the digest.
 #[derive(Drop)]
@@ -114,7 +122,7 @@ fn put_agrees(
     state: &mut u64,
 ) -> Option<bool> {
     let one = Held {
-        made: random(state, 12) as usize,
+        made: random(state, 14) as usize,
         arrival: random(state, 20),
     };
     let Frame::Data(data) = read_frame(&all.get(one.made)?.packet).ok()? else {
@@ -126,7 +134,25 @@ fn put_agrees(
     Some(store.put(&data, one.arrival))
 }
 
-/// Whether a `find` gives what the list has.
+/// What one of the four look-ups gives, where it agrees with what `place_for` tells.
+fn look_up<'a>(
+    store: &'a mut Store,
+    key: Key<'_>,
+    now: u64,
+    state: &mut u64,
+) -> Option<Option<&'a [u8]>> {
+    let place = store.place_for(key, now);
+    let mut steps = 0;
+    let found = match random(state, 4) {
+        0 => store.find(key, now),
+        1 => store.find_counted(key, now, &mut steps),
+        2 => store.serve_at(random(state, 6) as usize, key, now),
+        _ => store.serve_at(place.unwrap_or(0), key, now),
+    };
+    (place.is_some() == found.is_some() && steps <= 17).then_some(found)
+}
+
+/// Whether a look-up gives what the list has.
 fn find_agrees(
     all: &[Made],
     names: &[NameBuf],
@@ -135,7 +161,7 @@ fn find_agrees(
     state: &mut u64,
 ) -> Option<bool> {
     let asked = Asked {
-        name: random(state, 6) as usize,
+        name: random(state, 7) as usize,
         can_be_prefix: random(state, 2) == 1,
         must_be_fresh: random(state, 2) == 1,
         now: random(state, 25),
@@ -145,7 +171,7 @@ fn find_agrees(
         can_be_prefix: asked.can_be_prefix,
         must_be_fresh: asked.must_be_fresh,
     };
-    let found = store.find(key, asked.now);
+    let found = look_up(store, key, asked.now, state)?;
     let Some((one, made)) = least(all, held, asked) else {
         return Some(found.is_none());
     };
@@ -163,7 +189,7 @@ fn erase_agrees(
     state: &mut u64,
 ) -> Option<bool> {
     let asked = Asked {
-        name: random(state, 6) as usize,
+        name: random(state, 7) as usize,
         can_be_prefix: true,
         must_be_fresh: false,
         now: 0,
@@ -173,7 +199,7 @@ fn erase_agrees(
         count => Some(count),
     };
     let before = held.len();
-    for _ in 0..count.unwrap_or(12) {
+    for _ in 0..count.unwrap_or(14) {
         let Some((one, _)) = least(all, held, asked) else {
             break;
         };
