@@ -105,9 +105,9 @@ impl Store {
 
     /// Keeps a Data that arrived at this moment, in milliseconds since 1970, in place of one of the
     /// same full name, and as the most recently used. Where there was none and the store is full,
-    /// the least recently used goes. One that is held already takes no memory. Answers false for
-    /// want of memory, and for other octets of a full name that is held, and is then as it was; or
-    /// where the numbers of its 2^64 - 1 uses are used up: then it forgets all, and counts anew.
+    /// the least recently used goes. One that is held takes no memory. Answers false, and leaves the
+    /// store as it was, for want of memory and where other octets have this full name. After
+    /// 2^64 - 1 full names it forgets all, answers false once, and is as a new one.
     pub fn put(&mut self, packet: &Data<'_>, arrival: u64) -> bool
         ensures ok { IsTrue result
             → self.new ≡ with_cached self.old (cached_at packet.now arrival) }
