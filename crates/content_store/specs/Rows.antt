@@ -40,13 +40,15 @@ pub record IsRows (h : ℕ → Option Row) (order : List ℕ) : Type 0 where
 -- where a name is, or would go
 pub record IsLower (name : List Field) (rows : List Placed) (at : ℕ) : Type 0 where
   pub within : at ≤ length rows
-  pub below : (k : ℕ) (d : Placed) → k < at → name_cmp (name_at (slice_index_or rows k d)) name ≡ Less
+  pub below : (k : ℕ) (d : Placed) → k < at
+      → name_cmp (name_at (slice_index_or rows k d)) name ≡ Less
   pub above : (k : ℕ) (d : Placed) → at ≤ k → k < length rows
       → name_cmp (name_at (slice_index_or rows k d)) name ≡ Less → ⊥
 
 -- the first that has P, or none where none has
 abbrev pub FirstWith : (CachedData → Type 0) → List Placed → Option ℕ → Type 0
-FirstWith P rows None = (k : ℕ) (d : Placed) → k < length rows → ¬ P (held_at (slice_index_or rows k d))
+FirstWith P rows None =
+    (k : ℕ) (d : Placed) → k < length rows → ¬ P (held_at (slice_index_or rows k d))
 FirstWith P rows (Some at) =
     (at < length rows) × ((d : Placed) → P (held_at (slice_index_or rows at d)))
     × ((k : ℕ) (d : Placed) → k < at → ¬ P (held_at (slice_index_or rows k d)))

@@ -52,7 +52,8 @@ pub record IsHeld (rows : List Placed) (used : LruCache ℕ ℕ) (capacity next 
 -- what stands at a place of the list is used
 abbrev pub UsesAt : List Placed → LruCache ℕ ℕ → ℕ → LruCache ℕ ℕ → Type 0
 UsesAt rows before at after =
-    (d : Placed) → after ≡ lru_cache (promoted (nat_eq (slice_index_or rows at d).1.serial) before.entries) before.cap
+    (d : Placed) → let r = slice_index_or rows at d in after
+    ≡ lru_cache (promoted (nat_eq r.1.serial) before.entries) before.cap
 
 -- without what was displaced
 abbrev pub evicted : Option (ℕ × ℕ) → List Placed → List Placed
@@ -60,18 +61,22 @@ evicted None rows = rows
 evicted (Some e) rows = remove_entry (nat_eq e.1) rows
 
 -- a row is put before the one at a place of the list, and what lru displaces goes
-pub record PutsNew (rows : List Placed) (used : LruCache ℕ ℕ) (at : ℕ) (row : Row) (rows' : List Placed) (used' : LruCache ℕ ℕ) : Type 0 where
+pub record PutsNew (rows : List Placed) (used : LruCache ℕ ℕ) (at : ℕ) (row : Row)
+    (rows' : List Placed) (used' : LruCache ℕ ℕ) : Type 0 where
   pub place : ℕ
   pub absent : lookup (nat_eq place) rows ≡ None
   pub more : IsValidRows (insert rows at (place, row))
   pub uses : used' ≡ lru_cache (put_entries nat_eq used row.serial place) used.cap
-  pub rows_are : rows' ≡ evicted (displaced nat_eq used row.serial place) (insert rows at (place, row))
+  pub rows_are : rows'
+      ≡ evicted (displaced nat_eq used row.serial place) (insert rows at (place, row))
   pub valid : IsValidRows rows'
 
 -- an entry is put in place of what stands at a place of the list, which is used
-pub record Renews (rows : List Placed) (used : LruCache ℕ ℕ) (at : ℕ) (entry : CachedData) (rows' : List Placed) (used' : LruCache ℕ ℕ) : Type 0 where
-  pub rows_are : (d : Placed) → rows' ≡ set_value (nat_eq (slice_index_or rows at d).0) rows (record { entry = entry; serial = (slice_index_or rows at d).1.serial })
-  pub uses : (d : Placed) → used' ≡ lru_cache (promoted (nat_eq (slice_index_or rows at d).1.serial) used.entries) used.cap
+pub record Renews (rows : List Placed) (used : LruCache ℕ ℕ) (at : ℕ) (entry : CachedData)
+    (rows' : List Placed) (used' : LruCache ℕ ℕ) : Type 0 where
+  pub rows_are : (d : Placed) → let r = slice_index_or rows at d in rows'
+      ≡ set_value (nat_eq r.0) rows (record { entry = entry; serial = r.1.serial })
+  pub uses : UsesAt rows used at used'
   pub valid : IsValidRows rows'
 
 -- without what stands from one place up to another
@@ -79,10 +84,12 @@ abbrev pub without_range : {X : Type 0} → ℕ → ℕ → List X → List X
 without_range start end xs = take start xs ++ drop end xs
 
 -- what begins with a name goes, the least full names first and at most `most`
-pub record TakesUnder (name : List Field) (most : ℕ) (rows : List Placed) (used : LruCache ℕ ℕ) (rows' : List Placed) (used' : LruCache ℕ ℕ) (next gone : ℕ) : Type 0 where
+pub record TakesUnder (name : List Field) (most : ℕ) (rows : List Placed) (used : LruCache ℕ ℕ)
+    (rows' : List Placed) (used' : LruCache ℕ ℕ) (next gone : ℕ) : Type 0 where
   pub sound : Sound rows' used'.entries next
   pub cap : used'.cap ≡ used.cap
   pub fewer : length used'.entries ≤ length used.entries
   pub taken : TakesLeast name (cached_in rows used.entries) (cached_in rows' used'.entries) gone
   pub at_most : gone ≤ most
-  pub ended : (gone ≡ most) ⊎ All (λ d. ¬ IsPrefix name (full_name_of d)) (cached_in rows' used'.entries)
+  pub ended : (gone ≡ most)
+      ⊎ All (λ d. ¬ IsPrefix name (full_name_of d)) (cached_in rows' used'.entries)

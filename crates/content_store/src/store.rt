@@ -47,7 +47,10 @@ impl Model for Store {
 
     ghost coded = { state_code };
 
-    ghost view = { λ s. record { cached = cached_in s.rows s.used.entries; capacity = s.capacity } };
+    ghost view = { λ s. record {
+      cached = cached_in s.rows s.used.entries;
+      capacity = s.capacity;
+    } };
 
     ghost invariant = { λ s. IsHeld s.rows s.used s.capacity s.next };
 }
@@ -61,7 +64,8 @@ impl Store {
     pub fn new(alloc: Global, capacity: usize) -> Result<Store, StoreFault>
         ensures ok { IfOk result (λ s. s ≡ record { cached = []; capacity = capacity }) }
         ensures store { IfOk result IsStore }
-        ensures bad { (result ≡ Err faults.BadCapacity) ↔ ((capacity ≡ 0) ⊎ (MAX_CAPACITY < capacity)) }
+        ensures bad { (result ≡ Err faults.BadCapacity)
+            ↔ ((capacity ≡ 0) ⊎ (MAX_CAPACITY < capacity)) }
     {
         if capacity > MAX_CAPACITY {
             return Err(StoreFault::BadCapacity);
@@ -105,8 +109,8 @@ impl Store {
 
     /// Keeps a Data that arrived at this moment, in milliseconds since 1970, in place of one of the
     /// same full name, and as the most recently used. Where there was none and the store is full,
-    /// the least recently used goes. One that is held takes no memory. Answers false, and leaves the
-    /// store as it was, for want of memory and where other octets have this full name. After
+    /// the least recently used goes. One that is held takes no memory. Answers false, and leaves
+    /// the store as it was, for want of memory and where other octets have this full name. After
     /// 2^64 - 1 full names it forgets all, answers false once, and is as a new one.
     pub fn put(&mut self, packet: &Data<'_>, arrival: u64) -> bool
         ensures ok { IsTrue result
@@ -178,8 +182,10 @@ impl Store {
 
     /// A place for `serve_at`, where `find` would give something for this key at this moment.
     pub fn place_for(&self, key: Key<'_>, now: u64) -> Option<usize>
-        ensures { MatchOption result (All (λ c. ¬ CanServe (plain_key key.entry) now c) self.now.cached)
-            (λ _. (c : CachedData) × IsLeast (CanServe (plain_key key.entry) now) self.now.cached c) }
+        ensures { MatchOption result
+            (All (λ c. ¬ CanServe (plain_key key.entry) now c) self.now.cached)
+            (λ _. (c : CachedData)
+            × IsLeast (CanServe (plain_key key.entry) now) self.now.cached c) }
     {
         self.rows.start_for(key, now)
     }
