@@ -1,5 +1,5 @@
 -- Full names by their octets, of which the digest's come last.
-use Rattle.std.proofs.Common.{◌≡◌, ◌⊎◌, inl, inr, ℕ, ◌<◌, ◌≤◌, Bool, true, false, List, [], ◌∷◌, ◌++◌, length, get_or, drop, refl, sym, ap, subst, ◌∙◌, arith, append_assoc}
+use Rattle.std.proofs.Common.{◌≡◌, ◌⊎◌, inl, inr, ℕ, ◌<◌, ◌≤◌, Bool, true, false, List, [], ◌∷◌, ◌++◌, length, get_or, take, drop, refl, sym, ap, subst, ◌∙◌, arith, append_assoc}
 use Rattle.std.specs.Prelude.{◌↔◌, ◌&&◌, ◌||◌, IsTrue, nat_lt}
 use Rattle.std.specs.List.{AllByRecursion}
 use Rattle.std.specs.Cmp.Lexicographic.{slice_cmp}
@@ -8,7 +8,7 @@ use Rattle.std.specs.declared.cmp.Ordering.{Ordering}
 use Rattle.std.specs.declared.cmp.Ordering.TheVariants.{Less, Equal, Greater}
 use Rattle.std.specs.Cmp.{Equal-is}
 use Rattle.std.proofs.lemmas.Cmp.{tied_itself}
-use Rattle.std.proofs.lemmas.List.{append-nil, drop_at, length-append}
+use Rattle.std.proofs.lemmas.List.{append-nil, drop_at, length-append, length-take-le, take-append-drop}
 use Rattle.std.proofs.lemmas.List.Concat.{flat_map-append}
 use Rattle.sha2.specs.Sha256.{sha256}
 use Rattle.sha2.proofs.Facts256.{length-sha256}
@@ -23,7 +23,7 @@ use Rattle.ndn_packets.specs.FullName.{is_near, starts_small}
 use Rattle.ndn_packets.proofs.FullNames.{full_octets}
 use Rattle.ndn_packets.proofs.Answering.{prefix_is}
 use Rattle.ndn_packets.proofs.Near.{after_front, small_none, small_some}
-use Rattle.content_store.specs.Entry.{digest_octets}
+use Rattle.content_store.specs.Entry.{IsHead, OrdersFullNames, digest_octets}
 
 -- ---- orders
 
@@ -249,3 +249,27 @@ module _ (u v : List ℕ) (n m : List Field) (d : List ℕ) (flag : Bool) (h : I
         | inl q ↦ near_by true (small_full n m d q ∙ small_none u v n m h.0 g.0 ((prefix_is m n).1 q) le)
         | inr e ↦ near_by true (ap (λ (t : List Field). starts_small (drop (length m) t)) (sym e) ∙ nothing_after m)
       ]
+
+-- ---- heads
+
+-- lists of which the first octets are no tie
+first_decide : (n : ℕ) (u v x y : List ℕ) (o : Ordering) → n ≤ length u → n ≤ length v → o ≡ slice_cmp nat_cmp (take n u) (take n v) → (o ≡ Equal → ⊥) → o ≡ slice_cmp nat_cmp (u ++ x) (v ++ y)
+first_decide n u v x y o lu lv e never =
+    let parts = λ (w z : List ℕ). ap (λ (t : List ℕ). t ++ z) (sym (take-append-drop n w)) ∙ append_assoc (take n w) (drop n w) z in
+    decided o (slice_cmp nat_cmp (drop n u ++ x) (drop n v ++ y)) never ∙ ap (λ p. ordering_then p (slice_cmp nat_cmp (drop n u ++ x) (drop n v ++ y))) e
+    ∙ sym (cmp_split (take n u) (take n v) (drop n u ++ x) (drop n v ++ y) (length-take-le n u lu ∙ sym (length-take-le n v lv)))
+    ∙ (λ k. slice_cmp nat_cmp (sym (parts u x) k) (sym (parts v y) k))
+
+pub heads_order : (name other : List Field) (head v its : List ℕ) (o : Ordering) → IsHead name head → IsNameValue v other → 32 ≤ length v → its ≡ take 32 v → o ≡ slice_cmp nat_cmp head its
+    → OrdersFullNames name other o
+heads_order name other head v its o h g long first e =
+    λ never d dl.
+    let mine = full_octets (octets_of name) d name h.value dl in
+    let order : o ≡ slice_cmp nat_cmp (take 32 (octets_of name)) (take 32 v) = e ∙ (λ k. slice_cmp nat_cmp (h.first k) (first k)) in (
+      first_decide 32 (octets_of name) v (digest_octets d) [] o h.long long order never
+          ∙ (λ k. slice_cmp nat_cmp (sym mine.0 k) ((append-nil v ∙ g.0.1) k)) ∙ octets_cmp (full_name name d) other mine.1 g.0.0,
+      λ e' el.
+          let its' = full_octets v e' other g el in
+          first_decide 32 (octets_of name) v (digest_octets d) (digest_octets e') o h.long long order never
+          ∙ (λ k. slice_cmp nat_cmp (sym mine.0 k) (sym its'.0 k)) ∙ octets_cmp (full_name name d) (full_name other e') mine.1 its'.1,
+    )

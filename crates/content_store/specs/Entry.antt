@@ -1,10 +1,14 @@
 -- What an entry shows, and the octets of a digest's component, for private contracts.
-use Rattle.std.specs.Prelude.{ℕ, ◌<◌, List, ◌∷◌, length}
+use Rattle.std.specs.Prelude.{◌≡◌, ◌≢◌, ℕ, ◌<◌, ◌≤◌, List, ◌∷◌, length, take}
+use Rattle.std.specs.declared.cmp.Ordering.{Ordering}
+use Rattle.std.specs.declared.cmp.Ordering.TheVariants.{Equal}
 use Rattle.sha2.specs.Sha256.{sha256}
 use Rattle.ndn_tlv.specs.Element.{Field}
 use Rattle.ndn_names.specs.declared.component_type.TheConstants.{IMPLICIT_SHA256_DIGEST}
 use Rattle.ndn_names.specs.declared.name.Name.{Name}
-use Rattle.ndn_names.specs.Name.{octets_of}
+use Rattle.ndn_names.specs.Name.{IsNameValue, octets_of}
+use Rattle.ndn_names.specs.Order.{name_cmp}
+use Rattle.ndn_packets.specs.Answers.{full_name}
 use Rattle.ndn_names.specs.View.{components}
 use Rattle.content_store.specs.Store.{CachedData}
 
@@ -20,6 +24,20 @@ shown name octets freshness arrival = record {
 -- the octets of the component of an implicit digest
 abbrev pub digest_octets : List ℕ → List ℕ
 digest_octets digest = IMPLICIT_SHA256_DIGEST ∷ 32 ∷ digest
+
+-- the first 32 octets of a name
+pub record IsHead (name : List Field) (head : List ℕ) : Type 0 where
+  pub value : IsNameValue (octets_of name) name
+  pub long : 32 ≤ length (octets_of name)
+  pub first : head ≡ take 32 (octets_of name)
+
+-- where it is no tie: the order of each full name of one name with another name, and with each full
+-- name of that
+abbrev pub OrdersFullNames : List Field → List Field → Ordering → Type 0
+OrdersFullNames name other order =
+    order ≢ Equal → (d : List ℕ) → length d ≡ 32
+    → (order ≡ name_cmp (full_name name d) other)
+    × ((e : List ℕ) → length e ≡ 32 → order ≡ name_cmp (full_name name d) (full_name other e))
 
 -- one name has fewer octets than another
 abbrev pub AreShorter : Name → Name → Type 0

@@ -9,7 +9,7 @@ ghost use Rattle.ndn_packets.specs.FullName.{is_near};
 ghost use Rattle.ndn_packets.specs.Key.{plain_key};
 ghost use Rattle.content_store.specs.Store.{cached_at, full_name_of, IsFresh, CanServe};
 
-use crate::full_name::{compare_full_names, compare_with_name};
+use crate::full_name::{HEAD_LEN, compare_full_names, compare_heads, compare_with_name};
 use ndn_names::component_type::PARAMETERS_SHA256_DIGEST;
 use ndn_names::{Name, NameBuf};
 use ndn_packets::{Data, Key};
@@ -21,6 +21,8 @@ use std::marker::Model;
 /// A Data that is held. Its implicit digest is computed where a comparison turns on it.
 #[derive(Drop)]
 pub struct Entry {
+    // The first octets of the name, where it has as many: they decide most comparisons.
+    head: Option<[u8; HEAD_LEN]>,
     name: NameBuf,
     octets: Vec<u8>,
     freshness: u64,
@@ -29,13 +31,16 @@ pub struct Entry {
 
 impl Model for Entry {
     ghost use Rattle.content_store.specs.Store.{CachedData, cached_code};
-    ghost use Rattle.content_store.specs.Entry.{shown};
+    ghost use Rattle.std.specs.Prelude.{IfSome};
+    ghost use Rattle.content_store.specs.Entry.{shown, IsHead};
 
     ghost Value = { CachedData };
 
     ghost coded = { cached_code };
 
     ghost view = { λ e. shown e.name e.octets.items e.freshness e.arrival };
+
+    ghost invariant = { λ e. IfSome e.head (λ h. IsHead e.name h) };
 }
 
 impl Entry {
@@ -46,6 +51,7 @@ impl Entry {
         let name = NameBuf::from_name(alloc, packet.name)?;
         let octets = Vec::from_slice(alloc, packet.whole)?;
         Ok(Entry {
+            head: name.view().as_octets().first_chunk::<HEAD_LEN>().copied(),
             name,
             octets,
             freshness: packet.freshness,
@@ -82,7 +88,10 @@ impl Entry {
     fn compare(&self, name: Name<'_>) -> Ordering
         ensures { result ≡ name_cmp (full_name_of self.now) (components name.entry) }
     {
-        compare_with_name(self.name.view(), &self.octets, name)
+        match compare_heads(&self.head, name) {
+            Ordering::Equal => compare_with_name(self.name.view(), &self.octets, name),
+            order => order,
+        }
     }
 
     /// Compares the full name with that of a Data of a name and octets.
@@ -91,7 +100,10 @@ impl Entry {
         ensures { result ≡ name_cmp (full_name_of self.now)
             (full_name (components name.entry) (sha256 octets.now)) }
     {
-        compare_full_names(self.name.view(), &self.octets, name, octets)
+        match compare_heads(&self.head, name) {
+            Ordering::Equal => { compare_full_names(self.name.view(), &self.octets, name, octets) }
+            order => order,
+        }
     }
 
     /// Whether the full name comes before a name in canonical order.

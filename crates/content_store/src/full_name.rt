@@ -1,11 +1,12 @@
-ghost use Rattle.std.specs.Prelude.{◌≡◌, ◌∷◌, ◌<◌, ℕ, List, length};
+ghost use Rattle.std.specs.Prelude.{◌≡◌, ◌∷◌, ◌<◌, ℕ, List, IfSome, length};
 ghost use Rattle.std.specs.Cmp.Lexicographic.{slice_cmp};
 ghost use Rattle.std.specs.Ordering.{nat_cmp};
 ghost use Rattle.sha2.specs.Sha256.{sha256};
 ghost use Rattle.ndn_names.specs.Order.{name_cmp};
 ghost use Rattle.ndn_names.specs.View.{components};
 ghost use Rattle.ndn_packets.specs.Answers.{full_name};
-ghost use Rattle.content_store.specs.Entry.{digest_octets, AreShorter};
+ghost use Rattle.ndn_tlv.specs.Element.{Field};
+ghost use Rattle.content_store.specs.Entry.{digest_octets, AreShorter, IsHead, OrdersFullNames};
 
 use ndn_names::Name;
 use ndn_names::component_type::IMPLICIT_SHA256_DIGEST;
@@ -14,6 +15,24 @@ use std::cmp::Ordering;
 
 /// The octets of an implicit digest.
 const DIGEST_LEN: u8 = 32;
+
+/// The octets of the head of a name.
+pub const HEAD_LEN: usize = 32;
+
+/// The order of two names by their heads, `Equal` where these do not decide.
+#[inline(always)]
+pub fn compare_heads(head: &Option<[u8; HEAD_LEN]>, other: Name<'_>) -> Ordering
+    ensures { (name : List Field) → IfSome head.now (λ h. IsHead name h)
+        → OrdersFullNames name (components other.entry) result }
+{
+    let Some(mine) = head else {
+        return Ordering::Equal;
+    };
+    match other.as_octets().first_chunk::<HEAD_LEN>() {
+        Some(its) => mine.as_slice().cmp(its.as_slice()),
+        None => Ordering::Equal,
+    }
+}
 
 /// Compares the full name of a Data, of this name and these octets, with a name in canonical order.
 #[inline(always)]
