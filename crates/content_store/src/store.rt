@@ -111,7 +111,7 @@ impl Store {
     /// same full name, and as the most recently used. Where there was none and the store is full,
     /// the least recently used goes. One that is held takes no memory. Answers false, and leaves
     /// the store as it was, for want of memory and where other octets have this full name. After
-    /// 2^64 - 1 full names it forgets all, answers false once, and is as a new one.
+    /// 2^64 - 1 full names it forgets all at the next new one, answers false, and is as a new store.
     pub fn put(&mut self, packet: &Data<'_>, arrival: u64) -> bool
         ensures ok { IsTrue result
             → self.new ≡ with_cached self.old (cached_at packet.now arrival) }
@@ -121,15 +121,15 @@ impl Store {
         ensures capacity { self.new.capacity ≡ self.old.capacity }
         ensures store { IsStore self.new }
     {
+        let at = self.rows.place_for(Sought::Full(packet.name, packet.whole));
+        if self.rows.is_full(at, packet.name, packet.whole) {
+            return put_same(&mut self.rows, &mut self.used, at, packet, arrival);
+        }
         if self.next == u64::MAX {
             self.rows.clear();
             self.used.clear();
             self.next = 0;
             return false;
-        }
-        let at = self.rows.place_for(Sought::Full(packet.name, packet.whole));
-        if self.rows.is_full(at, packet.name, packet.whole) {
-            return put_same(&mut self.rows, &mut self.used, at, packet, arrival);
         }
         let Ok(entry) = Entry::new(self.alloc, packet, arrival) else {
             return false;

@@ -13,8 +13,8 @@ use Rattle.content_store.proofs.store.Store.put.Goals.{Else-is_full, In-Ok, Else
 
 -- ---- serial numbers are used up
 
-pub invariant_of-self : goal.invariant_of-self
-invariant_of-self c = (held_none c.self.inside.rows _ c.self.inside.used _ c.self.inside.capacity c.self.inside.next c.self.invariant c.clear.ensures c.clear-then-self.ensures).0
+pub invariant_of-self-then-self : goal.invariant_of-self-then-self
+invariant_of-self-then-self c = (held_none c.self.inside.rows _ c.self.inside.used _ c.self.inside.capacity c.self.inside.next c.self.invariant c.clear.ensures c.clear-then-self.ensures).0
 
 pub returns-then-self-clause-refused : goal.returns-then-self-clause-refused
 returns-then-self-clause-refused c =
@@ -48,8 +48,8 @@ same c =
     (cached_at c.args.packet.now c.args.arrival) c.self.invariant (cached_is_data c.args.packet.now c.args.arrival) yes.0 yes.1 c.put_same.ensures.ok c.put_same.ensures.refused in
     (all.0, all.1, λ f. all.2 f ∙ c.self.view_is)
 
-pub invariant_of-self-then-is_full : goal.invariant_of-self-then-is_full
-invariant_of-self-then-is_full c = (same (goal.at.invariant_of-self-then-is_full c).After-put_same).0
+pub invariant_of-self : goal.invariant_of-self
+invariant_of-self c = (same (goal.at.invariant_of-self c).After-put_same).0
 
 pub returns-then-is_full-clause-ok : goal.returns-then-is_full-clause-ok
 returns-then-is_full-clause-ok c =
