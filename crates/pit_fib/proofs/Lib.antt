@@ -1,3 +1,5 @@
+pub mod Rows
+pub mod Memory
 pub mod Places
 pub mod RisingFaces
 pub mod OrderedHops
@@ -12,5 +14,10 @@ pub mod PendingPast
 pub mod PendingFaces
 pub mod Moments
 pub mod Askers
-pub mod Satisfied
 pub mod Nacks
+pub mod KeptTables
+pub mod Preparations
+pub mod Expiry
+pub mod Arrivals
+pub mod Answered
+pub mod SatisfiedTables

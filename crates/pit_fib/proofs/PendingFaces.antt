@@ -7,7 +7,7 @@ use lib.Dec.{T}
 use Rattle.std.specs.declared.cmp.Ordering.TheVariants.{Less}
 use Rattle.std.specs.Ordering.{nat_cmp, eq_by_cmp, is_eq}
 use Rattle.std.specs.Cmp.{nat_cmp_total, tied_itself}
-use Rattle.std.specs.FinMap.{FinMap, entries, entries_sorted, get, get-empty, get-entries, find, from_entries, is_sorted, len, len-entries}
+use Rattle.std.specs.FinMap.{FinMap, entries, entries_sorted, get, get-empty, get-entries, find, is_sorted, len, len-entries}
 use Rattle.std.specs.FinMap.Entries.{below_all}
 use Rattle.std.proofs.lemmas.Bool.{eqb-true}
 use Rattle.std.proofs.lemmas.Bool.Decides.{nat_tests}
@@ -20,7 +20,6 @@ use Rattle.pit_fib.specs.Past.{ask_after, sent_after}
 use Rattle.pit_fib.specs.Pit.{HasRecord, HasRoomFor, AtMost64}
 use Rattle.ndn_names.proofs.Rows.{first_of, second_of, is_less}
 use Rattle.pit_fib.proofs.RisingFaces.{with_rises}
-use Rattle.pit_fib.proofs.PendingTables.{records_at-entries}
 use Rattle.pit_fib.proofs.PendingPast.{get-changed, get-changed_asked}
 
 -- the face to which a cause gives a record
@@ -159,12 +158,9 @@ pub grows_few : (cause : Cause) (old new : Pending) (face : ℕ) → ((f : ℕ) 
 grows_few cause old new face one follows room =
     at_most (λ f has. elim (had_record cause old new follows f has) [ (inl was) ↦ inl was | (inr adds) ↦ inr (one f adds) ]) room
 
-pub none_few : AtMost64 (HasRecord (from_entries []))
-none_few [] rising all = omega arith
-none_few (f ∷ faces) rising all = let has = all.0 in in_none f (subst (λ r. InRecords r f) (none_at has.0) has.1)
-  where
-    none_at : (k : PlainKey) → records_at (from_entries []) k ≡ no_records
-    none_at k = records_at-entries [] k
+pub none_few : (pending : Pending) → ((k : PlainKey) → records_at pending k ≡ no_records) → AtMost64 (HasRecord pending)
+none_few pending none [] rising all = omega arith
+none_few pending none (f ∷ faces) rising all = let has = all.0 in in_none f (subst (λ r. InRecords r f) (none has.0) has.1)
 
 -- ---- the faces of one map
 

@@ -1,8 +1,8 @@
 -- Why a table takes no value of a name.
-use Rattle.std.proofs.Common.{◌≡◌, ◌<◌, ◌≤◌, Bool, true, false, cond, length, List, refl, sym, ap, ◌∙◌, leb}
-use Rattle.std.specs.Prelude.{Option, None, Some}
-use Rattle.std.proofs.lemmas.Bool.{le-ltb, le-leb, lt-leb}
-use Rattle.std.specs.FinMap.{len, contains_key}
+use Rattle.std.proofs.Common.{◌≡◌, ◌⊎◌, inl, inr, ℕ, ◌<◌, ◌≤◌, Bool, true, false, cond, length, List, refl, sym, ap, ◌∙◌, leb}
+use Rattle.std.specs.Prelude.{Option, None, Some, IsSome, is_some, nat_lt, nat_le, if◌then◌else◌}
+use Rattle.std.proofs.lemmas.Bool.{leb-false, le-ltb, le-leb, lt-leb}
+use Rattle.std.specs.FinMap.{get, len, contains_key}
 use Rattle.ndn_tlv.specs.Element.{Field}
 use Rattle.pit_fib.specs.declared.fault.TableFault.{TableFault}
 use Rattle.pit_fib.specs.declared.fault.TableFault.TheVariants.{TooDeep, TableFull}
@@ -29,3 +29,15 @@ module _ {X : Type 0} (table : ByName X) (name : List Field) (shallow : length n
 
   pub room_takes_any : len table < 4096 → None ≡ refusal table name
   room_takes_any room = sym (told (contains_key table name) false refl (lt-leb 4096 (len table) room) ∙ either (contains_key table name) None)
+
+room_of : {X : Type 0} (o : Option X) (n : ℕ) → (if is_some o then None else (if nat_le 4096 n then Some TableFull else None)) ≡ None → IsSome o ⊎ (n < 4096)
+room_of (Some x) n f = inl refl
+room_of None n f = inr (elim (nat_le 4096 n) as (λ b. nat_le 4096 n ≡ b → (if b then Some TableFull else None) ≡ None → n < 4096) [ true ↦ λ t g. absurd cc | false ↦ λ t g. leb-false 4096 n t ] refl f)
+
+-- a name that is not refused has a value, or there is room
+pub room_if_taken : {X : Type 0} (table : ByName X) (name : List Field) → refusal table name ≡ None → IsSome (get table name) ⊎ (len table < 4096)
+room_if_taken table name none =
+    elim (nat_lt 32 (length name)) as (λ b. (if b then Some TooDeep else (if contains_key table name then None else (if nat_le 4096 (len table) then Some TableFull else None))) ≡ None → IsSome (get table name) ⊎ (len table < 4096)) [
+      | true ↦ λ e. absurd cc
+      | false ↦ λ e. room_of (get table name) (len table) e
+    ] none

@@ -8,6 +8,9 @@ pub mod Records
 pub mod Cause
 pub mod Pit
 pub mod Past
-pub mod Entries
+pub mod Flags
+pub mod Faced
+pub mod Kept
+pub mod Prepared
 pub use Rattle.name_trie.specs.ByName
 pub use Rattle.name_trie.specs.NameTable

@@ -19,13 +19,15 @@ use Rattle.pit_fib.specs.Cause.{with_reason}
 
 pub record PitState : Type 0 where
   pub pending : Pending
-  -- the key of the `arrive` that is prepared, and the greatest number of octets of its Interest
-  pub prepared : Option (PlainKey × ℕ)
+  -- the key of the calls that are prepared: an `arrive` of an Interest of at most so many octets,
+  -- and the `sent` calls after it; with None the `sent` calls alone
+  pub prepared : Option (PlainKey × Option ℕ)
 
 abbrev pub pit_code : Coded PitState
 pit_code =
-    code_by (Pending × Option (PlainKey × ℕ))
-    (coded× (map.code key_code records_code) (coded_option (coded× key_code coded_ℕ)))
+    code_by (Pending × Option (PlainKey × Option ℕ))
+    (coded× (map.code key_code records_code)
+    (coded_option (coded× key_code (coded_option coded_ℕ))))
     (λ s. (s.pending, s.prepared)) (λ p. record { pending = p.0; prepared = p.1 }) (λ _. refl)
 
 -- ---- the faces of a table

@@ -1,27 +1,21 @@
-ghost use Rattle.std.specs.Prelude.{◌≡◌, ◌<◌, ◌≤◌, ◌⊎◌, ◌||◌, ◌&&◌, ◌==◌, not, None, Some, IfOk, IsOk, IsSome, IsTrue, length, true, false, ℕ, min, option_and_then};
-ghost use lib.Dec.{T};
+ghost use Rattle.std.specs.Prelude.{◌≡◌, ◌≤◌, ◌||◌, ◌&&◌, ◌==◌, not, min};
 ghost use Rattle.std.specs.List.{list_any};
 ghost use Rattle.std.specs.Option.{option_map};
-ghost use Rattle.std.specs.Ordering.{nat_cmp};
 ghost use Rattle.std.specs.FinMap as map;
-ghost use Rattle.ndn_packets.specs.Key.{plain_key};
 ghost use Rattle.pit_fib.specs.declared.faces.TheConstants.{MAX_FACES};
-ghost use Rattle.pit_fib.specs.Faces.{IsRising, has_face};
-ghost use Rattle.pit_fib.specs.Records.{Sent, no_records, is_alive, same_nonce};
-ghost use Rattle.pit_fib.specs.Cause.{Expires, Withdrawn, Closed, changed, same_key, sent_at, nacked_with, with_reason};
-ghost use Rattle.ndn_packets.specs.Answers.{answers};
-ghost use Rattle.pit_fib.specs.Entries.{without_asks};
-ghost use Rattle.pit_fib.specs.Pit.{AtMost64, loops as loops_in, moments as moments_of, asks_with, least_reason, nacked_answer, was_sent};
+ghost use Rattle.pit_fib.specs.declared.room.TheConstants.{FEW};
+ghost use Rattle.pit_fib.specs.Faced.{has_place};
+ghost use Rattle.pit_fib.specs.Records.{is_alive, same_nonce};
+ghost use Rattle.pit_fib.specs.Cause.{sent_at, nacked_with, with_reason};
+ghost use Rattle.pit_fib.specs.Kept.{asked_by, deadline, expired, lesser, living, nacked, new_in, sendings, sent_in, with_askers, with_asking, withdrawn, without_face};
+ghost use Rattle.pit_fib.specs.Pit.{all_nacked, least_reason, loops as loops_in, moments as moments_of, was_sent};
+ghost use Rattle.name_trie.specs.Least.{least};
 
-use crate::answering::Answering;
 use crate::by_face::Used;
 use crate::face_map::FaceMap;
 use crate::faces::Faces;
-use crate::key_buf::KeyBuf;
 use crate::nacked::Nacked;
-use ndn_packets::Key;
-use ndn_tlv::Memory;
-use std::alloc::Global;
+use crate::room::Room;
 use std::marker::Model;
 
 /// An Interest as its asker sent it.
@@ -89,6 +83,17 @@ impl Model for Sending {
 }
 
 impl Sending {
+    /// A sending now, in milliseconds since 1970, to which no Nack came so far.
+    pub fn new(nonce: [u8; 4], now: u64) -> Sending
+        ensures { result ≡ sent_at nonce now }
+    {
+        Sending {
+            nonce,
+            moment: now,
+            reason: None,
+        }
+    }
+
     /// With the reason of a Nack that has its Nonce.
     fn nacked_with(self, nonce: [u8; 4], reason: u64) -> Sending
         ensures { result ≡ nacked_with nonce reason self }
@@ -104,22 +109,31 @@ impl Sending {
 }
 
 impl FaceMap<Sending> {
-    /// Keeps the reason of a Nack, where its Nonce was the last one sent to the face. Answers
-    /// whether it was.
-    fn nacked(&mut self, face: u64, nonce: [u8; 4], reason: u64) -> bool
-        ensures sent { result ≡ was_sent (map.get self.old face) nonce }
-        ensures value { self.new ≡ with_reason face nonce reason self.old (map.get self.old face) }
+    /// Whether the last sending to a face had this Nonce.
+    fn was_sent(&self, face: u64, nonce: [u8; 4]) -> bool
+        ensures { result ≡ was_sent (map.get self.now.values face) nonce }
     {
-        let Some(sending) = self.get(face).copied() else {
-            return false;
-        };
-        self.set(face, sending.nacked_with(nonce, reason));
-        sending.nonce == nonce
+        match self.get(face) {
+            Some(sending) => sending.nonce == nonce,
+            None => false,
+        }
+    }
+
+    /// Keeps the reason of a Nack, where its Nonce was the last one sent to the face.
+    fn nacked(&mut self, face: u64, nonce: [u8; 4], reason: u64)
+        ensures { self.new ≡ record self.old {
+          values = with_reason face nonce reason
+              self.old.values (map.get self.old.values face);
+        } }
+    {
+        if let Some(sending) = self.get(face).copied() {
+            self.replace(face, sending.nacked_with(nonce, reason));
+        }
     }
 
     /// The least of the reasons and this one, if each face has a reason.
     fn least_reason(&self, reason: u64) -> Option<u64>
-        ensures { result ≡ least_reason reason (map.entries self.now) }
+        ensures { result ≡ least_reason reason (map.entries self.now.values) }
     {
         let mut least = reason;
         for row in self.rows() {
@@ -129,81 +143,111 @@ impl FaceMap<Sending> {
     }
 }
 
+impl FaceMap<Asker> {
+    /// The least deadline, or 0 where no face asks.
+    fn deadline(&self) -> u64
+        ensures { result ≡ least (λ ask. ask.deadline) (map.entries self.now.values) }
+    {
+        let mut least = None;
+        for row in self.rows() {
+            least = lesser(least, Some(row.1.deadline));
+        }
+        least.unwrap_or(0)
+    }
+}
+
+/// The lesser of two moments, or the one that is there.
+pub fn lesser(a: Option<u64>, b: Option<u64>) -> Option<u64>
+    ensures { result ≡ lesser a b }
+{
+    match (a, b) {
+        (Some(a), Some(b)) => Some(a.min(b)),
+        (Some(a), None) => Some(a),
+        (None, b) => b,
+    }
+}
+
 /// What is kept under a key.
 #[derive(Drop)]
 pub struct Entry {
-    key: KeyBuf,
     asks: FaceMap<Asker>,
     asked: FaceMap<Sending>,
 }
 
 impl Model for Entry {
-    ghost use Rattle.std.specs.Coded.{coded×};
-    ghost use Rattle.ndn_packets.specs.Key.{PlainKey, key_code};
-    ghost use Rattle.pit_fib.specs.Records.{Records, records_code};
+    ghost use Rattle.pit_fib.specs.Kept.{Kept, kept_code};
 
-    ghost Value = { PlainKey × Records };
+    ghost Value = { Kept };
 
-    ghost coded = { coded× key_code records_code };
+    ghost coded = { kept_code };
 
-    ghost view = { λ e. (e.key, record { asks = e.asks; asked = e.asked }) };
+    ghost view = { λ e. record {
+      records = record { asks = e.asks.values; asked = e.asked.values };
+      is_wide = e.asked.is_wide;
+    } };
 }
 
 impl Entry {
-    /// The entry of a key before anybody asks, with memory for all records.
-    pub fn new(alloc: Global, key: Key<'_>) -> Result<Entry, Memory>
-        ensures { IfOk result (λ entry. entry ≡ (plain_key key.entry, no_records)) }
+    /// An entry before anybody asks, in this memory.
+    pub fn new(asks: Room<Asker>, asked: Room<Sending>) -> Entry
+        requires asks { FEW ≤ asks }
+        requires asked { FEW ≤ asked }
+        ensures { result ≡ new_in asked }
     {
-        let key = KeyBuf::from_key(alloc, key)?;
-        let asks = FaceMap::new(alloc)?;
-        let asked = FaceMap::new(alloc)?;
-        Ok(Entry { key, asks, asked })
-    }
-
-    /// Whether it is the entry of this key.
-    pub fn is_of(&self, key: Key<'_>) -> bool
-        ensures { result ≡ same_key self.now.0 (plain_key key.entry) }
-    {
-        self.key.is(key)
+        Entry {
+            asks: FaceMap::new(asks),
+            asked: FaceMap::new(asked),
+        }
     }
 
     /// Whether some face asks.
-    pub fn is_alive(&self) -> bool
-        ensures { result ≡ is_alive self.now.1 }
+    fn is_alive(&self) -> bool
+        ensures { result ≡ is_alive self.now.records }
     {
         !self.asks.is_empty()
     }
 
-    /// Makes or replaces the Interest of a face.
-    pub fn arrive(&mut self, face: u64, asker: Asker) -> Result<(), Memory>
-        requires { IsSome (map.get self.old.1.asks face) ⊎ (map.len self.old.1.asks < MAX_FACES) }
-        ensures ok { IsOk result }
-        ensures key { self.new.0 ≡ self.old.0 }
-        ensures records { self.new.1
-            ≡ record self.old.1 { asks = map.insert self.old.1.asks face asker } }
+    /// The entry, while some face asks.
+    pub fn living(self) -> Option<Entry>
+        ensures { result ≡ living self }
     {
-        self.asks.insert(face, asker)
+        if self.is_alive() { Some(self) } else { None }
     }
 
-    /// Makes or replaces the sending to a face.
-    pub fn sent(&mut self, face: u64, nonce: [u8; 4], moment: u64) -> Result<(), Memory>
-        requires { IsSome (map.get self.old.1.asked face) ⊎ (map.len self.old.1.asked < MAX_FACES) }
-        ensures ok { IsOk result }
-        ensures key { self.new.0 ≡ self.old.0 }
-        ensures records { self.new.1
-            ≡ record self.old.1 { asked = map.insert self.old.1.asked face (sent_at nonce moment) } }
+    /// The least deadline.
+    pub fn deadline(&self) -> u64
+        ensures { result ≡ deadline self.now }
     {
-        let sending = Sending {
-            nonce,
-            moment,
-            reason: None,
-        };
-        self.asked.insert(face, sending)
+        self.asks.deadline()
+    }
+
+    /// Makes or replaces the Interest of a face, which has one, or fewer than 64 have. Where there
+    /// is no memory for it, the Interests move into this.
+    pub fn arrive(&mut self, face: u64, asker: Asker, room: Room<Asker>)
+        requires { MAX_FACES ≤ room }
+        ensures { self.new ≡ asked_by face asker self.old }
+    {
+        self.asks.set(face, asker, room);
+    }
+
+    /// Whether there is memory for a sending to this face.
+    pub fn has_place_for(&self, face: u64) -> bool
+        ensures { result ≡ (map.contains_key self.now.records.asked face
+            || has_place (sendings self.now)) }
+    {
+        self.asked.get(face).is_some() || self.asked.has_place()
+    }
+
+    /// Makes or replaces the sending to a face, in the sendings' memory or in this.
+    pub fn sent(&mut self, face: u64, sending: Sending, room: Room<Sending>)
+        ensures { self.new ≡ sent_in room face sending self.old }
+    {
+        self.asked.set(face, sending, room);
     }
 
     /// Whether an Interest of this Nonce from a face loops.
     pub fn loops(&self, face: u64, nonce: [u8; 4]) -> bool
-        ensures { result ≡ loops_in self.now.1 face nonce }
+        ensures { result ≡ loops_in self.now.records face nonce }
     {
         let asks_with = match self.asks.get(face) {
             Some(asker) => asker.nonce == nonce,
@@ -214,7 +258,7 @@ impl Entry {
 
     fn others_ask_with(&self, face: u64, nonce: [u8; 4]) -> bool
         ensures { result ≡ list_any (λ e. not (e.0 == face) && same_nonce e.1.nonce nonce)
-            (map.entries self.now.1.asks) }
+            (map.entries self.now.records.asks) }
     {
         self.asks
             .rows()
@@ -224,14 +268,14 @@ impl Entry {
 
     fn was_any_sent(&self, nonce: [u8; 4]) -> bool
         ensures { result ≡ list_any (λ e. same_nonce e.1.nonce nonce)
-            (map.entries self.now.1.asked) }
+            (map.entries self.now.records.asked) }
     {
         self.asked.rows().iter().any(|row| row.1.nonce == nonce)
     }
 
     /// When each face was last sent the Interest.
     pub fn moments(&self) -> Used
-        ensures { result ≡ moments_of self.now.1.asked }
+        ensures { result ≡ moments_of self.now.records.asked }
     {
         let mut moments = Used::new();
         for row in self.asked.rows() {
@@ -243,96 +287,72 @@ impl Entry {
     /// The octets of the Interest of a face.
     pub fn interest_of(&self, face: u64) -> Option<&[u8]>
         ensures { option_map (λ o. o.now) result
-            ≡ option_map (λ ask. ask.interest) (map.get self.now.1.asks face) }
+            ≡ option_map (λ ask. ask.interest) (map.get self.now.records.asks face) }
     {
         let asker = self.asks.get(face)?;
         Some(&asker.interest)
     }
 
-    /// Keeps the reason of a Nack, where its Nonce was the last one sent to its face.
-    pub fn nacked(&mut self, face: u64, nonce: [u8; 4], reason: u64) -> Nacked
-        ensures key { self.new.0 ≡ self.old.0 }
-        ensures records { self.new.1 ≡ record self.old.1 {
-          asked = with_reason face nonce reason self.old.1.asked (map.get self.old.1.asked face);
-        } }
-        ensures answer { result ≡ nacked_answer self.old.1 face nonce reason }
+    /// Whether the last sending to a face had this Nonce.
+    pub fn was_sent(&self, face: u64, nonce: [u8; 4]) -> bool
+        ensures { result ≡ was_sent (map.get self.now.records.asked face) nonce }
     {
-        if !self.asked.nacked(face, nonce, reason) {
-            return Nacked::NoPending;
-        }
+        self.asked.was_sent(face, nonce)
+    }
+
+    /// Keeps the reason of a Nack, where its Nonce was the last one sent to its face.
+    pub fn nacked(&mut self, face: u64, nonce: [u8; 4], reason: u64)
+        ensures { self.new ≡ nacked face nonce reason self.old }
+    {
+        self.asked.nacked(face, nonce, reason);
+    }
+
+    /// Whether all faces asked have answered by a Nack, of which one had this reason.
+    pub fn answer(&self, reason: u64) -> Nacked
+        ensures { result
+            ≡ all_nacked (least_reason reason (map.entries self.now.records.asked)) }
+    {
         match self.asked.least_reason(reason) {
             Some(least) => Nacked::All(least),
             None => Nacked::Waiting,
         }
     }
 
-    /// Takes out the Interest of a face, where this is the key, and answers whether some face asks.
-    pub fn withdraw(&mut self, key: Key<'_>, face: u64) -> bool
-        ensures key { self.new.0 ≡ self.old.0 }
-        ensures records { self.new.1
-            ≡ changed (Withdrawn (plain_key key.entry) face) self.old.0 self.old.1 }
-        ensures alive { result ≡ is_alive self.new.1 }
+    /// Takes out the Interest of a face.
+    pub fn withdraw(&mut self, face: u64)
+        ensures { self.new ≡ withdrawn face self.old }
     {
-        if self.is_of(key) {
-            self.asks.remove(face);
-        }
-        self.is_alive()
+        self.asks.remove(face);
     }
 
-    /// Takes out the Interests whose deadline is not after this moment, and answers whether some
-    /// face asks.
-    pub fn expire(&mut self, now: u64) -> bool
-        ensures key { self.new.0 ≡ self.old.0 }
-        ensures records { self.new.1 ≡ changed (Expires now) self.old.0 self.old.1 }
-        ensures alive { result ≡ is_alive self.new.1 }
+    /// Takes out the Interests whose deadline is not after this moment.
+    pub fn expire(&mut self, now: u64)
+        ensures { self.new ≡ expired now self.old }
     {
         self.asks.expire(now);
-        self.is_alive()
     }
 
-    /// Takes out a face, and answers whether some face asks.
-    pub fn close_face(&mut self, face: u64) -> bool
-        ensures key { self.new.0 ≡ self.old.0 }
-        ensures records { self.new.1 ≡ changed (Closed face) self.old.0 self.old.1 }
-        ensures alive { result ≡ is_alive self.new.1 }
+    /// Takes out a face.
+    pub fn close_face(&mut self, face: u64)
+        ensures { self.new ≡ without_face face self.old }
     {
         self.asks.remove(face);
         self.asked.remove(face);
-        self.is_alive()
     }
+}
 
-    /// Where the Data answers, takes out all who ask, and adds them to these faces, of which there
-    /// are then at most 64.
-    pub fn satisfy(&mut self, packet: &mut Answering<'_>, faces: &mut Faces)
-        requires rising { IsRising faces.old }
-        requires room { AtMost64 (λ f. IsTrue (has_face f faces.old
-            || map.contains_key self.old.1.asks f)) }
-        ensures key { self.new.0 ≡ self.old.0 }
-        ensures records { self.new.1
-            ≡ without_asks (answers packet.old.0 packet.old.1 self.old.0.name
-            self.old.0.can_be_prefix) self.old.1 }
-        ensures faces { (f : ℕ) → has_face f faces.new ≡ (has_face f faces.old
-            || (answers packet.old.0 packet.old.1 self.old.0.name self.old.0.can_be_prefix
-            && map.contains_key self.old.1.asks f)) }
-        ensures rising { IsRising faces.new }
-        ensures packet { packet.new ≡ packet.old }
-    {
-        let key = self.key.view();
-        if packet.answers(key.name, key.can_be_prefix) {
-            add_faces(self.asks.rows(), faces);
-            self.asks.clear();
-        }
+/// Adds the faces that ask, if something is kept.
+pub fn add_faces(entry: &Option<Entry>, faces: &mut Faces)
+    ensures { faces.new ≡ with_asking entry.now faces.old }
+{
+    if let Some(entry) = entry {
+        add_askers(entry.asks.rows(), faces);
     }
 }
 
 /// Adds the faces of these Interests.
-fn add_faces(rows: &[(u64, Asker)], faces: &mut Faces)
-    requires rising { IsRising faces.old }
-    requires room { AtMost64 (λ f. IsTrue (has_face f faces.old
-        || list_any (λ row. row.0 == f) rows.now)) }
-    ensures faces { (f : ℕ) → has_face f faces.new
-        ≡ (has_face f faces.old || list_any (λ row. row.0 == f) rows.now) }
-    ensures rising { IsRising faces.new }
+fn add_askers(rows: &[(u64, Asker)], faces: &mut Faces)
+    ensures { faces.new ≡ with_askers rows.now faces.old }
 {
     for row in rows {
         faces.insert(row.0);

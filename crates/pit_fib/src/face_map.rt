@@ -1,20 +1,21 @@
-ghost use Rattle.std.specs.Prelude.{◌≡◌, ◌<◌, ◌≤◌, ◌⊎◌, ◌==◌, IfOk, IsOk, IsSome, length};
+ghost use Rattle.std.specs.Prelude.{◌≡◌, ◌<◌, ◌≤◌, ◌⊎◌, ◌==◌, true, IsSome, IsTrue, length};
 ghost use lib.Dec.{T};
 ghost use Rattle.std.specs.Option.{option_map};
 ghost use Rattle.std.specs.Ordering.{nat_cmp};
 ghost use Rattle.std.specs.FinMap as map;
 ghost use Rattle.name_trie.specs.ByName.{revise};
 ghost use Rattle.pit_fib.specs.Cause.{until_after};
+ghost use Rattle.pit_fib.specs.Faced.{has_place, none_in, placed, set_in, with_face_value};
+ghost use Rattle.pit_fib.specs.declared.room.TheConstants.{FEW};
 
 use crate::by_face::place_of;
 use crate::entry::Asker;
 use crate::faces::MAX_FACES;
-use ndn_tlv::Memory;
-use std::alloc::Global;
+use crate::room::{FEW, Room};
 use std::marker::Model;
 
-/// Values of at most 64 faces, in rising order of the faces. There is memory for all of them from
-/// the start.
+/// Values of at most 64 faces, in rising order of the faces. There is memory for a few of them, or
+/// for all.
 #[derive(Drop)]
 pub struct FaceMap<V> {
     rows: Vec<(u64, V)>,
@@ -22,34 +23,41 @@ pub struct FaceMap<V> {
 
 impl<V> Model for FaceMap<V> {
     ghost use lib.Dec.{T};
-    ghost use Rattle.std.specs.Prelude.{◌≤◌, vec_len};
+    ghost use Rattle.std.specs.Prelude.{◌≤◌, vec_len, nat_le};
     ghost use Rattle.std.specs.Vec.{vec_capacity};
     ghost use Rattle.std.specs.Ordering.{nat_cmp};
-    ghost use Rattle.std.specs.Coded.{coded_ℕ};
     ghost use Rattle.std.specs.FinMap as map;
+    ghost use Rattle.pit_fib.specs.Faced.{Faced, faced_code};
     ghost use Rattle.pit_fib.specs.declared.faces.TheConstants.{MAX_FACES};
+    ghost use Rattle.pit_fib.specs.declared.room.TheConstants.{FEW};
 
-    ghost Value = { map.FinMap nat_cmp V };
+    ghost Value = { Faced V };
 
-    ghost coded = { map.code coded_ℕ V.code };
+    ghost coded = { faced_code V.code };
 
-    ghost view = { λ m. map.from_sorted m.rows.items };
+    ghost view = { λ m. record {
+      values = map.from_sorted m.rows.items;
+      is_wide = nat_le MAX_FACES (vec_capacity m.rows);
+    } };
 
     ghost invariant = { λ m. T (map.is_sorted nat_cmp m.rows.items) × (vec_len m.rows ≤ MAX_FACES)
-        × (MAX_FACES ≤ vec_capacity m.rows) };
+        × (FEW ≤ vec_capacity m.rows) };
 }
 
 impl<V: Drop> FaceMap<V> {
-    pub fn new(alloc: Global) -> Result<FaceMap<V>, Memory>
-        ensures { IfOk result (λ m. m ≡ map.empty) }
+    /// No values, in this memory.
+    pub fn new(room: Room<V>) -> FaceMap<V>
+        requires { FEW ≤ room }
+        ensures { result ≡ none_in room }
     {
-        let rows = Vec::with_capacity(alloc, MAX_FACES)?;
-        Ok(FaceMap { rows })
+        FaceMap {
+            rows: room.into_rows(),
+        }
     }
 
     /// The faces with their values, in rising order.
     pub fn rows(&self) -> &[(u64, V)]
-        ensures rows { result.now ≡ map.entries self.now }
+        ensures rows { result.now ≡ map.entries self.now.values }
         ensures sorted { T (map.is_sorted nat_cmp result.now) }
         ensures small { length result.now ≤ MAX_FACES }
     {
@@ -57,14 +65,14 @@ impl<V: Drop> FaceMap<V> {
     }
 
     pub fn is_empty(&self) -> bool
-        ensures { result ≡ (map.len self.now == 0) }
+        ensures { result ≡ (map.len self.now.values == 0) }
     {
         self.rows.is_empty()
     }
 
     /// The value of a face.
     pub fn get(&self, face: u64) -> Option<&V>
-        ensures { option_map (λ v. v.now) result ≡ map.get self.now face }
+        ensures { option_map (λ v. v.now) result ≡ map.get self.now.values face }
     {
         match place_of(&self.rows, face) {
             Ok(at) => Some(&self.rows[at].1),
@@ -72,48 +80,75 @@ impl<V: Drop> FaceMap<V> {
         }
     }
 
+    /// Whether there is memory for one value more.
+    pub fn has_place(&self) -> bool
+        ensures { result ≡ has_place self.now }
+    {
+        self.rows.capacity() >= MAX_FACES || self.rows.len() < FEW
+    }
+
+    /// Makes room for one value more, in the values' own memory or in this. Answers false where
+    /// neither has room, and where 64 stand.
+    fn make_place(&mut self, room: Room<V>) -> bool
+        ensures { (result, self.new) ≡ placed room self.old }
+    {
+        if self.rows.len() >= MAX_FACES {
+            return false;
+        }
+        if self.has_place() {
+            return true;
+        }
+        if room.count() < MAX_FACES {
+            return false;
+        }
+        let mut rows = room.into_rows();
+        rows.append(&mut self.rows).unwrap_or(());
+        self.rows = rows;
+        true
+    }
+
     /// Sets the value of a face, for which there is memory.
-    pub fn insert(&mut self, face: u64, value: V) -> Result<(), Memory>
-        requires { IsSome (map.get self.old face) ⊎ (map.len self.old < MAX_FACES) }
-        ensures ok { IsOk result }
-        ensures value { self.new ≡ map.insert self.old face value }
+    fn put(&mut self, face: u64, value: V)
+        requires { IsSome (map.get self.old.values face)
+            ⊎ ((map.len self.old.values < MAX_FACES) × IsTrue (has_place self.old)) }
+        ensures { self.new ≡ with_face_value face value self.old }
     {
         match place_of(&self.rows, face) {
             Ok(at) => self.rows[at] = (face, value),
-            Err(at) => self.rows.insert(at, (face, value))?,
+            Err(at) => self.rows.insert(at, (face, value)).unwrap_or(()),
         }
-        Ok(())
+    }
+
+    /// Sets the value of a face, for which there is memory, or this.
+    pub fn set(&mut self, face: u64, value: V, room: Room<V>)
+        ensures { self.new ≡ set_in room face value self.old }
+    {
+        if self.get(face).is_some() || self.make_place(room) {
+            self.put(face, value);
+        }
     }
 
     /// Sets the value of a face that has one.
-    pub fn set(&mut self, face: u64, value: V)
-        requires { IsSome (map.get self.old face) }
-        ensures { self.new ≡ map.insert self.old face value }
+    pub fn replace(&mut self, face: u64, value: V)
+        requires { IsSome (map.get self.old.values face) }
+        ensures { self.new ≡ with_face_value face value self.old }
     {
-        if let Ok(at) = place_of(&self.rows, face) {
-            self.rows[at] = (face, value);
-        }
+        self.put(face, value);
     }
 
     /// Removes the value of a face.
     pub fn remove(&mut self, face: u64)
-        ensures { self.new ≡ map.remove self.old face }
+        ensures { self.new ≡ record self.old { values = map.remove self.old.values face } }
     {
         self.rows.retain(|row| row.0 != face);
-    }
-
-    /// Removes all values.
-    pub fn clear(&mut self)
-        ensures { self.new ≡ map.empty }
-    {
-        self.rows.clear();
     }
 }
 
 impl FaceMap<Asker> {
     /// Removes the Interests whose deadline is not after this moment.
     pub fn expire(&mut self, now: u64)
-        ensures { self.new ≡ revise (until_after now) self.old }
+        ensures { self.new
+            ≡ record self.old { values = revise (until_after now) self.old.values } }
     {
         self.rows.retain(|row| now < row.1.deadline());
     }

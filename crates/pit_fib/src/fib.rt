@@ -80,18 +80,30 @@ impl Fib {
         ensures promised { self.old.prepared ≡ Some (components name.entry)
             → IfErr result (λ fault. fault ≢ faults.Memory) }
     {
-        if name.len() > MAX_DEPTH {
+        if let Some(fault) = self.refusal_of(name) {
             self.costs.forget_prepared();
-            return Err(TableFault::TooDeep);
-        }
-        if self.costs.len() >= MAX_ENTRIES && self.costs.get(name).is_none() {
-            self.costs.forget_prepared();
-            return Err(TableFault::TableFull);
+            return Err(fault);
         }
         let mut costs = self.costs_of(name);
         costs.insert(face, cost);
         self.costs.put(name, costs)?;
         Ok(())
+    }
+
+    /// Why the table takes no hop of the name, if it does not.
+    pub fn refusal_of(&self, name: Name<'_>) -> Option<TableFault>
+        ensures { result ≡ refusal self.now.table (components name.entry) }
+    {
+        if name.len() > MAX_DEPTH {
+            return Some(TableFault::TooDeep);
+        }
+        if self.costs.len() < MAX_ENTRIES {
+            return None;
+        }
+        if self.costs.get(name).is_some() {
+            return None;
+        }
+        Some(TableFault::TableFull)
     }
 
     /// Prepares one `add` of this name, which is then not refused memory.
@@ -101,6 +113,14 @@ impl Fib {
         ensures err { OnErr result (self.new.prepared ≡ None) }
     {
         self.costs.prepare(name)
+    }
+
+    /// Ends what is prepared.
+    pub fn forget_prepared(&mut self)
+        ensures table { self.new.table ≡ self.old.table }
+        ensures prepared { self.new.prepared ≡ None }
+    {
+        self.costs.forget_prepared();
     }
 
     /// Removes the hop of a face, if it is there. An entry without hops goes.

@@ -10,6 +10,10 @@ ghost use Rattle.pit_fib.specs.Pit.{IsLeastReason, was_sent, nacked_answer};
 ghost use Rattle.pit_fib.specs.declared.nacked.Nacked.TheVariants as answers;
 ghost use Rattle.pit_fib.specs.Past.{records_of, ask_of, sent_of};
 
+use crate::faces::MAX_FACES;
+use crate::fib::{MAX_DEPTH, MAX_ENTRIES};
+use crate::pit::MAX_PENDING;
+
 /// Law: of values by name, `longest` gives that of the longest prefix of a name that has one, and
 /// none where no prefix has one.
 pub fn longest_is_the_longest_prefix<V>()
@@ -61,4 +65,10 @@ pub fn expiry_may_come_twice()
     ensures { (m n : ℕ) (key : PlainKey) (r : Records) → m ≤ n
         → records_after (Expires n) key (records_after (Expires m) key r)
         ≡ records_after (Expires n) key r }
+{}
+
+/// Law: a table has at most 4,096 names or keys, a route or strategy at most 32 components, and a key
+/// or name at most 64 faces.
+pub fn table_limits_are_as_promised()
+    ensures { (MAX_FACES ≡ 64) × (MAX_ENTRIES ≡ 4096) × (MAX_DEPTH ≡ 32) × (MAX_PENDING ≡ 4096) }
 {}

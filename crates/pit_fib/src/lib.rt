@@ -2,20 +2,24 @@
 //! key, and lists of faces.
 #![tactic(auto)]
 
-mod answering;
 mod array_list;
+mod arrival;
 mod by_face;
 mod entry;
 mod face_map;
 mod faces;
 mod fault;
 mod fib;
+mod flags;
 mod hops;
 mod key_buf;
 mod law;
 mod nacked;
 mod pit;
-mod spare;
+mod prepared;
+mod revisions;
+mod room;
+mod row;
 mod strategy_table;
 
 pub use by_face::Used;
@@ -26,6 +30,7 @@ pub use hops::{Hop, Hops};
 pub use law::{
     expiry_may_come_twice, longest_is_the_longest_prefix, nacks_tell_the_least_reason,
     records_are_the_past, records_tell_the_table, revising_changes_each_value,
+    table_limits_are_as_promised,
 };
 pub use nacked::Nacked;
 pub use pit::{MAX_PENDING, Pit};

@@ -1,28 +1,37 @@
-ghost use Rattle.std.specs.Prelude.{◌≡◌, ◌≢◌, ◌↔◌, ◌<◌, ◌≤◌, ℕ, true, false, None, Some, Err, IsOk, IsTrue, IsSome, IfErr, OnOk, OnErr, MatchOption, length, slice_index_or};
+ghost use Rattle.std.specs.Prelude.{◌≡◌, ◌≢◌, ◌↔◌, ◌<◌, ◌≤◌, ◌⊎◌, ℕ, true, false, None, Some, Err, IsOk, IsTrue, IfErr, IfOk, OnOk, OnErr, length};
 ghost use Rattle.std.specs.Option.{option_map};
 ghost use Rattle.std.specs.FinMap as map;
 ghost use Rattle.sha2.specs.Sha256.{sha256};
 ghost use Rattle.ndn_names.specs.View.{components};
-ghost use Rattle.ndn_packets.specs.Answers.{answers};
-ghost use Rattle.ndn_packets.specs.Key.{PlainKey, key_cmp, plain_key};
+ghost use Rattle.ndn_packets.specs.Key.{plain_key};
 ghost use Rattle.pit_fib.specs.declared.fault.PitFault.TheVariants as faults;
+ghost use Rattle.pit_fib.specs.declared.faces.TheConstants.{MAX_FACES};
 ghost use Rattle.pit_fib.specs.Faces.{IsRising, has_face};
-ghost use Rattle.pit_fib.specs.Records.{Records, HoldsTheLiving, is_alive, records_at};
+ghost use Rattle.pit_fib.specs.Records.{HoldsTheLiving, is_alive, records_at};
 ghost use Rattle.pit_fib.specs.Cause.{Expires, Arrives, SentTo, Satisfied, NackCame, Withdrawn, Removed, Closed, Follows};
+ghost use Rattle.pit_fib.specs.Kept.{answer_in, has_place_in, kept_at, was_sent_in};
 ghost use Rattle.pit_fib.specs.Pit.{AtMost64, HasRecord, HasRoomFor, WaitsFor, loops as loops_in, moments, nacked_answer};
 
-use crate::answering::Answering;
+use crate::arrival::{Arrival, Departure};
 use crate::by_face::Used;
-use crate::entry::{Asker, Entry};
-use crate::faces::Faces;
+use crate::entry::{Asker, Entry, Sending};
+use crate::faces::{Faces, MAX_FACES};
 use crate::fault::PitFault;
 use crate::fib::MAX_ENTRIES;
+use crate::flags::Flags;
 use crate::nacked::Nacked;
-use crate::spare::{Spare, octets_and_entry};
+use crate::prepared::{Prepared, after_sending, arriving, octets_and_room};
+use crate::revisions::{Closing, Expiry, NackOf, Removal, Withdrawal};
+use crate::room::Room;
+use crate::row::{Row, RowRevision};
+use name_trie::TimedMap;
+use ndn_names::Component;
+use ndn_names::component_type::IMPLICIT_SHA256_DIGEST;
 use ndn_packets::{Data, Key};
 use ndn_tlv::Memory;
 use std::alloc::Global;
 use std::marker::Model;
+use std::mem;
 
 /// The greatest number of keys under which Interests wait.
 pub const MAX_PENDING: usize = MAX_ENTRIES;
@@ -33,30 +42,28 @@ pub const MAX_PENDING: usize = MAX_ENTRIES;
 #[derive(Drop)]
 pub struct Pit {
     alloc: Global,
-    entries: Vec<Entry>,
-    // What is prepared. `entries` has room for it.
-    spare: Option<Spare>,
+    // By name, and in order of their least deadlines.
+    rows: TimedMap<Row>,
+    prepared: Option<Prepared>,
+    // Spare memory for the sendings of an entry whose own memory is full.
+    spare: Room<Sending>,
 }
 
 impl Model for Pit {
-    ghost use Rattle.std.specs.Prelude.{vec_len};
-    ghost use Rattle.std.specs.Vec.{vec_capacity};
-    ghost use Rattle.std.specs.FinMap as map;
-    ghost use Rattle.pit_fib.specs.Pit.{PitState, pit_code, AtMost64, HasRecord};
-    ghost use Rattle.pit_fib.specs.Entries.{AllLive, AreApart, HasRoom, prepared_by};
+    ghost use Rattle.pit_fib.specs.Kept.{pending_of};
+    ghost use Rattle.pit_fib.specs.Pit.{PitState, pit_code};
+    ghost use Rattle.pit_fib.specs.Prepared.{HasMemory, IsWithin, calls_of};
 
     ghost Value = { PitState };
 
     ghost coded = { pit_code };
 
     ghost view = { λ p. record {
-      pending = map.from_entries p.entries.items;
-      prepared = prepared_by p.spare;
+      pending = pending_of p.rows.table;
+      prepared = calls_of p.prepared;
     } };
 
-    ghost invariant = { λ p. AllLive p.entries.items × AreApart p.entries.items
-        × AtMost64 (HasRecord (map.from_entries p.entries.items))
-        × HasRoom (vec_len p.entries) (vec_capacity p.entries) p.spare };
+    ghost invariant = { λ p. IsWithin p.rows.table × HasMemory p.rows p.spare p.prepared };
 }
 
 impl Pit {
@@ -67,8 +74,9 @@ impl Pit {
     {
         Pit {
             alloc,
-            entries: Vec::new(alloc),
-            spare: None,
+            rows: TimedMap::new(alloc),
+            prepared: None,
+            spare: Room::none(alloc),
         }
     }
 
@@ -78,15 +86,16 @@ impl Pit {
         ensures exact { result ≡ map.len self.now.pending }
         ensures living { HoldsTheLiving self.now.pending }
         ensures few { AtMost64 (HasRecord self.now.pending) }
+        ensures bounded { map.len self.now.pending ≤ MAX_PENDING }
     {
-        self.entries.len()
+        self.rows.len()
     }
 
     /// Whether no Interest waits.
     pub fn is_empty(&self) -> bool
         ensures { IsTrue result ↔ (self.now.pending ≡ map.empty) }
     {
-        self.entries.is_empty()
+        self.len() == 0
     }
 
     /// Whether an Interest of this key and Nonce from a face loops: another asker or a face asked
@@ -96,24 +105,27 @@ impl Pit {
         ensures { result
             ≡ loops_in (records_at self.now.pending (plain_key key.entry)) face nonce }
     {
-        match place_of(&self.entries, key) {
-            Some(at) => self.entries[at].loops(face, nonce),
+        match entry_of(&self.rows, key) {
+            Some(entry) => entry.loops(face, nonce),
             None => false,
         }
     }
 
-    /// Prepares one `arrive` of this key, of an Interest of at most so many octets. It is then not
-    /// refused memory while only removals stand between.
+    /// Prepares one `arrive` of this key, of an Interest of at most so many octets, and the `sent`
+    /// calls of this key after it. They are then not refused memory while only removals stand
+    /// between. Refuses it for want of memory alone, and then no call is prepared any more.
     pub fn prepare(&mut self, key: Key<'_>, octets: usize) -> Result<(), Memory>
         ensures pending { self.new.pending ≡ self.old.pending }
-        ensures ok { OnOk result (self.new.prepared ≡ Some (plain_key key.entry, octets)) }
+        ensures ok { OnOk result (self.new.prepared
+            ≡ Some (plain_key key.entry, Some octets)) }
         ensures err { OnErr result (self.new.prepared ≡ None) }
         ensures living { HoldsTheLiving self.new.pending }
     {
-        self.spare = None;
-        self.entries.reserve(1)?;
-        let spare = Spare::new(self.alloc, key, octets)?;
-        self.spare = Some(spare);
+        self.prepared = None;
+        widen(self.alloc, &mut self.spare)?;
+        let prepared = Prepared::new(self.alloc, key, octets)?;
+        self.rows.prepare(key.name)?;
+        self.prepared = Some(prepared);
         Ok(())
     }
 
@@ -136,17 +148,22 @@ impl Pit {
             (record { interest = interest.now; nonce = nonce; deadline = deadline }))
             self.old.pending self.new.pending) }
         ensures err { OnErr result (self.new.pending ≡ self.old.pending) }
-        ensures ended { self.new.prepared ≡ None }
+        ensures next { (octets : ℕ)
+            → self.old.prepared ≡ Some (plain_key key.entry, Some octets)
+            → OnOk result (self.new.prepared ≡ Some (plain_key key.entry, None)) }
+        ensures ended { OnErr result (self.new.prepared ≡ None) }
+        ensures unprepared { ((octets : ℕ) → self.old.prepared ≢ Some (plain_key key.entry, Some octets))
+            → self.new.prepared ≡ None }
         ensures full { (result ≡ Err faults.PitFull)
             ↔ ((is_alive (records_at self.old.pending (plain_key key.entry)) ≡ false)
             × (MAX_PENDING ≤ map.len self.old.pending)) }
         ensures promised { (octets : ℕ)
-            → self.old.prepared ≡ Some (plain_key key.entry, octets)
+            → self.old.prepared ≡ Some (plain_key key.entry, Some octets)
             → length interest.now ≤ octets → IfErr result (λ fault. fault ≢ faults.Memory) }
         ensures living { HoldsTheLiving self.new.pending }
     {
         if self.is_full_for(key) {
-            self.spare = None;
+            self.prepared = None;
             return Err(PitFault::PitFull);
         }
         self.keep(key, face, nonce, interest, deadline)?;
@@ -159,10 +176,10 @@ impl Pit {
             ↔ ((is_alive (records_at self.now.pending (plain_key key.entry)) ≡ false)
             × (MAX_PENDING ≤ map.len self.now.pending)) }
     {
-        self.entries.len() >= MAX_PENDING && place_of(&self.entries, key).is_none()
+        self.rows.len() >= MAX_PENDING && entry_of(&self.rows, key).is_none()
     }
 
-    /// Keeps the Interest of a face.
+    /// Keeps the Interest of a face. The key is known, or there is room for a new one.
     fn keep(
         &mut self,
         key: Key<'_>,
@@ -171,56 +188,74 @@ impl Pit {
         interest: &[u8],
         deadline: u64,
     ) -> Result<(), Memory>
-        requires { HasRoomFor self.old.pending face }
+        requires room { HasRoomFor self.old.pending face }
+        requires place { (is_alive (records_at self.old.pending (plain_key key)) ≡ true)
+            ⊎ (map.len self.old.pending < MAX_PENDING) }
         ensures ok { OnOk result (Follows (Arrives (plain_key key.entry) face
             (record { interest = interest.now; nonce = nonce; deadline = deadline }))
             self.old.pending self.new.pending) }
         ensures err { OnErr result (self.new.pending ≡ self.old.pending) }
-        ensures ended { self.new.prepared ≡ None }
+        ensures next { (octets : ℕ)
+            → self.old.prepared ≡ Some (plain_key key.entry, Some octets)
+            → OnOk result (self.new.prepared ≡ Some (plain_key key.entry, None)) }
+        ensures ended { OnErr result (self.new.prepared ≡ None) }
+        ensures unprepared { ((octets : ℕ) → self.old.prepared ≢ Some (plain_key key.entry, Some octets))
+            → self.new.prepared ≡ None }
         ensures promised { (octets : ℕ)
-            → self.old.prepared ≡ Some (plain_key key.entry, octets)
+            → self.old.prepared ≡ Some (plain_key key.entry, Some octets)
             → length interest.now ≤ octets → IsOk result }
         ensures living { HoldsTheLiving self.new.pending }
     {
-        let spare = self.spare.take();
-        let (octets, mut entry) = octets_and_entry(self.alloc, spare, key, interest)?;
-        let asker = Asker::new(octets, nonce, deadline);
-        match place_of(&self.entries, key) {
-            Some(at) => self.entries[at].arrive(face, asker),
-            None => {
-                entry.arrive(face, asker)?;
-                self.entries.push(entry)?;
-                Ok(())
-            }
-        }
+        let (ready, after) = arriving(self.prepared.take(), key);
+        let (octets, room) = octets_and_room(self.alloc, ready, interest)?;
+        let arrival = Arrival {
+            flags: Flags::of(key),
+            face,
+            asker: Asker::new(octets, nonce, deadline),
+            room,
+        };
+        self.rows.put_with(key.name, arrival)?;
+        self.prepared = after;
+        Ok(())
     }
 
     /// Keeps that an Interest of this key and Nonce was sent to a face now, in milliseconds since
     /// 1970, in place of the sending before it. Some face asks under the key, and the faces that
-    /// have records and this one are at most 64.
+    /// have records and this one are at most 64. Where it is not prepared it may be refused memory,
+    /// and then changes nothing but that no call is prepared any more.
     pub fn sent(&mut self, key: Key<'_>, face: u64, nonce: [u8; 4], now: u64) -> Result<(), Memory>
         requires stands { is_alive (records_at self.old.pending (plain_key key)) ≡ true }
         requires room { HasRoomFor self.old.pending face }
-        // An entry has room for all faces from the start.
-        ensures ok { IsOk result }
-        ensures pending { Follows (SentTo (plain_key key.entry) face nonce now)
-            self.old.pending self.new.pending }
-        ensures ended { self.new.prepared ≡ None }
+        ensures ok { OnOk result (Follows (SentTo (plain_key key.entry) face nonce now)
+            self.old.pending self.new.pending) }
+        ensures err { OnErr result (self.new.pending ≡ self.old.pending) }
+        ensures promised { self.old.prepared ≡ Some (plain_key key.entry, None) → IsOk result }
+        ensures next { self.old.prepared ≡ Some (plain_key key.entry, None)
+            → self.new.prepared ≡ self.old.prepared }
+        ensures ended { (self.old.prepared ≢ Some (plain_key key.entry, None))
+            → self.new.prepared ≡ None }
         ensures living { HoldsTheLiving self.new.pending }
     {
-        self.spare = None;
-        match place_of(&self.entries, key) {
-            Some(at) => self.entries[at].sent(face, nonce, now),
-            None => Ok(()),
-        }
+        let has_place = has_place_for(&self.rows, key, face);
+        let after = after_sending(self.prepared.take(), key);
+        let room = room_for(self.alloc, &mut self.spare, has_place)?;
+        let departure = Departure {
+            flags: Flags::of(key),
+            face,
+            sending: Sending::new(nonce, now),
+            room,
+        };
+        self.rows.put_with(key.name, departure)?;
+        self.prepared = after;
+        Ok(())
     }
 
     /// The faces to which Interests of this key were sent, and when, in milliseconds since 1970.
     pub fn used(&self, key: Key<'_>) -> Used
         ensures { result ≡ moments (records_at self.now.pending (plain_key key.entry)).asked }
     {
-        match place_of(&self.entries, key) {
-            Some(at) => self.entries[at].moments(),
+        match entry_of(&self.rows, key) {
+            Some(entry) => entry.moments(),
             None => Used::new(),
         }
     }
@@ -230,8 +265,7 @@ impl Pit {
         ensures { option_map (λ o. o.now) result ≡ option_map (λ ask. ask.interest)
             (map.get (records_at self.now.pending (plain_key key.entry)).asks face) }
     {
-        let at = place_of(&self.entries, key)?;
-        self.entries[at].interest_of(face)
+        entry_of(&self.rows, key)?.interest_of(face)
     }
 
     /// Takes out all Interests that a Data answers, whatever their MustBeFresh, and gives the faces
@@ -246,12 +280,18 @@ impl Pit {
             (sha256 packet.now.whole.now) face }
         ensures living { HoldsTheLiving self.new.pending }
     {
-        let mut packet = Answering::new(packet);
         let mut faces = Faces::new();
-        for entry in &mut self.entries[..] {
-            entry.satisfy(&mut packet, &mut faces);
+        let asks_digest = self
+            .rows
+            .take_along(packet.name, IMPLICIT_SHA256_DIGEST, &mut faces);
+        if asks_digest {
+            let digest = packet.digest();
+            let component = Component {
+                kind: IMPLICIT_SHA256_DIGEST,
+                value: &digest,
+            };
+            self.rows.take_below(packet.name, component, &mut faces);
         }
-        self.entries.retain(|entry| entry.is_alive());
         faces
     }
 
@@ -265,11 +305,19 @@ impl Pit {
         ensures ended { self.new.prepared ≡ None }
         ensures living { HoldsTheLiving self.new.pending }
     {
-        self.spare = None;
-        match place_of(&self.entries, key) {
-            Some(at) => self.entries[at].nacked(face, nonce, reason),
-            None => Nacked::NoPending,
+        self.prepared = None;
+        let was_sent = was_sent(&self.rows, key, face, nonce);
+        let nack = NackOf {
+            flags: Flags::of(key),
+            face,
+            nonce,
+            reason,
+        };
+        self.rows.change(key.name, &RowRevision(nack));
+        if !was_sent {
+            return Nacked::NoPending;
         }
+        answer_of(&self.rows, key, reason)
     }
 
     /// Takes out the Interest of a face, if it is there.
@@ -279,7 +327,9 @@ impl Pit {
         ensures prepared { self.new.prepared ≡ self.old.prepared }
         ensures living { HoldsTheLiving self.new.pending }
     {
-        self.entries.retain_mut(|entry| entry.withdraw(key, face));
+        let flags = Flags::of(key);
+        self.rows
+            .change(key.name, &RowRevision(Withdrawal { flags, face }));
     }
 
     /// Takes out all records of a key.
@@ -289,7 +339,8 @@ impl Pit {
         ensures prepared { self.new.prepared ≡ self.old.prepared }
         ensures living { HoldsTheLiving self.new.pending }
     {
-        self.entries.retain(|entry| !entry.is_of(key));
+        let flags = Flags::of(key);
+        self.rows.change(key.name, &RowRevision(Removal { flags }));
     }
 
     /// Takes out the Interests whose deadline is not after now, in milliseconds since 1970.
@@ -298,7 +349,7 @@ impl Pit {
         ensures prepared { self.new.prepared ≡ self.old.prepared }
         ensures living { HoldsTheLiving self.new.pending }
     {
-        self.entries.retain_mut(|entry| entry.expire(now));
+        self.rows.expire(now, &RowRevision(Expiry { now }));
     }
 
     /// Takes out a face, as one that asks and as one that was asked.
@@ -307,21 +358,72 @@ impl Pit {
         ensures prepared { self.new.prepared ≡ self.old.prepared }
         ensures living { HoldsTheLiving self.new.pending }
     {
-        self.entries.retain_mut(|entry| entry.close_face(face));
+        self.rows.change_all(&RowRevision(Closing { face }));
     }
 }
 
-/// The place of a key's entry.
-fn place_of(entries: &[Entry], key: Key<'_>) -> Option<usize>
-    ensures { MatchOption result (map.find key_cmp (plain_key key.entry) entries.now ≡ None)
-        (λ at. (at < length entries.now)
-        × ((entry : PlainKey × Records) → entry ≡ slice_index_or entries.now at entry
-        → entry.0 ≡ plain_key key.entry)) }
+/// What is kept under a key.
+fn entry_of<'a>(rows: &'a TimedMap<Row>, key: Key<'_>) -> Option<&'a Entry>
+    ensures { option_map (λ e. e.now) result ≡ kept_at rows.now.table (plain_key key.entry) }
 {
-    for (at, entry) in entries.iter().enumerate() {
-        if entry.is_of(key) {
-            return Some(at);
-        }
+    rows.get(key.name)?.get(Flags::of(key))
+}
+
+/// Whether the last sending to a face under this key had this Nonce.
+fn was_sent(rows: &TimedMap<Row>, key: Key<'_>, face: u64, nonce: [u8; 4]) -> bool
+    ensures { result ≡ was_sent_in (kept_at rows.now.table (plain_key key.entry)) face nonce }
+{
+    match entry_of(rows, key) {
+        Some(entry) => entry.was_sent(face, nonce),
+        None => false,
     }
-    None
+}
+
+/// Whether an entry's own memory has room for a sending to this face, or nothing is kept.
+fn has_place_for(rows: &TimedMap<Row>, key: Key<'_>, face: u64) -> bool
+    ensures { result ≡ has_place_in (kept_at rows.now.table (plain_key key.entry)) face }
+{
+    match entry_of(rows, key) {
+        Some(entry) => entry.has_place_for(face),
+        None => true,
+    }
+}
+
+/// Whether all faces asked under a key have answered by a Nack, of which one had this reason.
+fn answer_of(rows: &TimedMap<Row>, key: Key<'_>, reason: u64) -> Nacked
+    ensures { result ≡ answer_in (kept_at rows.now.table (plain_key key.entry)) reason }
+{
+    match entry_of(rows, key) {
+        Some(entry) => entry.answer(reason),
+        None => Nacked::NoPending,
+    }
+}
+
+/// Makes the memory one for the sendings to all faces.
+fn widen(alloc: Global, spare: &mut Room<Sending>) -> Result<(), Memory>
+    ensures { OnOk result (MAX_FACES ≤ spare.new) }
+{
+    if spare.count() < MAX_FACES {
+        *spare = Room::new(alloc, MAX_FACES)?;
+    }
+    Ok(())
+}
+
+/// Memory for the sendings to all faces, this or new, unless there is a place for one already.
+fn room_for(
+    alloc: Global,
+    spare: &mut Room<Sending>,
+    has_place: bool,
+) -> Result<Room<Sending>, Memory>
+    ensures ok { IfOk result (λ room. has_place ≡ false → MAX_FACES ≤ room) }
+    ensures same { has_place ≡ true → spare.new ≡ spare.old }
+    ensures promised { (has_place ≡ true) ⊎ (MAX_FACES ≤ spare.old) → IsOk result }
+{
+    if has_place {
+        return Ok(Room::none(alloc));
+    }
+    if spare.count() < MAX_FACES {
+        return Room::new(alloc, MAX_FACES);
+    }
+    Ok(mem::replace(spare, Room::none(alloc)))
 }

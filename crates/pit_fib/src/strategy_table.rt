@@ -93,8 +93,8 @@ impl StrategyTable {
         Ok(())
     }
 
-    /// Why the name takes no strategy.
-    fn refusal_of(&self, name: Name<'_>) -> Option<TableFault>
+    /// Why the table takes no strategy of the name, if it does not.
+    pub fn refusal_of(&self, name: Name<'_>) -> Option<TableFault>
         ensures { result ≡ refusal self.now.table (components name.entry) }
     {
         if name.len() > MAX_DEPTH {
@@ -119,6 +119,14 @@ impl StrategyTable {
         ensures err { OnErr result (self.new.prepared ≡ None) }
     {
         self.others.prepare(name)
+    }
+
+    /// Ends what is prepared.
+    pub fn forget_prepared(&mut self)
+        ensures table { self.new.table ≡ self.old.table }
+        ensures prepared { self.new.prepared ≡ None }
+    {
+        self.others.forget_prepared();
     }
 
     /// Removes the strategy of a name, if it has one. That of `/` stays.

@@ -1,11 +1,10 @@
 use Rattle.std.proofs.Common.{◌<◌, ◌≤◌, take, length, subst, ap, sym, ◌∙◌}
 use Rattle.std.specs.Ordering.{nat_cmp}
 use Rattle.std.specs.FinMap as map
-use Rattle.pit_fib.specs.Records.{Records}
+use Rattle.pit_fib.specs.Kept.{Kept}
 use Rattle.pit_fib.specs.Pit.{moments}
 use Rattle.ndn_names.proofs.Rows.{from_none}
 use Rattle.pit_fib.proofs.Moments.{Row, set_here, few_so_far, moments_more, moments_all, moments_in}
-use Rattle.ndn_packets.specs.Key.{PlainKey}
 use Rattle.pit_fib.proofs.entry.Entry.moments.Goals as goal
 
 pub loop-row-init : goal.loop-row-init
@@ -28,5 +27,5 @@ pub returns : goal.returns
 returns c =
     let is = c.rows-row-items.ensures.rows in
     c.loop-row.invariant ∙ ap (λ l. moments_in (take c.loop-row.row-index l)) is
-    ∙ moments_all c.self.inside.asked c.loop-row.row-index (subst (λ l. length l ≤ c.loop-row.row-index) is c.loop-row-test.false)
-    ∙ ap (λ (e : PlainKey × Records). moments e.1.asked) c.self.view_is
+    ∙ moments_all c.self.inside.asked.values c.loop-row.row-index (subst (λ l. length l ≤ c.loop-row.row-index) is c.loop-row-test.false)
+    ∙ ap (λ (s : Kept). moments s.records.asked) c.self.view_is

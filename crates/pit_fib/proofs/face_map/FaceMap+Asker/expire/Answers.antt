@@ -1,4 +1,4 @@
-use Rattle.std.proofs.Common.{rules, ◌≡◌, ℕ, List, [], ◌∷◌, true, false, cond, refl, ap, subst, sym, ◌∙◌, ltb, arith}
+use Rattle.std.proofs.Common.{rules, ◌≡◌, ℕ, List, [], ◌∷◌, true, false, cond, refl, ap, subst, sym, ◌∙◌, ltb, leb, arith}
 use lib.Dec.{T}
 use Rattle.std.proofs.lemmas.Fn.{filter_same}
 use Rattle.std.specs.Prelude.{filter, Some, None}
@@ -6,7 +6,8 @@ use Rattle.std.specs.Ordering.{nat_cmp}
 use Rattle.std.specs.FinMap as map
 use Rattle.std.specs.FinMap.{from_sorted}
 use Rattle.name_trie.specs.ByName.{revise, revised, with_entry}
-use Rattle.pit_fib.specs.Records.{Ask, Asks}
+use Rattle.pit_fib.specs.Records.{Ask}
+use Rattle.pit_fib.specs.Faced.{Faced}
 use Rattle.pit_fib.specs.Cause.{until_after}
 use Rattle.name_trie.proofs.Revised.{sorted_revised, from_revised}
 use Rattle.pit_fib.proofs.face_map.FaceMap+Asker.expire.Goals as goal
@@ -32,5 +33,8 @@ invariant_of-self c = (
 
 pub returns : goal.returns
 returns c =
-    ap (λ (l : List (ℕ × Ask)). from_sorted {R = nat_cmp} l) (left c) ∙ from_revised nat_cmp (until_after c.args.now) c.self.inside.rows.items c.self.invariant.0
-    ∙ ap (λ (m : Asks). revise (until_after c.args.now) m) c.self.view_is
+    (λ i. record {
+      values = (ap (λ (l : List (ℕ × Ask)). from_sorted {R = nat_cmp} l) (left c) ∙ from_revised nat_cmp (until_after c.args.now) c.self.inside.rows.items c.self.invariant.0) i;
+      is_wide = leb 64 (c.retain.ensures.capacity i);
+    })
+    ∙ ap (λ (m : Faced Ask). record m { values = revise (until_after c.args.now) m.values }) c.self.view_is

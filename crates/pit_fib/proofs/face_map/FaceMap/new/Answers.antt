@@ -1,8 +1,7 @@
-use Rattle.std.proofs.Common.{ap, ◌∙◌}
-use Rattle.std.specs.Ordering.{nat_cmp}
-use Rattle.std.specs.FinMap.{from_sorted}
-use Rattle.ndn_names.proofs.Rows.{from_none}
+use Rattle.pit_fib.proofs.Memory.{new_faced}
+use Rattle.std.proofs.Common.{◌∙◌, ap}
+use Rattle.pit_fib.specs.Faced.{none_in}
 use Rattle.pit_fib.proofs.face_map.FaceMap.new.Goals as goal
 
 pub returns : goal.returns
-returns g c = ap (λ es. from_sorted {R = nat_cmp} es) c.in_ok-rows.ensures.items ∙ from_none nat_cmp
+returns g c = new_faced c.into_rows.result.items _ c.into_rows.ensures.items ∙ ap none_in c.into_rows.ensures.room

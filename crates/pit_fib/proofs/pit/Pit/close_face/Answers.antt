@@ -1,35 +1,30 @@
-use Rattle.pit_fib.proofs.PendingPlaces.{holds_the_living}
-use Rattle.std.proofs.Common.{rules, ◌≡◌, refl, ap, subst, sym}
-use Rattle.std.specs.FinMap.{from_entries}
-use Rattle.pit_fib.specs.Records.{Pending}
+use Rattle.std.proofs.Common.{◌≡◌, ℕ, true, false, cond, refl, sym, ap, subst, ◌∙◌}
+use Rattle.std.specs.FinMap as map
+use Rattle.ndn_packets.specs.Key.{PlainKey, plain_key}
+use Rattle.pit_fib.specs.Flags.{flags_of}
+use Rattle.pit_fib.specs.Records.{Records, Pending, no_records}
 use Rattle.pit_fib.specs.Cause.{Closed, changed, Follows}
-use Rattle.pit_fib.specs.Entries.{AllLive, AreApart}
+use Rattle.pit_fib.specs.Kept.{Kept, expired, living, pending_of, withdrawn, without_face}
 use Rattle.pit_fib.specs.Pit.{PitState}
-use Rattle.pit_fib.proofs.PendingTables.{living_after, retained, live_after, apart_after, each_follows, spare_kept, dead_after_closing}
-use Rattle.pit_fib.proofs.PendingFaces.{stays_few}
+use Rattle.pit_fib.proofs.KeptTables.{Steps, holds_the_living, one_steps, step_alive, step_all, step_follows, step_memory, step_one, step_within}
+use Rattle.pit_fib.proofs.PendingTables.{dead_after_closing}
 use Rattle.pit_fib.proofs.pit.Pit.close_face.Goals as goal
-use Rattle.pit_fib.proofs.pit.Pit.close_face.Goals.{After-retain_mut}
+use Rattle.pit_fib.proofs.pit.Pit.close_face.Goals.{After-change_all}
 
-left : (c : After-retain_mut) → c.retain_mut.new.self.items ≡ living_after (changed (Closed c.args.face)) c.self.inside.entries.items
-left c =
-    retained (changed (Closed c.args.face)) _ _ (λ x b t y k. search rules) _ _ c.retain_mut.ensures.filtered
-
-follows : (c : After-retain_mut) → Follows (Closed c.args.face) (from_entries c.self.inside.entries.items) (from_entries c.retain_mut.new.self.items)
-follows c = each_follows (Closed c.args.face) (dead_after_closing c.args.face) _ _ _ c.self.invariant.1 refl (left c)
+steps : (c : After-change_all) → Steps (Closed c.args.face) c.self.inside.rows.table c.change_all.new.self.table
+steps c = step_all (λ f s. living (without_face c.args.face s)) c.self.inside.rows.table c.change_all.new.self.table c.change_all.ensures.table
 
 pub invariant_of-self : goal.invariant_of-self
-invariant_of-self c =
-    let g = changed (Closed c.args.face) in
-    let es = c.self.inside.entries.items in (
-      subst AllLive (sym (left c)) (live_after g es),
-      subst AreApart (sym (left c)) (apart_after g es c.self.invariant.1),
-      stays_few (Closed c.args.face) (from_entries es) (from_entries c.retain_mut.new.self.items) (λ f adds. adds) (follows c) c.self.invariant.2,
-      spare_kept _ _ _ _ c.self.inside.spare c.retain_mut.ensures.bound c.retain_mut.ensures.capacity c.self.invariant.3,
-    )
+invariant_of-self c = (
+  step_within (Closed c.args.face) c.self.inside.rows.table c.change_all.new.self.table (dead_after_closing c.args.face) (λ f adds. adds) (steps c) c.self.invariant.0,
+  step_memory (Closed c.args.face) c.self.inside.rows c.change_all.new.self c.self.inside.spare c.self.inside.prepared (steps c) c.change_all.ensures.prepared c.self.invariant.1,
+)
 
 pub returns-clause-pending : goal.returns-clause-pending
-returns-clause-pending c = subst (λ (old : Pending). Follows (Closed c.args.face) old (from_entries c.retain_mut.new.self.items)) (ap (λ (s : PitState). s.pending) c.self.view_is) (follows c)
+returns-clause-pending c =
+    subst (λ (old : Pending). Follows (Closed c.args.face) old (pending_of c.change_all.new.self.table)) (ap (λ (s : PitState). s.pending) c.self.view_is)
+    (step_follows (Closed c.args.face) c.self.inside.rows.table c.change_all.new.self.table (dead_after_closing c.args.face) (steps c))
 
 pub returns-clause-living : goal.returns-clause-living
 returns-clause-living c =
-    holds_the_living c.retain_mut.new.self.items _ (subst AllLive (sym (left c)) (live_after (changed (Closed c.args.face)) c.self.inside.entries.items)) refl
+    holds_the_living c.change_all.new.self.table _ (step_alive (Closed c.args.face) c.self.inside.rows.table c.change_all.new.self.table (steps c)) refl

@@ -3,11 +3,11 @@ use Rattle.std.specs.Prelude.{Option, ◌&&◌, ◌||◌}
 use Rattle.std.specs.List.{list_any}
 use Rattle.std.specs.Ordering.{nat_cmp}
 use Rattle.std.specs.FinMap.{get-empty, empty, entries}
+use Rattle.ndn_names.proofs.Rows.{no_entries}
 use Rattle.ndn_packets.specs.Key.{plain_key}
 use Rattle.pit_fib.specs.Records.{Ask, Sent, no_records, same_nonce}
 use Rattle.pit_fib.specs.Pit.{PitState, loops, asks_with}
-use Rattle.pit_fib.proofs.PendingPlaces.{seen_here, seen_nothing}
-use Rattle.ndn_names.proofs.Rows.{no_entries}
+use Rattle.pit_fib.proofs.KeptTables.{seen_here, seen_nothing}
 use Rattle.pit_fib.proofs.pit.Pit.loops.Goals as goal
 
 loops_nowhere : (face : ℕ) (nonce : List ℕ) → loops no_records face nonce ≡ false
@@ -20,9 +20,9 @@ loops_nowhere face nonce =
 pub returns-in-Some : goal.returns-in-Some
 returns-in-Some c =
     c.loops.ensures
-    ∙ ap (λ r. loops r c.args.face c.args.nonce) (sym (seen_here (plain_key c.args.key) c.self.inside.entries.items c.deref.result.now c.args.self.now.pending c.in-Some.at c.index.result.now (ap (λ (s : PitState). s.pending) c.self.view_is) c.deref.ensures.value c.in-Some.ensures c.index.ensures c.self.invariant.1))
+    ∙ ap (λ r. loops r c.args.face c.args.nonce) (sym (seen_here c.self.inside.rows.table c.args.self.now.pending (plain_key c.args.key) c.entry_of.result c.in-Some.entry (ap (λ (s : PitState). s.pending) c.self.view_is) c.entry_of.ensures c.in-Some.is))
 
 pub returns-in-None : goal.returns-in-None
 returns-in-None c =
     sym (loops_nowhere c.args.face c.args.nonce)
-    ∙ ap (λ r. loops r c.args.face c.args.nonce) (sym (seen_nothing (plain_key c.args.key) c.self.inside.entries.items c.deref.result.now c.args.self.now.pending (ap (λ (s : PitState). s.pending) c.self.view_is) c.deref.ensures.value c.in-None.ensures))
+    ∙ ap (λ r. loops r c.args.face c.args.nonce) (sym (seen_nothing c.self.inside.rows.table c.args.self.now.pending (plain_key c.args.key) c.entry_of.result (ap (λ (s : PitState). s.pending) c.self.view_is) c.entry_of.ensures c.in-None.is))

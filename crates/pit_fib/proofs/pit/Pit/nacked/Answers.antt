@@ -1,75 +1,97 @@
-use Rattle.std.proofs.Common.{refl, ◌≡◌, ℕ, true, cond, List, ap, sym, subst, set, ◌∙◌}
-use Rattle.std.specs.Prelude.{None, Option}
-use Rattle.std.specs.Ordering.{nat_cmp}
-use Rattle.std.specs.FinMap.{find, from_entries, entries, empty, get-empty}
-use Rattle.ndn_packets.specs.Key.{PlainKey, key_cmp, plain_key}
+use Rattle.std.proofs.Common.{◌≡◌, ℕ, Bool, true, false, cond, List, refl, subst, sym, ap, ◌∙◌}
+use Rattle.std.specs.Prelude.{Option, None, Some}
+use Rattle.std.specs.Option.{option_and_then}
+use Rattle.std.specs.FinMap as map
+use Rattle.ndn_packets.specs.Key.{PlainKey, plain_key}
+use Rattle.name_trie.specs.ByName.{with_value}
 use Rattle.pit_fib.specs.declared.nacked.Nacked.TheVariants.{NoPending}
-use Rattle.pit_fib.specs.Records.{Sent, Records, Pending, is_alive, no_records}
-use Rattle.pit_fib.specs.Cause.{NackCame, changed, with_reason, Follows}
-use Rattle.pit_fib.specs.Pit.{PitState, was_sent, all_nacked, least_reason, nacked_answer}
-use Rattle.pit_fib.proofs.PendingPlaces.{holds_the_living, IsAt, live_at, nacked_elsewhere, nacked_here, set_live, set_apart, set_follows, seen_here, seen_nothing, nothing_follows, nacked_nothing}
-use Rattle.pit_fib.proofs.PendingFaces.{stays_few}
+use Rattle.pit_fib.specs.Flags.{flags_of}
+use Rattle.pit_fib.specs.Records.{Records, Pending, no_records, records_at}
+use Rattle.pit_fib.specs.Cause.{NackCame, changed, same_key, with_reason, Follows}
+use Rattle.pit_fib.specs.Kept.{Kept, answer_in, changed_row, kept_at, living, nacked, only, pending_of}
+use Rattle.pit_fib.specs.Pit.{PitState, nacked_answer, all_nacked, least_reason, was_sent}
+use Rattle.pit_fib.proofs.KeptTables.{Steps, holds_the_living, one_steps, step_alive, step_follows, step_one, step_within, records_kept, was_sent_shown, nack_answers}
+use Rattle.pit_fib.proofs.PendingPlaces.{nacked_elsewhere}
+use Rattle.pit_fib.proofs.PendingTables.{dead_after_nack, same_self}
 use Rattle.pit_fib.proofs.pit.Pit.nacked.Goals as goal
-use Rattle.pit_fib.proofs.pit.Pit.nacked.Goals.{After-self-in-Some-1}
+use Rattle.pit_fib.proofs.pit.Pit.nacked.Goals.{After-change}
 
-place : (c : After-self-in-Some-1) → IsAt (plain_key c.args.key) c.self.inside.entries.items c.in-Some.at
-place c = subst (λ (l : List (PlainKey × Records)). IsAt (plain_key c.args.key) l c.in-Some.at) c.deref.ensures.value c.in-Some.ensures
+old : (c : After-change) → pending_of c.self.inside.rows.table ≡ c.args.self.now.pending
+old c = ap (λ (s : PitState). s.pending) c.self.view_is
 
-own : (c : After-self-in-Some-1) → c.nacked.new.self.1 ≡ changed (NackCame (plain_key c.args.key) c.args.face c.args.nonce c.args.reason) (plain_key c.args.key) c.index_mut.result.now.1
-own c = c.nacked.ensures.records ∙ sym (nacked_here (plain_key c.args.key) c.args.face c.args.nonce c.args.reason c.index_mut.result.now.1)
+change : After-change → Kept → Option Kept
+change c s = living (nacked c.args.face c.args.nonce c.args.reason s)
 
-alive : (c : After-self-in-Some-1) → is_alive c.nacked.new.self.1 ≡ true
-alive c =
-    ap is_alive c.nacked.ensures.records
-    ∙ live_at c.in-Some.at c.self.inside.entries.items c.index_mut.result.now (place c).0 c.index_mut.ensures.value c.self.invariant.0
+kept : (c : After-change) → (k : PlainKey) → kept_at c.change.new.self.table k
+    ≡ cond (same_key k (plain_key c.args.key)) (option_and_then (change c) (kept_at c.self.inside.rows.table k)) (kept_at c.self.inside.rows.table k)
+unfolding change
+kept c =
+    let key = plain_key c.args.key in
+    let rows = c.self.inside.rows.table in
+    step_one (change c) key rows c.change.new.self.table
+    (c.change.ensures.table ∙ ap (λ f. with_value rows key.name (option_and_then (changed_row (only f (change c))) (map.get rows key.name))) c.of.ensures)
 
-follows : (c : After-self-in-Some-1) → Follows (NackCame (plain_key c.args.key) c.args.face c.args.nonce c.args.reason) (from_entries c.self.inside.entries.items) (from_entries (set c.self.inside.entries.items c.in-Some.at c.nacked.new.self))
+steps : (c : After-change) → Steps (NackCame (plain_key c.args.key) c.args.face c.args.nonce c.args.reason) c.self.inside.rows.table c.change.new.self.table
+unfolding change
+steps c =
+    let key = plain_key c.args.key in
+    one_steps (NackCame key c.args.face c.args.nonce c.args.reason) (change c) key c.self.inside.rows.table c.change.new.self.table c.self.invariant.0.alive
+    (nacked_elsewhere key c.args.face c.args.nonce c.args.reason)
+    (λ k s t. ap (λ b. living (record { records = cond b (record { asks = s.records.asks; asked = with_reason c.args.face c.args.nonce c.args.reason s.records.asked (map.get s.records.asked c.args.face) }) s.records; is_wide = s.is_wide })) (sym t))
+    (kept c)
+
+follows : (c : After-change) → Follows (NackCame (plain_key c.args.key) c.args.face c.args.nonce c.args.reason) c.args.self.now.pending (pending_of c.change.new.self.table)
 follows c =
-    set_follows (plain_key c.args.key) c.self.inside.entries.items c.in-Some.at c.index_mut.result.now (place c) c.index_mut.ensures.value c.self.invariant.1
-    (NackCame (plain_key c.args.key) c.args.face c.args.nonce c.args.reason) (nacked_elsewhere (plain_key c.args.key) c.args.face c.args.nonce c.args.reason) c.nacked.new.self c.nacked.ensures.key (own c) (alive c) c.self.invariant.0
+    let key = plain_key c.args.key in
+    subst (λ (p : Pending). Follows (NackCame key c.args.face c.args.nonce c.args.reason) p (pending_of c.change.new.self.table)) (old c)
+    (step_follows (NackCame key c.args.face c.args.nonce c.args.reason) c.self.inside.rows.table c.change.new.self.table (dead_after_nack key c.args.face c.args.nonce c.args.reason) (steps c))
 
 pub invariant_of-self : goal.invariant_of-self
 invariant_of-self c =
+    let d = (goal.at.invariant_of-self c).After-change in
     let key = plain_key c.args.key in
-    let es = c.self.inside.entries.items in
-    let at = c.in-Some.at in
-    let x = c.index_mut.result.now in (
-      set_live key es at x (place c) c.index_mut.ensures.value c.self.invariant.1 (NackCame (plain_key c.args.key) c.args.face c.args.nonce c.args.reason) (nacked_elsewhere key c.args.face c.args.nonce c.args.reason) c.nacked.new.self c.nacked.ensures.key (own c) (alive c) c.self.invariant.0,
-      set_apart key es at x (place c) c.index_mut.ensures.value c.self.invariant.1 (NackCame (plain_key c.args.key) c.args.face c.args.nonce c.args.reason) (nacked_elsewhere key c.args.face c.args.nonce c.args.reason) c.nacked.new.self c.nacked.ensures.key (own c) (alive c) c.self.invariant.0,
-      stays_few (NackCame (plain_key c.args.key) c.args.face c.args.nonce c.args.reason) (from_entries es) (from_entries (set es at c.nacked.new.self)) (λ f adds. adds) (follows c) c.self.invariant.2,
-      tt,
-    )
+    (step_within (NackCame key c.args.face c.args.nonce c.args.reason) c.self.inside.rows.table c.change.new.self.table (dead_after_nack key c.args.face c.args.nonce c.args.reason) (λ f adds. adds) (steps d) c.self.invariant.0, tt)
 
-pub returns-in-Some-clause-pending : goal.returns-in-Some-clause-pending
-returns-in-Some-clause-pending c =
-    subst (λ (old : Pending). Follows (NackCame (plain_key c.args.key) c.args.face c.args.nonce c.args.reason) old (from_entries (set c.self.inside.entries.items c.in-Some.at c.nacked.new.self))) (ap (λ (s : PitState). s.pending) c.self.view_is) (follows c)
-
-pub returns-in-Some-clause-answer : goal.returns-in-Some-clause-answer
-returns-in-Some-clause-answer c =
-    c.nacked.ensures.answer
-    ∙ ap (λ r. nacked_answer r c.args.face c.args.nonce c.args.reason) (sym (seen_here (plain_key c.args.key) c.self.inside.entries.items c.deref.result.now c.args.self.now.pending c.in-Some.at c.index_mut.result.now (ap (λ (s : PitState). s.pending) c.self.view_is) c.deref.ensures.value c.in-Some.ensures c.index_mut.ensures.value c.self.invariant.1))
-
-unasked : (face : ℕ) (nonce : List ℕ) (reason : ℕ) → nacked_answer no_records face nonce reason ≡ NoPending
-unasked face nonce reason =
-    ap (λ (o : Option Sent). cond (was_sent o nonce) (all_nacked (least_reason reason (entries (with_reason face nonce reason empty o)))) NoPending) (get-empty nat_cmp face)
-
-pub returns-in-None-clause-answer : goal.returns-in-None-clause-answer
-returns-in-None-clause-answer c =
-    sym (unasked c.args.face c.args.nonce c.args.reason)
-    ∙ ap (λ r. nacked_answer r c.args.face c.args.nonce c.args.reason) (sym (seen_nothing (plain_key c.args.key) c.self.inside.entries.items c.deref.result.now c.args.self.now.pending (ap (λ (s : PitState). s.pending) c.self.view_is) c.deref.ensures.value c.in-None.ensures))
-
-pub returns-in-None-clause-pending : goal.returns-in-None-clause-pending
-returns-in-None-clause-pending c =
+pub returns-then-not-was_sent-clause-answer : goal.returns-then-not-was_sent-clause-answer
+returns-then-not-was_sent-clause-answer c =
+    let d = (goal.at.returns-then-not-was_sent-clause-answer c).After-change in
+    let rows = c.self.inside.rows.table in
     let key = plain_key c.args.key in
-    let es = c.self.inside.entries.items in
-    subst (λ (old : Pending). Follows (NackCame (plain_key c.args.key) c.args.face c.args.nonce c.args.reason) old (from_entries es)) (ap (λ (s : PitState). s.pending) c.self.view_is)
-    (nothing_follows key es (NackCame (plain_key c.args.key) c.args.face c.args.nonce c.args.reason) (nacked_elsewhere key c.args.face c.args.nonce c.args.reason) (nacked_nothing key c.args.face c.args.nonce c.args.reason)
-    (subst (λ (l : List (PlainKey × Records)). find key_cmp key l ≡ None) c.deref.ensures.value c.in-None.ensures) c.self.invariant.0)
+    let not_sent : was_sent (map.get (records_at c.args.self.now.pending key).asked c.args.face) c.args.nonce ≡ false =
+    ap (λ (p : Pending). was_sent (map.get (records_at p key).asked c.args.face) c.args.nonce) (sym (old d))
+    ∙ ap (λ (r : Records). was_sent (map.get r.asked c.args.face) c.args.nonce) (records_kept rows key)
+    ∙ was_sent_shown (kept_at rows key) c.args.face c.args.nonce ∙ sym c.was_sent-was_sent.ensures ∙ c.if-not-was_sent.true in
+    sym (ap (λ b. cond b (all_nacked (least_reason c.args.reason (map.entries (with_reason c.args.face c.args.nonce c.args.reason (records_at c.args.self.now.pending key).asked (map.get (records_at c.args.self.now.pending key).asked c.args.face))))) NoPending) not_sent)
 
-pub returns-in-Some-clause-living : goal.returns-in-Some-clause-living
-returns-in-Some-clause-living c =
-    holds_the_living (set c.self.inside.entries.items c.in-Some.at c.nacked.new.self) _
-    (set_live (plain_key c.args.key) c.self.inside.entries.items c.in-Some.at c.index_mut.result.now (place c) c.index_mut.ensures.value c.self.invariant.1 (NackCame (plain_key c.args.key) c.args.face c.args.nonce c.args.reason) (nacked_elsewhere (plain_key c.args.key) c.args.face c.args.nonce c.args.reason) c.nacked.new.self c.nacked.ensures.key (own c) (alive c) c.self.invariant.0) refl
+pub returns-then-not-was_sent-clause-pending : goal.returns-then-not-was_sent-clause-pending
+returns-then-not-was_sent-clause-pending c =
+    let d = (goal.at.returns-then-not-was_sent-clause-pending c).After-change in follows d
 
-pub returns-in-None-clause-living : goal.returns-in-None-clause-living
-returns-in-None-clause-living c = holds_the_living c.self.inside.entries.items _ c.self.invariant.0 refl
+pub returns-then-not-was_sent-clause-living : goal.returns-then-not-was_sent-clause-living
+returns-then-not-was_sent-clause-living c =
+    let d = (goal.at.returns-then-not-was_sent-clause-living c).After-change in holds_the_living c.change.new.self.table _ (step_alive (NackCame (plain_key c.args.key) c.args.face c.args.nonce c.args.reason) c.self.inside.rows.table c.change.new.self.table (steps d)) refl
+
+pub invariant_of-self-2 : goal.invariant_of-self-2
+invariant_of-self-2 c =
+    let d = (goal.at.invariant_of-self-2 c).After-change in
+    let key = plain_key c.args.key in
+    (step_within (NackCame key c.args.face c.args.nonce c.args.reason) c.self.inside.rows.table c.change.new.self.table (dead_after_nack key c.args.face c.args.nonce c.args.reason) (λ f adds. adds) (steps d) c.self.invariant.0, tt)
+
+pub returns-clause-answer : goal.returns-clause-answer
+unfolding change
+returns-clause-answer c =
+    let d = (goal.at.returns-clause-answer c).After-change in
+    let rows = c.self.inside.rows.table in
+    let key = plain_key c.args.key in
+    c.answer_of.ensures
+    ∙ ap (λ o. answer_in o c.args.reason) (kept d key ∙ ap (λ b. cond b (option_and_then (change d) (kept_at rows key)) (kept_at rows key)) (same_self key))
+    ∙ nack_answers (kept_at rows key) c.args.face c.args.nonce c.args.reason (c.self.invariant.0.alive key) (sym c.was_sent-was_sent.ensures ∙ c.if-not-was_sent.false)
+    ∙ ap (λ r. nacked_answer r c.args.face c.args.nonce c.args.reason) (sym (records_kept rows key) ∙ ap (λ (p : Pending). records_at p key) (old d))
+
+pub returns-clause-pending : goal.returns-clause-pending
+returns-clause-pending c =
+    let d = (goal.at.returns-clause-pending c).After-change in follows d
+
+pub returns-clause-living : goal.returns-clause-living
+returns-clause-living c =
+    let d = (goal.at.returns-clause-living c).After-change in holds_the_living c.change.new.self.table _ (step_alive (NackCame (plain_key c.args.key) c.args.face c.args.nonce c.args.reason) c.self.inside.rows.table c.change.new.self.table (steps d)) refl

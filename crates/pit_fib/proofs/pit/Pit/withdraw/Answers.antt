@@ -1,36 +1,41 @@
-use Rattle.pit_fib.proofs.PendingPlaces.{holds_the_living}
-use Rattle.std.proofs.Common.{rules, ◌≡◌, refl, ap, subst, sym}
-use Rattle.std.specs.FinMap.{from_entries}
-use Rattle.ndn_packets.specs.Key.{plain_key}
-use Rattle.pit_fib.specs.Records.{Pending}
+use Rattle.std.proofs.Common.{◌≡◌, ℕ, true, false, cond, refl, sym, ap, subst, ◌∙◌}
+use Rattle.std.specs.FinMap as map
+use Rattle.ndn_packets.specs.Key.{PlainKey, plain_key}
+use Rattle.pit_fib.specs.Flags.{flags_of}
+use Rattle.pit_fib.specs.Records.{Records, Pending, no_records}
 use Rattle.pit_fib.specs.Cause.{Withdrawn, changed, Follows}
-use Rattle.pit_fib.specs.Entries.{AllLive, AreApart}
+use Rattle.std.specs.Option.{option_and_then}
+use Rattle.name_trie.specs.ByName.{with_value}
+use Rattle.pit_fib.specs.Kept.{Kept, changed_row, only, expired, living, pending_of, withdrawn, without_face}
 use Rattle.pit_fib.specs.Pit.{PitState}
-use Rattle.pit_fib.proofs.PendingTables.{living_after, retained, live_after, apart_after, each_follows, spare_kept, dead_after_withdrawal}
-use Rattle.pit_fib.proofs.PendingFaces.{stays_few}
+use Rattle.pit_fib.proofs.KeptTables.{Steps, holds_the_living, one_steps, step_alive, step_all, step_follows, step_memory, step_one, step_within}
+use Rattle.pit_fib.proofs.PendingTables.{dead_after_withdrawal}
+use Rattle.std.specs.Prelude.{Option, None, Some}
 use Rattle.pit_fib.proofs.pit.Pit.withdraw.Goals as goal
-use Rattle.pit_fib.proofs.pit.Pit.withdraw.Goals.{After-retain_mut}
+use Rattle.pit_fib.proofs.pit.Pit.withdraw.Goals.{After-change}
 
-left : (c : After-retain_mut) → c.retain_mut.new.self.items ≡ living_after (changed (Withdrawn (plain_key c.args.key) c.args.face)) c.self.inside.entries.items
-left c =
-    retained (changed (Withdrawn (plain_key c.args.key) c.args.face)) _ _ (λ x b t y k. search rules) _ _ c.retain_mut.ensures.filtered
-
-follows : (c : After-retain_mut) → Follows (Withdrawn (plain_key c.args.key) c.args.face) (from_entries c.self.inside.entries.items) (from_entries c.retain_mut.new.self.items)
-follows c = each_follows (Withdrawn (plain_key c.args.key) c.args.face) (dead_after_withdrawal (plain_key c.args.key) c.args.face) _ _ _ c.self.invariant.1 refl (left c)
+steps : (c : After-change) → Steps (Withdrawn (plain_key c.args.key) c.args.face) c.self.inside.rows.table c.change.new.self.table
+steps c =
+    let key = plain_key c.args.key in
+    let rows = c.self.inside.rows.table in
+    let change : Kept → Option Kept = λ s. living (withdrawn c.args.face s) in
+    let without : Records → Records = λ r. record { asks = map.remove r.asks c.args.face; asked = r.asked } in
+    one_steps (Withdrawn key c.args.face) change key rows c.change.new.self.table c.self.invariant.0.alive
+    (λ k r t. ap (λ b. cond b (without r) r) t)
+    (λ k s t. ap (λ b. living (record { records = cond b (without s.records) s.records; is_wide = s.is_wide })) (sym t))
+    (step_one change key rows c.change.new.self.table (c.change.ensures.table ∙ ap (λ f. with_value rows key.name (option_and_then (changed_row (only f change)) (map.get rows key.name))) c.of-flags.ensures))
 
 pub invariant_of-self : goal.invariant_of-self
-invariant_of-self c =
-    let g = changed (Withdrawn (plain_key c.args.key) c.args.face) in
-    let es = c.self.inside.entries.items in (
-      subst AllLive (sym (left c)) (live_after g es),
-      subst AreApart (sym (left c)) (apart_after g es c.self.invariant.1),
-      stays_few (Withdrawn (plain_key c.args.key) c.args.face) (from_entries es) (from_entries c.retain_mut.new.self.items) (λ f adds. adds) (follows c) c.self.invariant.2,
-      spare_kept _ _ _ _ c.self.inside.spare c.retain_mut.ensures.bound c.retain_mut.ensures.capacity c.self.invariant.3,
-    )
+invariant_of-self c = (
+  step_within (Withdrawn (plain_key c.args.key) c.args.face) c.self.inside.rows.table c.change.new.self.table (dead_after_withdrawal (plain_key c.args.key) c.args.face) (λ f adds. adds) (steps c) c.self.invariant.0,
+  step_memory (Withdrawn (plain_key c.args.key) c.args.face) c.self.inside.rows c.change.new.self c.self.inside.spare c.self.inside.prepared (steps c) c.change.ensures.prepared c.self.invariant.1,
+)
 
 pub returns-clause-pending : goal.returns-clause-pending
-returns-clause-pending c = subst (λ (old : Pending). Follows (Withdrawn (plain_key c.args.key) c.args.face) old (from_entries c.retain_mut.new.self.items)) (ap (λ (s : PitState). s.pending) c.self.view_is) (follows c)
+returns-clause-pending c =
+    subst (λ (old : Pending). Follows (Withdrawn (plain_key c.args.key) c.args.face) old (pending_of c.change.new.self.table)) (ap (λ (s : PitState). s.pending) c.self.view_is)
+    (step_follows (Withdrawn (plain_key c.args.key) c.args.face) c.self.inside.rows.table c.change.new.self.table (dead_after_withdrawal (plain_key c.args.key) c.args.face) (steps c))
 
 pub returns-clause-living : goal.returns-clause-living
 returns-clause-living c =
-    holds_the_living c.retain_mut.new.self.items _ (subst AllLive (sym (left c)) (live_after (changed (Withdrawn (plain_key c.args.key) c.args.face)) c.self.inside.entries.items)) refl
+    holds_the_living c.change.new.self.table _ (step_alive (Withdrawn (plain_key c.args.key) c.args.face) c.self.inside.rows.table c.change.new.self.table (steps c)) refl

@@ -1,14 +1,12 @@
-use Rattle.std.proofs.Common.{◌^◌, ◌≡◌, ◌⊎◌, inl, inr, ℕ, ◌+◌, ◌<◌, true, false, cond, List, [], length, refl, sym, ap, subst, ◌∙◌, arith}
-use Rattle.std.proofs.lemmas.Bool.{leb-false}
-use Rattle.std.specs.Prelude.{Option, None, Some, IsSome, is_some, nat_lt, nat_le, if◌then◌else◌}
-use Rattle.std.specs.FinMap.{get, insert, len, contains_key, len-insert}
-use Rattle.ndn_tlv.specs.Element.{Field}
+use Rattle.std.proofs.Common.{◌^◌, ◌≡◌, ◌⊎◌, inl, inr, ◌+◌, ◌<◌, cond, [], sym, ap, subst, ◌∙◌, arith}
+use Rattle.std.specs.Prelude.{None, IsSome, is_some}
+use Rattle.std.specs.FinMap.{get, insert, len, len-insert}
 use Rattle.ndn_names.specs.Key.{name_cmp-total}
 use Rattle.name_trie.specs.ByName.{ByName}
 use Rattle.pit_fib.specs.Refusal.{refusal}
 use Rattle.pit_fib.specs.declared.strategy_table.StrategyId.{StrategyId}
-use Rattle.pit_fib.specs.declared.fault.TableFault.TheVariants.{TooDeep, TableFull}
 use Rattle.ndn_names.specs.View.{components}
+use Rattle.pit_fib.proofs.Refusals.{room_if_taken}
 use Rattle.pit_fib.proofs.RootChoice.{known_apart, root_set, other_set, set_apart}
 use Rattle.pit_fib.proofs.strategy_table.StrategyTable.set.Goals as goal
 use Rattle.pit_fib.proofs.strategy_table.StrategyTable.set.Goals.{After-put}
@@ -43,18 +41,6 @@ returns-in_ok-put-clause-ok c =
 
 named_there : (c : goal.After-put-arg-1) → components c.args.name ≡ [] → ⊥
 named_there c e = let empty = c.is_empty.ensures.1 e in let some = c.if-is_empty.false in cc
-
-room_of : {X : Type 0} (o : Option X) (n : ℕ) → (if is_some o then None else (if nat_le 4096 n then Some TableFull else None)) ≡ None → IsSome o ⊎ (n < 4096)
-room_of (Some x) n f = inl refl
-room_of None n f = inr (elim (nat_le 4096 n) as (λ b. nat_le 4096 n ≡ b → (if b then Some TableFull else None) ≡ None → n < 4096) [ true ↦ λ t g. absurd cc | false ↦ λ t g. leb-false 4096 n t ] refl f)
-
--- a name that is not refused has a value, or there is room
-room_if_taken : {X : Type 0} (table : ByName X) (name : List Field) → refusal table name ≡ None → IsSome (get table name) ⊎ (len table < 4096)
-room_if_taken table name none =
-    elim (nat_lt 32 (length name)) as (λ b. (if b then Some TooDeep else (if contains_key table name then None else (if nat_le 4096 (len table) then Some TableFull else None))) ≡ None → IsSome (get table name) ⊎ (len table < 4096)) [
-      | true ↦ λ e. absurd cc
-      | false ↦ λ e. room_of (get table name) (len table) e
-    ] none
 
 pub put-requires : goal.put-requires
 put-requires c =

@@ -3,7 +3,7 @@ use Rattle.std.specs.FinMap.{get}
 use Rattle.ndn_packets.specs.Key.{plain_key}
 use Rattle.pit_fib.specs.Records.{records_at}
 use Rattle.pit_fib.specs.Cause.{SentTo}
-use Rattle.tables_conformance.proofs.PendingRoom.{room_below, below_after, asks_is_alive, interest_asks}
+use Rattle.tables_conformance.proofs.PendingRoom.{room_below, below_after_either, asks_is_alive, interest_asks}
 use Rattle.tables_conformance.proofs.pending.Table.sent.Goals as goal
 
 small : (face : ℕ) → face % 64 < 64
@@ -19,5 +19,5 @@ sent-requires-clause-room c = room_below _ (c.args.face % 64) c.self.invariant (
 
 pub invariant_of-self : goal.invariant_of-self
 invariant_of-self c =
-    below_after (SentTo (plain_key c.args.key) (c.args.face % 64) c.args.nonce c.args.now) c.self.inside.pit.pending c.sent.new.self.pending
-    (λ face one. omega (arith, one, small c.args.face)) c.sent.ensures.pending c.self.invariant
+    below_after_either c.sent.result (SentTo (plain_key c.args.key) (c.args.face % 64) c.args.nonce c.args.now) c.self.inside.pit.pending c.sent.new.self.pending
+    (λ face one. omega (arith, one, small c.args.face)) c.sent.ensures.ok c.sent.ensures.err c.self.invariant

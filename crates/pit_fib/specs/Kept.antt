@@ -1,0 +1,200 @@
+-- What is kept under a key, and what the calls of the table make of it, for private contracts.
+use Rattle.std.specs.Prelude.{ℕ, Bool, true, false, List, [], ◌∷◌, Option, None, Some, nat_lt, min, unwrap_or, refl, ◌||◌, if◌then◌else◌}
+use Rattle.std.specs.Coded.{Coded, code_by, coded×, coded_bool}
+use Rattle.std.specs.Option.{option_map, option_and_then}
+use Rattle.std.specs.FinMap as map
+use Rattle.ndn_tlv.specs.Element.{Field}
+use Rattle.ndn_packets.specs.Key.{PlainKey, key_cmp}
+use Rattle.name_trie.specs.ByName.{ByName, revise, with_entry}
+use Rattle.name_trie.specs.Flat.{flatten}
+use Rattle.name_trie.specs.Least.{nonempty, least}
+use Rattle.pit_fib.specs.declared.faces.TheConstants.{MAX_FACES}
+use Rattle.pit_fib.specs.declared.flags.Flags.{Flags}
+use Rattle.pit_fib.specs.Flags.{flags, flags_cmp, same_flags, flags_of, key_at}
+use Rattle.pit_fib.specs.Faced.{Faced, set_in, none_in, has_place}
+use Rattle.pit_fib.specs.Faces.{adding}
+use Rattle.pit_fib.specs.declared.nacked.Nacked.{Nacked}
+use Rattle.pit_fib.specs.declared.nacked.Nacked.TheVariants.{NoPending}
+use Rattle.pit_fib.specs.Pit.{all_nacked, least_reason, was_sent}
+use Rattle.pit_fib.specs.Records.{Ask, Asks, Sent, Asked, Records, Pending, no_records, is_alive, records_code}
+use Rattle.pit_fib.specs.Cause.{Cause, changed, until_after, sent_at, with_reason}
+
+-- the records, and whether there is memory for sendings to all faces
+pub record Kept : Type 0 where
+  pub records : Records
+  pub is_wide : Bool
+
+abbrev pub kept_code : Coded Kept
+kept_code =
+    code_by (Records × Bool) (coded× records_code coded_bool)
+    (λ s. (s.records, s.is_wide)) (λ p. record { records = p.0; is_wide = p.1 }) (λ _. refl)
+
+-- an entry before anybody asks, with memory for so many sendings
+abbrev pub new_in : ℕ → Kept
+new_in room = record { records = no_records; is_wide = (none_in {X = Sent} room).is_wide }
+
+-- the sendings with their memory
+abbrev pub sendings : Kept → Faced Sent
+sendings s = record { values = s.records.asked; is_wide = s.is_wide }
+
+abbrev pub with_sendings : Kept → Faced Sent → Kept
+with_sendings s f =
+    record { records = record s.records { asked = f.values }; is_wide = f.is_wide }
+
+-- with the Interest of a face, which has one, or fewer than 64 have
+abbrev pub asked_by : ℕ → Ask → Kept → Kept
+asked_by face ask s =
+    if map.contains_key s.records.asks face || nat_lt (map.len s.records.asks) MAX_FACES
+    then record s { records = record s.records { asks = map.insert s.records.asks face ask } }
+    else s
+
+-- with the sending to a face, in the sendings' memory or in this
+abbrev pub sent_in : ℕ → ℕ → Sent → Kept → Kept
+sent_in room face sent s = with_sendings s (set_in room face sent (sendings s))
+
+abbrev pub expired : ℕ → Kept → Kept
+expired now s =
+    record s { records = record s.records { asks = revise (until_after now) s.records.asks } }
+
+abbrev pub without_face : ℕ → Kept → Kept
+without_face face s = record s {
+  records = record {
+    asks = map.remove s.records.asks face;
+    asked = map.remove s.records.asked face;
+  };
+}
+
+abbrev pub withdrawn : ℕ → Kept → Kept
+withdrawn face s =
+    record s { records = record s.records { asks = map.remove s.records.asks face } }
+
+abbrev pub nacked : ℕ → List ℕ → ℕ → Kept → Kept
+nacked face nonce reason s = record s {
+  records = record s.records {
+    asked = with_reason face nonce reason s.records.asked (map.get s.records.asked face);
+  };
+}
+
+-- what is kept while some face asks
+abbrev pub living : Kept → Option Kept
+living s = if is_alive s.records then Some s else None
+
+-- what a cause leaves of what is kept under a key
+abbrev pub kept_after : Cause → PlainKey → Kept → Option Kept
+kept_after cause k s = living (record s { records = changed cause k s.records })
+
+-- when what is kept has to be looked at
+abbrev pub deadline : Kept → ℕ
+deadline s = least (λ ask. ask.deadline) (map.entries s.records.asks)
+
+-- the faces, and those that ask
+abbrev pub with_askers : List (ℕ × Ask) → List ℕ → List ℕ
+with_askers [] faces = faces
+with_askers (e ∷ es) faces = with_askers es (adding e.0 faces).1
+
+abbrev pub with_asking : Option Kept → List ℕ → List ℕ
+with_asking None faces = faces
+with_asking (Some s) faces = with_askers (map.entries s.records.asks) faces
+
+-- the lesser of two moments, or the one that is there
+abbrev pub lesser : Option ℕ → Option ℕ → Option ℕ
+lesser None b = b
+lesser (Some a) None = Some a
+lesser (Some a) (Some b) = Some (min a b)
+
+-- ---- the row of a name
+
+abbrev pub Row : Type 0
+Row = map.FinMap flags_cmp Kept
+
+-- what a test of flags has, in the order of the flags
+abbrev pub slots : {X : Type 0} → (Flags → Option X) → List (Flags × X)
+slots has =
+    with_entry (flags false false) (has (flags false false)) (
+    with_entry (flags false true) (has (flags false true)) (
+    with_entry (flags true false) (has (flags true false)) (
+    with_entry (flags true true) (has (flags true true)) [])))
+
+unfoldable pub row_of : {X : Type 0} → (Flags → Option X) → map.FinMap flags_cmp X
+row_of has = map.from_sorted (slots has)
+
+-- one of four values, by the flags
+abbrev pub by_flags : {X : Type 0} → X → X → X → X → Flags → X
+by_flags a b c d f =
+    if f.can_be_prefix then (if f.must_be_fresh then d else c) else (
+    if f.must_be_fresh then b else a)
+
+-- each value changed, or gone; and the row gone where none is left
+abbrev pub changed_row : (Flags → Kept → Option Kept) → Row → Option Row
+changed_row change row = nonempty (row_of (λ f. option_and_then (change f) (map.get row f)))
+
+-- the change of one key's value alone
+abbrev pub only : Flags → (Kept → Option Kept) → Flags → Kept → Option Kept
+only f change g s = if same_flags g f then change s else Some s
+
+-- what is kept under the key of these flags, if the row is there
+abbrev pub kept_in : Option Row → Flags → Option Kept
+kept_in row f = option_and_then (λ r. map.get r f) row
+
+-- the row with this kept under the key of these flags
+abbrev pub with_kept : Flags → Kept → Option Row → Row
+with_kept f s row = map.insert (unwrap_or row map.empty) f s
+
+-- the row after an Interest of a face came, where a new entry has memory for so many sendings
+abbrev pub row_asked : Flags → ℕ → Ask → ℕ → Option Row → Row
+row_asked f face ask room row =
+    with_kept f (asked_by face ask (unwrap_or (kept_in row f) (new_in room))) row
+
+-- the row where this is kept under the key of these flags, if anything is
+abbrev pub with_kept_if : Flags → Option Kept → Option Row → Row
+with_kept_if f None row = unwrap_or row map.empty
+with_kept_if f (Some s) row = with_kept f s row
+
+-- the row after a sending to a face, for which there is this memory beside the entry's own
+abbrev pub row_sent : Flags → ℕ → Sent → ℕ → Option Row → Row
+row_sent f face sent room row =
+    with_kept_if f (option_map (sent_in room face sent) (kept_in row f)) row
+
+-- of the keys of a name, whether a Data answers them: all if it is the Data's name or full name, and
+-- else, if it is a prefix of that, those with CanBePrefix
+abbrev pub is_answered : Bool → Flags → Bool
+is_answered is_own f = is_own || f.can_be_prefix
+
+abbrev pub unanswered : Bool → Flags → Kept → Option Kept
+unanswered is_own f s = if is_answered is_own f then None else Some s
+
+-- the faces, and those that ask under the keys that are answered
+abbrev pub with_answered : Bool → List ℕ → Row → List ℕ
+with_answered is_own faces row =
+    with_asking (map.get row (flags true true)) (
+    with_asking (map.get row (flags true false)) (
+    if is_own then with_asking (map.get row (flags false true)) (
+    with_asking (map.get row (flags false false)) faces) else faces))
+
+-- ---- the table
+
+abbrev pub Rows : Type 0
+Rows = ByName Row
+
+-- what is kept under a key
+abbrev pub kept_at : Rows → PlainKey → Option Kept
+kept_at rows k = option_and_then (λ r. map.get r (flags_of k)) (map.get rows k.name)
+
+-- the records of all keys
+abbrev pub pending_of : Rows → Pending
+pending_of rows = revise (λ s. Some s.records) (flatten key_cmp key_at rows)
+
+-- whether the last sending to a face had this Nonce
+abbrev pub was_sent_in : Option Kept → ℕ → List ℕ → Bool
+was_sent_in None face nonce = false
+was_sent_in (Some s) face nonce = was_sent (map.get s.records.asked face) nonce
+
+-- what the Nacks of a key come to, of which one had this reason
+abbrev pub answer_in : Option Kept → ℕ → Nacked
+answer_in None reason = NoPending
+answer_in (Some s) reason = all_nacked (least_reason reason (map.entries s.records.asked))
+
+-- whether the memory of what is kept has room for a sending to this face
+abbrev pub has_place_in : Option Kept → ℕ → Bool
+has_place_in None face = true
+has_place_in (Some s) face = map.contains_key s.records.asked face || has_place (sendings s)

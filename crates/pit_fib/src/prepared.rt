@@ -1,0 +1,124 @@
+ghost use Rattle.std.specs.Prelude.{◌≡◌, ◌≢◌, ◌≤◌, ◌⊎◌, ℕ, None, Some, IfOk, IfSome, IsOk, length};
+ghost use Rattle.ndn_packets.specs.Key.{plain_key};
+ghost use Rattle.pit_fib.specs.Prepared.{HasNoArrival, IsReady, calls_of, room_of};
+
+use crate::arrival::RecordRoom;
+use crate::key_buf::KeyBuf;
+use ndn_packets::Key;
+use ndn_tlv::Memory;
+use std::alloc::Global;
+
+/// Memory for an arrival: for so many octets, and for its records.
+#[derive(Drop)]
+pub struct Ready {
+    size: usize,
+    octets: Vec<u8>,
+    records: RecordRoom,
+}
+
+/// The calls of a key that are prepared: an arrival in this memory and the sendings after it, or
+/// those sendings alone.
+#[derive(Drop)]
+pub struct Prepared {
+    key: KeyBuf,
+    arrival: Option<Ready>,
+}
+
+impl Ready {
+    fn new(alloc: Global, size: usize) -> Result<Ready, Memory>
+        ensures { IfOk result (λ ready. (ready.size ≡ size) × IsReady ready) }
+    {
+        let octets = Vec::with_capacity(alloc, size)?;
+        let records = RecordRoom::new(alloc)?;
+        Ok(Ready {
+            size,
+            octets,
+            records,
+        })
+    }
+}
+
+impl Prepared {
+    /// An arrival of this key with so many octets, and the sendings after it.
+    pub fn new(alloc: Global, key: Key<'_>, size: usize) -> Result<Prepared, Memory>
+        ensures { IfOk result (λ made. (made.key ≡ plain_key key.entry)
+            × (room_of made.arrival ≡ Some size) × IfSome made.arrival IsReady) }
+    {
+        let ready = Ready::new(alloc, size)?;
+        let key = KeyBuf::from_key(alloc, key)?;
+        Ok(Prepared {
+            key,
+            arrival: Some(ready),
+        })
+    }
+}
+
+/// The memory of an arrival of this key, if it is prepared, and what is prepared after it.
+pub fn arriving(prepared: Option<Prepared>, key: Key<'_>) -> (Option<Ready>, Option<Prepared>)
+    requires { IfSome prepared (λ p. IfSome p.arrival IsReady) }
+    ensures ready { IfSome result.0 IsReady }
+    ensures next { (size : ℕ) → calls_of prepared ≡ Some (plain_key key.entry, Some size)
+        → (room_of result.0 ≡ Some size)
+        × (calls_of result.1 ≡ Some (plain_key key.entry, None)) }
+    ensures ended { ((size : ℕ) → calls_of prepared ≢ Some (plain_key key.entry, Some size))
+        → calls_of result.1 ≡ None }
+    ensures left { HasNoArrival result.1 }
+{
+    let Some(Prepared { key: own, arrival }) = prepared else {
+        return (None, None);
+    };
+    if arrival.is_none() || !own.is(key) {
+        return (None, None);
+    }
+    let after = Prepared {
+        key: own,
+        arrival: None,
+    };
+    (arrival, Some(after))
+}
+
+/// This memory, if it has room for so many octets, or new.
+fn ready_for(alloc: Global, ready: Option<Ready>, size: usize) -> Result<Ready, Memory>
+    requires { IfSome ready IsReady }
+    ensures ok { IfOk result (λ ready. (size ≤ ready.size) × IsReady ready) }
+    ensures promised { (room : ℕ) → room_of ready ≡ Some room → size ≤ room → IsOk result }
+{
+    match ready {
+        Some(ready) if size <= ready.size => Ok(ready),
+        _ => Ready::new(alloc, size),
+    }
+}
+
+/// An Interest's octets and memory for its records: in this memory, or in new.
+pub fn octets_and_room(
+    alloc: Global,
+    ready: Option<Ready>,
+    interest: &[u8],
+) -> Result<(Vec<u8>, RecordRoom), Memory>
+    requires { IfSome ready IsReady }
+    ensures ok { IfOk result (λ made. made.0.items ≡ interest.now) }
+    ensures promised { (room : ℕ) → room_of ready ≡ Some room → length interest.now ≤ room
+        → IsOk result }
+{
+    let mut ready = ready_for(alloc, ready, interest.len())?;
+    ready.octets.extend_from_slice(interest)?;
+    Ok((ready.octets, ready.records))
+}
+
+/// What is prepared after a sending under this key.
+pub fn after_sending(prepared: Option<Prepared>, key: Key<'_>) -> Option<Prepared>
+    ensures next { calls_of prepared ≡ Some (plain_key key.entry, None)
+        → calls_of result ≡ calls_of prepared }
+    ensures ended { (calls_of prepared ≢ Some (plain_key key.entry, None))
+        → calls_of result ≡ None }
+    ensures either { (calls_of result ≡ None) ⊎ ((calls_of prepared ≡ Some (plain_key key.entry, None))
+        × (calls_of result ≡ Some (plain_key key.entry, None))) }
+    ensures left { HasNoArrival result }
+{
+    let prepared = prepared?;
+    if prepared.arrival.is_none() && prepared.key.is(key) {
+        Some(prepared)
+    } else {
+        None
+    }
+}

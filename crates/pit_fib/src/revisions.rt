@@ -1,0 +1,140 @@
+//! What each call of the pending Interest table makes of what is kept under a key.
+
+use crate::entry::Entry;
+use crate::faces::Faces;
+use crate::flags::Flags;
+use crate::row::{Revision, Row};
+use name_trie::Take;
+
+/// Ends the Interests whose deadline is not after now.
+#[derive(Drop)]
+pub struct Expiry {
+    pub now: u64,
+}
+
+impl Revision for Expiry {
+    ghost use Rattle.pit_fib.specs.Kept.{expired, living};
+
+    ghost after = { λ how f s. living (expired how.now s) };
+
+    fn apply(&self, _flags: Flags, mut entry: Entry) -> Option<Entry> {
+        entry.expire(self.now);
+        entry.living()
+    }
+}
+
+/// Ends the records of a face that closed.
+#[derive(Drop)]
+pub struct Closing {
+    pub face: u64,
+}
+
+impl Revision for Closing {
+    ghost use Rattle.pit_fib.specs.Kept.{living, without_face};
+
+    ghost after = { λ how f s. living (without_face how.face s) };
+
+    fn apply(&self, _flags: Flags, mut entry: Entry) -> Option<Entry> {
+        entry.close_face(self.face);
+        entry.living()
+    }
+}
+
+/// Keeps the reason of a Nack under one key.
+#[derive(Drop)]
+pub struct NackOf {
+    pub flags: Flags,
+    pub face: u64,
+    pub nonce: [u8; 4],
+    pub reason: u64,
+}
+
+impl Revision for NackOf {
+    ghost use Rattle.pit_fib.specs.Kept.{living, nacked, only};
+
+    ghost after = { λ how. only how.flags (λ s. living (nacked how.face how.nonce how.reason s)) };
+
+    fn apply(&self, flags: Flags, mut entry: Entry) -> Option<Entry> {
+        if !flags.is(self.flags) {
+            return Some(entry);
+        }
+        entry.nacked(self.face, self.nonce, self.reason);
+        entry.living()
+    }
+}
+
+/// Ends the Interest of a face under one key.
+#[derive(Drop)]
+pub struct Withdrawal {
+    pub flags: Flags,
+    pub face: u64,
+}
+
+impl Revision for Withdrawal {
+    ghost use Rattle.pit_fib.specs.Kept.{living, only, withdrawn};
+
+    ghost after = { λ how. only how.flags (λ s. living (withdrawn how.face s)) };
+
+    fn apply(&self, flags: Flags, mut entry: Entry) -> Option<Entry> {
+        if !flags.is(self.flags) {
+            return Some(entry);
+        }
+        entry.withdraw(self.face);
+        entry.living()
+    }
+}
+
+/// Ends all records of one key.
+#[derive(Drop)]
+pub struct Removal {
+    pub flags: Flags,
+}
+
+impl Revision for Removal {
+    ghost use Rattle.std.specs.Prelude.{None};
+    ghost use Rattle.pit_fib.specs.Kept.{only};
+
+    ghost after = { λ how. only how.flags (λ s. None) };
+
+    fn apply(&self, flags: Flags, entry: Entry) -> Option<Entry> {
+        if flags.is(self.flags) {
+            None
+        } else {
+            Some(entry)
+        }
+    }
+}
+
+/// Ends what a Data answers under a name that is its own, or a prefix of that.
+#[derive(Drop)]
+pub struct Answered {
+    pub is_own: bool,
+}
+
+impl Revision for Answered {
+    ghost use Rattle.pit_fib.specs.Kept.{unanswered};
+
+    ghost after = { λ how. unanswered how.is_own };
+
+    fn apply(&self, flags: Flags, entry: Entry) -> Option<Entry> {
+        if self.is_own || flags.can_be_prefix {
+            None
+        } else {
+            Some(entry)
+        }
+    }
+}
+
+/// The faces gather those that ask for a Data, and end what it answers.
+impl Take<Row> for Faces {
+    ghost use Rattle.pit_fib.specs.Kept.{changed_row, unanswered, with_answered};
+
+    ghost taken = { with_answered };
+
+    ghost left = { λ is_own. changed_row (unanswered is_own) };
+
+    fn take(&mut self, row: Row, is_own: bool) -> Option<Row> {
+        row.add_answered(is_own, self);
+        row.revised(&Answered { is_own })
+    }
+}

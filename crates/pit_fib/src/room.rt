@@ -1,0 +1,61 @@
+ghost use Rattle.std.specs.Prelude.{◌≡◌, [], IfOk};
+ghost use Rattle.std.specs.Vec.{vec_capacity};
+
+use ndn_tlv::Memory;
+use std::alloc::Global;
+use std::marker::Model;
+
+/// How many values of faces the memory of a new entry holds.
+pub const FEW: usize = 2;
+
+/// Memory for values of faces, which holds none. It is seen as how many there is room for.
+#[derive(Drop)]
+pub struct Room<V> {
+    rows: Vec<(u64, V)>,
+}
+
+impl<V> Model for Room<V> {
+    ghost use Rattle.std.specs.Prelude.{◌≡◌, ℕ, []};
+    ghost use Rattle.std.specs.Vec.{vec_capacity};
+    ghost use Rattle.std.specs.Coded.{coded_ℕ};
+
+    ghost Value = { ℕ };
+
+    ghost coded = { coded_ℕ };
+
+    ghost view = { λ r. vec_capacity r.rows };
+
+    ghost invariant = { λ r. r.rows.items ≡ [] };
+}
+
+impl<V: Drop> Room<V> {
+    /// No memory.
+    pub fn none(alloc: Global) -> Room<V> {
+        Room {
+            rows: Vec::new(alloc),
+        }
+    }
+
+    /// Memory for so many values.
+    pub fn new(alloc: Global, count: usize) -> Result<Room<V>, Memory>
+        ensures { IfOk result (λ room. room ≡ count) }
+    {
+        let rows = Vec::with_capacity(alloc, count)?;
+        Ok(Room { rows })
+    }
+
+    /// For how many values there is room.
+    pub fn count(&self) -> usize
+        ensures { result ≡ self.now }
+    {
+        self.rows.capacity()
+    }
+
+    /// The memory.
+    pub fn into_rows(self) -> Vec<(u64, V)>
+        ensures items { result.items ≡ [] }
+        ensures room { vec_capacity result ≡ self }
+    {
+        self.rows
+    }
+}
