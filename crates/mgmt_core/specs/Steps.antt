@@ -1,10 +1,7 @@
 -- The statuses of the two commands that enlarge a table, for private contracts.
-use Rattle.std.specs.Prelude.{ℕ, List, length, not, nat_lt, Option, None, Some, Result, Ok, Err, if◌then◌else◌}
+use Rattle.std.specs.Prelude.{ℕ, List, length, not, nat_lt, Option, None, Some, if◌then◌else◌}
 use Rattle.ndn_tlv.specs.Element.{Field}
-use Rattle.ndn_tlv.specs.declared.memory.Memory.{Memory}
 use Rattle.pit_fib.specs.declared.fib.TheConstants.{MAX_DEPTH}
-use Rattle.pit_fib.specs.declared.fault.TableFault.{TableFault}
-use Rattle.pit_fib.specs.declared.fault.TableFault.TheVariants as faults
 use Rattle.pit_fib.specs.declared.strategy_table.StrategyId.{StrategyId}
 use Rattle.pit_fib.specs.Faces.{has_face}
 use Rattle.pit_fib.specs.Fib.{Routes}
@@ -26,10 +23,3 @@ set_status name (Some strategy) choices =
     if nat_lt MAX_DEPTH (length name) then PREFIX_TOO_LONG else (
     if is_full choices name then TABLE_FULL else
     OK)
-
--- by what the table answered
-abbrev pub status_by : Result (Unit {0}) TableFault → Result ℕ Memory
-status_by (Ok _) = Ok OK
-status_by (Err faults.TooDeep) = Ok PREFIX_TOO_LONG
-status_by (Err faults.TableFull) = Ok TABLE_FULL
-status_by (Err faults.Memory) = Err (record {})

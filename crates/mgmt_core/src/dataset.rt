@@ -13,6 +13,11 @@ use std::alloc::Global;
 /// The greatest number of octets in a segment of a list.
 pub const SEGMENT_LEN: usize = 4096;
 
+/// Law: this is the number of this profile.
+pub fn segment_limit_is_as_promised()
+    ensures { SEGMENT_LEN ≡ 4096 }
+{}
+
 /// The list of routes (NFD Management, "FIB Dataset"): by name in canonical order, the hops of a
 /// name by cost and then by face.
 pub fn fib_dataset(alloc: Global, fib: &Fib) -> Result<Vec<u8>, Memory>

@@ -1,13 +1,15 @@
-ghost use Rattle.std.specs.Prelude.{◌≡◌, ◌≤◌, length, Some, IsOk, IfOk, OnOk, OnErr, true};
+ghost use Rattle.std.specs.Prelude.{◌≡◌, ◌≤◌, length, None, Some, IsOk, IfOk, OnOk, OnErr, true};
 ghost use Rattle.pit_fib.specs.declared.faces.TheConstants.{MAX_FACES};
 ghost use Rattle.pit_fib.specs.Faces.{IsRising, has_face};
 ghost use Rattle.mgmt_core.specs.Reading.{asked};
-ghost use Rattle.mgmt_core.specs.Room.{IsPrepared};
-ghost use Rattle.mgmt_core.specs.Tables.{AllAreUp, CachedAfter, choices_after, if_done, routes_after, status_of, strategy_asked, with_choice};
-ghost use Rattle.mgmt_core.specs.Steps.{add_status, set_status, status_by};
+ghost use Rattle.mgmt_core.specs.Room.{IsKeptOrEnded, IsPrepared};
+ghost use Rattle.mgmt_core.specs.declared.action.Action.TheVariants as actions;
+ghost use Rattle.mgmt_core.specs.Tables.{AllAreUp, CachedAfter, choices_after, face_of, if_done, routes_after, status_of, strategy_asked, with_choice};
+ghost use Rattle.mgmt_core.specs.Steps.{add_status, set_status};
 ghost use Rattle.mgmt_core.specs.Writing.{body_after};
 ghost use Rattle.ndn_names.specs.View.{components};
-ghost use Rattle.pit_fib.specs.Fib.{with_route};
+ghost use Rattle.pit_fib.specs.Fib.{HasRoomFor, costs_at, with_route};
+ghost use Rattle.pit_fib.specs.Refusal.{refusal};
 
 use crate::action::Action;
 use crate::applied::{Applied, Octets};
@@ -15,7 +17,7 @@ use crate::command::Command;
 use crate::tables::Tables;
 use crate::types::{FACE_NOT_OPEN, OK, PREFIX_TOO_LONG, TABLE_FULL, UNKNOWN_STRATEGY};
 use ndn_tlv::Memory;
-use pit_fib::{Faces, Fib, MAX_DEPTH, StrategyTable, TableFault};
+use pit_fib::{Faces, Fib, MAX_DEPTH, StrategyTable};
 
 /// Gives a command, from this face and while these faces are up, its effect on the tables. Each
 /// face that has a route is up.
@@ -23,8 +25,8 @@ use pit_fib::{Faces, Fib, MAX_DEPTH, StrategyTable, TableFault};
 /// The status is the first of these that applies. Of `fib/add-nexthop` and `strategy-choice/set`:
 /// 414 where the name has more than 32 components. Of the first: 410 where the face is not up. Of
 /// the second: 404 where there is no such strategy. Of both: 503 where the name is new to the table
-/// and 4,096 stand there. Otherwise 200. Only 200 changes a table. `Memory` changes none; it may come
-/// in place of any status where the command was not prepared.
+/// and 4,096 stand there. Otherwise 200. Only 200 changes a table. `Memory` comes only in place of
+/// 200, where the command was not prepared, and changes no table.
 pub fn apply(
     tables: &mut Tables,
     command: &Command<'_>,
@@ -46,83 +48,117 @@ pub fn apply(
     ensures err_routes { OnErr result (tables.new.fib.table ≡ tables.old.fib.table) }
     ensures err_choices { OnErr result (tables.new.strategies.table ≡ tables.old.strategies.table) }
     ensures err_store { OnErr result (tables.new.store ≡ tables.old.store) }
+    ensures cause { OnErr result (status_of (asked command.now) face up.now
+        tables.old.fib.table tables.old.strategies.table ≡ OK) }
+    ensures left_routes { IsKeptOrEnded tables.old.fib.prepared tables.new.fib.prepared }
+    ensures left_choices { IsKeptOrEnded
+        tables.old.strategies.prepared tables.new.strategies.prepared }
     ensures promised { IsPrepared tables.old (asked command.now) → IsOk result }
 {
+    let status = status_in(tables, command, face, up);
+    if status != OK {
+        return Ok(Applied {
+            status,
+            body: Octets::new(tables.alloc),
+        });
+    }
     let face = command.face_from(face);
     let body = tables.room.body_of(tables.alloc, command, face)?;
-    let status = match command.action {
-        Action::AddNexthop => add_nexthop(&mut tables.fib, command, face, up)?,
-        Action::RemoveNexthop => {
-            tables.fib.remove(command.name, face);
-            OK
-        }
+    match command.action {
+        Action::AddNexthop => add_nexthop(&mut tables.fib, command, face)?,
+        Action::RemoveNexthop => tables.fib.remove(command.name, face),
         Action::SetStrategy => set_strategy(&mut tables.strategies, command)?,
-        Action::UnsetStrategy => {
-            tables.strategies.unset(command.name);
-            OK
-        }
+        Action::UnsetStrategy => tables.strategies.unset(command.name),
         Action::EraseCache => {
             tables.store.erase(command.name, command.count);
-            OK
         }
-    };
-    if status == OK {
-        return Ok(Applied { status, body });
     }
-    Ok(Applied {
-        status,
-        body: Octets::new(tables.alloc),
-    })
+    Ok(Applied { status, body })
 }
 
-/// Adds a hop, or sets its cost, and gives the status.
-fn add_nexthop(fib: &mut Fib, command: &Command<'_>, face: u64, up: &Faces) -> Result<u16, Memory>
-    requires { AllAreUp fib.old.table up.now }
-    ensures status { IfOk result (λ s. s
-        ≡ add_status (components command.now.name) face up.now fib.old.table) }
-    ensures routes { IfOk result (λ s. fib.new.table ≡ if_done s
-        (with_route fib.old.table (components command.now.name) face command.now.cost)
-        fib.old.table) }
-    ensures err { OnErr result (fib.new.table ≡ fib.old.table) }
-    ensures promised { fib.old.prepared ≡ Some (components command.now.name) → IsOk result }
+/// The status of a command.
+fn status_in(tables: &Tables, command: &Command<'_>, face: u64, up: &Faces) -> u16
+    requires { AllAreUp tables.now.fib.table up.now }
+    ensures exact { result ≡ status_of (asked command.now) face up.now
+        tables.now.fib.table tables.now.strategies.table }
+    ensures room { command.now.action ≡ actions.AddNexthop → result ≡ OK → HasRoomFor
+        (costs_at tables.now.fib.table (components command.now.name))
+        (face_of (asked command.now) face) }
+{
+    match command.action {
+        Action::AddNexthop => add_status(&tables.fib, command, command.face_from(face), up),
+        Action::SetStrategy => set_status(&tables.strategies, command),
+        Action::RemoveNexthop | Action::UnsetStrategy | Action::EraseCache => OK,
+    }
+}
+
+/// The status of a command that adds a hop of this face.
+fn add_status(fib: &Fib, command: &Command<'_>, face: u64, up: &Faces) -> u16
+    requires { AllAreUp fib.now.table up.now }
+    ensures exact { result ≡ add_status (components command.now.name) face up.now fib.now.table }
+    ensures room { result ≡ OK
+        → HasRoomFor (costs_at fib.now.table (components command.now.name)) face }
 {
     if command.name.len() > MAX_DEPTH {
-        return Ok(PREFIX_TOO_LONG);
+        return PREFIX_TOO_LONG;
     }
     if !is_up(face, up) {
-        return Ok(FACE_NOT_OPEN);
+        return FACE_NOT_OPEN;
     }
-    status_after(fib.add(command.name, face, command.cost))
+    if fib.refusal_of(command.name).is_some() {
+        return TABLE_FULL;
+    }
+    OK
 }
 
-/// Sets a strategy, and gives the status.
-fn set_strategy(choices: &mut StrategyTable, command: &Command<'_>) -> Result<u16, Memory>
-    ensures status { IfOk result (λ s. s ≡ set_status (components command.now.name)
-        (strategy_asked (asked command.now)) choices.old.table) }
-    ensures choices { IfOk result (λ s. choices.new.table ≡ if_done s
-        (with_choice choices.old.table (components command.now.name)
-        (strategy_asked (asked command.now))) choices.old.table) }
-    ensures err { OnErr result (choices.new.table ≡ choices.old.table) }
-    ensures promised { choices.old.prepared ≡ Some (components command.now.name) → IsOk result }
+/// The status of a command that sets a strategy.
+fn set_status(choices: &StrategyTable, command: &Command<'_>) -> u16
+    ensures { result ≡ set_status (components command.now.name)
+        (strategy_asked (asked command.now)) choices.now.table }
 {
     if command.name.len() > MAX_DEPTH {
-        return Ok(PREFIX_TOO_LONG);
+        return PREFIX_TOO_LONG;
     }
-    match command.strategy() {
-        Some(strategy) => status_after(choices.set(command.name, strategy)),
-        None => Ok(UNKNOWN_STRATEGY),
+    if command.strategy().is_none() {
+        return UNKNOWN_STRATEGY;
+    }
+    if choices.refusal_of(command.name).is_some() {
+        return TABLE_FULL;
+    }
+    OK
+}
+
+/// Adds a hop of this face, or sets its cost, where nothing refuses it.
+fn add_nexthop(fib: &mut Fib, command: &Command<'_>, face: u64) -> Result<(), Memory>
+    requires room { HasRoomFor (costs_at fib.old.table (components command.now.name)) face }
+    requires taken { refusal fib.old.table (components command.now.name) ≡ None }
+    ensures ok { OnOk result (fib.new.table
+        ≡ with_route fib.old.table (components command.now.name) face command.now.cost) }
+    ensures err { OnErr result (fib.new.table ≡ fib.old.table) }
+    ensures ended { fib.new.prepared ≡ None }
+    ensures promised { fib.old.prepared ≡ Some (components command.now.name) → IsOk result }
+{
+    match fib.add(command.name, face, command.cost) {
+        Ok(()) => Ok(()),
+        Err(_) => Err(Memory),
     }
 }
 
-/// The status of a command, by what the table answered to a name of at most 32 components.
-fn status_after(done: Result<(), TableFault>) -> Result<u16, Memory>
-    ensures { result ≡ status_by done }
+/// Sets a strategy, where nothing refuses it.
+fn set_strategy(choices: &mut StrategyTable, command: &Command<'_>) -> Result<(), Memory>
+    requires { refusal choices.old.table (components command.now.name) ≡ None }
+    ensures ok { OnOk result (choices.new.table ≡ with_choice choices.old.table
+        (components command.now.name) (strategy_asked (asked command.now))) }
+    ensures err { OnErr result (choices.new.table ≡ choices.old.table) }
+    ensures left { IsKeptOrEnded choices.old.prepared choices.new.prepared }
+    ensures promised { choices.old.prepared ≡ Some (components command.now.name) → IsOk result }
 {
-    match done {
-        Ok(()) => Ok(OK),
-        Err(TableFault::TooDeep) => Ok(PREFIX_TOO_LONG),
-        Err(TableFault::TableFull) => Ok(TABLE_FULL),
-        Err(TableFault::Memory) => Err(Memory),
+    let Some(strategy) = command.strategy() else {
+        return Ok(());
+    };
+    match choices.set(command.name, strategy) {
+        Ok(()) => Ok(()),
+        Err(_) => Err(Memory),
     }
 }
 

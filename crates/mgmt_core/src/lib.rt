@@ -18,7 +18,9 @@ mod types;
 pub use action::Action;
 pub use applied::{Applied, Octets};
 pub use command::Command;
-pub use dataset::{SEGMENT_LEN, fib_dataset, segment_of, strategy_dataset};
+pub use dataset::{
+    SEGMENT_LEN, fib_dataset, segment_limit_is_as_promised, segment_of, strategy_dataset,
+};
 pub use effect::apply;
 pub use law::{
     closings_leave_faces_up, commands_leave_faces_up, openings_leave_faces_up, replies_are_bounded,

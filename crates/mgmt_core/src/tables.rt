@@ -1,6 +1,6 @@
-ghost use Rattle.std.specs.Prelude.{◌≡◌, OnErr, OnOk};
+ghost use Rattle.std.specs.Prelude.{◌≡◌, None, OnErr, OnOk};
 ghost use Rattle.mgmt_core.specs.Reading.{asked};
-ghost use Rattle.mgmt_core.specs.Room.{IsKeptOrEnded, IsPrepared};
+ghost use Rattle.mgmt_core.specs.Room.{IsPrepared};
 
 use crate::action::Action;
 use crate::command::Command;
@@ -38,19 +38,18 @@ impl Tables {
     }
 
     /// Prepares one `apply` of this command, from any face, which is then not refused memory while
-    /// only removals from the tables stand between. The next `apply` or `prepare`, of any command
-    /// and a refused one too, ends the preparation. A refused `prepare` adds no preparation to a
-    /// table.
+    /// only removals from the tables stand between. The next `prepare`, of any command and a refused
+    /// one too, ends the preparation; the next `apply` of any command may.
     pub fn prepare(&mut self, command: &Command<'_>) -> Result<(), Memory>
         ensures ok { OnOk result (IsPrepared self.new (asked command.now)) }
-        ensures err_routes { OnErr result
-            (IsKeptOrEnded self.old.fib.prepared self.new.fib.prepared) }
-        ensures err_choices { OnErr result
-            (IsKeptOrEnded self.old.strategies.prepared self.new.strategies.prepared) }
+        ensures err_routes { OnErr result (self.new.fib.prepared ≡ None) }
+        ensures err_choices { OnErr result (self.new.strategies.prepared ≡ None) }
         ensures routes { self.new.fib.table ≡ self.old.fib.table }
         ensures choices { self.new.strategies.table ≡ self.old.strategies.table }
         ensures store { self.new.store ≡ self.old.store }
     {
+        self.fib.forget_prepared();
+        self.strategies.forget_prepared();
         self.room.prepare(command)?;
         match command.action {
             Action::AddNexthop => self.fib.prepare(command.name),
