@@ -20,6 +20,6 @@ pub use law::{
     verbs_follow_the_prefix,
 };
 pub use reply::{MAX_REPLY_LEN, RepoReply, Want, put_repo_reply, repo_status_text};
-pub use repo::{MAX_HELD, MAX_WANTS, Repo};
+pub use repo::{MAX_HELD, MAX_WANTS, Repo, repo_limits_are_as_promised};
 pub use types::repo_statuses_are_as_assigned;
 pub use verb::Verb;

@@ -30,6 +30,11 @@ pub const MAX_WANTS: usize = 64;
 /// The greatest number of objects and wants together.
 pub const MAX_HELD: usize = 65_536;
 
+/// Law: these are the numbers of this profile.
+pub fn repo_limits_are_as_promised()
+    ensures { (MAX_WANTS ≡ 64) × (MAX_HELD ≡ 65536) }
+{}
+
 /// A repository: it stores the Data that commands want, and serves them. It holds at most 64 wants,
 /// and at most 65,536 objects and wants.
 #[derive(Drop)]
@@ -202,13 +207,17 @@ impl Repo {
 
     /// Prepares the command of this name, its reply included: it is then not refused memory. An
     /// insert, a Data that is stored, or a further preparation, a refused one too, ends it. What
-    /// only removes does not: wants that expire, and deletes.
+    /// only removes does not: wants that expire, and deletes. An insert alone takes memory.
     pub fn prepare_command(&mut self, name: Name<'_>) -> Result<(), Memory>
         ensures held { self.new.held ≡ self.old.held }
         ensures start { self.new.start ≡ self.old.start }
         ensures ok { OnOk result (IsCommandPrepared self.new (components name.entry)) }
         ensures err { OnErr result (self.new.prepared_want ≡ None) }
+        ensures other { is_insert_at self.old.start (components name.entry) ≡ false
+            → self.new.prepared_want ≡ None }
         ensures alone { self.new.prepared_object ≡ None }
+        ensures cause { OnErr result
+            (is_insert_at self.old.start (components name.entry) ≡ true) }
     {
         self.names = None;
         self.object = None;
@@ -228,6 +237,8 @@ impl Repo {
         ensures ok { OnOk result (IsOfferPrepared self.new (components packet.now.name)
             (sha256 packet.now.whole.now) packet.now.whole.now) }
         ensures err { OnErr result (self.new.prepared_object ≡ None) }
+        ensures other { is_wanted (components packet.now.name) (sha256 packet.now.whole.now)
+            self.old.held.wants ≡ false → self.new.prepared_object ≡ None }
         ensures alone { self.new.prepared_want ≡ None }
         ensures cause { OnErr result (is_wanted (components packet.now.name)
             (sha256 packet.now.whole.now) self.old.held.wants ≡ true) }
