@@ -9,8 +9,7 @@ use Rattle.std.proofs.Math.Bridge.{le_prop}
 use Rattle.std.proofs.Math.Logic.{∥∥₁_elim}
 use Rattle.std.proofs.lemmas.Cmp.{tied_itself}
 use Rattle.std.proofs.lemmas.List.Elements.{All-head}
-use Rattle.ndn_tlv.specs.Element.{Field, element}
-use Rattle.ndn_tlv.specs.Number.{spelling}
+use Rattle.ndn_tlv.specs.Element.{Field}
 use Rattle.ndn_tlv.specs.declared.memory.Memory.{Memory}
 use Rattle.ndn_names.specs.Key.{name_cmp-total}
 use Rattle.ndn_names.specs.Order.{name_cmp}
@@ -18,7 +17,7 @@ use Rattle.ndn_packets.specs.Grammar.{IsData, IsInterest}
 use Rattle.ndn_packets.specs.Key.{PlainKey, key_of}
 use Rattle.ndn_packets.specs.Packet.{PlainData, PlainInterest, AnInterest}
 use Rattle.ndn_packets.specs.Writing.{nack_text}
-use Rattle.ndn_packets.specs.declared.types.TheConstants.{DATA, DUPLICATE}
+use Rattle.ndn_packets.specs.declared.types.TheConstants.{DUPLICATE}
 use Rattle.pit_fib.specs.Pit.{loops}
 use Rattle.pit_fib.specs.Records.{HoldsTheLiving, records_at}
 use Rattle.pit_fib.specs.Cause.{Cause}
@@ -38,6 +37,7 @@ use Rattle.forwarder.specs.Forwarding.{ForwardsBy, IsForwarded, choice_from}
 use Rattle.forwarder.specs.Handling.{IsAnswered, IsHandled, IsPacketEffect, seen_by}
 use Rattle.forwarder.specs.Node.{CacheAfterInterest, CacheAfterRequest, FollowAll, NodeState}
 use Rattle.forwarder.specs.State.{IsLater, IsSound, state_of}
+use Rattle.forwarder.proofs.Contents.{begins, begins_data, data_is_no_nack}
 use Rattle.forwarder.proofs.GoingOn.{tick_step}
 use Rattle.forwarder.proofs.Handled.{where_true, where_false}
 use Rattle.forwarder.proofs.ListSteps.{back_causes}
@@ -49,12 +49,8 @@ use Rattle.forwarder.proofs.Soundness.{step_sound}
 abbrev pub CanGoBack : List ℕ → Type 0
 CanGoBack octets = (length octets ≤ 8800) × (is_nack octets ≡ false)
 
-data_begins : (value : List ℕ) → is_nack (element (DATA, value)) ≡ false
-unfolding spelling
-data_begins value = refl
-
 data_goes_back : (octets : List ℕ) (d : PlainData) → IsData octets d → CanGoBack octets
-data_goes_back octets d read = (read.fields.short, ap is_nack read.fields.outer.1 ∙ data_begins read.fields.value)
+data_goes_back octets d read = (read.fields.short, data_is_no_nack octets (ap (begins 6) read.fields.outer.1 ∙ begins_data read.fields.value))
 
 pub cached_goes_back : (key : PlainKey) (now : ℕ) (before after : StoreState) (octets : List ℕ) → IsStore after → Finds key now before (Some octets) after → CanGoBack octets
 cached_goes_back key now before after octets store (c, least, is, used) =

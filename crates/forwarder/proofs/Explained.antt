@@ -1,6 +1,6 @@
 -- Each send of an answer is explained.
-use Rattle.std.proofs.Common.{ap, ◌≡◌, ℕ, zero, suc, ◌-◌, ◌<◌, arith, Bool, true, false, List, [], ◌∷◌, map, refl, sym, subst, Result, Ok, Err, inl, inr}
-use Rattle.std.specs.Prelude.{Option, Some, None, IsTrue, nat_le, length, not, is_some, slice_set, ◌==◌, ◌&&◌, ◌||◌, if◌then◌else◌}
+use Rattle.std.proofs.Common.{ap, ◌∙◌, ◌≡◌, ℕ, Bool, true, false, List, [], ◌∷◌, map, refl, sym, subst, Result, Ok, Err, inl, inr}
+use Rattle.std.specs.Prelude.{Option, Some, None, IsTrue, nat_le, length, not, ◌==◌, ◌&&◌, ◌||◌, if◌then◌else◌}
 use Rattle.std.specs.List.{All}
 use Rattle.std.specs.FinMap as map_of
 use Rattle.std.proofs.lemmas.Bool.{eq-eqb}
@@ -8,15 +8,10 @@ use Rattle.std.proofs.lemmas.List.Elements.{All-cons, All-nil}
 use Rattle.ndn_packets.specs.FrameReading.{frame_at}
 use Rattle.ndn_packets.specs.Key.{PlainKey, key_of}
 use Rattle.ndn_packets.specs.Packet.{PlainInterest, PlainData, PlainFrame, AnInterest, AData, ANack, Idle}
-use Rattle.ndn_tlv.specs.Element.{element}
-use Rattle.ndn_tlv.specs.Number.{spelling}
-use Rattle.ndn_tlv.specs.Reading.{element_at, on_result}
-use Rattle.ndn_packets.specs.Covered.{from_first}
-use Rattle.ndn_packets.specs.HopLimit.{hop_place, place_from, place_in}
 use Rattle.ndn_packets.specs.Writing.{AreOctets, nack_text, reply_text}
 use Rattle.ndn_packets.proofs.Packets.{frame_found}
 use Rattle.ndn_packets.specs.declared.fault.PacketFault.{PacketFault}
-use Rattle.ndn_packets.specs.declared.types.TheConstants.{DUPLICATE, HOP_LIMIT, INTEREST, LINK_PACKET, NO_ROUTE}
+use Rattle.ndn_packets.specs.declared.types.TheConstants.{DUPLICATE, NO_ROUTE}
 use Rattle.info_rules.specs.declared.decision.Decision.{Decision}
 use Rattle.info_rules.specs.declared.decision.Decision.TheVariants as decided
 use Rattle.pit_fib.specs.declared.nacked.Nacked.{Nacked}
@@ -37,10 +32,12 @@ use Rattle.forwarder.specs.Verdict.{Answer, DropReason, Dropped, WhereTrue, BadF
 use Rattle.forwarder.specs.Request.{ListAsked, Request, Refused, ForList, ForTables, ForRepository, ForData, is_command, is_out_of_scope, list_asked, request_of}
 use Rattle.forwarder.specs.NextHops.{ask_for, ask_from, choice_for, sent_on}
 use Rattle.forwarder.specs.Said.{IsSaid}
+use Rattle.forwarder.specs.Effects.{decided_packet, packet_to_decide}
 use Rattle.forwarder.specs.Commands.{repository_reply, allowed_reply, command_answer, fetch_sends, fetch_text, is_unwritable, reply_content, to_chosen}
 use Rattle.forwarder.specs.Datasets.{is_present, list_answer, dataset_text, segment_answer, segment_data, segment_name}
 use Rattle.forwarder.specs.Replies.{Seen, Replies, RepliesBySaid, RepliesForData, RepliesToData, RepliesToNack, RepliesToPacket, RepliesToRequest, by_cache, forwarded, nack_answer, opening_answer, unserved}
-use Rattle.forwarder.specs.Sends.{BringsOctets, EachIsExplained, IsAtHand, IsExplained, is_data}
+use Rattle.forwarder.specs.Sends.{BringsOctets, EachIsExplained, IsAtHand, IsExplained}
+use Rattle.forwarder.proofs.Contents.{begins, begins_interest, interest_is_neither, nack_is_no_data, sent_on_begins, spelled_begins}
 use Rattle.forwarder.proofs.Requests.{for_list}
 
 -- the same octets to each of some faces
@@ -57,57 +54,16 @@ each_is seen event answer other e h = subst (λ (a : Answer). EachIsExplained se
 no_sends : (seen : Seen) (event : PlainEvent) (answer : Answer) (reason : DropReason) → answer ≡ dropped reason → EachIsExplained seen event answer
 no_sends seen event answer reason e = each_is seen event answer (dropped reason) e (All-nil (IsExplained seen event))
 
--- a Nack and an Interest begin with their own types
-link_is_no_data : (value : List ℕ) → is_data (element (LINK_PACKET, value)) ≡ false
-unfolding spelling
-link_is_no_data value = refl
-
-interest_is_no_data : (value : List ℕ) → is_data (element (INTEREST, value)) ≡ false
-unfolding spelling
-interest_is_no_data value = refl
-
 nack_explained : (seen : Seen) (event : PlainEvent) (face reason : ℕ) (interest : List ℕ) → IsExplained seen event (face, nack_text reason interest)
-nack_explained seen event face reason interest = inr (inr (link_is_no_data _))
+nack_explained seen event face reason interest = inr (inr (nack_is_no_data reason interest))
 
--- a change behind the first octet
-set_is_no_data : (text : List ℕ) (at octet : ℕ) → 0 < at → is_data text ≡ false → is_data (slice_set text at octet) ≡ false
-set_is_no_data [] at octet low e = refl
-set_is_no_data (x ∷ text) zero octet low e = absurd (omega arith)
-set_is_no_data (x ∷ text) (suc at) octet low e = e
-
-pub hop_place_is_later : (text : List ℕ) → 0 < length text → 0 < hop_place text
-hop_place_is_later text some = by_frame (frame_at text)
-  where
-    by_from : (from : Option (List ℕ)) → 0 < place_from text from
-    by_from None = some
-    by_from (Some from) = omega arith
-
-    by_limit : (b : Bool) (from : Option (List ℕ)) → 0 < (if b then place_from text from else length text)
-    by_limit true from = by_from from
-    by_limit false from = some
-
-    by_frame : (r : Result PlainFrame PacketFault) → 0 < place_in text r
-    by_frame (Ok (AnInterest whole i)) =
-        by_limit ((length whole == length text) && is_some i.hop_limit) (on_result (λ outer. from_first HOP_LIMIT outer.0.1) (λ _. None) (element_at text))
-    by_frame (Ok (AData whole d)) = some
-    by_frame (Ok (ANack reason whole i)) = some
-    by_frame (Ok Idle) = some
-    by_frame (Err fault) = some
-
--- an Interest as it is sent on is no Data
-sent_on_is_no_data : (whole : List ℕ) (limit : Option ℕ) → 0 < length whole → is_data whole ≡ false → is_data (sent_on whole limit) ≡ false
-sent_on_is_no_data whole None some e = e
-sent_on_is_no_data whole (Some n) some e = set_is_no_data whole (hop_place whole) (n - 1) (hop_place_is_later whole some) e
-
-interest_begins : (value : List ℕ) → (0 < length (element (INTEREST, value))) × (is_data (element (INTEREST, value)) ≡ false)
-unfolding spelling
-interest_begins value = (omega arith, refl)
+-- the Interest of an insert begins as one
+fetch_begins : (want : Want) (nonce : List ℕ) → begins 5 (fetch_text want nonce) ≡ true
+fetch_begins want nonce = begins_interest _
 
 -- what is read as an Interest begins as one
-read_interest : (octets whole : List ℕ) (i : PlainInterest) → AreOctets octets → frame_at octets ≡ Ok (AnInterest whole i) → (0 < length whole) × (is_data whole ≡ false)
-read_interest octets whole i fits read =
-    let outer = (frame_found octets (AnInterest whole i) fits read).0.fields in
-    subst (λ (t : List ℕ). (0 < length t) × (is_data t ≡ false)) (sym outer.outer.1) (interest_begins outer.value)
+pub read_begins : (octets whole : List ℕ) (i : PlainInterest) → AreOctets octets → frame_at octets ≡ Ok (AnInterest whole i) → begins 5 whole ≡ true
+read_begins octets whole i fits read = spelled_begins whole i (frame_found octets (AnInterest whole i) fits read).0
 
 -- ---- an Interest
 
@@ -125,7 +81,7 @@ module _ (seen : Seen) (face now : ℕ) (octets whole : List ℕ) (i : PlainInte
   chosen_explained : (choice : Choice) (want : Want) → All (IsExplained seen event) (to_chosen choice (fetch_text want i.nonce))
   chosen_explained choices.NoRoute want = All-nil (IsExplained seen event)
   chosen_explained (choices.Send faces) want =
-      all_to_each (IsExplained seen event) (fetch_text want i.nonce) faces (λ f. inr (inr (interest_is_no_data _)))
+      all_to_each (IsExplained seen event) (fetch_text want i.nonce) faces (λ f. inr (inr (interest_is_neither (fetch_text want i.nonce) (fetch_begins want i.nonce)).1))
 
   fetch_explained : (want : Option Want) → All (IsExplained seen event) (fetch_sends seen.policy i.nonce want)
   fetch_explained None = All-nil (IsExplained seen event)
@@ -177,8 +133,8 @@ module _ (seen : Seen) (face now : ℕ) (octets whole : List ℕ) (i : PlainInte
       by_full : (b : Bool) → EachIsExplained seen event (if b then dropped PitFull else passed (to_each faces (sent_on whole i.hop_limit)))
       by_full true = All-nil (IsExplained seen event)
       by_full false =
-          let begins = read_interest octets whole i fits read in
-          all_to_each (IsExplained seen event) (sent_on whole i.hop_limit) faces (λ f. inr (inr (sent_on_is_no_data whole i.hop_limit begins.0 begins.1)))
+          let on = sent_on_begins whole i.hop_limit (read_begins octets whole i fits read) in
+          all_to_each (IsExplained seen event) (sent_on whole i.hop_limit) faces (λ f. inr (inr (interest_is_neither (sent_on whole i.hop_limit) on).1))
 
   object_explained : (object : Option (List ℕ)) → served i.name i.can_be_prefix seen.policy.held.objects ≡ object → EachIsExplained seen event (unserved seen face whole i object)
   object_explained (Some text) e = one_send (IsExplained seen event) (face, text) (hand text (inr (inl e)))
@@ -225,9 +181,9 @@ module _ (seen : Seen) (face now : ℕ) (octets : List ℕ) (fits : AreOctets oc
   abbrev arrival : PlainEvent
   arrival = Packet face now octets
 
-  said_explained : (whole : List ℕ) (d : PlainData) → frame_at octets ≡ Ok (AData whole d) → (said : Decision) → IsSaid seen.policy (AData whole d) said
+  said_explained : (whole : List ℕ) (d : PlainData) → frame_at octets ≡ Ok (AData whole d) → decided_packet seen.policy arrival ≡ Some (AData whole d) → (said : Decision) → IsSaid seen.policy (AData whole d) said
       → RepliesBySaid seen face whole d answer said → EachIsExplained seen arrival answer
-  said_explained whole d read (decided.Allowed rule) said h =
+  said_explained whole d read heard (decided.Allowed rule) said h =
       let sent = h.1 in
       subst (All (IsExplained seen arrival)) (sym sent.3)
       (all_members (IsExplained seen arrival) whole sent.0
@@ -240,21 +196,26 @@ module _ (seen : Seen) (face now : ℕ) (octets : List ℕ) (fits : AreOctets oc
         rule = rule;
         brings = refl;
         read = read;
+        decided = heard;
         allowed = said;
         other = is.0;
         waits = is.1;
         received = refl;
       })))
-  said_explained whole d read (decided.Denied rule reason) said h = each_is seen arrival answer _ h (All-nil (IsExplained seen arrival))
-  said_explained whole d read decided.NoRule said h = each_is seen arrival answer _ h (All-nil (IsExplained seen arrival))
+  said_explained whole d read heard (decided.Denied rule reason) said h = each_is seen arrival answer _ h (All-nil (IsExplained seen arrival))
+  said_explained whole d read heard decided.NoRule said h = each_is seen arrival answer _ h (All-nil (IsExplained seen arrival))
 
-  forwarding_explained : (whole : List ℕ) (d : PlainData) → frame_at octets ≡ Ok (AData whole d) → RepliesToData seen face whole d answer → EachIsExplained seen arrival answer
-  forwarding_explained whole d read h = by_scope (is_out_of_scope seen.policy face d.name) h
+  forwarding_explained : (whole : List ℕ) (d : PlainData) → frame_at octets ≡ Ok (AData whole d) → is_open face seen.policy.faces ≡ true → RepliesToData seen face whole d answer → EachIsExplained seen arrival answer
+  forwarding_explained whole d read open' h = by_scope (is_out_of_scope seen.policy face d.name) refl h
     where
-      by_scope : (b : Bool) → WhereTrue b (answer ≡ dropped OutOfScope) ((said : Decision) × IsSaid seen.policy (AData whole d) said × RepliesBySaid seen face whole d answer said)
+      by_scope : (b : Bool) → is_out_of_scope seen.policy face d.name ≡ b → WhereTrue b (answer ≡ dropped OutOfScope) ((said : Decision) × IsSaid seen.policy (AData whole d) said × RepliesBySaid seen face whole d answer said)
           → EachIsExplained seen arrival answer
-      by_scope true e = no_sends seen arrival answer OutOfScope e
-      by_scope false h = said_explained whole d read h.0 h.1 h.2
+      by_scope true out e = no_sends seen arrival answer OutOfScope e
+      by_scope false here h =
+          let heard : packet_to_decide seen.policy face (Ok (AData whole d)) ≡ Some (AData whole d) = ap (λ (b : Bool). if not b then Some (AData whole d) else None) here in
+          let brings : decided_packet seen.policy arrival ≡ Some (AData whole d) =
+          ap (λ (b : Bool). if b then packet_to_decide seen.policy face (frame_at octets) else None) open' ∙ ap (λ (r : Result PlainFrame PacketFault). packet_to_decide seen.policy face r) read ∙ heard in
+          said_explained whole d read brings h.0 h.1 h.2
 
   all_nacks : (reason : ℕ) (asks : List (ℕ × Ask)) → All (IsExplained seen arrival) (map {A = ℕ × Ask} {B = Send} (λ e. (e.0, nack_text reason e.1.interest)) asks)
   all_nacks reason [] = All-nil (IsExplained seen arrival)
@@ -275,19 +236,19 @@ module _ (seen : Seen) (face now : ℕ) (octets : List ℕ) (fits : AreOctets oc
       by_scope false e =
           each_is seen arrival answer _ e (nacked_explained (seen.records (key_of i)).asks (nacked_answer (seen.records (key_of i)) face i.nonce reason))
 
-  packet_explained : (read : Result PlainFrame PacketFault) → frame_at octets ≡ read → RepliesToPacket seen face read answer → EachIsExplained seen arrival answer
-  packet_explained (Err fault) e h = no_sends seen arrival answer (Malformed fault) h
-  packet_explained (Ok (AnInterest whole i)) e h = interest_explained seen face now octets whole i fits e answer (request_of seen.policy face i) refl h
-  packet_explained (Ok (AData whole d)) e h = forwarding_explained whole d e h
-  packet_explained (Ok (ANack reason whole i)) e h = nack_explains reason i h
-  packet_explained (Ok Idle) e h = no_sends seen arrival answer IsIdle h
+  packet_explained : (read : Result PlainFrame PacketFault) → frame_at octets ≡ read → is_open face seen.policy.faces ≡ true → RepliesToPacket seen face read answer → EachIsExplained seen arrival answer
+  packet_explained (Err fault) e open' h = no_sends seen arrival answer (Malformed fault) h
+  packet_explained (Ok (AnInterest whole i)) e open' h = interest_explained seen face now octets whole i fits e answer (request_of seen.policy face i) refl h
+  packet_explained (Ok (AData whole d)) e open' h = forwarding_explained whole d e open' h
+  packet_explained (Ok (ANack reason whole i)) e open' h = nack_explains reason i h
+  packet_explained (Ok Idle) e open' h = no_sends seen arrival answer IsIdle h
 
 pub all_explained : (seen : Seen) (event : PlainEvent) (answer : Answer) → BringsOctets event → Replies seen event answer → EachIsExplained seen event answer
-all_explained seen (Packet face now octets) answer fits h = by_open (is_open face seen.policy.faces) h
+all_explained seen (Packet face now octets) answer fits h = by_open (is_open face seen.policy.faces) refl h
   where
-    by_open : (b : Bool) → WhereTrue b (RepliesToPacket seen face (frame_at octets) answer) (answer ≡ dropped NoFace) → EachIsExplained seen (Packet face now octets) answer
-    by_open true h = packet_explained seen face now octets fits answer (frame_at octets) refl h
-    by_open false e = no_sends seen (Packet face now octets) answer NoFace e
+    by_open : (b : Bool) → is_open face seen.policy.faces ≡ b → WhereTrue b (RepliesToPacket seen face (frame_at octets) answer) (answer ≡ dropped NoFace) → EachIsExplained seen (Packet face now octets) answer
+    by_open true is h = packet_explained seen face now octets fits answer (frame_at octets) refl is h
+    by_open false is e = no_sends seen (Packet face now octets) answer NoFace e
 all_explained seen (FaceUp face scope now) answer fits h = each_is seen (FaceUp face scope now) answer (opening_answer seen.policy face) h
     (by_zero (face == 0) (is_open face seen.policy.faces) (nat_le MAX_FACES (length seen.policy.faces)))
   where

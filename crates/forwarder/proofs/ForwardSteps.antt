@@ -1,7 +1,7 @@
 -- An Interest is sent on: there is room for its asker and for the faces that it is sent to, what is
 -- kept of it are the causes of its answer, and a Nack back has room in what is reserved.
-use Rattle.std.proofs.Common.{◌≡◌, ◌⊎◌, inl, inr, ℕ, zero, suc, ◌+◌, ◌<◌, ◌≤◌, Bool, true, false, cond, eqb, List, [], ◌∷◌, ◌++◌, length, map, take, leb, ◌-◌, Option, None, Some, Result, Ok, Err, refl, sym, ap, subst, ◌∙◌, arith, add-one}
-use Rattle.std.specs.Prelude.{slice_get, slice_set, is_some, not, ◌&&◌, ◌||◌, ◌==◌}
+use Rattle.std.proofs.Common.{◌^◌, ◌≡◌, ◌⊎◌, inl, inr, ℕ, zero, suc, ◌+◌, ◌<◌, ◌≤◌, Bool, true, false, cond, eqb, List, [], ◌∷◌, ◌++◌, length, map, take, leb, Some, refl, sym, ap, subst, ◌∙◌, arith, add-one}
+use Rattle.std.specs.Prelude.{slice_get, not, ◌&&◌, ◌||◌, ◌==◌}
 use Rattle.std.specs.List.{AllByRecursion, list_any}
 use Rattle.std.proofs.lemmas.Bool.{eq-eqb, eqb-true, leb-true, ne_eqb}
 use Rattle.std.proofs.Math.Logic.{∥∥₁_elim}
@@ -9,17 +9,12 @@ use Rattle.std.proofs.lemmas.List.{length-append, length-map}
 use Rattle.std.specs.FinMap as fin
 use Rattle.ndn_tlv.specs.Number.{shortest_nni, spelling}
 use Rattle.ndn_tlv.specs.Element.{element}
-use Rattle.ndn_tlv.specs.Reading.{on_result, element_at}
 use Rattle.ndn_tlv.proofs.Integers.{length-shortest_eight}
 use Rattle.ndn_tlv.proofs.Numbers.{length-spelling_nine, length-spelling_one, length-spelling_three}
 use Rattle.ndn_packets.specs.Key.{PlainKey, key_of}
-use Rattle.ndn_packets.specs.Packet.{PlainInterest, PlainFrame, AnInterest, AData, ANack, Idle}
-use Rattle.ndn_packets.specs.declared.fault.PacketFault.{PacketFault}
-use Rattle.ndn_packets.specs.Covered.{from_first}
-use Rattle.ndn_packets.specs.FrameReading.{frame_at}
+use Rattle.ndn_packets.specs.Packet.{PlainInterest}
 use Rattle.ndn_packets.specs.Grammar.{IsInterest}
 use Rattle.ndn_packets.specs.Writing.{nack_field, nack_text}
-use Rattle.ndn_packets.specs.HopLimit.{place_from, place_in, hop_place, with_octet}
 use Rattle.ndn_tlv.proofs.Lengths.{length-element}
 use Rattle.ndn_packets.proofs.NackWriting.{nack_parts, nack_value}
 use Rattle.pit_fib.specs.Cause.{Cause, Arrives, SentTo, Withdrawn, changed, settled, same_key, sent_at, records_after, Follows}
@@ -38,6 +33,7 @@ use Rattle.strategies.specs.declared.strategy.Choice.TheVariants.{NoRoute, Send 
 use Rattle.strategies.specs.Eligible.{eligible, is_eligible}
 use Rattle.pit_fib.specs.declared.faces.TheConstants.{MAX_FACES}
 use Rattle.forwarder.specs.Causes.{after_causes, ask_of, interest_causes, is_answered, is_nack, is_nacked, sent_causes}
+use Rattle.forwarder.proofs.Contents.{begins, interest_is_neither, nack_is_nack, none_nacked, sent_on_begins, spelled_begins}
 use Rattle.forwarder.specs.Event.{Send, to_each}
 use Rattle.forwarder.specs.Faces.{FaceEntry, is_open, numbers}
 use Rattle.forwarder.specs.Forwarding.{choice_from}
@@ -249,63 +245,21 @@ sends_to : (face : ℕ) (faces octets : List ℕ) → is_answered face (to_each 
 sends_to face [] octets = refl
 sends_to face (f ∷ faces) octets = ap (λ (b : Bool). (f == face) || b) (sends_to face faces octets)
 
-none_nacked : (faces octets : List ℕ) → is_nack octets ≡ false → is_nacked (to_each faces octets) ≡ false
-none_nacked [] octets other = refl
-none_nacked (f ∷ faces) octets other = ap (λ (b : Bool). b || is_nacked (to_each faces octets)) other ∙ none_nacked faces octets other
-
 sent_to_each : (key : PlainKey) (nonce : List ℕ) (now : ℕ) (faces octets : List ℕ)
     → map (λ (sent : Send). SentTo key sent.0 nonce now) (to_each faces octets) ≡ sent_causes key nonce now faces
 sent_to_each key nonce now [] octets = refl
 sent_to_each key nonce now (f ∷ faces) octets = ap (λ (causes : List Cause). SentTo key f nonce now ∷ causes) (sent_to_each key nonce now faces octets)
 
--- the octets of an Interest begin with its type
-element_no_nack : (value : List ℕ) → is_nack (element (5, value)) ≡ false
-unfolding spelling
-element_no_nack value = refl
-
-interest_no_nack : (whole : List ℕ) (i : PlainInterest) → IsInterest whole i → is_nack whole ≡ false
-interest_no_nack whole i h = ap is_nack h.fields.outer.1 ∙ element_no_nack h.fields.value
-
--- its HopLimit stands later
-from_later : (octet : ℕ) (octets : List ℕ) (from : Option (List ℕ)) → 0 < place_from (octet ∷ octets) from
-from_later octet octets None = omega arith
-from_later octet octets (Some from) = omega arith
-
-either_later : (b : Bool) (octet : ℕ) (octets : List ℕ) (from : Option (List ℕ)) → 0 < cond b (place_from (octet ∷ octets) from) (length (octet ∷ octets))
-either_later true octet octets from = from_later octet octets from
-either_later false octet octets from = omega arith
-
-place_later : (octet : ℕ) (octets : List ℕ) (read : Result PlainFrame PacketFault) → 0 < place_in (octet ∷ octets) read
-place_later octet octets (Ok (AnInterest whole i)) =
-    either_later ((length whole == length (octet ∷ octets)) && is_some i.hop_limit) octet octets
-    (on_result (λ outer. from_first 34 outer.0.1) (λ _. None) (element_at (octet ∷ octets)))
-place_later octet octets (Ok (AData whole d)) = omega arith
-place_later octet octets (Ok (ANack reason whole i)) = omega arith
-place_later octet octets (Ok Idle) = omega arith
-place_later octet octets (Err fault) = omega arith
-
-set_later : (octet : ℕ) (octets : List ℕ) (place new : ℕ) → 0 < place → is_nack (slice_set (octet ∷ octets) place new) ≡ is_nack (octet ∷ octets)
-set_later octet octets zero new later = absurd (omega (arith, later))
-set_later octet octets (suc place) new later = refl
-
-with_octet_no_nack : (whole : List ℕ) (limit : ℕ) → is_nack whole ≡ false → is_nack (with_octet whole limit) ≡ false
-with_octet_no_nack [] limit other = refl
-with_octet_no_nack (octet ∷ octets) limit other =
-    set_later octet octets (hop_place (octet ∷ octets)) limit (place_later octet octets (frame_at (octet ∷ octets))) ∙ other
-
-sent_on_no_nack : (whole : List ℕ) (limit : Option ℕ) → is_nack whole ≡ false → is_nack (sent_on whole limit) ≡ false
-sent_on_no_nack whole None other = other
-sent_on_no_nack whole (Some limit) other = with_octet_no_nack whole (limit - 1) other
-
-no_nack_spelled : (whole : List ℕ) (i : PlainInterest) → ∥ IsInterest whole i ∥₁ → is_nack whole ≡ false
-no_nack_spelled whole i spelled = by_octet (is_nack whole) refl
+-- an Interest in hand begins as one
+begins_spelled : (whole : List ℕ) (i : PlainInterest) → ∥ IsInterest whole i ∥₁ → begins 5 whole ≡ true
+begins_spelled whole i spelled = by_octet (begins 5 whole) refl
   where
-    never : is_nack whole ≡ true → ⊥
-    never is = ∥∥₁_elim spelled (λ a b. absurd a) (λ h. let other = interest_no_nack whole i h in cc (is, other))
+    never : begins 5 whole ≡ false → ⊥
+    never is = ∥∥₁_elim spelled (λ a b. absurd a) (λ h. let other = spelled_begins whole i h in cc (is, other))
 
-    by_octet : (b : Bool) → is_nack whole ≡ b → b ≡ false
-    by_octet true is = absurd (never is)
-    by_octet false is = refl
+    by_octet : (b : Bool) → begins 5 whole ≡ b → b ≡ true
+    by_octet true is = refl
+    by_octet false is = absurd (never is)
 
 -- ---- the causes of what is sent on
 
@@ -332,7 +286,7 @@ pub sent_on_causes : (now face : ℕ) (whole : List ℕ) (i : PlainInterest) (fa
     → FollowAll (interest_causes now face whole i (to_each faces (sent_on whole i.hop_limit))) old new
 sent_on_causes now face whole i faces old mid new spelled apart arrives sent key =
     let octets = sent_on whole i.hop_limit in
-    let other = sent_on_no_nack whole i.hop_limit (no_nack_spelled whole i spelled) in
+    let other = (interest_is_neither octets (sent_on_begins whole i.hop_limit (begins_spelled whole i spelled))).0 in
     let is = kept_causes now face whole i (to_each faces octets) (none_nacked faces octets other) (sends_to face faces octets ∙ apart) in
     let arrived = Arrives (key_of i) face (ask_of now whole i) in
     sent key ∙ ap (λ (r : Records). after_causes (sent_causes (key_of i) i.nonce now faces) key r) (arrives key)
@@ -374,16 +328,23 @@ nack_is_short reason interest =
       length-spelling_nine (length interest),
     )
 
-nack_begins : (reason : ℕ) (interest : List ℕ) → is_nack (nack_text reason interest) ≡ true
-unfolding spelling
-nack_begins reason interest = refl
+-- a Nack around an Interest in hand is one
+nack_spelled : (reason : ℕ) (whole : List ℕ) (i : PlainInterest) → ∥ IsInterest whole i ∥₁ → reason < 2 ^ 64 → is_nack (nack_text reason whole) ≡ true
+nack_spelled reason whole i spelled fits = by_nack (is_nack (nack_text reason whole)) refl
+  where
+    never : is_nack (nack_text reason whole) ≡ false → ⊥
+    never is = ∥∥₁_elim spelled (λ a b. absurd a) (λ h. let nack = nack_is_nack reason whole i h fits in cc (is, nack))
+
+    by_nack : (b : Bool) → is_nack (nack_text reason whole) ≡ b → b ≡ true
+    by_nack true is = refl
+    by_nack false is = absurd (never is)
 
 -- a Nack back ends that its face waits
-pub nack_causes_are : (now face reason : ℕ) (whole : List ℕ) (i : PlainInterest) (old new : Pending) → Follows (Withdrawn (key_of i) face) old new
+pub nack_causes_are : (now face reason : ℕ) (whole : List ℕ) (i : PlainInterest) (old new : Pending) → ∥ IsInterest whole i ∥₁ → reason < 2 ^ 64 → Follows (Withdrawn (key_of i) face) old new
     → FollowAll (interest_causes now face whole i ((face, nack_text reason whole) ∷ [])) old new
-nack_causes_are now face reason whole i old new withdrawn key =
+nack_causes_are now face reason whole i old new spelled fits withdrawn key =
     let sends = (face, nack_text reason whole) ∷ [] in
     let kept = Arrives (key_of i) face (ask_of now whole i) ∷ map (λ (sent : Send). SentTo (key_of i) sent.0 i.nonce now) sends in
     let is : interest_causes now face whole i sends ≡ Withdrawn (key_of i) face ∷ [] =
-    ap (λ (b : Bool). cond (b || false) (Withdrawn (key_of i) face ∷ []) (cond (is_answered face sends) [] kept)) (nack_begins reason whole) in
+    ap (λ (b : Bool). cond (b || false) (Withdrawn (key_of i) face ∷ []) (cond (is_answered face sends) [] kept)) (nack_spelled reason whole i spelled fits) in
     withdrawn key ∙ ap (λ (causes : List Cause). after_causes causes key (records_at old key)) (sym is)

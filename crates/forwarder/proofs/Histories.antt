@@ -21,10 +21,19 @@ use Rattle.forwarder.specs.Said.{IsSaid}
 use Rattle.forwarder.specs.Commands.{command_answer}
 use Rattle.forwarder.specs.Replies.{Replies, RepliesBySaid, RepliesToCommand, RepliesToData, RepliesToPacket, RepliesToRequest}
 use Rattle.forwarder.specs.Effects.{IsAfter}
-use Rattle.forwarder.specs.Runs.{Run, Start, Then, BringsData, BringsRequest, HaveOneHistory, IsDataPacket, IsPolicyOf, IsRequestPacket, MayCache, MayReply, is_request, seen_after}
+use Rattle.forwarder.specs.Runs.{Run, Start, Then, BringsData, BringsRequest, HaveOneHistory, IsDataPacket, IsPolicyOf, KeysAreApart, IsRequestPacket, MayCache, MayReply, is_request, seen_after}
 use Rattle.forwarder.proofs.LaterMoments.{policy_keys}
 use Rattle.forwarder.proofs.RunSteps.{seen_with}
 use Rattle.forwarder.proofs.OneEffect.{one_effect, one_said}
+
+-- the book of a run's first policy, of every book that it has had
+pub first_apart : (first : Policy) (run : Run) → KeysAreApart first run → AreApart first.keys
+first_apart first Start apart = apart
+first_apart first (Then before event answer) apart = first_apart first before apart
+
+pub always_apart : (first : Policy) (run : Run) → AreApart first.keys → KeysAreApart first run
+always_apart first Start apart = apart
+always_apart first (Then before event answer) apart = always_apart first before apart
 
 pub one_history : (run : Run) → HaveOneHistory run run
 one_history Start = tt
@@ -47,7 +56,7 @@ module _ (p : Policy) (r s : PlainKey → Records) (f g : Bool) (G H : PlainKey 
 
   one_request : (face : ℕ) (whole : List ℕ) (i : PlainInterest) (q : Request) → is_request q ≡ true → RepliesToRequest (seen_with p r f G) face whole i a q
       → RepliesToRequest (seen_with p s g H) face whole i b q → a ≡ b
-  one_request face whole i (Refused reason) is h k = cc is
+  one_request face whole i (Refused reason) is h k = h ∙ sym k
   one_request face whole i (ForList asked) is h k = h ∙ sym k
   one_request face whole i ForTables is h k = one_command face whole i h k
   one_request face whole i ForRepository is h k = one_command face whole i h k

@@ -1,21 +1,17 @@
 -- Which Interests become pending.
-use Rattle.std.proofs.Common.{◌≡◌, ℕ, zero, suc, ◌-◌, ◌<◌, arith, Bool, true, false, cond, List, [], ◌∷◌, length, map, refl, sym, ap, subst, ◌∙◌, Result, Ok, Err, inl, inr, eqb, ltb}
-use Rattle.std.specs.Prelude.{◌⊎◌, ◌↔◌, Option, Some, None, max, not, slice_set, ◌==◌, ◌&&◌, ◌||◌}
+use Rattle.std.proofs.Common.{◌≡◌, ℕ, arith, Bool, true, false, cond, List, [], ◌∷◌, map, refl, sym, ap, subst, ◌∙◌, Result, Ok, Err, inl, inr, eqb, ltb}
+use Rattle.std.specs.Prelude.{◌⊎◌, ◌↔◌, Option, Some, None, max, not, ◌==◌, ◌&&◌, ◌||◌}
 use Rattle.std.specs.List.{All, Contains}
 use Rattle.std.specs.FinMap as fin
 use Rattle.std.proofs.lemmas.Bool.{eqb-true, eq-eqb}
 use Rattle.std.proofs.lemmas.List.Elements.{All-cons, All-nil, All-head, All-tail, All-contains, Contains-get_or}
-use Rattle.ndn_tlv.specs.Element.{element}
-use Rattle.ndn_tlv.specs.Number.{spelling}
 use Rattle.ndn_packets.specs.Answers.{answers}
 use Rattle.ndn_packets.specs.FrameReading.{frame_at}
-use Rattle.ndn_packets.specs.HopLimit.{hop_place}
 use Rattle.ndn_packets.specs.Key.{PlainKey, key_of}
 use Rattle.ndn_packets.specs.Packet.{PlainInterest, PlainFrame, AnInterest, AData, ANack, Idle}
 use Rattle.ndn_packets.specs.Writing.{nack_text}
 use Rattle.ndn_packets.specs.declared.fault.PacketFault.{PacketFault}
-use Rattle.ndn_packets.specs.declared.types.TheConstants.{DUPLICATE, INTEREST, NO_ROUTE}
-use Rattle.ndn_packets.proofs.Packets.{frame_found}
+use Rattle.ndn_packets.specs.declared.types.TheConstants.{DUPLICATE, NO_ROUTE}
 use Rattle.info_rules.specs.declared.decision.Decision.{Decision}
 use Rattle.info_rules.specs.declared.decision.Decision.TheVariants as decided
 use Rattle.pit_fib.specs.Cause.{Cause, Expires, Arrives, SentTo, Satisfied, NackCame, Withdrawn, Removed, Closed, same_key}
@@ -35,13 +31,14 @@ use Rattle.forwarder.specs.Request.{ListAsked, Request, Refused, ForList, ForTab
 use Rattle.forwarder.specs.NextHops.{ask_from, choice_for, sent_on}
 use Rattle.forwarder.specs.Commands.{command_answer}
 use Rattle.forwarder.specs.Datasets.{dataset_text, is_present, list_answer, segment_answer, segment_name}
-use Rattle.forwarder.specs.Causes.{ask_of, before_earlier, causes_of, interest_causes, is_answered, is_nack, is_nacked, packet_causes}
+use Rattle.forwarder.specs.Causes.{ask_of, before_earlier, causes_of, interest_causes, is_answered, is_nacked, packet_causes}
 use Rattle.forwarder.specs.Replies.{Seen, Replies, RepliesForData, RepliesToPacket, RepliesToRequest, by_cache, forwarded, unserved}
 use Rattle.forwarder.specs.Runs.{Run, Then, now_of, past_causes, records_of}
 use Rattle.forwarder.specs.Sends.{BringsOctets, IsAtHand}
 use Rattle.forwarder.specs.Kept.{IsAnswered, IsKept, IsPassed, IsSentOn}
 use Rattle.forwarder.proofs.Chosen.{chosen_hop}
-use Rattle.forwarder.proofs.Explained.{hop_place_is_later}
+use Rattle.forwarder.proofs.Contents.{interest_is_neither, none_nacked, sent_on_begins}
+use Rattle.forwarder.proofs.Explained.{read_begins}
 use Rattle.forwarder.proofs.PastRecords.{asks_of_past}
 use Rattle.forwarder.proofs.Requests.{for_list}
 
@@ -330,24 +327,6 @@ module _ (seen : Seen) (event : PlainEvent) (answer : Answer) (face : ℕ) (whol
       by_open true h = on_request (request_of seen.policy face i) refl (subst (λ (r : Result PlainFrame PacketFault). RepliesToPacket seen face r answer) is.read h)
       by_open false h = never (Dropped NoFace) (ap (λ (a : Answer). a.verdict) h) (λ f. cc f)
 
--- an Interest is no Nack, as it came and as it is sent on
-interest_is_no_nack : (value : List ℕ) → (0 < length (element (INTEREST, value))) × (is_nack (element (INTEREST, value)) ≡ false)
-unfolding spelling
-interest_is_no_nack value = (omega arith, refl)
-
-set_is_no_nack : (text : List ℕ) (at octet : ℕ) → 0 < at → is_nack text ≡ false → is_nack (slice_set text at octet) ≡ false
-set_is_no_nack [] at octet low e = refl
-set_is_no_nack (x ∷ text) zero octet low e = absurd (omega arith)
-set_is_no_nack (x ∷ text) (suc at) octet low e = e
-
-sent_on_is_no_nack : (whole : List ℕ) (limit : Option ℕ) → 0 < length whole → is_nack whole ≡ false → is_nack (sent_on whole limit) ≡ false
-sent_on_is_no_nack whole None some e = e
-sent_on_is_no_nack whole (Some n) some e = set_is_no_nack whole (hop_place whole) (n - 1) (hop_place_is_later whole some) e
-
-no_nack_to : (faces octets : List ℕ) → is_nack octets ≡ false → is_nacked (to_each faces octets) ≡ false
-no_nack_to [] octets e = refl
-no_nack_to (f ∷ faces) octets e = (let rest = no_nack_to faces octets e in cc (e, rest))
-
 none_to : (face : ℕ) (faces octets : List ℕ) → is_answered face (to_each faces octets) ≡ has_face face faces
 none_to face [] octets = refl
 none_to face (f ∷ faces) octets = ap (λ (b : Bool). (f == face) || b) (none_to face faces octets)
@@ -361,15 +340,15 @@ kept_or_answered seen now event answer face whole i fits replies is = by_way (go
     by_way (inr back) = inr back
     by_way (inl on) =
         let octets = subst BringsOctets is.brings fits in
-        let outer = (frame_found is.octets (AnInterest whole i) octets is.read).0.fields in
-        let begins : (0 < length whole) × (is_nack whole ≡ false) = subst (λ (t : List ℕ). (0 < length t) × (is_nack t ≡ false)) (sym outer.outer.1) (interest_is_no_nack outer.value) in
+        let on_text = sent_on whole i.hop_limit in
+        let other = (interest_is_neither on_text (sent_on_begins whole i.hop_limit (read_begins is.octets whole i octets is.read))).0 in
         inl (
           record {
             whole = whole;
             interest = i;
             is_passed = is;
             unanswered = ap (is_answered face) on.2 ∙ none_to face on.0 (sent_on whole i.hop_limit) ∙ on.1;
-            not_nacked = ap is_nacked on.2 ∙ no_nack_to on.0 (sent_on whole i.hop_limit) (sent_on_is_no_nack whole i.hop_limit begins.0 begins.1);
+            not_nacked = ap is_nacked on.2 ∙ none_nacked on.0 on_text other;
             is_key = refl;
             is_ask = refl;
           },

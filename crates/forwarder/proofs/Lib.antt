@@ -4,6 +4,7 @@ pub mod Soundness
 pub mod Handled
 pub mod Members
 pub mod Shown
+mod Contents
 mod OneEffect
 pub mod LaterMoments
 pub mod Requests
@@ -22,6 +23,7 @@ pub mod PastRecords
 pub mod RunHops
 pub mod KeptInterests
 pub mod Named
+mod AskedFor
 pub mod Asking
 pub mod Saying
 pub mod ReplyLengths

@@ -18,6 +18,7 @@ use Rattle.forwarder.specs.Replies.{RepliesToRequest}
 use Rattle.forwarder.specs.Handling.{IsAnswered, IsPacketEffect, seen_by}
 use Rattle.forwarder.specs.Node.{CacheAfterRequest, FollowAll, NodeState}
 use Rattle.forwarder.specs.State.{IsLater}
+use Rattle.forwarder.proofs.Contents.{begins, data_is_no_nack}
 
 -- what goes back to the asker and is no Nack leaves the records as they are
 pub back_causes : (now face : ℕ) (whole : List ℕ) (i : PlainInterest) (octets : List ℕ) → is_nack octets ≡ false
@@ -28,14 +29,14 @@ back_causes now face whole i octets other =
     ap (λ (b : Bool). cond (b || false) gone (cond ((face == face) || false) [] kept)) other
     ∙ ap (λ (b : Bool). cond (b || false) [] kept) (eq-eqb face face refl)
 
-segment_begins : (name : List Field) (content : List ℕ) (last : ℕ) → is_nack (segment_data name content last) ≡ false
+segment_begins : (name : List Field) (content : List ℕ) (last : ℕ) → begins 6 (segment_data name content last) ≡ true
 unfolding spelling
 segment_begins name content last = refl
 
 segment_causes : (now face : ℕ) (whole : List ℕ) (i : PlainInterest) (name : List Field) (part : Option (List ℕ × ℕ))
     → packet_causes now face (Ok (AnInterest whole i)) (segment_answer face name part) ≡ []
 segment_causes now face whole i name None = refl
-segment_causes now face whole i name (Some part) = back_causes now face whole i (segment_data name part.0 part.1) (segment_begins name part.0 part.1)
+segment_causes now face whole i name (Some part) = back_causes now face whole i (segment_data name part.0 part.1) (data_is_no_nack (segment_data name part.0 part.1) (segment_begins name part.0 part.1))
 
 list_causes : (p : Policy) (now face : ℕ) (whole : List ℕ) (i : PlainInterest) (asked : ListAsked)
     → packet_causes now face (Ok (AnInterest whole i)) (list_answer p face asked) ≡ []

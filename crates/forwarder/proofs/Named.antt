@@ -19,10 +19,10 @@ use Rattle.forwarder.specs.Verdict.{Answer, Verdict, Denied, NoRule, WhereTrue, 
 use Rattle.forwarder.specs.Policy.{Policy}
 use Rattle.forwarder.specs.Request.{Request, Refused, ForList, ForTables, ForRepository, ForData, is_command, is_out_of_scope, request_of}
 use Rattle.forwarder.specs.Said.{IsSaid}
-use Rattle.forwarder.specs.Commands.{command_answer}
+use Rattle.forwarder.specs.Commands.{IsDenial, command_answer}
 use Rattle.forwarder.specs.Datasets.{list_answer}
 use Rattle.forwarder.specs.Replies.{Seen, Replies, RepliesBySaid, RepliesToData, RepliesToNack, RepliesToPacket, RepliesToRequest, nack_answer, opening_answer}
-use Rattle.forwarder.specs.Effects.{decided_packet, packet_to_decide}
+use Rattle.forwarder.specs.Effects.{decided_packet, face_in, packet_to_decide}
 use Rattle.forwarder.specs.Runs.{is_denied}
 use Rattle.forwarder.proofs.RunSteps.{seen_with}
 use Rattle.forwarder.proofs.Denials.{Mild, mild_closing, mild_data, mild_is, mild_list, mild_nack, mild_opening}
@@ -38,20 +38,25 @@ module _ (p : Policy) (records : PlainKey → Records) (full : Bool) (G : PlainK
   seen = seen_with p records full G
 
   -- no denial, or it tells what was said of this packet
-  abbrev ToldOf : Option PlainFrame → Type 0
-  ToldOf asked = Mild answer ⊎ ((packet : PlainFrame) × (said : Decision) × (asked ≡ Some packet) × IsSaid p packet said × Tells said answer.verdict)
+  abbrev ToldOf : ℕ → Option PlainFrame → Type 0
+  ToldOf face asked = Mild answer ⊎ ((packet : PlainFrame) × (said : Decision) × (asked ≡ Some packet) × IsSaid p packet said × Tells said answer.verdict × (Mild answer ⊎ IsDenial p face packet said answer))
 
   command_tells : (face : ℕ) (whole : List ℕ) (i : PlainInterest) (said : Decision) → answer ≡ command_answer p face i said → Tells said answer.verdict
   command_tells face whole i (decided.Allowed n) e = ap (λ (a : Answer). is_denied a.verdict) e
   command_tells face whole i (decided.Denied n reason) e = (kinds.Interest, ap (λ (a : Answer). a.verdict) e)
   command_tells face whole i decided.NoRule e = (kinds.Interest, ap (λ (a : Answer). a.verdict) e)
 
+  command_denies : (face : ℕ) (whole : List ℕ) (i : PlainInterest) (said : Decision) → answer ≡ command_answer p face i said → Mild answer ⊎ IsDenial p face (AnInterest whole i) said answer
+  command_denies face whole i (decided.Allowed n) e = inl (ap (λ (a : Answer). is_denied a.verdict) e)
+  command_denies face whole i (decided.Denied n reason) e = inr e
+  command_denies face whole i decided.NoRule e = inr e
+
   request_tells : (face : ℕ) (whole : List ℕ) (i : PlainInterest) (r : Request) → RepliesToRequest seen face whole i answer r
-      → ToldOf (if is_command r then Some (AnInterest whole i) else None)
+      → ToldOf face (if is_command r then Some (AnInterest whole i) else None)
   request_tells face whole i (Refused reason) h = inl (mild_is answer (dropped reason) h refl)
   request_tells face whole i (ForList asked) h = inl (mild_is answer (list_answer p face asked) h (mild_list p face asked))
-  request_tells face whole i ForTables h = inr (AnInterest whole i, h.0, refl, h.1, command_tells face whole i h.0 h.2)
-  request_tells face whole i ForRepository h = inr (AnInterest whole i, h.0, refl, h.1, command_tells face whole i h.0 h.2)
+  request_tells face whole i ForTables h = inr (AnInterest whole i, h.0, refl, h.1, command_tells face whole i h.0 h.2, command_denies face whole i h.0 h.2)
+  request_tells face whole i ForRepository h = inr (AnInterest whole i, h.0, refl, h.1, command_tells face whole i h.0 h.2, command_denies face whole i h.0 h.2)
   request_tells face whole i ForData h = inl (mild_data seen face whole i answer h)
 
   said_tells : (face : ℕ) (whole : List ℕ) (d : PlainData) (said : Decision) → RepliesBySaid seen face whole d answer said → Tells said answer.verdict
@@ -59,33 +64,38 @@ module _ (p : Policy) (records : PlainKey → Records) (full : Bool) (G : PlainK
   said_tells face whole d (decided.Denied n reason) h = (kinds.Data, ap (λ (a : Answer). a.verdict) h)
   said_tells face whole d decided.NoRule h = (kinds.Data, ap (λ (a : Answer). a.verdict) h)
 
-  data_tells : (face : ℕ) (whole : List ℕ) (d : PlainData) → RepliesToData seen face whole d answer → ToldOf (if not (is_out_of_scope p face d.name) then Some (AData whole d) else None)
+  said_denies : (face : ℕ) (whole : List ℕ) (d : PlainData) (said : Decision) → RepliesBySaid seen face whole d answer said → Mild answer ⊎ IsDenial p face (AData whole d) said answer
+  said_denies face whole d (decided.Allowed n) h = inl (ap is_denied h.0)
+  said_denies face whole d (decided.Denied n reason) h = inr h
+  said_denies face whole d decided.NoRule h = inr h
+
+  data_tells : (face : ℕ) (whole : List ℕ) (d : PlainData) → RepliesToData seen face whole d answer → ToldOf face (if not (is_out_of_scope p face d.name) then Some (AData whole d) else None)
   data_tells face whole d h = by_scope (is_out_of_scope p face d.name) h
     where
       by_scope : (b : Bool) → WhereTrue b (answer ≡ dropped OutOfScope) ((said : Decision) × IsSaid p (AData whole d) said × RepliesBySaid seen face whole d answer said)
-          → ToldOf (if not b then Some (AData whole d) else None)
+          → ToldOf face (if not b then Some (AData whole d) else None)
       by_scope true e = inl (mild_is answer (dropped OutOfScope) e refl)
-      by_scope false h = inr (AData whole d, h.0, refl, h.1, said_tells face whole d h.0 h.2)
+      by_scope false h = inr (AData whole d, h.0, refl, h.1, said_tells face whole d h.0 h.2, said_denies face whole d h.0 h.2)
 
-  nack_tells : (face reason : ℕ) (i : PlainInterest) → RepliesToNack seen face reason i answer → ToldOf None
+  nack_tells : (face reason : ℕ) (i : PlainInterest) → RepliesToNack seen face reason i answer → ToldOf face None
   nack_tells face reason i h = by_scope (is_out_of_scope p face i.name) h
     where
-      by_scope : (b : Bool) → WhereTrue b (answer ≡ dropped OutOfScope) (answer ≡ nack_answer (records (key_of i)).asks (nacked_answer (records (key_of i)) face i.nonce reason)) → ToldOf None
+      by_scope : (b : Bool) → WhereTrue b (answer ≡ dropped OutOfScope) (answer ≡ nack_answer (records (key_of i)).asks (nacked_answer (records (key_of i)) face i.nonce reason)) → ToldOf face None
       by_scope true e = inl (mild_is answer (dropped OutOfScope) e refl)
       by_scope false e =
           inl (mild_is answer _ e (mild_nack (records (key_of i)).asks (nacked_answer (records (key_of i)) face i.nonce reason)))
 
-  packet_tells : (face : ℕ) (read : Result PlainFrame PacketFault) → RepliesToPacket seen face read answer → ToldOf (packet_to_decide p face read)
+  packet_tells : (face : ℕ) (read : Result PlainFrame PacketFault) → RepliesToPacket seen face read answer → ToldOf face (packet_to_decide p face read)
   packet_tells face (Err fault) h = inl (mild_is answer (dropped (Malformed fault)) h refl)
   packet_tells face (Ok (AnInterest whole i)) h = request_tells face whole i (request_of p face i) h
   packet_tells face (Ok (AData whole d)) h = data_tells face whole d h
   packet_tells face (Ok (ANack reason whole i)) h = nack_tells face reason i h
   packet_tells face (Ok Idle) h = inl (mild_is answer (dropped IsIdle) h refl)
 
-  event_tells : (event : PlainEvent) → Replies seen event answer → ToldOf (decided_packet p event)
+  event_tells : (event : PlainEvent) → Replies seen event answer → ToldOf (face_in event) (decided_packet p event)
   event_tells (Packet face now octets) h = by_open (is_open face p.faces) h
     where
-      by_open : (b : Bool) → WhereTrue b (RepliesToPacket seen face (frame_at octets) answer) (answer ≡ dropped NoFace) → ToldOf (if b then packet_to_decide p face (frame_at octets) else None)
+      by_open : (b : Bool) → WhereTrue b (RepliesToPacket seen face (frame_at octets) answer) (answer ≡ dropped NoFace) → ToldOf face (if b then packet_to_decide p face (frame_at octets) else None)
       by_open true h = packet_tells face (frame_at octets) h
       by_open false e = inl (mild_is answer (dropped NoFace) e refl)
   event_tells (FaceUp face scope now) h = inl (mild_is answer (opening_answer p face) h (mild_opening p face))
@@ -93,24 +103,44 @@ module _ (p : Policy) (records : PlainKey → Records) (full : Bool) (G : PlainK
   event_tells (Tick now) h = inl (mild_is answer (passed []) h refl)
 
   pub denial_named : (event : PlainEvent) (kind : Kind) (rule : ℕ) (reason : Reason) → Replies seen event answer → answer.verdict ≡ Denied kind rule reason
-      → (packet : PlainFrame) × (n : RuleNo) × (decided_packet p event ≡ Some packet) × IsSaid p packet (decided.Denied n reason) × (rule ≡ n.0)
+      → (packet : PlainFrame) × (n : RuleNo) × (decided_packet p event ≡ Some packet) × IsSaid p packet (decided.Denied n reason) × (rule ≡ n.0) × IsDenial p (face_in event) packet (decided.Denied n reason) answer
   denial_named event kind rule reason h v = by_told (event_tells event h)
     where
-      by_told : ToldOf (decided_packet p event) → (packet : PlainFrame) × (n : RuleNo) × (decided_packet p event ≡ Some packet) × IsSaid p packet (decided.Denied n reason) × (rule ≡ n.0)
-      by_told (inl m) = (let e : is_denied answer.verdict ≡ true = ap is_denied v in cc (e, m))
-      by_told (inr (packet, decided.Allowed n, d, s, t)) = (let e : is_denied answer.verdict ≡ true = ap is_denied v in cc (e, t))
-      by_told (inr (packet, decided.Denied n why, d, s, (k, t))) =
+      Named : Type 0
+      Named = (packet : PlainFrame) × (n : RuleNo) × (decided_packet p event ≡ Some packet) × IsSaid p packet (decided.Denied n reason) × (rule ≡ n.0) × IsDenial p (face_in event) packet (decided.Denied n reason) answer
+
+      never : Mild answer → Named
+      never m = (let e : is_denied answer.verdict ≡ true = ap is_denied v in cc (e, m))
+
+      by_told : ToldOf (face_in event) (decided_packet p event) → Named
+      by_told (inl m) = never m
+      by_told (inr (packet, decided.Allowed n, d, s, t, k)) = never t
+      by_told (inr (packet, decided.Denied n why, d, s, t, inl m)) = never m
+      by_told (inr (packet, decided.Denied n why, d, s, (kind', t), inr k)) =
           let same : why ≡ reason = cc (t, v) in
-          let number : rule ≡ n.0 = cc (t, v) in
-          (packet, n, d, subst (λ (r : Reason). IsSaid p packet (decided.Denied n r)) same s, number)
-      by_told (inr (packet, decided.NoRule, d, s, (k, t))) = cc (t, v)
+          let number : rule ≡ n.0 = cc (t, v) in (
+            packet,
+            n,
+            d,
+            subst (λ (r : Reason). IsSaid p packet (decided.Denied n r)) same s,
+            number,
+            subst (λ (r : Reason). IsDenial p (face_in event) packet (decided.Denied n r) answer) same k,
+          )
+      by_told (inr (packet, decided.NoRule, d, s, (kind', t), k)) = cc (t, v)
 
   pub no_rule_named : (event : PlainEvent) (kind : Kind) → Replies seen event answer → answer.verdict ≡ NoRule kind
-      → (packet : PlainFrame) × (decided_packet p event ≡ Some packet) × IsSaid p packet decided.NoRule
+      → (packet : PlainFrame) × (decided_packet p event ≡ Some packet) × IsSaid p packet decided.NoRule × IsDenial p (face_in event) packet decided.NoRule answer
   no_rule_named event kind h v = by_told (event_tells event h)
     where
-      by_told : ToldOf (decided_packet p event) → (packet : PlainFrame) × (decided_packet p event ≡ Some packet) × IsSaid p packet decided.NoRule
-      by_told (inl m) = (let e : is_denied answer.verdict ≡ true = ap is_denied v in cc (e, m))
-      by_told (inr (packet, decided.Allowed n, d, s, t)) = (let e : is_denied answer.verdict ≡ true = ap is_denied v in cc (e, t))
-      by_told (inr (packet, decided.Denied n why, d, s, (k, t))) = cc (t, v)
-      by_told (inr (packet, decided.NoRule, d, s, (k, t))) = (packet, d, s)
+      Named : Type 0
+      Named = (packet : PlainFrame) × (decided_packet p event ≡ Some packet) × IsSaid p packet decided.NoRule × IsDenial p (face_in event) packet decided.NoRule answer
+
+      never : Mild answer → Named
+      never m = (let e : is_denied answer.verdict ≡ true = ap is_denied v in cc (e, m))
+
+      by_told : ToldOf (face_in event) (decided_packet p event) → Named
+      by_told (inl m) = never m
+      by_told (inr (packet, decided.Allowed n, d, s, t, k)) = never t
+      by_told (inr (packet, decided.Denied n why, d, s, (kind', t), k)) = cc (t, v)
+      by_told (inr (packet, decided.NoRule, d, s, t, inl m)) = never m
+      by_told (inr (packet, decided.NoRule, d, s, t, inr k)) = (packet, d, s, k)

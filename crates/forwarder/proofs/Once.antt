@@ -4,17 +4,17 @@ use Rattle.std.specs.Prelude.{◌⊎◌, Option, Some, None, IsSome, IfSome, if�
 use Rattle.std.specs.FinMap as map
 use Rattle.std.specs.FinMap.{get-insert}
 use Rattle.std.specs.Ordering.{eq_by_cmp}
-use Rattle.std.specs.List.{All}
-use Rattle.std.proofs.lemmas.List.Elements.{All-cons, All-nil, All-weaker}
+use Rattle.std.specs.List.{All, AllByRecursion}
+use Rattle.std.proofs.lemmas.List.Elements.{All-cons, All-head, All-nil, All-tail, All-weaker}
 use Rattle.hmac_keys.specs.KeyFile.{AreApart}
 use Rattle.ndn_packets.specs.Packet.{PlainSignature, PlainInterest, PlainFrame, AnInterest, AData, ANack, Idle}
 use Rattle.info_rules.specs.declared.rules.RuleNo.{RuleNo}
 use Rattle.info_rules.specs.declared.decision.Decision.{Decision}
 use Rattle.info_rules.specs.declared.decision.Decision.TheVariants as decided
 use Rattle.info_rules.proofs.Signers.{signer_named}
-use Rattle.replay_guard.specs.Freshness.{Signer, Recorded, IsNewer, NumberRises}
+use Rattle.replay_guard.specs.Freshness.{Signer, Recorded, AreNear, IsNewer, NumberRises}
 use Rattle.replay_guard.specs.Guard.{Latest, Table, IsAfter as IsLater, IsFresh, raised, signer_cmp, table_of, with_recorded}
-use Rattle.replay_guard.proofs.Past.{one_more}
+use Rattle.replay_guard.proofs.Past.{fresh_by_table, one_more}
 use Rattle.replay_guard.proofs.Signers.{signer_cmp-total}
 use Rattle.mgmt_core.specs.Reading.{PlainCommand, command_at}
 use Rattle.forwarder.specs.Event.{PlainEvent, Packet, FaceUp, FaceDown, Tick}
@@ -23,7 +23,7 @@ use Rattle.forwarder.specs.Verdict.{Answer}
 use Rattle.forwarder.specs.Event.{moment}
 use Rattle.forwarder.specs.Policy.{Policy, at_moment}
 use Rattle.forwarder.specs.Request.{Request, Refused, ForList, ForTables, ForRepository, ForData, request_of}
-use Rattle.forwarder.specs.Said.{IsSaid, recorded_of, recorded_with, signer_in}
+use Rattle.forwarder.specs.Said.{IsFreshCommand, IsSaid, recorded_of, recorded_with, signer_in}
 use Rattle.forwarder.specs.Commands.{after_request, after_tables, with_record}
 use Rattle.forwarder.specs.Effects.{IsAfter, IsEffect, after_packet, after_said, can_open, decided_packet, face_in, undecided_effect}
 use Rattle.forwarder.specs.Runs.{Run, Start, Then, IsPolicyOf}
@@ -232,3 +232,25 @@ guard_is_of_allowed first p (Then before event answer) none (was, w, after) =
       All-cons (IsRecordIn first (Then before event answer)) s records (whole, i, inr (was, w, allows), is)
           (All-weaker (IsRecordIn first before) (IsRecordIn first (Then before event answer)) (longer_record first before event answer) records all),
     )
+
+-- newer than each allowed command of the signer
+abbrev IsNewest : Policy → Run → Recorded → Type 0
+IsNewest first run r = (whole : List ℕ) (i : PlainInterest) (s : Recorded) → AllowedIn first run (AnInterest whole i) → recorded_of i ≡ Some s → s.signer ≡ r.signer
+    → (s.time < r.time) × NumberRises s.number r.number
+
+newer_than_all : (first : Policy) (run : Run) (r : Recorded) → IsNewest first run r → (records : List Recorded) → All (IsRecordIn first run) records → AllByRecursion (IsNewer r.signer r.time r.number) records
+newer_than_all first run r newest [] all = tt
+newer_than_all first run r newest (s ∷ records) all =
+    let in' = All-head (IsRecordIn first run) s records all in (
+      λ same. newest in'.0 in'.1 s in'.2 in'.3 same,
+      newer_than_all first run r newest records (All-tail (IsRecordIn first run) s records all),
+    )
+
+-- what is near to now and newer than each allowed command of its signer is fresh
+pub newest_is_fresh : (first was : Policy) (run : Run) (now : ℕ) (i : PlainInterest) (r : Recorded) → first.guard ≡ map.empty → IsPolicyOf first run was → recorded_of i ≡ Some r
+    → AreNear r.time (at_moment was now).now → IsNewest first run r → IsFreshCommand (at_moment was now) i
+newest_is_fresh first was run now i r none h is near newest =
+    let held = guard_is_of_allowed first was run none h in
+    let fresh = (fresh_by_table held.0 r.signer r.time r.number (at_moment was now).now).1 (near, newer_than_all first run r newest held.0 held.2) in
+    subst (λ (o : Option Recorded). IfSome o (λ x. IsFresh was.guard x.signer x.time x.number (at_moment was now).now)) (sym is)
+    (subst (λ (t : Table). IsFresh t r.signer r.time r.number (at_moment was now).now) (sym held.1) fresh)

@@ -1,5 +1,5 @@
 -- Which commands and Data of a run were allowed.
-use Rattle.std.specs.Prelude.{◌≡◌, ◌⊎◌, Some}
+use Rattle.std.specs.Prelude.{◌≡◌, ◌⊎◌, ℕ, Some, max}
 use Rattle.ndn_packets.specs.Packet.{PlainFrame}
 use Rattle.info_rules.specs.declared.rules.RuleNo.{RuleNo}
 use Rattle.info_rules.specs.declared.decision.Decision.TheVariants.{Allowed}
@@ -8,7 +8,7 @@ use Rattle.forwarder.specs.Event.{moment}
 use Rattle.forwarder.specs.Policy.{Policy, at_moment}
 use Rattle.forwarder.specs.Said.{IsSaid}
 use Rattle.forwarder.specs.Effects.{decided_packet}
-use Rattle.forwarder.specs.Runs.{Run, Start, Then, IsPolicyOf}
+use Rattle.forwarder.specs.Runs.{Run, Start, Then, IsPolicyOf, now_of}
 
 -- at this policy the event brings this packet, and its first matching rule allows it
 pub record Allows (was : Policy) (event : PlainEvent) (packet : PlainFrame) : Type 0 where
@@ -22,3 +22,11 @@ AllowedIn first Start packet = ⊥
 AllowedIn first (Then before event answer) packet =
     AllowedIn first before packet
     ⊎ ((was : Policy) × IsPolicyOf first before was × Allows was event packet)
+
+-- the same, and this was the greatest moment so far
+abbrev pub AllowedAt : Policy → Run → PlainFrame → ℕ → Type 0
+AllowedAt first Start packet now = ⊥
+AllowedAt first (Then before event answer) packet now =
+    AllowedAt first before packet now
+    ⊎ ((was : Policy) × IsPolicyOf first before was × Allows was event packet
+    × (now ≡ max (now_of before) (moment event)))

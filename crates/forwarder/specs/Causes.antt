@@ -1,6 +1,6 @@
 -- What an event and its answer do to the records of pending Interests (NFD Developer's Guide,
 -- "Pending Interest Table").
-use Rattle.std.specs.Prelude.{ℕ, ◌+◌, ◌-◌, ◌^◌, List, [], ◌∷◌, map, min, Bool, false, Result, Ok, Err, ◌==◌, if◌then◌else◌}
+use Rattle.std.specs.Prelude.{ℕ, ◌+◌, ◌-◌, ◌^◌, List, [], ◌∷◌, map, min, Bool, true, false, Result, Ok, Err, ◌==◌, if◌then◌else◌}
 use Rattle.std.specs.List.{list_any}
 use Rattle.sha2.specs.Sha256.{sha256}
 use Rattle.ndn_packets.specs.FrameReading.{frame_at}
@@ -8,7 +8,6 @@ use Rattle.ndn_packets.specs.Key.{PlainKey, key_of}
 use Rattle.ndn_packets.specs.Reading.{is_nil}
 use Rattle.ndn_packets.specs.Packet.{PlainInterest, PlainFrame, AnInterest, AData, ANack, Idle}
 use Rattle.ndn_packets.specs.declared.fault.PacketFault.{PacketFault}
-use Rattle.ndn_packets.specs.declared.types.TheConstants.{LINK_PACKET}
 use Rattle.pit_fib.specs.Cause.{Cause, Arrives, SentTo, Satisfied, NackCame, Withdrawn, Removed, Closed, records_after}
 use Rattle.pit_fib.specs.Records.{Ask, Records}
 use Rattle.forwarder.specs.Event.{PlainEvent, Packet, FaceUp, FaceDown, Tick, Send}
@@ -27,10 +26,16 @@ ask_of now whole i =
 abbrev pub is_answered : ℕ → List Send → Bool
 is_answered face sends = list_any (λ sent. sent.0 == face) sends
 
--- whether that is a Nack: a link packet, by its first octet
+-- whether octets are a Nack, as they are read
+abbrev pub is_nack_frame : Result PlainFrame PacketFault → Bool
+is_nack_frame (Err fault) = false
+is_nack_frame (Ok (AnInterest whole i)) = false
+is_nack_frame (Ok (AData whole d)) = false
+is_nack_frame (Ok (ANack reason whole i)) = true
+is_nack_frame (Ok Idle) = false
+
 abbrev pub is_nack : List ℕ → Bool
-is_nack [] = false
-is_nack (octet ∷ octets) = octet == LINK_PACKET
+is_nack octets = is_nack_frame (frame_at octets)
 
 abbrev pub is_nacked : List Send → Bool
 is_nacked sends = list_any (λ sent. is_nack sent.1) sends

@@ -1,13 +1,13 @@
 -- What commands are answered with, and what they change (NFD Management, "Control Command"). A
 -- command that is allowed is recorded and replied to in the same step, whatever its status, and has
 -- its effect where the status says so.
-use Rattle.std.specs.Prelude.{ℕ, List, [], ◌∷◌, ◌++◌, length, Bool, Option, None, Some, unwrap_or, slice_get, codes, nat_lt, ◌||◌, Result, Ok, Err, if◌then◌else◌}
+use Rattle.std.specs.Prelude.{◌≡◌, ℕ, List, [], ◌∷◌, ◌++◌, length, Bool, Option, None, Some, unwrap_or, slice_get, codes, nat_lt, ◌||◌, Result, Ok, Err, if◌then◌else◌}
 use Rattle.std.specs.Option.{option_map}
 use Rattle.std.specs.FinMap as map
 use Rattle.ndn_tlv.specs.Element.{element}
 use Rattle.ndn_tlv.specs.Number.{shortest_nni}
 use Rattle.ndn_names.specs.Name.{octets_of}
-use Rattle.ndn_packets.specs.Packet.{PlainInterest}
+use Rattle.ndn_packets.specs.Packet.{PlainInterest, PlainFrame, AnInterest, AData, ANack, Idle}
 use Rattle.ndn_packets.specs.declared.types.TheConstants.{CAN_BE_PREFIX, INTEREST, INTEREST_LIFETIME, NAME, NONCE}
 use Rattle.ndn_tlv.specs.Writing.{octets, flag}
 use Rattle.ndn_packets.specs.Writing.{is_bad_name, reply_text}
@@ -173,6 +173,22 @@ command_answer p face i decided.NoRule = record {
   verdict = NoRule kinds.Interest;
   sends = replied face i (reply_content p face i decided.NoRule) ∷ [];
 }
+
+-- How a packet that is denied, or that no rule applies to, is answered: a command by a reply of
+-- status 403, which names the reason and the rule, and a Data by nothing. No other packet is denied.
+abbrev pub IsDenial : Policy → ℕ → PlainFrame → Decision → Answer → Type 0
+IsDenial p face (AnInterest whole i) (decided.Allowed rule) answer = ⊥
+IsDenial p face (AnInterest whole i) (decided.Denied rule reason) answer =
+    answer ≡ command_answer p face i (decided.Denied rule reason)
+IsDenial p face (AnInterest whole i) decided.NoRule answer =
+    answer ≡ command_answer p face i decided.NoRule
+IsDenial p face (AData whole d) (decided.Allowed rule) answer = ⊥
+IsDenial p face (AData whole d) (decided.Denied rule reason) answer =
+    answer ≡ record { verdict = Denied kinds.Data rule.0 reason; sends = [] }
+IsDenial p face (AData whole d) decided.NoRule answer =
+    answer ≡ record { verdict = NoRule kinds.Data; sends = [] }
+IsDenial p face (ANack reason whole i) said answer = ⊥
+IsDenial p face Idle said answer = ⊥
 
 -- the signer, time and number of an allowed command are recorded
 abbrev pub with_record : Policy → Option Recorded → Policy

@@ -16,6 +16,7 @@ pub mod Node
 pub mod Runs
 pub mod Sends
 pub mod Allowed
+pub mod AskedFor
 pub mod Hops
 pub mod Kept
 pub mod State

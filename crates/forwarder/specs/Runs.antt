@@ -2,6 +2,7 @@
 -- tables only how many keys are alive.
 use Rattle.std.specs.Prelude.{◌≡◌, ◌⊎◌, ℕ, Bool, true, false, List, [], ◌∷◌, Option, None, Some, All, Result, Ok, Err, max, nat_le, ⊤}
 use Rattle.std.specs.FinMap as map
+use Rattle.hmac_keys.specs.KeyFile.{AreApart}
 use Rattle.ndn_names.specs.Name.{IsPrefix}
 use Rattle.ndn_packets.specs.FrameReading.{frame_at}
 use Rattle.ndn_packets.specs.Key.{PlainKey}
@@ -40,6 +41,11 @@ abbrev pub IsPolicyOf : Policy → Run → Policy → Type 0
 IsPolicyOf first Start p = p ≡ first
 IsPolicyOf first (Then before event answer) p =
     (was : Policy) × IsPolicyOf first before was × IsAfter was event p
+
+-- In every book that a run has had no two keys have one name. No event brings another book.
+abbrev pub KeysAreApart : Policy → Run → Type 0
+KeysAreApart first Start = AreApart first.keys
+KeysAreApart first (Then before event answer) = KeysAreApart first before
 
 -- ---- pending Interests (NFD Developer's Guide, "Pending Interest Table")
 
@@ -161,9 +167,10 @@ HaveOneHistory (Then before event answer) Start = ⊥
 HaveOneHistory (Then before event answer) (Then other another reply) =
     (event ≡ another) × HaveOneHistory before other
 
--- an Interest that is a command, or asks for a segment of a list
+-- an Interest that is dropped for its HopLimit or scope, is a command, or asks for a segment of a
+-- list
 abbrev pub is_request : Request → Bool
-is_request (Refused reason) = false
+is_request (Refused reason) = true
 is_request (ForList asked) = true
 is_request ForTables = true
 is_request ForRepository = true

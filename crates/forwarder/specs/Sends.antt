@@ -1,11 +1,12 @@
 -- Why Data are sent: each answers an Interest that is pending on its face, or the Interest of the
 -- event itself.
-use Rattle.std.specs.Prelude.{◌≡◌, ◌≢◌, ◌⊎◌, ℕ, List, [], ◌∷◌, Bool, true, false, Some, All, Ok, ⊤, ◌==◌}
+use Rattle.std.specs.Prelude.{◌≡◌, ◌≢◌, ◌⊎◌, ℕ, List, [], ◌∷◌, Bool, true, false, Some, All, Result, Ok, Err, ⊤, ◌==◌, ◌||◌}
 use Rattle.sha2.specs.Sha256.{sha256}
 use Rattle.ndn_packets.specs.FrameReading.{frame_at}
 use Rattle.ndn_packets.specs.Key.{key_of}
-use Rattle.ndn_packets.specs.Packet.{PlainInterest, PlainData, AnInterest, AData}
+use Rattle.ndn_packets.specs.Packet.{PlainInterest, PlainData, PlainFrame, AnInterest, AData, ANack, Idle}
 use Rattle.ndn_packets.specs.Writing.{AreOctets, reply_text}
+use Rattle.ndn_packets.specs.declared.fault.PacketFault.{PacketFault}
 use Rattle.ndn_packets.specs.declared.types.TheConstants.{DATA}
 use Rattle.info_rules.specs.declared.rules.RuleNo.{RuleNo}
 use Rattle.info_rules.specs.declared.decision.Decision.{Decision}
@@ -15,6 +16,7 @@ use Rattle.forwarder.specs.Event.{PlainEvent, Packet, FaceUp, FaceDown, Tick, Se
 use Rattle.forwarder.specs.Said.{IsSaid}
 use Rattle.forwarder.specs.Commands.{reply_content}
 use Rattle.forwarder.specs.Datasets.{list_answer}
+use Rattle.forwarder.specs.Effects.{decided_packet}
 use Rattle.forwarder.specs.Policy.{Policy}
 use Rattle.forwarder.specs.Request.{ListAsked, is_command, list_asked, request_of}
 use Rattle.forwarder.specs.Replies.{Seen, Waits}
@@ -31,6 +33,7 @@ pub record IsForwardedData (seen : Seen) (event : PlainEvent) (sent : Send) : Ty
   pub rule : RuleNo
   pub brings : event ≡ Packet face now octets
   pub read : frame_at octets ≡ Ok (AData whole packet)
+  pub decided : decided_packet seen.policy event ≡ Some (AData whole packet)
   pub allowed : IsSaid seen.policy (AData whole packet) (Allowed rule)
   pub other : sent.0 ≢ face
   pub waits : Waits seen packet.name (sha256 whole) sent.0
@@ -68,10 +71,23 @@ pub record IsReply (seen : Seen) (event : PlainEvent) (sent : Send) : Type 0 whe
   pub read : frame_at octets ≡ Ok (AnInterest whole interest)
   pub at_hand : IsAtHand seen sent.0 whole interest sent.1
 
--- whether octets are those of a Data, by their first one, which is its type
+-- whether octets are a Data, as they are read
+abbrev pub is_data_frame : Result PlainFrame PacketFault → Bool
+is_data_frame (Err fault) = false
+is_data_frame (Ok (AnInterest whole i)) = false
+is_data_frame (Ok (AData whole d)) = true
+is_data_frame (Ok (ANack reason whole i)) = false
+is_data_frame (Ok Idle) = false
+
+-- whether octets begin as a Data does
+abbrev pub begins_as_data : List ℕ → Bool
+begins_as_data [] = false
+begins_as_data (octet ∷ octets) = octet == DATA
+
+-- Whether octets are a Data: one that is read, or one that is too long to be, as a reply of the node
+-- may be.
 abbrev pub is_data : List ℕ → Bool
-is_data [] = false
-is_data (octet ∷ octets) = octet == DATA
+is_data octets = begins_as_data octets || is_data_frame (frame_at octets)
 
 -- each Data that is sent is one of these two; what else is sent is no Data
 abbrev pub IsExplained : Seen → PlainEvent → Send → Type 0

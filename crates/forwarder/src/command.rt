@@ -2,6 +2,7 @@ ghost use Rattle.std.specs.Prelude.{◌≡◌, ◌≤◌, ◌++◌, ◌∷◌, [
 ghost use Rattle.ndn_names.specs.View.{components};
 ghost use Rattle.ndn_packets.specs.View.{plain_interest};
 ghost use Rattle.mgmt_core.specs.Reading.{asked, command_at};
+ghost use Rattle.replay_guard.specs.Guard.{IsPrepared};
 ghost use Rattle.forwarder.specs.Commanding.{IsCarriedOut};
 ghost use Rattle.forwarder.specs.Commands.{fetch_sends, refused_content, replied};
 ghost use Rattle.forwarder.specs.Handling.{AwaitsPacket, HandlesPacket, interest_packet};
@@ -102,7 +103,7 @@ impl State {
     ) -> Result<u16, Memory>
         requires sound { IsSound (state_of self.old) }
         requires prepared { IfSome (recorded_of (plain_interest arrived.now.packet.now))
-            (λ r. self.old.guard.prepared ≡ Some r.signer) }
+            (λ r. IsPrepared self.old.guard r.signer) }
         ensures done { IfOk result (IsCarriedOut self.old self.new out.old.sends out.new.sends
             arrived.now.face arrived.now.moment (plain_interest arrived.now.packet.now)
             ForTables) }
@@ -123,7 +124,7 @@ impl State {
         out: &mut Sends,
     ) -> Result<u16, Memory>
         requires prepared { IfSome (recorded_of (plain_interest arrived.now.packet.now))
-            (λ r. self.old.guard.prepared ≡ Some r.signer) }
+            (λ r. IsPrepared self.old.guard r.signer) }
         requires unread { command_at (components arrived.now.packet.now.name) ≡ Err status }
         ensures done { IfOk result (IsCarriedOut self.old self.new out.old.sends out.new.sends
             arrived.now.face arrived.now.moment (plain_interest arrived.now.packet.now)
@@ -149,7 +150,7 @@ impl State {
     ) -> Result<u16, Memory>
         requires sound { IsSound (state_of self.old) }
         requires prepared { IfSome (recorded_of (plain_interest arrived.now.packet.now))
-            (λ r. self.old.guard.prepared ≡ Some r.signer) }
+            (λ r. IsPrepared self.old.guard r.signer) }
         requires read { command_at (components arrived.now.packet.now.name) ≡ Ok (asked command.now) }
         ensures done { IfOk result (IsCarriedOut self.old self.new out.old.sends out.new.sends
             arrived.now.face arrived.now.moment (plain_interest arrived.now.packet.now)
@@ -183,7 +184,7 @@ impl State {
         out: &mut Sends,
     ) -> Result<u16, Memory>
         requires prepared { IfSome (recorded_of (plain_interest arrived.now.packet.now))
-            (λ r. self.old.guard.prepared ≡ Some r.signer) }
+            (λ r. IsPrepared self.old.guard r.signer) }
         ensures done { IfOk result (IsCarriedOut self.old self.new out.old.sends out.new.sends
             arrived.now.face arrived.now.moment (plain_interest arrived.now.packet.now)
             ForRepository) }

@@ -2,7 +2,7 @@ ghost use Rattle.std.specs.Prelude.{◌≡◌, ◌↔◌, Some, IsTrue, IfOk, If
 ghost use Rattle.std.specs.Option.{option_map};
 ghost use Rattle.ndn_packets.specs.Packet.{AData, AnInterest, plain_signature};
 ghost use Rattle.ndn_packets.specs.View.{plain_data, plain_interest};
-ghost use Rattle.replay_guard.specs.Guard.{signer_of};
+ghost use Rattle.replay_guard.specs.Guard.{IsPrepared, signer_of};
 ghost use Rattle.forwarder.specs.Commands.{with_record};
 ghost use Rattle.forwarder.specs.Policy.{Policy};
 ghost use Rattle.forwarder.specs.Said.{IsFreshCommand, IsSaid, recorded_by, recorded_of, signer_in};
@@ -103,7 +103,7 @@ pub(crate) fn said_of_data(
 pub(crate) fn prepare_record(guard: &mut Guard, interest: &Interest<'_>) -> Result<(), Memory>
     ensures latest { guard.new.latest ≡ guard.old.latest }
     ensures ok { OnOk result (IfSome (recorded_of (plain_interest interest.now))
-        (λ r. guard.new.prepared ≡ Some r.signer)) }
+        (λ r. IsPrepared guard.new r.signer)) }
 {
     match signed_by(interest) {
         Some(signed) => guard.prepare(signed.signer),
@@ -114,7 +114,7 @@ pub(crate) fn prepare_record(guard: &mut Guard, interest: &Interest<'_>) -> Resu
 /// Records who signed a command, and when. It takes no memory.
 pub(crate) fn record(guard: &mut Guard, interest: &Interest<'_>) -> Result<(), Memory>
     requires { IfSome (recorded_of (plain_interest interest.now))
-        (λ r. guard.old.prepared ≡ Some r.signer) }
+        (λ r. IsPrepared guard.old r.signer) }
     ensures ok { IsOk result }
     ensures recorded { (p : Policy) → p.guard ≡ guard.old.latest
         → with_record p (recorded_of (plain_interest interest.now))

@@ -1,4 +1,4 @@
-ghost use Rattle.std.specs.Prelude.{◌≡◌, ◌≢◌, ◌+◌, ◌≤◌, ℕ, true, false, length, Some, IfOk, IsOk};
+ghost use Rattle.std.specs.Prelude.{◌≡◌, ◌≢◌, ◌+◌, ◌≤◌, ℕ, true, false, length, None, Some, IfOk, IsOk};
 ghost use Rattle.ndn_packets.specs.Key.{key_of};
 ghost use Rattle.ndn_packets.specs.View.{plain_interest};
 ghost use Rattle.pit_fib.specs.Cause.{Arrives};
@@ -94,7 +94,7 @@ impl State {
         requires from { is_open face self.old.faces ≡ true }
         requires hops { interest.now.hop_limit ≢ Some 0 }
         requires prepared { self.old.pit.prepared
-            ≡ Some (key_of (plain_interest interest.now), length interest.now.whole.now) }
+            ≡ Some (key_of (plain_interest interest.now), Some (length interest.now.whole.now)) }
         requires places { MAX_FACES ≤ out.old.places }
         requires space { length interest.now.whole.now + NACK_EXTRA ≤ out.old.space }
         ensures ok { IsOk result }
@@ -128,7 +128,7 @@ impl State {
         requires chosen { choice_from (state_of self.old) face (plain_interest interest.now)
             ≡ choices.Send faces.now }
         requires prepared { self.old.pit.prepared
-            ≡ Some (key_of (plain_interest interest.now), length interest.now.whole.now) }
+            ≡ Some (key_of (plain_interest interest.now), Some (length interest.now.whole.now)) }
         requires places { MAX_FACES ≤ out.old.places }
         requires space { length interest.now.whole.now + NACK_EXTRA ≤ out.old.space }
         ensures ok { IsOk result }
@@ -157,6 +157,8 @@ impl State {
         requires sound { IsSound (state_of self.old) }
         requires known { (f : ℕ) → has_face f faces.now ≡ true
             → is_open f self.old.faces ≡ true }
+        requires prepared { self.old.pit.prepared
+            ≡ Some (key_of (plain_interest interest.now), None) }
         ensures ok { IsOk result }
         ensures pending { FollowAll (sent_causes (key_of (plain_interest interest.now))
             (plain_interest interest.now).nonce self.old.now faces.now)

@@ -1,19 +1,22 @@
-ghost use Rattle.std.specs.Prelude.{◌≡◌, ◌⊎◌, ◌↔◌, ◌<◌, ℕ, List, [], Some, All, Contains, max};
+ghost use Rattle.std.specs.Prelude.{◌≡◌, ◌≢◌, ◌⊎◌, ◌↔◌, ◌<◌, ℕ, List, [], true, Some, All, Contains, Ok, max};
 ghost use Rattle.std.specs.FinMap as map;
 ghost use Rattle.hmac_keys.specs.KeyFile.{AreApart};
 ghost use Rattle.forwarder.specs.Event.{PlainEvent};
 ghost use Rattle.forwarder.specs.Policy.{Policy, at_moment};
 ghost use Rattle.forwarder.specs.Event.{moment};
 ghost use Rattle.forwarder.specs.Verdict.{Answer};
-ghost use Rattle.forwarder.specs.Effects.{IsAfter, decided_packet};
+ghost use Rattle.forwarder.specs.Effects.{IsAfter, decided_packet, face_in};
 ghost use Rattle.info_rules.specs.declared.decision.Decision.TheVariants as decided;
 ghost use Rattle.info_rules.specs.declared.decision.Reason.{Reason};
 ghost use Rattle.info_rules.specs.declared.rule.Kind.{Kind};
 ghost use Rattle.info_rules.specs.declared.rules.RuleNo.{RuleNo};
-ghost use Rattle.forwarder.specs.Said.{IsSaid, recorded_of};
+ghost use Rattle.forwarder.specs.Said.{IsFreshCommand, IsSaid, recorded_of};
 ghost use Rattle.forwarder.specs.Verdict as verdicts;
-ghost use Rattle.forwarder.specs.Sends.{BringsOctets, EachIsExplained};
-ghost use Rattle.forwarder.specs.Allowed.{AllowedIn, Allows};
+ghost use Rattle.forwarder.specs.Sends.{BringsOctets, EachIsExplained, is_data};
+ghost use Rattle.forwarder.specs.Allowed.{AllowedAt, AllowedIn, Allows};
+ghost use Rattle.forwarder.specs.AskedFor.{AnswersItself, WasAskedFor};
+ghost use Rattle.forwarder.specs.Commands.{IsDenial};
+ghost use Rattle.ndn_packets.specs.FrameReading.{frame_at};
 ghost use Rattle.ndn_packets.specs.Packet.{PlainData, PlainFrame, PlainInterest, AData, AnInterest};
 ghost use Rattle.ndn_packets.specs.Answers.{full_name};
 ghost use Rattle.content_store.specs.Store.{CachedData};
@@ -24,14 +27,14 @@ ghost use Rattle.pit_fib.specs.Fib.{costs_at};
 ghost use Rattle.pit_fib.specs.Past.{ask_of, sent_of};
 ghost use Rattle.pit_fib.specs.Records.{Ask};
 ghost use Rattle.sha2.specs.Sha256.{sha256};
-ghost use Rattle.replay_guard.specs.Freshness.{NumberRises, Recorded};
+ghost use Rattle.replay_guard.specs.Freshness.{AreNear, NumberRises, Recorded};
 ghost use Rattle.replay_guard.specs.Guard.{table_of};
 ghost use Rattle.forwarder.specs.State.{IsSound};
 ghost use Rattle.forwarder.specs.Node.{NodeState, IsStep, Unharmed};
 ghost use Rattle.forwarder.specs.Causes.{ask_of as asked_now, causes_of};
 ghost use Rattle.forwarder.specs.Hops.{cost_of};
 ghost use Rattle.forwarder.specs.Kept.{IsAnswered, IsKept, IsPassed, IsSentOn};
-ghost use Rattle.forwarder.specs.Runs.{Run, Start, Then, BringsData, BringsRequest, HasTicksFor, HaveOneHistory, IsPolicyOf, IsRun, MayHold, MayReply, Stands, now_of, past_causes, records_of, seen_after};
+ghost use Rattle.forwarder.specs.Runs.{Run, Start, Then, BringsData, BringsRequest, HasTicksFor, HaveOneHistory, IsPolicyOf, IsRun, KeysAreApart, MayHold, MayReply, Stands, now_of, past_causes, records_of, seen_after};
 
 /// Law: what follows from events alone is a function of them, where the keys of a book have
 /// different names.
@@ -80,26 +83,27 @@ pub fn refused_steps_stand_still()
 {}
 
 /// Law: two runs of the same events leave the same policy, and of one more event they allow one
-/// answer, where it is a command or asks for a list, and one verdict, where it brings a Data. So it
-/// is at each event of two whole runs.
+/// answer, where it is a command, asks for a list, or is an Interest that is dropped for its
+/// HopLimit or scope, and one verdict, where it brings a Data. So it is at each event of two whole
+/// runs.
 pub fn histories_decide()
-    ensures policy { (first p q : Policy) (past other : Run) → AreApart first.keys
+    ensures policy { (first p q : Policy) (past other : Run) → KeysAreApart first past
         → HaveOneHistory past other → IsPolicyOf first past p → IsPolicyOf first other q → p ≡ q }
     ensures answers { (first p : Policy) (past other : Run) (event : PlainEvent) (a b : Answer)
-        → AreApart first.keys → HaveOneHistory past other → IsPolicyOf first past p
+        → KeysAreApart first past → HaveOneHistory past other → IsPolicyOf first past p
         → BringsRequest (at_moment p (moment event)) event
         → MayReply first past event a → MayReply first other event b → a ≡ b }
     ensures verdicts { (first : Policy) (past other : Run) (event : PlainEvent) (a b : Answer)
-        → AreApart first.keys → HaveOneHistory past other → BringsData event
+        → KeysAreApart first past → HaveOneHistory past other → BringsData event
         → MayReply first past event a → MayReply first other event b → a.verdict ≡ b.verdict }
 {}
 
 /// Law: where some events of a run that were denied give way to their moments alone, it stays a
 /// run, and leaves the same policy.
 pub fn denied_events_change_nothing()
-    ensures run { (first : Policy) (past other : Run) → AreApart first.keys → IsRun first past
+    ensures run { (first : Policy) (past other : Run) → KeysAreApart first past → IsRun first past
         → HasTicksFor past other → IsRun first other }
-    ensures policy { (first p : Policy) (past other : Run) → AreApart first.keys
+    ensures policy { (first p : Policy) (past other : Run) → KeysAreApart first past
         → IsRun first past → HasTicksFor past other → IsPolicyOf first past p
         → IsPolicyOf first other p }
 {}
@@ -114,19 +118,52 @@ pub fn each_send_is_explained()
         event answer }
 {}
 
+/// Law: where the keys of a first book have different names, so they have in every book of a run.
+pub fn keys_stay_apart()
+    ensures { (first : Policy) (past : Run) → AreApart first.keys → KeysAreApart first past }
+{}
+
+/// Law: each Data that is sent was asked for by the face that it goes to. Either the event brings
+/// it, its first matching rule allows it, and an Interest that it answers is pending on that face;
+/// or the event brings an Interest on that face, and the Data answers it and came in an earlier
+/// event that allowed it, or is the node's own reply to it or segment for it.
+pub fn every_data_sent_was_asked_for()
+    ensures read { (first : Policy) (past : Run) (event : PlainEvent) (answer : Answer) (face : ℕ)
+        (octets whole : List ℕ) (d : PlainData) (reply : MayReply first past event answer)
+        → first.held.objects ≡ map.empty → IsRun first past → BringsOctets event
+        → Contains answer.sends (face, octets) → frame_at octets ≡ Ok (AData whole d)
+        → WasAskedFor first past reply.was event face octets whole d }
+    // A Data that no reader takes, as it is too long, is the node's own answer.
+    ensures unread { (first : Policy) (past : Run) (event : PlainEvent) (answer : Answer) (face : ℕ)
+        (octets : List ℕ) (reply : MayReply first past event answer)
+        → first.held.objects ≡ map.empty → IsRun first past → BringsOctets event
+        → Contains answer.sends (face, octets) → is_data octets ≡ true
+        → ((whole : List ℕ) (d : PlainData) → frame_at octets ≢ Ok (AData whole d))
+        → AnswersItself reply.was event face octets }
+{}
+
 /// Law: of one signer's commands each that is allowed has a greater time than all that were allowed
 /// before and, where both have a number, a greater number. So none is allowed again, whatever
 /// stands beside its signature.
 pub fn commands_are_allowed_once()
     ensures newer { (first was : Policy) (past : Run) (event : PlainEvent) (whole other : List ℕ)
-        (i j : PlainInterest) (r s : Recorded) → AreApart first.keys
+        (i j : PlainInterest) (r s : Recorded) → KeysAreApart first past
         → AllowedIn first past (AnInterest whole i) → IsPolicyOf first past was
         → Allows was event (AnInterest other j) → recorded_of i ≡ Some r → recorded_of j ≡ Some s
         → r.signer ≡ s.signer → (r.time < s.time) × NumberRises r.number s.number }
     ensures once { (first was : Policy) (past : Run) (event : PlainEvent) (whole other : List ℕ)
-        (i j : PlainInterest) → AreApart first.keys → AllowedIn first past (AnInterest whole i)
+        (i j : PlainInterest) → KeysAreApart first past → AllowedIn first past (AnInterest whole i)
         → IsPolicyOf first past was → Allows was event (AnInterest other j)
         → i.signature ≡ j.signature → ⊥ }
+    // The other way round, where no command had been recorded before the run: one that is near to
+    // its moment, and newer than all that were allowed of its signer, is fresh.
+    ensures fresh { (first was : Policy) (past : Run) (now : ℕ) (i : PlainInterest) (r : Recorded)
+        → first.guard ≡ map.empty → IsPolicyOf first past was → recorded_of i ≡ Some r
+        → AreNear r.time (at_moment was now).now
+        → ((whole : List ℕ) (j : PlainInterest) (s : Recorded)
+        → AllowedIn first past (AnInterest whole j) → recorded_of j ≡ Some s → s.signer ≡ r.signer
+        → (s.time < r.time) × NumberRises s.number r.number)
+        → IsFreshCommand (at_moment was now) i }
 {}
 
 /// Law: a guard that was empty at first holds the times and numbers of commands that were allowed,
@@ -148,11 +185,12 @@ pub fn objects_were_allowed()
         × (name ≡ full_name d.name (sha256 octets)) }
 {}
 
-/// Law: what a cache may hold after a run is a Data that came in an event that allowed it.
+/// Law: what a cache may hold after a run is a Data that came in an event that allowed it, at the
+/// moment that is held as its arrival, with the hash of its octets as its implicit digest.
 pub fn cached_data_were_allowed()
     ensures { (first : Policy) (past : Run) (c : CachedData) → IsRun first past → MayHold past c
-        → (d : PlainData) × AllowedIn first past (AData c.octets d) × (c.name ≡ d.name)
-        × (c.freshness ≡ d.freshness) }
+        → (d : PlainData) × AllowedAt first past (AData c.octets d) c.arrival × (c.name ≡ d.name)
+        × (c.digest ≡ sha256 c.octets) × (c.freshness ≡ d.freshness) }
 {}
 
 /// Law: the records of a key after a run are, face by face, readings of its past: the last Interest
@@ -194,13 +232,15 @@ pub fn unanswered_interests_wait()
 /// face that was answered with status 200, where since then no remove-nexthop of the two was so
 /// answered, and the face was not closed; and else there is no such hop.
 pub fn routes_are_read_off_the_run()
-    ensures { (first p : Policy) (past : Run) (name : List Field) (face : ℕ) → AreApart first.keys
+    ensures { (first p : Policy) (past : Run) (name : List Field) (face : ℕ)
+        → KeysAreApart first past
         → first.routes ≡ map.empty → IsRun first past → IsPolicyOf first past p
         → map.get (costs_at p.routes name) face ≡ cost_of past name face }
 {}
 
 /// Law: a denial that the past allows is what is said of the event's packet, by the rule that it
-/// names; or no rule applies.
+/// names; or no rule applies. The answer is that denial's: to a command a reply of status 403 that
+/// names the reason and the rule, to a Data nothing. So the kind is the packet's.
 pub fn denials_name_their_rule()
     ensures denied { (first : Policy) (past : Run) (event : PlainEvent) (answer : Answer)
         (kind : Kind) (rule : ℕ) (reason : Reason) (reply : MayReply first past event answer)
@@ -208,11 +248,14 @@ pub fn denials_name_their_rule()
         → (packet : PlainFrame) × (n : RuleNo)
         × (decided_packet (at_moment reply.was (moment event)) event ≡ Some packet)
         × IsSaid (at_moment reply.was (moment event)) packet (decided.Denied n reason)
-        × (rule ≡ n.0) }
+        × (rule ≡ n.0) × IsDenial (at_moment reply.was (moment event)) (face_in event) packet
+        (decided.Denied n reason) answer }
     ensures no_rule { (first : Policy) (past : Run) (event : PlainEvent) (answer : Answer)
         (kind : Kind) (reply : MayReply first past event answer)
         → answer.verdict ≡ verdicts.NoRule kind
         → (packet : PlainFrame)
         × (decided_packet (at_moment reply.was (moment event)) event ≡ Some packet)
-        × IsSaid (at_moment reply.was (moment event)) packet decided.NoRule }
+        × IsSaid (at_moment reply.was (moment event)) packet decided.NoRule
+        × IsDenial (at_moment reply.was (moment event)) (face_in event) packet decided.NoRule
+        answer }
 {}

@@ -4,6 +4,8 @@ ghost use Rattle.forwarder.specs.Node.{AsksNoMemory, IsStep, Unharmed};
 ghost use Rattle.forwarder.specs.Parts.{first_node, is_bad_prefix as is_bad_prefix_of, parts_fault};
 ghost use Rattle.forwarder.specs.Policy.{Policy};
 ghost use Rattle.forwarder.specs.Runs.{Run, Start, Then, IsRun, Stands};
+ghost use Rattle.forwarder.specs.Sends.{BringsOctets};
+ghost use Rattle.forwarder.specs.State.{IsSound};
 ghost use Rattle.forwarder.specs.Verdict.{verdict_of};
 
 use crate::event::Event;
@@ -131,11 +133,20 @@ impl Node {
         Ok(Node { state })
     }
 
-    /// The rules that decide of commands and Data.
+    /// The rules that decide of commands and Data. The clause beside `exact` is true of every
+    /// node.
     pub fn rules(&self) -> &Rules
-        ensures { result.now ≡ self.now.policy.rules }
+        ensures exact { result.now ≡ self.now.policy.rules }
+        ensures sound { IsSound self.now }
     {
         &self.state.rules
+    }
+
+    /// The keys that the rules name. No two have one name, as `KeyBook::len` says of every book.
+    pub fn keys(&self) -> &KeyBook
+        ensures { result.now ≡ self.now.policy.keys }
+    {
+        &self.state.keys
     }
 
     /// Handles one event (NFD Developer's Guide, "Forwarding"): the verdict, and the sends at the
@@ -160,6 +171,8 @@ impl Node {
             (record { verdict = verdict_of verdict; sends = sends })) self.new) }
         ensures memory { OnErr result (Unharmed self.old self.new × (outbox.new ≡ outbox.old)) }
         ensures without_memory { AsksNoMemory self.old (plain event.entry) → IsOk result }
+        // So it is of every event.
+        ensures octets { BringsOctets (plain event.entry) }
     {
         match event {
             Event::Packet { face, now, octets } => {

@@ -1,5 +1,6 @@
 ghost use Rattle.std.specs.Prelude.{◌≡◌, true, false, ◌++◌, ◌⊎◌, List, IfOk, IsOk, OnErr};
 ghost use Rattle.ndn_packets.specs.FrameReading.{frame_at};
+ghost use Rattle.ndn_packets.specs.Writing.{AreOctets};
 ghost use Rattle.repo_core.specs.Objects.{AreObjects};
 ghost use Rattle.forwarder.specs.Event.{Packet, Send};
 ghost use Rattle.forwarder.specs.Faces.{is_open};
@@ -35,6 +36,7 @@ impl State {
         ensures objects { AreObjects self.new.repo.held.objects }
         ensures without_memory { (is_open face self.old.faces ≡ false)
             ⊎ HoldsNoPacket (frame_at octets.now) → IsOk result }
+        ensures octets { AreOctets octets.now }
     {
         if !self.faces.contains(face) {
             return Ok(self.drop_packet(now, DropReason::NoFace));

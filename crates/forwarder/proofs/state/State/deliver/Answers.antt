@@ -1,6 +1,7 @@
 use Rattle.std.proofs.Common.{◌<◌, ◌≤◌, not, eqb, refl, ap, subst, ◌∙◌, ◌++◌}
 use Rattle.std.specs.Prelude.{filter}
 use Rattle.ndn_packets.specs.View.{plain_data}
+use Rattle.content_store.proofs.Losses.{loses_some-contained}
 use Rattle.forwarder.specs.State.{state_of}
 use Rattle.forwarder.specs.Event.{to_each}
 use Rattle.forwarder.proofs.Delivered.{cached, not_cached, sent_to_askers}
@@ -27,7 +28,7 @@ returns-clause-cache c =
       | then-is_awaited w ↦
           cached old whole d askers c.satisfy-askers.ensures.faces c.args.self.now.now c.args.self.now.tables.store c.if-is_awaited.self.tables.store
           (subst (λ n. 0 < n) c.len-is_awaited.ensures.exact w.if-is_awaited.true) w.put.result
-          (rw w.self-is w.put.ensures.ok) (rw w.self-is w.put.ensures.refused) (rw w.self-is w.put.ensures.capacity)
+          (rw w.self-is w.put.ensures.ok) (λ no. loses_some-contained _ _ (rw w.self-is (w.put.ensures.refused no))) (rw w.self-is w.put.ensures.capacity)
       | else-is_awaited w ↦
           not_cached old whole d askers c.satisfy-askers.ensures.faces c.args.self.now.now c.args.self.now.tables.store c.if-is_awaited.self.tables.store
           (subst (λ n. n ≤ 0) c.len-is_awaited.ensures.exact w.if-is_awaited.false) (rw w.self-is refl)

@@ -40,7 +40,7 @@ returns-in_ok-push_nack-in-NoRoute-clause-forwards c =
       c.in_ok-push_nack-in-NoRoute.ensures.ok,
       record {
         replied = ap (forwarded (seen_by (state_of old)) (key_of i) whole i face) (sym none);
-        pending = nack_causes_are old.now face NO_ROUTE whole i old.pit.pending c.withdraw.new.self.pending withdrawn;
+        pending = nack_causes_are old.now face NO_ROUTE whole i old.pit.pending c.withdraw.new.self.pending c.args.interest.now.spelled (omega arith) withdrawn;
         alive = c.withdraw.ensures.living;
         policy = refl;
         cache = refl;

@@ -1,4 +1,4 @@
-use Rattle.std.proofs.Common.{sym, ap, ◌∙◌, Result, Ok}
+use Rattle.std.proofs.Common.{sym, ap, ◌∙◌, Result, Ok, arith}
 use Rattle.ndn_packets.specs.Packet.{PlainFrame}
 use Rattle.ndn_packets.specs.View.{plain_data, plain_frame}
 use Rattle.ndn_packets.proofs.Held.{data_held}
@@ -94,3 +94,21 @@ returns-in-Ok-Nack-clause-memory c = c.receive_nack.ensures.memory
 pub returns-in-Ok-Nack-clause-objects : goal.returns-in-Ok-Nack-clause-objects
 returns-in-Ok-Nack-clause-objects c =
     handled_stores c.args.self.now c.receive_nack.new.self c.args.out.now.sends c.receive_nack.new.out.sends c.args.face c.args.now _ c.receive_nack.result c.receive_nack.ensures tt c.requires.objects
+
+pub returns-then-not-contains-clause-octets : goal.returns-then-not-contains-clause-octets
+returns-then-not-contains-clause-octets c = λ i. omega (arith, c.type_inv.octets i)
+
+pub returns-in-Err-clause-octets : goal.returns-in-Err-clause-octets
+returns-in-Err-clause-octets c = λ i. omega (arith, c.type_inv.octets i)
+
+pub returns-in-Ok-Idle-clause-octets : goal.returns-in-Ok-Idle-clause-octets
+returns-in-Ok-Idle-clause-octets c = λ i. omega (arith, c.type_inv.octets i)
+
+pub returns-in-Ok-Interest-clause-octets : goal.returns-in-Ok-Interest-clause-octets
+returns-in-Ok-Interest-clause-octets c = λ i. omega (arith, c.type_inv.octets i)
+
+pub returns-in-Ok-Data-clause-octets : goal.returns-in-Ok-Data-clause-octets
+returns-in-Ok-Data-clause-octets c = λ i. omega (arith, c.type_inv.octets i)
+
+pub returns-in-Ok-Nack-clause-octets : goal.returns-in-Ok-Nack-clause-octets
+returns-in-Ok-Nack-clause-octets c = λ i. omega (arith, c.type_inv.octets i)

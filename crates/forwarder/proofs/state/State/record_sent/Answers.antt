@@ -1,6 +1,7 @@
 use Rattle.std.proofs.Common.{◌≡◌, ℕ, true, List, take, refl, sym, ap, subst, ◌∙◌, arith}
 use Rattle.std.proofs.lemmas.List.{take_all}
-use Rattle.ndn_packets.specs.Key.{PlainKey, key_of}
+use Rattle.std.specs.Prelude.{None, Some}
+use Rattle.ndn_packets.specs.Key.{PlainKey, key_of, plain_key}
 use Rattle.ndn_packets.specs.View.{plain_interest}
 use Rattle.pit_fib.specs.Cause.{SentTo, Follows}
 use Rattle.pit_fib.specs.Records.{is_alive, records_at}
@@ -19,6 +20,7 @@ loop-i-init c = record {
   records = c.requires.sound.records;
   living = λ living. living;
   rest = refl;
+  prepared = c.requires.prepared;
   below = omega arith;
 }
 
@@ -44,7 +46,8 @@ loop-i-preserved c = elim c.match-get.branch [
       let same = ap (λ (s : State). s.now) c.loop-i.invariant.rest in
       let one : Follows (SentTo key face nonce now) before after =
       subst (λ (n : ℕ). Follows (SentTo key face nonce n) before after) same
-      (subst (λ (k : PlainKey). Follows (SentTo k face nonce c.loop-i.self.now) before after) w.key.ensures w.sent.ensures.pending) in
+      (subst (λ (k : PlainKey). Follows (SentTo k face nonce c.loop-i.self.now) before after) w.key.ensures w.in_ok-sent.ensures.ok) in
+      let prepared : c.loop-i.self.pit.prepared ≡ Some (plain_key w.key.result, None) = c.loop-i.invariant.prepared ∙ ap (λ (k : PlainKey). Some (k, None)) (sym w.key.ensures) in
       let here = c.requires.known face (has_at c.args.faces.now c.loop-i.i face at) in
       rw w.self-is (record {
         pending = one_more_sent key nonce now c.args.faces.now c.loop-i.i face c.args.self.now.pit.pending before after at c.loop-i.invariant.pending one;
@@ -52,6 +55,7 @@ loop-i-preserved c = elim c.match-get.branch [
         records = sent_open key nonce now c.args.self.now.faces face before after c.loop-i.invariant.records here one;
         living = λ _. w.sent.ensures.living;
         rest = ap (λ (s : State). record s { pit = w.sent.new.self }) c.loop-i.invariant.rest;
+        prepared = w.sent.ensures.next prepared ∙ c.loop-i.invariant.prepared;
         below = omega (arith, c.loop-i-test.true);
       })
   | in_default w ↦ absurd (slice_get-there c.args.faces.now c.loop-i.i (omega (arith, c.loop-i-test.true, c.len-i-end.ensures.exact)) (sym c.get.ensures ∙ w.in_default.is))
@@ -68,3 +72,8 @@ returns-clause-living c = c.loop-i.invariant.living
 
 pub returns-clause-rest : goal.returns-clause-rest
 returns-clause-rest c = c.loop-i.invariant.rest
+
+pub returns-in_err-sent-clause-ok : goal.returns-in_err-sent-clause-ok
+returns-in_err-sent-clause-ok c =
+    let prepared : c.loop-i.self.pit.prepared ≡ Some (plain_key c.key.result, None) = c.loop-i.invariant.prepared ∙ ap (λ (k : PlainKey). Some (k, None)) (sym c.key.ensures) in
+    let done = c.in_err-sent.ensures.promised prepared in cc done

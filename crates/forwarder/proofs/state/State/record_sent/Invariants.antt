@@ -1,4 +1,5 @@
 use Rattle.std.proofs.Common.{◌≡◌, ◌≤◌, ℕ, true, take}
+use Rattle.std.specs.Prelude.{None, Some}
 use Rattle.ndn_packets.specs.Key.{key_of}
 use Rattle.ndn_packets.specs.View.{plain_interest}
 use Rattle.pit_fib.specs.Pit.{HasRecord}
@@ -16,5 +17,6 @@ invariant-loop-i l = record {
   records : (f : ℕ) → HasRecord l.self.pit.pending f → is_open f l.initial.self.faces ≡ true;
   living : HoldsTheLiving l.initial.self.pit.pending → HoldsTheLiving l.self.pit.pending;
   rest : l.self ≡ record l.initial.self { pit = l.self.pit };
+  prepared : l.self.pit.prepared ≡ Some (key_of (plain_interest l.interest), None);
   below : l.i ≤ l.i-end;
 }

@@ -1,4 +1,5 @@
 use Rattle.std.proofs.Common.{◌≡◌, Bool, false, cond, refl, sym, ap, subst, ◌∙◌, arith}
+use Rattle.std.specs.Prelude.{None, Some, length}
 use Rattle.std.specs.FinMap as map
 use Rattle.ndn_packets.specs.Key.{PlainKey, key_of}
 use Rattle.ndn_packets.specs.View.{plain_interest}
@@ -28,6 +29,11 @@ record_sent-requires-clause-sound c =
 pub record_sent-requires-clause-known : goal.record_sent-requires-clause-known
 record_sent-requires-clause-known c =
     chosen_open (state_of c.args.self.now) c.requires.sound c.args.face (plain_interest c.args.interest.now) c.args.faces.now c.requires.chosen
+
+pub record_sent-requires-clause-prepared : goal.record_sent-requires-clause-prepared
+record_sent-requires-clause-prepared c =
+    let prepared = c.requires.prepared ∙ ap (λ (k : PlainKey). Some (k, Some (length c.args.interest.now.whole.now))) (sym c.key-key.ensures) in
+    c.in-Ok.ensures.next (length c.args.interest.now.whole.now) prepared ∙ ap (λ (k : PlainKey). Some (k, None)) c.key-key.ensures
 
 pub returns-in_err-push_interest-clause-ok : goal.returns-in_err-push_interest-clause-ok
 returns-in_err-push_interest-clause-ok c =

@@ -1,0 +1,60 @@
+-- Why a face gets a Data: it asked for it. Or the Data is the node's own answer to it.
+use Rattle.std.specs.Prelude.{◌≡◌, ◌⊎◌, ℕ, List, Some, IsTrue, Ok, max}
+use Rattle.std.specs.FinMap as map
+use Rattle.sha2.specs.Sha256.{sha256}
+use Rattle.ndn_packets.specs.Answers.{answers}
+use Rattle.ndn_packets.specs.FrameReading.{frame_at}
+use Rattle.ndn_packets.specs.Key.{PlainKey}
+use Rattle.ndn_packets.specs.Packet.{PlainInterest, PlainData, PlainFrame, AnInterest, AData}
+use Rattle.pit_fib.specs.Cause.{Expires, records_after}
+use Rattle.pit_fib.specs.Records.{Ask}
+use Rattle.forwarder.specs.Event.{PlainEvent, Packet, moment}
+use Rattle.forwarder.specs.Policy.{Policy, at_moment}
+use Rattle.forwarder.specs.Allowed.{AllowedIn, Allows}
+use Rattle.forwarder.specs.Runs.{Run, now_of, records_of}
+use Rattle.forwarder.specs.Sends.{IsReplyToCommand, IsSegmentAskedFor}
+
+-- an Interest of the face is pending when this moment has come, and the Data answers it
+pub record IsPendingFor (past : Run) (now face : ℕ) (whole : List ℕ) (d : PlainData) : Type 0 where
+  pub key : PlainKey
+  pub ask : Ask
+  pub waits : map.get (records_after (Expires now) key (records_of past key)).asks face ≡ Some ask
+  pub answered : IsTrue (answers d.name (sha256 whole) key.name key.can_be_prefix)
+
+-- the event brings this packet on this face
+pub record BringsPacketOn (event : PlainEvent) (face : ℕ) (packet : PlainFrame) : Type 0 where
+  pub now : ℕ
+  pub octets : List ℕ
+  pub brings : event ≡ Packet face now octets
+  pub read : frame_at octets ≡ Ok packet
+
+-- the node made it: it is the reply to this Interest, which is a command, or the segment of a list
+-- that it asks for
+abbrev pub IsOwnAnswer : Policy → ℕ → List ℕ → PlainInterest → List ℕ → Type 0
+IsOwnAnswer p face asked i octets =
+    IsReplyToCommand p face asked i octets ⊎ IsSegmentAskedFor p face i octets
+
+-- the Data answers this Interest, and came in an earlier event that allowed it; or the node made it
+abbrev pub AnswersNow : Policy → Run → Policy → ℕ → List ℕ → PlainInterest → List ℕ → List ℕ
+    → PlainData → Type 0
+AnswersNow first past p face asked i octets whole d =
+    (IsTrue (answers d.name (sha256 whole) i.name i.can_be_prefix)
+    × AllowedIn first past (AData whole d))
+    ⊎ IsOwnAnswer p face asked i octets
+
+-- Where the run left this policy, the face asked for the Data that these octets hold. Either the
+-- event brings it and allows it, and an Interest of the face is pending that it answers; or the event
+-- brings an Interest on the face itself, and the Data answers that, or is the node's own answer.
+abbrev pub WasAskedFor : Policy → Run → Policy → PlainEvent → ℕ → List ℕ → List ℕ → PlainData
+    → Type 0
+WasAskedFor first past was event face octets whole d =
+    (Allows was event (AData whole d)
+    × IsPendingFor past (max (now_of past) (moment event)) face whole d)
+    ⊎ ((asked : List ℕ) × (i : PlainInterest) × BringsPacketOn event face (AnInterest asked i)
+    × AnswersNow first past (at_moment was (moment event)) face asked i octets whole d)
+
+-- the event brings an Interest on this face, and the octets are the node's own answer to it
+abbrev pub AnswersItself : Policy → PlainEvent → ℕ → List ℕ → Type 0
+AnswersItself was event face octets =
+    (asked : List ℕ) × (i : PlainInterest) × BringsPacketOn event face (AnInterest asked i)
+    × IsOwnAnswer (at_moment was (moment event)) face asked i octets
