@@ -23,6 +23,8 @@ struct MachineClock<'a, R> {
 }
 
 impl<'a, R: Clock> Moments for MachineClock<'a, R> {
+    ghost last = { λ clock. clock.last };
+
     // Where the clock cannot be read, no time has passed.
     fn now(&mut self) -> u64 {
         if let Some(now) = milliseconds(self.rt) {

@@ -20,7 +20,7 @@ runs_stand first past old new [] [] begins runs run stands = (run, subst (Stands
 runs_stand first past old new [] (outcome ∷ outcomes) begins runs run stands = absurd runs
 runs_stand first past old new (event ∷ events) [] begins runs run stands = absurd runs
 runs_stand first past old new (event ∷ events) (Answered answer ∷ outcomes) begins runs run stands =
-    let next = step_goes_on first past old runs.0 event answer begins run stands runs.1 in
+    let next = step_goes_on first past old runs.0 event answer begins run stands runs.1.1 in
     runs_stand first (Then past event answer) runs.0 new events outcomes begins runs.2 next.0 next.1
 runs_stand first past old new (event ∷ events) (NoMemory ∷ outcomes) begins runs run stands =
-    runs_stand first past runs.0 new events outcomes begins runs.2 run (refused_stands first past old runs.0 stands runs.1.0)
+    runs_stand first past runs.0 new events outcomes begins runs.2 run (refused_stands first past old runs.0 stands runs.1.1)

@@ -14,6 +14,7 @@ use Rattle.forwarder.specs.Policy.{Policy}
 use Rattle.forwarder.specs.Verdict.{verdict_of}
 use Rattle.std.specs.Prelude.{IsOk}
 use Rattle.node_core.specs.Script.Line.{Lacks, IsSkipped, IsEventLine, IsBadLine}
+use Rattle.forwarder.specs.Sends.{BringsOctets}
 use Rattle.node_core.specs.Outcomes.{Outcome, Answered, NoMemory, IsOutcome, AreOutcomes}
 use Rattle.node_core.specs.Script.Writing.{said_text, lines_text, outcome_text, outcomes_text}
 use Rattle.node_core.specs.Script.{ended, joined, AreLines, Say}
@@ -36,18 +37,18 @@ never_ok e h = cc
 
 pub outcome_from_step : (old new : NodeState) (event : PlainEvent) (outcome : Result Verdict Memory) (held out : List Send) → held ≡ []
     → IfOk outcome (λ verdict. (sends : List Send) × (out ≡ held ++ sends) × IsStep old event (record { verdict = verdict_of verdict; sends = sends }) new)
-    → OnErr outcome (Unharmed old new × (out ≡ held)) → (AsksNoMemory old event → IsOk outcome) → HasOutcome old new event outcome out
-outcome_from_step old new event (Ok verdict) held out none ok err quiet =
+    → OnErr outcome (Unharmed old new × (out ≡ held)) → (AsksNoMemory old event → IsOk outcome) → BringsOctets event → HasOutcome old new event outcome out
+outcome_from_step old new event (Ok verdict) held out none ok err quiet octets =
     let same : out ≡ ok.0 = ok.1 ∙ ap (λ (h : List Send). h ++ ok.0) none in
-    record { done_as = Answered (record { verdict = verdict_of verdict; sends = ok.0 }); handled = ok.2; text_is = λ rules n. rw same refl }
-outcome_from_step old new event (Err e) held out none ok err quiet =
+    record { done_as = Answered (record { verdict = verdict_of verdict; sends = ok.0 }); handled = (octets, ok.2); text_is = λ rules n. rw same refl }
+outcome_from_step old new event (Err e) held out none ok err quiet octets =
     let same : out ≡ [] = err.1 ∙ none in
-    record { done_as = NoMemory; handled = (err.0, λ h. never_ok e (quiet h)); text_is = λ rules n. rw same refl }
+    record { done_as = NoMemory; handled = (octets, err.0, λ h. never_ok e (quiet h)); text_is = λ rules n. rw same refl }
 
 -- the rules stay
 rules_stay : (old new : NodeState) (event : PlainEvent) (outcome : Outcome) → IsOutcome old event outcome new → new.policy.rules ≡ old.policy.rules
-rules_stay old new event (Answered answer) h = after_rules old.policy new.policy event h.policy
-rules_stay old new event NoMemory h = ap (λ (p : Policy). p.rules) h.0.policy
+rules_stay old new event (Answered answer) h = after_rules old.policy new.policy event h.1.policy
+rules_stay old new event NoMemory h = ap (λ (p : Policy). p.rules) h.1.policy
 
 pub rules_kept : (old new : NodeState) (events : List PlainEvent) (outcomes : List Outcome) → AreOutcomes old events outcomes new → new.policy.rules ≡ old.policy.rules
 rules_kept old new [] [] h = ap (λ (n : NodeState). n.policy.rules) h
@@ -58,11 +59,11 @@ rules_kept old new (event ∷ events) (outcome ∷ outcomes) h =
 
 pub PlaysEvent-from_step : (from to : Place) (event : PlainEvent) (outcome : Result Verdict Memory) (rules : List PlainRule) (held out : List Send) (before text : List ℕ) → held ≡ []
     → IfOk outcome (λ verdict. (sends : List Send) × (out ≡ held ++ sends) × IsStep from.node event (record { verdict = verdict_of verdict; sends = sends }) to.node)
-    → OnErr outcome (Unharmed from.node to.node × (out ≡ held)) → (AsksNoMemory from.node event → IsOk outcome)
+    → OnErr outcome (Unharmed from.node to.node × (out ≡ held)) → (AsksNoMemory from.node event → IsOk outcome) → BringsOctets event
     → rules ≡ to.node.policy.rules → before ≡ [] → text ≡ before ++ lines_text (from.events + 1) (said_text rules outcome) out
     → to.lines ≡ from.lines → to.events ≡ from.events + 1 → PlaysEvent event from to text
-PlaysEvent-from_step from to event outcome rules held out before text none ok err quiet shown empty is lines events =
-    let r = outcome_from_step from.node to.node event outcome held out none ok err quiet in
+PlaysEvent-from_step from to event outcome rules held out before text none ok err quiet octets shown empty is lines events =
+    let r = outcome_from_step from.node to.node event outcome held out none ok err quiet octets in
     let same : rules ≡ from.node.policy.rules = shown ∙ rules_stay from.node to.node event r.done_as r.handled in
     record {
       done_as = r.done_as;

@@ -8,6 +8,7 @@ use Rattle.ndn_tlv.specs.declared.memory.Memory.{Memory}
 use Rattle.node_core.specs.declared.ports.TheConstants.{FRAME_ROOM}
 use Rattle.forwarder.specs.declared.verdict.Verdict.{Verdict}
 use Rattle.forwarder.specs.Node.{NodeState, IsStep, Unharmed, AsksNoMemory}
+use Rattle.forwarder.specs.Sends.{BringsOctets}
 use Rattle.forwarder.specs.Verdict.{Answer, verdict_of}
 use Rattle.node_core.specs.Outcomes.{Outcome, Answered, NoMemory, IsOutcome, AreOutcomes}
 use Rattle.node_core.specs.Ports.{Gives, Takes, count_of, cut_to, one_more}
@@ -200,11 +201,11 @@ came_in_room before after size given event room is h =
     let Q : Option PlainEvent → Type 0 = λ o. Gives before after size o in
     subst P room (subst Q (sym is) h)
 
-pub Handles-refused : (old new : NodeState) (before after : Shown) (size : ℕ) (given : Option PlainEvent) (event : PlainEvent) (e : Memory) → size ≡ FRAME_ROOM → Some event ≡ given
+pub Handles-refused : (old new : NodeState) (before after : Shown) (size : ℕ) (given : Option PlainEvent) (event : PlainEvent) (e : Memory) → BringsOctets event → size ≡ FRAME_ROOM → Some event ≡ given
     → Gives before.coming after.coming size given → Unharmed old new → (AsksNoMemory old event → IsOk {T = Verdict} {E = Memory} (Err e))
     → after.taken ≡ before.taken → after.failures ≡ before.failures → Handles old new before after NoMemory 0
-Handles-refused old new before after size given event e room is gives unharmed quiet taken failures =
-    let handled : IsOutcome old event NoMemory new = (unharmed, λ h. let ok = quiet h in cc) in
+Handles-refused old new before after size given event e octets room is gives unharmed quiet taken failures =
+    let handled : IsOutcome old event NoMemory new = (octets, unharmed, λ h. let ok = quiet h in cc) in
     record {
       event = event;
       came = came_in_room before.coming after.coming size given event room is gives;
@@ -216,15 +217,15 @@ Handles-refused old new before after size given event e room is gives unharmed q
       failures = failures;
     }
 
-pub Handles-answered : (old new : NodeState) (before mid after : Shown) (size : ℕ) (given : Option PlainEvent) (event : PlainEvent) (verdict : Verdict) (held out : List Send) (failed : ℕ) → size ≡ FRAME_ROOM
+pub Handles-answered : (old new : NodeState) (before mid after : Shown) (size : ℕ) (given : Option PlainEvent) (event : PlainEvent) (verdict : Verdict) (held out : List Send) (failed : ℕ) → BringsOctets event → size ≡ FRAME_ROOM
     → Some event ≡ given → Gives before.coming mid.coming size given → mid.taken ≡ before.taken → mid.failures ≡ before.failures → held ≡ []
     → ((sends : List Send) × (out ≡ held ++ sends) × IsStep old event (record { verdict = verdict_of verdict; sends = sends }) new)
     → ((taken : List Send) × AreTakenOf out failed taken × Takes mid.taken after.taken taken) → after.coming ≡ mid.coming → after.failures ≡ many_more mid.failures failed
     → Handles old new before after (Answered (record { verdict = verdict_of verdict; sends = out })) failed
-Handles-answered old new before mid after size given event verdict held out failed room is gives taken failures none step sent coming counted =
+Handles-answered old new before mid after size given event verdict held out failed octets room is gives taken failures none step sent coming counted =
     let all : out ≡ step.0 = step.1 ∙ ap (λ (h : List Send). h ++ step.0) none in
     let answer : Answer = record { verdict = verdict_of verdict; sends = out } in
-    let handled : IsOutcome old event (Answered answer) new = rw all step.2 in
+    let handled : IsOutcome old event (Answered answer) new = (octets, rw all step.2) in
     let P : Option (List PlainEvent) → Type 0 = λ o. Gives before.coming o FRAME_ROOM (Some event) in
     let Q : Option (List Send) → Type 0 = λ o. Takes o after.taken sent.0 in
     record {

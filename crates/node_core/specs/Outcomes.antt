@@ -3,6 +3,7 @@ use Rattle.std.specs.Prelude.{◌≡◌, List, [], ◌∷◌}
 use Rattle.forwarder.specs.Event.{PlainEvent}
 use Rattle.forwarder.specs.Node.{NodeState, IsStep, Unharmed, AsksNoMemory}
 use Rattle.forwarder.specs.Runs.{Run, Then}
+use Rattle.forwarder.specs.Sends.{BringsOctets}
 use Rattle.forwarder.specs.Verdict.{Answer}
 
 -- how an event was handled: answered, or refused for want of memory
@@ -10,11 +11,12 @@ pub data Outcome : Type 0 where
   Answered : (answer : Answer) → Outcome
   NoMemory : Outcome
 
--- How an event is replied to: by a step, or not handled for want of memory. The cache may then have
--- forgotten some.
+-- How an event, which brings octets if it is a packet, is replied to: by a step, or not handled for
+-- want of memory. The cache may then have forgotten some.
 abbrev pub IsOutcome : NodeState → PlainEvent → Outcome → NodeState → Type 0
-IsOutcome old event (Answered answer) new = IsStep old event answer new
-IsOutcome old event NoMemory new = Unharmed old new × (AsksNoMemory old event → ⊥)
+IsOutcome old event (Answered answer) new = BringsOctets event × IsStep old event answer new
+IsOutcome old event NoMemory new =
+    BringsOctets event × Unharmed old new × (AsksNoMemory old event → ⊥)
 
 -- the events are replied to in order
 abbrev pub AreOutcomes : NodeState → List PlainEvent → List Outcome → NodeState → Type 0

@@ -10,13 +10,13 @@ pub use forwarder::{
     DropReason, Event, MAX_FACES, Node, NodeFault, NodeParts, Outbox, OwnedEvent, Scope, Verdict,
     cached_data_were_allowed, commands_are_allowed_once, denials_name_their_rule,
     denied_events_change_nothing, each_send_is_explained, events_have_one_effect,
-    guards_hold_allowed_commands, histories_decide, new_nodes_stand_in_the_empty_run,
-    objects_were_allowed, records_are_read_off_the_run, refused_steps_stand_still,
-    routes_are_read_off_the_run, steps_go_on_with_runs, steps_have_one_effect,
-    steps_keep_nodes_sound, unanswered_interests_wait,
+    every_data_sent_was_asked_for, guards_hold_allowed_commands, histories_decide, keys_stay_apart,
+    new_nodes_stand_in_the_empty_run, objects_were_allowed, records_are_read_off_the_run,
+    refused_steps_stand_still, routes_are_read_off_the_run, steps_go_on_with_runs,
+    steps_have_one_effect, steps_keep_nodes_sound, unanswered_interests_wait,
 };
 pub use ports::{
     ANSWER_SECONDS, Arrival, MemoryPorts, Moments, PortFault, Ports, ServeFault, Served, Turn,
-    UdpPorts, receive_one, send_from, send_one, serve, serve_turn,
+    UdpPorts, frame_room_is_as_promised, receive_one, send_from, send_one, serve, serve_turn,
 };
 pub use script::{RunFault, run_script, scripts_have_one_reading};

@@ -1,4 +1,4 @@
-ghost use Rattle.std.specs.Prelude.{◌≡◌, ℕ, List, [], ◌∷◌, Option, length, IfOk, OnOk, OnErr};
+ghost use Rattle.std.specs.Prelude.{◌≡◌, ℕ, List, [], ◌∷◌, Option, length, min, take, IfOk, OnOk, OnErr};
 ghost use Rattle.forwarder.specs.Event.{PlainEvent, Send};
 ghost use Rattle.node_core.specs.Ports.{Gives, LiesWithin, Takes, arrived, one_more};
 
@@ -19,6 +19,11 @@ pub use udp::{Moments, UdpPorts};
 /// How many octets of a packet or datagram are taken up: one more than a node accepts, so that the
 /// node drops a longer packet as too long.
 pub const FRAME_ROOM: usize = MAX_FRAME + 1;
+
+/// Law: this is one octet more than the 9,000 of the longest datagram that is read.
+pub fn frame_room_is_as_promised()
+    ensures { FRAME_ROOM ≡ 9001 }
+{}
 
 /// What a port gives for one turn. Moments are milliseconds since 1970.
 #[derive(Clone, Copy, Debug, PartialEq, Eq)]
@@ -79,4 +84,14 @@ pub trait Ports {
     /// How many calls failed. The count stops at the greatest u64.
     fn failures(&self) -> u64
         ensures { result ≡ failures self.now };
+}
+
+// Copies as many octets as the buffer can hold to its front: how many these are.
+fn put_front(octets: &[u8], buffer: &mut [u8]) -> usize
+    ensures len { result ≡ min (length octets.now) (length buffer.new) }
+    ensures front { take result buffer.new ≡ take (length buffer.new) octets.now }
+{
+    let len = octets.len().min(buffer.len());
+    buffer[..len].copy_from_slice(&octets[..len]);
+    len
 }

@@ -4,8 +4,8 @@ use super::octets::octets_of;
 use super::ports::node_of;
 use ndn_packets::PacketFault;
 use node_core::{
-    DropReason, Moments, Node, Outbox, Ports, Served, Turn, UdpPorts, Verdict, receive_one,
-    send_one, serve, serve_turn,
+    Arrival, DropReason, Moments, Node, Outbox, Ports, Scope, Served, Turn, UdpPorts, Verdict,
+    receive_one, send_one, serve, serve_turn,
 };
 use std::alloc::Global;
 use std::net::{Ipv4Addr, Net, UdpSocket};
@@ -15,8 +15,25 @@ use std::net::{Ipv4Addr, Net, UdpSocket};
 struct Still;
 
 impl Moments for Still {
+    ghost last = { λ _. 1000000 };
+
     fn now(&mut self) -> u64 {
         1_000_000
+    }
+}
+
+/// A clock that moves on by a millisecond whenever it is asked.
+#[derive(Drop)]
+struct Moving {
+    last: u64,
+}
+
+impl Moments for Moving {
+    ghost last = { λ clock. clock.last };
+
+    fn now(&mut self) -> u64 {
+        self.last = self.last.saturating_add(1);
+        self.last
     }
 }
 
@@ -204,4 +221,78 @@ fn is_taken(rt: &impl Net) -> Option<bool> {
 #[test]
 fn udp_port_taken(rt: HostRuntime) {
     assert!(rt; is_taken(&rt) == Some(true));
+}
+
+/// Whether the next arrival is this one.
+fn brings(ports: &mut UdpPorts<Moving>, arrival: Arrival) -> bool {
+    ports.next(&mut [0; 100]) == Ok(arrival)
+}
+
+/// Whether the next two arrivals, at these moments, open a face and bring so many octets on it.
+fn opens(ports: &mut UdpPorts<Moving>, face: u64, opened: u64, came: u64, len: usize) -> bool {
+    let opening = Arrival::FaceUp {
+        face,
+        scope: Scope::Far,
+        now: opened,
+    };
+    let packet = Arrival::Packet {
+        face,
+        now: came,
+        len,
+    };
+    brings(ports, opening) && brings(ports, packet)
+}
+
+/// Whether two ports open a face each, keep it, and get what is sent to it.
+fn open_themselves(rt: &impl Net) -> Option<bool> {
+    let listen = free_port(rt)?;
+    let mut ports = UdpPorts::bind(rt, listen, &[], 0, Moving { last: 0 }).ok()?;
+    let first = send_one(rt, listen, b"1").ok()?;
+    let second = send_one(rt, listen, b"22").ok()?;
+    let opened = opens(&mut ports, 1, 1, 2, 1) && opens(&mut ports, 2, 3, 4, 2);
+    first.send(b"333").ok()?;
+    let again = Arrival::Packet {
+        face: 1,
+        now: 5,
+        len: 3,
+    };
+    let kept = brings(&mut ports, again);
+    let sent = ports.send(2, b"to two").is_ok() && ports.send(1, b"to one").is_ok();
+    Some(
+        opened
+            && kept
+            && sent
+            && hears_octets(&first, b"to one")
+            && hears_octets(&second, b"to two"),
+    )
+}
+
+/// Whether these octets are what a socket hears next.
+fn hears_octets(socket: &UdpSocket, octets: &[u8]) -> bool {
+    let mut buffer = [0; 100];
+    match receive_one(socket, &mut buffer) {
+        Ok(len) => buffer.get(..len) == Some(octets),
+        Err(_) => false,
+    }
+}
+
+#[test]
+fn udp_ports_open_themselves(rt: HostRuntime) {
+    assert!(rt; open_themselves(&rt) == Some(true));
+}
+
+/// Whether a datagram to another address of this machine is not heard: the next one is.
+fn hears_loopback_alone(rt: &impl Net) -> Option<bool> {
+    let listen = free_port(rt)?;
+    let mut ports = UdpPorts::bind(rt, listen, &[], 0, Moving { last: 0 }).ok()?;
+    let (_, client) = heard_port(rt)?;
+    let elsewhere = Ipv4Addr::new(127, 0, 0, 2);
+    let _sent = client.send_to(b"to another address", (elsewhere, listen));
+    client.send_to(b"here", (Ipv4Addr::LOCALHOST, listen)).ok()?;
+    Some(opens(&mut ports, 1, 1, 2, 4))
+}
+
+#[test]
+fn udp_hears_loopback_alone(rt: HostRuntime) {
+    assert!(rt; hears_loopback_alone(&rt) == Some(true));
 }

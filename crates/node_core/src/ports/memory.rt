@@ -2,7 +2,7 @@ ghost use Rattle.std.specs.Prelude.{◌≡◌, ◌-◌, ◌↔◌, [], ◌∷◌
 ghost use Rattle.forwarder.specs.Event.{plain_owned};
 ghost use Rattle.node_core.specs.Ports.{Gives, LiesWithin, Takes, arrived, cut_to, one_more};
 
-use crate::ports::{Arrival, PortFault, Ports};
+use crate::ports::{Arrival, PortFault, Ports, put_front};
 use forwarder::{Outbox, OwnedEvent};
 use std::alloc::Global;
 use std::marker::Model;
@@ -177,14 +177,4 @@ fn put_event(event: &OwnedEvent, buffer: &mut [u8]) -> Arrival
         },
         OwnedEvent::Tick { now } => Arrival::Tick { now: *now },
     }
-}
-
-// Copies as many octets as the buffer can hold to its front: how many these are.
-fn put_front(octets: &[u8], buffer: &mut [u8]) -> usize
-    ensures len { result ≡ min (length octets.now) (length buffer.new) }
-    ensures front { take result buffer.new ≡ take (length buffer.new) octets.now }
-{
-    let len = octets.len().min(buffer.len());
-    buffer[..len].copy_from_slice(&octets[..len]);
-    len
 }

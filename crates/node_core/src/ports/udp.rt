@@ -1,18 +1,22 @@
 //! Ports by UDP, for programs on this machine.
-ghost use Rattle.std.specs.Prelude.{◌≡◌, ◌≢◌, ◌<◌, ◌≤◌, None, Some, length, IfOk, IfSome, OnOk, OnErr};
+ghost use Rattle.std.specs.Prelude.{◌≡◌, ◌<◌, ◌≤◌, ℕ, List, None, Some, length, take, IfOk, OnOk, OnErr};
 ghost use Rattle.node_core.specs.Ports.{LiesWithin, one_more};
-ghost use Rattle.node_core.specs.Udp.{Listens, UdpGives, bound_to};
+ghost use Rattle.node_core.specs.Udp.{Listens, OpensPeer, Receives, UdpGives, bound_to, port_at};
 
 use crate::ports::known_ports::KnownPorts;
-use crate::ports::{Arrival, FRAME_ROOM, PortFault, Ports};
+use crate::ports::{Arrival, FRAME_ROOM, PortFault, Ports, put_front};
 use forwarder::{MAX_FACES, Scope};
 use std::marker::Model;
 use std::net::{Ipv4Addr, Net, UdpSocket};
 
 /// Where moments come from.
 pub trait Moments: Drop {
+    // The moment that was told last.
+    ghost last: { Self → ℕ };
+
     /// The present moment, in milliseconds since 1970.
-    fn now(&mut self) -> u64;
+    fn now(&mut self) -> u64
+        ensures { result ≡ last self.new };
 }
 
 /// Ports of programs on this machine, with a face for each, by one UDP socket on 127.0.0.1.
@@ -23,7 +27,7 @@ pub trait Moments: Drop {
 /// which no node with 64 faces opens, and the port is not kept. No face is ever closed, and nothing
 /// ends.
 #[derive(Drop)]
-pub struct UdpPorts<M> {
+pub struct UdpPorts<M: Moments> {
     socket: UdpSocket,
     moments: M,
     known: KnownPorts,
@@ -37,8 +41,9 @@ pub struct UdpPorts<M> {
     failures: u64,
 }
 
-impl<M> Model for UdpPorts<M> {
-    ghost use Rattle.std.specs.Prelude.{◌≤◌, length};
+impl<M: Moments> Model for UdpPorts<M> {
+    ghost use Rattle.std.specs.Prelude.{◌≤◌, length, take};
+    ghost use Rattle.std.specs.Option.{option_map};
     ghost use Rattle.node_core.specs.Udp.{UdpState};
     ghost use Rattle.node_core.specs.declared.ports.TheConstants.{FRAME_ROOM};
 
@@ -48,7 +53,8 @@ impl<M> Model for UdpPorts<M> {
       ports = u.known;
       opened = u.opened;
       local = u.local;
-      waiting = u.waiting;
+      waiting = option_map (λ face. (face, take u.len u.octets)) u.waiting;
+      told = M.last u.moments;
       failures = u.failures;
     } };
 
@@ -67,7 +73,7 @@ impl<M: Moments> UdpPorts<M> {
         moments: M,
     ) -> Result<UdpPorts<M>, PortFault>
         requires few { length peers.now ≤ MAX_FACES }
-        ensures { IfOk result (λ ports. ports ≡ bound_to peers.now local) }
+        ensures { IfOk result (λ ports. ports ≡ bound_to peers.now local (M.last moments)) }
     {
         let Ok(socket) = UdpSocket::bind(rt, (Ipv4Addr::LOCALHOST, listen)) else {
             return Err(PortFault::Failed);
@@ -93,33 +99,43 @@ impl<M: Moments> UdpPorts<M> {
         PortFault::Failed
     }
 
-    /// Puts the datagram that waits at the front of the buffer. What does not fit is cut off.
-    fn take_waiting(&mut self, buffer: &mut [u8]) -> usize
-        ensures fits { result ≤ length buffer.new }
-        ensures taken { self.new ≡ record self.old { waiting = None } }
+    /// The present moment.
+    fn now(&mut self) -> u64
+        ensures { self.new ≡ record self.old { told = result } }
     {
-        let len = self.len.min(buffer.len());
-        buffer[..len].copy_from_slice(&self.octets[..len]);
+        self.moments.now()
+    }
+
+    /// Gives the datagram that waits for this face, at the front of the buffer. What does not fit is
+    /// cut off.
+    fn give_waiting(&mut self, face: u64, buffer: &mut [u8]) -> Arrival
+        requires opened { self.old.opened ≡ length self.old.ports }
+        requires waiting { (octets : List ℕ) × (self.old.waiting ≡ Some (face, octets)) }
+        ensures fits { LiesWithin (length buffer.new) result }
+        ensures gives { UdpGives self.old self.new buffer.new result }
+    {
+        let len = put_front(&self.octets[..self.len], buffer);
         self.waiting = None;
-        len
+        Arrival::Packet {
+            face,
+            now: self.now(),
+            len,
+        }
     }
 
     /// Keeps a datagram until it is asked for. It is for this face.
     fn keep(&mut self, face: u64, datagram: &[u8])
-        ensures { self.new ≡ record self.old { waiting = Some face } }
+        ensures { self.new
+            ≡ record self.old { waiting = Some (face, take FRAME_ROOM datagram.now) } }
     {
-        let len = datagram.len().min(FRAME_ROOM);
-        self.octets[..len].copy_from_slice(&datagram[..len]);
-        self.len = len;
+        self.len = put_front(datagram, &mut self.octets);
         self.waiting = Some(face);
     }
-}
 
-impl<M: Moments> UdpPorts<M> {
     /// Opens the face of the first known port that has none.
     fn open(&mut self) -> Arrival
         requires { self.old.opened < length self.old.ports }
-        ensures { UdpGives self.old self.new result }
+        ensures { OpensPeer self.old self.new result }
     {
         let known = self.known.len();
         self.opened += 1;
@@ -132,7 +148,7 @@ impl<M: Moments> UdpPorts<M> {
         Arrival::FaceUp {
             face,
             scope,
-            now: self.moments.now(),
+            now: self.now(),
         }
     }
 
@@ -140,12 +156,12 @@ impl<M: Moments> UdpPorts<M> {
     fn arrive(&mut self, datagram: &[u8], port: u16) -> Arrival
         requires { Listens self.old }
         ensures fits { LiesWithin (length datagram.now) result }
-        ensures gives { UdpGives self.old self.new result }
+        ensures receives { Receives self.old self.new port datagram.now result }
     {
         if let Some(place) = self.known.place_of(port) {
             return Arrival::Packet {
                 face: place as u64 + 1,
-                now: self.moments.now(),
+                now: self.now(),
                 len: datagram.len(),
             };
         }
@@ -159,7 +175,7 @@ impl<M: Moments> UdpPorts<M> {
         Arrival::FaceUp {
             face,
             scope: Scope::Far,
-            now: self.moments.now(),
+            now: self.now(),
         }
     }
 
@@ -167,7 +183,7 @@ impl<M: Moments> UdpPorts<M> {
     fn receive(&mut self, buffer: &mut [u8]) -> Result<Arrival, PortFault>
         requires { Listens self.old }
         ensures fits { IfOk result (LiesWithin (length buffer.new)) }
-        ensures gives { IfOk result (UdpGives self.old self.new) }
+        ensures gives { IfOk result (UdpGives self.old self.new buffer.new) }
         ensures failed { OnErr result
             (self.new ≡ record self.old { failures = one_more self.old.failures }) }
     {
@@ -179,7 +195,7 @@ impl<M: Moments> UdpPorts<M> {
 
     /// The port of a face.
     fn port_of(&self, face: u64) -> Option<u16>
-        ensures { IfSome result (λ port. (face ≢ 0) × (face ≤ length self.now.ports)) }
+        ensures { result ≡ port_at self.now.ports face }
     {
         let place = usize::try_from(face).ok()?.checked_sub(1)?;
         self.known.get(place)
@@ -197,26 +213,22 @@ impl<M: Moments> Ports for UdpPorts<M> {
     fn next(&mut self, buffer: &mut [u8]) -> Result<Arrival, PortFault>
         ensures fits { IfOk result (LiesWithin (length buffer.new)) }
         ensures works { OnOk result (self.new.failures ≡ self.old.failures) }
-        ensures opens { IfOk result (UdpGives self.old self.new) }
+        ensures gives { IfOk result (UdpGives self.old self.new buffer.new) }
         ensures failed { OnErr result
             (self.new ≡ record self.old { failures = one_more self.old.failures }) }
     {
         if self.opened < self.known.len() {
             return Ok(self.open());
         }
-        if let Some(face) = self.waiting {
-            let len = self.take_waiting(buffer);
-            return Ok(Arrival::Packet {
-                face,
-                now: self.moments.now(),
-                len,
-            });
+        match self.waiting {
+            Some(face) => Ok(self.give_waiting(face, buffer)),
+            None => self.receive(buffer),
         }
-        self.receive(buffer)
     }
 
     fn send(&mut self, face: u64, octets: &[u8]) -> Result<(), PortFault>
-        ensures known { OnOk result ((face ≢ 0) × (face ≤ length self.old.ports)) }
+        ensures known { OnOk result
+            ((port : ℕ) × (port_at self.old.ports face ≡ Some port)) }
         ensures works { OnOk result (self.new ≡ self.old) }
         ensures failed { OnErr result
             (self.new ≡ record self.old { failures = one_more self.old.failures }) }

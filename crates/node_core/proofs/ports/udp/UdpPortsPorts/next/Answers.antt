@@ -1,0 +1,10 @@
+use Rattle.std.proofs.Common.{◌≡◌, ℕ, List, take, ap, sym, ◌∙◌}
+use Rattle.std.specs.Prelude.{Option, Some}
+use Rattle.std.specs.Option.{option_map}
+use Rattle.node_core.specs.Udp.{UdpState}
+use Rattle.node_core.proofs.ports.udp.UdpPortsPorts.next.Goals as goal
+
+pub give_waiting-requires-clause-waiting : goal.give_waiting-requires-clause-waiting
+give_waiting-requires-clause-waiting g c =
+    let octets = take c.self.inside.len c.self.inside.octets in
+    (octets, sym (ap (λ (u : UdpState). u.waiting) c.self.view_is) ∙ ap (option_map (λ (face : ℕ). (face, octets))) c.in-Some.is)
