@@ -7,8 +7,8 @@ pub const TOOL: &str =
     "Packets and other octets are in hexadecimal, two digits for each octet, in either case. URI is
 the text of a name, such as /A/seg=5. Numbers are decimal.
 
-A key file has on each line the URI of a key's name, a space, and the key in hexadecimal. Empty
-lines, and lines that begin with ;, are skipped.
+A key file has on each line the URI of a key's name, one space, and the key in hexadecimal. A second
+space would belong to the name. Empty lines, and lines that begin with ;, are skipped.
 
 Example: a key, an Interest signed with it, and what that Interest holds.
   $ echo '/ops/KEY/1 6b6579' > ops.keys

@@ -51,7 +51,9 @@ the node sends. The verdict is one of:
   dropped REASON                the event had no effect
   memory                        memory ran out, and the event had no effect
 
-Without --rules no rule allows anything: routes cannot be set, and Data are not returned.
+Without --rules no rule allows anything: routes cannot be set, and Data are not returned. A key file
+has on each line the URI of a key's name, one space, and the key in hexadecimal; a second space
+would belong to the name.
 
 Example: an Interest for /A comes from face 1, and no route leads to /A. The answer is a Nack.
   $ ndn_node script << END
@@ -77,6 +79,9 @@ are given, each once.
 In each turn the node opens the face of the next peer, or takes one datagram, for which it waits. A
 datagram from another port opens the next face, which is Far, and is handled in the turn after that.
 While 64 ports are known, no more faces open. No face is closed.
+
+A key file has on each line the URI of a key's name, one space, and the key in hexadecimal; a second
+space would belong to the name.
 
 The answer to turn N is printed as `script` prints that to event N: a line `N VERDICT`, and a line
 `> FACE HEX` for each packet that goes out. Moments are those of the machine's clock.
