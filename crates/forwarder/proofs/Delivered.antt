@@ -9,7 +9,7 @@ use Rattle.sha2.specs.Sha256.{sha256}
 use Rattle.ndn_packets.specs.Packet.{PlainData}
 use Rattle.pit_fib.specs.Faces.{IsRising, has_face}
 use Rattle.pit_fib.specs.Pit.{WaitsFor}
-use Rattle.pit_fib.specs.Records.{Ask, Asks, Records, is_alive, records_at}
+use Rattle.pit_fib.specs.Records.{InRecord, InRecords, Records, is_alive, records_at}
 use Rattle.content_store.specs.Store.{StoreState, with_cached}
 use Rattle.forwarder.specs.Event.{to_each}
 use Rattle.forwarder.specs.Replies.{IsSentToAskers}
@@ -22,26 +22,26 @@ use Rattle.forwarder.proofs.Members.{IsRising-filter, IsIn, IsIn-filter_from, Is
 never : {A : Type 0} → false ≡ true → A
 never e = absurd cc
 
-none_found : {A : Type 0} (m : Asks) (face : ℕ) → entries m ≡ [] → IsSome (get m face) → A
+none_found : {A : Type 0} (m : InRecords) (face : ℕ) → entries m ≡ [] → IsSome (get m face) → A
 none_found m face none some = never (sym (ap is_some (get-entries m face ∙ ap (find nat_cmp face) none)) ∙ some)
 
 -- an asker makes records alive
-pub asker_lives : (r : Records) (face : ℕ) → IsSome (get r.asks face) → is_alive r ≡ true
-asker_lives r face some = by_entries (entries r.asks) refl
+pub asker_lives : (r : Records) (face : ℕ) → IsSome (get r.in_records face) → is_alive r ≡ true
+asker_lives r face some = by_entries (entries r.in_records) refl
   where
-    by_entries : (es : List (ℕ × Ask)) → entries r.asks ≡ es → is_alive r ≡ true
-    by_entries [] none = none_found r.asks face none some
-    by_entries (e ∷ es) is = lt-ltb 0 (len r.asks) (omega (arith, len-entries r.asks, ap (λ (l : List (ℕ × Ask)). length l) is))
+    by_entries : (es : List (ℕ × InRecord)) → entries r.in_records ≡ es → is_alive r ≡ true
+    by_entries [] none = none_found r.in_records face none some
+    by_entries (e ∷ es) is = lt-ltb 0 (len r.in_records) (omega (arith, len-entries r.in_records, ap (λ (l : List (ℕ × InRecord)). length l) is))
 
 -- records that are alive have an asker
-pub living_asker : (r : Records) → is_alive r ≡ true → (face : ℕ) × IsSome (get r.asks face)
-living_asker r alive = by_entries (entries r.asks) refl
+pub living_asker : (r : Records) → is_alive r ≡ true → (face : ℕ) × IsSome (get r.in_records face)
+living_asker r alive = by_entries (entries r.in_records) refl
   where
-    by_entries : (es : List (ℕ × Ask)) → entries r.asks ≡ es → (face : ℕ) × IsSome (get r.asks face)
-    by_entries [] none = never (sym (ap (ltb 0) (len-entries r.asks ∙ ap length none)) ∙ alive)
+    by_entries : (es : List (ℕ × InRecord)) → entries r.in_records ≡ es → (face : ℕ) × IsSome (get r.in_records face)
+    by_entries [] none = never (sym (ap (ltb 0) (len-entries r.in_records ∙ ap length none)) ∙ alive)
     by_entries (e ∷ es) is = (
       e.0,
-      ap is_some (get-entries r.asks e.0 ∙ ap (find nat_cmp e.0) is
+      ap is_some (get-entries r.in_records e.0 ∙ ap (find nat_cmp e.0) is
           ∙ ap (λ b. cond b (Some e.1) (find nat_cmp e.0 es)) (ap is_eq (tied_itself nat_cmp_total e.0))),
     )
 

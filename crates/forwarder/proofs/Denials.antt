@@ -13,7 +13,7 @@ use Rattle.info_rules.specs.declared.decision.Decision.TheVariants as decided
 use Rattle.pit_fib.specs.declared.nacked.Nacked.{Nacked}
 use Rattle.pit_fib.specs.declared.nacked.Nacked.TheVariants as nacks
 use Rattle.pit_fib.specs.Pit.{loops, moments}
-use Rattle.pit_fib.specs.Records.{Asks, Records, Pending, is_alive}
+use Rattle.pit_fib.specs.Records.{InRecords, Records, Pending, is_alive}
 use Rattle.strategies.specs.declared.strategy.Choice.{Choice}
 use Rattle.strategies.specs.declared.strategy.Choice.TheVariants as choices
 use Rattle.content_store.specs.Store.{CachedData}
@@ -68,7 +68,7 @@ mild_forwarded seen key whole i face (choices.Send faces) = by_full (not (is_ali
 mild_unserved : (seen : Seen) (face : ℕ) (whole : List ℕ) (i : PlainInterest) (object : Option (List ℕ)) → Mild (unserved seen face whole i object)
 mild_unserved seen face whole i (Some octets) = refl
 mild_unserved seen face whole i None =
-    mild_forwarded seen (key_of i) whole i face (choice_for seen.policy i.name (moments (seen.records (key_of i)).asked) (ask_from seen.policy face i))
+    mild_forwarded seen (key_of i) whole i face (choice_for seen.policy i.name (moments (seen.records (key_of i)).out_records) (ask_from seen.policy face i))
 
 mild_cache : (seen : Seen) (face : ℕ) (whole : List ℕ) (i : PlainInterest) (given : Option (List ℕ)) → Mild (by_cache seen face whole i given)
 mild_cache seen face whole i (Some octets) = refl
@@ -81,7 +81,7 @@ mild_data seen face whole i answer h = by_loop (loops (seen.records (key_of i)) 
     by_loop true e = mild_is answer _ e refl
     by_loop false h = mild_is answer _ h.2 (mild_cache seen face whole i h.0)
 
-pub mild_nack : (asks : Asks) (n : Nacked) → Mild (nack_answer asks n)
+pub mild_nack : (asks : InRecords) (n : Nacked) → Mild (nack_answer asks n)
 mild_nack asks nacks.NoPending = refl
 mild_nack asks nacks.Waiting = refl
 mild_nack asks (nacks.All reason) = refl

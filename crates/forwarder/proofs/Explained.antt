@@ -18,7 +18,7 @@ use Rattle.pit_fib.specs.declared.nacked.Nacked.{Nacked}
 use Rattle.pit_fib.specs.declared.nacked.Nacked.TheVariants as nacks
 use Rattle.pit_fib.specs.Faces.{has_face}
 use Rattle.pit_fib.specs.Pit.{loops, moments, nacked_answer}
-use Rattle.pit_fib.specs.Records.{Ask, Asks, is_alive}
+use Rattle.pit_fib.specs.Records.{InRecord, InRecords, is_alive}
 use Rattle.strategies.specs.declared.strategy.Choice.{Choice}
 use Rattle.strategies.specs.declared.strategy.Choice.TheVariants as choices
 use Rattle.mgmt_core.specs.Writing.{segment_at}
@@ -139,7 +139,7 @@ module _ (seen : Seen) (face now : ℕ) (octets whole : List ℕ) (i : PlainInte
   object_explained : (object : Option (List ℕ)) → served i.name i.can_be_prefix seen.policy.held.objects ≡ object → EachIsExplained seen event (unserved seen face whole i object)
   object_explained (Some text) e = one_send (IsExplained seen event) (face, text) (hand text (inr (inl e)))
   object_explained None e =
-      forwarded_explained (key_of i) (choice_for seen.policy i.name (moments (seen.records (key_of i)).asked) (ask_from seen.policy face i))
+      forwarded_explained (key_of i) (choice_for seen.policy i.name (moments (seen.records (key_of i)).out_records) (ask_from seen.policy face i))
 
   given_explained : (given : Option (List ℕ)) → seen.MayGive (key_of i) given → EachIsExplained seen event (by_cache seen face whole i given)
   given_explained (Some text) h = one_send (IsExplained seen event) (face, text) (hand text (inl h))
@@ -217,12 +217,12 @@ module _ (seen : Seen) (face now : ℕ) (octets : List ℕ) (fits : AreOctets oc
           ap (λ (b : Bool). if b then packet_to_decide seen.policy face (frame_at octets) else None) open' ∙ ap (λ (r : Result PlainFrame PacketFault). packet_to_decide seen.policy face r) read ∙ heard in
           said_explained whole d read brings h.0 h.1 h.2
 
-  all_nacks : (reason : ℕ) (asks : List (ℕ × Ask)) → All (IsExplained seen arrival) (map {A = ℕ × Ask} {B = Send} (λ e. (e.0, nack_text reason e.1.interest)) asks)
+  all_nacks : (reason : ℕ) (asks : List (ℕ × InRecord)) → All (IsExplained seen arrival) (map {A = ℕ × InRecord} {B = Send} (λ e. (e.0, nack_text reason e.1.interest)) asks)
   all_nacks reason [] = All-nil (IsExplained seen arrival)
   all_nacks reason (e ∷ asks) =
       All-cons (IsExplained seen arrival) (e.0, nack_text reason e.1.interest) _ (nack_explained seen arrival e.0 reason e.1.interest) (all_nacks reason asks)
 
-  nacked_explained : (asks : Asks) (n : Nacked) → EachIsExplained seen arrival (nack_answer asks n)
+  nacked_explained : (asks : InRecords) (n : Nacked) → EachIsExplained seen arrival (nack_answer asks n)
   nacked_explained asks nacks.NoPending = All-nil (IsExplained seen arrival)
   nacked_explained asks nacks.Waiting = All-nil (IsExplained seen arrival)
   nacked_explained asks (nacks.All reason) = all_nacks reason (map_of.entries asks)
@@ -230,11 +230,11 @@ module _ (seen : Seen) (face now : ℕ) (octets : List ℕ) (fits : AreOctets oc
   nack_explains : (reason : ℕ) (i : PlainInterest) → RepliesToNack seen face reason i answer → EachIsExplained seen arrival answer
   nack_explains reason i h = by_scope (is_out_of_scope seen.policy face i.name) h
     where
-      by_scope : (b : Bool) → WhereTrue b (answer ≡ dropped OutOfScope) (answer ≡ nack_answer (seen.records (key_of i)).asks (nacked_answer (seen.records (key_of i)) face i.nonce reason))
+      by_scope : (b : Bool) → WhereTrue b (answer ≡ dropped OutOfScope) (answer ≡ nack_answer (seen.records (key_of i)).in_records (nacked_answer (seen.records (key_of i)) face i.nonce reason))
           → EachIsExplained seen arrival answer
       by_scope true e = no_sends seen arrival answer OutOfScope e
       by_scope false e =
-          each_is seen arrival answer _ e (nacked_explained (seen.records (key_of i)).asks (nacked_answer (seen.records (key_of i)) face i.nonce reason))
+          each_is seen arrival answer _ e (nacked_explained (seen.records (key_of i)).in_records (nacked_answer (seen.records (key_of i)) face i.nonce reason))
 
   packet_explained : (read : Result PlainFrame PacketFault) → frame_at octets ≡ read → is_open face seen.policy.faces ≡ true → RepliesToPacket seen face read answer → EachIsExplained seen arrival answer
   packet_explained (Err fault) e open' h = no_sends seen arrival answer (Malformed fault) h

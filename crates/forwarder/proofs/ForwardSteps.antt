@@ -22,7 +22,7 @@ use Rattle.pit_fib.specs.Faces.{IsRising, has_face, with_face}
 use Rattle.pit_fib.specs.Pit.{HasRecord, HasRoomFor, moments}
 use Rattle.pit_fib.specs.declared.hops.Hop.{Hop}
 use Rattle.pit_fib.specs.Tables.{ByFace}
-use Rattle.pit_fib.specs.Records.{Ask, Pending, Records, no_records, is_alive, records_at}
+use Rattle.pit_fib.specs.Records.{InRecord, Pending, Records, no_records, is_alive, records_at}
 use Rattle.pit_fib.proofs.PendingFaces.{had_record}
 use Rattle.pit_fib.proofs.PendingPlaces.{alive_insert}
 use Rattle.pit_fib.proofs.PendingTables.{same_self}
@@ -32,7 +32,7 @@ use Rattle.strategies.specs.Choice.{faces_of}
 use Rattle.strategies.specs.declared.strategy.Choice.TheVariants.{NoRoute, Send as SendTo}
 use Rattle.strategies.specs.Eligible.{eligible, is_eligible}
 use Rattle.pit_fib.specs.declared.faces.TheConstants.{MAX_FACES}
-use Rattle.forwarder.specs.Causes.{after_causes, ask_of, interest_causes, is_answered, is_nack, is_nacked, sent_causes}
+use Rattle.forwarder.specs.Causes.{after_causes, in_record_for, interest_causes, is_answered, is_nack, is_nacked, sent_causes}
 use Rattle.forwarder.proofs.Contents.{begins, interest_is_neither, nack_is_nack, none_nacked, sent_on_begins, spelled_begins}
 use Rattle.forwarder.specs.Event.{Send, to_each}
 use Rattle.forwarder.specs.Faces.{FaceEntry, is_open, numbers}
@@ -118,7 +118,7 @@ pub sent_alive : (key : PlainKey) (face : ℕ) (nonce : List ℕ) (now : ℕ) (k
     → is_alive (records_after (SentTo key face nonce now) k r) ≡ true
 sent_alive key face nonce now k r alive =
     settled_alive (changed (SentTo key face nonce now) k r)
-    (elim (same_key k key) as (λ b. is_alive (cond b (record { asks = r.asks; asked = fin.insert r.asked face (sent_at nonce now) }) r) ≡ true) [
+    (elim (same_key k key) as (λ b. is_alive (cond b (record { asks = r.in_records; asked = fin.insert r.out_records face (sent_at nonce now) }) r) ≡ true) [
       | true ↦ alive
       | false ↦ alive
     ])
@@ -158,14 +158,14 @@ has_at (f ∷ faces) (suc i) face at = ap (λ (b : Bool). (f == face) || b) (has
 -- ---- the asker
 
 -- who arrives asks
-pub arrived_alive : (key : PlainKey) (face : ℕ) (ask : Ask) (r : Records) → is_alive (records_after (Arrives key face ask) key r) ≡ true
+pub arrived_alive : (key : PlainKey) (face : ℕ) (ask : InRecord) (r : Records) → is_alive (records_after (Arrives key face ask) key r) ≡ true
 arrived_alive key face ask r =
-    let asking : Records = record { asks = fin.insert r.asks face ask; asked = r.asked } in
+    let asking : Records = record { asks = fin.insert r.in_records face ask; asked = r.out_records } in
     settled_alive (changed (Arrives key face ask) key r)
-    (subst (λ (b : Bool). is_alive (cond b asking r) ≡ true) (sym (same_self key)) (alive_insert r.asks r.asked face ask))
+    (subst (λ (b : Bool). is_alive (cond b asking r) ≡ true) (sym (same_self key)) (alive_insert r.in_records r.out_records face ask))
 
 -- a node stays sound where an open face arrives
-pub arrived_sound : (old new : NodeState) (key : PlainKey) (face : ℕ) (ask : Ask) → IsSound old → is_open face old.policy.faces ≡ true
+pub arrived_sound : (old new : NodeState) (key : PlainKey) (face : ℕ) (ask : InRecord) → IsSound old → is_open face old.policy.faces ≡ true
     → new.policy ≡ old.policy → Follows (Arrives key face ask) old.pending new.pending → IsSound new
 arrived_sound old new key face ask sound here same arrives = record {
   few = subst (λ (p : Policy). length p.faces ≤ MAX_FACES) (sym same) sound.few;
@@ -195,7 +195,7 @@ sent_faces false hops faces is = cc is
 
 module _ (s : NodeState) (sound : IsSound s) (face : ℕ) (i : PlainInterest) (faces : List ℕ) (chosen : choice_from s face i ≡ SendTo faces) where
   abbrev asked : ByFace
-  asked = moments (records_at s.pending (key_of i)).asked
+  asked = moments (records_at s.pending (key_of i)).out_records
 
   pub chosen_open : (f : ℕ) → has_face f faces ≡ true → is_open f s.policy.faces ≡ true
   chosen_open f has =
@@ -274,21 +274,21 @@ arrives_as {k} {key} face whole nonce {d} {deadline} old new same until arrives 
 -- an asker that nothing goes back to
 kept_causes : (now face : ℕ) (whole : List ℕ) (i : PlainInterest) (sends : List Send) → is_nacked sends ≡ false → is_answered face sends ≡ false
     → interest_causes now face whole i sends
-    ≡ Arrives (key_of i) face (ask_of now whole i) ∷ map (λ (sent : Send). SentTo (key_of i) sent.0 i.nonce now) sends
+    ≡ Arrives (key_of i) face (in_record_for now whole i) ∷ map (λ (sent : Send). SentTo (key_of i) sent.0 i.nonce now) sends
 kept_causes now face whole i sends nacked answered =
-    let kept = Arrives (key_of i) face (ask_of now whole i) ∷ map (λ (sent : Send). SentTo (key_of i) sent.0 i.nonce now) sends in
+    let kept = Arrives (key_of i) face (in_record_for now whole i) ∷ map (λ (sent : Send). SentTo (key_of i) sent.0 i.nonce now) sends in
     ap (λ (b : Bool). cond b (Withdrawn (key_of i) face ∷ []) (cond (is_answered face sends) [] kept)) nacked
     ∙ ap (λ (b : Bool). cond b [] kept) answered
 
 pub sent_on_causes : (now face : ℕ) (whole : List ℕ) (i : PlainInterest) (faces : List ℕ) (old mid new : Pending)
     → ∥ IsInterest whole i ∥₁ → has_face face faces ≡ false
-    → Follows (Arrives (key_of i) face (ask_of now whole i)) old mid → FollowAll (sent_causes (key_of i) i.nonce now faces) mid new
+    → Follows (Arrives (key_of i) face (in_record_for now whole i)) old mid → FollowAll (sent_causes (key_of i) i.nonce now faces) mid new
     → FollowAll (interest_causes now face whole i (to_each faces (sent_on whole i.hop_limit))) old new
 sent_on_causes now face whole i faces old mid new spelled apart arrives sent key =
     let octets = sent_on whole i.hop_limit in
     let other = (interest_is_neither octets (sent_on_begins whole i.hop_limit (begins_spelled whole i spelled))).0 in
     let is = kept_causes now face whole i (to_each faces octets) (none_nacked faces octets other) (sends_to face faces octets ∙ apart) in
-    let arrived = Arrives (key_of i) face (ask_of now whole i) in
+    let arrived = Arrives (key_of i) face (in_record_for now whole i) in
     sent key ∙ ap (λ (r : Records). after_causes (sent_causes (key_of i) i.nonce now faces) key r) (arrives key)
     ∙ ap (λ (causes : List Cause). after_causes causes key (records_after arrived key (records_at old key))) (sym (sent_to_each (key_of i) i.nonce now faces octets))
     ∙ ap (λ (causes : List Cause). after_causes causes key (records_at old key)) (sym is)
@@ -344,7 +344,7 @@ pub nack_causes_are : (now face reason : ℕ) (whole : List ℕ) (i : PlainInter
     → FollowAll (interest_causes now face whole i ((face, nack_text reason whole) ∷ [])) old new
 nack_causes_are now face reason whole i old new spelled fits withdrawn key =
     let sends = (face, nack_text reason whole) ∷ [] in
-    let kept = Arrives (key_of i) face (ask_of now whole i) ∷ map (λ (sent : Send). SentTo (key_of i) sent.0 i.nonce now) sends in
+    let kept = Arrives (key_of i) face (in_record_for now whole i) ∷ map (λ (sent : Send). SentTo (key_of i) sent.0 i.nonce now) sends in
     let is : interest_causes now face whole i sends ≡ Withdrawn (key_of i) face ∷ [] =
     ap (λ (b : Bool). cond (b || false) (Withdrawn (key_of i) face ∷ []) (cond (is_answered face sends) [] kept)) (nack_spelled reason whole i spelled fits) in
     withdrawn key ∙ ap (λ (causes : List Cause). after_causes causes key (records_at old key)) (sym is)

@@ -16,9 +16,9 @@ use Rattle.info_rules.specs.declared.decision.Decision.{Decision}
 use Rattle.info_rules.specs.declared.decision.Decision.TheVariants as decided
 use Rattle.pit_fib.specs.Cause.{Cause, Expires, Arrives, SentTo, Satisfied, NackCame, Withdrawn, Removed, Closed, same_key}
 use Rattle.pit_fib.specs.Faces.{has_face}
-use Rattle.pit_fib.specs.Past.{ask_after, ask_of as ask_of_causes}
+use Rattle.pit_fib.specs.Past.{in_record_after, in_record_of as in_record_of_causes}
 use Rattle.pit_fib.specs.Pit.{loops, moments}
-use Rattle.pit_fib.specs.Records.{Ask, is_alive}
+use Rattle.pit_fib.specs.Records.{InRecord, is_alive}
 use Rattle.pit_fib.proofs.PendingTables.{one_key, same_self}
 use Rattle.strategies.specs.declared.strategy.Choice.{Choice}
 use Rattle.strategies.specs.declared.strategy.Choice.TheVariants as choices
@@ -31,7 +31,7 @@ use Rattle.forwarder.specs.Request.{ListAsked, Request, Refused, ForList, ForTab
 use Rattle.forwarder.specs.NextHops.{ask_from, choice_for, sent_on}
 use Rattle.forwarder.specs.Commands.{command_answer}
 use Rattle.forwarder.specs.Datasets.{dataset_text, is_present, list_answer, segment_answer, segment_name}
-use Rattle.forwarder.specs.Causes.{ask_of, before_earlier, causes_of, interest_causes, is_answered, is_nacked, packet_causes}
+use Rattle.forwarder.specs.Causes.{in_record_for, before_earlier, causes_of, interest_causes, is_answered, is_nacked, packet_causes}
 use Rattle.forwarder.specs.Replies.{Seen, Replies, RepliesForData, RepliesToPacket, RepliesToRequest, by_cache, forwarded, unserved}
 use Rattle.forwarder.specs.Runs.{Run, Then, now_of, past_causes, records_of}
 use Rattle.forwarder.specs.Sends.{BringsOctets, IsAtHand}
@@ -49,7 +49,7 @@ abbrev sendings : PlainKey → List ℕ → ℕ → List Send → List Cause
 sendings key nonce now sends = map (λ (sent : Send). SentTo key sent.0 nonce now) sends
 
 -- what is kept arrives, and is sent on
-kept_causes : (now : ℕ) (event : PlainEvent) (answer : Answer) (key : PlainKey) (face : ℕ) (ask : Ask) (kept : IsKept now event answer key face ask)
+kept_causes : (now : ℕ) (event : PlainEvent) (answer : Answer) (key : PlainKey) (face : ℕ) (ask : InRecord) (kept : IsKept now event answer key face ask)
     → causes_of now event answer ≡ Arrives key face ask ∷ sendings (key_of kept.interest) kept.interest.nonce now answer.sends
 kept_causes now event answer key face ask kept =
     let i = kept.interest in
@@ -58,12 +58,12 @@ kept_causes now event answer key face ask kept =
     ap (λ (e : PlainEvent). causes_of now e answer) is.brings
     ∙ ap (λ (r : Result PlainFrame PacketFault). packet_causes now face r answer) is.read
     ∙ ap (λ (v : Verdict). packet_causes now face (Ok (AnInterest kept.whole i)) (record { verdict = v; sends = answer.sends })) is.passed
-    ∙ ap (λ (b : Bool). cond b (Withdrawn (key_of i) face ∷ []) (cond (is_answered face answer.sends) [] (Arrives (key_of i) face (ask_of now kept.whole i) ∷ rest))) kept.not_nacked
-    ∙ ap (λ (b : Bool). cond b [] (Arrives (key_of i) face (ask_of now kept.whole i) ∷ rest)) kept.unanswered
-    ∙ ap (λ (k : PlainKey). Arrives k face (ask_of now kept.whole i) ∷ rest) (sym kept.is_key)
-    ∙ ap (λ (a : Ask). Arrives key face a ∷ rest) (sym kept.is_ask)
+    ∙ ap (λ (b : Bool). cond b (Withdrawn (key_of i) face ∷ []) (cond (is_answered face answer.sends) [] (Arrives (key_of i) face (in_record_for now kept.whole i) ∷ rest))) kept.not_nacked
+    ∙ ap (λ (b : Bool). cond b [] (Arrives (key_of i) face (in_record_for now kept.whole i) ∷ rest)) kept.unanswered
+    ∙ ap (λ (k : PlainKey). Arrives k face (in_record_for now kept.whole i) ∷ rest) (sym kept.is_key)
+    ∙ ap (λ (a : InRecord). Arrives key face a ∷ rest) (sym kept.is_record)
 
-module _ (now : ℕ) (event : PlainEvent) (answer : Answer) (key : PlainKey) (face : ℕ) (ask : Ask) where
+module _ (now : ℕ) (event : PlainEvent) (answer : Answer) (key : PlainKey) (face : ℕ) (ask : InRecord) where
   -- where this cause is that of the record, the Interest is kept
   abbrev IsKeptBy : Cause → Type 0
   IsKeptBy cause = cause ≡ Arrives key face ask → IsKept now event answer key face ask
@@ -82,15 +82,15 @@ module _ (now : ℕ) (event : PlainEvent) (answer : Answer) (key : PlainKey) (fa
   interest_kept from whole i is = by_nack (is_nacked answer.sends) refl (is_answered from answer.sends) refl
     where
       by_nack : (b : Bool) → is_nacked answer.sends ≡ b → (d : Bool) → is_answered from answer.sends ≡ d
-          → AllKept (cond b (Withdrawn (key_of i) from ∷ []) (cond d [] (Arrives (key_of i) from (ask_of now whole i) ∷ sendings (key_of i) i.nonce now answer.sends)))
+          → AllKept (cond b (Withdrawn (key_of i) from ∷ []) (cond d [] (Arrives (key_of i) from (in_record_for now whole i) ∷ sendings (key_of i) i.nonce now answer.sends)))
       by_nack true e d f = one (Withdrawn (key_of i) from) (λ g. cc g)
       by_nack false e true f = All-nil IsKeptBy
       by_nack false e false f =
-          All-cons IsKeptBy (Arrives (key_of i) from (ask_of now whole i)) (sendings (key_of i) i.nonce now answer.sends)
+          All-cons IsKeptBy (Arrives (key_of i) from (in_record_for now whole i)) (sendings (key_of i) i.nonce now answer.sends)
           (λ g.
           let k : key_of i ≡ key = cc g in
           let n : from ≡ face = cc g in
-          let a : ask_of now whole i ≡ ask = cc g in
+          let a : in_record_for now whole i ≡ ask = cc g in
           record {
             whole = whole;
             interest = i;
@@ -98,7 +98,7 @@ module _ (now : ℕ) (event : PlainEvent) (answer : Answer) (key : PlainKey) (fa
             unanswered = subst (λ (m : ℕ). is_answered m answer.sends ≡ false) n f;
             not_nacked = e;
             is_key = sym k;
-            is_ask = sym a;
+            is_record = sym a;
           }) (sent_kept (key_of i) i.nonce answer.sends)
 
   packet_kept : (from t : ℕ) (octets : List ℕ) (read : Result PlainFrame PacketFault) → event ≡ Packet from t octets → frame_at octets ≡ read → (v : Verdict) → answer.verdict ≡ v
@@ -151,26 +151,26 @@ module _ (now : ℕ) (event : PlainEvent) (answer : Answer) (key : PlainKey) (fa
 -- ---- the records after an event
 
 after_sendings : (k : PlainKey) (nonce : List ℕ) (now : ℕ) (sends : List Send) (earlier : List Cause) (key : PlainKey) (face : ℕ)
-    → ask_of_causes (before_earlier (sendings k nonce now sends) earlier) key face ≡ ask_of_causes earlier key face
+    → in_record_of_causes (before_earlier (sendings k nonce now sends) earlier) key face ≡ in_record_of_causes earlier key face
 after_sendings k nonce now [] earlier key face = refl
 after_sendings k nonce now (sent ∷ sends) earlier key face = after_sendings k nonce now sends (SentTo k sent.0 nonce now ∷ earlier) key face
 
-both : (a b : Bool) (x y : Option Ask) → a ≡ true → b ≡ true → cond (a && b) x y ≡ x
+both : (a b : Bool) (x y : Option InRecord) → a ≡ true → b ≡ true → cond (a && b) x y ≡ x
 both a b x y e f = (let g : a && b ≡ true = cc (e, f) in ap (λ (c : Bool). cond c x y) g)
 
-pub kept_waits : (past : Run) (event : PlainEvent) (answer : Answer) (key : PlainKey) (face : ℕ) (ask : Ask) → IsKept (max (now_of past) (moment event)) event answer key face ask
-    → fin.get (records_of (Then past event answer) key).asks face ≡ Some ask
+pub kept_waits : (past : Run) (event : PlainEvent) (answer : Answer) (key : PlainKey) (face : ℕ) (ask : InRecord) → IsKept (max (now_of past) (moment event)) event answer key face ask
+    → fin.get (records_of (Then past event answer) key).in_records face ≡ Some ask
 kept_waits past event answer key face ask kept =
     let now = max (now_of past) (moment event) in
     let earlier = Expires now ∷ past_causes past in
     let i = kept.interest in
     asks_of_past (Then past event answer) key face
-    ∙ ap (λ (cs : List Cause). ask_of_causes (before_earlier cs earlier) key face) (kept_causes now event answer key face ask kept)
+    ∙ ap (λ (cs : List Cause). in_record_of_causes (before_earlier cs earlier) key face) (kept_causes now event answer key face ask kept)
     ∙ after_sendings (key_of i) i.nonce now answer.sends (Arrives key face ask ∷ earlier) key face
-    ∙ both (same_key key key) (eqb face face) (Some ask) (ask_of_causes earlier key face) (same_self key) (eq-eqb face face refl)
+    ∙ both (same_key key key) (eqb face face) (Some ask) (in_record_of_causes earlier key face) (same_self key) (eq-eqb face face refl)
 
 -- a cause leaves a record that was there, or it is that of the record
-one_cause : (cause : Cause) (key : PlainKey) (face : ℕ) (ask : Ask) (was : Option Ask) → ask_after cause key face was ≡ Some ask → (cause ≡ Arrives key face ask) ⊎ (was ≡ Some ask)
+one_cause : (cause : Cause) (key : PlainKey) (face : ℕ) (ask : InRecord) (was : Option InRecord) → in_record_after cause key face was ≡ Some ask → (cause ≡ Arrives key face ask) ⊎ (was ≡ Some ask)
 one_cause (Expires now) key face ask None e = inr e
 one_cause (Expires now) key face ask (Some a) e = by_time (ltb now a.deadline) e
   where
@@ -210,38 +210,38 @@ one_cause (Closed f) key face ask was e = by_test (eqb face f) e
     by_test true e = cc e
     by_test false e = inr e
 
-module _ (key : PlainKey) (face : ℕ) (ask : Ask) (Q : Type 0) where
+module _ (key : PlainKey) (face : ℕ) (ask : InRecord) (Q : Type 0) where
   abbrev Brings : Cause → Type 0
   Brings cause = cause ≡ Arrives key face ask → Q
 
-  all_causes : (causes earlier : List Cause) → All Brings causes → ask_of_causes (before_earlier causes earlier) key face ≡ Some ask → Q ⊎ (ask_of_causes earlier key face ≡ Some ask)
+  all_causes : (causes earlier : List Cause) → All Brings causes → in_record_of_causes (before_earlier causes earlier) key face ≡ Some ask → Q ⊎ (in_record_of_causes earlier key face ≡ Some ask)
   all_causes [] earlier all e = inr e
   all_causes (cause ∷ causes) earlier all e = by_rest (all_causes causes (cause ∷ earlier) (All-tail Brings cause causes all) e)
     where
-      by_cause : ((cause ≡ Arrives key face ask) ⊎ (ask_of_causes earlier key face ≡ Some ask)) → Q ⊎ (ask_of_causes earlier key face ≡ Some ask)
+      by_cause : ((cause ≡ Arrives key face ask) ⊎ (in_record_of_causes earlier key face ≡ Some ask)) → Q ⊎ (in_record_of_causes earlier key face ≡ Some ask)
       by_cause (inl is) = inl (All-head Brings cause causes all is)
       by_cause (inr was) = inr was
 
-      by_rest : (Q ⊎ (ask_of_causes (cause ∷ earlier) key face ≡ Some ask)) → Q ⊎ (ask_of_causes earlier key face ≡ Some ask)
+      by_rest : (Q ⊎ (in_record_of_causes (cause ∷ earlier) key face ≡ Some ask)) → Q ⊎ (in_record_of_causes earlier key face ≡ Some ask)
       by_rest (inl q) = inl q
-      by_rest (inr e) = by_cause (one_cause cause key face ask (ask_of_causes earlier key face) e)
+      by_rest (inr e) = by_cause (one_cause cause key face ask (in_record_of_causes earlier key face) e)
 
-pub kept_or_waited : (past : Run) (event : PlainEvent) (answer : Answer) (key : PlainKey) (face : ℕ) (ask : Ask) → fin.get (records_of (Then past event answer) key).asks face ≡ Some ask
-    → IsKept (max (now_of past) (moment event)) event answer key face ask ⊎ (fin.get (records_of past key).asks face ≡ Some ask)
+pub kept_or_waited : (past : Run) (event : PlainEvent) (answer : Answer) (key : PlainKey) (face : ℕ) (ask : InRecord) → fin.get (records_of (Then past event answer) key).in_records face ≡ Some ask
+    → IsKept (max (now_of past) (moment event)) event answer key face ask ⊎ (fin.get (records_of past key).in_records face ≡ Some ask)
 kept_or_waited past event answer key face ask e =
     let now = max (now_of past) (moment event) in
     by_causes (all_causes key face ask (IsKept now event answer key face ask) (causes_of now event answer) (Expires now ∷ past_causes past)
     (all_kept now event answer key face ask) (sym (asks_of_past (Then past event answer) key face) ∙ e))
   where
-    by_expiry : ((Expires (max (now_of past) (moment event)) ≡ Arrives key face ask) ⊎ (ask_of_causes (past_causes past) key face ≡ Some ask))
-        → IsKept (max (now_of past) (moment event)) event answer key face ask ⊎ (fin.get (records_of past key).asks face ≡ Some ask)
+    by_expiry : ((Expires (max (now_of past) (moment event)) ≡ Arrives key face ask) ⊎ (in_record_of_causes (past_causes past) key face ≡ Some ask))
+        → IsKept (max (now_of past) (moment event)) event answer key face ask ⊎ (fin.get (records_of past key).in_records face ≡ Some ask)
     by_expiry (inl is) = cc is
     by_expiry (inr was) = inr (asks_of_past past key face ∙ was)
 
-    by_causes : (IsKept (max (now_of past) (moment event)) event answer key face ask ⊎ (ask_of_causes (Expires (max (now_of past) (moment event)) ∷ past_causes past) key face ≡ Some ask))
-        → IsKept (max (now_of past) (moment event)) event answer key face ask ⊎ (fin.get (records_of past key).asks face ≡ Some ask)
+    by_causes : (IsKept (max (now_of past) (moment event)) event answer key face ask ⊎ (in_record_of_causes (Expires (max (now_of past) (moment event)) ∷ past_causes past) key face ≡ Some ask))
+        → IsKept (max (now_of past) (moment event)) event answer key face ask ⊎ (fin.get (records_of past key).in_records face ≡ Some ask)
     by_causes (inl kept) = inl kept
-    by_causes (inr e) = by_expiry (one_cause (Expires (max (now_of past) (moment event))) key face ask (ask_of_causes (past_causes past) key face) e)
+    by_causes (inr e) = by_expiry (one_cause (Expires (max (now_of past) (moment event))) key face ask (in_record_of_causes (past_causes past) key face) e)
 
 -- ---- what a passed Interest is answered with
 
@@ -277,17 +277,17 @@ module _ (seen : Seen) (event : PlainEvent) (answer : Answer) (face : ℕ) (whol
   on_command decided.NoRule e = never _ (ap (λ (a : Answer). a.verdict) e) (λ f. cc f)
 
   -- the asker is not chosen
-  not_asker : (faces : List ℕ) → choice_for seen.policy i.name (moments (seen.records (key_of i)).asked) (ask_from seen.policy face i) ≡ choices.Send faces → has_face face faces ≡ false
+  not_asker : (faces : List ℕ) → choice_for seen.policy i.name (moments (seen.records (key_of i)).out_records) (ask_from seen.policy face i) ≡ choices.Send faces → has_face face faces ≡ false
   not_asker faces chosen = by_face (has_face face faces) refl
     where
       by_face : (b : Bool) → has_face face faces ≡ b → b ≡ false
       by_face false e = refl
       by_face true e =
-          let h = chosen_hop seen.policy i.name (moments (seen.records (key_of i)).asked) (ask_from seen.policy face i) faces face chosen e in
+          let h = chosen_hop seen.policy i.name (moments (seen.records (key_of i)).out_records) (ask_from seen.policy face i) faces face chosen e in
           let asker = eq-eqb face h.0.face (sym h.3) in
           let eligible = h.2 in cc (asker, eligible)
 
-  on_choice : (choice : Choice) → choice_for seen.policy i.name (moments (seen.records (key_of i)).asked) (ask_from seen.policy face i) ≡ choice
+  on_choice : (choice : Choice) → choice_for seen.policy i.name (moments (seen.records (key_of i)).out_records) (ask_from seen.policy face i) ≡ choice
       → answer ≡ forwarded seen (key_of i) whole i face choice → GoesOn answer.sends
   on_choice choices.NoRoute chosen e = inr (nack_text NO_ROUTE whole, ap (λ (a : Answer). a.sends) e, inl refl)
   on_choice (choices.Send faces) chosen e = by_room (not (is_alive (seen.records (key_of i))) && seen.is_full) e
@@ -298,7 +298,7 @@ module _ (seen : Seen) (event : PlainEvent) (answer : Answer) (face : ℕ) (whol
 
   on_object : (object : Option (List ℕ)) → served i.name i.can_be_prefix seen.policy.held.objects ≡ object → answer ≡ unserved seen face whole i object → GoesOn answer.sends
   on_object (Some octets) stored e = hand octets e (inr (inl stored))
-  on_object None stored e = on_choice (choice_for seen.policy i.name (moments (seen.records (key_of i)).asked) (ask_from seen.policy face i)) refl e
+  on_object None stored e = on_choice (choice_for seen.policy i.name (moments (seen.records (key_of i)).out_records) (ask_from seen.policy face i)) refl e
 
   on_given : (given : Option (List ℕ)) → seen.MayGive (key_of i) given → answer ≡ by_cache seen face whole i given → GoesOn answer.sends
   on_given (Some octets) gives e = hand octets e (inl gives)
@@ -332,11 +332,11 @@ none_to face [] octets = refl
 none_to face (f ∷ faces) octets = ap (λ (b : Bool). (f == face) || b) (none_to face faces octets)
 
 pub kept_or_answered : (seen : Seen) (now : ℕ) (event : PlainEvent) (answer : Answer) (face : ℕ) (whole : List ℕ) (i : PlainInterest) → BringsOctets event → Replies seen event answer
-    → IsPassed event answer face whole i → (IsKept now event answer (key_of i) face (ask_of now whole i) × IsSentOn face whole i answer.sends) ⊎ IsAnswered seen face whole i answer.sends
+    → IsPassed event answer face whole i → (IsKept now event answer (key_of i) face (in_record_for now whole i) × IsSentOn face whole i answer.sends) ⊎ IsAnswered seen face whole i answer.sends
 kept_or_answered seen now event answer face whole i fits replies is = by_way (goes_on seen event answer face whole i is replies)
   where
     by_way : (IsSentOn face whole i answer.sends ⊎ IsAnswered seen face whole i answer.sends)
-        → (IsKept now event answer (key_of i) face (ask_of now whole i) × IsSentOn face whole i answer.sends) ⊎ IsAnswered seen face whole i answer.sends
+        → (IsKept now event answer (key_of i) face (in_record_for now whole i) × IsSentOn face whole i answer.sends) ⊎ IsAnswered seen face whole i answer.sends
     by_way (inr back) = inr back
     by_way (inl on) =
         let octets = subst BringsOctets is.brings fits in
@@ -350,7 +350,7 @@ kept_or_answered seen now event answer face whole i fits replies is = by_way (go
             unanswered = ap (is_answered face) on.2 ∙ none_to face on.0 (sent_on whole i.hop_limit) ∙ on.1;
             not_nacked = ap is_nacked on.2 ∙ none_nacked on.0 on_text other;
             is_key = refl;
-            is_ask = refl;
+            is_record = refl;
           },
           on,
         )

@@ -13,7 +13,7 @@ use Rattle.forwarder.specs.Verdict.{Answer, NoSegment, dropped}
 use Rattle.forwarder.specs.Policy.{Policy}
 use Rattle.forwarder.specs.Request.{ForList, ListAsked, Request, is_command, request_of}
 use Rattle.forwarder.specs.Datasets.{dataset_text, is_present, list_answer, segment_answer, segment_data, segment_name}
-use Rattle.forwarder.specs.Causes.{ask_of, interest_causes, is_nack, packet_causes}
+use Rattle.forwarder.specs.Causes.{in_record_for, interest_causes, is_nack, packet_causes}
 use Rattle.forwarder.specs.Replies.{RepliesToRequest}
 use Rattle.forwarder.specs.Handling.{IsAnswered, IsPacketEffect, seen_by}
 use Rattle.forwarder.specs.Node.{CacheAfterRequest, FollowAll, NodeState}
@@ -24,7 +24,7 @@ use Rattle.forwarder.proofs.Contents.{begins, data_is_no_nack}
 pub back_causes : (now face : ℕ) (whole : List ℕ) (i : PlainInterest) (octets : List ℕ) → is_nack octets ≡ false
     → interest_causes now face whole i ((face, octets) ∷ []) ≡ []
 back_causes now face whole i octets other =
-    let kept : List Cause = Arrives (key_of i) face (ask_of now whole i) ∷ map (λ (sent : Send). SentTo (key_of i) sent.0 i.nonce now) ((face, octets) ∷ []) in
+    let kept : List Cause = Arrives (key_of i) face (in_record_for now whole i) ∷ map (λ (sent : Send). SentTo (key_of i) sent.0 i.nonce now) ((face, octets) ∷ []) in
     let gone : List Cause = Withdrawn (key_of i) face ∷ [] in
     ap (λ (b : Bool). cond (b || false) gone (cond ((face == face) || false) [] kept)) other
     ∙ ap (λ (b : Bool). cond (b || false) [] kept) (eq-eqb face face refl)

@@ -22,7 +22,7 @@ use Rattle.pit_fib.specs.declared.nacked.Nacked.TheVariants.{NoPending, All}
 use Rattle.pit_fib.specs.Cause.{Cause, Expires, NackCame, Removed, changed, settled, same_key, until_after, with_reason, records_after, Follows}
 use Rattle.pit_fib.specs.Faces.{IsRising, has_face}
 use Rattle.pit_fib.specs.Pit.{nacked_answer, was_sent}
-use Rattle.pit_fib.specs.Records.{Ask, Asks, Asked, Sent, Pending, Records, HoldsTheLiving, no_records, is_alive, records_at}
+use Rattle.pit_fib.specs.Records.{InRecord, InRecords, OutRecords, OutRecord, Pending, Records, HoldsTheLiving, no_records, is_alive, records_at}
 use Rattle.pit_fib.proofs.Nacks.{not_pending}
 use Rattle.pit_fib.proofs.PendingPast.{get-changed}
 use Rattle.pit_fib.proofs.PendingTables.{one_key}
@@ -31,7 +31,7 @@ use Rattle.strategies.proofs.Places.{drop_here}
 use Rattle.forwarder.specs.Event.{Send}
 use Rattle.forwarder.specs.Causes.{after_causes, nack_causes, packet_causes}
 use Rattle.forwarder.specs.Handling.{IsAnswered}
-use Rattle.forwarder.specs.NackRoom.{asks_at, nack_room, room_for}
+use Rattle.forwarder.specs.NackRoom.{in_records_at, nack_room, room_for}
 use Rattle.forwarder.specs.Node.{FollowAll, NodeState}
 use Rattle.forwarder.specs.Replies.{nack_answer, nacks_to}
 use Rattle.forwarder.specs.Request.{is_out_of_scope}
@@ -46,38 +46,38 @@ no e = absurd cc
 -- ---- one face after the other
 
 -- the Nack to a face, if it asks
-abbrev pub nack_for : ℕ → ℕ → Option Ask → List Send
+abbrev pub nack_for : ℕ → ℕ → Option InRecord → List Send
 nack_for reason face None = []
 nack_for reason face (Some ask) = (face, nack_text reason ask.interest) ∷ []
 
 -- the Nacks to those of the faces that ask
-abbrev pub nacks_by : ℕ → (ℕ → Option Ask) → List ℕ → List Send
+abbrev pub nacks_by : ℕ → (ℕ → Option InRecord) → List ℕ → List Send
 nacks_by reason ask_of [] = []
 nacks_by reason ask_of (face ∷ faces) = nack_for reason face (ask_of face) ++ nacks_by reason ask_of faces
 
 -- what an Interest that was found says of its asker
-pub asker_room : (o : Option Ask) (octets : List ℕ) → Some octets ≡ option_map (λ (ask : Ask). ask.interest) o → room_for o ≡ length octets + NACK_EXTRA
+pub asker_room : (o : Option InRecord) (octets : List ℕ) → Some octets ≡ option_map (λ (ask : InRecord). ask.interest) o → room_for o ≡ length octets + NACK_EXTRA
 asker_room None octets e = absurd cc
 asker_room (Some ask) octets e = let same : octets ≡ ask.interest = cc e in ap (λ (l : List ℕ). length l + NACK_EXTRA) (sym same)
 
-pub asker_nack : (reason face : ℕ) (o : Option Ask) (octets : List ℕ) → Some octets ≡ option_map (λ (ask : Ask). ask.interest) o
+pub asker_nack : (reason face : ℕ) (o : Option InRecord) (octets : List ℕ) → Some octets ≡ option_map (λ (ask : InRecord). ask.interest) o
     → nack_for reason face o ≡ (face, nack_text reason octets) ∷ []
 asker_nack reason face None octets e = absurd cc
 asker_nack reason face (Some ask) octets e =
     let same : octets ≡ ask.interest = cc e in ap (λ (l : List ℕ). let sent : Send = (face, nack_text reason l) in sent ∷ []) (sym same)
 
-pub no_asker : (o : Option Ask) → None ≡ option_map (λ (ask : Ask). ask.interest) o → o ≡ None
+pub no_asker : (o : Option InRecord) → None ≡ option_map (λ (ask : InRecord). ask.interest) o → o ≡ None
 no_asker None e = refl
 no_asker (Some ask) e = absurd cc
 
 -- the room for the faces from a place on
-pub room_here : (asks : Asks) (faces : List ℕ) (i face : ℕ) → slice_get faces i ≡ Some face
+pub room_here : (asks : InRecords) (faces : List ℕ) (i face : ℕ) → slice_get faces i ≡ Some face
     → nack_room asks (drop i faces) ≡ room_for (get asks face) + nack_room asks (drop (i + 1) faces)
 room_here asks faces i face at = ap (nack_room asks) (drop_here faces i face at) ∙ sum_by-cons (λ f. room_for (get asks f)) face (drop (i + 1) faces)
 
 -- ---- the Nacks, and the list of all who ask
 
-above : (k : ℕ) (es : List (ℕ × Ask)) → T (below_all nat_cmp k es) → AllByRecursion (λ e. k < e.0) es
+above : (k : ℕ) (es : List (ℕ × InRecord)) → T (below_all nat_cmp k es) → AllByRecursion (λ e. k < e.0) es
 above k [] h = tt
 above k (e ∷ es) h = (less k e.0 (is_less (nat_cmp k e.0) (first_of _ _ h)), above k es (second_of _ _ h))
   where
@@ -87,16 +87,16 @@ above k (e ∷ es) h = (less k e.0 (is_less (nat_cmp k e.0) (first_of _ _ h)), a
 tie : (f g : ℕ) → eq_by_cmp nat_cmp f g ≡ eqb f g
 tie f g = grind (arith, nat_tests)
 
-none_below : (f : ℕ) (es : List (ℕ × Ask)) → AllByRecursion (λ e. f < e.0) es → find nat_cmp f es ≡ None
+none_below : (f : ℕ) (es : List (ℕ × InRecord)) → AllByRecursion (λ e. f < e.0) es → find nat_cmp f es ≡ None
 none_below f [] all = refl
 none_below f (e ∷ es) all =
     ap (λ b. cond b (Some e.1) (find nat_cmp f es)) (tie f e.0 ∙ ne_eqb f e.0 (λ is. let lt : f < e.0 = all.0 in omega (arith, lt, is))) ∙ none_below f es all.1
 
-later_above : (y k : ℕ) (es : List (ℕ × Ask)) → y < k → AllByRecursion (λ e. k < e.0) es → AllByRecursion (λ e. y < e.0) es
+later_above : (y k : ℕ) (es : List (ℕ × InRecord)) → y < k → AllByRecursion (λ e. k < e.0) es → AllByRecursion (λ e. y < e.0) es
 later_above y k [] lt all = tt
 later_above y k (e ∷ es) lt all = (omega (arith, lt, all.0), later_above y k es lt all.1)
 
-among_rest : (y : ℕ) (faces : List ℕ) (es : List (ℕ × Ask)) → AllByRecursion (λ e. y < e.0) es → AllByRecursion (λ e. has_face e.0 (y ∷ faces) ≡ true) es
+among_rest : (y : ℕ) (faces : List ℕ) (es : List (ℕ × InRecord)) → AllByRecursion (λ e. y < e.0) es → AllByRecursion (λ e. has_face e.0 (y ∷ faces) ≡ true) es
     → AllByRecursion (λ e. has_face e.0 faces ≡ true) es
 among_rest y faces [] above all = tt
 among_rest y faces (e ∷ es) above all = (
@@ -105,13 +105,13 @@ among_rest y faces (e ∷ es) above all = (
 )
 
 module _ (reason : ℕ) where
-  same_nacks : (g h : ℕ → Option Ask) (faces : List ℕ) → AllByRecursion (λ f. g f ≡ h f) faces → nacks_by reason g faces ≡ nacks_by reason h faces
+  same_nacks : (g h : ℕ → Option InRecord) (faces : List ℕ) → AllByRecursion (λ f. g f ≡ h f) faces → nacks_by reason g faces ≡ nacks_by reason h faces
   same_nacks g h [] all = refl
   same_nacks g h (f ∷ faces) all =
       ap (λ o. nack_for reason f o ++ nacks_by reason g faces) all.0 ∙ ap (λ l. nack_for reason f (h f) ++ l) (same_nacks g h faces all.1)
 
   -- faces above the first entry find the same in the later ones
-  found_later : (k : ℕ) (ask : Ask) (es : List (ℕ × Ask)) (faces : List ℕ) → AllByRecursion (λ f. k < f) faces
+  found_later : (k : ℕ) (ask : InRecord) (es : List (ℕ × InRecord)) (faces : List ℕ) → AllByRecursion (λ f. k < f) faces
       → AllByRecursion (λ f. find nat_cmp f ((k, ask) ∷ es) ≡ find nat_cmp f es) faces
   found_later k ask es [] all = tt
   found_later k ask es (f ∷ faces) all = (
@@ -119,8 +119,8 @@ module _ (reason : ℕ) where
     found_later k ask es faces all.1,
   )
 
-  nacks_of_entries : (faces : List ℕ) (es : List (ℕ × Ask)) → IsRising faces → T (is_sorted nat_cmp es) → AllByRecursion (λ e. has_face e.0 faces ≡ true) es
-      → nacks_by reason (λ f. find nat_cmp f es) faces ≡ map {A = ℕ × Ask} {B = Send} (λ e. (e.0, nack_text reason e.1.interest)) es
+  nacks_of_entries : (faces : List ℕ) (es : List (ℕ × InRecord)) → IsRising faces → T (is_sorted nat_cmp es) → AllByRecursion (λ e. has_face e.0 faces ≡ true) es
+      → nacks_by reason (λ f. find nat_cmp f es) faces ≡ map {A = ℕ × InRecord} {B = Send} (λ e. (e.0, nack_text reason e.1.interest)) es
   nacks_of_entries [] [] rising sorted all = refl
   nacks_of_entries [] (e ∷ es) rising sorted all = no all.0
   nacks_of_entries (y ∷ faces) [] rising sorted all = nacks_of_entries faces [] rising.1 sorted tt
@@ -128,7 +128,7 @@ module _ (reason : ℕ) where
       let higher = above e.0 es (first_of _ _ sorted) in
       elim (eqb y e.0) as (λ b. eqb y e.0 ≡ b → (b || has_face e.0 faces) ≡ true
       → nack_for reason y (find nat_cmp y (e ∷ es)) ++ nacks_by reason (λ f. find nat_cmp f (e ∷ es)) faces
-      ≡ map {A = ℕ × Ask} {B = Send} (λ e. (e.0, nack_text reason e.1.interest)) (e ∷ es)) [
+      ≡ map {A = ℕ × InRecord} {B = Send} (λ e. (e.0, nack_text reason e.1.interest)) (e ∷ es)) [
         | true ↦ λ t has.
             let one : y ≡ e.0 = eqb-true y e.0 t in
             ap (λ b. nack_for reason y (cond b (Some e.1) (find nat_cmp y es)) ++ nacks_by reason (λ f. find nat_cmp f (e ∷ es)) faces) (tie y e.0 ∙ t)
@@ -143,11 +143,11 @@ module _ (reason : ℕ) where
             ∙ nacks_of_entries faces (e ∷ es) rising.1 sorted (among_rest y faces (e ∷ es) lower all)
       ] refl all.0
 
-  module _ (asks : Asks) (faces : List ℕ) (known : (f : ℕ) → is_some (get asks f) ≡ true → has_face f faces ≡ true) where
-    first_there : (e : ℕ × Ask) (es : List (ℕ × Ask)) → find nat_cmp e.0 (e ∷ es) ≡ Some e.1
+  module _ (asks : InRecords) (faces : List ℕ) (known : (f : ℕ) → is_some (get asks f) ≡ true → has_face f faces ≡ true) where
+    first_there : (e : ℕ × InRecord) (es : List (ℕ × InRecord)) → find nat_cmp e.0 (e ∷ es) ≡ Some e.1
     first_there e es = ap (λ b. cond b (Some e.1) (find nat_cmp e.0 es)) (tie e.0 e.0 ∙ eq-eqb e.0 e.0 refl)
 
-    all_known : (es : List (ℕ × Ask)) → T (is_sorted nat_cmp es) → ((f : ℕ) → is_some (find nat_cmp f es) ≡ true → has_face f faces ≡ true)
+    all_known : (es : List (ℕ × InRecord)) → T (is_sorted nat_cmp es) → ((f : ℕ) → is_some (find nat_cmp f es) ≡ true → has_face f faces ≡ true)
         → AllByRecursion (λ e. has_face e.0 faces ≡ true) es
     all_known [] sorted are = tt
     all_known (e ∷ es) sorted are = (
@@ -155,7 +155,7 @@ module _ (reason : ℕ) where
       all_known es (second_of _ _ sorted) (λ f some. are f (kept (eq_by_cmp nat_cmp f e.0) (find nat_cmp f es) some)),
     )
       where
-        kept : (b : Bool) (o : Option Ask) → is_some o ≡ true → is_some (cond b (Some e.1) o) ≡ true
+        kept : (b : Bool) (o : Option InRecord) → is_some o ≡ true → is_some (cond b (Some e.1) o) ≡ true
         kept true o some = refl
         kept false o some = some
 
@@ -173,45 +173,45 @@ module _ (reason : ℕ) where
 -- ---- who asks still, where time has passed
 
 -- those who ask did, by the same Interests
-abbrev IsPart : Asks → Asks → Type 0
+abbrev IsPart : InRecords → InRecords → Type 0
 IsPart some all = (f : ℕ) → (get some f ≡ None) ⊎ (get some f ≡ get all f)
 
-part_room : (some all : Asks) → IsPart some all → (faces : List ℕ) → nack_room some faces ≤ nack_room all faces
+part_room : (some all : InRecords) → IsPart some all → (faces : List ℕ) → nack_room some faces ≤ nack_room all faces
 part_room some all part [] = omega arith
 part_room some all part (f ∷ faces) =
     let less = fits (get some f) (get all f) (part f) in
     let rest = part_room some all part faces in
     omega (arith, sum_by-cons (λ g. room_for (get some g)) f faces, sum_by-cons (λ g. room_for (get all g)) f faces, less, rest)
   where
-    fits : (o p : Option Ask) → (o ≡ None) ⊎ (o ≡ p) → room_for o ≤ room_for p
+    fits : (o p : Option InRecord) → (o ≡ None) ⊎ (o ≡ p) → room_for o ≤ room_for p
     fits o p (inl none) = let e = ap room_for none in omega (arith, e)
     fits o p (inr same) = let e = ap room_for same in omega (arith, e)
 
-stays_or_goes : (now : ℕ) (o : Option Ask) → (option_and_then (until_after now) o ≡ None) ⊎ (option_and_then (until_after now) o ≡ o)
+stays_or_goes : (now : ℕ) (o : Option InRecord) → (option_and_then (until_after now) o ≡ None) ⊎ (option_and_then (until_after now) o ≡ o)
 stays_or_goes now None = inl refl
 stays_or_goes now (Some ask) =
     elim (ltb now ask.deadline) as (λ b. (cond b (Some ask) None ≡ None) ⊎ (cond b (Some ask) None ≡ Some ask)) [ true ↦ inr refl | false ↦ inl refl ]
 
-settled_part : (r : Records) → IsPart (settled r).asks r.asks
+settled_part : (r : Records) → IsPart (settled r).in_records r.in_records
 settled_part r f =
-    elim (is_alive r) as (λ b. (get (cond b r no_records).asks f ≡ None) ⊎ (get (cond b r no_records).asks f ≡ get r.asks f)) [
+    elim (is_alive r) as (λ b. (get (cond b r no_records).in_records f ≡ None) ⊎ (get (cond b r no_records).in_records f ≡ get r.in_records f)) [
       | true ↦ inr refl
       | false ↦ inl (get-empty nat_cmp f)
     ]
 
 module _ (now : ℕ) (old new : Pending) (expires : Follows (Expires now) old new) (key : PlainKey) where
-  expired_part : IsPart (asks_at new key) (asks_at old key)
+  expired_part : IsPart (in_records_at new key) (in_records_at old key)
   expired_part f =
       let r = records_at old key in
-      let is : get (asks_at new key) f ≡ get (settled (changed (Expires now) key r)).asks f = ap (λ (s : Records). get s.asks f) (expires key) in
-      let due : get (changed (Expires now) key r).asks f ≡ option_and_then (until_after now) (get r.asks f) = get-changed (Expires now) key f r in
+      let is : get (in_records_at new key) f ≡ get (settled (changed (Expires now) key r)).in_records f = ap (λ (s : Records). get s.in_records f) (expires key) in
+      let due : get (changed (Expires now) key r).in_records f ≡ option_and_then (until_after now) (get r.in_records f) = get-changed (Expires now) key f r in
       elim (settled_part (changed (Expires now) key r) f) [
         | inl none ↦ inl (is ∙ none)
-        | inr same ↦ elim (stays_or_goes now (get r.asks f)) [ inl goes ↦ inl (is ∙ same ∙ due ∙ goes) | inr stays ↦ inr (is ∙ same ∙ due ∙ stays) ]
+        | inr same ↦ elim (stays_or_goes now (get r.in_records f)) [ inl goes ↦ inl (is ∙ same ∙ due ∙ goes) | inr stays ↦ inr (is ∙ same ∙ due ∙ stays) ]
       ]
 
-  pub expired_room : (faces : List ℕ) → nack_room (asks_at new key) faces ≤ nack_room (asks_at old key) faces
-  expired_room = part_room (asks_at new key) (asks_at old key) expired_part
+  pub expired_room : (faces : List ℕ) → nack_room (in_records_at new key) faces ≤ nack_room (in_records_at old key) faces
+  expired_room = part_room (in_records_at new key) (in_records_at old key) expired_part
 
 -- ---- the records of a key
 
@@ -239,7 +239,7 @@ module _ (pending : Pending) (living : HoldsTheLiving pending) (key : PlainKey) 
       ] refl
     where
       none_pending : nacked_answer no_records face nonce reason ≡ NoPending
-      none_pending = (not_pending no_records face nonce reason).1 (ap (λ (o : Option Sent). was_sent o nonce) (get-empty nat_cmp face))
+      none_pending = (not_pending no_records face nonce reason).1 (ap (λ (o : Option OutRecord). was_sent o nonce) (get-empty nat_cmp face))
 
       never : NoPending ≡ All least → ⊥
       never e = cc e
@@ -251,17 +251,17 @@ module _ (key : PlainKey) (face : ℕ) (nonce : List ℕ) (reason : ℕ) where
   came = NackCame key face nonce reason
 
   -- who asks still does
-  pub nacked_asks : (r : Records) → is_alive r ≡ true → (records_after came key r).asks ≡ r.asks
+  pub nacked_asks : (r : Records) → is_alive r ≡ true → (records_after came key r).in_records ≡ r.in_records
   nacked_asks r alive =
-      let same : (changed came key r).asks ≡ r.asks =
-      elim (same_key key key) as (λ b. (cond b (record { asks = r.asks; asked = with_reason face nonce reason r.asked (get r.asked face) }) r).asks ≡ r.asks) [ true ↦ refl | false ↦ refl ] in
-      ap (λ b. (cond b (changed came key r) no_records).asks) (ap (λ (m : Asks). ltb 0 (fin.len m)) same ∙ alive) ∙ same
+      let same : (changed came key r).in_records ≡ r.in_records =
+      elim (same_key key key) as (λ b. (cond b (record { asks = r.in_records; asked = with_reason face nonce reason r.out_records (get r.out_records face) }) r).in_records ≡ r.in_records) [ true ↦ refl | false ↦ refl ] in
+      ap (λ b. (cond b (changed came key r) no_records).in_records) (ap (λ (m : InRecords). ltb 0 (fin.len m)) same ∙ alive) ∙ same
 
   -- a Nonce that was not sent changes nothing
-  not_kept : (asked : Asked) → was_sent (get asked face) nonce ≡ false → with_reason face nonce reason asked (get asked face) ≡ asked
+  not_kept : (asked : OutRecords) → was_sent (get asked face) nonce ≡ false → with_reason face nonce reason asked (get asked face) ≡ asked
   not_kept asked other = go (get asked face) refl other
     where
-      as_it_was : (sent : Sent) → get asked face ≡ Some sent → fin.insert asked face sent ≡ asked
+      as_it_was : (sent : OutRecord) → get asked face ≡ Some sent → fin.insert asked face sent ≡ asked
       as_it_was sent is = same_map nat_cmp_total nat_cmp-IsAntisymmetric (fin.insert asked face sent) asked (λ q.
           get-insert nat_cmp_total asked face sent q ∙ ap (λ b. cond b (Some sent) (get asked q)) (tie q face)
           ∙ elim (eqb q face) as (λ b. eqb q face ≡ b → cond b (Some sent) (get asked q) ≡ get asked q) [
@@ -269,7 +269,7 @@ module _ (key : PlainKey) (face : ℕ) (nonce : List ℕ) (reason : ℕ) where
             | false ↦ λ t. refl
           ] refl)
 
-      go : (o : Option Sent) → get asked face ≡ o → was_sent o nonce ≡ false → with_reason face nonce reason asked o ≡ asked
+      go : (o : Option OutRecord) → get asked face ≡ o → was_sent o nonce ≡ false → with_reason face nonce reason asked o ≡ asked
       go None is other = refl
       go (Some sent) is other = ap (λ b. fin.insert asked face (cond b (record sent { reason = Some reason }) sent)) other ∙ as_it_was sent is
 
@@ -277,36 +277,36 @@ module _ (key : PlainKey) (face : ℕ) (nonce : List ℕ) (reason : ℕ) where
   unknown_nack old new living unknown follows k = follows k ∙ ap settled (stays (same_key k key) refl) ∙ settled_stays old living k
     where
       stays : (b : Bool) → same_key k key ≡ b → changed came k (records_at old k) ≡ records_at old k
-      stays false t = ap (λ b. cond b (record { asks = (records_at old k).asks; asked = with_reason face nonce reason (records_at old k).asked (get (records_at old k).asked face) }) (records_at old k)) t
+      stays false t = ap (λ b. cond b (record { asks = (records_at old k).in_records; asked = with_reason face nonce reason (records_at old k).out_records (get (records_at old k).out_records face) }) (records_at old k)) t
       stays true t =
           let other = (not_pending (records_at old key) face nonce reason).0 unknown in
-          let here = subst (λ (q : PlainKey). was_sent (get (records_at old q).asked face) nonce ≡ false) (sym (one_key k key t)) other in
-          ap (λ b. cond b (record { asks = (records_at old k).asks; asked = with_reason face nonce reason (records_at old k).asked (get (records_at old k).asked face) }) (records_at old k)) t
-          ∙ ap (λ (asked : Asked). let r : Records = record { asks = (records_at old k).asks; asked = asked } in r) (not_kept (records_at old k).asked here)
+          let here = subst (λ (q : PlainKey). was_sent (get (records_at old q).out_records face) nonce ≡ false) (sym (one_key k key t)) other in
+          ap (λ b. cond b (record { asks = (records_at old k).in_records; asked = with_reason face nonce reason (records_at old k).out_records (get (records_at old k).out_records face) }) (records_at old k)) t
+          ∙ ap (λ (asked : OutRecords). let r : Records = record { asks = (records_at old k).in_records; asked = asked } in r) (not_kept (records_at old k).out_records here)
 
-some_nacks : (asks : Asks) (reason : ℕ) → ltb 0 (fin.len asks) ≡ true → is_nil (nacks_to asks reason) ≡ false
+some_nacks : (asks : InRecords) (reason : ℕ) → ltb 0 (fin.len asks) ≡ true → is_nil (nacks_to asks reason) ≡ false
 some_nacks asks reason alive = go (entries asks) (sym (ap (ltb 0) (len-entries asks)) ∙ alive)
   where
-    go : (es : List (ℕ × Ask)) → ltb 0 (length es) ≡ true → is_nil (map {A = ℕ × Ask} {B = Send} (λ e. (e.0, nack_text reason e.1.interest)) es) ≡ false
+    go : (es : List (ℕ × InRecord)) → ltb 0 (length es) ≡ true → is_nil (map {A = ℕ × InRecord} {B = Send} (λ e. (e.0, nack_text reason e.1.interest)) es) ≡ false
     go [] some = no some
     go (e ∷ es) some = refl
 
 -- where the Nack was sent on, the records of its key are removed
 pub removed_causes : (face reason least : ℕ) (i : PlainInterest) (old mid new : Pending) → is_alive (records_at old (key_of i)) ≡ true
     → Follows (NackCame (key_of i) face i.nonce reason) old mid → Follows (Removed (key_of i)) mid new
-    → FollowAll (nack_causes face reason i (nacks_to (asks_at old (key_of i)) least)) old new
+    → FollowAll (nack_causes face reason i (nacks_to (in_records_at old (key_of i)) least)) old new
 removed_causes face reason least i old mid new alive follows removed k =
     let key = key_of i in
     let came = NackCame key face i.nonce reason in
     removed k ∙ ap (records_after (Removed key) k) (follows k)
-    ∙ ap (λ b. after_causes (came ∷ cond b [] (Removed key ∷ [])) k (records_at old k)) (sym (some_nacks (asks_at old key) least alive))
+    ∙ ap (λ b. after_causes (came ∷ cond b [] (Removed key ∷ [])) k (records_at old k)) (sym (some_nacks (in_records_at old key) least alive))
 
 -- ---- a Nack is answered
 
 module _ (was new : NodeState) (face reason : ℕ) (whole : List ℕ) (i : PlainInterest) (policy : new.policy ≡ was.policy) (cache : new.cache ≡ was.cache)
     (alive : HoldsTheLiving new.pending) where
   pub nack_answered : (answer : Answer) → is_out_of_scope was.policy face i.name ≡ false
-      → answer ≡ nack_answer (asks_at was.pending (key_of i)) (nacked_answer (records_at was.pending (key_of i)) face i.nonce reason)
+      → answer ≡ nack_answer (in_records_at was.pending (key_of i)) (nacked_answer (records_at was.pending (key_of i)) face i.nonce reason)
       → FollowAll (packet_causes was.policy.now face (Ok (ANack reason whole i)) answer) was.pending new.pending → IsAnswered was face (ANack reason whole i) answer new
   nack_answered answer here is pending = record {
     replies = where_false _ _ (is_out_of_scope was.policy face i.name) here is;

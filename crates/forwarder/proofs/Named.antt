@@ -80,10 +80,10 @@ module _ (p : Policy) (records : PlainKey → Records) (full : Bool) (G : PlainK
   nack_tells : (face reason : ℕ) (i : PlainInterest) → RepliesToNack seen face reason i answer → ToldOf face None
   nack_tells face reason i h = by_scope (is_out_of_scope p face i.name) h
     where
-      by_scope : (b : Bool) → WhereTrue b (answer ≡ dropped OutOfScope) (answer ≡ nack_answer (records (key_of i)).asks (nacked_answer (records (key_of i)) face i.nonce reason)) → ToldOf face None
+      by_scope : (b : Bool) → WhereTrue b (answer ≡ dropped OutOfScope) (answer ≡ nack_answer (records (key_of i)).in_records (nacked_answer (records (key_of i)) face i.nonce reason)) → ToldOf face None
       by_scope true e = inl (mild_is answer (dropped OutOfScope) e refl)
       by_scope false e =
-          inl (mild_is answer _ e (mild_nack (records (key_of i)).asks (nacked_answer (records (key_of i)) face i.nonce reason)))
+          inl (mild_is answer _ e (mild_nack (records (key_of i)).in_records (nacked_answer (records (key_of i)) face i.nonce reason)))
 
   packet_tells : (face : ℕ) (read : Result PlainFrame PacketFault) → RepliesToPacket seen face read answer → ToldOf face (packet_to_decide p face read)
   packet_tells face (Err fault) h = inl (mild_is answer (dropped (Malformed fault)) h refl)

@@ -23,9 +23,9 @@ none_there {A} {X} o none some = absurd (never (subst (λ (p : Option X). IsSome
     never : false ≡ true → ⊥
     never e = absurd cc
 
-no_record : {A : Type 0} (r : Records) (f : ℕ) → r ≡ no_records → (IsSome (fin.get r.asks f) ⊎ IsSome (fin.get r.asked f)) → A
-no_record r f is (inl asks) = none_there (fin.get r.asks f) (ap (λ (r : Records). fin.get r.asks f) is ∙ get-empty nat_cmp f) asks
-no_record r f is (inr asked) = none_there (fin.get r.asked f) (ap (λ (r : Records). fin.get r.asked f) is ∙ get-empty nat_cmp f) asked
+no_record : {A : Type 0} (r : Records) (f : ℕ) → r ≡ no_records → (IsSome (fin.get r.in_records f) ⊎ IsSome (fin.get r.out_records f)) → A
+no_record r f is (inl asks) = none_there (fin.get r.in_records f) (ap (λ (r : Records). fin.get r.in_records f) is ∙ get-empty nat_cmp f) asks
+no_record r f is (inr asked) = none_there (fin.get r.out_records f) (ap (λ (r : Records). fin.get r.out_records f) is ∙ get-empty nat_cmp f) asked
 
 abbrev no_routes : Routes
 no_routes = fin.empty

@@ -4,7 +4,7 @@ use Rattle.std.specs.Prelude.{max}
 use Rattle.std.specs.FinMap as map
 use Rattle.ndn_packets.specs.Key.{PlainKey}
 use Rattle.pit_fib.specs.Cause.{Cause, Expires, records_after}
-use Rattle.pit_fib.specs.Past.{ask_of, sent_of, records_of as records_of_causes}
+use Rattle.pit_fib.specs.Past.{in_record_of, out_record_of, records_of as records_of_causes}
 use Rattle.pit_fib.specs.Records.{Records}
 use Rattle.pit_fib.proofs.PendingPast.{asks_of_run, asked_of_run}
 use Rattle.forwarder.specs.Event.{moment}
@@ -22,8 +22,8 @@ run_causes (Then before event answer) key =
     ap (λ (r : Records). after_causes (causes_of now event answer) key (records_after (Expires now) key r)) (run_causes before key)
     ∙ all_causes (causes_of now event answer) (Expires now ∷ past_causes before) key
 
-pub asks_of_past : (past : Run) (key : PlainKey) (face : ℕ) → map.get (records_of past key).asks face ≡ ask_of (past_causes past) key face
-asks_of_past past key face = ap (λ (r : Records). map.get r.asks face) (run_causes past key) ∙ asks_of_run (past_causes past) key face
+pub asks_of_past : (past : Run) (key : PlainKey) (face : ℕ) → map.get (records_of past key).in_records face ≡ in_record_of (past_causes past) key face
+asks_of_past past key face = ap (λ (r : Records). map.get r.in_records face) (run_causes past key) ∙ asks_of_run (past_causes past) key face
 
-pub asked_of_past : (past : Run) (key : PlainKey) (face : ℕ) → map.get (records_of past key).asked face ≡ sent_of (past_causes past) key face
-asked_of_past past key face = ap (λ (r : Records). map.get r.asked face) (run_causes past key) ∙ asked_of_run (past_causes past) key face
+pub asked_of_past : (past : Run) (key : PlainKey) (face : ℕ) → map.get (records_of past key).out_records face ≡ out_record_of (past_causes past) key face
+asked_of_past past key face = ap (λ (r : Records). map.get r.out_records face) (run_causes past key) ∙ asked_of_run (past_causes past) key face

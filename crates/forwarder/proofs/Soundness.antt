@@ -34,7 +34,7 @@ use Rattle.forwarder.specs.Request.{Request, Refused, ForList, ForTables, ForRep
 use Rattle.forwarder.specs.Said.{recorded_of}
 use Rattle.forwarder.specs.Commands.{command_answer, after_request, after_tables, with_record}
 use Rattle.forwarder.specs.Effects.{after_packet, after_said, can_open, decided_packet, IsEffect}
-use Rattle.forwarder.specs.Causes.{after_causes, ask_of, closing_causes, interest_causes, is_answered, is_nacked, nack_causes, packet_causes}
+use Rattle.forwarder.specs.Causes.{after_causes, in_record_for, closing_causes, interest_causes, is_answered, is_nacked, nack_causes, packet_causes}
 use Rattle.forwarder.specs.NextHops.{ask_from, choice_for, sent_on}
 use Rattle.forwarder.specs.Datasets.{dataset_text, is_present, list_answer, segment_answer, segment_name}
 use Rattle.forwarder.specs.Replies.{Seen, RepliesToPacket, RepliesToRequest, by_cache, forwarded, unserved}
@@ -100,7 +100,7 @@ sent_adds P key nonce now (sent ∷ sends) all = (λ f is. subst P (sym is) all.
 interest_adds : (P : ℕ → Type 0) (now face : ℕ) (whole : List ℕ) (i : PlainInterest) (sends : List Send) → P face → SendsTo P sends
     → AddOnly P (interest_causes now face whole i sends)
 interest_adds P now face whole i sends asker all =
-    let kept = Arrives (key_of i) face (ask_of now whole i) ∷ map_list (λ (sent : Send). SentTo (key_of i) sent.0 i.nonce now) sends in
+    let kept = Arrives (key_of i) face (in_record_for now whole i) ∷ map_list (λ (sent : Send). SentTo (key_of i) sent.0 i.nonce now) sends in
     elim (is_nacked sends) as (λ b. AddOnly P (cond b (Withdrawn (key_of i) face ∷ []) (cond (is_answered face sends) [] kept))) [
       | true ↦ (λ f none. absurd none, tt)
       | false ↦ elim (is_answered face sends) as (λ b. AddOnly P (cond b [] kept)) [
@@ -205,7 +205,7 @@ command_passes P p face i decided.NoRule answer is e = absurd (never (sym (ap (�
     never e = absurd cc
 
 module _ (seen : Seen) (P : ℕ → Type 0) (face : ℕ) (asker : P face) (whole : List ℕ) (i : PlainInterest)
-    (chosen_are : (faces : List ℕ) (f : ℕ) → choice_for seen.policy i.name (moments (seen.records (key_of i)).asked) (ask_from seen.policy face i) ≡ choices.Send faces
+    (chosen_are : (faces : List ℕ) (f : ℕ) → choice_for seen.policy i.name (moments (seen.records (key_of i)).out_records) (ask_from seen.policy face i) ≡ choices.Send faces
     → has_face f faces ≡ true → P f) where
   sent_passes : (full : Bool) (faces octets : List ℕ) (answer : Answer) → ((f : ℕ) → has_face f faces ≡ true → P f)
       → answer ≡ cond full (dropped PitFull) (passed (to_each faces octets)) → PassesTo P answer
@@ -213,7 +213,7 @@ module _ (seen : Seen) (P : ℕ → Type 0) (face : ℕ) (asker : P face) (whole
   sent_passes false faces octets answer all is e = subst (λ (a : Answer). SendsTo P a.sends) (sym is) (to_each_of P faces octets all)
 
   forwarded_passes : (choice : Choice) (answer : Answer)
-      → choice_for seen.policy i.name (moments (seen.records (key_of i)).asked) (ask_from seen.policy face i) ≡ choice
+      → choice_for seen.policy i.name (moments (seen.records (key_of i)).out_records) (ask_from seen.policy face i) ≡ choice
       → answer ≡ forwarded seen (key_of i) whole i face choice → PassesTo P answer
   forwarded_passes choices.NoRoute answer chosen is = back seen P face asker _ answer is
   forwarded_passes (choices.Send faces) answer chosen is =
@@ -367,10 +367,10 @@ module _ (old new : NodeState) (sound : IsSound old) where
     Open f = is_open f old.policy.faces ≡ true
 
     chosen_open : (i : PlainInterest) (faces : List ℕ) (f : ℕ)
-        → choice_for p i.name (moments (records_at step.waiting (key_of i)).asked) (ask_from p face i) ≡ choices.Send faces → has_face f faces ≡ true → Open f
+        → choice_for p i.name (moments (records_at step.waiting (key_of i)).out_records) (ask_from p face i) ≡ choices.Send faces → has_face f faces ≡ true → Open f
     chosen_open i faces f chosen has =
         sym (has_numbers f old.policy.faces)
-        ∙ chosen_up p (open_faces p) i.name (moments (records_at step.waiting (key_of i)).asked) (ask_from p face i) faces f sound.routes chosen has
+        ∙ chosen_up p (open_faces p) i.name (moments (records_at step.waiting (key_of i)).out_records) (ask_from p face i) faces f sound.routes chosen has
 
     frame_adds : (read : Result PlainFrame PacketFault) → Open face → RepliesToPacket (seen_in p step.waiting old.cache) face read answer
         → AddOnly Open (packet_causes p.now face read answer)

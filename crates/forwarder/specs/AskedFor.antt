@@ -7,7 +7,7 @@ use Rattle.ndn_packets.specs.FrameReading.{frame_at}
 use Rattle.ndn_packets.specs.Key.{PlainKey}
 use Rattle.ndn_packets.specs.Packet.{PlainInterest, PlainData, PlainFrame, AnInterest, AData}
 use Rattle.pit_fib.specs.Cause.{Expires, records_after}
-use Rattle.pit_fib.specs.Records.{Ask}
+use Rattle.pit_fib.specs.Records.{InRecord}
 use Rattle.forwarder.specs.Event.{PlainEvent, Packet, moment}
 use Rattle.forwarder.specs.Policy.{Policy, at_moment}
 use Rattle.forwarder.specs.Allowed.{AllowedIn, Allows}
@@ -17,8 +17,9 @@ use Rattle.forwarder.specs.Sends.{IsReplyToCommand, IsSegmentAskedFor}
 -- an Interest of the face is pending when this moment has come, and the Data answers it
 pub record IsPendingFor (past : Run) (now face : ℕ) (whole : List ℕ) (d : PlainData) : Type 0 where
   pub key : PlainKey
-  pub ask : Ask
-  pub waits : map.get (records_after (Expires now) key (records_of past key)).asks face ≡ Some ask
+  pub in_record : InRecord
+  pub waits : map.get (records_after (Expires now) key (records_of past key)).in_records face
+      ≡ Some in_record
   pub answered : IsTrue (answers d.name (sha256 whole) key.name key.can_be_prefix)
 
 -- the event brings this packet on this face

@@ -9,7 +9,7 @@ use Rattle.ndn_packets.specs.Reading.{is_nil}
 use Rattle.ndn_packets.specs.Packet.{PlainInterest, PlainFrame, AnInterest, AData, ANack, Idle}
 use Rattle.ndn_packets.specs.declared.fault.PacketFault.{PacketFault}
 use Rattle.pit_fib.specs.Cause.{Cause, Arrives, SentTo, Satisfied, NackCame, Withdrawn, Removed, Closed, records_after}
-use Rattle.pit_fib.specs.Records.{Ask, Records}
+use Rattle.pit_fib.specs.Records.{InRecord, Records}
 use Rattle.forwarder.specs.Event.{PlainEvent, Packet, FaceUp, FaceDown, Tick, Send}
 use Rattle.forwarder.specs.Verdict.{Verdict, Passed, Allowed, DataAllowed, Denied, NoRule, Dropped, Answer}
 
@@ -17,9 +17,9 @@ use Rattle.forwarder.specs.Verdict.{Verdict, Passed, Allowed, DataAllowed, Denie
 abbrev pub deadline : ℕ → ℕ → ℕ
 deadline now lifetime = min (now + lifetime) (2 ^ 64 - 1)
 
--- an Interest as its asker sent it, until its lifetime is over
-abbrev pub ask_of : ℕ → List ℕ → PlainInterest → Ask
-ask_of now whole i =
+-- the in-record of an Interest that came now, until its lifetime is over
+abbrev pub in_record_for : ℕ → List ℕ → PlainInterest → InRecord
+in_record_for now whole i =
     record { interest = whole; nonce = i.nonce; deadline = deadline now i.lifetime }
 
 -- whether something went back to the face: a Data, or a Nack
@@ -51,7 +51,7 @@ interest_causes now face whole i sends =
     let key = key_of i in
     if is_nacked sends then Withdrawn key face ∷ [] else (
     if is_answered face sends then [] else
-    Arrives key face (ask_of now whole i)
+    Arrives key face (in_record_for now whole i)
     ∷ map (λ (sent : Send). SentTo key sent.0 i.nonce now) sends)
 
 -- A Nack that is passed has its reason kept; where it was sent on, nobody waits any more.

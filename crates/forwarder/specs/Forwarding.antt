@@ -20,7 +20,7 @@ use Rattle.forwarder.specs.State.{state_of}
 -- where an Interest goes that came on a face
 abbrev pub choice_from : NodeState → ℕ → PlainInterest → Choice
 choice_from s face i =
-    choice_for s.policy i.name (moments (records_at s.pending (key_of i)).asked)
+    choice_for s.policy i.name (moments (records_at s.pending (key_of i)).out_records)
     (ask_from s.policy face i)
 
 -- an Interest was sent on by this choice

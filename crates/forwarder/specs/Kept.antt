@@ -7,10 +7,10 @@ use Rattle.ndn_packets.specs.Packet.{PlainInterest, AnInterest}
 use Rattle.ndn_packets.specs.Writing.{nack_text}
 use Rattle.ndn_packets.specs.declared.types.TheConstants.{NO_ROUTE}
 use Rattle.pit_fib.specs.Faces.{has_face}
-use Rattle.pit_fib.specs.Records.{Ask}
+use Rattle.pit_fib.specs.Records.{InRecord}
 use Rattle.forwarder.specs.Event.{PlainEvent, Packet, Send, to_each}
 use Rattle.forwarder.specs.Verdict.{Answer, Passed}
-use Rattle.forwarder.specs.Causes.{ask_of, is_answered, is_nacked}
+use Rattle.forwarder.specs.Causes.{in_record_for, is_answered, is_nacked}
 use Rattle.forwarder.specs.NextHops.{sent_on}
 use Rattle.forwarder.specs.Replies.{Seen}
 use Rattle.forwarder.specs.Sends.{IsAtHand}
@@ -27,14 +27,14 @@ pub record IsPassed (event : PlainEvent) (answer : Answer) (face : ℕ) (whole :
 -- The event brings an Interest of this key that is passed, nothing goes back to its face, and no
 -- Nack is sent. So the face waits, by this record.
 pub record IsKept (now : ℕ) (event : PlainEvent) (answer : Answer) (key : PlainKey) (face : ℕ)
-    (ask : Ask) : Type 0 where
+    (in_record : InRecord) : Type 0 where
   pub whole : List ℕ
   pub interest : PlainInterest
   pub is_passed : IsPassed event answer face whole interest
   pub unanswered : is_answered face answer.sends ≡ false
   pub not_nacked : is_nacked answer.sends ≡ false
   pub is_key : key ≡ key_of interest
-  pub is_ask : ask ≡ ask_of now whole interest
+  pub is_record : in_record ≡ in_record_for now whole interest
 
 -- it goes on to other faces alone, as it came but for its HopLimit; to none, where the strategy
 -- waits for those that were asked before

@@ -18,7 +18,7 @@ use Rattle.pit_fib.specs.declared.nacked.Nacked.{Nacked}
 use Rattle.pit_fib.specs.declared.nacked.Nacked.TheVariants as nacks
 use Rattle.pit_fib.specs.Faces.{IsRising, has_face}
 use Rattle.pit_fib.specs.Pit.{loops, moments, nacked_answer}
-use Rattle.pit_fib.specs.Records.{Ask, Asks, Records, is_alive}
+use Rattle.pit_fib.specs.Records.{InRecord, InRecords, Records, is_alive}
 use Rattle.strategies.specs.declared.strategy.Choice.{Choice}
 use Rattle.strategies.specs.declared.strategy.Choice.TheVariants as choices
 use Rattle.repo_core.specs.Objects.{served}
@@ -59,7 +59,7 @@ abbrev pub unserved : Seen → ℕ → List ℕ → PlainInterest → Option (Li
 unserved seen face whole i (Some octets) = passed ((face, octets) ∷ [])
 unserved seen face whole i None =
     forwarded seen (key_of i) whole i face
-    (choice_for seen.policy i.name (moments (seen.records (key_of i)).asked)
+    (choice_for seen.policy i.name (moments (seen.records (key_of i)).out_records)
     (ask_from seen.policy face i))
 
 abbrev pub without_cache : Seen → ℕ → List ℕ → PlainInterest → Answer
@@ -96,11 +96,11 @@ RepliesToRequest seen face whole i answer ForTables = RepliesToCommand seen face
 RepliesToRequest seen face whole i answer ForRepository = RepliesToCommand seen face whole i answer
 RepliesToRequest seen face whole i answer ForData = RepliesForData seen face whole i answer
 
--- a face asks under a key that a Data of this name and implicit digest answers
+-- a face has an in-record under a key that a Data of this name and implicit digest answers
 abbrev pub Waits : Seen → List Field → List ℕ → ℕ → Type 0
 Waits seen name digest face =
     (key : PlainKey) × IsTrue (answers name digest key.name key.can_be_prefix)
-    × IsSome (map.get (seen.records key).asks face)
+    × IsSome (map.get (seen.records key).in_records face)
 
 -- The received octets go once to each face that waits for the Data, but for the one that it came
 -- from, in rising order.
@@ -124,21 +124,22 @@ RepliesToData seen face whole d answer =
     ((said : Decision) × IsSaid seen.policy (AData whole d) said
     × RepliesBySaid seen face whole d answer said)
 
--- a Nack of this reason around the Interest that each asker sent, in rising order of their faces
-abbrev pub nacks_to : Asks → ℕ → List Send
-nacks_to asks reason =
-    map_list {A = ℕ × Ask} {B = Send} (λ e. (e.0, nack_text reason e.1.interest)) (map.entries asks)
+-- a Nack of this reason around the Interest of each in-record, in rising order of the faces
+abbrev pub nacks_to : InRecords → ℕ → List Send
+nacks_to in_records reason =
+    map_list {A = ℕ × InRecord} {B = Send} (λ e. (e.0, nack_text reason e.1.interest))
+    (map.entries in_records)
 
-abbrev pub nack_answer : Asks → Nacked → Answer
-nack_answer asks nacks.NoPending = dropped NoPending
-nack_answer asks nacks.Waiting = passed []
-nack_answer asks (nacks.All reason) = passed (nacks_to asks reason)
+abbrev pub nack_answer : InRecords → Nacked → Answer
+nack_answer in_records nacks.NoPending = dropped NoPending
+nack_answer in_records nacks.Waiting = passed []
+nack_answer in_records (nacks.All reason) = passed (nacks_to in_records reason)
 
 abbrev pub RepliesToNack : Seen → ℕ → ℕ → PlainInterest → Answer → Type 0
 RepliesToNack seen face reason i answer =
     let r = seen.records (key_of i) in
     WhereTrue (is_out_of_scope seen.policy face i.name) (answer ≡ dropped OutOfScope)
-    (answer ≡ nack_answer r.asks (nacked_answer r face i.nonce reason))
+    (answer ≡ nack_answer r.in_records (nacked_answer r face i.nonce reason))
 
 abbrev pub RepliesToPacket : Seen → ℕ → Result PlainFrame PacketFault → Answer → Type 0
 RepliesToPacket seen face (Err fault) answer = answer ≡ dropped (Malformed fault)

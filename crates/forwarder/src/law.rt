@@ -24,14 +24,14 @@ ghost use Rattle.ndn_packets.specs.Key.{PlainKey, key_of};
 ghost use Rattle.ndn_tlv.specs.Element.{Field};
 ghost use Rattle.pit_fib.specs.Cause.{Arrives};
 ghost use Rattle.pit_fib.specs.Fib.{costs_at};
-ghost use Rattle.pit_fib.specs.Past.{ask_of, sent_of};
-ghost use Rattle.pit_fib.specs.Records.{Ask};
+ghost use Rattle.pit_fib.specs.Past.{in_record_of, out_record_of};
+ghost use Rattle.pit_fib.specs.Records.{InRecord};
 ghost use Rattle.sha2.specs.Sha256.{sha256};
 ghost use Rattle.replay_guard.specs.Freshness.{AreNear, NumberRises, Recorded};
 ghost use Rattle.replay_guard.specs.Guard.{table_of};
 ghost use Rattle.forwarder.specs.State.{IsSound};
 ghost use Rattle.forwarder.specs.Node.{NodeState, IsStep, Unharmed};
-ghost use Rattle.forwarder.specs.Causes.{ask_of as asked_now, causes_of};
+ghost use Rattle.forwarder.specs.Causes.{in_record_for, causes_of};
 ghost use Rattle.forwarder.specs.Hops.{cost_of};
 ghost use Rattle.forwarder.specs.Kept.{IsAnswered, IsKept, IsPassed, IsSentOn};
 ghost use Rattle.forwarder.specs.Runs.{Run, Start, Then, BringsData, BringsRequest, HasTicksFor, HaveOneHistory, IsPolicyOf, IsRun, KeysAreApart, MayHold, MayReply, Stands, now_of, past_causes, records_of, seen_after};
@@ -197,10 +197,11 @@ pub fn cached_data_were_allowed()
 /// that the face asked with under the key, and the last sending to it, that nothing has ended
 /// since.
 pub fn records_are_read_off_the_run()
-    ensures asks { (past : Run) (key : PlainKey) (face : ℕ)
-        → map.get (records_of past key).asks face ≡ ask_of (past_causes past) key face }
-    ensures asked { (past : Run) (key : PlainKey) (face : ℕ)
-        → map.get (records_of past key).asked face ≡ sent_of (past_causes past) key face }
+    ensures in_records { (past : Run) (key : PlainKey) (face : ℕ)
+        → map.get (records_of past key).in_records face
+        ≡ in_record_of (past_causes past) key face }
+    ensures out_records { (past : Run) (key : PlainKey) (face : ℕ)
+        → map.get (records_of past key).out_records face ≡ out_record_of (past_causes past) key face }
 {}
 
 /// Law: an Interest becomes pending exactly where it was passed, nothing went back to its face, and
@@ -209,21 +210,23 @@ pub fn records_are_read_off_the_run()
 /// packet goes back to its face: a Nack, or what is at hand.
 pub fn unanswered_interests_wait()
     ensures arrives { (now : ℕ) (event : PlainEvent) (answer : Answer) (key : PlainKey) (face : ℕ)
-        (ask : Ask) → Contains (causes_of now event answer) (Arrives key face ask)
-        ↔ IsKept now event answer key face ask }
+        (in_record : InRecord) → Contains (causes_of now event answer) (Arrives key face in_record)
+        ↔ IsKept now event answer key face in_record }
     ensures waits { (past : Run) (event : PlainEvent) (answer : Answer) (key : PlainKey) (face : ℕ)
-        (ask : Ask) → IsKept (max (now_of past) (moment event)) event answer key face ask
-        → map.get (records_of (Then past event answer) key).asks face ≡ Some ask }
+        (in_record : InRecord)
+        → IsKept (max (now_of past) (moment event)) event answer key face in_record
+        → map.get (records_of (Then past event answer) key).in_records face ≡ Some in_record }
     ensures others { (past : Run) (event : PlainEvent) (answer : Answer) (key : PlainKey) (face : ℕ)
-        (ask : Ask) → map.get (records_of (Then past event answer) key).asks face ≡ Some ask
-        → IsKept (max (now_of past) (moment event)) event answer key face ask
-        ⊎ (map.get (records_of past key).asks face ≡ Some ask) }
+        (in_record : InRecord)
+        → map.get (records_of (Then past event answer) key).in_records face ≡ Some in_record
+        → IsKept (max (now_of past) (moment event)) event answer key face in_record
+        ⊎ (map.get (records_of past key).in_records face ≡ Some in_record) }
     ensures answers { (first : Policy) (past : Run) (event : PlainEvent) (answer : Answer)
         (face : ℕ) (whole : List ℕ) (i : PlainInterest) (reply : MayReply first past event answer)
         → BringsOctets event → IsPassed event answer face whole i
         → let now = max (now_of past) (moment event) in
         let seen = seen_after past (at_moment reply.was (moment event)) reply.waiting in
-        (IsKept now event answer (key_of i) face (asked_now now whole i)
+        (IsKept now event answer (key_of i) face (in_record_for now whole i)
         × IsSentOn face whole i answer.sends)
         ⊎ IsAnswered seen face whole i answer.sends }
 {}

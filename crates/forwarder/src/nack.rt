@@ -5,7 +5,7 @@ ghost use Rattle.ndn_packets.specs.Packet.{ANack};
 ghost use Rattle.ndn_packets.specs.View.{plain_interest};
 ghost use Rattle.forwarder.specs.Faces.{is_open, numbers};
 ghost use Rattle.forwarder.specs.Handling.{AwaitsPacket, HandlesPacket};
-ghost use Rattle.forwarder.specs.NackRoom.{asks_at, nack_room};
+ghost use Rattle.forwarder.specs.NackRoom.{in_records_at, nack_room};
 ghost use Rattle.forwarder.specs.Replies.{nacks_to};
 
 use crate::arrived::Arrived;
@@ -20,8 +20,8 @@ use pit_fib::{MAX_FACES, Nacked};
 pub const NACK_EXTRA: usize = 40;
 
 impl State {
-    /// Handles a Nack (NFD Developer's Guide, "Incoming Nack Pipeline"). Once all faces that were
-    /// asked have answered by a Nack, each asker gets one of the least reason.
+    /// Handles a Nack (NFD Developer's Guide, "Incoming Nack Pipeline"). Once each out-record has
+    /// the reason of a Nack, each face with an in-record gets one of the least reason.
     pub fn receive_nack(
         &mut self,
         reason: u64,
@@ -52,10 +52,10 @@ impl State {
         }
     }
 
-    /// How many octets the Nacks to all askers of a key take at most.
+    /// How many octets the Nacks to all in-records of a key take at most.
     fn nack_room(&self, key: Key<'_>) -> Result<usize, Memory>
         ensures { IfOk result (λ room. room
-            ≡ nack_room (asks_at self.entry.now.pit.pending (plain_key key.entry))
+            ≡ nack_room (in_records_at self.entry.now.pit.pending (plain_key key.entry))
             (numbers self.entry.now.faces)) }
     {
         let mut room = 0usize;
@@ -70,17 +70,17 @@ impl State {
         Ok(room)
     }
 
-    /// Sends a Nack of this reason to each asker of a key, around the Interest that it sent. Room
-    /// for them is reserved.
+    /// Sends a Nack of this reason to each face with an in-record of a key, around the Interest that
+    /// it sent. Room for them is reserved.
     fn push_nacks(&self, key: Key<'_>, reason: u64, out: &mut Sends) -> Result<(), Memory>
-        requires known { (f : ℕ) → IsSome (map.get (asks_at self.now.pit.pending (plain_key key)) f)
+        requires known { (f : ℕ) → IsSome (map.get (in_records_at self.now.pit.pending (plain_key key)) f)
             → is_open f self.now.faces ≡ true }
         requires places { MAX_FACES ≤ out.old.places }
-        requires space { nack_room (asks_at self.now.pit.pending (plain_key key))
+        requires space { nack_room (in_records_at self.now.pit.pending (plain_key key))
             (numbers self.now.faces) ≤ out.old.space }
         ensures ok { IsOk result }
         ensures sends { out.new.sends ≡ out.old.sends
-            ++ nacks_to (asks_at self.entry.now.pit.pending (plain_key key.entry)) reason }
+            ++ nacks_to (in_records_at self.entry.now.pit.pending (plain_key key.entry)) reason }
     {
         for i in 0..self.faces.len() {
             let Some(face) = self.faces.get(i) else {

@@ -20,9 +20,9 @@ use Rattle.name_trie.proofs.Revised.{equal}
 use Rattle.pit_fib.specs.declared.flags.Flags.{Flags}
 use Rattle.pit_fib.specs.Faces.{IsRising, adding, has_face}
 use Rattle.pit_fib.specs.Flags.{flags, flags_of}
-use Rattle.pit_fib.specs.Kept.{Kept, Row, changed_row, is_answered, kept_in, unanswered, with_answered, with_askers, with_asking}
+use Rattle.pit_fib.specs.Kept.{Kept, Row, changed_row, is_answered, kept_in, unanswered, with_answered, with_faces_of, with_asking}
 use Rattle.pit_fib.specs.Pit.{AtMost64}
-use Rattle.pit_fib.specs.Records.{Ask}
+use Rattle.pit_fib.specs.Records.{InRecord}
 use Rattle.pit_fib.proofs.Askers.{face_added, or_more}
 use Rattle.pit_fib.proofs.KeptTables.{both_equal, row_changes}
 
@@ -124,7 +124,7 @@ contains-any m f = ap is_some (get-entries m f) ∙ some-any f (entries m)
 -- whether a face asks under a key
 abbrev pub asks_in : Option Kept → ℕ → Bool
 asks_in None f = false
-asks_in (Some s) f = contains_key s.records.asks f
+asks_in (Some s) f = contains_key s.records.in_records f
 
 -- whether a face asks under a key of a row that is answered
 abbrev pub asks_row : Bool → Option Row → ℕ → Bool
@@ -165,19 +165,19 @@ module _ (P : ℕ → Type 0) (few : AtMost64 P) where
     each = λ f. b.each f ∙ ap (λ c. c || then f) (a.each f) ∙ sym (or_more (has_face f faces) (more f) (then f));
   }
 
-  gather_rows : (es : List (ℕ × Ask)) (faces : List ℕ) → IsRising faces → ((f : ℕ) → IsTrue (has_face f faces) → P f) → ((f : ℕ) → IsTrue (list_any (λ e. eqb e.0 f) es) → P f)
-      → Gathers P faces (with_askers es faces) (λ f. list_any (λ e. eqb e.0 f) es)
-  gather_rows [] faces rising all ask = gather_none faces (λ f. false) rising all (λ f. refl)
-  gather_rows (e ∷ es) faces rising all ask =
+  gather_rows : (es : List (ℕ × InRecord)) (faces : List ℕ) → IsRising faces → ((f : ℕ) → IsTrue (has_face f faces) → P f) → ((f : ℕ) → IsTrue (list_any (λ e. eqb e.0 f) es) → P f)
+      → Gathers P faces (with_faces_of es faces) (λ f. list_any (λ e. eqb e.0 f) es)
+  gather_rows [] faces rising all in_record = gather_none faces (λ f. false) rising all (λ f. refl)
+  gather_rows (e ∷ es) faces rising all in_record =
       let new = (adding e.0 faces).1 in
-      let here : P e.0 = ask e.0 (left_true (eqb e.0 e.0) (list_any (λ r. eqb r.0 e.0) es) (same e.0)) in
+      let here : P e.0 = in_record e.0 (left_true (eqb e.0 e.0) (list_any (λ r. eqb r.0 e.0) es) (same e.0)) in
       let step = face_added P few e.0 here faces new (adding e.0 faces).0 rising all refl in
       let one : Gathers P faces new (λ f. eqb e.0 f) = record {
         rising = step.0;
         within = λ f t. either f (has_face f faces) refl (sym (step.1 f) ∙ t) here;
         each = step.1;
       } in
-      gather_both one (gather_rows es new step.0 one.within (λ f t. ask f (right_true (eqb e.0 f) _ t)))
+      gather_both one (gather_rows es new step.0 one.within (λ f t. in_record f (right_true (eqb e.0 f) _ t)))
     where
       same : (n : ℕ) → eqb n n ≡ true
       same n = grind (arith, nat_tests)
@@ -188,24 +188,24 @@ module _ (P : ℕ → Type 0) (few : AtMost64 P) where
 
   pub gather_asking : (o : Option Kept) (faces : List ℕ) → IsRising faces → ((f : ℕ) → IsTrue (has_face f faces) → P f) → ((f : ℕ) → IsTrue (asks_in o f) → P f)
       → Gathers P faces (with_asking o faces) (asks_in o)
-  gather_asking None faces rising all ask = gather_none faces (λ f. false) rising all (λ f. refl)
-  gather_asking (Some s) faces rising all ask =
-      let rows = gather_rows (entries s.records.asks) faces rising all (λ f t. ask f (contains-any s.records.asks f ∙ t)) in
-      record { rising = rows.rising; within = rows.within; each = λ f. rows.each f ∙ ap (λ b. has_face f faces || b) (sym (contains-any s.records.asks f)) }
+  gather_asking None faces rising all in_record = gather_none faces (λ f. false) rising all (λ f. refl)
+  gather_asking (Some s) faces rising all in_record =
+      let rows = gather_rows (entries s.records.in_records) faces rising all (λ f t. in_record f (contains-any s.records.in_records f ∙ t)) in
+      record { rising = rows.rising; within = rows.within; each = λ f. rows.each f ∙ ap (λ b. has_face f faces || b) (sym (contains-any s.records.in_records f)) }
 
   gather_row : (is_own : Bool) (row : Row) (faces : List ℕ) → IsRising faces → ((f : ℕ) → IsTrue (has_face f faces) → P f) → ((f : ℕ) → IsTrue (asks_row is_own (Some row) f) → P f)
       → Gathers P faces (with_answered is_own faces row) (asks_row is_own (Some row))
-  gather_row true row faces rising all ask =
+  gather_row true row faces rising all in_record =
       let at : Flags → Option Kept = λ g. get row g in
-      let a = gather_asking (at (flags false false)) faces rising all (λ f t. ask f (left_true _ _ (left_true _ _ t))) in
-      let b = gather_asking (at (flags false true)) _ a.rising a.within (λ f t. ask f (left_true _ _ (right_true (asks_in (at (flags false false)) f) _ t))) in
-      let c = gather_asking (at (flags true false)) _ b.rising b.within (λ f t. ask f (right_true (asks_in (at (flags false false)) f || asks_in (at (flags false true)) f) _ (left_true _ _ t))) in
-      let d = gather_asking (at (flags true true)) _ c.rising c.within (λ f t. ask f (right_true (asks_in (at (flags false false)) f || asks_in (at (flags false true)) f) _ (right_true (asks_in (at (flags true false)) f) _ t))) in
+      let a = gather_asking (at (flags false false)) faces rising all (λ f t. in_record f (left_true _ _ (left_true _ _ t))) in
+      let b = gather_asking (at (flags false true)) _ a.rising a.within (λ f t. in_record f (left_true _ _ (right_true (asks_in (at (flags false false)) f) _ t))) in
+      let c = gather_asking (at (flags true false)) _ b.rising b.within (λ f t. in_record f (right_true (asks_in (at (flags false false)) f || asks_in (at (flags false true)) f) _ (left_true _ _ t))) in
+      let d = gather_asking (at (flags true true)) _ c.rising c.within (λ f t. in_record f (right_true (asks_in (at (flags false false)) f || asks_in (at (flags false true)) f) _ (right_true (asks_in (at (flags true false)) f) _ t))) in
       gather_both (gather_both a b) (gather_both c d)
-  gather_row false row faces rising all ask =
+  gather_row false row faces rising all in_record =
       let at : Flags → Option Kept = λ g. get row g in
-      let c = gather_asking (at (flags true false)) faces rising all (λ f t. ask f (left_true _ _ t)) in
-      let d = gather_asking (at (flags true true)) _ c.rising c.within (λ f t. ask f (right_true (asks_in (at (flags true false)) f) _ t)) in
+      let c = gather_asking (at (flags true false)) faces rising all (λ f t. in_record f (left_true _ _ t)) in
+      let d = gather_asking (at (flags true true)) _ c.rising c.within (λ f t. in_record f (right_true (asks_in (at (flags true false)) f) _ t)) in
       gather_both c d
 
   no_row : (is_own : Bool) (f : ℕ) → asks_row is_own None f ≡ false
@@ -214,16 +214,16 @@ module _ (P : ℕ → Type 0) (few : AtMost64 P) where
 
   pub gather_taken : (is_own : Bool) (row : Option Row) (faces : List ℕ) → IsRising faces → ((f : ℕ) → IsTrue (has_face f faces) → P f) → ((f : ℕ) → IsTrue (asks_row is_own row f) → P f)
       → Gathers P faces (taken (with_answered is_own) faces row) (asks_row is_own row)
-  gather_taken is_own None faces rising all ask = gather_none faces (asks_row is_own None) rising all (no_row is_own)
-  gather_taken is_own (Some row) faces rising all ask = gather_row is_own row faces rising all ask
+  gather_taken is_own None faces rising all in_record = gather_none faces (asks_row is_own None) rising all (no_row is_own)
+  gather_taken is_own (Some row) faces rising all in_record = gather_row is_own row faces rising all in_record
 
   pub gather_along : (value : List Field → Option Row) (front rest : List Field) (faces : List ℕ) → IsRising faces → ((f : ℕ) → IsTrue (has_face f faces) → P f)
       → ((f : ℕ) → IsTrue (asks_along value front rest f) → P f)
       → Gathers P faces (taken_along (with_answered true) (with_answered false) faces value front rest) (asks_along value front rest)
-  gather_along value front [] faces rising all ask = gather_taken true (value front) faces rising all ask
-  gather_along value front (c ∷ rest) faces rising all ask =
-      let a = gather_taken false (value front) faces rising all (λ f t. ask f (left_true _ _ t)) in
-      gather_both a (gather_along value (front ++ c ∷ []) rest _ a.rising a.within (λ f t. ask f (right_true (asks_row false (value front) f) _ t)))
+  gather_along value front [] faces rising all in_record = gather_taken true (value front) faces rising all in_record
+  gather_along value front (c ∷ rest) faces rising all in_record =
+      let a = gather_taken false (value front) faces rising all (λ f t. in_record f (left_true _ _ t)) in
+      gather_both a (gather_along value (front ++ c ∷ []) rest _ a.rising a.within (λ f t. in_record f (right_true (asks_row false (value front) f) _ t)))
 
 -- ---- who asks along a name
 
@@ -298,16 +298,16 @@ prefix row g f p t = by_flags g.can_be_prefix g.must_be_fresh p t
 
 pub asks_if : (value : List Field → Option Row) (front t rest : List Field) (g : Flags) (f : ℕ) → IsTrue (along t rest g.can_be_prefix) → IsTrue (asks_in (kept_in (value (front ++ t)) g) f)
     → IsTrue (asks_along value front rest f)
-asks_if value front [] [] g f test asks = own (value front) g f (subst (λ n. IsTrue (asks_in (kept_in (value n) g) f)) (append_none front) asks)
-asks_if value front [] (c ∷ rest) g f test asks =
-    left_true (asks_row false (value front) f) _ (prefix (value front) g f test (subst (λ n. IsTrue (asks_in (kept_in (value n) g) f)) (append_none front) asks))
-asks_if value front (d ∷ t) [] g f test asks = not_true test
-asks_if value front (d ∷ t) (c ∷ rest) g f test asks =
+asks_if value front [] [] g f test in_records = own (value front) g f (subst (λ n. IsTrue (asks_in (kept_in (value n) g) f)) (append_none front) in_records)
+asks_if value front [] (c ∷ rest) g f test in_records =
+    left_true (asks_row false (value front) f) _ (prefix (value front) g f test (subst (λ n. IsTrue (asks_in (kept_in (value n) g) f)) (append_none front) in_records))
+asks_if value front (d ∷ t) [] g f test in_records = not_true test
+asks_if value front (d ∷ t) (c ∷ rest) g f test in_records =
     let parts = and_parts (eq_by_cmp component_cmp d c) _ test in
     let one : d ≡ c = component_cmp-antisymmetric d c (equal (component_cmp d c) parts.0) in
     right_true (asks_row false (value front) f) _
     (asks_if value (front ++ c ∷ []) t rest g f parts.1
-    (subst (λ n. IsTrue (asks_in (kept_in (value n) g) f)) (ap (λ e. front ++ e ∷ t) one ∙ sym (append_assoc front (c ∷ []) t)) asks))
+    (subst (λ n. IsTrue (asks_in (kept_in (value n) g) f)) (ap (λ e. front ++ e ∷ t) one ∙ sym (append_assoc front (c ∷ []) t)) in_records))
   where
     and_parts : (a b : Bool) → IsTrue (a && b) → IsTrue a × IsTrue b
     and_parts true b t = (refl, t)

@@ -11,9 +11,9 @@ use Rattle.ndn_packets.specs.Key.{PlainKey}
 use Rattle.name_trie.specs.NameTable.{NameTable}
 use Rattle.pit_fib.specs.declared.prepared.Prepared.{Prepared}
 use Rattle.pit_fib.specs.Faced.{Faced, has_place, placed, set_in, with_face_value}
-use Rattle.pit_fib.specs.Kept.{Kept, Row, Rows, asked_by, has_place_in, kept_at, new_in, sendings, sent_in}
+use Rattle.pit_fib.specs.Kept.{Kept, Row, Rows, with_in_record, has_place_in, kept_at, new_in, kept_out_records, sent_in}
 use Rattle.pit_fib.specs.Prepared.{CanSend, HasMemory, HasNoArrival, calls_of}
-use Rattle.pit_fib.specs.Records.{Ask, Sent, Records, no_records}
+use Rattle.pit_fib.specs.Records.{InRecord, OutRecord, Records, no_records}
 use Rattle.pit_fib.proofs.KeptTables.{records_in}
 use Rattle.pit_fib.proofs.Memory.{not_wide, wide}
 use Rattle.pit_fib.proofs.Preparations.{memory_after, memory_arrives, memory_sends}
@@ -31,11 +31,11 @@ or_so false b (inl e) = absurd cc
 or_so false b (inr e) = e
 
 -- with the Interest of a face for which there is room
-pub asked_is : (face : ℕ) (ask : Ask) (s : Kept) → IsSome (get s.records.asks face) ⊎ (len s.records.asks < 64)
-    → asked_by face ask s ≡ record { records = record { asks = map.insert s.records.asks face ask; asked = s.records.asked }; is_wide = s.is_wide }
-asked_is face ask s room =
-    let holds = or_so (contains_key s.records.asks face) (ltb (len s.records.asks) 64) (elim room [ (inl some) ↦ inl some | (inr less) ↦ inr (less_so _ less) ]) in
-    ap (λ b. cond b (record { records = record { asks = map.insert s.records.asks face ask; asked = s.records.asked }; is_wide = s.is_wide }) s) holds
+pub asked_is : (face : ℕ) (in_record : InRecord) (s : Kept) → IsSome (get s.records.in_records face) ⊎ (len s.records.in_records < 64)
+    → with_in_record face in_record s ≡ record { records = record { in_records = map.insert s.records.in_records face in_record; out_records = s.records.out_records }; is_wide = s.is_wide }
+asked_is face in_record s room =
+    let holds = or_so (contains_key s.records.in_records face) (ltb (len s.records.in_records) 64) (elim room [ (inl some) ↦ inl some | (inr less) ↦ inr (less_so _ less) ]) in
+    ap (λ b. cond b (record { records = record { in_records = map.insert s.records.in_records face in_record; out_records = s.records.out_records }; is_wide = s.is_wide }) s) holds
 
 -- ---- the value of a face set
 

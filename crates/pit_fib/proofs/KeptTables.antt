@@ -28,7 +28,7 @@ use Rattle.pit_fib.specs.Kept.{Kept, Row, Rows, changed_row, only, kept_after, k
 use Rattle.pit_fib.specs.Prepared.{AreAlive, CanSend, HasMemory, IsReady, IsWithin}
 use Rattle.pit_fib.specs.Pit.{AtMost64, HasRecord, all_nacked, least_reason, nacked_answer, was_sent}
 use Rattle.pit_fib.specs.declared.nacked.Nacked.TheVariants.{NoPending}
-use Rattle.pit_fib.specs.Records.{Sent, Records, Pending, HoldsTheLiving, no_records, is_alive, records_at}
+use Rattle.pit_fib.specs.Records.{OutRecord, Records, Pending, HoldsTheLiving, no_records, is_alive, records_at}
 use Rattle.pit_fib.specs.Cause.{Cause, changed, settled, same_key, with_reason, Follows}
 use Rattle.pit_fib.proofs.PendingFaces.{Adds, none_few, stays_few}
 use Rattle.pit_fib.proofs.PendingTables.{one_key, same_self, dead_none}
@@ -413,14 +413,14 @@ new_where_absent rows pending key (Some entry) alive is finds b e many h =
 
 -- ---- Nacks
 
-pub was_sent_shown : (o : Option Kept) (face : ℕ) (nonce : List ℕ) → was_sent (get (records_in o).asked face) nonce ≡ was_sent_in o face nonce
-was_sent_shown None face nonce = ap (λ (s : Option Sent). was_sent s nonce) (get-empty nat_cmp face)
+pub was_sent_shown : (o : Option Kept) (face : ℕ) (nonce : List ℕ) → was_sent (get (records_in o).out_records face) nonce ≡ was_sent_in o face nonce
+was_sent_shown None face nonce = ap (λ (s : Option OutRecord). was_sent s nonce) (get-empty nat_cmp face)
 was_sent_shown (Some s) face nonce = refl
 
 pub nack_answers : (o : Option Kept) (face : ℕ) (nonce : List ℕ) (reason : ℕ) → ((s : Kept) → o ≡ Some s → is_alive s.records ≡ true) → was_sent_in o face nonce ≡ true
     → answer_in (option_and_then (λ s. living (nacked face nonce reason s)) o) reason ≡ nacked_answer (records_in o) face nonce reason
 nack_answers None face nonce reason alive sent = absurd cc
 nack_answers (Some s) face nonce reason alive sent =
-    let asked = with_reason face nonce reason s.records.asked (get s.records.asked face) in
+    let out_records = with_reason face nonce reason s.records.out_records (get s.records.out_records face) in
     ap (λ b. answer_in (cond b (Some (nacked face nonce reason s)) None) reason) (alive s refl)
-    ∙ sym (ap (λ b. cond b (all_nacked (least_reason reason (entries asked))) NoPending) sent)
+    ∙ sym (ap (λ b. cond b (all_nacked (least_reason reason (entries out_records))) NoPending) sent)

@@ -12,13 +12,13 @@ use Rattle.std.proofs.lemmas.List.{take_more, take_all, length-take-le, take-app
 use Rattle.std.proofs.Math.Seq.{drop-cons}
 use Rattle.pit_fib.specs.Tables.{ByFace}
 use Rattle.name_trie.specs.ByName.{revised, revise}
-use Rattle.pit_fib.specs.Records.{Sent, Asked}
+use Rattle.pit_fib.specs.Records.{OutRecord, OutRecords}
 use Rattle.pit_fib.specs.Pit.{moments}
 use Rattle.ndn_names.proofs.Rows.{AllLower, first_of, second_of, is_less, put_past, from_put, len-from_sorted}
 use Rattle.name_trie.proofs.Revised.{sorted_revised}
 
 abbrev pub Row : Type 0
-Row = ℕ × Sent
+Row = ℕ × OutRecord
 
 abbrev pub numbers : List Row → List (ℕ × ℕ)
 numbers rows = revised (λ sent. Some sent.moment) rows
@@ -82,6 +82,6 @@ module _ (rows : List Row) (sorted : T (is_sorted nat_cmp rows)) (i : ℕ) (row 
       ap numbers (take_more rows i row lt ∙ ap (λ r. front ++ r ∷ []) (sym is)) ∙ numbers-push front row ∙ sym one in
       sym (from_put nat_cmp_total (numbers front) (numbers (take (i + 1) rows)) sorted_numbers row.0 row.1.moment more)
 
-pub moments_all : (asked : Asked) (i : ℕ) → length (entries asked) ≤ i → moments_in (take i (entries asked)) ≡ moments asked
+pub moments_all : (out_records : OutRecords) (i : ℕ) → length (entries out_records) ≤ i → moments_in (take i (entries out_records)) ≡ moments out_records
 unfolding revise
-moments_all asked i le = ap moments_in (take_all i (entries asked) le)
+moments_all out_records i le = ap moments_in (take_all i (entries out_records) le)

@@ -11,14 +11,14 @@ use Rattle.std.specs.FinMap.Entries.{below_all}
 use Rattle.std.proofs.lemmas.Bool.Decides.{nat_tests}
 use Rattle.pit_fib.specs.declared.nacked.Nacked.{Nacked}
 use Rattle.pit_fib.specs.declared.nacked.Nacked.TheVariants.{NoPending, Waiting, All}
-use Rattle.pit_fib.specs.Records.{Sent, Asked, Records}
+use Rattle.pit_fib.specs.Records.{OutRecord, OutRecords, Records}
 use Rattle.pit_fib.specs.Cause.{with_reason, nacked_with}
 use Rattle.pit_fib.specs.Pit.{IsLeastReason, was_sent, least_reason, all_nacked, nacked_answer}
 use Rattle.ndn_names.proofs.Rows.{first_of, second_of}
 use Rattle.name_trie.proofs.Revised.{equal, find_below}
 
 abbrev Row : Type 0
-Row = ℕ × Sent
+Row = ℕ × OutRecord
 
 -- a row has a reason that is not less
 abbrev HasAbove : ℕ → Row → Type 0
@@ -77,19 +77,19 @@ is_fold start least (row ∷ rows) (all, le, one) =
 -- ---- rows, and the map that they are
 
 module _ (least : ℕ) where
-  some_inside : {a b : Sent} → Some a ≡ Some b → a ≡ b
+  some_inside : {a b : OutRecord} → Some a ≡ Some b → a ≡ b
   some_inside {a} {b} e = ap (λ o. unwrap_or o a) e
 
-  all_found : (rows : List Row) → AllByRecursion (HasAbove least) rows → (face : ℕ) (sent : Sent) → find nat_cmp face rows ≡ Some sent → HasAbove least (face, sent)
+  all_found : (rows : List Row) → AllByRecursion (HasAbove least) rows → (face : ℕ) (sent : OutRecord) → find nat_cmp face rows ≡ Some sent → HasAbove least (face, sent)
   all_found [] all face sent e = absurd (nothing e)
   all_found (row ∷ rows) all face sent e =
       elim (eq_by_cmp nat_cmp face row.0) as (λ b. cond b (Some row.1) (find nat_cmp face rows) ≡ Some sent → HasAbove least (face, sent)) [
-        | true ↦ λ e. subst (λ (s : Sent). HasAbove least (face, s)) (some_inside e) (all.0.0, all.0.1, all.0.2)
+        | true ↦ λ e. subst (λ (s : OutRecord). HasAbove least (face, s)) (some_inside e) (all.0.0, all.0.1, all.0.2)
         | false ↦ λ e. all_found rows all.1 face sent e
       ] e
 
   -- what a later row has, all rows have
-  kept : (row : Row) (rows : List Row) → T (is_sorted nat_cmp (row ∷ rows)) → (face : ℕ) (sent : Sent) → find nat_cmp face rows ≡ Some sent → find nat_cmp face (row ∷ rows) ≡ Some sent
+  kept : (row : Row) (rows : List Row) → T (is_sorted nat_cmp (row ∷ rows)) → (face : ℕ) (sent : OutRecord) → find nat_cmp face rows ≡ Some sent → find nat_cmp face (row ∷ rows) ≡ Some sent
   kept row rows sorted face sent e =
       elim (eq_by_cmp nat_cmp face row.0) as (λ b. eq_by_cmp nat_cmp face row.0 ≡ b → cond b (Some row.1) (find nat_cmp face rows) ≡ Some sent) [
         | true ↦ λ t.
@@ -102,53 +102,53 @@ module _ (least : ℕ) where
   first_found : (row : Row) (rows : List Row) → find nat_cmp row.0 (row ∷ rows) ≡ Some row.1
   first_found row rows = ap (λ b. cond b (Some row.1) (find nat_cmp row.0 rows)) (ap is_eq (tied_itself nat_cmp_total row.0))
 
-  found_all : (rows : List Row) → T (is_sorted nat_cmp rows) → ((face : ℕ) (sent : Sent) → find nat_cmp face rows ≡ Some sent → HasAbove least (face, sent)) → AllByRecursion (HasAbove least) rows
+  found_all : (rows : List Row) → T (is_sorted nat_cmp rows) → ((face : ℕ) (sent : OutRecord) → find nat_cmp face rows ≡ Some sent → HasAbove least (face, sent)) → AllByRecursion (HasAbove least) rows
   found_all [] sorted h = tt
   found_all (row ∷ rows) sorted h =
       let mine = h row.0 row.1 (first_found row rows) in
       ((mine.0, mine.1, mine.2), found_all rows (second_of _ _ sorted) (λ face sent e. h face sent (kept row rows sorted face sent e)))
 
-  one_found : (rows : List Row) → T (is_sorted nat_cmp rows) → IsOne least rows → (face : ℕ) × (sent : Sent) × (find nat_cmp face rows ≡ Some sent) × (sent.reason ≡ Some least)
+  one_found : (rows : List Row) → T (is_sorted nat_cmp rows) → IsOne least rows → (face : ℕ) × (sent : OutRecord) × (find nat_cmp face rows ≡ Some sent) × (sent.reason ≡ Some least)
   one_found [] sorted never = absurd never
   one_found (row ∷ rows) sorted (inl mine) = (row.0, row.1, first_found row rows, mine)
   one_found (row ∷ rows) sorted (inr later) =
       let there = one_found rows (second_of _ _ sorted) later in
       (there.0, there.1, kept row rows sorted there.0 there.1 there.2, there.3)
 
-  found_one : (rows : List Row) (face : ℕ) (sent : Sent) → find nat_cmp face rows ≡ Some sent → sent.reason ≡ Some least → IsOne least rows
+  found_one : (rows : List Row) (face : ℕ) (sent : OutRecord) → find nat_cmp face rows ≡ Some sent → sent.reason ≡ Some least → IsOne least rows
   found_one [] face sent e is = absurd (nothing e)
   found_one (row ∷ rows) face sent e is =
       elim (eq_by_cmp nat_cmp face row.0) as (λ b. cond b (Some row.1) (find nat_cmp face rows) ≡ Some sent → (row.1.reason ≡ Some least) ⊎ IsOne least rows) [
-        | true ↦ λ e. inl (ap (λ (s : Sent). s.reason) (some_inside e) ∙ is)
+        | true ↦ λ e. inl (ap (λ (s : OutRecord). s.reason) (some_inside e) ∙ is)
         | false ↦ λ e. inr (found_one rows face sent e is)
       ] e
 
 -- ---- a Nack that was awaited
 
 module _ (r : Records) (face : ℕ) (nonce : List ℕ) (reason : ℕ) where
-  abbrev after : Asked
-  after = with_reason face nonce reason r.asked (map.get r.asked face)
+  abbrev after : OutRecords
+  after = with_reason face nonce reason r.out_records (map.get r.out_records face)
 
   -- the face has the reason
-  here : was_sent (map.get r.asked face) nonce ≡ true → (sent : Sent) × (map.get after face ≡ Some sent) × (sent.reason ≡ Some reason)
-  here was = go (map.get r.asked face) was
+  here : was_sent (map.get r.out_records face) nonce ≡ true → (sent : OutRecord) × (map.get after face ≡ Some sent) × (sent.reason ≡ Some reason)
+  here was = go (map.get r.out_records face) was
     where
-      go : (o : Option Sent) → was_sent o nonce ≡ true → (sent : Sent) × (map.get (with_reason face nonce reason r.asked o) face ≡ Some sent) × (sent.reason ≡ Some reason)
+      go : (o : Option OutRecord) → was_sent o nonce ≡ true → (sent : OutRecord) × (map.get (with_reason face nonce reason r.out_records o) face ≡ Some sent) × (sent.reason ≡ Some reason)
       go None was = absurd (differ was)
         where
           differ : false ≡ true → ⊥
           differ e = absurd cc
       go (Some s) was = (
         nacked_with nonce reason s,
-        get-insert nat_cmp_total r.asked face (nacked_with nonce reason s) face
-            ∙ ap (λ b. cond b (Some (nacked_with nonce reason s)) (map.get r.asked face)) (ap is_eq (tied_itself nat_cmp_total face)),
+        get-insert nat_cmp_total r.out_records face (nacked_with nonce reason s) face
+            ∙ ap (λ b. cond b (Some (nacked_with nonce reason s)) (map.get r.out_records face)) (ap is_eq (tied_itself nat_cmp_total face)),
         ap (λ b. reason_of (cond b (record s { reason = Some reason }) s)) was,
       )
         where
-          reason_of : Sent → Option ℕ
+          reason_of : OutRecord → Option ℕ
           reason_of s = s.reason
 
-  answer_is : was_sent (map.get r.asked face) nonce ≡ true → nacked_answer r face nonce reason ≡ all_nacked (least_reason reason (entries after))
+  answer_is : was_sent (map.get r.out_records face) nonce ≡ true → nacked_answer r face nonce reason ≡ all_nacked (least_reason reason (entries after))
   answer_is was = ap (λ b. cond b (all_nacked (least_reason reason (entries after))) NoPending) was
 
   all_is : (o : Option ℕ) (least : ℕ) → all_nacked o ≡ All least → o ≡ Some least
@@ -166,7 +166,7 @@ module _ (r : Records) (face : ℕ) (nonce : List ℕ) (reason : ℕ) where
       number : All m ≡ All least → m ≡ least
       number e = ap number_of e
 
-  pub least_goes_back : (least : ℕ) → was_sent (map.get r.asked face) nonce ≡ true → (nacked_answer r face nonce reason ≡ All least) ↔ IsLeastReason after least
+  pub least_goes_back : (least : ℕ) → was_sent (map.get r.out_records face) nonce ≡ true → (nacked_answer r face nonce reason ≡ All least) ↔ IsLeastReason after least
   least_goes_back least was = (
     λ e.
         let fold = fold_is reason least rows (all_is (least_reason reason rows) least (sym (answer_is was) ∙ e)) in
@@ -189,17 +189,17 @@ module _ (r : Records) (face : ℕ) (nonce : List ℕ) (reason : ℕ) where
       sorted : T (is_sorted nat_cmp rows)
       sorted = entries_sorted after
 
-      one_of : (least ≡ reason) ⊎ IsOne least rows → (f : ℕ) × (s : Sent) × (map.get after f ≡ Some s) × (s.reason ≡ Some least)
+      one_of : (least ≡ reason) ⊎ IsOne least rows → (f : ℕ) × (s : OutRecord) × (map.get after f ≡ Some s) × (s.reason ≡ Some least)
       one_of (inl same) = let mine = here was in (face, mine.0, mine.1, mine.2 ∙ ap Some (sym same))
       one_of (inr one) = let there = one_found least rows sorted one in (there.0, there.1, get-entries after there.0 ∙ there.2, there.3)
 
-  pub not_pending : (nacked_answer r face nonce reason ≡ NoPending) ↔ (was_sent (map.get r.asked face) nonce ≡ false)
-  not_pending = (λ e. go (was_sent (map.get r.asked face) nonce) refl e, λ e. ap (λ b. cond b (all_nacked (least_reason reason (entries after))) NoPending) e)
+  pub not_pending : (nacked_answer r face nonce reason ≡ NoPending) ↔ (was_sent (map.get r.out_records face) nonce ≡ false)
+  not_pending = (λ e. go (was_sent (map.get r.out_records face) nonce) refl e, λ e. ap (λ b. cond b (all_nacked (least_reason reason (entries after))) NoPending) e)
     where
       differ : (o : Option ℕ) → all_nacked o ≡ NoPending → ⊥
       differ None e = absurd cc
       differ (Some m) e = absurd cc
 
-      go : (b : Bool) → was_sent (map.get r.asked face) nonce ≡ b → cond b (all_nacked (least_reason reason (entries after))) NoPending ≡ NoPending → was_sent (map.get r.asked face) nonce ≡ false
+      go : (b : Bool) → was_sent (map.get r.out_records face) nonce ≡ b → cond b (all_nacked (least_reason reason (entries after))) NoPending ≡ NoPending → was_sent (map.get r.out_records face) nonce ≡ false
       go false t e = t
       go true t e = absurd (differ (least_reason reason (entries after)) e)

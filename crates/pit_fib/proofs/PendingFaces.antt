@@ -14,9 +14,9 @@ use Rattle.std.proofs.lemmas.Bool.Decides.{nat_tests}
 use Rattle.ndn_packets.specs.Answers.{answers}
 use Rattle.ndn_packets.specs.Key.{PlainKey}
 use Rattle.pit_fib.specs.Faces.{IsRising, has_face, with_face}
-use Rattle.pit_fib.specs.Records.{Ask, Sent, Records, Pending, no_records, is_alive, records_at}
+use Rattle.pit_fib.specs.Records.{InRecord, OutRecord, Records, Pending, no_records, is_alive, records_at}
 use Rattle.pit_fib.specs.Cause.{Cause, Expires, Arrives, SentTo, Satisfied, NackCame, Withdrawn, Removed, Closed, changed, same_key, until_after, nacked_with, records_after, Follows}
-use Rattle.pit_fib.specs.Past.{ask_after, sent_after}
+use Rattle.pit_fib.specs.Past.{in_record_after, out_record_after}
 use Rattle.pit_fib.specs.Pit.{HasRecord, HasRoomFor, AtMost64}
 use Rattle.ndn_names.proofs.Rows.{first_of, second_of, is_less}
 use Rattle.pit_fib.proofs.RisingFaces.{with_rises}
@@ -25,7 +25,7 @@ use Rattle.pit_fib.proofs.PendingPast.{get-changed, get-changed_asked}
 -- the face to which a cause gives a record
 abbrev pub Adds : Cause → ℕ → Type 0
 Adds (Expires now) f = ⊥
-Adds (Arrives key face ask) f = f ≡ face
+Adds (Arrives key face in_record) f = f ≡ face
 Adds (SentTo key face nonce moment) f = f ≡ face
 Adds (Satisfied name digest) f = ⊥
 Adds (NackCame key face nonce reason) f = ⊥
@@ -59,9 +59,9 @@ was_mapped change true None other same e = never e
 was_mapped change true (Some x) other same e = refl
 was_mapped change false was other same e = same e
 
-asks_before : (cause : Cause) (k : PlainKey) (f : ℕ) (was : Option Ask) → IsSome (ask_after cause k f was) → IsSome was ⊎ Adds cause f
+asks_before : (cause : Cause) (k : PlainKey) (f : ℕ) (was : Option InRecord) → IsSome (in_record_after cause k f was) → IsSome was ⊎ Adds cause f
 asks_before (Expires now) k f was e = inl (was_there (until_after now) was e)
-asks_before (Arrives key face ask) k f was e = put_at ⊥ was (same_key k key) f face ask e
+asks_before (Arrives key face in_record) k f was e = put_at ⊥ was (same_key k key) f face in_record e
 asks_before (SentTo key face nonce moment) k f was e = inl e
 asks_before (Satisfied name digest) k f was e = gone ⊥ was (answers name digest k.name k.can_be_prefix) e
 asks_before (NackCame key face nonce reason) k f was e = inl e
@@ -69,9 +69,9 @@ asks_before (Withdrawn key face) k f was e = gone ⊥ was (same_key k key && eqb
 asks_before (Removed key) k f was e = gone ⊥ was (same_key k key) e
 asks_before (Closed face) k f was e = gone ⊥ was (eqb f face) e
 
-sent_before : (cause : Cause) (k : PlainKey) (f : ℕ) (was : Option Sent) → IsSome (sent_after cause k f was) → IsSome was ⊎ Adds cause f
+sent_before : (cause : Cause) (k : PlainKey) (f : ℕ) (was : Option OutRecord) → IsSome (out_record_after cause k f was) → IsSome was ⊎ Adds cause f
 sent_before (Expires now) k f was e = inl e
-sent_before (Arrives key face ask) k f was e = inl e
+sent_before (Arrives key face in_record) k f was e = inl e
 sent_before (SentTo key face nonce moment) k f was e = put_at ⊥ was (same_key k key) f face _ e
 sent_before (Satisfied name digest) k f was e = gone ⊥ was (answers name digest k.name k.can_be_prefix) e
 sent_before (NackCame key face nonce reason) k f was e = inl (was_mapped (nacked_with nonce reason) (same_key k key && eqb f face) was was (λ s. s) e)
@@ -81,17 +81,17 @@ sent_before (Closed face) k f was e = gone ⊥ was (eqb f face) e
 
 -- a face has records of an entry
 abbrev pub InRecords : Records → ℕ → Type 0
-InRecords r f = IsSome (get r.asks f) ⊎ IsSome (get r.asked f)
+InRecords r f = IsSome (get r.in_records f) ⊎ IsSome (get r.out_records f)
 
 in_changed : (cause : Cause) (k : PlainKey) (r : Records) (f : ℕ) → InRecords (changed cause k r) f → InRecords r f ⊎ Adds cause f
 in_changed cause k r f (inl e) =
-    elim (asks_before cause k f (get r.asks f) (subst (λ (o : Option Ask). IsSome o) (get-changed cause k f r) e)) [ (inl was) ↦ inl (inl was) | (inr adds) ↦ inr adds ]
+    elim (asks_before cause k f (get r.in_records f) (subst (λ (o : Option InRecord). IsSome o) (get-changed cause k f r) e)) [ (inl was) ↦ inl (inl was) | (inr adds) ↦ inr adds ]
 in_changed cause k r f (inr e) =
-    elim (sent_before cause k f (get r.asked f) (subst (λ (o : Option Sent). IsSome o) (get-changed_asked cause k f r) e)) [ (inl was) ↦ inl (inr was) | (inr adds) ↦ inr adds ]
+    elim (sent_before cause k f (get r.out_records f) (subst (λ (o : Option OutRecord). IsSome o) (get-changed_asked cause k f r) e)) [ (inl was) ↦ inl (inr was) | (inr adds) ↦ inr adds ]
 
 in_none : {A : Type 0} (f : ℕ) → InRecords no_records f → A
-in_none f (inl e) = never (subst (λ (o : Option Ask). IsSome o) (get-empty nat_cmp f) e)
-in_none f (inr e) = never (subst (λ (o : Option Sent). IsSome o) (get-empty nat_cmp f) e)
+in_none f (inl e) = never (subst (λ (o : Option InRecord). IsSome o) (get-empty nat_cmp f) e)
+in_none f (inr e) = never (subst (λ (o : Option OutRecord). IsSome o) (get-empty nat_cmp f) e)
 
 in_settled : (r : Records) (f : ℕ) (b : Bool) → InRecords (cond b r no_records) f → InRecords r f
 in_settled r f true e = e
@@ -119,13 +119,13 @@ had_records cause old new none follows f has =
     elim (had_record cause old new follows f has) [ (inl was) ↦ was | (inr adds) ↦ absurd (none f adds) ]
 
 -- a face that closed has no record
-closed_asks : (face : ℕ) (k : PlainKey) (was : Option Ask) → IsSome (ask_after (Closed face) k face was) → ⊥
+closed_asks : (face : ℕ) (k : PlainKey) (was : Option InRecord) → IsSome (in_record_after (Closed face) k face was) → ⊥
 closed_asks face k was e = never (subst (λ b. IsSome (cond b None was)) (same face) e)
   where
     same : (n : ℕ) → eqb n n ≡ true
     same n = grind (arith, nat_tests)
 
-closed_sent : (face : ℕ) (k : PlainKey) (was : Option Sent) → IsSome (sent_after (Closed face) k face was) → ⊥
+closed_sent : (face : ℕ) (k : PlainKey) (was : Option OutRecord) → IsSome (out_record_after (Closed face) k face was) → ⊥
 closed_sent face k was e = never (subst (λ b. IsSome (cond b None was)) (same face) e)
   where
     same : (n : ℕ) → eqb n n ≡ true
@@ -136,8 +136,8 @@ closed_has_none face old new follows (k, e) =
     let r = records_at old k in
     let now : InRecords (records_after (Closed face) k r) face = subst (λ r. InRecords r face) (follows k) e in
     elim (in_settled (changed (Closed face) k r) face (is_alive (changed (Closed face) k r)) now) [
-      | (inl some) ↦ closed_asks face k (get r.asks face) (subst (λ (o : Option Ask). IsSome o) (get-changed (Closed face) k face r) some)
-      | (inr some) ↦ closed_sent face k (get r.asked face) (subst (λ (o : Option Sent). IsSome o) (get-changed_asked (Closed face) k face r) some)
+      | (inl some) ↦ closed_asks face k (get r.in_records face) (subst (λ (o : Option InRecord). IsSome o) (get-changed (Closed face) k face r) some)
+      | (inr some) ↦ closed_sent face k (get r.out_records face) (subst (λ (o : Option OutRecord). IsSome o) (get-changed_asked (Closed face) k face r) some)
     ]
 
 all_before : {P Q : ℕ → Type 0} → ((f : ℕ) → P f → Q f) → (faces : List ℕ) → AllByRecursion P faces → AllByRecursion Q faces
@@ -245,16 +245,16 @@ room_in m face few = by_cases (get m face) refl
 -- ---- room for one more record of an entry
 
 module _ (old : Pending) (key : PlainKey) (r : Records) (face : ℕ) (here : records_at old key ≡ r) (room : HasRoomFor old face) where
-  ask_there : (f : ℕ) → IsSome (get r.asks f) ⊎ (f ≡ face) → HasRecord old f ⊎ (f ≡ face)
-  ask_there f (inl some) = inl (key, inl (subst (λ (r : Records). IsSome (get r.asks f)) (sym here) some))
+  ask_there : (f : ℕ) → IsSome (get r.in_records f) ⊎ (f ≡ face) → HasRecord old f ⊎ (f ≡ face)
+  ask_there f (inl some) = inl (key, inl (subst (λ (r : Records). IsSome (get r.in_records f)) (sym here) some))
   ask_there f (inr same) = inr same
 
-  sent_there : (f : ℕ) → IsSome (get r.asked f) ⊎ (f ≡ face) → HasRecord old f ⊎ (f ≡ face)
-  sent_there f (inl some) = inl (key, inr (subst (λ (r : Records). IsSome (get r.asked f)) (sym here) some))
+  sent_there : (f : ℕ) → IsSome (get r.out_records f) ⊎ (f ≡ face) → HasRecord old f ⊎ (f ≡ face)
+  sent_there f (inl some) = inl (key, inr (subst (λ (r : Records). IsSome (get r.out_records f)) (sym here) some))
   sent_there f (inr same) = inr same
 
-  pub room_for_ask : IsSome (get r.asks face) ⊎ (len r.asks < 64)
-  room_for_ask = room_in r.asks face (at_most ask_there room)
+  pub room_for_ask : IsSome (get r.in_records face) ⊎ (len r.in_records < 64)
+  room_for_ask = room_in r.in_records face (at_most ask_there room)
 
-  pub room_for_sent : IsSome (get r.asked face) ⊎ (len r.asked < 64)
-  room_for_sent = room_in r.asked face (at_most sent_there room)
+  pub room_for_sent : IsSome (get r.out_records face) ⊎ (len r.out_records < 64)
+  room_for_sent = room_in r.out_records face (at_most sent_there room)

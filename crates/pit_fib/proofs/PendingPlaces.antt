@@ -7,14 +7,14 @@ use Rattle.std.specs.Ordering.{nat_cmp}
 use Rattle.std.specs.Cmp.{nat_cmp_total}
 use Rattle.std.proofs.lemmas.Bool.Decides.{nat_tests}
 use Rattle.ndn_packets.specs.Key.{PlainKey, key_cmp}
-use Rattle.pit_fib.specs.Records.{Ask, Sent, Records, Pending, HoldsTheLiving, no_records, is_alive, records_at}
+use Rattle.pit_fib.specs.Records.{InRecord, OutRecord, Records, Pending, HoldsTheLiving, no_records, is_alive, records_at}
 use Rattle.pit_fib.specs.Cause.{Arrives, SentTo, NackCame, Withdrawn, Removed, changed, same_key, sent_at, with_reason}
 use Rattle.ndn_packets.specs.Key.{key_cmp-total, key_cmp-antisymmetric}
 use Rattle.pit_fib.proofs.PendingTables.{same_self, dead_none}
 
 -- a map with an entry is not empty
-pub alive_insert : (m : FinMap nat_cmp Ask) (asked : FinMap nat_cmp Sent) (f : ℕ) (a : Ask) → is_alive (record { asks = map.insert m f a; asked = asked }) ≡ true
-alive_insert m asked f a =
+pub alive_insert : (m : FinMap nat_cmp InRecord) (out_records : FinMap nat_cmp OutRecord) (f : ℕ) (a : InRecord) → is_alive (record { in_records = map.insert m f a; out_records = out_records }) ≡ true
+alive_insert m out_records f a =
     ap (ltb 0) (len-insert nat_cmp_total m f a)
     ∙ elim (is_some (get m f)) as (λ b. is_some (get m f) ≡ b → ltb 0 (cond b (len m) (len m + 1)) ≡ true) [
       | true ↦ λ t. some_len (len m) refl t
@@ -23,25 +23,25 @@ alive_insert m asked f a =
   where
     some_len : (n : ℕ) → len m ≡ n → is_some (get m f) ≡ true → ltb 0 n ≡ true
     some_len (suc n) e t = grind (arith, nat_tests)
-    some_len zero e t = absurd (differ (is_some (get m f)) t (ap (λ (x : FinMap nat_cmp Ask). is_some (get x f)) (empty_of_len m e) ∙ ap is_some (get-empty nat_cmp f)))
+    some_len zero e t = absurd (differ (is_some (get m f)) t (ap (λ (x : FinMap nat_cmp InRecord). is_some (get x f)) (empty_of_len m e) ∙ ap is_some (get-empty nat_cmp f)))
       where
         differ : (b : Bool) → b ≡ true → b ≡ false → ⊥
         differ b p q = absurd cc
 
-pub arrives_elsewhere : (key : PlainKey) (face : ℕ) (ask : Ask) (k : PlainKey) (s : Records) → same_key k key ≡ false → changed (Arrives key face ask) k s ≡ s
-arrives_elsewhere key face ask k s t = ap (λ b. cond b (record { asks = map.insert s.asks face ask; asked = s.asked }) s) t
+pub arrives_elsewhere : (key : PlainKey) (face : ℕ) (in_record : InRecord) (k : PlainKey) (s : Records) → same_key k key ≡ false → changed (Arrives key face in_record) k s ≡ s
+arrives_elsewhere key face in_record k s t = ap (λ b. cond b (record { in_records = map.insert s.in_records face in_record; out_records = s.out_records }) s) t
 
-pub arrives_here : (key : PlainKey) (face : ℕ) (ask : Ask) (s : Records) → changed (Arrives key face ask) key s ≡ record { asks = map.insert s.asks face ask; asked = s.asked }
-arrives_here key face ask s = ap (λ b. cond b (record { asks = map.insert s.asks face ask; asked = s.asked }) s) (same_self key)
+pub arrives_here : (key : PlainKey) (face : ℕ) (in_record : InRecord) (s : Records) → changed (Arrives key face in_record) key s ≡ record { in_records = map.insert s.in_records face in_record; out_records = s.out_records }
+arrives_here key face in_record s = ap (λ b. cond b (record { in_records = map.insert s.in_records face in_record; out_records = s.out_records }) s) (same_self key)
 
 pub sent_elsewhere : (key : PlainKey) (face : ℕ) (nonce : List ℕ) (moment : ℕ) (k : PlainKey) (s : Records) → same_key k key ≡ false → changed (SentTo key face nonce moment) k s ≡ s
-sent_elsewhere key face nonce moment k s t = ap (λ b. cond b (record { asks = s.asks; asked = map.insert s.asked face (sent_at nonce moment) }) s) t
+sent_elsewhere key face nonce moment k s t = ap (λ b. cond b (record { in_records = s.in_records; out_records = map.insert s.out_records face (sent_at nonce moment) }) s) t
 
-pub sent_here : (key : PlainKey) (face : ℕ) (nonce : List ℕ) (moment : ℕ) (s : Records) → changed (SentTo key face nonce moment) key s ≡ record { asks = s.asks; asked = map.insert s.asked face (sent_at nonce moment) }
-sent_here key face nonce moment s = ap (λ b. cond b (record { asks = s.asks; asked = map.insert s.asked face (sent_at nonce moment) }) s) (same_self key)
+pub sent_here : (key : PlainKey) (face : ℕ) (nonce : List ℕ) (moment : ℕ) (s : Records) → changed (SentTo key face nonce moment) key s ≡ record { in_records = s.in_records; out_records = map.insert s.out_records face (sent_at nonce moment) }
+sent_here key face nonce moment s = ap (λ b. cond b (record { in_records = s.in_records; out_records = map.insert s.out_records face (sent_at nonce moment) }) s) (same_self key)
 
 abbrev with_its_reason : ℕ → List ℕ → ℕ → Records → Records
-with_its_reason face nonce reason s = record { asks = s.asks; asked = with_reason face nonce reason s.asked (get s.asked face) }
+with_its_reason face nonce reason s = record { in_records = s.in_records; out_records = with_reason face nonce reason s.out_records (get s.out_records face) }
 
 pub nacked_elsewhere : (key : PlainKey) (face : ℕ) (nonce : List ℕ) (reason : ℕ) (k : PlainKey) (s : Records) → same_key k key ≡ false → changed (NackCame key face nonce reason) k s ≡ s
 nacked_elsewhere key face nonce reason k s t = ap (λ b. cond b (with_its_reason face nonce reason s) s) t
@@ -52,7 +52,7 @@ nacked_here key face nonce reason s = ap (λ b. cond b (with_its_reason face non
 pub nacked_nothing : (key : PlainKey) (face : ℕ) (nonce : List ℕ) (reason : ℕ) → changed (NackCame key face nonce reason) key no_records ≡ no_records
 nacked_nothing key face nonce reason =
     nacked_here key face nonce reason no_records
-    ∙ ap (λ (o : Option Sent). record { asks = empty; asked = with_reason face nonce reason empty o }) (get-empty nat_cmp face)
+    ∙ ap (λ (o : Option OutRecord). record { in_records = empty; out_records = with_reason face nonce reason empty o }) (get-empty nat_cmp face)
 
 -- ---- tables that show the same records
 

@@ -10,7 +10,7 @@ use Rattle.std.specs.Cmp.{nat_cmp_total, tied_itself}
 use Rattle.ndn_tlv.specs.Element.{Field}
 use Rattle.ndn_packets.specs.Answers.{answers}
 use Rattle.ndn_packets.specs.Key.{PlainKey, key_cmp}
-use Rattle.pit_fib.specs.Records.{Ask, Asks, no_records, is_alive}
+use Rattle.pit_fib.specs.Records.{InRecord, InRecords, no_records, is_alive}
 use Rattle.pit_fib.specs.Cause.{Expires, Satisfied, NackCame, Withdrawn, Removed, Closed, changed, same_key, until_after, with_reason}
 use Rattle.name_trie.proofs.Revised.{revise-empty}
 use Rattle.ndn_packets.specs.Key.{key_cmp-total, key_cmp-antisymmetric}
@@ -42,22 +42,22 @@ same_turned x y =
 -- ---- causes that change each entry
 
 pub dead_none : is_alive no_records ≡ false
-dead_none = ap (ltb 0) (len-empty nat_cmp Ask)
+dead_none = ap (ltb 0) (len-empty nat_cmp InRecord)
 
-dead_without : (f : ℕ) → ltb 0 (len (map.remove (empty {X = Ask} {R = nat_cmp}) f)) ≡ false
+dead_without : (f : ℕ) → ltb 0 (len (map.remove (empty {X = InRecord} {R = nat_cmp}) f)) ≡ false
 dead_without f =
-    ap (ltb 0) (len-remove nat_cmp_total (empty {X = Ask}) f
-    ∙ ap (λ o. cond (is_some o) (len (empty {X = Ask} {R = nat_cmp}) - 1) (len (empty {X = Ask} {R = nat_cmp}))) (get-empty nat_cmp f) ∙ len-empty nat_cmp Ask)
+    ap (ltb 0) (len-remove nat_cmp_total (empty {X = InRecord}) f
+    ∙ ap (λ o. cond (is_some o) (len (empty {X = InRecord} {R = nat_cmp}) - 1) (len (empty {X = InRecord} {R = nat_cmp}))) (get-empty nat_cmp f) ∙ len-empty nat_cmp InRecord)
 
 pub dead_after_expiry : (now : ℕ) (k : PlainKey) → is_alive (changed (Expires now) k no_records) ≡ false
-dead_after_expiry now k = ap (λ (asks : Asks). ltb 0 (len asks)) (revise-empty nat_cmp (until_after now)) ∙ dead_none
+dead_after_expiry now k = ap (λ (in_records : InRecords). ltb 0 (len in_records)) (revise-empty nat_cmp (until_after now)) ∙ dead_none
 
 pub dead_after_closing : (f : ℕ) (k : PlainKey) → is_alive (changed (Closed f) k no_records) ≡ false
 dead_after_closing f k = dead_without f
 
 pub dead_after_withdrawal : (key : PlainKey) (f : ℕ) (k : PlainKey) → is_alive (changed (Withdrawn key f) k no_records) ≡ false
 dead_after_withdrawal key f k =
-    elim (same_key k key) as (λ b. is_alive (cond b (record { asks = map.remove empty f; asked = empty }) no_records) ≡ false) [ true ↦ dead_without f | false ↦ dead_none ]
+    elim (same_key k key) as (λ b. is_alive (cond b (record { in_records = map.remove empty f; out_records = empty }) no_records) ≡ false) [ true ↦ dead_without f | false ↦ dead_none ]
 
 pub dead_after_removal : (key k : PlainKey) → is_alive (changed (Removed key) k no_records) ≡ false
 dead_after_removal key k = elim (same_key k key) as (λ b. is_alive (cond b no_records no_records) ≡ false) [ true ↦ dead_none | false ↦ dead_none ]
@@ -68,4 +68,4 @@ dead_after_data name digest k =
 
 pub dead_after_nack : (key : PlainKey) (face : ℕ) (nonce : List ℕ) (reason : ℕ) (k : PlainKey) → is_alive (changed (NackCame key face nonce reason) k no_records) ≡ false
 dead_after_nack key face nonce reason k =
-    elim (same_key k key) as (λ b. is_alive (cond b (record { asks = empty; asked = with_reason face nonce reason empty (map.get {R = nat_cmp} empty face) }) no_records) ≡ false) [ true ↦ dead_none | false ↦ dead_none ]
+    elim (same_key k key) as (λ b. is_alive (cond b (record { in_records = empty; out_records = with_reason face nonce reason empty (map.get {R = nat_cmp} empty face) }) no_records) ≡ false) [ true ↦ dead_none | false ↦ dead_none ]

@@ -20,7 +20,7 @@ use Rattle.pit_fib.specs.Flags.{flags_of, key_at}
 use Rattle.pit_fib.specs.Kept.{Kept, Row, Rows, changed_row, kept_after, kept_at, kept_in, living, pending_of, unanswered, with_answered}
 use Rattle.pit_fib.specs.Pit.{AtMost64, HasRecord, WaitsFor}
 use Rattle.pit_fib.specs.Prepared.{AreAlive}
-use Rattle.pit_fib.specs.Records.{Ask, Records, is_alive, no_records, records_at}
+use Rattle.pit_fib.specs.Records.{InRecord, Records, is_alive, no_records, records_at}
 use Rattle.pit_fib.specs.Cause.{Satisfied}
 use Rattle.pit_fib.proofs.Answered.{Gathers, along, and_some, answers_along, append_none, asked_along, asks_along, asks_if, asks_in, asks_row, below_stays, gather_along, gather_taken, gone_if, left_along, not_true, or_cases, own}
 use Rattle.pit_fib.proofs.KeptTables.{Steps, get-with_value, records_in, records_kept, row_changes}
@@ -34,8 +34,8 @@ TakesAlong name rows new =
 name_self : (q : List Field) → eq_by_cmp name_cmp q q ≡ true
 name_self q = ap is_eq (tied_itself name_cmp-total q)
 
-asks_shown : (o : Option Kept) (f : ℕ) → asks_in o f ≡ is_some (get (records_in o).asks f)
-asks_shown None f = sym (ap (λ (a : Option Ask). is_some a) (get-empty nat_cmp f))
+asks_shown : (o : Option Kept) (f : ℕ) → asks_in o f ≡ is_some (get (records_in o).in_records f)
+asks_shown None f = sym (ap (λ (a : Option InRecord). is_some a) (get-empty nat_cmp f))
 asks_shown (Some s) f = refl
 
 or_false : (a : Bool) → (a || false) ≡ a
@@ -97,14 +97,14 @@ module _ (name : List Field) (digest : List ℕ) (rows taken : Rows) (along_is :
 
   -- ---- the faces
 
-  asked : (k : PlainKey) (f : ℕ) → IsTrue (asks_in (kept_at rows k) f) → IsSome (get (records_at (pending_of rows) k).asks f)
-  asked k f t = ap (λ (r : Records). is_some (get r.asks f)) (records_kept rows k) ∙ sym (asks_shown (kept_at rows k) f) ∙ t
+  out_records : (k : PlainKey) (f : ℕ) → IsTrue (asks_in (kept_at rows k) f) → IsSome (get (records_at (pending_of rows) k).in_records f)
+  out_records k f t = ap (λ (r : Records). is_some (get r.in_records f)) (records_kept rows k) ∙ sym (asks_shown (kept_at rows k) f) ∙ t
 
   pub recorded_along : (f : ℕ) → IsTrue (asks_along (get rows) [] name f) → HasRecord (pending_of rows) f
-  recorded_along f t = let found = asked_along (get rows) [] name f t in (key_at found.0 found.1, inl (asked (key_at found.0 found.1) f found.3))
+  recorded_along f t = let found = asked_along (get rows) [] name f t in (key_at found.0 found.1, inl (out_records (key_at found.0 found.1) f found.3))
 
   pub recorded_full : (f : ℕ) → IsTrue (asks_row true (get rows full) f) → HasRecord (pending_of rows) f
-  recorded_full f t = let found = asked_along (get rows) full [] f t in (key_at (full ++ found.0) found.1, inl (asked (key_at (full ++ found.0) found.1) f found.3))
+  recorded_full f t = let found = asked_along (get rows) full [] f t in (key_at (full ++ found.0) found.1, inl (out_records (key_at (full ++ found.0) found.1) f found.3))
 
   whole : (t : List Field) (p : Bool) → IsTrue (along t [] p) → full ++ t ≡ full
   whole [] p h = append_none full
@@ -115,12 +115,12 @@ module _ (name : List Field) (digest : List ℕ) (rows taken : Rows) (along_is :
     | (inl h) ↦
         let found = asked_along (get rows) [] name f h in
         let k = key_at found.0 found.1 in
-        (k, answers_along found.0 name digest found.1.can_be_prefix ∙ ap (λ b. b || eq_by_cmp name_cmp found.0 full) found.2, asked k f found.3)
+        (k, answers_along found.0 name digest found.1.can_be_prefix ∙ ap (λ b. b || eq_by_cmp name_cmp found.0 full) found.2, out_records k f found.3)
     | (inr h) ↦
         let found = asked_along (get rows) full [] f h in
         let k = key_at (full ++ found.0) found.1 in
         let same : eq_by_cmp name_cmp (full ++ found.0) full ≡ true = ap (λ q. eq_by_cmp name_cmp q full) (whole found.0 found.1.can_be_prefix found.2) ∙ name_self full in
-        (k, answers_along (full ++ found.0) name digest found.1.can_be_prefix ∙ ap (λ b. along (full ++ found.0) name found.1.can_be_prefix || b) same ∙ or_true (along (full ++ found.0) name found.1.can_be_prefix), asked k f found.3)
+        (k, answers_along (full ++ found.0) name digest found.1.can_be_prefix ∙ ap (λ b. along (full ++ found.0) name found.1.can_be_prefix || b) same ∙ or_true (along (full ++ found.0) name found.1.can_be_prefix), out_records k f found.3)
   ]
     where
       or_true : (a : Bool) → (a || true) ≡ true
@@ -129,12 +129,12 @@ module _ (name : List Field) (digest : List ℕ) (rows taken : Rows) (along_is :
 
   pub if_waits : (f : ℕ) → WaitsFor (pending_of rows) name digest f → IsTrue (asks_along (get rows) [] name f || asks_row true (get rows full) f)
   if_waits f (k, answered, some) =
-      let asks : IsTrue (asks_in (kept_at rows k) f) = asks_shown (kept_at rows k) f ∙ ap (λ (r : Records). is_some (get r.asks f)) (sym (records_kept rows k)) ∙ some in
+      let in_records : IsTrue (asks_in (kept_at rows k) f) = asks_shown (kept_at rows k) f ∙ ap (λ (r : Records). is_some (get r.in_records f)) (sym (records_kept rows k)) ∙ some in
       elim (or_cases (along k.name name k.can_be_prefix) _ (sym (answers_along k.name name digest k.can_be_prefix) ∙ answered)) [
-        | (inl h) ↦ ap (λ b. b || asks_row true (get rows full) f) (asks_if (get rows) [] k.name name (flags_of k) f h asks)
+        | (inl h) ↦ ap (λ b. b || asks_row true (get rows full) f) (asks_if (get rows) [] k.name name (flags_of k) f h in_records)
         | (inr h) ↦
             let one : k.name ≡ full = name_cmp-antisymmetric k.name full (equal (name_cmp k.name full) h) in
-            right (asks_along (get rows) [] name f) (own (get rows full) (flags_of k) f (subst (λ q. IsTrue (asks_in (kept_in (get rows q) (flags_of k)) f)) one asks))
+            right (asks_along (get rows) [] name f) (own (get rows full) (flags_of k) f (subst (λ q. IsTrue (asks_in (kept_in (get rows q) (flags_of k)) f)) one in_records))
       ]
     where
       right : (a : Bool) {b : Bool} → IsTrue b → IsTrue (a || b)

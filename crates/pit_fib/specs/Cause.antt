@@ -7,20 +7,20 @@ use Rattle.ndn_tlv.specs.Element.{Field}
 use Rattle.ndn_packets.specs.Answers.{answers}
 use Rattle.ndn_packets.specs.Key.{PlainKey, key_cmp}
 use Rattle.name_trie.specs.ByName.{revise}
-use Rattle.pit_fib.specs.Records.{Ask, Sent, Asked, Records, Pending, no_records, is_alive, records_at, same_nonce}
+use Rattle.pit_fib.specs.Records.{InRecord, OutRecord, OutRecords, Records, Pending, no_records, is_alive, records_at, same_nonce}
 
 pub data Cause : Type 0 where
   -- time passed: what has a deadline that is not after now ends
   Expires : (now : ℕ) → Cause
   -- an Interest of a key came from a face
-  Arrives : (key : PlainKey) (face : ℕ) (ask : Ask) → Cause
+  Arrives : (key : PlainKey) (face : ℕ) (in_record : InRecord) → Cause
   -- an Interest of a key was sent to a face
   SentTo : (key : PlainKey) (face : ℕ) (nonce : List ℕ) (moment : ℕ) → Cause
   -- Data of this name and implicit digest came, and may be sent
   Satisfied : (name : List Field) (digest : List ℕ) → Cause
   -- a Nack came from a face
   NackCame : (key : PlainKey) (face : ℕ) (nonce : List ℕ) (reason : ℕ) → Cause
-  -- a face does not ask any more
+  -- the in-record of a face was taken out
   Withdrawn : (key : PlainKey) (face : ℕ) → Cause
   -- all records of a key were taken out
   Removed : (key : PlainKey) → Cause
@@ -31,45 +31,50 @@ abbrev pub same_key : PlainKey → PlainKey → Bool
 same_key = eq_by_cmp key_cmp
 
 -- an Interest that waits after this moment
-abbrev pub until_after : ℕ → Ask → Option Ask
-until_after now ask = if nat_lt now ask.deadline then Some ask else None
+abbrev pub until_after : ℕ → InRecord → Option InRecord
+until_after now in_record = if nat_lt now in_record.deadline then Some in_record else None
 
--- a sending without a Nack so far
-abbrev pub sent_at : List ℕ → ℕ → Sent
+-- the out-record of a sending to which no Nack came so far
+abbrev pub sent_at : List ℕ → ℕ → OutRecord
 sent_at nonce moment = record { nonce = nonce; moment = moment; reason = None }
 
--- a sending, with the reason of a Nack that has its Nonce
-abbrev pub nacked_with : List ℕ → ℕ → Sent → Sent
-nacked_with nonce reason sent =
-    if same_nonce sent.nonce nonce then record sent { reason = Some reason } else sent
+-- an out-record, with the reason of a Nack that has its Nonce
+abbrev pub nacked_with : List ℕ → ℕ → OutRecord → OutRecord
+nacked_with nonce reason out_record =
+    if same_nonce out_record.nonce nonce then record out_record { reason = Some reason }
+    else out_record
 
--- the faces asked, with the reason of a Nack from one of them, whose last sending was this
-abbrev pub with_reason : ℕ → List ℕ → ℕ → Asked → Option Sent → Asked
-with_reason face nonce reason asked None = asked
-with_reason face nonce reason asked (Some sent) =
-    map.insert asked face (nacked_with nonce reason sent)
+-- the out-records, with the reason of a Nack from a face that had this one
+abbrev pub with_reason : ℕ → List ℕ → ℕ → OutRecords → Option OutRecord → OutRecords
+with_reason face nonce reason out_records None = out_records
+with_reason face nonce reason out_records (Some out_record) =
+    map.insert out_records face (nacked_with nonce reason out_record)
 
 -- the records of a key with the cause's own change
 abbrev pub changed : Cause → PlainKey → Records → Records
-changed (Expires now) k r = record r { asks = revise (until_after now) r.asks }
-changed (Arrives key face ask) k r =
-    if same_key k key then record r { asks = map.insert r.asks face ask } else r
+changed (Expires now) k r = record r { in_records = revise (until_after now) r.in_records }
+changed (Arrives key face in_record) k r =
+    if same_key k key then record r { in_records = map.insert r.in_records face in_record } else r
 changed (SentTo key face nonce moment) k r =
-    if same_key k key then record r { asked = map.insert r.asked face (sent_at nonce moment) }
-    else r
+    if same_key k key then record r {
+      out_records = map.insert r.out_records face (sent_at nonce moment);
+    } else r
 changed (Satisfied name digest) k r =
     if answers name digest k.name k.can_be_prefix then no_records else r
 changed (NackCame key face nonce reason) k r =
     if same_key k key then record r {
-      asked = with_reason face nonce reason r.asked (map.get r.asked face);
+      out_records = with_reason face nonce reason r.out_records (map.get r.out_records face);
     } else r
 changed (Withdrawn key face) k r =
-    if same_key k key then record r { asks = map.remove r.asks face } else r
+    if same_key k key then record r { in_records = map.remove r.in_records face } else r
 changed (Removed key) k r = if same_key k key then no_records else r
 changed (Closed face) k r =
-    record { asks = map.remove r.asks face; asked = map.remove r.asked face }
+    record {
+      in_records = map.remove r.in_records face;
+      out_records = map.remove r.out_records face;
+    }
 
--- where no face asks any more, the records of the faces asked end too
+-- where no in-record is left, the out-records end too
 abbrev pub settled : Records → Records
 settled r = if is_alive r then r else no_records
 

@@ -16,10 +16,10 @@ use Rattle.pit_fib.specs.Faces.{adding}
 use Rattle.pit_fib.specs.declared.nacked.Nacked.{Nacked}
 use Rattle.pit_fib.specs.declared.nacked.Nacked.TheVariants.{NoPending}
 use Rattle.pit_fib.specs.Pit.{all_nacked, least_reason, was_sent}
-use Rattle.pit_fib.specs.Records.{Ask, Asks, Sent, Asked, Records, Pending, no_records, is_alive, records_code}
+use Rattle.pit_fib.specs.Records.{InRecord, InRecords, OutRecord, OutRecords, Records, Pending, no_records, is_alive, records_code}
 use Rattle.pit_fib.specs.Cause.{Cause, changed, until_after, sent_at, with_reason}
 
--- the records, and whether there is memory for sendings to all faces
+-- the records, and whether there is memory for out-records of all faces
 pub record Kept : Type 0 where
   pub records : Records
   pub is_wide : Bool
@@ -29,49 +29,58 @@ kept_code =
     code_by (Records × Bool) (coded× records_code coded_bool)
     (λ s. (s.records, s.is_wide)) (λ p. record { records = p.0; is_wide = p.1 }) (λ _. refl)
 
--- an entry before anybody asks, with memory for so many sendings
+-- an entry without records, with memory for so many out-records
 abbrev pub new_in : ℕ → Kept
-new_in room = record { records = no_records; is_wide = (none_in {X = Sent} room).is_wide }
+new_in room = record { records = no_records; is_wide = (none_in {X = OutRecord} room).is_wide }
 
--- the sendings with their memory
-abbrev pub sendings : Kept → Faced Sent
-sendings s = record { values = s.records.asked; is_wide = s.is_wide }
+-- the out-records with their memory
+abbrev pub kept_out_records : Kept → Faced OutRecord
+kept_out_records s = record { values = s.records.out_records; is_wide = s.is_wide }
 
-abbrev pub with_sendings : Kept → Faced Sent → Kept
-with_sendings s f =
-    record { records = record s.records { asked = f.values }; is_wide = f.is_wide }
+abbrev pub with_out_records : Kept → Faced OutRecord → Kept
+with_out_records s f =
+    record { records = record s.records { out_records = f.values }; is_wide = f.is_wide }
 
--- with the Interest of a face, which has one, or fewer than 64 have
-abbrev pub asked_by : ℕ → Ask → Kept → Kept
-asked_by face ask s =
-    if map.contains_key s.records.asks face || nat_lt (map.len s.records.asks) MAX_FACES
-    then record s { records = record s.records { asks = map.insert s.records.asks face ask } }
-    else s
+-- with the in-record of a face, which has one, or fewer than 64 have
+abbrev pub with_in_record : ℕ → InRecord → Kept → Kept
+with_in_record face in_record s =
+    if map.contains_key s.records.in_records face || nat_lt (map.len s.records.in_records) MAX_FACES
+    then record s {
+      records = record s.records {
+        in_records = map.insert s.records.in_records face in_record;
+      };
+    } else s
 
--- with the sending to a face, in the sendings' memory or in this
-abbrev pub sent_in : ℕ → ℕ → Sent → Kept → Kept
-sent_in room face sent s = with_sendings s (set_in room face sent (sendings s))
+-- with the out-record of a face, in the memory of the out-records or in this
+abbrev pub sent_in : ℕ → ℕ → OutRecord → Kept → Kept
+sent_in room face out_record s =
+    with_out_records s (set_in room face out_record (kept_out_records s))
 
 abbrev pub expired : ℕ → Kept → Kept
 expired now s =
-    record s { records = record s.records { asks = revise (until_after now) s.records.asks } }
+    record s {
+      records = record s.records {
+        in_records = revise (until_after now) s.records.in_records;
+      };
+    }
 
 abbrev pub without_face : ℕ → Kept → Kept
 without_face face s = record s {
   records = record {
-    asks = map.remove s.records.asks face;
-    asked = map.remove s.records.asked face;
+    in_records = map.remove s.records.in_records face;
+    out_records = map.remove s.records.out_records face;
   };
 }
 
 abbrev pub withdrawn : ℕ → Kept → Kept
 withdrawn face s =
-    record s { records = record s.records { asks = map.remove s.records.asks face } }
+    record s { records = record s.records { in_records = map.remove s.records.in_records face } }
 
 abbrev pub nacked : ℕ → List ℕ → ℕ → Kept → Kept
 nacked face nonce reason s = record s {
   records = record s.records {
-    asked = with_reason face nonce reason s.records.asked (map.get s.records.asked face);
+    out_records = with_reason face nonce reason s.records.out_records
+        (map.get s.records.out_records face);
   };
 }
 
@@ -85,16 +94,16 @@ kept_after cause k s = living (record s { records = changed cause k s.records })
 
 -- when what is kept has to be looked at
 abbrev pub deadline : Kept → ℕ
-deadline s = least (λ ask. ask.deadline) (map.entries s.records.asks)
+deadline s = least (λ in_record. in_record.deadline) (map.entries s.records.in_records)
 
 -- the faces, and those that ask
-abbrev pub with_askers : List (ℕ × Ask) → List ℕ → List ℕ
-with_askers [] faces = faces
-with_askers (e ∷ es) faces = with_askers es (adding e.0 faces).1
+abbrev pub with_faces_of : List (ℕ × InRecord) → List ℕ → List ℕ
+with_faces_of [] faces = faces
+with_faces_of (e ∷ es) faces = with_faces_of es (adding e.0 faces).1
 
 abbrev pub with_asking : Option Kept → List ℕ → List ℕ
 with_asking None faces = faces
-with_asking (Some s) faces = with_askers (map.entries s.records.asks) faces
+with_asking (Some s) faces = with_faces_of (map.entries s.records.in_records) faces
 
 -- the lesser of two moments, or the one that is there
 abbrev pub lesser : Option ℕ → Option ℕ → Option ℕ
@@ -140,20 +149,20 @@ kept_in row f = option_and_then (λ r. map.get r f) row
 abbrev pub with_kept : Flags → Kept → Option Row → Row
 with_kept f s row = map.insert (unwrap_or row map.empty) f s
 
--- the row after an Interest of a face came, where a new entry has memory for so many sendings
-abbrev pub row_asked : Flags → ℕ → Ask → ℕ → Option Row → Row
-row_asked f face ask room row =
-    with_kept f (asked_by face ask (unwrap_or (kept_in row f) (new_in room))) row
+-- the row after an Interest of a face came, where a new entry has memory for so many out-records
+abbrev pub row_arrived : Flags → ℕ → InRecord → ℕ → Option Row → Row
+row_arrived f face in_record room row =
+    with_kept f (with_in_record face in_record (unwrap_or (kept_in row f) (new_in room))) row
 
 -- the row where this is kept under the key of these flags, if anything is
 abbrev pub with_kept_if : Flags → Option Kept → Option Row → Row
 with_kept_if f None row = unwrap_or row map.empty
 with_kept_if f (Some s) row = with_kept f s row
 
--- the row after a sending to a face, for which there is this memory beside the entry's own
-abbrev pub row_sent : Flags → ℕ → Sent → ℕ → Option Row → Row
-row_sent f face sent room row =
-    with_kept_if f (option_map (sent_in room face sent) (kept_in row f)) row
+-- The row after a sending to a face, for whose out-record there is this memory beside the entry's
+abbrev pub row_sent : Flags → ℕ → OutRecord → ℕ → Option Row → Row
+row_sent f face out_record room row =
+    with_kept_if f (option_map (sent_in room face out_record) (kept_in row f)) row
 
 -- of the keys of a name, whether a Data answers them: all if it is the Data's name or full name, and
 -- else, if it is a prefix of that, those with CanBePrefix
@@ -187,14 +196,15 @@ pending_of rows = revise (λ s. Some s.records) (flatten key_cmp key_at rows)
 -- whether the last sending to a face had this Nonce
 abbrev pub was_sent_in : Option Kept → ℕ → List ℕ → Bool
 was_sent_in None face nonce = false
-was_sent_in (Some s) face nonce = was_sent (map.get s.records.asked face) nonce
+was_sent_in (Some s) face nonce = was_sent (map.get s.records.out_records face) nonce
 
 -- what the Nacks of a key come to, of which one had this reason
 abbrev pub answer_in : Option Kept → ℕ → Nacked
 answer_in None reason = NoPending
-answer_in (Some s) reason = all_nacked (least_reason reason (map.entries s.records.asked))
+answer_in (Some s) reason = all_nacked (least_reason reason (map.entries s.records.out_records))
 
--- whether the memory of what is kept has room for a sending to this face
+-- whether the memory of what is kept has room for an out-record of this face
 abbrev pub has_place_in : Option Kept → ℕ → Bool
 has_place_in None face = true
-has_place_in (Some s) face = map.contains_key s.records.asked face || has_place (sendings s)
+has_place_in (Some s) face =
+    map.contains_key s.records.out_records face || has_place (kept_out_records s)

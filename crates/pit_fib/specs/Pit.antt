@@ -14,7 +14,7 @@ use Rattle.pit_fib.specs.declared.nacked.Nacked.TheVariants.{NoPending, Waiting,
 use Rattle.pit_fib.specs.Faces.{IsRising}
 use Rattle.pit_fib.specs.Tables.{ByFace}
 use Rattle.name_trie.specs.ByName.{revise}
-use Rattle.pit_fib.specs.Records.{Ask, Sent, Asked, Records, Pending, records_at, records_code, same_nonce}
+use Rattle.pit_fib.specs.Records.{InRecord, OutRecord, OutRecords, Records, Pending, records_at, records_code, same_nonce}
 use Rattle.pit_fib.specs.Cause.{with_reason}
 
 pub record PitState : Type 0 where
@@ -32,11 +32,11 @@ pit_code =
 
 -- ---- the faces of a table
 
--- a face asks or was asked, under some key
+-- a face has an in-record or an out-record, under some key
 abbrev pub HasRecord : Pending → ℕ → Type 0
 HasRecord pending face =
-    (key : PlainKey) × (IsSome (map.get (records_at pending key).asks face)
-    ⊎ IsSome (map.get (records_at pending key).asked face))
+    (key : PlainKey) × (IsSome (map.get (records_at pending key).in_records face)
+    ⊎ IsSome (map.get (records_at pending key).out_records face))
 
 -- of the faces with this, no more than 64 are different
 abbrev pub AtMost64 : (ℕ → Type 0) → Type 0
@@ -52,31 +52,31 @@ HasRoomFor pending face = AtMost64 (λ f. HasRecord pending f ⊎ (f ≡ face))
 abbrev pub WaitsFor : Pending → List Field → List ℕ → ℕ → Type 0
 WaitsFor pending name digest face =
     (key : PlainKey) × IsTrue (answers name digest key.name key.can_be_prefix)
-    × IsSome (map.get (records_at pending key).asks face)
+    × IsSome (map.get (records_at pending key).in_records face)
 
 -- whether the last sending to a face had this Nonce
-abbrev pub was_sent : Option Sent → List ℕ → Bool
+abbrev pub was_sent : Option OutRecord → List ℕ → Bool
 was_sent None nonce = false
-was_sent (Some sent) nonce = same_nonce sent.nonce nonce
+was_sent (Some out_record) nonce = same_nonce out_record.nonce nonce
 
-abbrev pub asks_with : Option Ask → List ℕ → Bool
+abbrev pub asks_with : Option InRecord → List ℕ → Bool
 asks_with None nonce = false
-asks_with (Some ask) nonce = same_nonce ask.nonce nonce
+asks_with (Some in_record) nonce = same_nonce in_record.nonce nonce
 
--- An Interest loops where another asker or a face asked has its Nonce, and its own face did not ask
--- with it.
+-- An Interest loops where the in-record of another face or an out-record has its Nonce, and the
+-- in-record of its own face has another or is not there.
 abbrev pub loops : Records → ℕ → List ℕ → Bool
 loops r face nonce =
-    not (asks_with (map.get r.asks face) nonce)
-    && (list_any (λ e. not (e.0 == face) && same_nonce e.1.nonce nonce) (map.entries r.asks)
-    || list_any (λ e. same_nonce e.1.nonce nonce) (map.entries r.asked))
+    not (asks_with (map.get r.in_records face) nonce)
+    && (list_any (λ e. not (e.0 == face) && same_nonce e.1.nonce nonce) (map.entries r.in_records)
+    || list_any (λ e. same_nonce e.1.nonce nonce) (map.entries r.out_records))
 
 -- when each face was last sent an Interest of the key
-abbrev pub moments : Asked → ByFace
-moments asked = revise (λ sent. Some sent.moment) asked
+abbrev pub moments : OutRecords → ByFace
+moments out_records = revise (λ out_record. Some out_record.moment) out_records
 
--- the least of the reasons and this one, or None where some face asked has no reason
-abbrev pub least_reason : ℕ → List (ℕ × Sent) → Option ℕ
+-- the least of the reasons and this one, or None where some out-record has no reason
+abbrev pub least_reason : ℕ → List (ℕ × OutRecord) → Option ℕ
 least_reason least [] = Some least
 least_reason least (e ∷ es) =
     option_and_then (λ reason. least_reason (min least reason) es) e.1.reason
@@ -85,16 +85,16 @@ abbrev pub all_nacked : Option ℕ → Nacked
 all_nacked None = Waiting
 all_nacked (Some reason) = All reason
 
--- each face asked has answered by a Nack, and this is the least of their reasons
-pub record IsLeastReason (asked : Asked) (least : ℕ) : Type 0 where
-  pub each : (face : ℕ) (sent : Sent) → map.get asked face ≡ Some sent
-      → (reason : ℕ) × (sent.reason ≡ Some reason) × (least ≤ reason)
-  pub one : (face : ℕ) × (sent : Sent) × (map.get asked face ≡ Some sent)
-      × (sent.reason ≡ Some least)
+-- each out-record has the reason of a Nack, and this is the least of them
+pub record IsLeastReason (out_records : OutRecords) (least : ℕ) : Type 0 where
+  pub each : (face : ℕ) (out_record : OutRecord) → map.get out_records face ≡ Some out_record
+      → (reason : ℕ) × (out_record.reason ≡ Some reason) × (least ≤ reason)
+  pub one : (face : ℕ) × (out_record : OutRecord)
+      × (map.get out_records face ≡ Some out_record) × (out_record.reason ≡ Some least)
 
 -- what a Nack of this Nonce and reason from a face comes to
 abbrev pub nacked_answer : Records → ℕ → List ℕ → ℕ → Nacked
 nacked_answer r face nonce reason =
-    if was_sent (map.get r.asked face) nonce then all_nacked (least_reason reason
-    (map.entries (with_reason face nonce reason r.asked (map.get r.asked face))))
+    if was_sent (map.get r.out_records face) nonce then all_nacked (least_reason reason
+    (map.entries (with_reason face nonce reason r.out_records (map.get r.out_records face))))
     else NoPending

@@ -1,5 +1,5 @@
 -- What is kept of pending Interests under one key (NFD Developer's Guide, "Pending Interest Table"):
--- the in-records, of who asks, and the out-records, of who was asked.
+-- an in-record for each face that asks, and an out-record for each face that was asked.
 use Rattle.std.specs.Prelude.{◌≡◌, ℕ, Bool, List, Option, nat_eq, nat_lt, unwrap_or, refl}
 use Rattle.std.specs.Coded.{Coded, code_by, coded×, coded_list, coded_ℕ, coded_option}
 use Rattle.std.specs.Ordering.{nat_cmp}
@@ -7,37 +7,37 @@ use Rattle.std.specs.FinMap as map
 use lib.Pointwise.{pointwise}
 use Rattle.ndn_packets.specs.Key.{PlainKey, key_cmp}
 
--- an Interest as its asker sent it, and until when it waits, in milliseconds since 1970
-pub record Ask : Type 0 where
+-- the last Interest of a face as it came, and until when it waits, in milliseconds since 1970
+pub record InRecord : Type 0 where
   pub interest : List ℕ
   pub nonce : List ℕ
   pub deadline : ℕ
 
 -- the last sending to a face: its Nonce, its moment in milliseconds since 1970, and the reason of
 -- the last Nack of that Nonce that came back since, if any
-pub record Sent : Type 0 where
+pub record OutRecord : Type 0 where
   pub nonce : List ℕ
   pub moment : ℕ
   pub reason : Option ℕ
 
--- who asks, by face
-abbrev pub Asks : Type 0
-Asks = map.FinMap nat_cmp Ask
+-- the in-records of a key, by face
+abbrev pub InRecords : Type 0
+InRecords = map.FinMap nat_cmp InRecord
 
--- who was asked, by face
-abbrev pub Asked : Type 0
-Asked = map.FinMap nat_cmp Sent
+-- the out-records of a key, by face
+abbrev pub OutRecords : Type 0
+OutRecords = map.FinMap nat_cmp OutRecord
 
 pub record Records : Type 0 where
-  pub asks : Asks
-  pub asked : Asked
+  pub in_records : InRecords
+  pub out_records : OutRecords
 
 abbrev pub no_records : Records
-no_records = record { asks = map.empty; asked = map.empty }
+no_records = record { in_records = map.empty; out_records = map.empty }
 
 -- some face asks
 abbrev pub is_alive : Records → Bool
-is_alive r = nat_lt 0 (map.len r.asks)
+is_alive r = nat_lt 0 (map.len r.in_records)
 
 abbrev pub same_nonce : List ℕ → List ℕ → Bool
 same_nonce = pointwise nat_eq
@@ -54,19 +54,21 @@ abbrev pub HoldsTheLiving : Pending → Type 0
 HoldsTheLiving pending =
     (key : PlainKey) → map.contains_key pending key ≡ is_alive (records_at pending key)
 
-abbrev pub ask_code : Coded Ask
-ask_code =
+abbrev pub in_record_code : Coded InRecord
+in_record_code =
     code_by (List ℕ × (List ℕ × ℕ)) (coded× (coded_list coded_ℕ)
     (coded× (coded_list coded_ℕ) coded_ℕ)) (λ a. (a.interest, (a.nonce, a.deadline)))
     (λ p. record { interest = p.0; nonce = p.1.0; deadline = p.1.1 }) (λ _. refl)
 
-abbrev pub sent_code : Coded Sent
-sent_code =
+abbrev pub out_record_code : Coded OutRecord
+out_record_code =
     code_by (List ℕ × (ℕ × Option ℕ)) (coded× (coded_list coded_ℕ)
     (coded× coded_ℕ (coded_option coded_ℕ))) (λ s. (s.nonce, (s.moment, s.reason)))
     (λ p. record { nonce = p.0; moment = p.1.0; reason = p.1.1 }) (λ _. refl)
 
 abbrev pub records_code : Coded Records
 records_code =
-    code_by (Asks × Asked) (coded× (map.code coded_ℕ ask_code) (map.code coded_ℕ sent_code)) (λ r. (r.asks, r.asked))
-    (λ p. record { asks = p.0; asked = p.1 }) (λ _. refl)
+    code_by (InRecords × OutRecords)
+    (coded× (map.code coded_ℕ in_record_code) (map.code coded_ℕ out_record_code))
+    (λ r. (r.in_records, r.out_records))
+    (λ p. record { in_records = p.0; out_records = p.1 }) (λ _. refl)

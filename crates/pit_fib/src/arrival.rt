@@ -5,7 +5,7 @@ ghost use Rattle.pit_fib.specs.declared.faces.TheConstants.{MAX_FACES};
 ghost use Rattle.pit_fib.specs.Kept.{new_in};
 ghost use Rattle.pit_fib.specs.declared.room.TheConstants.{FEW};
 
-use crate::entry::{Asker, Entry, Sending};
+use crate::entry::{Entry, InRecord, OutRecord};
 use crate::faces::MAX_FACES;
 use crate::flags::Flags;
 use crate::room::{FEW, Room};
@@ -18,20 +18,24 @@ use std::alloc::Global;
 /// own memory is full.
 #[derive(Drop)]
 pub struct RecordRoom {
-    asks: Room<Asker>,
-    asked: Room<Sending>,
-    more: Room<Asker>,
-    ghost has_asks: { FEW ≤ asks },
-    ghost has_asked: { FEW ≤ asked },
+    in_records: Room<InRecord>,
+    out_records: Room<OutRecord>,
+    more: Room<InRecord>,
+    ghost has_asks: { FEW ≤ in_records },
+    ghost has_asked: { FEW ≤ out_records },
     ghost has_more: { MAX_FACES ≤ more },
 }
 
 impl RecordRoom {
     pub fn new(alloc: Global) -> Result<RecordRoom, Memory> {
-        let asks = Room::new(alloc, FEW)?;
-        let asked = Room::new(alloc, FEW)?;
+        let in_records = Room::new(alloc, FEW)?;
+        let out_records = Room::new(alloc, FEW)?;
         let more = Room::new(alloc, MAX_FACES)?;
-        Ok(RecordRoom { asks, asked, more })
+        Ok(RecordRoom {
+            in_records,
+            out_records,
+            more,
+        })
     }
 }
 
@@ -40,28 +44,33 @@ impl RecordRoom {
 pub struct Arrival {
     pub flags: Flags,
     pub face: u64,
-    pub asker: Asker,
+    pub in_record: InRecord,
     pub room: RecordRoom,
 }
 
 impl Becomes<Row> for Arrival {
-    ghost use Rattle.pit_fib.specs.Kept.{row_asked};
+    ghost use Rattle.pit_fib.specs.Kept.{row_arrived};
 
-    ghost becomes = { λ how. row_asked how.flags how.face how.asker how.room.asked };
+    ghost becomes = { λ how. row_arrived how.flags how.face how.in_record how.room.out_records };
 
     fn apply(self, row: Option<Row>) -> Row
-        ensures { result ≡ row_asked self.flags self.face self.asker self.room.asked row }
+        ensures { result
+            ≡ row_arrived self.flags self.face self.in_record self.room.out_records row }
     {
         let Arrival {
             flags,
             face,
-            asker,
+            in_record,
             room,
         } = self;
-        let RecordRoom { asks, asked, more } = room;
+        let RecordRoom {
+            in_records,
+            out_records,
+            more,
+        } = room;
         let mut row = row.unwrap_or(Row::new());
-        let mut entry = entry_or_new(row.take(flags), asks, asked);
-        entry.arrive(face, asker, more);
+        let mut entry = entry_or_new(row.take(flags), in_records, out_records);
+        entry.arrive(face, in_record, more);
         row.set(flags, entry);
         row
     }
@@ -72,27 +81,27 @@ impl Becomes<Row> for Arrival {
 pub struct Departure {
     pub flags: Flags,
     pub face: u64,
-    pub sending: Sending,
-    pub room: Room<Sending>,
+    pub out_record: OutRecord,
+    pub room: Room<OutRecord>,
 }
 
 impl Becomes<Row> for Departure {
     ghost use Rattle.pit_fib.specs.Kept.{row_sent};
 
-    ghost becomes = { λ how. row_sent how.flags how.face how.sending how.room };
+    ghost becomes = { λ how. row_sent how.flags how.face how.out_record how.room };
 
     fn apply(self, row: Option<Row>) -> Row
-        ensures { result ≡ row_sent self.flags self.face self.sending self.room row }
+        ensures { result ≡ row_sent self.flags self.face self.out_record self.room row }
     {
         let Departure {
             flags,
             face,
-            sending,
+            out_record,
             room,
         } = self;
         let mut row = row.unwrap_or(Row::new());
         if let Some(mut entry) = row.take(flags) {
-            entry.sent(face, sending, room);
+            entry.sent(face, out_record, room);
             row.set(flags, entry);
         }
         row
@@ -100,13 +109,17 @@ impl Becomes<Row> for Departure {
 }
 
 /// The entry, or a new one in this memory.
-fn entry_or_new(entry: Option<Entry>, asks: Room<Asker>, asked: Room<Sending>) -> Entry
-    requires asks { FEW ≤ asks }
-    requires asked { FEW ≤ asked }
-    ensures { result ≡ unwrap_or entry (new_in asked) }
+fn entry_or_new(
+    entry: Option<Entry>,
+    in_records: Room<InRecord>,
+    out_records: Room<OutRecord>,
+) -> Entry
+    requires in_records { FEW ≤ in_records }
+    requires out_records { FEW ≤ out_records }
+    ensures { result ≡ unwrap_or entry (new_in out_records) }
 {
     match entry {
         Some(entry) => entry,
-        None => Entry::new(asks, asked),
+        None => Entry::new(in_records, out_records),
     }
 }

@@ -7,7 +7,7 @@ ghost use Rattle.pit_fib.specs.declared.room.TheConstants.{FEW};
 ghost use Rattle.pit_fib.specs.Faced.{has_place};
 ghost use Rattle.pit_fib.specs.Records.{is_alive, same_nonce};
 ghost use Rattle.pit_fib.specs.Cause.{sent_at, nacked_with, with_reason};
-ghost use Rattle.pit_fib.specs.Kept.{asked_by, deadline, expired, lesser, living, nacked, new_in, sendings, sent_in, with_askers, with_asking, withdrawn, without_face};
+ghost use Rattle.pit_fib.specs.Kept.{with_in_record, deadline, expired, lesser, living, nacked, new_in, kept_out_records, sent_in, with_faces_of, with_asking, withdrawn, without_face};
 ghost use Rattle.pit_fib.specs.Pit.{all_nacked, least_reason, loops as loops_in, moments as moments_of, was_sent};
 ghost use Rattle.name_trie.specs.Least.{least};
 
@@ -18,20 +18,20 @@ use crate::nacked::Nacked;
 use crate::room::Room;
 use std::marker::Model;
 
-/// An Interest as its asker sent it.
+/// The last Interest of a face, as it came.
 #[derive(Drop)]
-pub struct Asker {
+pub struct InRecord {
     interest: Vec<u8>,
     nonce: [u8; 4],
     deadline: u64,
 }
 
-impl Model for Asker {
-    ghost use Rattle.pit_fib.specs.Records.{Ask, ask_code};
+impl Model for InRecord {
+    ghost use Rattle.pit_fib.specs.Records.{InRecord as PlainInRecord, in_record_code};
 
-    ghost Value = { Ask };
+    ghost Value = { PlainInRecord };
 
-    ghost coded = { ask_code };
+    ghost coded = { in_record_code };
 
     ghost view = { λ a. record {
       interest = a.interest.items;
@@ -40,12 +40,12 @@ impl Model for Asker {
     } };
 }
 
-impl Asker {
-    pub fn new(interest: Vec<u8>, nonce: [u8; 4], deadline: u64) -> Asker
+impl InRecord {
+    pub fn new(interest: Vec<u8>, nonce: [u8; 4], deadline: u64) -> InRecord
         ensures { result
             ≡ record { interest = interest.items; nonce = nonce; deadline = deadline } }
     {
-        Asker {
+        InRecord {
             interest,
             nonce,
             deadline,
@@ -62,7 +62,7 @@ impl Asker {
 
 /// The last sending to a face.
 #[derive(Clone, Copy)]
-pub struct Sending {
+pub struct OutRecord {
     nonce: [u8; 4],
     // In milliseconds since 1970.
     moment: u64,
@@ -70,24 +70,24 @@ pub struct Sending {
     reason: Option<u64>,
 }
 
-impl Model for Sending {
-    ghost use Rattle.pit_fib.specs.Records.{Sent, sent_code};
+impl Model for OutRecord {
+    ghost use Rattle.pit_fib.specs.Records.{OutRecord as PlainOutRecord, out_record_code};
 
-    ghost Value = { Sent };
+    ghost Value = { PlainOutRecord };
 
-    ghost coded = { sent_code };
+    ghost coded = { out_record_code };
 
     ghost view = { λ s. record { nonce = s.nonce; moment = s.moment; reason = s.reason } };
 
     ghost inverse = { λ s. record { nonce = s.nonce; moment = s.moment; reason = s.reason } };
 }
 
-impl Sending {
+impl OutRecord {
     /// A sending now, in milliseconds since 1970, to which no Nack came so far.
-    pub fn new(nonce: [u8; 4], now: u64) -> Sending
+    pub fn new(nonce: [u8; 4], now: u64) -> OutRecord
         ensures { result ≡ sent_at nonce now }
     {
-        Sending {
+        OutRecord {
             nonce,
             moment: now,
             reason: None,
@@ -95,26 +95,26 @@ impl Sending {
     }
 
     /// With the reason of a Nack that has its Nonce.
-    fn nacked_with(self, nonce: [u8; 4], reason: u64) -> Sending
+    fn nacked_with(self, nonce: [u8; 4], reason: u64) -> OutRecord
         ensures { result ≡ nacked_with nonce reason self }
     {
         if self.nonce != nonce {
             return self;
         }
-        Sending {
+        OutRecord {
             reason: Some(reason),
             ..self
         }
     }
 }
 
-impl FaceMap<Sending> {
+impl FaceMap<OutRecord> {
     /// Whether the last sending to a face had this Nonce.
     fn was_sent(&self, face: u64, nonce: [u8; 4]) -> bool
         ensures { result ≡ was_sent (map.get self.now.values face) nonce }
     {
         match self.get(face) {
-            Some(sending) => sending.nonce == nonce,
+            Some(out_record) => out_record.nonce == nonce,
             None => false,
         }
     }
@@ -126,8 +126,8 @@ impl FaceMap<Sending> {
               self.old.values (map.get self.old.values face);
         } }
     {
-        if let Some(sending) = self.get(face).copied() {
-            self.replace(face, sending.nacked_with(nonce, reason));
+        if let Some(out_record) = self.get(face).copied() {
+            self.replace(face, out_record.nacked_with(nonce, reason));
         }
     }
 
@@ -143,10 +143,10 @@ impl FaceMap<Sending> {
     }
 }
 
-impl FaceMap<Asker> {
+impl FaceMap<InRecord> {
     /// The least deadline, or 0 where no face asks.
     fn deadline(&self) -> u64
-        ensures { result ≡ least (λ ask. ask.deadline) (map.entries self.now.values) }
+        ensures { result ≡ least (λ r. r.deadline) (map.entries self.now.values) }
     {
         let mut least = None;
         for row in self.rows() {
@@ -170,8 +170,8 @@ pub fn lesser(a: Option<u64>, b: Option<u64>) -> Option<u64>
 /// What is kept under a key.
 #[derive(Drop)]
 pub struct Entry {
-    asks: FaceMap<Asker>,
-    asked: FaceMap<Sending>,
+    in_records: FaceMap<InRecord>,
+    out_records: FaceMap<OutRecord>,
 }
 
 impl Model for Entry {
@@ -182,21 +182,21 @@ impl Model for Entry {
     ghost coded = { kept_code };
 
     ghost view = { λ e. record {
-      records = record { asks = e.asks.values; asked = e.asked.values };
-      is_wide = e.asked.is_wide;
+      records = record { in_records = e.in_records.values; out_records = e.out_records.values };
+      is_wide = e.out_records.is_wide;
     } };
 }
 
 impl Entry {
     /// An entry before anybody asks, in this memory.
-    pub fn new(asks: Room<Asker>, asked: Room<Sending>) -> Entry
-        requires asks { FEW ≤ asks }
-        requires asked { FEW ≤ asked }
-        ensures { result ≡ new_in asked }
+    pub fn new(in_records: Room<InRecord>, out_records: Room<OutRecord>) -> Entry
+        requires in_records { FEW ≤ in_records }
+        requires out_records { FEW ≤ out_records }
+        ensures { result ≡ new_in out_records }
     {
         Entry {
-            asks: FaceMap::new(asks),
-            asked: FaceMap::new(asked),
+            in_records: FaceMap::new(in_records),
+            out_records: FaceMap::new(out_records),
         }
     }
 
@@ -204,7 +204,7 @@ impl Entry {
     fn is_alive(&self) -> bool
         ensures { result ≡ is_alive self.now.records }
     {
-        !self.asks.is_empty()
+        !self.in_records.is_empty()
     }
 
     /// The entry, while some face asks.
@@ -218,39 +218,39 @@ impl Entry {
     pub fn deadline(&self) -> u64
         ensures { result ≡ deadline self.now }
     {
-        self.asks.deadline()
+        self.in_records.deadline()
     }
 
     /// Makes or replaces the Interest of a face, which has one, or fewer than 64 have. Where there
     /// is no memory for it, the Interests move into this.
-    pub fn arrive(&mut self, face: u64, asker: Asker, room: Room<Asker>)
+    pub fn arrive(&mut self, face: u64, in_record: InRecord, room: Room<InRecord>)
         requires { MAX_FACES ≤ room }
-        ensures { self.new ≡ asked_by face asker self.old }
+        ensures { self.new ≡ with_in_record face in_record self.old }
     {
-        self.asks.set(face, asker, room);
+        self.in_records.set(face, in_record, room);
     }
 
-    /// Whether there is memory for a sending to this face.
+    /// Whether there is memory for an out-record of this face.
     pub fn has_place_for(&self, face: u64) -> bool
-        ensures { result ≡ (map.contains_key self.now.records.asked face
-            || has_place (sendings self.now)) }
+        ensures { result ≡ (map.contains_key self.now.records.out_records face
+            || has_place (kept_out_records self.now)) }
     {
-        self.asked.get(face).is_some() || self.asked.has_place()
+        self.out_records.get(face).is_some() || self.out_records.has_place()
     }
 
-    /// Makes or replaces the sending to a face, in the sendings' memory or in this.
-    pub fn sent(&mut self, face: u64, sending: Sending, room: Room<Sending>)
-        ensures { self.new ≡ sent_in room face sending self.old }
+    /// Makes or replaces the out-record of a face, in the memory of the out-records or in this.
+    pub fn sent(&mut self, face: u64, out_record: OutRecord, room: Room<OutRecord>)
+        ensures { self.new ≡ sent_in room face out_record self.old }
     {
-        self.asked.set(face, sending, room);
+        self.out_records.set(face, out_record, room);
     }
 
     /// Whether an Interest of this Nonce from a face loops.
     pub fn loops(&self, face: u64, nonce: [u8; 4]) -> bool
         ensures { result ≡ loops_in self.now.records face nonce }
     {
-        let asks_with = match self.asks.get(face) {
-            Some(asker) => asker.nonce == nonce,
+        let asks_with = match self.in_records.get(face) {
+            Some(in_record) => in_record.nonce == nonce,
             None => false,
         };
         !asks_with && (self.others_ask_with(face, nonce) || self.was_any_sent(nonce))
@@ -258,9 +258,9 @@ impl Entry {
 
     fn others_ask_with(&self, face: u64, nonce: [u8; 4]) -> bool
         ensures { result ≡ list_any (λ e. not (e.0 == face) && same_nonce e.1.nonce nonce)
-            (map.entries self.now.records.asks) }
+            (map.entries self.now.records.in_records) }
     {
-        self.asks
+        self.in_records
             .rows()
             .iter()
             .any(|row| row.0 != face && row.1.nonce == nonce)
@@ -268,17 +268,20 @@ impl Entry {
 
     fn was_any_sent(&self, nonce: [u8; 4]) -> bool
         ensures { result ≡ list_any (λ e. same_nonce e.1.nonce nonce)
-            (map.entries self.now.records.asked) }
+            (map.entries self.now.records.out_records) }
     {
-        self.asked.rows().iter().any(|row| row.1.nonce == nonce)
+        self.out_records
+            .rows()
+            .iter()
+            .any(|row| row.1.nonce == nonce)
     }
 
     /// When each face was last sent the Interest.
     pub fn moments(&self) -> Used
-        ensures { result ≡ moments_of self.now.records.asked }
+        ensures { result ≡ moments_of self.now.records.out_records }
     {
         let mut moments = Used::new();
-        for row in self.asked.rows() {
+        for row in self.out_records.rows() {
             moments.insert(row.0, row.1.moment);
         }
         moments
@@ -287,32 +290,32 @@ impl Entry {
     /// The octets of the Interest of a face.
     pub fn interest_of(&self, face: u64) -> Option<&[u8]>
         ensures { option_map (λ o. o.now) result
-            ≡ option_map (λ ask. ask.interest) (map.get self.now.records.asks face) }
+            ≡ option_map (λ r. r.interest) (map.get self.now.records.in_records face) }
     {
-        let asker = self.asks.get(face)?;
-        Some(&asker.interest)
+        let in_record = self.in_records.get(face)?;
+        Some(&in_record.interest)
     }
 
     /// Whether the last sending to a face had this Nonce.
     pub fn was_sent(&self, face: u64, nonce: [u8; 4]) -> bool
-        ensures { result ≡ was_sent (map.get self.now.records.asked face) nonce }
+        ensures { result ≡ was_sent (map.get self.now.records.out_records face) nonce }
     {
-        self.asked.was_sent(face, nonce)
+        self.out_records.was_sent(face, nonce)
     }
 
     /// Keeps the reason of a Nack, where its Nonce was the last one sent to its face.
     pub fn nacked(&mut self, face: u64, nonce: [u8; 4], reason: u64)
         ensures { self.new ≡ nacked face nonce reason self.old }
     {
-        self.asked.nacked(face, nonce, reason);
+        self.out_records.nacked(face, nonce, reason);
     }
 
-    /// Whether all faces asked have answered by a Nack, of which one had this reason.
+    /// Whether each out-record has the reason of a Nack, of which one had this.
     pub fn answer(&self, reason: u64) -> Nacked
         ensures { result
-            ≡ all_nacked (least_reason reason (map.entries self.now.records.asked)) }
+            ≡ all_nacked (least_reason reason (map.entries self.now.records.out_records)) }
     {
-        match self.asked.least_reason(reason) {
+        match self.out_records.least_reason(reason) {
             Some(least) => Nacked::All(least),
             None => Nacked::Waiting,
         }
@@ -322,22 +325,22 @@ impl Entry {
     pub fn withdraw(&mut self, face: u64)
         ensures { self.new ≡ withdrawn face self.old }
     {
-        self.asks.remove(face);
+        self.in_records.remove(face);
     }
 
     /// Takes out the Interests whose deadline is not after this moment.
     pub fn expire(&mut self, now: u64)
         ensures { self.new ≡ expired now self.old }
     {
-        self.asks.expire(now);
+        self.in_records.expire(now);
     }
 
     /// Takes out a face.
     pub fn close_face(&mut self, face: u64)
         ensures { self.new ≡ without_face face self.old }
     {
-        self.asks.remove(face);
-        self.asked.remove(face);
+        self.in_records.remove(face);
+        self.out_records.remove(face);
     }
 }
 
@@ -346,13 +349,13 @@ pub fn add_faces(entry: &Option<Entry>, faces: &mut Faces)
     ensures { faces.new ≡ with_asking entry.now faces.old }
 {
     if let Some(entry) = entry {
-        add_askers(entry.asks.rows(), faces);
+        add_faces_of(entry.in_records.rows(), faces);
     }
 }
 
 /// Adds the faces of these Interests.
-fn add_askers(rows: &[(u64, Asker)], faces: &mut Faces)
-    ensures { faces.new ≡ with_askers rows.now faces.old }
+fn add_faces_of(rows: &[(u64, InRecord)], faces: &mut Faces)
+    ensures { faces.new ≡ with_faces_of rows.now faces.old }
 {
     for row in rows {
         faces.insert(row.0);

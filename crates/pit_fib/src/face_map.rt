@@ -9,7 +9,7 @@ ghost use Rattle.pit_fib.specs.Faced.{has_place, none_in, placed, set_in, with_f
 ghost use Rattle.pit_fib.specs.declared.room.TheConstants.{FEW};
 
 use crate::by_face::place_of;
-use crate::entry::Asker;
+use crate::entry::InRecord;
 use crate::faces::MAX_FACES;
 use crate::room::{FEW, Room};
 use std::marker::Model;
@@ -144,7 +144,7 @@ impl<V: Drop> FaceMap<V> {
     }
 }
 
-impl FaceMap<Asker> {
+impl FaceMap<InRecord> {
     /// Removes the Interests whose deadline is not after this moment.
     pub fn expire(&mut self, now: u64)
         ensures { self.new

@@ -8,7 +8,7 @@ ghost use Rattle.pit_fib.specs.Records.{Records, Pending, HoldsTheLiving, is_ali
 ghost use Rattle.pit_fib.specs.Cause.{Cause, Expires, records_after, with_reason};
 ghost use Rattle.pit_fib.specs.Pit.{IsLeastReason, was_sent, nacked_answer};
 ghost use Rattle.pit_fib.specs.declared.nacked.Nacked.TheVariants as answers;
-ghost use Rattle.pit_fib.specs.Past.{records_of, ask_of, sent_of};
+ghost use Rattle.pit_fib.specs.Past.{records_of, in_record_of, out_record_of};
 
 use crate::faces::MAX_FACES;
 use crate::fib::{MAX_DEPTH, MAX_ENTRIES};
@@ -34,12 +34,12 @@ pub fn revising_changes_each_value<V, W>()
 /// Interest that nothing has ended since, and the last sending since some face has asked without a
 /// break. Some face asks exactly where such an Interest is left.
 pub fn records_are_the_past()
-    ensures asks { (causes : List Cause) (key : PlainKey) (face : ℕ)
-        → map.get (records_of causes key).asks face ≡ ask_of causes key face }
-    ensures asked { (causes : List Cause) (key : PlainKey) (face : ℕ)
-        → map.get (records_of causes key).asked face ≡ sent_of causes key face }
+    ensures in_records { (causes : List Cause) (key : PlainKey) (face : ℕ)
+        → map.get (records_of causes key).in_records face ≡ in_record_of causes key face }
+    ensures out_records { (causes : List Cause) (key : PlainKey) (face : ℕ)
+        → map.get (records_of causes key).out_records face ≡ out_record_of causes key face }
     ensures alive { (causes : List Cause) (key : PlainKey) → IsTrue (is_alive (records_of causes key))
-        ↔ ((face : ℕ) × IsSome (ask_of causes key face)) }
+        ↔ ((face : ℕ) × IsSome (in_record_of causes key face)) }
 {}
 
 /// Law: a Nack comes to nothing exactly where its Nonce was not the last one sent to its face, and
@@ -47,11 +47,12 @@ pub fn records_are_the_past()
 pub fn nacks_tell_the_least_reason()
     ensures pending { (r : Records) (face : ℕ) (nonce : List ℕ) (reason : ℕ)
         → (nacked_answer r face nonce reason ≡ answers.NoPending)
-        ↔ (was_sent (map.get r.asked face) nonce ≡ false) }
+        ↔ (was_sent (map.get r.out_records face) nonce ≡ false) }
     ensures all { (r : Records) (face : ℕ) (nonce : List ℕ) (reason least : ℕ)
-        → was_sent (map.get r.asked face) nonce ≡ true
+        → was_sent (map.get r.out_records face) nonce ≡ true
         → (nacked_answer r face nonce reason ≡ answers.All least)
-        ↔ IsLeastReason (with_reason face nonce reason r.asked (map.get r.asked face)) least }
+        ↔ IsLeastReason (with_reason face nonce reason r.out_records
+        (map.get r.out_records face)) least }
 {}
 
 /// Law: tables of the living that have the same records at each key are the same.

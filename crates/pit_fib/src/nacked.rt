@@ -3,8 +3,8 @@
 pub enum Nacked {
     /// Its Nonce was not the last one sent to its face under its key.
     NoPending,
-    /// Some other face asked has not answered by a Nack.
+    /// Some other out-record has no Nack.
     Waiting,
-    /// All faces asked have answered by a Nack. The least of their reasons.
+    /// Each out-record has the reason of a Nack. The least of them.
     All(u64),
 }

@@ -14,7 +14,7 @@ ghost use Rattle.pit_fib.specs.Pit.{AtMost64, HasRecord, HasRoomFor, WaitsFor, l
 
 use crate::arrival::{Arrival, Departure};
 use crate::by_face::Used;
-use crate::entry::{Asker, Entry, Sending};
+use crate::entry::{Entry, InRecord, OutRecord};
 use crate::faces::{Faces, MAX_FACES};
 use crate::fault::PitFault;
 use crate::fib::MAX_ENTRIES;
@@ -36,17 +36,17 @@ use std::mem;
 /// The greatest number of keys under which Interests wait.
 pub const MAX_PENDING: usize = MAX_ENTRIES;
 
-/// The pending Interest table (NFD Developer's Guide, "Pending Interest Table"): by key, the
-/// Interests that wait and the faces to which they were sent. Under each of its keys some face
-/// asks. It takes no new key while 4,096 stand, and has records of at most 64 different faces.
+/// The pending Interest table (NFD Developer's Guide, "Pending Interest Table"): by key, an
+/// in-record for each face that waits, and an out-record for each face to which an Interest was
+/// sent. Each of its keys has an in-record. It takes no new key while 4,096 stand, and has records of at most 64 different faces.
 #[derive(Drop)]
 pub struct Pit {
     alloc: Global,
     // By name, and in order of their least deadlines.
     rows: TimedMap<Row>,
     prepared: Option<Prepared>,
-    // Spare memory for the sendings of an entry whose own memory is full.
-    spare: Room<Sending>,
+    // Spare memory for the out-records of an entry whose own memory is full.
+    spare: Room<OutRecord>,
 }
 
 impl Model for Pit {
@@ -98,9 +98,9 @@ impl Pit {
         self.len() == 0
     }
 
-    /// Whether an Interest of this key and Nonce from a face loops: another asker or a face asked
-    /// has the Nonce, and the face itself did not ask with it (NFD Developer's Guide, "Incoming
-    /// Interest Pipeline").
+    /// Whether an Interest of this key and Nonce from a face loops: the in-record of another face or
+    /// an out-record has the Nonce, and the face's own in-record has not (NFD Developer's Guide,
+    /// "Incoming Interest Pipeline").
     pub fn loops(&self, key: Key<'_>, face: u64, nonce: [u8; 4]) -> bool
         ensures { result
             ≡ loops_in (records_at self.now.pending (plain_key key.entry)) face nonce }
@@ -211,7 +211,7 @@ impl Pit {
         let arrival = Arrival {
             flags: Flags::of(key),
             face,
-            asker: Asker::new(octets, nonce, deadline),
+            in_record: InRecord::new(octets, nonce, deadline),
             room,
         };
         self.rows.put_with(key.name, arrival)?;
@@ -220,7 +220,7 @@ impl Pit {
     }
 
     /// Keeps that an Interest of this key and Nonce was sent to a face now, in milliseconds since
-    /// 1970, in place of the sending before it. Some face asks under the key, and the faces that
+    /// 1970, in place of the out-record before it. Some face asks under the key, and the faces that
     /// have records and this one are at most 64. Where it is not prepared it may be refused memory,
     /// and then changes nothing but that no call is prepared any more.
     pub fn sent(&mut self, key: Key<'_>, face: u64, nonce: [u8; 4], now: u64) -> Result<(), Memory>
@@ -242,7 +242,7 @@ impl Pit {
         let departure = Departure {
             flags: Flags::of(key),
             face,
-            sending: Sending::new(nonce, now),
+            out_record: OutRecord::new(nonce, now),
             room,
         };
         self.rows.put_with(key.name, departure)?;
@@ -252,7 +252,8 @@ impl Pit {
 
     /// The faces to which Interests of this key were sent, and when, in milliseconds since 1970.
     pub fn used(&self, key: Key<'_>) -> Used
-        ensures { result ≡ moments (records_at self.now.pending (plain_key key.entry)).asked }
+        ensures { result
+            ≡ moments (records_at self.now.pending (plain_key key.entry)).out_records }
     {
         match entry_of(&self.rows, key) {
             Some(entry) => entry.moments(),
@@ -262,8 +263,8 @@ impl Pit {
 
     /// The Interest of a face under this key, as it came.
     pub fn interest_of(&self, key: Key<'_>, face: u64) -> Option<&[u8]>
-        ensures { option_map (λ o. o.now) result ≡ option_map (λ ask. ask.interest)
-            (map.get (records_at self.now.pending (plain_key key.entry)).asks face) }
+        ensures { option_map (λ o. o.now) result ≡ option_map (λ r. r.interest)
+            (map.get (records_at self.now.pending (plain_key key.entry)).in_records face) }
     {
         entry_of(&self.rows, key)?.interest_of(face)
     }
@@ -320,7 +321,7 @@ impl Pit {
         answer_of(&self.rows, key, reason)
     }
 
-    /// Takes out the Interest of a face, if it is there.
+    /// Takes out the in-record of a face, if it is there.
     pub fn withdraw(&mut self, key: Key<'_>, face: u64)
         ensures pending { Follows (Withdrawn (plain_key key.entry) face)
             self.old.pending self.new.pending }
@@ -352,7 +353,7 @@ impl Pit {
         self.rows.expire(now, &RowRevision(Expiry { now }));
     }
 
-    /// Takes out a face, as one that asks and as one that was asked.
+    /// Takes out the in-records and the out-records of a face.
     pub fn close_face(&mut self, face: u64)
         ensures pending { Follows (Closed face) self.old.pending self.new.pending }
         ensures prepared { self.new.prepared ≡ self.old.prepared }
@@ -379,7 +380,7 @@ fn was_sent(rows: &TimedMap<Row>, key: Key<'_>, face: u64, nonce: [u8; 4]) -> bo
     }
 }
 
-/// Whether an entry's own memory has room for a sending to this face, or nothing is kept.
+/// Whether an entry's own memory has room for an out-record of this face, or nothing is kept.
 fn has_place_for(rows: &TimedMap<Row>, key: Key<'_>, face: u64) -> bool
     ensures { result ≡ has_place_in (kept_at rows.now.table (plain_key key.entry)) face }
 {
@@ -389,7 +390,7 @@ fn has_place_for(rows: &TimedMap<Row>, key: Key<'_>, face: u64) -> bool
     }
 }
 
-/// Whether all faces asked under a key have answered by a Nack, of which one had this reason.
+/// Whether each out-record of a key has the reason of a Nack, of which one had this.
 fn answer_of(rows: &TimedMap<Row>, key: Key<'_>, reason: u64) -> Nacked
     ensures { result ≡ answer_in (kept_at rows.now.table (plain_key key.entry)) reason }
 {
@@ -399,8 +400,8 @@ fn answer_of(rows: &TimedMap<Row>, key: Key<'_>, reason: u64) -> Nacked
     }
 }
 
-/// Makes the memory one for the sendings to all faces.
-fn widen(alloc: Global, spare: &mut Room<Sending>) -> Result<(), Memory>
+/// Makes the memory one for the out-records of all faces.
+fn widen(alloc: Global, spare: &mut Room<OutRecord>) -> Result<(), Memory>
     ensures { OnOk result (MAX_FACES ≤ spare.new) }
 {
     if spare.count() < MAX_FACES {
@@ -409,12 +410,12 @@ fn widen(alloc: Global, spare: &mut Room<Sending>) -> Result<(), Memory>
     Ok(())
 }
 
-/// Memory for the sendings to all faces, this or new, unless there is a place for one already.
+/// Memory for the out-records of all faces, this or new, unless there is a place for one already.
 fn room_for(
     alloc: Global,
-    spare: &mut Room<Sending>,
+    spare: &mut Room<OutRecord>,
     has_place: bool,
-) -> Result<Room<Sending>, Memory>
+) -> Result<Room<OutRecord>, Memory>
     ensures ok { IfOk result (λ room. has_place ≡ false → MAX_FACES ≤ room) }
     ensures same { has_place ≡ true → spare.new ≡ spare.old }
     ensures promised { (has_place ≡ true) ⊎ (MAX_FACES ≤ spare.old) → IsOk result }

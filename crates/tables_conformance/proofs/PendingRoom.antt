@@ -9,7 +9,7 @@ use Rattle.std.specs.FinMap.{FinMap, get, len, empty, empty_of_len, get-empty}
 use Rattle.std.proofs.lemmas.Bool.Decides.{nat_tests}
 use Rattle.ndn_packets.specs.Key.{PlainKey, key_cmp}
 use Rattle.pit_fib.specs.Faces.{IsRising}
-use Rattle.pit_fib.specs.Records.{Ask, Records, Pending, is_alive, no_records, records_at}
+use Rattle.pit_fib.specs.Records.{InRecord, Records, Pending, is_alive, no_records, records_at}
 use Rattle.pit_fib.specs.Cause.{Cause, Follows}
 use Rattle.pit_fib.specs.Pit.{HasRecord, HasRoomFor}
 use Rattle.pit_fib.proofs.PendingFaces.{Adds, had_record}
@@ -55,26 +55,26 @@ room_below old face below less faces rising all = omega (arith, spread 0 faces r
 differ : (b : Bool) → b ≡ true → b ≡ false → ⊥
 differ b p q = absurd cc
 
-in_none : (face : ℕ) → IsSome (get no_records.asks face) ⊎ IsSome (get no_records.asked face) → ⊥
-in_none face (inl e) = differ (is_some (get no_records.asks face)) e (ap is_some (get-empty nat_cmp face))
-in_none face (inr e) = differ (is_some (get no_records.asked face)) e (ap is_some (get-empty nat_cmp face))
+in_none : (face : ℕ) → IsSome (get no_records.in_records face) ⊎ IsSome (get no_records.out_records face) → ⊥
+in_none face (inl e) = differ (is_some (get no_records.in_records face)) e (ap is_some (get-empty nat_cmp face))
+in_none face (inr e) = differ (is_some (get no_records.out_records face)) e (ap is_some (get-empty nat_cmp face))
 
 empty_has_none : (face : ℕ) → HasRecord map.empty face → ⊥
-empty_has_none face has = in_none face (subst (λ (r : Records). IsSome (get r.asks face) ⊎ IsSome (get r.asked face)) (ap (λ (o : Option Records). unwrap_or o no_records) (get-empty key_cmp has.0)) has.1)
+empty_has_none face has = in_none face (subst (λ (r : Records). IsSome (get r.in_records face) ⊎ IsSome (get r.out_records face)) (ap (λ (o : Option Records). unwrap_or o no_records) (get-empty key_cmp has.0)) has.1)
 
 -- a table that has no records
 pub none_below : (pending : Pending) → pending ≡ map.empty → AreBelow pending
 none_below pending e face has = absurd (empty_has_none face (subst (λ p. HasRecord p face) e has))
 
 -- some face asks
-pub asks_is_alive : (r : Records) (face : ℕ) → IsSome (get r.asks face) → is_alive r ≡ true
-asks_is_alive r face some = by_len (len r.asks) (λ e. empty_of_len r.asks e)
+pub asks_is_alive : (r : Records) (face : ℕ) → IsSome (get r.in_records face) → is_alive r ≡ true
+asks_is_alive r face some = by_len (len r.in_records) (λ e. empty_of_len r.in_records e)
   where
-    by_len : (n : ℕ) → (n ≡ 0 → r.asks ≡ empty) → ltb 0 n ≡ true
+    by_len : (n : ℕ) → (n ≡ 0 → r.in_records ≡ empty) → ltb 0 n ≡ true
     by_len (suc n) h = grind (arith, nat_tests)
-    by_len zero h = absurd (differ (is_some (get r.asks face)) some (ap (λ (m : FinMap nat_cmp Ask). is_some (get m face)) (h refl) ∙ ap is_some (get-empty nat_cmp face)))
+    by_len zero h = absurd (differ (is_some (get r.in_records face)) some (ap (λ (m : FinMap nat_cmp InRecord). is_some (get m face)) (h refl) ∙ ap is_some (get-empty nat_cmp face)))
 
-pub interest_asks : (shown : Option (Bor (List ℕ))) (ask : Option Ask) → option_map (λ o. o.now) shown ≡ option_map (λ a. a.interest) ask → is_some shown ≡ true → IsSome ask
+pub interest_asks : (shown : Option (Bor (List ℕ))) (ask : Option InRecord) → option_map (λ o. o.now) shown ≡ option_map (λ a. a.interest) ask → is_some shown ≡ true → IsSome ask
 interest_asks (Some o) (Some a) e some = refl
 interest_asks (Some o) None e some = absurd (apart e)
   where

@@ -29,8 +29,8 @@ returns-in_ok-push_nack-in-NoRoute-clause-forwards c =
     let whole = c.args.interest.now.whole.now in
     let old = c.args.self.now in
     let face = c.args.face in
-    let asked : c.used-used.result ≡ moments (records_at old.pit.pending (key_of i)).asked =
-    c.used-used.ensures ∙ ap (λ (key : PlainKey). moments (records_at old.pit.pending key).asked) c.key-key.ensures in
+    let asked : c.used-used.result ≡ moments (records_at old.pit.pending (key_of i)).out_records =
+    c.used-used.ensures ∙ ap (λ (key : PlainKey). moments (records_at old.pit.pending key).out_records) c.key-key.ensures in
     let none : choice_from (state_of old) face i ≡ choices.NoRoute =
     sym (ap (λ (used : ByFace). choice_for (policy_of old) i.name used (ask_from (policy_of old) face i)) asked)
     ∙ sym (ap (λ (ask : Ask). choice_for (policy_of old) i.name c.used-used.result ask) c.ask_from.ensures)

@@ -4,7 +4,7 @@ use Rattle.std.proofs.lemmas.List.{drop_all, length-map}
 use Rattle.ndn_packets.specs.Key.{plain_key}
 use Rattle.strategies.proofs.Places.{drop_past}
 use Rattle.forwarder.specs.Faces.{FaceEntry, numbers}
-use Rattle.forwarder.specs.NackRoom.{asks_at, nack_room, room_for}
+use Rattle.forwarder.specs.NackRoom.{in_records_at, nack_room, room_for}
 use Rattle.forwarder.proofs.NackSteps.{asker_room, no_asker, room_here}
 use Rattle.forwarder.proofs.state.State.nack_room.Goals as goal
 use Rattle.forwarder.proofs.state.State.nack_room.Goals.{in-Some-interest_of+in_ok-room, in_default-interest_of}
@@ -14,13 +14,13 @@ loop-i-init c = omega arith
 
 pub loop-i-preserved-in_default : goal.loop-i-preserved-in_default
 loop-i-preserved-in_default c =
-    let asks = asks_at c.args.self.now.pit.pending (plain_key c.args.key) in
+    let asks = in_records_at c.args.self.now.pit.pending (plain_key c.args.key) in
     let past = drop_past (numbers c.args.self.now.faces) c.loop-i.i (sym c.get.ensures ∙ c.in_default.is) in
     ap (λ (faces : List ℕ). c.loop-i.room + nack_room asks faces) (sym past) ∙ c.loop-i.invariant
 
 pub loop-i-preserved : goal.loop-i-preserved
 loop-i-preserved c =
-    let asks = asks_at c.args.self.now.pit.pending (plain_key c.args.key) in
+    let asks = in_records_at c.args.self.now.pit.pending (plain_key c.args.key) in
     let face = c.in-Some.face in
     let room = room_here asks (numbers c.args.self.now.faces) c.loop-i.i face (sym c.get.ensures ∙ c.in-Some.is) in
     elim c.match-interest_of.branch [
@@ -34,7 +34,7 @@ loop-i-preserved c =
 
 pub returns : goal.returns
 returns c =
-    let asks = asks_at c.args.self.now.pit.pending (plain_key c.args.key) in
+    let asks = in_records_at c.args.self.now.pit.pending (plain_key c.args.key) in
     let faces = numbers c.args.self.now.faces in
     let end = drop_all c.loop-i.i faces (omega (arith, c.loop-i-test.false, c.len-i-end.ensures.exact, length-map c.args.self.now.faces (λ (entry : FaceEntry). entry.0))) in
     omega (arith, ap (nack_room asks) end, c.loop-i.invariant)

@@ -1,11 +1,11 @@
 use Rattle.std.proofs.Common.{◌≡◌, ◌+◌, drop}
 use Rattle.ndn_packets.specs.Key.{plain_key}
 use Rattle.forwarder.specs.Faces.{numbers}
-use Rattle.forwarder.specs.NackRoom.{asks_at, nack_room}
+use Rattle.forwarder.specs.NackRoom.{in_records_at, nack_room}
 use Rattle.forwarder.proofs.state.State.nack_room.Given as goal
 
 -- the room so far, and that for the faces that are left
 abbrev pub invariant-loop-i : goal.invariant-loop-i
 invariant-loop-i l =
-    l.room + nack_room (asks_at l.self.pit.pending (plain_key l.key)) (drop l.i (numbers l.self.faces))
-    ≡ nack_room (asks_at l.self.pit.pending (plain_key l.key)) (numbers l.self.faces)
+    l.room + nack_room (in_records_at l.self.pit.pending (plain_key l.key)) (drop l.i (numbers l.self.faces))
+    ≡ nack_room (in_records_at l.self.pit.pending (plain_key l.key)) (numbers l.self.faces)

@@ -6,7 +6,7 @@ use Rattle.ndn_packets.specs.Writing.{nack_text}
 use Rattle.strategies.proofs.Places.{drop_here, drop_past}
 use Rattle.forwarder.specs.Event.{Send}
 use Rattle.forwarder.specs.Faces.{FaceEntry, numbers}
-use Rattle.forwarder.specs.NackRoom.{asks_at, nack_room}
+use Rattle.forwarder.specs.NackRoom.{in_records_at, nack_room}
 use Rattle.forwarder.proofs.ForwardSteps.{nack_is_short}
 use Rattle.forwarder.proofs.NackSteps.{asker_nack, asker_room, nack_for, nacks_by, nacks_to_all, no_asker, room_here}
 use Rattle.forwarder.proofs.Soundness.{has_numbers}
@@ -18,7 +18,7 @@ loop-i-init c = record { sends = refl; places = omega (arith, c.requires.places)
 
 pub loop-i-preserved-in_default : goal.loop-i-preserved-in_default
 loop-i-preserved-in_default c =
-    let asks = asks_at c.args.self.now.pit.pending (plain_key c.args.key) in
+    let asks = in_records_at c.args.self.now.pit.pending (plain_key c.args.key) in
     let past = drop_past (numbers c.args.self.now.faces) c.loop-i.i (sym c.get.ensures ∙ c.in_default.is) in
     record {
       sends = c.loop-i.invariant.sends ∙ ap (λ (faces : List ℕ). c.loop-i.out.sends ++ nacks_by c.args.reason (map.get asks) faces) past;
@@ -29,7 +29,7 @@ loop-i-preserved-in_default c =
 -- there is room for one more
 refused_never : goal.After-from_residual → ⊥
 refused_never c =
-    let asks = asks_at c.args.self.now.pit.pending (plain_key c.args.key) in
+    let asks = in_records_at c.args.self.now.pit.pending (plain_key c.args.key) in
     let face = c.in-Some.face in
     let octets = c.in-Some-interest_of.octets.now in
     let room = room_here asks (numbers c.args.self.now.faces) c.loop-i.i face (sym c.get.ensures ∙ c.in-Some.is) in
@@ -48,7 +48,7 @@ returns-in_err-push_nack-clause-sends c = absurd (refused_never c)
 
 pub loop-i-preserved : goal.loop-i-preserved
 loop-i-preserved c =
-    let asks = asks_at c.args.self.now.pit.pending (plain_key c.args.key) in
+    let asks = in_records_at c.args.self.now.pit.pending (plain_key c.args.key) in
     let faces = numbers c.args.self.now.faces in
     let face = c.in-Some.face in
     let at = sym c.get.ensures ∙ c.in-Some.is in
@@ -79,7 +79,7 @@ loop-i-preserved c =
 
 pub returns-clause-sends : goal.returns-clause-sends
 returns-clause-sends c =
-    let asks = asks_at c.args.self.now.pit.pending (plain_key c.args.key) in
+    let asks = in_records_at c.args.self.now.pit.pending (plain_key c.args.key) in
     let faces = numbers c.args.self.now.faces in
     let end = drop_all c.loop-i.i faces (omega (arith, c.loop-i-test.false, c.len-i-end.ensures.exact, length-map c.args.self.now.faces (λ (entry : FaceEntry). entry.0))) in
     sym (append-nil c.loop-i.out.sends)

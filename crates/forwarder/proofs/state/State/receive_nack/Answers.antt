@@ -5,12 +5,12 @@ use Rattle.ndn_packets.specs.View.{plain_interest}
 use Rattle.pit_fib.specs.declared.nacked.Nacked.{Nacked}
 use Rattle.pit_fib.specs.Cause.{Expires, NackCame, Removed, Follows}
 use Rattle.pit_fib.specs.Pit.{nacked_answer}
-use Rattle.pit_fib.specs.Records.{Asks, Records, records_at}
+use Rattle.pit_fib.specs.Records.{InRecords, Records, records_at}
 use Rattle.pit_fib.proofs.PendingFaces.{had_records}
 use Rattle.forwarder.specs.Event.{Send}
 use Rattle.forwarder.specs.Faces.{FaceEntry, is_open, numbers}
 use Rattle.forwarder.specs.Handling.{IsAnswered}
-use Rattle.forwarder.specs.NackRoom.{asks_at, nack_room}
+use Rattle.forwarder.specs.NackRoom.{in_records_at, nack_room}
 use Rattle.forwarder.specs.Policy.{Policy}
 use Rattle.forwarder.specs.Replies.{nack_answer, nacks_to}
 use Rattle.forwarder.specs.State.{state_of}
@@ -59,13 +59,13 @@ push_nacks-requires-clause-space c =
     let was = c.pass_time.new.self.pit.pending in
     let nonce = c.args.arrived.now.packet.now.nonce in
     let alive = awaited_alive was later.living key c.args.arrived.now.face nonce c.args.reason c.in-All.least (sym c.nacked.ensures.answer ∙ c.in-All.is) in
-    let same : asks_at c.nacked.new.self.pending key ≡ asks_at was key =
-    ap (λ (r : Records). r.asks) (c.nacked.ensures.pending key) ∙ nacked_asks key c.args.arrived.now.face nonce c.args.reason (records_at was key) alive in
+    let same : in_records_at c.nacked.new.self.pending key ≡ in_records_at was key =
+    ap (λ (r : Records). r.in_records) (c.nacked.ensures.pending key) ∙ nacked_asks key c.args.arrived.now.face nonce c.args.reason (records_at was key) alive in
     let faces : numbers c.pass_time.new.self.faces ≡ numbers c.args.self.now.faces = ap (λ (p : Policy). numbers p.faces) later.policy in
     omega (
       arith,
-      ap (λ (asks : Asks). nack_room asks (numbers c.pass_time.new.self.faces)) same,
-      ap (nack_room (asks_at was key)) faces,
+      ap (λ (asks : InRecords). nack_room asks (numbers c.pass_time.new.self.faces)) same,
+      ap (nack_room (in_records_at was key)) faces,
       expired_room _ c.args.self.now.pit.pending was later.expiry key (numbers c.args.self.now.faces),
       c.in_ok-room.ensures,
       c.in_ok-reserve.ensures.space,
@@ -89,7 +89,7 @@ returns-in-NoPending c = record {
         later,
         nack_answered was (state_of (record c.pass_time.new.self { pit = c.nacked.new.self })) face c.args.reason c.args.arrived.now.packet.now.whole.now i refl refl c.nacked.ensures.living _
             (later_scope old was face c.args.arrived.now.moment i.name later ∙ sym c.is_out_of_scope.ensures ∙ c.if-is_out_of_scope.false)
-            (ap (nack_answer (asks_at was.pending (key_of i))) (sym answer))
+            (ap (nack_answer (in_records_at was.pending (key_of i))) (sym answer))
             (unknown_nack (key_of i) face nonce c.args.reason was.pending c.nacked.new.self.pending later.living answer follows),
       );
   memory = tt;
@@ -113,7 +113,7 @@ returns-in-Waiting c = record {
         later,
         nack_answered was (state_of (record c.pass_time.new.self { pit = c.nacked.new.self })) face c.args.reason c.args.arrived.now.packet.now.whole.now i refl refl c.nacked.ensures.living _
             (later_scope old was face c.args.arrived.now.moment i.name later ∙ sym c.is_out_of_scope.ensures ∙ c.if-is_out_of_scope.false)
-            (ap (nack_answer (asks_at was.pending (key_of i))) (sym answer))
+            (ap (nack_answer (in_records_at was.pending (key_of i))) (sym answer))
             follows,
       );
   memory = tt;
@@ -129,19 +129,19 @@ returns-in_ok-push_nacks-in-All c = record {
       let i = plain_interest c.args.arrived.now.packet.now in
       let nonce = i.nonce in
       let least = c.in-All.least in
-      let asks = asks_at was.pending (key_of i) in
+      let asks = in_records_at was.pending (key_of i) in
       let answer : nacked_answer (records_at was.pending (key_of i)) face nonce c.args.reason ≡ Nacked.All least =
       ap (λ (key : PlainKey). nacked_answer (records_at was.pending key) face nonce c.args.reason) (sym c.key-key.ensures) ∙ sym c.nacked.ensures.answer ∙ c.in-All.is in
       let alive = awaited_alive was.pending later.living (key_of i) face nonce c.args.reason least answer in
       let follows = subst (λ (key : PlainKey). Follows (NackCame key face nonce c.args.reason) was.pending c.nacked.new.self.pending) c.key-key.ensures c.nacked.ensures.pending in
       let removed = subst (λ (key : PlainKey). Follows (Removed key) c.nacked.new.self.pending c.remove.new.self.pending) c.key-key.ensures c.remove.ensures.pending in
-      let same : asks_at c.nacked.new.self.pending (plain_key c.key-key.result) ≡ asks =
-      ap (asks_at c.nacked.new.self.pending) c.key-key.ensures ∙ ap (λ (r : Records). r.asks) (follows (key_of i))
+      let same : in_records_at c.nacked.new.self.pending (plain_key c.key-key.result) ≡ asks =
+      ap (in_records_at c.nacked.new.self.pending) c.key-key.ensures ∙ ap (λ (r : Records). r.in_records) (follows (key_of i))
       ∙ nacked_asks (key_of i) face nonce c.args.reason (records_at was.pending (key_of i)) alive in (
         was,
         nacks_to asks least,
-        c.push_nacks.ensures.sends ∙ ap (λ (before : List Send). before ++ nacks_to (asks_at c.nacked.new.self.pending (plain_key c.key-key.result)) least) c.reserve.ensures.sends
-            ∙ ap (λ (m : Asks). c.args.out.now.sends ++ nacks_to m least) same,
+        c.push_nacks.ensures.sends ∙ ap (λ (before : List Send). before ++ nacks_to (in_records_at c.nacked.new.self.pending (plain_key c.key-key.result)) least) c.reserve.ensures.sends
+            ∙ ap (λ (m : InRecords). c.args.out.now.sends ++ nacks_to m least) same,
         later,
         nack_answered was (state_of (record c.pass_time.new.self { pit = c.remove.new.self })) face c.args.reason c.args.arrived.now.packet.now.whole.now i refl refl c.remove.ensures.living _
             (later_scope old was face c.args.arrived.now.moment i.name later ∙ sym c.is_out_of_scope.ensures ∙ c.if-is_out_of_scope.false)

@@ -15,7 +15,7 @@ returns c =
     let rest : c.take.new.self ≡ remove row f = c.take.ensures.left ∙ ap (λ (m : Row). remove m f) same in
     let got : c.take.result ≡ get row f = c.take.ensures.value ∙ ap (λ (m : Row). get m f) same in
     let was : c.take.result ≡ kept_in c.args.row f = got ∙ kept_in_or c.args.row f in
-    let sends : Kept → Kept = sent_in c.args.self.room c.args.self.face c.args.self.sending in
+    let sends : Kept → Kept = sent_in c.args.self.room c.args.self.face c.args.self.out_record in
     elim c.match-take.branch [
       | in-Some w ↦ w.row-is ∙ w.set.ensures ∙ (λ i. insert (rest i) f (w.sent.ensures i)) ∙ put_back row f _
           ∙ ap (λ (o : Option Kept). with_kept_if f (option_map sends o) c.args.row) (sym w.in-Some.is ∙ was)

@@ -27,5 +27,5 @@ pub returns : goal.returns
 returns c =
     let is = c.rows-row-items.ensures.rows in
     c.loop-row.invariant ∙ ap (λ l. moments_in (take c.loop-row.row-index l)) is
-    ∙ moments_all c.self.inside.asked.values c.loop-row.row-index (subst (λ l. length l ≤ c.loop-row.row-index) is c.loop-row-test.false)
-    ∙ ap (λ (s : Kept). moments s.records.asked) c.self.view_is
+    ∙ moments_all c.self.inside.out_records.values c.loop-row.row-index (subst (λ l. length l ≤ c.loop-row.row-index) is c.loop-row-test.false)
+    ∙ ap (λ (s : Kept). moments s.records.out_records) c.self.view_is

@@ -5,8 +5,8 @@ use Rattle.std.specs.FinMap.{len, get, insert}
 use Rattle.ndn_packets.specs.Key.{PlainKey, plain_key}
 use Rattle.pit_fib.specs.declared.flags.Flags.{Flags}
 use Rattle.pit_fib.specs.Flags.{flags_of}
-use Rattle.pit_fib.specs.Kept.{Kept, asked_by, kept_at, new_in, pending_of, row_asked, with_kept}
-use Rattle.pit_fib.specs.Records.{Ask, Records, Pending, is_alive, records_at}
+use Rattle.pit_fib.specs.Kept.{Kept, with_in_record, kept_at, new_in, pending_of, row_arrived, with_kept}
+use Rattle.pit_fib.specs.Records.{InRecord, Records, Pending, is_alive, records_at}
 use Rattle.pit_fib.specs.Cause.{Arrives, changed, same_key, Follows}
 use Rattle.pit_fib.specs.Pit.{PitState, HasRoomFor}
 use Rattle.pit_fib.specs.Prepared.{AreAlive, calls_of}
@@ -17,16 +17,16 @@ use Rattle.pit_fib.proofs.PendingPlaces.{alive_insert, arrives_elsewhere, arrive
 use Rattle.pit_fib.proofs.pit.Pit.keep.Goals as goal
 use Rattle.pit_fib.proofs.pit.Pit.keep.Goals.{Joined-self-after}
 
-ask : Joined-self-after → Ask
-ask c = record { interest = c.args.interest.now; nonce = c.args.nonce; deadline = c.args.deadline }
+in_record : Joined-self-after → InRecord
+in_record c = record { interest = c.args.interest.now; nonce = c.args.nonce; deadline = c.args.deadline }
 
 -- what is kept under the key before it has the Interest
 before : Joined-self-after → Kept
-before c = unwrap_or (kept_at c.self.inside.rows.table (plain_key c.args.key)) (new_in c.in_ok-octets.room.asked)
+before c = unwrap_or (kept_at c.self.inside.rows.table (plain_key c.args.key)) (new_in c.in_ok-octets.room.out_records)
 
 kept : Joined-self-after → Kept
-unfolding ask before
-kept c = record { records = record { asks = insert (before c).records.asks c.args.face (ask c); asked = (before c).records.asked }; is_wide = (before c).is_wide }
+unfolding in_record before
+kept c = record { records = record { in_records = insert (before c).records.in_records c.args.face (in_record c); out_records = (before c).records.out_records }; is_wide = (before c).is_wide }
 
 old : (c : Joined-self-after) → pending_of c.self.inside.rows.table ≡ c.args.self.now.pending
 old c = ap (λ (s : PitState). s.pending) c.self.view_is
@@ -39,24 +39,24 @@ unfolding before
 shown c =
     let rows = c.self.inside.rows.table in
     let key = plain_key c.args.key in
-    kept_or_new (kept_at rows key) c.in_ok-octets.room.asked ∙ sym (records_kept rows key)
+    kept_or_new (kept_at rows key) c.in_ok-octets.room.out_records ∙ sym (records_kept rows key)
 
-is_kept : (c : Joined-self-after) → asked_by c.args.face (ask c) (before c) ≡ kept c
+is_kept : (c : Joined-self-after) → with_in_record c.args.face (in_record c) (before c) ≡ kept c
 unfolding kept
 is_kept c =
-    asked_is c.args.face (ask c) (before c)
+    asked_is c.args.face (in_record c) (before c)
     (room_for_ask (pending_of c.self.inside.rows.table) (plain_key c.args.key) (before c).records c.args.face (sym (shown c)) (room c))
 
 puts : (c : Joined-self-after) → (k : PlainKey) → kept_at c.put_with.new.self.table k ≡ cond (same_key k (plain_key c.args.key)) (Some (kept c)) (kept_at c.self.inside.rows.table k)
-unfolding ask before
+unfolding in_record before
 puts c =
     let rows = c.self.inside.rows.table in
     let key = plain_key c.args.key in
-    let asker : c.new.result ≡ ask c =
+    let in_record : c.new.result ≡ in_record c =
     c.new.ensures ∙ ap (λ (octets : List ℕ). record { interest = octets; nonce = c.args.nonce; deadline = c.args.deadline }) c.in_ok-octets.ensures.ok in
     step_put key (kept c) rows c.put_with.new.self.table
     (c.in_ok-put_with.ensures.ok
-    ∙ (λ i. insert rows key.name (row_asked (c.of.ensures i) c.args.face (asker i) c.in_ok-octets.room.asked (get rows key.name)))
+    ∙ (λ i. insert rows key.name (row_arrived (c.of.ensures i) c.args.face (in_record i) c.in_ok-octets.room.out_records (get rows key.name)))
     ∙ ap (λ (s : Kept). insert rows key.name (with_kept (flags_of key) s (get rows key.name))) (is_kept c))
 
 pub returns-in_err-octets-clause-living : goal.returns-in_err-octets-clause-living
@@ -67,15 +67,15 @@ returns-in_err-put_with-clause-living c = holds_the_living c.put_with.new.self.t
 
 alive_kept : (c : Joined-self-after) → is_alive (kept c).records ≡ true
 unfolding kept
-alive_kept c = alive_insert (before c).records.asks (before c).records.asked c.args.face (ask c)
+alive_kept c = alive_insert (before c).records.in_records (before c).records.out_records c.args.face (in_record c)
 
-follows : (c : Joined-self-after) → Follows (Arrives (plain_key c.args.key) c.args.face (ask c)) (pending_of c.self.inside.rows.table) (pending_of c.put_with.new.self.table)
+follows : (c : Joined-self-after) → Follows (Arrives (plain_key c.args.key) c.args.face (in_record c)) (pending_of c.self.inside.rows.table) (pending_of c.put_with.new.self.table)
 unfolding kept
 follows c =
     let key = plain_key c.args.key in
-    put_follows (Arrives key c.args.face (ask c)) key (kept c) c.self.inside.rows.table c.put_with.new.self.table c.self.invariant.0.alive (alive_kept c) (puts c)
-    (arrives_elsewhere key c.args.face (ask c))
-    (ap (λ (r : Records). record { asks = insert r.asks c.args.face (ask c); asked = r.asked }) (shown c) ∙ sym (arrives_here key c.args.face (ask c) (records_at (pending_of c.self.inside.rows.table) key)))
+    put_follows (Arrives key c.args.face (in_record c)) key (kept c) c.self.inside.rows.table c.put_with.new.self.table c.self.invariant.0.alive (alive_kept c) (puts c)
+    (arrives_elsewhere key c.args.face (in_record c))
+    (ap (λ (r : Records). record { in_records = insert r.in_records c.args.face (in_record c); out_records = r.out_records }) (shown c) ∙ sym (arrives_here key c.args.face (in_record c) (records_at (pending_of c.self.inside.rows.table) key)))
 
 place : (c : Joined-self-after) → (is_some (kept_at c.self.inside.rows.table (plain_key c.args.key)) ≡ true) ⊎ (len (pending_of c.self.inside.rows.table) < 4096)
 place c = elim c.requires.place [
@@ -86,7 +86,7 @@ place c = elim c.requires.place [
 living : (c : Joined-self-after) → AreAlive c.put_with.new.self.table
 living c =
     let key = plain_key c.args.key in
-    put_alive (Arrives key c.args.face (ask c)) key (kept c) c.self.inside.rows.table c.put_with.new.self.table c.self.invariant.0.alive (alive_kept c) (puts c)
+    put_alive (Arrives key c.args.face (in_record c)) key (kept c) c.self.inside.rows.table c.put_with.new.self.table c.self.invariant.0.alive (alive_kept c) (puts c)
 
 pub invariant_of-self-2 : goal.invariant_of-self-2
 invariant_of-self-2 c =
@@ -95,16 +95,16 @@ invariant_of-self-2 c =
     let new = c.put_with.new.self.table in (
       record {
         alive = living c;
-        few = grows_few (Arrives key c.args.face (ask c)) (pending_of rows) (pending_of new) c.args.face (λ f adds. adds) (follows c) (room c);
-        bounded = put_bounded (Arrives key c.args.face (ask c)) key (kept c) rows new c.self.invariant.0.alive (alive_kept c) (puts c) (place c) c.self.invariant.0.bounded;
+        few = grows_few (Arrives key c.args.face (in_record c)) (pending_of rows) (pending_of new) c.args.face (λ f adds. adds) (follows c) (room c);
+        bounded = put_bounded (Arrives key c.args.face (in_record c)) key (kept c) rows new c.self.invariant.0.alive (alive_kept c) (puts c) (place c) c.self.invariant.0.bounded;
       },
       memory_arrived c.self.inside.rows c.put_with.new.self c.self.inside.spare key c.self.inside.prepared c.arriving-ready.result.1 c.self.invariant.1 c.arriving-ready.ensures.left
           (λ h. c.arriving-ready.ensures.ended (λ size is. h size (sym (ap calls_of c.take.ensures.value) ∙ is))),
     )
 
 pub returns-clause-ok : goal.returns-clause-ok
-unfolding ask
-returns-clause-ok c = subst (λ (p : Pending). Follows (Arrives (plain_key c.args.key) c.args.face (ask c)) p (pending_of c.put_with.new.self.table)) (old c) (follows c)
+unfolding in_record
+returns-clause-ok c = subst (λ (p : Pending). Follows (Arrives (plain_key c.args.key) c.args.face (in_record c)) p (pending_of c.put_with.new.self.table)) (old c) (follows c)
 
 pub returns-clause-living : goal.returns-clause-living
 returns-clause-living c = holds_the_living c.put_with.new.self.table _ (living c) refl

@@ -5,17 +5,17 @@ use Rattle.std.specs.Ordering.{nat_cmp}
 use Rattle.std.specs.FinMap.{get-empty, empty, entries}
 use Rattle.ndn_names.proofs.Rows.{no_entries}
 use Rattle.ndn_packets.specs.Key.{plain_key}
-use Rattle.pit_fib.specs.Records.{Ask, Sent, no_records, same_nonce}
+use Rattle.pit_fib.specs.Records.{InRecord, OutRecord, no_records, same_nonce}
 use Rattle.pit_fib.specs.Pit.{PitState, loops, asks_with}
 use Rattle.pit_fib.proofs.KeptTables.{seen_here, seen_nothing}
 use Rattle.pit_fib.proofs.pit.Pit.loops.Goals as goal
 
 loops_nowhere : (face : ℕ) (nonce : List ℕ) → loops no_records face nonce ≡ false
 loops_nowhere face nonce =
-    let others = λ (e : ℕ × Ask). not (eqb e.0 face) && same_nonce e.1.nonce nonce in
-    let asked = λ (e : ℕ × Sent). same_nonce e.1.nonce nonce in
-    ap (λ (o : Option Ask). not (asks_with o nonce) && (list_any others (entries (empty {R = nat_cmp})) || list_any asked (entries (empty {R = nat_cmp})))) (get-empty nat_cmp face)
-    ∙ ap (λ l. list_any others l || list_any asked (entries (empty {R = nat_cmp}))) (no_entries nat_cmp) ∙ ap (λ l. list_any asked l) (no_entries nat_cmp)
+    let others = λ (e : ℕ × InRecord). not (eqb e.0 face) && same_nonce e.1.nonce nonce in
+    let out_records = λ (e : ℕ × OutRecord). same_nonce e.1.nonce nonce in
+    ap (λ (o : Option InRecord). not (asks_with o nonce) && (list_any others (entries (empty {R = nat_cmp})) || list_any out_records (entries (empty {R = nat_cmp})))) (get-empty nat_cmp face)
+    ∙ ap (λ l. list_any others l || list_any out_records (entries (empty {R = nat_cmp}))) (no_entries nat_cmp) ∙ ap (λ l. list_any out_records l) (no_entries nat_cmp)
 
 pub returns-in-Some : goal.returns-in-Some
 returns-in-Some c =

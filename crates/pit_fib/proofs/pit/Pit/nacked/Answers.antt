@@ -37,7 +37,7 @@ steps c =
     let key = plain_key c.args.key in
     one_steps (NackCame key c.args.face c.args.nonce c.args.reason) (change c) key c.self.inside.rows.table c.change.new.self.table c.self.invariant.0.alive
     (nacked_elsewhere key c.args.face c.args.nonce c.args.reason)
-    (λ k s t. ap (λ b. living (record { records = cond b (record { asks = s.records.asks; asked = with_reason c.args.face c.args.nonce c.args.reason s.records.asked (map.get s.records.asked c.args.face) }) s.records; is_wide = s.is_wide })) (sym t))
+    (λ k s t. ap (λ b. living (record { records = cond b (record { in_records = s.records.in_records; out_records = with_reason c.args.face c.args.nonce c.args.reason s.records.out_records (map.get s.records.out_records c.args.face) }) s.records; is_wide = s.is_wide })) (sym t))
     (kept c)
 
 follows : (c : After-change) → Follows (NackCame (plain_key c.args.key) c.args.face c.args.nonce c.args.reason) c.args.self.now.pending (pending_of c.change.new.self.table)
@@ -57,11 +57,11 @@ returns-then-not-was_sent-clause-answer c =
     let d = (goal.at.returns-then-not-was_sent-clause-answer c).After-change in
     let rows = c.self.inside.rows.table in
     let key = plain_key c.args.key in
-    let not_sent : was_sent (map.get (records_at c.args.self.now.pending key).asked c.args.face) c.args.nonce ≡ false =
-    ap (λ (p : Pending). was_sent (map.get (records_at p key).asked c.args.face) c.args.nonce) (sym (old d))
-    ∙ ap (λ (r : Records). was_sent (map.get r.asked c.args.face) c.args.nonce) (records_kept rows key)
+    let not_sent : was_sent (map.get (records_at c.args.self.now.pending key).out_records c.args.face) c.args.nonce ≡ false =
+    ap (λ (p : Pending). was_sent (map.get (records_at p key).out_records c.args.face) c.args.nonce) (sym (old d))
+    ∙ ap (λ (r : Records). was_sent (map.get r.out_records c.args.face) c.args.nonce) (records_kept rows key)
     ∙ was_sent_shown (kept_at rows key) c.args.face c.args.nonce ∙ sym c.was_sent-was_sent.ensures ∙ c.if-not-was_sent.true in
-    sym (ap (λ b. cond b (all_nacked (least_reason c.args.reason (map.entries (with_reason c.args.face c.args.nonce c.args.reason (records_at c.args.self.now.pending key).asked (map.get (records_at c.args.self.now.pending key).asked c.args.face))))) NoPending) not_sent)
+    sym (ap (λ b. cond b (all_nacked (least_reason c.args.reason (map.entries (with_reason c.args.face c.args.nonce c.args.reason (records_at c.args.self.now.pending key).out_records (map.get (records_at c.args.self.now.pending key).out_records c.args.face))))) NoPending) not_sent)
 
 pub returns-then-not-was_sent-clause-pending : goal.returns-then-not-was_sent-clause-pending
 returns-then-not-was_sent-clause-pending c =

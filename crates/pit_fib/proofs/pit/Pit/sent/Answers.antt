@@ -8,8 +8,8 @@ use Rattle.ndn_packets.specs.Key.{PlainKey, plain_key}
 use Rattle.pit_fib.specs.declared.prepared.Prepared.{Prepared}
 use Rattle.pit_fib.specs.Faced.{Faced, has_place, set_in}
 use Rattle.pit_fib.specs.Flags.{flags_of}
-use Rattle.pit_fib.specs.Kept.{Kept, has_place_in, kept_at, pending_of, row_sent, sendings, sent_in, with_kept, with_kept_if}
-use Rattle.pit_fib.specs.Records.{Sent, Records, Pending, is_alive, records_at}
+use Rattle.pit_fib.specs.Kept.{Kept, has_place_in, kept_at, pending_of, row_sent, kept_out_records, sent_in, with_kept, with_kept_if}
+use Rattle.pit_fib.specs.Records.{OutRecord, Records, Pending, is_alive, records_at}
 use Rattle.pit_fib.specs.Cause.{SentTo, changed, same_key, sent_at, Follows}
 use Rattle.pit_fib.specs.Pit.{PitState, HasRoomFor}
 use Rattle.pit_fib.specs.Prepared.{AreAlive, calls_of}
@@ -51,27 +51,27 @@ room c = subst (λ (p : Pending). HasRoomFor p c.args.face) (sym (old c)) c.requ
 found : (c : Joined-self-after) → (s : Kept) × (kept_at c.self.inside.rows.table (plain_key c.args.key) ≡ Some s) × (records_at (pending_of c.self.inside.rows.table) (plain_key c.args.key) ≡ s.records)
 found c = kept_where_alive c.self.inside.rows.table (plain_key c.args.key) (ap (λ (p : Pending). is_alive (records_at p (plain_key c.args.key))) (old c) ∙ c.requires.stands)
 
-sent : Joined-self-after → Sent
+sent : Joined-self-after → OutRecord
 sent c = sent_at c.args.nonce c.args.now
 
 kept : Joined-self-after → Kept
 unfolding sent
 kept c = sent_in c.in_ok-room.room c.args.face (sent c) (found c).0
 
-places : (c : Joined-self-after) → has_place_in (kept_at c.self.inside.rows.table (plain_key c.args.key)) c.args.face ≡ (contains_key (found c).0.records.asked c.args.face || has_place (sendings (found c).0))
+places : (c : Joined-self-after) → has_place_in (kept_at c.self.inside.rows.table (plain_key c.args.key)) c.args.face ≡ (contains_key (found c).0.records.out_records c.args.face || has_place (kept_out_records (found c).0))
 places c = ap (λ o. has_place_in o c.args.face) (found c).1
 
 is_set : (c : Joined-self-after)
-    → ((set_in c.in_ok-room.room c.args.face (sent c) (sendings (found c).0)).values ≡ insert (found c).0.records.asked c.args.face (sent c))
-    × (((contains_key (found c).0.records.asked c.args.face || has_place (sendings (found c).0)) ≡ false) ⊎ ((found c).0.is_wide ≡ true) → (set_in c.in_ok-room.room c.args.face (sent c) (sendings (found c).0)).is_wide ≡ true)
+    → ((set_in c.in_ok-room.room c.args.face (sent c) (kept_out_records (found c).0)).values ≡ insert (found c).0.records.out_records c.args.face (sent c))
+    × (((contains_key (found c).0.records.out_records c.args.face || has_place (kept_out_records (found c).0)) ≡ false) ⊎ ((found c).0.is_wide ≡ true) → (set_in c.in_ok-room.room c.args.face (sent c) (kept_out_records (found c).0)).is_wide ≡ true)
 is_set c =
-    set_is c.in_ok-room.room c.args.face (sent c) (sendings (found c).0)
+    set_is c.in_ok-room.room c.args.face (sent c) (kept_out_records (found c).0)
     (room_for_sent (pending_of c.self.inside.rows.table) (plain_key c.args.key) (found c).0.records c.args.face (found c).2 (room c))
     (λ none. c.in_ok-room.ensures.ok (c.has_place_for-has_place.ensures ∙ places c ∙ none))
 
-records_are : (c : Joined-self-after) → (kept c).records ≡ record { asks = (found c).0.records.asks; asked = insert (found c).0.records.asked c.args.face (sent c) }
+records_are : (c : Joined-self-after) → (kept c).records ≡ record { in_records = (found c).0.records.in_records; out_records = insert (found c).0.records.out_records c.args.face (sent c) }
 unfolding kept
-records_are c = ap (λ (m : map.FinMap nat_cmp Sent). record { asks = (found c).0.records.asks; asked = m }) (is_set c).0
+records_are c = ap (λ (m : map.FinMap nat_cmp OutRecord). record { in_records = (found c).0.records.in_records; out_records = m }) (is_set c).0
 
 puts : (c : Joined-self-after) → (k : PlainKey) → kept_at c.put_with.new.self.table k ≡ cond (same_key k (plain_key c.args.key)) (Some (kept c)) (kept_at c.self.inside.rows.table k)
 unfolding kept sent

@@ -19,7 +19,7 @@ steps c =
     let key = plain_key c.args.key in
     let rows = c.self.inside.rows.table in
     let change : Kept → Option Kept = λ s. living (withdrawn c.args.face s) in
-    let without : Records → Records = λ r. record { asks = map.remove r.asks c.args.face; asked = r.asked } in
+    let without : Records → Records = λ r. record { in_records = map.remove r.in_records c.args.face; out_records = r.out_records } in
     one_steps (Withdrawn key c.args.face) change key rows c.change.new.self.table c.self.invariant.0.alive
     (λ k r t. ap (λ b. cond b (without r) r) t)
     (λ k s t. ap (λ b. living (record { records = cond b (without s.records) s.records; is_wide = s.is_wide })) (sym t))

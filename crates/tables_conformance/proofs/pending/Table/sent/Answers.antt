@@ -12,7 +12,7 @@ small face = omega arith
 pub sent-requires-clause-stands : goal.sent-requires-clause-stands
 sent-requires-clause-stands c =
     let r = records_at c.self.inside.pit.pending (plain_key c.args.key) in
-    asks_is_alive r c.args.asker (interest_asks c.interest_of.result (get r.asks c.args.asker) c.interest_of.ensures (c.is_none.ensures ∙ ap (λ b. not b) c.if-is_none.false))
+    asks_is_alive r c.args.asker (interest_asks c.interest_of.result (get r.in_records c.args.asker) c.interest_of.ensures (c.is_none.ensures ∙ ap (λ b. not b) c.if-is_none.false))
 
 pub sent-requires-clause-room : goal.sent-requires-clause-room
 sent-requires-clause-room c = room_below _ (c.args.face % 64) c.self.invariant (small c.args.face)

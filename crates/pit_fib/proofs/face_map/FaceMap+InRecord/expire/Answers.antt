@@ -6,13 +6,13 @@ use Rattle.std.specs.Ordering.{nat_cmp}
 use Rattle.std.specs.FinMap as map
 use Rattle.std.specs.FinMap.{from_sorted}
 use Rattle.name_trie.specs.ByName.{revise, revised, with_entry}
-use Rattle.pit_fib.specs.Records.{Ask}
+use Rattle.pit_fib.specs.Records.{InRecord}
 use Rattle.pit_fib.specs.Faced.{Faced}
 use Rattle.pit_fib.specs.Cause.{until_after}
 use Rattle.name_trie.proofs.Revised.{sorted_revised, from_revised}
-use Rattle.pit_fib.proofs.face_map.FaceMap+Asker.expire.Goals as goal
+use Rattle.pit_fib.proofs.face_map.FaceMap+InRecord.expire.Goals as goal
 
-filtered : (now : ℕ) (rows : List (ℕ × Ask)) → filter (λ row. ltb now row.1.deadline) rows ≡ revised (until_after now) rows
+filtered : (now : ℕ) (rows : List (ℕ × InRecord)) → filter (λ row. ltb now row.1.deadline) rows ≡ revised (until_after now) rows
 filtered now [] = refl
 filtered now (row ∷ rows) =
     let rest = filtered now rows in
@@ -21,12 +21,12 @@ filtered now (row ∷ rows) =
 
 left : (c : goal.After-retain) → c.retain.new.self.items ≡ revised (until_after c.args.now) c.self.inside.rows.items
 left c =
-    filter_same _ (λ (row : ℕ × Ask). ltb c.args.now row.1.deadline) _ (λ x b f' k. search rules) c.self.inside.rows.items c.retain.new.self.items c.retain.ensures.filtered
+    filter_same _ (λ (row : ℕ × InRecord). ltb c.args.now row.1.deadline) _ (λ x b f' k. search rules) c.self.inside.rows.items c.retain.new.self.items c.retain.ensures.filtered
     ∙ filtered c.args.now c.self.inside.rows.items
 
 pub invariant_of-self : goal.invariant_of-self
 invariant_of-self c = (
-  subst (λ (l : List (ℕ × Ask)). T (map.is_sorted nat_cmp l)) (sym (left c)) (sorted_revised nat_cmp (until_after c.args.now) c.self.inside.rows.items c.self.invariant.0),
+  subst (λ (l : List (ℕ × InRecord)). T (map.is_sorted nat_cmp l)) (sym (left c)) (sorted_revised nat_cmp (until_after c.args.now) c.self.inside.rows.items c.self.invariant.0),
   omega (arith, c.retain.ensures.bound, c.self.invariant.1),
   omega (arith, c.retain.ensures.capacity, c.self.invariant.2),
 )
@@ -34,7 +34,7 @@ invariant_of-self c = (
 pub returns : goal.returns
 returns c =
     (λ i. record {
-      values = (ap (λ (l : List (ℕ × Ask)). from_sorted {R = nat_cmp} l) (left c) ∙ from_revised nat_cmp (until_after c.args.now) c.self.inside.rows.items c.self.invariant.0) i;
+      values = (ap (λ (l : List (ℕ × InRecord)). from_sorted {R = nat_cmp} l) (left c) ∙ from_revised nat_cmp (until_after c.args.now) c.self.inside.rows.items c.self.invariant.0) i;
       is_wide = leb 64 (c.retain.ensures.capacity i);
     })
-    ∙ ap (λ (m : Faced Ask). record m { values = revise (until_after c.args.now) m.values }) c.self.view_is
+    ∙ ap (λ (m : Faced InRecord). record m { values = revise (until_after c.args.now) m.values }) c.self.view_is
