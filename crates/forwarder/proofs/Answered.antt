@@ -29,7 +29,8 @@ use Rattle.forwarder.specs.Request.{is_out_of_scope}
 use Rattle.forwarder.specs.Said.{IsSaid}
 use Rattle.forwarder.specs.Replies.{IsSentToAskers}
 use Rattle.forwarder.specs.Handling.{HandlesPacket, IsAnswered, IsHandled, IsPacketEffect, seen_by}
-use Rattle.forwarder.specs.Node.{CacheAfterData, MayForget, NodeState, Unharmed}
+use Rattle.forwarder.specs.Cache.{CacheAfter, Inserts, MayForget, held_from}
+use Rattle.forwarder.specs.Node.{NodeState, Unharmed}
 use Rattle.forwarder.specs.State.{IsLater, state_of}
 use Rattle.forwarder.proofs.Handled.{where_true, where_false}
 
@@ -72,7 +73,7 @@ module _ (was new : NodeState) (face : ℕ) (whole : List ℕ) (d : PlainData) w
     pub data_delivered : IsSentToAskers (seen_by was) face whole d sends
         → new.policy ≡ record was.policy { held = after_offer d.name (sha256 whole) whole was.policy.held }
         → Follows (Satisfied d.name (sha256 whole)) was.pending new.pending → HoldsTheLiving new.pending
-        → CacheAfterData was.policy.now was.pending whole d was.cache new.cache
+        → CacheAfter was.policy.now was.pending (Inserts (held_from was.policy.now whole d)) was.cache new.cache
         → IsAnswered was face (AData whole d) (record { verdict = DataAllowed rule.0; sends = sends }) new
     data_delivered sent policy pending living cache = record {
       replies = where_false _ _ (is_out_of_scope was.policy face d.name) here (decided.Allowed rule, said, (refl, sent));

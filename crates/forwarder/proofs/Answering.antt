@@ -1,7 +1,7 @@
 -- An Interest for Data is answered: by a Nack where it loops, from the cache or the repository, or by
 -- sending it on.
-use Rattle.std.proofs.Common.{◌≡◌, ℕ, ◌≤◌, Bool, true, false, cond, List, [], ◌∷◌, length, None, Some, Result, Ok, Err, refl, sym, ap, subst, ◌∙◌}
-use Rattle.std.specs.Prelude.{IfOk}
+use Rattle.std.proofs.Common.{◌≡◌, ℕ, ◌≤◌, Bool, true, false, cond, List, [], ◌∷◌, length, Option, None, Some, Result, Ok, Err, inl, inr, refl, sym, ap, subst, ◌∙◌}
+use Rattle.std.specs.Prelude.{◌⊎◌, IfOk, not, ◌&&◌}
 use Rattle.std.specs.List.{All}
 use Rattle.std.specs.FinMap.{entries, find, get-entries}
 use Rattle.std.specs.Ordering.{is_eq}
@@ -19,7 +19,7 @@ use Rattle.ndn_packets.specs.Packet.{PlainData, PlainInterest, AnInterest}
 use Rattle.ndn_packets.specs.Writing.{nack_text}
 use Rattle.ndn_packets.specs.declared.types.TheConstants.{DUPLICATE}
 use Rattle.pit_fib.specs.Pit.{loops}
-use Rattle.pit_fib.specs.Records.{HoldsTheLiving, records_at}
+use Rattle.pit_fib.specs.Records.{HoldsTheLiving, is_alive, records_at}
 use Rattle.pit_fib.specs.Cause.{Cause}
 use Rattle.content_store.specs.Store.{Finds, IsCachedData, IsStore, StoreState}
 use Rattle.repo_core.specs.Objects.{AreObjects, IsObject, Objects, first_octets, full_name_answers, kept, served}
@@ -27,21 +27,27 @@ use Rattle.repo_core.proofs.Kept.{entries-kept}
 use Rattle.repo_core.proofs.Stored.{kept_objects}
 use Rattle.forwarder.specs.declared.state.State.{State}
 use Rattle.forwarder.specs.declared.verdict.Verdict as code
-use Rattle.forwarder.specs.Causes.{is_nack, packet_causes}
-use Rattle.forwarder.specs.Event.{Send}
-use Rattle.forwarder.specs.Verdict.{Answer, DropReason, Dropped, HopLimit, Loop, Scope, dropped, passed, verdict_of}
+use Rattle.forwarder.specs.Causes.{is_nack}
+use Rattle.forwarder.specs.Cache.{CacheAfter, CacheUse}
+use Rattle.forwarder.specs.Event.{Send, to_each}
+use Rattle.forwarder.specs.Verdict.{Answer, DropReason, Dropped, HopLimit, Loop, Passed, PitFull, Scope, Verdict, dropped, passed, verdict_of}
 use Rattle.forwarder.specs.Policy.{Policy}
 use Rattle.forwarder.specs.Request.{ForData, Refused, Request, has_no_hops, is_command, is_out_of_scope, list_asked, named_request, request_of}
-use Rattle.forwarder.specs.Replies.{RepliesForData, RepliesToRequest, unserved}
+use Rattle.forwarder.specs.Replies.{RepliesForData, RepliesToRequest, Seen, by_repository, by_strategy}
+use Rattle.forwarder.specs.NextHops.{sent_on}
+use Rattle.strategies.specs.declared.strategy.Choice.{Choice}
+use Rattle.strategies.specs.declared.strategy.Choice.TheVariants as choices
 use Rattle.forwarder.specs.Forwarding.{ForwardsBy, IsForwarded, choice_from}
-use Rattle.forwarder.specs.Handling.{IsAnswered, IsHandled, IsPacketEffect, seen_by}
-use Rattle.forwarder.specs.Node.{CacheAfterInterest, CacheAfterRequest, FollowAll, NodeState}
+use Rattle.forwarder.specs.Handling.{IsAnswered, IsHandled, IsPacketEffect, packet_causes, packet_use, seen_by}
+use Rattle.forwarder.specs.Node.{FollowAll, NodeState}
 use Rattle.forwarder.specs.State.{IsLater, IsSound, state_of}
 use Rattle.forwarder.proofs.Contents.{begins, begins_data, data_is_no_nack}
 use Rattle.forwarder.proofs.GoingOn.{tick_step}
 use Rattle.forwarder.proofs.Handled.{where_true, where_false}
 use Rattle.forwarder.proofs.ListSteps.{back_causes}
+use Rattle.forwarder.proofs.Requests.{for_data}
 use Rattle.forwarder.proofs.Soundness.{step_sound}
+use Rattle.forwarder.proofs.Uses.{data_use}
 
 -- ---- what is held is Data
 
@@ -75,6 +81,18 @@ served_goes_back name flag objects octets are is =
 pub interest_is_short : (whole : List ℕ) (i : PlainInterest) → ∥ IsInterest whole i ∥₁ → length whole ≤ 8800
 interest_is_short whole i spelled = ∥∥₁_elim spelled le_prop (λ h. h.fields.short)
 
+-- ---- what a strategy chooses is passed, or dropped where the table is full
+
+strategy_passes : (seen : Seen) (key : PlainKey) (whole : List ℕ) (i : PlainInterest) (face : ℕ) (choice : Choice)
+    → ((by_strategy seen key whole i face choice).verdict ≡ Passed) ⊎ ((by_strategy seen key whole i face choice).verdict ≡ Dropped PitFull)
+strategy_passes seen key whole i face choices.NoRoute = inl refl
+strategy_passes seen key whole i face (choices.Send faces) = by_full (not (is_alive (seen.records key)) && seen.is_full)
+  where
+    by_full : (b : Bool) → ((cond b (dropped PitFull) (passed (to_each faces (sent_on whole i.hop_limit)))).verdict ≡ Passed)
+        ⊎ ((cond b (dropped PitFull) (passed (to_each faces (sent_on whole i.hop_limit)))).verdict ≡ Dropped PitFull)
+    by_full true = inr refl
+    by_full false = inl refl
+
 -- ---- the moment of an Interest
 
 pub later_sound : (old was : NodeState) (moment : ℕ) → IsSound old → IsLater old moment was → IsSound was
@@ -107,15 +125,15 @@ module _ (old was : NodeState) (moment face : ℕ) (whole : List ℕ) (i : Plain
         policy = subst (λ (r : Request). IsPacketEffect was.policy face (AnInterest whole i) was.policy (is_command r)) (sym request) refl;
         pending = λ key. refl;
         alive = later.living;
-        cache = subst (λ (r : Request). CacheAfterRequest was.policy.now was.pending face i (Dropped reason) was.cache was.cache r) (sym request) refl;
+        cache = refl;
       }
 
   -- ---- an Interest for Data
 
   module _ (is : request_of old.policy face i ≡ ForData) where
     data_answered : (new : NodeState) (answer : Answer) → RepliesForData (seen_by was) face whole i answer → new.policy ≡ was.policy
-        → FollowAll (packet_causes was.policy.now face (Ok (AnInterest whole i)) answer) was.pending new.pending → HoldsTheLiving new.pending
-        → CacheAfterInterest was.policy.now (records_at was.pending (key_of i)) face i was.cache new.cache
+        → FollowAll (packet_causes was.policy.now face (AnInterest whole i) answer) was.pending new.pending → HoldsTheLiving new.pending
+        → CacheAfter was.policy.now was.pending (packet_use was.policy.now face (AnInterest whole i) answer.verdict) was.cache new.cache
         → IsAnswered was face (AnInterest whole i) answer new
     data_answered new answer replies policy pending living cache =
         let request : request_of was.policy face i ≡ ForData = same_request ∙ is in
@@ -124,18 +142,24 @@ module _ (old was : NodeState) (moment face : ℕ) (whole : List ℕ) (i : Plain
           policy = subst (λ (r : Request). IsPacketEffect was.policy face (AnInterest whole i) new.policy (is_command r)) (sym request) policy;
           pending = pending;
           alive = living;
-          cache = subst (λ (r : Request). CacheAfterRequest was.policy.now was.pending face i answer.verdict was.cache new.cache r) (sym request) cache;
+          cache = cache;
         }
 
     abbrev is_loop : Bool
     is_loop = loops (records_at was.pending (key_of i)) face i.nonce
 
     pub loop_answered : is_loop ≡ true → IsAnswered was face (AnInterest whole i) (record { verdict = Dropped Loop; sends = (face, nack_text DUPLICATE whole) ∷ [] }) was
-    loop_answered loop = data_answered was _ (where_true _ _ is_loop loop refl) refl (λ key. refl) later.living (where_true _ _ is_loop loop refl)
+    loop_answered loop = data_answered was _ (where_true _ _ is_loop loop refl) refl (λ key. refl) later.living refl
 
     module _ (once : is_loop ≡ false) (after : StoreState) where
+      -- the cache is asked by an Interest that is passed
+      looked_up : (given : Option (List ℕ)) → Finds (key_of i) was.policy.now was.cache given after
+          → CacheAfter was.policy.now was.pending (packet_use was.policy.now face (AnInterest whole i) Passed) was.cache after
+      looked_up given found =
+          subst (λ (used : CacheUse). CacheAfter was.policy.now was.pending used was.cache after) (sym (data_use was.policy.now face whole i (for_data old.policy face i is))) (given, found)
+
       back_follows : (octets : List ℕ) → is_nack octets ≡ false
-          → FollowAll (packet_causes was.policy.now face (Ok (AnInterest whole i)) (passed ((face, octets) ∷ []))) was.pending was.pending
+          → FollowAll (packet_causes was.policy.now face (AnInterest whole i) (passed ((face, octets) ∷ []))) was.pending was.pending
       back_follows octets other =
           subst (λ (causes : List Cause). FollowAll causes was.pending was.pending) (sym (back_causes was.policy.now face whole i octets other)) (λ key. refl)
 
@@ -144,24 +168,41 @@ module _ (old was : NodeState) (moment face : ℕ) (whole : List ℕ) (i : Plain
       cache_answered octets other found =
           data_answered (record was { cache = after }) (passed ((face, octets) ∷ []))
           (where_false _ _ is_loop once (Some octets, (found.0, found.1, found.2), refl)) refl (back_follows octets other) later.living
-          (where_false _ _ is_loop once (Some octets, found))
+          (looked_up (Some octets) found)
 
       module _ (none : Finds (key_of i) was.policy.now was.cache None after) where
         pub repository_answered : (octets : List ℕ) → is_nack octets ≡ false → served i.name i.can_be_prefix was.policy.held.objects ≡ Some octets
             → IsAnswered was face (AnInterest whole i) (passed ((face, octets) ∷ [])) (record was { cache = after })
         repository_answered octets other some =
             data_answered (record was { cache = after }) (passed ((face, octets) ∷ []))
-            (where_false _ _ is_loop once (None, none.0, sym (ap (unserved (seen_by was) face whole i) some))) refl (back_follows octets other) later.living
-            (where_false _ _ is_loop once (None, none))
+            (where_false _ _ is_loop once (None, none.0, sym (ap (by_repository (seen_by was) face whole i) some))) refl (back_follows octets other) later.living
+            (looked_up None none)
 
         module _ (unheld : served i.name i.can_be_prefix was.policy.held.objects ≡ None) where
+          -- one that is dropped leaves it alone, and nothing was found for it
+          by_verdict : (new : NodeState) (v : Verdict) → (v ≡ Passed) ⊎ (v ≡ Dropped PitFull) → new.cache ≡ after
+              → CacheAfter was.policy.now was.pending (packet_use was.policy.now face (AnInterest whole i) v) was.cache new.cache
+          by_verdict new v (inl e) same =
+              subst (λ (u : Verdict). CacheAfter was.policy.now was.pending (packet_use was.policy.now face (AnInterest whole i) u) was.cache new.cache) (sym e)
+              (subst (λ (s : StoreState). CacheAfter was.policy.now was.pending (packet_use was.policy.now face (AnInterest whole i) Passed) was.cache s) (sym same) (looked_up None none))
+          by_verdict new v (inr e) same =
+              subst (λ (u : Verdict). CacheAfter was.policy.now was.pending (packet_use was.policy.now face (AnInterest whole i) u) was.cache new.cache) (sym e) (same ∙ none.1)
+
+          missed : (answer : Answer) (new : NodeState)
+              → IsForwarded (record was { cache = after }) face whole i (choice_from (record was { cache = after }) face i) answer new
+              → CacheAfter was.policy.now was.pending (packet_use was.policy.now face (AnInterest whole i) answer.verdict) was.cache new.cache
+          missed answer new h =
+              by_verdict new answer.verdict
+              (subst (λ (a : Answer). (a.verdict ≡ Passed) ⊎ (a.verdict ≡ Dropped PitFull)) (sym h.replied)
+              (strategy_passes (seen_by (record was { cache = after })) (key_of i) whole i face (choice_from (record was { cache = after }) face i))) h.cache
+
           forward_answered : (answer : Answer) (new : NodeState)
               → IsForwarded (record was { cache = after }) face whole i (choice_from (record was { cache = after }) face i) answer new
               → IsAnswered was face (AnInterest whole i) answer new
           forward_answered answer new h =
               data_answered new answer
-              (where_false _ _ is_loop once (None, none.0, h.replied ∙ sym (ap (unserved (seen_by was) face whole i) unheld))) h.policy h.pending h.alive
-              (where_false _ _ is_loop once (None, (none.0, h.cache ∙ none.1)))
+              (where_false _ _ is_loop once (None, none.0, h.replied ∙ sym (ap (by_repository (seen_by was) face whole i) unheld))) h.policy h.pending h.alive
+              (missed answer new h)
 
 -- what was sent on was handled
 pub forwards_handled : (old passed new : State) (was : NodeState) (before after : List Send) (moment face : ℕ) (whole : List ℕ) (i : PlainInterest)

@@ -3,7 +3,7 @@ use Rattle.std.proofs.Common.{◌≡◌, ℕ, Bool, true, false, List, refl, sym
 use Rattle.std.specs.Prelude.{Some, None, max, not, if◌then◌else◌}
 use Rattle.sha2.specs.Sha256.{sha256}
 use Rattle.ndn_packets.specs.FrameReading.{frame_at}
-use Rattle.ndn_packets.specs.Packet.{PlainData, PlainFrame, AnInterest, AData, ANack, Idle}
+use Rattle.ndn_packets.specs.Packet.{PlainData, PlainFrame, AData}
 use Rattle.ndn_packets.specs.declared.fault.PacketFault.{PacketFault}
 use Rattle.info_rules.specs.declared.decision.Decision.{Decision}
 use Rattle.info_rules.specs.declared.decision.Decision.TheVariants as decided
@@ -12,14 +12,17 @@ use Rattle.content_store.specs.Store.{CachedData}
 use Rattle.forwarder.specs.Event.{PlainEvent, Packet, FaceUp, FaceDown, Tick}
 use Rattle.forwarder.specs.Faces.{is_open}
 use Rattle.forwarder.specs.Event.{moment}
-use Rattle.forwarder.specs.Verdict.{Answer, DropReason, Verdict, DataAllowed, Dropped, WhereTrue, NoFace, Scope as OutOfScope, dropped}
+use Rattle.forwarder.specs.Verdict.{Answer, DropReason, DataAllowed, Dropped, WhereTrue, NoFace, Scope as OutOfScope, dropped}
 use Rattle.forwarder.specs.Policy.{Policy, at_moment}
 use Rattle.forwarder.specs.Request.{is_out_of_scope}
 use Rattle.forwarder.specs.Said.{IsSaid}
 use Rattle.forwarder.specs.Replies.{Seen, Replies, RepliesBySaid, RepliesToData, RepliesToPacket}
 use Rattle.forwarder.specs.Effects.{decided_packet, packet_to_decide}
-use Rattle.forwarder.specs.Runs.{Run, Start, Then, Brings, BringsPacket, IsRun, MayHold, MayReply, now_of, seen_after}
+use Rattle.forwarder.specs.Outcome.{outcome_of}
+use Rattle.forwarder.specs.Cache.{Inserts, cache_use}
+use Rattle.forwarder.specs.Runs.{Run, Start, Then, IsRun, MayHold, MayReply, now_of, seen_after}
 use Rattle.forwarder.specs.Allowed.{Allows, AllowedAt, AllowedIn}
+use Rattle.forwarder.proofs.Uses.{closing_inserts, read_inserts}
 
 -- the octets are of a Data that was allowed when it arrived
 abbrev pub CameAllowed : Policy → Run → CachedData → Type 0
@@ -56,54 +59,35 @@ module _ (was : Policy) (past : Run) (waiting : Pending) (face now : ℕ) (octet
           ap (λ (b : Bool). if b then packet_to_decide q face (frame_at octets) else None) open' ∙ ap (λ (r : Result PlainFrame PacketFault). packet_to_decide q face r) read ∙ heard in
           data_said whole d h.0 heard brings h.1 h.2
 
-  came : (read : Result PlainFrame PacketFault) → frame_at octets ≡ read → is_open face q.faces ≡ true → (c : CachedData) (k : ℕ) (w : Pending) → RepliesToPacket seen face read answer
-      → BringsPacket k w read answer.verdict c → (d : PlainData) × Allows was arrival (AData c.octets d) × (c.arrival ≡ k) × (c.name ≡ d.name) × (c.digest ≡ sha256 c.octets) × (c.freshness ≡ d.freshness)
-  came (Err fault) e o c k w h b = absurd b
-  came (Ok (AnInterest whole i)) e o c k w h b = absurd b
-  came (Ok (AData whole d)) e o c k w h b =
-      let allowed = data_allowed whole d e o h in
-      let is = b.2 in (
-        d,
-        subst (λ (t : List ℕ). Allows was arrival (AData t d)) (sym (ap (λ (x : CachedData). x.octets) is)) allowed,
-        ap (λ (x : CachedData). x.arrival) is,
-        ap (λ (x : CachedData). x.name) is,
-        ap (λ (x : CachedData). x.digest) is ∙ ap sha256 (sym (ap (λ (x : CachedData). x.octets) is)),
-        ap (λ (x : CachedData). x.freshness) is,
-      )
-  came (Ok (ANack reason whole i)) e o c k w h b = absurd b
-  came (Ok Idle) e o c k w h b = absurd b
-
-  came_in : (c : CachedData) (k : ℕ) (w : Pending) → Replies seen arrival answer → BringsPacket k w (frame_at octets) answer.verdict c
-      → (d : PlainData) × Allows was arrival (AData c.octets d) × (c.arrival ≡ k) × (c.name ≡ d.name) × (c.digest ≡ sha256 c.octets) × (c.freshness ≡ d.freshness)
-  came_in c k w h b = by_open (is_open face q.faces) refl h
+  came_in : (whole : List ℕ) (d : PlainData) → frame_at octets ≡ Ok (AData whole d) → Replies seen arrival answer → Allows was arrival (AData whole d)
+  came_in whole d read h = by_open (is_open face q.faces) refl h
     where
-      by_open : (o : Bool) → is_open face q.faces ≡ o → WhereTrue o (RepliesToPacket seen face (frame_at octets) answer) (answer ≡ dropped NoFace)
-          → (d : PlainData) × Allows was arrival (AData c.octets d) × (c.arrival ≡ k) × (c.name ≡ d.name) × (c.digest ≡ sha256 c.octets) × (c.freshness ≡ d.freshness)
-      by_open true e h = came (frame_at octets) refl e c k w h b
+      by_open : (o : Bool) → is_open face q.faces ≡ o → WhereTrue o (RepliesToPacket seen face (frame_at octets) answer) (answer ≡ dropped NoFace) → Allows was arrival (AData whole d)
+      by_open true e h = data_allowed whole d read e (subst (λ (r : Result PlainFrame PacketFault). RepliesToPacket seen face r answer) read h)
       by_open false e h = never NoFace h
 
--- the verdict that brings a Data
-brought_by : (now : ℕ) (w : Pending) (read : Result PlainFrame PacketFault) (v : Verdict) (c : CachedData) → BringsPacket now w read v c → (rule : ℕ) × (v ≡ DataAllowed rule)
-brought_by now w (Err fault) v c b = absurd b
-brought_by now w (Ok (AnInterest whole i)) v c b = absurd b
-brought_by now w (Ok (AData whole d)) v c b = b.0
-brought_by now w (Ok (ANack reason whole i)) v c b = absurd b
-brought_by now w (Ok Idle) v c b = absurd b
-
-event_came : (first : Policy) (before : Run) (event : PlainEvent) (answer : Answer) (c : CachedData) (now : ℕ) (w : Pending) → now ≡ max (now_of before) (moment event) → MayReply first before event answer
-    → Brings now w event answer.verdict c
+event_came : (first : Policy) (before : Run) (event : PlainEvent) (answer : Answer) (c : CachedData) (now : ℕ) → now ≡ max (now_of before) (moment event) → MayReply first before event answer
+    → cache_use now (outcome_of event answer.verdict) ≡ Inserts c
     → CameAllowed first (Then before event answer) c
-event_came first before (Packet face at octets) answer c now w is reply b =
-    let v = brought_by now w (frame_at octets) answer.verdict c b in
-    let k = came_in reply.was before reply.waiting face at octets answer v.0 v.1 c now w reply.replies b in
-    (k.0, inr (reply.was, reply.is_policy, k.1, k.2 ∙ is), k.3, k.4, k.5)
-event_came first before (FaceUp face scope at) answer c now w is reply b = absurd b
-event_came first before (FaceDown face at) answer c now w is reply b = absurd b
-event_came first before (Tick at) answer c now w is reply b = absurd b
+event_came first before (Packet face at octets) answer c now is reply used =
+    let came = read_inserts now face (frame_at octets) answer.verdict c used in
+    let whole = came.0 in
+    let d = came.1 in
+    let held = came.2 in
+    let allowed = came_in reply.was before reply.waiting face at octets answer came.4.0 came.4.1 whole d came.3 reply.replies in (
+      d,
+      subst (λ (x : CachedData). AllowedAt first (Then before (Packet face at octets) answer) (AData x.octets d) x.arrival) (sym held) (inr (reply.was, reply.is_policy, allowed, is)),
+      ap (λ (x : CachedData). x.name) held,
+      ap (λ (x : CachedData). x.digest) held ∙ ap sha256 (sym (ap (λ (x : CachedData). x.octets) held)),
+      ap (λ (x : CachedData). x.freshness) held,
+    )
+event_came first before (FaceUp face scope at) answer c now is reply used = cc used
+event_came first before (FaceDown face at) answer c now is reply used = absurd (closing_inserts now face answer.verdict c used)
+event_came first before (Tick at) answer c now is reply used = cc used
 
 pub cached_came_allowed : (first : Policy) (run : Run) (c : CachedData) → IsRun first run → MayHold run c → CameAllowed first run c
 cached_came_allowed first Start c is h = absurd h
-cached_came_allowed first (Then before event answer) c is (inl (w, waiting, b)) = event_came first before event answer c (max (now_of before) (moment event)) w refl is.1 b
+cached_came_allowed first (Then before event answer) c is (inl (used, waits)) = event_came first before event answer c (max (now_of before) (moment event)) refl is.1 used
 cached_came_allowed first (Then before event answer) c is (inr (h, stays)) =
     let k = cached_came_allowed first before c is.0 h in (k.0, inl k.1, k.2, k.3, k.4)
 

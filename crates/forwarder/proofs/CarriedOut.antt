@@ -1,5 +1,5 @@
 -- Allowed commands that were carried out.
-use Rattle.std.proofs.Common.{◌≡◌, ℕ, ◌≤◌, ◌+◌, Bool, true, false, List, [], ◌∷◌, length, arith, Option, None, Some, Result, Ok, refl, sym, ap, subst, ◌∙◌}
+use Rattle.std.proofs.Common.{◌≡◌, ℕ, ◌≤◌, ◌+◌, Bool, true, false, cond, List, [], ◌∷◌, length, arith, Option, None, Some, Result, Ok, refl, sym, ap, subst, ◌∙◌}
 use Rattle.std.specs.Prelude.{IfSome, IsSome, SomeIff, nat_lt, unwrap_or, ◌==◌, ◌||◌, if◌then◌else◌}
 use Rattle.std.proofs.lemmas.Bool.Decides.{nat_tests}
 use Rattle.std.specs.Result.{result_ok}
@@ -34,8 +34,9 @@ use Rattle.forwarder.specs.Policy.{Policy, with_next_version}
 use Rattle.forwarder.specs.Request.{ForRepository, ForTables}
 use Rattle.forwarder.specs.Said.{recorded_of}
 use Rattle.forwarder.specs.Commands.{after_repository, after_tables, fetch_sends, replied, repository_content, repository_reply, tables_reply, tables_status, with_record}
-use Rattle.forwarder.specs.Node.{NodeState, CacheAfterCommand}
-use Rattle.forwarder.specs.Verdict.{WhereTrue}
+use Rattle.pit_fib.specs.Records.{Pending}
+use Rattle.forwarder.specs.Cache.{CacheAfter, Erases, Untouched, command_use}
+use Rattle.forwarder.specs.Node.{NodeState}
 use Rattle.forwarder.specs.Commanding.{IsCommanded}
 
 module _ (was new : NodeState) (face status : ℕ) (i : PlainInterest) (content : List ℕ) where
@@ -45,14 +46,14 @@ module _ (was new : NodeState) (face status : ℕ) (i : PlainInterest) (content 
       → content ≡ tables_reply was.policy face read
       → new.policy ≡ with_record (after_tables was.policy face read) (recorded_of i)
       → new.pending ≡ was.pending
-      → CacheAfterCommand read status was.cache new.cache
+      → CacheAfter was.policy.now was.pending (command_use read status) was.cache new.cache
       → IsCommanded was face i ForTables status (replied face i content ∷ []) new
   tables_done read is answered sent policy pending cache = record {
     answered = answered ∙ ap (λ (c : Result PlainCommand ℕ). tables_status was.policy face c) (sym is);
     sent = ap (λ (o : List ℕ). replied face i o ∷ []) (sent ∙ ap (λ (c : Result PlainCommand ℕ). tables_reply was.policy face c) (sym is));
     policy = policy ∙ ap (λ (c : Result PlainCommand ℕ). with_record (after_tables was.policy face c) (recorded_of i)) (sym is);
     pending = pending;
-    cache = λ rule. subst (λ (c : Result PlainCommand ℕ). CacheAfterCommand c status was.cache new.cache) (sym is) cache;
+    cache = subst (λ (c : Result PlainCommand ℕ). CacheAfter was.policy.now was.pending (command_use c status) was.cache new.cache) (sym is) cache;
   }
 
 -- the reply to a command on the tables is no longer than its limit
@@ -96,26 +97,21 @@ after_applied p c face status routes choices is to_routes to_choices =
 same_store : (old new : StoreState) → new.cached ≡ old.cached → new.capacity ≡ old.capacity → new ≡ old
 same_store old new cached capacity = λ j. record { cached = cached j; capacity = capacity j }
 
--- the cache after a command, by its status
-pub cache_applied : (c : PlainCommand) (face status : ℕ) (up : List ℕ) (routes : Routes) (choices : Choices) (old new : StoreState)
+-- the cache after a command, by its status; an erase whatever else refuses, so its status is 200
+pub cache_applied : (now : ℕ) (waiting : Pending) (c : PlainCommand) (face status : ℕ) (up : List ℕ) (routes : Routes) (choices : Choices) (old new : StoreState)
     → status ≡ status_of c face up routes choices
     → CachedAfter c old.cached new.cached → new.capacity ≡ old.capacity
-    → CacheAfterCommand (Ok c) status old new
-cache_applied c face status up routes choices old new is cached capacity = by_status (status == OK) refl
+    → CacheAfter now waiting (command_use (Ok c) status) old new
+cache_applied now waiting c face status up routes choices old new is cached capacity = by_action c.action is cached
   where
-    -- a cache is erased whatever refuses, so its status is always 200
     by_action : (a : Action) → status ≡ first_status (refuses c face up routes choices) (row_of a).refusals
-        → CachedAfter (record c { action = a }) old.cached new.cached → status == OK ≡ false → new ≡ old
-    by_action AddNexthop s h e = same_store old new h capacity
-    by_action RemoveNexthop s h e = same_store old new h capacity
-    by_action SetStrategy s h e = same_store old new h capacity
-    by_action UnsetStrategy s h e = same_store old new h capacity
-    by_action EraseCache s h e = cc (ap (λ (n : ℕ). n == OK) s)
-
-    by_status : (b : Bool) → status == OK ≡ b
-        → WhereTrue b (CachedAfter c old.cached new.cached × (new.capacity ≡ old.capacity)) (new ≡ old)
-    by_status true e = (cached, capacity)
-    by_status false e = by_action c.action is cached e
+        → CachedAfter (record c { action = a }) old.cached new.cached → CacheAfter now waiting (command_use (Ok (record c { action = a })) status) old new
+    by_action AddNexthop s h = same_store old new h capacity
+    by_action RemoveNexthop s h = same_store old new h capacity
+    by_action SetStrategy s h = same_store old new h capacity
+    by_action UnsetStrategy s h = same_store old new h capacity
+    by_action EraseCache s h =
+        subst (λ (b : Bool). CacheAfter now waiting (cond b (Erases c.name c.count) Untouched) old new) (sym (ap (λ (n : ℕ). n == OK) s)) (h, capacity)
 
 -- a node whose tables are as before is as before
 pub with_tables : (n : NodeState) (routes : Routes) (choices : Choices) (cache : StoreState)
@@ -188,5 +184,5 @@ repository_done was new face i reply is policy pending cache = record {
   sent = ap (λ (r : RepoReply). replied face i (repository_content r) ∷ fetch_sends was.policy i.nonce r.fetch) is;
   policy = policy;
   pending = pending;
-  cache = λ rule. cache;
+  cache = cache;
 }

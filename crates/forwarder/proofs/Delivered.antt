@@ -13,7 +13,8 @@ use Rattle.pit_fib.specs.Records.{InRecord, InRecords, Records, is_alive, record
 use Rattle.content_store.specs.Store.{StoreState, with_cached}
 use Rattle.forwarder.specs.Event.{to_each}
 use Rattle.forwarder.specs.Replies.{IsSentToAskers}
-use Rattle.forwarder.specs.Node.{CacheAfterData, IsAwaited, NodeState, held_from}
+use Rattle.forwarder.specs.Cache.{CacheAfter, Inserts, IsAwaited, held_from}
+use Rattle.forwarder.specs.Node.{NodeState}
 use Rattle.forwarder.specs.Handling.{seen_by}
 use Rattle.forwarder.proofs.Members.{IsRising-filter, IsIn, IsIn-filter_from, IsIn-filter_to, any_from, any_to}
 
@@ -45,15 +46,15 @@ living_asker r alive = by_entries (entries r.in_records) refl
           ∙ ap (λ b. cond b (Some e.1) (find nat_cmp e.0 es)) (ap is_eq (tied_itself nat_cmp_total e.0))),
     )
 
-module _ (s : NodeState) (whole : List ℕ) (d : PlainData) (askers : List ℕ)
+module _ (s : NodeState) (now : ℕ) (whole : List ℕ) (d : PlainData) (askers : List ℕ)
     (all : (f : ℕ) → IsTrue (has_face f askers) ↔ WaitsFor s.pending d.name (sha256 whole) f) where
-  awaited_some : (faces : List ℕ) → askers ≡ faces → 0 < length faces → IsAwaited s.pending whole d
+  awaited_some : (faces : List ℕ) → askers ≡ faces → 0 < length faces → IsAwaited s.pending (held_from now whole d)
   awaited_some [] is some = absurd (omega (arith, some))
   awaited_some (f ∷ faces) is some =
       let waits = (all f).0 (ap (has_face f) is ∙ ap (λ b. b || has_face f faces) (eq-eqb f f refl)) in
       (waits.0, waits.1, asker_lives (records_at s.pending waits.0) f waits.2)
 
-  awaited_none : length askers ≤ 0 → ¬ IsAwaited s.pending whole d
+  awaited_none : length askers ≤ 0 → ¬ IsAwaited s.pending (held_from now whole d)
   awaited_none few (key, answered, alive) =
       let asker = living_asker (records_at s.pending key) alive in
       none_has asker.0 askers few ((all asker.0).1 (key, answered, asker.1))
@@ -95,12 +96,12 @@ module _ (s : NodeState) (whole : List ℕ) (d : PlainData) (askers : List ℕ)
 
   -- ---- what is cached
 
-  module _ (now : ℕ) (old new : StoreState) where
+  module _ (old new : StoreState) where
     pub cached : 0 < length askers → (stored : Bool) → (stored ≡ true → new ≡ with_cached old (held_from now whole d))
         → (stored ≡ false → All (λ c. Contains old.cached c) new.cached) → new.capacity ≡ old.capacity
-        → CacheAfterData now s.pending whole d old new
+        → CacheAfter now s.pending (Inserts (held_from now whole d)) old new
     cached some true ok refused same = inl (awaited_some askers refl some, inl (ok refl))
     cached some false ok refused same = inl (awaited_some askers refl some, inr (refused refl, same))
 
-    pub not_cached : length askers ≤ 0 → new ≡ old → CacheAfterData now s.pending whole d old new
+    pub not_cached : length askers ≤ 0 → new ≡ old → CacheAfter now s.pending (Inserts (held_from now whole d)) old new
     not_cached none same = inr (awaited_none none, same)

@@ -30,10 +30,9 @@ use Rattle.forwarder.specs.NextHops.{ask_from, choice_for, sent_on}
 use Rattle.forwarder.specs.Said.{IsSaid}
 use Rattle.forwarder.specs.Commands.{command_answer}
 use Rattle.forwarder.specs.Datasets.{is_present, list_answer, dataset_text, segment_answer, segment_name}
-use Rattle.forwarder.specs.Replies.{Seen, Replies, RepliesBySaid, RepliesForData, RepliesToData, RepliesToPacket, RepliesToRequest, by_cache, forwarded, nack_answer, opening_answer, unserved}
+use Rattle.forwarder.specs.Replies.{Seen, Replies, RepliesBySaid, RepliesForData, RepliesToData, RepliesToPacket, RepliesToRequest, by_content_store, by_strategy, nack_answer, opening_answer, by_repository}
 use Rattle.forwarder.specs.Effects.{IsEffect, after_said, decided_packet, packet_to_decide}
-use Rattle.forwarder.specs.Causes.{causes_of, closing_causes, packet_causes}
-use Rattle.forwarder.specs.Runs.{Brings, BringsPacket, is_denied}
+use Rattle.forwarder.specs.Runs.{is_denied}
 use Rattle.forwarder.proofs.OneEffect.{one_said}
 use Rattle.forwarder.proofs.RunSteps.{seen_with}
 
@@ -57,7 +56,7 @@ mild_list p face asked = by_version (is_present p asked.version)
     by_version true = by_part (segment_at (dataset_text p asked.kind) asked.segment)
     by_version false = refl
 
-mild_forwarded : (seen : Seen) (key : PlainKey) (whole : List ℕ) (i : PlainInterest) (face : ℕ) (choice : Choice) → Mild (forwarded seen key whole i face choice)
+mild_forwarded : (seen : Seen) (key : PlainKey) (whole : List ℕ) (i : PlainInterest) (face : ℕ) (choice : Choice) → Mild (by_strategy seen key whole i face choice)
 mild_forwarded seen key whole i face choices.NoRoute = refl
 mild_forwarded seen key whole i face (choices.Send faces) = by_full (not (is_alive (seen.records key)) && seen.is_full)
   where
@@ -65,19 +64,19 @@ mild_forwarded seen key whole i face (choices.Send faces) = by_full (not (is_ali
     by_full true = refl
     by_full false = refl
 
-mild_unserved : (seen : Seen) (face : ℕ) (whole : List ℕ) (i : PlainInterest) (object : Option (List ℕ)) → Mild (unserved seen face whole i object)
+mild_unserved : (seen : Seen) (face : ℕ) (whole : List ℕ) (i : PlainInterest) (object : Option (List ℕ)) → Mild (by_repository seen face whole i object)
 mild_unserved seen face whole i (Some octets) = refl
 mild_unserved seen face whole i None =
     mild_forwarded seen (key_of i) whole i face (choice_for seen.policy i.name (moments (seen.records (key_of i)).out_records) (ask_from seen.policy face i))
 
-mild_cache : (seen : Seen) (face : ℕ) (whole : List ℕ) (i : PlainInterest) (given : Option (List ℕ)) → Mild (by_cache seen face whole i given)
+mild_cache : (seen : Seen) (face : ℕ) (whole : List ℕ) (i : PlainInterest) (given : Option (List ℕ)) → Mild (by_content_store seen face whole i given)
 mild_cache seen face whole i (Some octets) = refl
 mild_cache seen face whole i None = mild_unserved seen face whole i (served i.name i.can_be_prefix seen.policy.held.objects)
 
 pub mild_data : (seen : Seen) (face : ℕ) (whole : List ℕ) (i : PlainInterest) (answer : Answer) → RepliesForData seen face whole i answer → Mild answer
 mild_data seen face whole i answer h = by_loop (loops (seen.records (key_of i)) face i.nonce) h
   where
-    by_loop : (b : Bool) → WhereTrue b (answer ≡ record { verdict = Dropped Loop; sends = (face, nack_text DUPLICATE whole) ∷ [] }) ((given : Option (List ℕ)) × seen.MayGive (key_of i) given × (answer ≡ by_cache seen face whole i given)) → Mild answer
+    by_loop : (b : Bool) → WhereTrue b (answer ≡ record { verdict = Dropped Loop; sends = (face, nack_text DUPLICATE whole) ∷ [] }) ((given : Option (List ℕ)) × seen.MayGive (key_of i) given × (answer ≡ by_content_store seen face whole i given)) → Mild answer
     by_loop true e = mild_is answer _ e refl
     by_loop false h = mild_is answer _ h.2 (mild_cache seen face whole i h.0)
 
@@ -177,44 +176,3 @@ module _ (p : Policy) (records : PlainKey → Records) (full : Bool) (G : PlainK
   denied_effect (FaceDown face now) h new e =
       never (mild_is answer (if is_open face p.faces then passed [] else dropped NoFace) h (mild_closing (is_open face p.faces)))
   denied_effect (Tick now) h new e = never (mild_is answer (passed []) h refl)
-
--- ---- no causes, nothing for the cache
-
-verdict_causes : (now face : ℕ) (packet : PlainFrame) (answer : Answer) (v : Verdict) → v ≡ answer.verdict → is_denied v ≡ true → packet_causes now face (Ok packet) (record answer { verdict = v }) ≡ []
-verdict_causes now face packet answer Passed e d = cc d
-verdict_causes now face packet answer (Allowed rule status) e d = refl
-verdict_causes now face packet answer (DataAllowed rule) e d = cc d
-verdict_causes now face packet answer (Denied kind rule reason) e d = refl
-verdict_causes now face packet answer (NoRule kind) e d = refl
-verdict_causes now face packet answer (Dropped reason) e d = refl
-
-closing_none : (face : ℕ) (v : Verdict) → is_denied v ≡ true → closing_causes face v ≡ []
-closing_none face Passed d = cc d
-closing_none face (Allowed rule status) d = refl
-closing_none face (DataAllowed rule) d = refl
-closing_none face (Denied kind rule reason) d = refl
-closing_none face (NoRule kind) d = refl
-closing_none face (Dropped reason) d = refl
-
-read_causes : (now face : ℕ) (read : Result PlainFrame PacketFault) (answer : Answer) → is_denied answer.verdict ≡ true → packet_causes now face read answer ≡ []
-read_causes now face (Err fault) answer d = refl
-read_causes now face (Ok packet) answer d = verdict_causes now face packet answer answer.verdict refl d
-
-pub denied_causes : (now : ℕ) (event : PlainEvent) (answer : Answer) → is_denied answer.verdict ≡ true → causes_of now event answer ≡ []
-denied_causes now (Packet face moment octets) answer d = read_causes now face (frame_at octets) answer d
-denied_causes now (FaceUp face scope moment) answer d = refl
-denied_causes now (FaceDown face moment) answer d = closing_none face answer.verdict d
-denied_causes now (Tick moment) answer d = refl
-
-read_brings : (now : ℕ) (waiting : Pending) (read : Result PlainFrame PacketFault) (v : Verdict) (c : CachedData) → is_denied v ≡ true → BringsPacket now waiting read v c → ⊥
-read_brings now waiting (Err fault) v c d b = b
-read_brings now waiting (Ok (AnInterest whole i)) v c d b = b
-read_brings now waiting (Ok (AData whole packet)) v c d b = let e : is_denied v ≡ false = ap is_denied b.0.1 in cc (d, e)
-read_brings now waiting (Ok (ANack reason whole i)) v c d b = b
-read_brings now waiting (Ok Idle) v c d b = b
-
-pub denied_brings : (now : ℕ) (waiting : Pending) (event : PlainEvent) (v : Verdict) (c : CachedData) → is_denied v ≡ true → Brings now waiting event v c → ⊥
-denied_brings now waiting (Packet face moment octets) v c d b = read_brings now waiting (frame_at octets) v c d b
-denied_brings now waiting (FaceUp face scope moment) v c d b = b
-denied_brings now waiting (FaceDown face moment) v c d b = b
-denied_brings now waiting (Tick moment) v c d b = b

@@ -35,7 +35,7 @@ use Rattle.forwarder.specs.Said.{IsSaid}
 use Rattle.forwarder.specs.Effects.{decided_packet, packet_to_decide}
 use Rattle.forwarder.specs.Commands.{repository_reply, allowed_reply, command_answer, fetch_sends, fetch_text, is_unwritable, reply_content, to_chosen}
 use Rattle.forwarder.specs.Datasets.{is_present, list_answer, dataset_text, segment_answer, segment_data, segment_name}
-use Rattle.forwarder.specs.Replies.{Seen, Replies, RepliesBySaid, RepliesForData, RepliesToData, RepliesToNack, RepliesToPacket, RepliesToRequest, by_cache, forwarded, nack_answer, opening_answer, unserved}
+use Rattle.forwarder.specs.Replies.{Seen, Replies, RepliesBySaid, RepliesForData, RepliesToData, RepliesToNack, RepliesToPacket, RepliesToRequest, by_content_store, by_strategy, nack_answer, opening_answer, by_repository}
 use Rattle.forwarder.specs.Sends.{BringsOctets, EachIsExplained, IsAtHand, IsExplained}
 use Rattle.forwarder.proofs.Contents.{begins, begins_interest, interest_is_neither, nack_is_no_data, sent_on_begins, spelled_begins}
 use Rattle.forwarder.proofs.Requests.{for_list}
@@ -126,7 +126,7 @@ module _ (seen : Seen) (face now : ℕ) (octets whole : List ℕ) (i : PlainInte
       by_version true e = part_explained asked is (segment_at (dataset_text seen.policy asked.kind) asked.segment) (ap (by_present asked) e)
       by_version false e = no_sends seen event (list_answer seen.policy face asked) NoSegment (ap (by_present asked) e)
 
-  forwarded_explained : (key : PlainKey) (choice : Choice) → EachIsExplained seen event (forwarded seen key whole i face choice)
+  forwarded_explained : (key : PlainKey) (choice : Choice) → EachIsExplained seen event (by_strategy seen key whole i face choice)
   forwarded_explained key choices.NoRoute = one_send (IsExplained seen event) (face, nack_text NO_ROUTE whole) (nack_explained seen event face NO_ROUTE whole)
   forwarded_explained key (choices.Send faces) = by_full (not (is_alive (seen.records key)) && seen.is_full)
     where
@@ -136,12 +136,12 @@ module _ (seen : Seen) (face now : ℕ) (octets whole : List ℕ) (i : PlainInte
           let on = sent_on_begins whole i.hop_limit (read_begins octets whole i fits read) in
           all_to_each (IsExplained seen event) (sent_on whole i.hop_limit) faces (λ f. inr (inr (interest_is_neither (sent_on whole i.hop_limit) on).1))
 
-  object_explained : (object : Option (List ℕ)) → served i.name i.can_be_prefix seen.policy.held.objects ≡ object → EachIsExplained seen event (unserved seen face whole i object)
+  object_explained : (object : Option (List ℕ)) → served i.name i.can_be_prefix seen.policy.held.objects ≡ object → EachIsExplained seen event (by_repository seen face whole i object)
   object_explained (Some text) e = one_send (IsExplained seen event) (face, text) (hand text (inr (inl e)))
   object_explained None e =
       forwarded_explained (key_of i) (choice_for seen.policy i.name (moments (seen.records (key_of i)).out_records) (ask_from seen.policy face i))
 
-  given_explained : (given : Option (List ℕ)) → seen.MayGive (key_of i) given → EachIsExplained seen event (by_cache seen face whole i given)
+  given_explained : (given : Option (List ℕ)) → seen.MayGive (key_of i) given → EachIsExplained seen event (by_content_store seen face whole i given)
   given_explained (Some text) h = one_send (IsExplained seen event) (face, text) (hand text (inl h))
   given_explained None h = object_explained (served i.name i.can_be_prefix seen.policy.held.objects) refl
 
@@ -149,10 +149,10 @@ module _ (seen : Seen) (face now : ℕ) (octets whole : List ℕ) (i : PlainInte
   data_explained answer h = by_loop (loops (seen.records (key_of i)) face i.nonce) h
     where
       by_loop : (b : Bool) → WhereTrue b (answer ≡ record { verdict = Dropped Loop; sends = (face, nack_text DUPLICATE whole) ∷ [] })
-          ((given : Option (List ℕ)) × seen.MayGive (key_of i) given × (answer ≡ by_cache seen face whole i given)) → EachIsExplained seen event answer
+          ((given : Option (List ℕ)) × seen.MayGive (key_of i) given × (answer ≡ by_content_store seen face whole i given)) → EachIsExplained seen event answer
       by_loop true e =
           each_is seen event answer _ e (one_send (IsExplained seen event) (face, nack_text DUPLICATE whole) (nack_explained seen event face DUPLICATE whole))
-      by_loop false h = each_is seen event answer (by_cache seen face whole i h.0) h.2 (given_explained h.0 h.1)
+      by_loop false h = each_is seen event answer (by_content_store seen face whole i h.0) h.2 (given_explained h.0 h.1)
 
   pub interest_explained : (answer : Answer) (r : Request) → request_of seen.policy face i ≡ r → RepliesToRequest seen face whole i answer r → EachIsExplained seen event answer
   interest_explained answer (Refused reason) e h = no_sends seen event answer reason h

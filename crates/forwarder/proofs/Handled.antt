@@ -17,11 +17,14 @@ use Rattle.forwarder.specs.Verdict.{WhereTrue, Answer, DropReason, Dropped, drop
 use Rattle.forwarder.specs.Policy.{Policy, at_moment}
 use Rattle.forwarder.specs.Request.{is_decided}
 use Rattle.forwarder.specs.Effects.{IsAfter, IsEffect, decided_packet, packet_to_decide}
-use Rattle.forwarder.specs.Causes.{packet_causes}
+use Rattle.forwarder.specs.Outcome.{Outcome, read_outcome}
+use Rattle.forwarder.specs.Causes.{causes_by}
+use Rattle.forwarder.specs.Cache.{CacheAfter, cache_use}
 use Rattle.forwarder.specs.Replies.{RepliesToPacket}
-use Rattle.forwarder.specs.Handling.{IsAnswered, IsHandled, IsPacketEffect}
-use Rattle.forwarder.specs.Node.{NodeState, CacheAfterPacket, FollowAll, IsStep, seen_in}
+use Rattle.forwarder.specs.Handling.{IsAnswered, IsHandled, IsPacketEffect, packet_causes, packet_use}
+use Rattle.forwarder.specs.Node.{NodeState, FollowAll, IsStep, seen_in}
 use Rattle.forwarder.specs.State.{IsLater, state_of}
+use Rattle.forwarder.proofs.Uses.{dropped_outcome}
 
 pub where_true : (A B : Type 0) (b : Bool) → b ≡ true → A → WhereTrue b A B
 where_true A B true e a = a
@@ -47,11 +50,11 @@ module _ (old was new : NodeState) (face now : ℕ) (octets : List ℕ) (answer 
         (subst (λ (c : StoreState). RepliesToPacket (seen_in p was.pending c) face (Ok packet) answer) later.cache
         (subst (λ (q : Policy). RepliesToPacket (seen_in q was.pending was.cache) face (Ok packet) answer) later.policy answered.replies))
 
-    cache_read : CacheAfterPacket p was.pending face (frame_at octets) answer.verdict old.cache new.cache
+    cache_read : CacheAfter p.now was.pending (cache_use p.now (read_outcome face (frame_at octets) answer.verdict)) old.cache new.cache
     cache_read =
-        subst (λ (r : Result PlainFrame PacketFault). CacheAfterPacket p was.pending face r answer.verdict old.cache new.cache) (sym read)
-        (subst (λ (c : StoreState). CacheAfterPacket p was.pending face (Ok packet) answer.verdict c new.cache) later.cache
-        (subst (λ (q : Policy). CacheAfterPacket q was.pending face (Ok packet) answer.verdict was.cache new.cache) later.policy answered.cache))
+        subst (λ (r : Result PlainFrame PacketFault). CacheAfter p.now was.pending (cache_use p.now (read_outcome face r answer.verdict)) old.cache new.cache) (sym read)
+        (subst (λ (c : StoreState). CacheAfter p.now was.pending (packet_use p.now face packet answer.verdict) c new.cache) later.cache
+        (subst (λ (q : Policy). CacheAfter q.now was.pending (packet_use q.now face packet answer.verdict) was.cache new.cache) later.policy answered.cache))
 
     effect_by : (b : Bool) → IsPacketEffect p face packet new.policy b → IsEffect p event new.policy (cond b (Some packet) None)
     effect_by true e = e
@@ -75,21 +78,22 @@ module _ (old was new : NodeState) (face now : ℕ) (octets : List ℕ) (answer 
       expiry = later.expiry;
       replies = where_true _ _ (is_open face old.policy.faces) is_here replies_read;
       policy = effect_read;
-      pending = subst (λ (r : Result PlainFrame PacketFault). FollowAll (packet_causes p.now face r answer) was.pending new.pending) (sym read)
-          (subst (λ (q : Policy). FollowAll (packet_causes q.now face (Ok packet) answer) was.pending new.pending) later.policy answered.pending);
+      pending = subst (λ (r : Result PlainFrame PacketFault). FollowAll (causes_by p.now answer.sends (read_outcome face r answer.verdict)) was.pending new.pending) (sym read)
+          (subst (λ (q : Policy). FollowAll (packet_causes q.now face packet answer) was.pending new.pending) later.policy answered.pending);
       alive = answered.alive;
-      cache = where_true _ _ (is_open face old.policy.faces) is_here cache_read;
+      cache = cache_read;
     }
 
 -- ---- packets that are dropped
 
 module _ (old new : NodeState) (face now : ℕ) (octets : List ℕ) (later : IsLater old now new) where
-  unread_causes : (read : Result PlainFrame PacketFault) (reason : DropReason) (n : ℕ) → packet_causes n face read (dropped reason) ≡ []
-  unread_causes (Err fault) reason n = refl
-  unread_causes (Ok packet) reason n = refl
+  same_pending : (reason : DropReason) → FollowAll (causes_by (at_moment old.policy now).now [] (read_outcome face (frame_at octets) (Dropped reason))) new.pending new.pending
+  same_pending reason = subst (λ (o : Outcome). FollowAll (causes_by (at_moment old.policy now).now [] o) new.pending new.pending) (sym (dropped_outcome face (frame_at octets) reason)) (λ key. refl)
 
-  same_pending : (reason : DropReason) → FollowAll (packet_causes (at_moment old.policy now).now face (frame_at octets) (dropped reason)) new.pending new.pending
-  same_pending reason = subst (λ causes. FollowAll causes new.pending new.pending) (sym (unread_causes (frame_at octets) reason (at_moment old.policy now).now)) (λ key. refl)
+  same_cache : (reason : DropReason) → CacheAfter (at_moment old.policy now).now new.pending (cache_use (at_moment old.policy now).now (read_outcome face (frame_at octets) (Dropped reason))) old.cache new.cache
+  same_cache reason =
+      subst (λ (o : Outcome). CacheAfter (at_moment old.policy now).now new.pending (cache_use (at_moment old.policy now).now o) old.cache new.cache)
+      (sym (dropped_outcome face (frame_at octets) reason)) later.cache
 
   abbrev q : Policy
   q = at_moment old.policy now
@@ -104,7 +108,7 @@ module _ (old new : NodeState) (face now : ℕ) (octets : List ℕ) (later : IsL
         (sym (ap (λ (b : Bool). cond b (packet_to_decide q face (frame_at octets)) None) closed)) later.policy;
     pending = same_pending NoFace;
     alive = later.living;
-    cache = where_false _ _ (is_open face old.policy.faces) closed later.cache;
+    cache = same_cache NoFace;
   }
 
   module _ (is_here : is_open face old.policy.faces ≡ true) where
@@ -125,8 +129,7 @@ module _ (old new : NodeState) (face now : ℕ) (octets : List ℕ) (later : IsL
       policy = undecided (Err fault) read refl;
       pending = same_pending (Malformed fault);
       alive = later.living;
-      cache = where_true _ _ (is_open face old.policy.faces) is_here
-          (subst (λ (r : Result PlainFrame PacketFault). CacheAfterPacket q new.pending face r (Dropped (Malformed fault)) old.cache new.cache) (sym read) later.cache);
+      cache = same_cache (Malformed fault);
     }
 
     pub idle_step : frame_at octets ≡ Ok AnIdle → IsStep old (Packet face now octets) (dropped Idle) new
@@ -139,8 +142,7 @@ module _ (old new : NodeState) (face now : ℕ) (octets : List ℕ) (later : IsL
       policy = undecided (Ok AnIdle) read refl;
       pending = same_pending Idle;
       alive = later.living;
-      cache = where_true _ _ (is_open face old.policy.faces) is_here
-          (subst (λ (r : Result PlainFrame PacketFault). CacheAfterPacket q new.pending face r (Dropped Idle) old.cache new.cache) (sym read) later.cache);
+      cache = same_cache Idle;
     }
 
 -- ---- what a handler does, as one step

@@ -31,15 +31,16 @@ use Rattle.forwarder.specs.Request.{ListAsked, Request, Refused, ForList, ForTab
 use Rattle.forwarder.specs.NextHops.{ask_from, choice_for, sent_on}
 use Rattle.forwarder.specs.Commands.{command_answer}
 use Rattle.forwarder.specs.Datasets.{dataset_text, is_present, list_answer, segment_answer, segment_name}
-use Rattle.forwarder.specs.Causes.{in_record_for, before_earlier, causes_of, interest_causes, is_answered, is_nacked, packet_causes}
-use Rattle.forwarder.specs.Replies.{Seen, Replies, RepliesForData, RepliesToPacket, RepliesToRequest, by_cache, forwarded, unserved}
+use Rattle.forwarder.specs.Causes.{in_record_for, before_earlier, causes_by, causes_of, interest_causes, is_answered, is_nacked, nack_causes}
+use Rattle.forwarder.specs.Outcome.{packet_outcome, read_outcome}
+use Rattle.forwarder.specs.Replies.{Seen, Replies, RepliesForData, RepliesToPacket, RepliesToRequest, by_content_store, by_strategy, by_repository}
 use Rattle.forwarder.specs.Runs.{Run, Then, now_of, past_causes, records_of}
 use Rattle.forwarder.specs.Sends.{BringsOctets, IsAtHand}
 use Rattle.forwarder.specs.Kept.{IsAnswered, IsKept, IsPassed, IsSentOn}
 use Rattle.forwarder.proofs.Chosen.{chosen_hop}
 use Rattle.forwarder.proofs.Contents.{interest_is_neither, none_nacked, sent_on_begins}
 use Rattle.forwarder.proofs.Explained.{read_begins}
-use Rattle.forwarder.proofs.PastRecords.{asks_of_past}
+use Rattle.pit_fib.proofs.PendingPast.{asks_of_run}
 use Rattle.forwarder.proofs.Requests.{for_list}
 
 -- ---- causes
@@ -56,8 +57,8 @@ kept_causes now event answer key face ask kept =
     let is = kept.is_passed in
     let rest = sendings (key_of i) i.nonce now answer.sends in
     ap (λ (e : PlainEvent). causes_of now e answer) is.brings
-    ∙ ap (λ (r : Result PlainFrame PacketFault). packet_causes now face r answer) is.read
-    ∙ ap (λ (v : Verdict). packet_causes now face (Ok (AnInterest kept.whole i)) (record { verdict = v; sends = answer.sends })) is.passed
+    ∙ ap (λ (r : Result PlainFrame PacketFault). causes_by now answer.sends (read_outcome face r answer.verdict)) is.read
+    ∙ ap (λ (v : Verdict). causes_by now answer.sends (packet_outcome face (AnInterest kept.whole i) v)) is.passed
     ∙ ap (λ (b : Bool). cond b (Withdrawn (key_of i) face ∷ []) (cond (is_answered face answer.sends) [] (Arrives (key_of i) face (in_record_for now kept.whole i) ∷ rest))) kept.not_nacked
     ∙ ap (λ (b : Bool). cond b [] (Arrives (key_of i) face (in_record_for now kept.whole i) ∷ rest)) kept.unanswered
     ∙ ap (λ (k : PlainKey). Arrives k face (in_record_for now kept.whole i) ∷ rest) (sym kept.is_key)
@@ -102,18 +103,21 @@ module _ (now : ℕ) (event : PlainEvent) (answer : Answer) (key : PlainKey) (fa
           }) (sent_kept (key_of i) i.nonce answer.sends)
 
   packet_kept : (from t : ℕ) (octets : List ℕ) (read : Result PlainFrame PacketFault) → event ≡ Packet from t octets → frame_at octets ≡ read → (v : Verdict) → answer.verdict ≡ v
-      → AllKept (packet_causes now from read (record { verdict = v; sends = answer.sends }))
+      → AllKept (causes_by now answer.sends (read_outcome from read v))
   packet_kept from t octets (Err fault) e r v is = All-nil IsKeptBy
   packet_kept from t octets (Ok (AnInterest whole i)) e r Passed is =
       interest_kept from whole i (record { now = t; octets = octets; brings = e; read = r; passed = is })
   packet_kept from t octets (Ok (AData whole d)) e r Passed is = All-nil IsKeptBy
   packet_kept from t octets (Ok (ANack reason whole i)) e r Passed is = nacked answer.sends
     where
-      nacked : (sends : List Send) → AllKept (packet_causes now from (Ok (ANack reason whole i)) (record { verdict = Passed; sends = sends }))
+      nacked : (sends : List Send) → AllKept (nack_causes from reason i sends)
       nacked [] = one (NackCame (key_of i) from i.nonce reason) (λ g. cc g)
       nacked (sent ∷ sends) = All-cons IsKeptBy (NackCame (key_of i) from i.nonce reason) (Removed (key_of i) ∷ []) (λ g. cc g) (one (Removed (key_of i)) (λ g. cc g))
   packet_kept from t octets (Ok Idle) e r Passed is = All-nil IsKeptBy
-  packet_kept from t octets (Ok packet) e r (Allowed rule status) is = All-nil IsKeptBy
+  packet_kept from t octets (Ok (AnInterest whole i)) e r (Allowed rule status) is = All-nil IsKeptBy
+  packet_kept from t octets (Ok (AData whole d)) e r (Allowed rule status) is = All-nil IsKeptBy
+  packet_kept from t octets (Ok (ANack reason whole i)) e r (Allowed rule status) is = All-nil IsKeptBy
+  packet_kept from t octets (Ok Idle) e r (Allowed rule status) is = All-nil IsKeptBy
   packet_kept from t octets (Ok (AnInterest whole i)) e r (DataAllowed rule) is = All-nil IsKeptBy
   packet_kept from t octets (Ok (AData whole d)) e r (DataAllowed rule) is = one _ (λ g. cc g)
   packet_kept from t octets (Ok (ANack reason whole i)) e r (DataAllowed rule) is = All-nil IsKeptBy
@@ -164,7 +168,7 @@ kept_waits past event answer key face ask kept =
     let now = max (now_of past) (moment event) in
     let earlier = Expires now ∷ past_causes past in
     let i = kept.interest in
-    asks_of_past (Then past event answer) key face
+    asks_of_run (past_causes (Then past event answer)) key face
     ∙ ap (λ (cs : List Cause). in_record_of_causes (before_earlier cs earlier) key face) (kept_causes now event answer key face ask kept)
     ∙ after_sendings (key_of i) i.nonce now answer.sends (Arrives key face ask ∷ earlier) key face
     ∙ both (same_key key key) (eqb face face) (Some ask) (in_record_of_causes earlier key face) (same_self key) (eq-eqb face face refl)
@@ -231,12 +235,12 @@ pub kept_or_waited : (past : Run) (event : PlainEvent) (answer : Answer) (key : 
 kept_or_waited past event answer key face ask e =
     let now = max (now_of past) (moment event) in
     by_causes (all_causes key face ask (IsKept now event answer key face ask) (causes_of now event answer) (Expires now ∷ past_causes past)
-    (all_kept now event answer key face ask) (sym (asks_of_past (Then past event answer) key face) ∙ e))
+    (all_kept now event answer key face ask) (sym (asks_of_run (past_causes (Then past event answer)) key face) ∙ e))
   where
     by_expiry : ((Expires (max (now_of past) (moment event)) ≡ Arrives key face ask) ⊎ (in_record_of_causes (past_causes past) key face ≡ Some ask))
         → IsKept (max (now_of past) (moment event)) event answer key face ask ⊎ (fin.get (records_of past key).in_records face ≡ Some ask)
     by_expiry (inl is) = cc is
-    by_expiry (inr was) = inr (asks_of_past past key face ∙ was)
+    by_expiry (inr was) = inr (asks_of_run (past_causes past) key face ∙ was)
 
     by_causes : (IsKept (max (now_of past) (moment event)) event answer key face ask ⊎ (in_record_of_causes (Expires (max (now_of past) (moment event)) ∷ past_causes past) key face ≡ Some ask))
         → IsKept (max (now_of past) (moment event)) event answer key face ask ⊎ (fin.get (records_of past key).in_records face ≡ Some ask)
@@ -288,7 +292,7 @@ module _ (seen : Seen) (event : PlainEvent) (answer : Answer) (face : ℕ) (whol
           let eligible = h.2 in cc (asker, eligible)
 
   on_choice : (choice : Choice) → choice_for seen.policy i.name (moments (seen.records (key_of i)).out_records) (ask_from seen.policy face i) ≡ choice
-      → answer ≡ forwarded seen (key_of i) whole i face choice → GoesOn answer.sends
+      → answer ≡ by_strategy seen (key_of i) whole i face choice → GoesOn answer.sends
   on_choice choices.NoRoute chosen e = inr (nack_text NO_ROUTE whole, ap (λ (a : Answer). a.sends) e, inl refl)
   on_choice (choices.Send faces) chosen e = by_room (not (is_alive (seen.records (key_of i))) && seen.is_full) e
     where
@@ -296,11 +300,11 @@ module _ (seen : Seen) (event : PlainEvent) (answer : Answer) (face : ℕ) (whol
       by_room true e = never (Dropped PitFull) (ap (λ (a : Answer). a.verdict) e) (λ f. cc f)
       by_room false e = inl (faces, not_asker faces chosen, ap (λ (a : Answer). a.sends) e)
 
-  on_object : (object : Option (List ℕ)) → served i.name i.can_be_prefix seen.policy.held.objects ≡ object → answer ≡ unserved seen face whole i object → GoesOn answer.sends
+  on_object : (object : Option (List ℕ)) → served i.name i.can_be_prefix seen.policy.held.objects ≡ object → answer ≡ by_repository seen face whole i object → GoesOn answer.sends
   on_object (Some octets) stored e = hand octets e (inr (inl stored))
   on_object None stored e = on_choice (choice_for seen.policy i.name (moments (seen.records (key_of i)).out_records) (ask_from seen.policy face i)) refl e
 
-  on_given : (given : Option (List ℕ)) → seen.MayGive (key_of i) given → answer ≡ by_cache seen face whole i given → GoesOn answer.sends
+  on_given : (given : Option (List ℕ)) → seen.MayGive (key_of i) given → answer ≡ by_content_store seen face whole i given → GoesOn answer.sends
   on_given (Some octets) gives e = hand octets e (inl gives)
   on_given None gives e = on_object (served i.name i.can_be_prefix seen.policy.held.objects) refl e
 
@@ -308,7 +312,7 @@ module _ (seen : Seen) (event : PlainEvent) (answer : Answer) (face : ℕ) (whol
   on_data h = by_loop (loops (seen.records (key_of i)) face i.nonce) h
     where
       by_loop : (b : Bool) → WhereTrue b (answer ≡ record { verdict = Dropped Loop; sends = (face, nack_text DUPLICATE whole) ∷ [] })
-          ((given : Option (List ℕ)) × seen.MayGive (key_of i) given × (answer ≡ by_cache seen face whole i given)) → GoesOn answer.sends
+          ((given : Option (List ℕ)) × seen.MayGive (key_of i) given × (answer ≡ by_content_store seen face whole i given)) → GoesOn answer.sends
       by_loop true e = never (Dropped Loop) (ap (λ (a : Answer). a.verdict) e) (λ f. cc f)
       by_loop false h = on_given h.0 h.1 h.2
 

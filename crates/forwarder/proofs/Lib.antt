@@ -8,6 +8,8 @@ mod Contents
 mod OneEffect
 pub mod LaterMoments
 pub mod Requests
+pub mod Uses
+pub mod PastRecords
 pub mod RunSteps
 pub mod RunCaches
 pub mod Standing
@@ -19,7 +21,6 @@ pub mod Once
 pub mod Stored
 pub mod StoredData
 pub mod CachedRuns
-pub mod PastRecords
 pub mod RunHops
 pub mod KeptInterests
 pub mod Named

@@ -9,16 +9,19 @@ use Rattle.ndn_packets.specs.Packet.{PlainInterest, AnInterest}
 use Rattle.mgmt_core.specs.Writing.{segment_at}
 use Rattle.pit_fib.specs.Cause.{Cause, Arrives, SentTo, Withdrawn}
 use Rattle.forwarder.specs.Event.{Send}
-use Rattle.forwarder.specs.Verdict.{Answer, NoSegment, dropped}
+use Rattle.forwarder.specs.Verdict.{Answer, NoSegment, Verdict, dropped}
 use Rattle.forwarder.specs.Policy.{Policy}
-use Rattle.forwarder.specs.Request.{ForList, ListAsked, Request, is_command, request_of}
+use Rattle.forwarder.specs.Request.{ForList, ListAsked, Request, is_command, list_asked, request_of}
 use Rattle.forwarder.specs.Datasets.{dataset_text, is_present, list_answer, segment_answer, segment_data, segment_name}
-use Rattle.forwarder.specs.Causes.{in_record_for, interest_causes, is_nack, packet_causes}
+use Rattle.forwarder.specs.Causes.{in_record_for, interest_causes, is_nack}
+use Rattle.forwarder.specs.Cache.{CacheAfter, CacheUse}
 use Rattle.forwarder.specs.Replies.{RepliesToRequest}
-use Rattle.forwarder.specs.Handling.{IsAnswered, IsPacketEffect, seen_by}
-use Rattle.forwarder.specs.Node.{CacheAfterRequest, FollowAll, NodeState}
+use Rattle.forwarder.specs.Handling.{IsAnswered, IsPacketEffect, packet_causes, packet_use, seen_by}
+use Rattle.forwarder.specs.Node.{FollowAll, NodeState}
 use Rattle.forwarder.specs.State.{IsLater}
 use Rattle.forwarder.proofs.Contents.{begins, data_is_no_nack}
+use Rattle.forwarder.proofs.Requests.{for_list}
+use Rattle.forwarder.proofs.Uses.{list_use}
 
 -- what goes back to the asker and is no Nack leaves the records as they are
 pub back_causes : (now face : ℕ) (whole : List ℕ) (i : PlainInterest) (octets : List ℕ) → is_nack octets ≡ false
@@ -34,19 +37,35 @@ unfolding spelling
 segment_begins name content last = refl
 
 segment_causes : (now face : ℕ) (whole : List ℕ) (i : PlainInterest) (name : List Field) (part : Option (List ℕ × ℕ))
-    → packet_causes now face (Ok (AnInterest whole i)) (segment_answer face name part) ≡ []
+    → packet_causes now face (AnInterest whole i) (segment_answer face name part) ≡ []
 segment_causes now face whole i name None = refl
 segment_causes now face whole i name (Some part) = back_causes now face whole i (segment_data name part.0 part.1) (data_is_no_nack (segment_data name part.0 part.1) (segment_begins name part.0 part.1))
 
 list_causes : (p : Policy) (now face : ℕ) (whole : List ℕ) (i : PlainInterest) (asked : ListAsked)
-    → packet_causes now face (Ok (AnInterest whole i)) (list_answer p face asked) ≡ []
+    → packet_causes now face (AnInterest whole i) (list_answer p face asked) ≡ []
 list_causes p now face whole i asked =
     let name = segment_name asked.kind p.table_number asked.segment in
     let part = segment_at (dataset_text p asked.kind) asked.segment in
-    elim (is_present p asked.version) as (λ b. packet_causes now face (Ok (AnInterest whole i)) (cond b (segment_answer face name part) (dropped NoSegment)) ≡ []) [
+    elim (is_present p asked.version) as (λ b. packet_causes now face (AnInterest whole i) (cond b (segment_answer face name part) (dropped NoSegment)) ≡ []) [
       | true ↦ segment_causes now face whole i name part
       | false ↦ refl
     ]
+
+list_cached : (was : NodeState) (face : ℕ) (whole : List ℕ) (i : PlainInterest) (asked : ListAsked) → list_asked i ≡ Some asked
+    → CacheAfter was.policy.now was.pending (packet_use was.policy.now face (AnInterest whole i) (list_answer was.policy face asked).verdict) was.cache was.cache
+list_cached was face whole i asked is =
+    let name = segment_name asked.kind was.policy.table_number asked.segment in
+    let part = segment_at (dataset_text was.policy asked.kind) asked.segment in
+    elim (is_present was.policy asked.version) as (λ b. Keeps (cond b (segment_answer face name part) (dropped NoSegment)).verdict) [
+      | true ↦ elim part as (λ o. Keeps (segment_answer face name o).verdict) [
+        | None ↦ refl
+        | Some p ↦ subst (λ (used : CacheUse). CacheAfter was.policy.now was.pending used was.cache was.cache) (sym (list_use was.policy.now face whole i asked is)) refl
+      ]
+      | false ↦ refl
+    ]
+  where
+    Keeps : Verdict → Type 0
+    Keeps v = CacheAfter was.policy.now was.pending (packet_use was.policy.now face (AnInterest whole i) v) was.cache was.cache
 
 pub list_answered : (old was : NodeState) (moment face : ℕ) (whole : List ℕ) (i : PlainInterest) (asked : ListAsked) → IsLater old moment was
     → request_of old.policy face i ≡ ForList asked → IsAnswered was face (AnInterest whole i) (list_answer was.policy face asked) was
@@ -58,7 +77,7 @@ list_answered old was moment face whole i asked later is =
       policy = subst (λ (r : Request). IsPacketEffect was.policy face (AnInterest whole i) was.policy (is_command r)) (sym request) refl;
       pending = subst (λ (causes : List Cause). FollowAll causes was.pending was.pending) (sym (list_causes was.policy was.policy.now face whole i asked)) (λ key. refl);
       alive = later.living;
-      cache = subst (λ (r : Request). CacheAfterRequest was.policy.now was.pending face i answer.verdict was.cache was.cache r) (sym request) refl;
+      cache = list_cached was face whole i asked (for_list was.policy face i asked request);
     }
 
 -- what was given for a list is the answer

@@ -29,8 +29,9 @@ use Rattle.pit_fib.proofs.PendingTables.{one_key}
 use Rattle.ndn_names.proofs.Rows.{first_of, is_less, second_of}
 use Rattle.strategies.proofs.Places.{drop_here}
 use Rattle.forwarder.specs.Event.{Send}
-use Rattle.forwarder.specs.Causes.{after_causes, nack_causes, packet_causes}
-use Rattle.forwarder.specs.Handling.{IsAnswered}
+use Rattle.forwarder.specs.Causes.{after_causes, nack_causes}
+use Rattle.forwarder.specs.Cache.{CacheAfter, CacheUse}
+use Rattle.forwarder.specs.Handling.{IsAnswered, packet_causes}
 use Rattle.forwarder.specs.NackRoom.{in_records_at, nack_room, room_for}
 use Rattle.forwarder.specs.Node.{FollowAll, NodeState}
 use Rattle.forwarder.specs.Replies.{nack_answer, nacks_to}
@@ -38,6 +39,7 @@ use Rattle.forwarder.specs.Request.{is_out_of_scope}
 use Rattle.forwarder.specs.Verdict.{Answer, Scope, dropped}
 use Rattle.forwarder.specs.declared.nack.TheConstants.{NACK_EXTRA}
 use Rattle.forwarder.proofs.ForwardSteps.{member_above}
+use Rattle.forwarder.proofs.Uses.{nack_use}
 use Rattle.forwarder.proofs.Handled.{where_false, where_true}
 
 no : {A : Type 0} → false ≡ true → A
@@ -307,13 +309,13 @@ module _ (was new : NodeState) (face reason : ℕ) (whole : List ℕ) (i : Plain
     (alive : HoldsTheLiving new.pending) where
   pub nack_answered : (answer : Answer) → is_out_of_scope was.policy face i.name ≡ false
       → answer ≡ nack_answer (in_records_at was.pending (key_of i)) (nacked_answer (records_at was.pending (key_of i)) face i.nonce reason)
-      → FollowAll (packet_causes was.policy.now face (Ok (ANack reason whole i)) answer) was.pending new.pending → IsAnswered was face (ANack reason whole i) answer new
+      → FollowAll (packet_causes was.policy.now face (ANack reason whole i) answer) was.pending new.pending → IsAnswered was face (ANack reason whole i) answer new
   nack_answered answer here is pending = record {
     replies = where_false _ _ (is_out_of_scope was.policy face i.name) here is;
     policy = policy;
     pending = pending;
     alive = alive;
-    cache = cache;
+    cache = subst (λ (used : CacheUse). CacheAfter was.policy.now was.pending used was.cache new.cache) (sym (nack_use was.policy.now face reason whole i answer.verdict)) cache;
   }
 
 pub nack_out_of_scope : (was : NodeState) (face reason : ℕ) (whole : List ℕ) (i : PlainInterest) → HoldsTheLiving was.pending → is_out_of_scope was.policy face i.name ≡ true

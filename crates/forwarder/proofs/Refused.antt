@@ -20,14 +20,16 @@ use Rattle.forwarder.specs.Policy.{Policy}
 use Rattle.forwarder.specs.Request.{Request, Refused, ForList, ForTables, ForRepository, ForData, is_command, request_named, request_of}
 use Rattle.forwarder.specs.Said.{IsSaid, recorded_of}
 use Rattle.forwarder.specs.Commands.{after_request, allowed_reply, command_answer, denial_text, refused_content, replied, with_record}
-use Rattle.forwarder.specs.Commanding.{IsCarriedOut, IsCommanded}
-use Rattle.forwarder.specs.Causes.{packet_causes}
+use Rattle.mgmt_core.specs.Reading.{command_at}
+use Rattle.forwarder.specs.Commanding.{IsCarriedOut, IsCommanded, request_use}
+use Rattle.forwarder.specs.Cache.{CacheAfter, CacheUse, command_use}
 use Rattle.forwarder.specs.Effects.{after_said}
 use Rattle.forwarder.specs.Replies.{RepliesToCommand, RepliesToRequest}
-use Rattle.forwarder.specs.Handling.{IsAnswered, IsHandled, IsPacketEffect, seen_by}
-use Rattle.forwarder.specs.Node.{CacheAfterRequest, FollowAll, NodeState, Unharmed}
+use Rattle.forwarder.specs.Handling.{IsAnswered, IsHandled, IsPacketEffect, packet_causes, packet_use, seen_by}
+use Rattle.forwarder.specs.Node.{FollowAll, NodeState, Unharmed}
 use Rattle.forwarder.specs.State.{IsLater, policy_of, state_of}
 use Rattle.forwarder.proofs.Answered.{unharmed}
+use Rattle.forwarder.proofs.Uses.{commanded_use}
 
 -- what is said of a command at this moment
 abbrev pub SaysAt : Policy → ℕ → List ℕ → PlainInterest → Decision → Type 0
@@ -78,7 +80,7 @@ module _ (was new : NodeState) (face : ℕ) (whole : List ℕ) (i : PlainInteres
   replies_by answer h ForRepository e = h
   replies_by answer h ForData e = absurd cc
 
-  no_causes : (said : Decision) (now : ℕ) → packet_causes now face (Ok (AnInterest whole i)) (command_answer was.policy face i said) ≡ []
+  no_causes : (said : Decision) (now : ℕ) → packet_causes now face (AnInterest whole i) (command_answer was.policy face i said) ≡ []
   no_causes (decided.Allowed rule) now = refl
   no_causes (decided.Denied rule reason) now = refl
   no_causes decided.NoRule now = refl
@@ -86,15 +88,15 @@ module _ (was new : NodeState) (face : ℕ) (whole : List ℕ) (i : PlainInteres
   -- a command of which this is said
   command_answered : (said : Decision) (answer : Answer) → command_answer was.policy face i said ≡ answer → IsSaid was.policy (AnInterest whole i) said
       → new.policy ≡ after_said was.policy face (AnInterest whole i) said → new.pending ≡ was.pending
-      → CacheAfterRequest was.policy.now was.pending face i answer.verdict was.cache new.cache request → IsAnswered was face (AnInterest whole i) answer new
+      → CacheAfter was.policy.now was.pending (packet_use was.policy.now face (AnInterest whole i) answer.verdict) was.cache new.cache → IsAnswered was face (AnInterest whole i) answer new
   command_answered said answer given says policy pending cache = record {
     replies = subst (λ (r : Request). RepliesToRequest (seen_by was) face whole i answer r) (sym is) (replies_by answer (said, says, sym given) request command);
     policy = subst (λ (b : Bool). IsPacketEffect was.policy face (AnInterest whole i) new.policy b) (sym (ap is_command is ∙ command)) (said, says, policy);
     pending = subst (λ (causes : List Cause). FollowAll causes was.pending new.pending)
-        (sym (no_causes said was.policy.now) ∙ ap (λ (a : Answer). packet_causes was.policy.now face (Ok (AnInterest whole i)) a) given)
+        (sym (no_causes said was.policy.now) ∙ ap (λ (a : Answer). packet_causes was.policy.now face (AnInterest whole i) a) given)
         (λ key. ap (λ (p : Pending). records_at p key) pending);
     alive = subst HoldsTheLiving (sym pending) living;
-    cache = subst (λ (r : Request). CacheAfterRequest was.policy.now was.pending face i answer.verdict was.cache new.cache r) (sym is) cache;
+    cache = cache;
   }
 
   allowed_answered : (rule : RuleNo) (status : ℕ) (sends : List Send) → IsSaid was.policy (AnInterest whole i) (decided.Allowed rule)
@@ -102,46 +104,32 @@ module _ (was new : NodeState) (face : ℕ) (whole : List ℕ) (i : PlainInteres
       → IsAnswered was face (AnInterest whole i) (record { verdict = Allowed rule.0 status; sends = sends }) new
   allowed_answered rule status sends says done =
       let answered = ap (λ (r : Request). (allowed_reply was.policy face i r).status) is ∙ sym done.answered in
+      let used : request_use i status request ≡ command_use (command_at i.name) status =
+      ap (λ (r : Request). request_use i status r) (sym is) ∙ commanded_use was.policy face status i (ap is_command is ∙ command) in
       let sent = ap (λ (r : Request). replied face i (allowed_reply was.policy face i r).content ∷ (allowed_reply was.policy face i r).fetches) is ∙ sym done.sent in
       command_answered (decided.Allowed rule) (record { verdict = Allowed rule.0 status; sends = sends })
       (λ j. record { verdict = Allowed rule.0 (answered j); sends = sent j }) says
       (done.policy ∙ ap (λ (r : Request). with_record (after_request was.policy face i r) (recorded_of i)) (sym is))
-      done.pending (done.cache rule.0)
+      done.pending (subst (λ (used : CacheUse). CacheAfter was.policy.now was.pending used was.cache new.cache) used done.cache)
 
 -- ---- refusals
 
 module _ (was : NodeState) (face : ℕ) (whole : List ℕ) (i : PlainInterest) (request : Request) (is : request_of was.policy face i ≡ request)
     (command : is_command request ≡ true) (living : HoldsTheLiving was.pending) where
-  denied_cache : (rule : ℕ) (reason : Reason) (r : Request) → is_command r ≡ true
-      → CacheAfterRequest was.policy.now was.pending face i (Denied kinds.Interest rule reason) was.cache was.cache r
-  denied_cache rule reason (Refused dropped) e = absurd cc
-  denied_cache rule reason (ForList asked) e = absurd cc
-  denied_cache rule reason ForTables e = refl
-  denied_cache rule reason ForRepository e = refl
-  denied_cache rule reason ForData e = absurd cc
-
-  no_rule_cache : (r : Request) → is_command r ≡ true
-      → CacheAfterRequest was.policy.now was.pending face i (NoRule kinds.Interest) was.cache was.cache r
-  no_rule_cache (Refused dropped) e = absurd cc
-  no_rule_cache (ForList asked) e = absurd cc
-  no_rule_cache ForTables e = refl
-  no_rule_cache ForRepository e = refl
-  no_rule_cache ForData e = absurd cc
-
   command_denied : (rule : RuleNo) (reason : Reason) (text : List ℕ) → text ≡ denial_text was.policy rule.0 reason
       → IsSaid was.policy (AnInterest whole i) (decided.Denied rule reason)
       → IsAnswered was face (AnInterest whole i) (record { verdict = Denied kinds.Interest rule.0 reason; sends = replied face i (refused_content request text) ∷ [] }) was
   command_denied rule reason text written says =
       let same = ap (λ (r : Request). refused_content r (denial_text was.policy rule.0 reason)) is ∙ ap (refused_content request) (sym written) in
       command_answered was was face whole i request is command living (decided.Denied rule reason) _
-      (λ j. record { verdict = Denied kinds.Interest rule.0 reason; sends = replied face i (same j) ∷ [] }) says refl refl (denied_cache rule.0 reason request command)
+      (λ j. record { verdict = Denied kinds.Interest rule.0 reason; sends = replied face i (same j) ∷ [] }) says refl refl refl
 
   command_by_no_rule : IsSaid was.policy (AnInterest whole i) decided.NoRule
       → IsAnswered was face (AnInterest whole i) (record { verdict = NoRule kinds.Interest; sends = replied face i (refused_content request (codes "no rule")) ∷ [] }) was
   command_by_no_rule says =
       let same = ap (λ (r : Request). refused_content r (codes "no rule")) is in
       command_answered was was face whole i request is command living decided.NoRule _
-      (λ j. record { verdict = NoRule kinds.Interest; sends = replied face i (same j) ∷ [] }) says refl refl (no_rule_cache request command)
+      (λ j. record { verdict = NoRule kinds.Interest; sends = replied face i (same j) ∷ [] }) says refl refl refl
 
 -- ---- what a handler does
 

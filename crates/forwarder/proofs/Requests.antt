@@ -55,6 +55,22 @@ for_list p face i asked =
     by_request p face i (λ r. r ≡ ForList asked → list_asked i ≡ Some asked) (λ reason e. cc e)
     (λ other is e. let same : other ≡ asked = cc e in is ∙ ap (λ (a : ListAsked). Some a) same) (λ e. cc e) (λ other e. cc e) (λ other e. cc e)
 
+-- an Interest for Data asks for no list
+pub for_data : (p : Policy) (face : ℕ) (i : PlainInterest) → request_of p face i ≡ ForData → list_asked i ≡ None
+for_data p face i is = by_list (list_asked i) refl
+  where
+    by_list : (asked : Option ListAsked) → list_asked i ≡ asked → asked ≡ None
+    by_list None e = refl
+    by_list (Some asked) e = absurd (by_hops (has_no_hops i.hop_limit) (is_out_of_scope p face i.name) (ap (λ (o : Option ListAsked). request_by o) (sym e) ∙ is))
+      where
+        request_by : Option ListAsked → Request
+        request_by o = if has_no_hops i.hop_limit then Refused HopLimit else (if is_out_of_scope p face i.name then Refused Scope else named_request p i o)
+
+        by_hops : (a b : Bool) → (if a then Refused HopLimit else (if b then Refused Scope else ForList asked)) ≡ ForData → ⊥
+        by_hops true b f = cc f
+        by_hops false true f = cc f
+        by_hops false false f = cc f
+
 -- ---- names that are commands on the tables begin with /localhost/nfd
 
 begins_take : (a b : List Field) (n : ℕ) → begins_with a (take n b) ≡ true → begins_with a b ≡ true

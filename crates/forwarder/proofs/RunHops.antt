@@ -32,7 +32,7 @@ use Rattle.mgmt_core.specs.Tables.{face_of, routes_after}
 use Rattle.mgmt_core.specs.Writing.{segment_at}
 use Rattle.forwarder.specs.Event.{PlainEvent, Packet, FaceUp, FaceDown, Tick, moment}
 use Rattle.forwarder.specs.Faces.{is_open, with_face, without_entry}
-use Rattle.forwarder.specs.Verdict.{Answer, Verdict, Allowed, Dropped, WhereTrue, NoFace, NoSegment, dropped, passed}
+use Rattle.forwarder.specs.Verdict.{Answer, Verdict, Passed, Allowed, DataAllowed, Denied, NoRule, Dropped, WhereTrue, NoFace, NoSegment, dropped, passed}
 use Rattle.forwarder.specs.Policy.{Policy, at_moment, with_next_version}
 use Rattle.forwarder.specs.Request.{ListAsked, Request, ForTables, ForRepository, is_command, is_out_of_scope, management, request_of}
 use Rattle.forwarder.specs.Said.{recorded_of}
@@ -41,12 +41,14 @@ use Rattle.forwarder.specs.Datasets.{dataset_text, is_present, list_answer, segm
 use Rattle.forwarder.specs.Replies.{Seen, Replies, RepliesToPacket, RepliesToRequest}
 use Rattle.forwarder.specs.Effects.{IsEffect, after_said, can_open, decided_packet, packet_to_decide}
 use Rattle.forwarder.specs.Runs.{Run, Start, Then, IsPolicyOf, IsRun, MayCache, seen_after}
-use Rattle.forwarder.specs.Hops.{cost_after, cost_after_closing, cost_after_command, cost_after_packet, cost_of, is_done}
+use Rattle.forwarder.specs.Hops.{cost_after, cost_after_command, cost_of}
+use Rattle.forwarder.specs.Outcome.{Outcome, closing_outcome, outcome_of, packet_outcome, read_outcome}
 use Rattle.forwarder.proofs.Histories.{one_history, one_policy}
 use Rattle.forwarder.proofs.LaterMoments.{policy_keys}
 use Rattle.forwarder.proofs.OneEffect.{one_said}
 use Rattle.forwarder.proofs.Requests.{by_request, no_command}
 use Rattle.forwarder.proofs.RunSteps.{seen_with}
+use Rattle.forwarder.proofs.Uses.{dropped_outcome}
 
 -- ---- one change of the routes
 
@@ -137,6 +139,49 @@ module _ (name : List Field) (face : ℕ) where
   record_routes p None = refl
   record_routes p (Some r) = refl
 
+  -- an allowed command of status 200
+  is_done : Verdict → Bool
+  is_done Passed = false
+  is_done (Allowed rule status) = status == OK
+  is_done (DataAllowed rule) = false
+  is_done (Denied kind rule reason) = false
+  is_done (NoRule kind) = false
+  is_done (Dropped reason) = false
+
+  -- a command changes the cost where it is done, and no other packet does
+  command_cost : (from : ℕ) (whole : List ℕ) (i : PlainInterest) (v : Verdict) (x : Option ℕ)
+      → cond (is_done v) (cost_after_command (command_at i.name) from name face x) x ≡ cost_after (packet_outcome from (AnInterest whole i) v) name face x
+  command_cost from whole i Passed x = refl
+  command_cost from whole i (Allowed rule status) x = refl
+  command_cost from whole i (DataAllowed rule) x = refl
+  command_cost from whole i (Denied kind rule reason) x = refl
+  command_cost from whole i (NoRule kind) x = refl
+  command_cost from whole i (Dropped reason) x = refl
+
+  data_cost : (from : ℕ) (whole : List ℕ) (d : PlainData) (v : Verdict) (x : Option ℕ) → x ≡ cost_after (packet_outcome from (AData whole d) v) name face x
+  data_cost from whole d Passed x = refl
+  data_cost from whole d (Allowed rule status) x = refl
+  data_cost from whole d (DataAllowed rule) x = refl
+  data_cost from whole d (Denied kind rule reason) x = refl
+  data_cost from whole d (NoRule kind) x = refl
+  data_cost from whole d (Dropped reason) x = refl
+
+  nack_cost : (from reason : ℕ) (whole : List ℕ) (i : PlainInterest) (v : Verdict) (x : Option ℕ) → x ≡ cost_after (packet_outcome from (ANack reason whole i) v) name face x
+  nack_cost from reason whole i Passed x = refl
+  nack_cost from reason whole i (Allowed rule status) x = refl
+  nack_cost from reason whole i (DataAllowed rule) x = refl
+  nack_cost from reason whole i (Denied kind rule why) x = refl
+  nack_cost from reason whole i (NoRule kind) x = refl
+  nack_cost from reason whole i (Dropped why) x = refl
+
+  idle_cost : (from : ℕ) (v : Verdict) (x : Option ℕ) → x ≡ cost_after (packet_outcome from Idle v) name face x
+  idle_cost from Passed x = refl
+  idle_cost from (Allowed rule status) x = refl
+  idle_cost from (DataAllowed rule) x = refl
+  idle_cost from (Denied kind rule reason) x = refl
+  idle_cost from (NoRule kind) x = refl
+  idle_cost from (Dropped reason) x = refl
+
   module _ (q new : Policy) (records : PlainKey → Records) (full : Bool) (G : PlainKey → Option (List ℕ) → Type 0) (apart : AreApart q.keys) (answer : Answer) where
     abbrev seen : Seen
     seen = seen_with q records full G
@@ -211,33 +256,26 @@ module _ (name : List Field) (face : ℕ) where
     data_said from whole d decided.NoRule e = no_change e
 
     packet_read : (from now : ℕ) (octets : List ℕ) (read : Result PlainFrame PacketFault) → RepliesToPacket seen from read answer → IsEffect q (Packet from now octets) new (packet_to_decide q from read)
-        → cost_in new.routes name face ≡ cost_after_packet read answer.verdict from name face was
+        → cost_in new.routes name face ≡ cost_after (read_outcome from read answer.verdict) name face was
     packet_read from now octets (Err fault) h e = no_change e
-    packet_read from now octets (Ok (AnInterest whole i)) h e = interest_read from now octets whole i h e
-    packet_read from now octets (Ok (AData whole d)) h e = by_scope (is_out_of_scope q from d.name) e
+    packet_read from now octets (Ok (AnInterest whole i)) h e = interest_read from now octets whole i h e ∙ command_cost from whole i answer.verdict was
+    packet_read from now octets (Ok (AData whole d)) h e = by_scope (is_out_of_scope q from d.name) e ∙ data_cost from whole d answer.verdict was
       where
         by_scope : (b : Bool) → IsEffect q (Packet from now octets) new (cond (not b) (Some (AData whole d)) None) → cost_in new.routes name face ≡ was
         by_scope true e = no_change e
         by_scope false e = data_said from whole d e.0 e.2
-    packet_read from now octets (Ok (ANack reason whole i)) h e = no_change e
-    packet_read from now octets (Ok Idle) h e = no_change e
+    packet_read from now octets (Ok (ANack reason whole i)) h e = no_change e ∙ nack_cost from reason whole i answer.verdict was
+    packet_read from now octets (Ok Idle) h e = no_change e ∙ idle_cost from answer.verdict was
 
-    -- on a face that is not open no command is done
-    unheard : (from : ℕ) (read : Result PlainFrame PacketFault) → was ≡ cost_after_packet read (Dropped NoFace) from name face was
-    unheard from (Err fault) = refl
-    unheard from (Ok (AnInterest whole i)) = refl
-    unheard from (Ok (AData whole d)) = refl
-    unheard from (Ok (ANack reason whole i)) = refl
-    unheard from (Ok Idle) = refl
-
-    event_read : (event : PlainEvent) → Replies seen event answer → IsEffect q event new (decided_packet q event) → cost_in new.routes name face ≡ cost_after event answer.verdict name face was
+    event_read : (event : PlainEvent) → Replies seen event answer → IsEffect q event new (decided_packet q event) → cost_in new.routes name face ≡ cost_after (outcome_of event answer.verdict) name face was
     event_read (Packet from now octets) h e = by_open (is_open from q.faces) h e
       where
         by_open : (b : Bool) → WhereTrue b (RepliesToPacket seen from (frame_at octets) answer) (answer ≡ dropped NoFace)
-            → IsEffect q (Packet from now octets) new (cond b (packet_to_decide q from (frame_at octets)) None) → cost_in new.routes name face ≡ cost_after_packet (frame_at octets) answer.verdict from name face was
+            → IsEffect q (Packet from now octets) new (cond b (packet_to_decide q from (frame_at octets)) None) → cost_in new.routes name face ≡ cost_after (read_outcome from (frame_at octets) answer.verdict) name face was
         by_open true h e = packet_read from now octets (frame_at octets) h e
         by_open false h e =
-            no_change e ∙ unheard from (frame_at octets) ∙ ap (λ (x : Answer). cost_after_packet (frame_at octets) x.verdict from name face was) (sym h)
+            no_change e ∙ ap (λ (o : Outcome). cost_after o name face was) (sym (dropped_outcome from (frame_at octets) NoFace))
+            ∙ ap (λ (x : Answer). cost_after (read_outcome from (frame_at octets) x.verdict) name face was) (sym h)
     event_read (FaceUp opened scope now) h e = by_open (can_open q opened) e
       where
         by_open : (b : Bool) → new ≡ cond b (record q { faces = with_face opened scope q.faces }) q → cost_in new.routes name face ≡ was
@@ -247,9 +285,9 @@ module _ (name : List Field) (face : ℕ) where
       where
         by_open : (b : Bool) → answer ≡ cond b (passed []) (dropped NoFace)
             → new ≡ cond b (with_next_version (record q { faces = without_entry down q.faces; routes = without_face q.routes down })) q
-            → cost_in new.routes name face ≡ cost_after_closing answer.verdict down face was
-        by_open true h e = ap (λ (p : Policy). cost_in p.routes name face) e ∙ closed q.routes name down face ∙ ap (λ (x : Answer). cost_after_closing x.verdict down face was) (sym h)
-        by_open false h e = no_change e ∙ ap (λ (x : Answer). cost_after_closing x.verdict down face was) (sym h)
+            → cost_in new.routes name face ≡ cost_after (closing_outcome down answer.verdict) name face was
+        by_open true h e = ap (λ (p : Policy). cost_in p.routes name face) e ∙ closed q.routes name down face ∙ ap (λ (x : Answer). cost_after (closing_outcome down x.verdict) name face was) (sym h)
+        by_open false h e = no_change e ∙ ap (λ (x : Answer). cost_after (closing_outcome down x.verdict) name face was) (sym h)
     event_read (Tick now) h e = no_change e
 
   -- ---- runs
@@ -263,4 +301,4 @@ module _ (name : List Field) (face : ℕ) where
       let one : reply.was ≡ was = one_policy first reply.was was before before apart (one_history before) reply.is_policy w in
       let replies = subst (λ (x : Policy). Replies (seen_after before (at_moment x (moment event)) reply.waiting) event answer) one reply.replies in
       event_read q p (records_at reply.waiting) (nat_le MAX_PENDING (map.len reply.waiting)) (MayCache before q.now) (subst AreApart (sym (policy_keys first before was w)) apart) answer event replies after
-      ∙ ap (λ (x : Option ℕ). cost_after event answer.verdict name face x) (routes_read first was before apart none is w)
+      ∙ ap (λ (x : Option ℕ). cost_after (outcome_of event answer.verdict) name face x) (routes_read first was before apart none is w)

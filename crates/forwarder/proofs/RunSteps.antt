@@ -23,6 +23,7 @@ use Rattle.forwarder.specs.Causes.{causes_of, after_causes}
 use Rattle.forwarder.specs.Node.{NodeState, IsStep}
 use Rattle.forwarder.specs.Runs.{Run, Then, IsWaiting, MayCache, MayHold, MayReply, Stands, now_of, records_of}
 use Rattle.forwarder.proofs.LaterMoments.{policy_now}
+use Rattle.forwarder.proofs.PastRecords.{records_then}
 
 either_map : (b : Bool) {A B C D : Type 0} → (A → C) → (B → D) → WhereTrue b A B → WhereTrue b C D
 either_map true f g h = f h
@@ -105,3 +106,4 @@ module _ (first : Policy) (past : Run) (old new : NodeState) (event : PlainEvent
       let now = max (now_of past) (moment event) in
       subst (λ (n : ℕ). records_at new.pending key ≡ after_causes (causes_of n event answer) key (records_at step.waiting key)) now_is (step.pending key)
       ∙ ap (λ (r : Records). after_causes (causes_of now event answer) key r) (is_waiting.records key)
+      ∙ records_then past event answer key

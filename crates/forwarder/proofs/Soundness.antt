@@ -34,10 +34,12 @@ use Rattle.forwarder.specs.Request.{Request, Refused, ForList, ForTables, ForRep
 use Rattle.forwarder.specs.Said.{recorded_of}
 use Rattle.forwarder.specs.Commands.{command_answer, after_request, after_tables, with_record}
 use Rattle.forwarder.specs.Effects.{after_packet, after_said, can_open, decided_packet, IsEffect}
-use Rattle.forwarder.specs.Causes.{after_causes, in_record_for, closing_causes, interest_causes, is_answered, is_nacked, nack_causes, packet_causes}
+use Rattle.forwarder.specs.Causes.{after_causes, causes_by, in_record_for, interest_causes, is_answered, is_nacked, nack_causes}
+use Rattle.forwarder.specs.Outcome.{closing_outcome, packet_outcome, read_outcome}
+use Rattle.forwarder.specs.Handling.{packet_causes}
 use Rattle.forwarder.specs.NextHops.{ask_from, choice_for, sent_on}
 use Rattle.forwarder.specs.Datasets.{dataset_text, is_present, list_answer, segment_answer, segment_name}
-use Rattle.forwarder.specs.Replies.{Seen, RepliesToPacket, RepliesToRequest, by_cache, forwarded, unserved}
+use Rattle.forwarder.specs.Replies.{Seen, RepliesToPacket, RepliesToRequest, by_content_store, by_strategy, by_repository}
 use Rattle.forwarder.specs.Node.{NodeState, FollowAll, IsStep, seen_in}
 use Rattle.forwarder.specs.State.{IsSound}
 use Rattle.forwarder.proofs.Chosen.{chosen_up}
@@ -118,7 +120,7 @@ abbrev PassesTo : (ℕ → Type 0) → Answer → Type 0
 PassesTo P answer = answer.verdict ≡ Passed → SendsTo P answer.sends
 
 abbrev AreAdded : (ℕ → Type 0) → ℕ → ℕ → PlainFrame → Verdict → List Send → Type 0
-AreAdded P now face packet verdict sends = AddOnly P (packet_causes now face (Ok packet) (record { verdict = verdict; sends = sends }))
+AreAdded P now face packet verdict sends = AddOnly P (causes_by now sends (packet_outcome face packet verdict))
 
 of_interest : (P : ℕ → Type 0) (now face : ℕ) (whole : List ℕ) (i : PlainInterest) (verdict : Verdict) (sends : List Send) → P face
     → (verdict ≡ Passed → SendsTo P sends) → AreAdded P now face (AnInterest whole i) verdict sends
@@ -155,7 +157,7 @@ of_idle P now face (NoRule kind) sends = tt
 of_idle P now face (Dropped why) sends = tt
 
 of_packet : (P : ℕ → Type 0) (now face : ℕ) (packet : PlainFrame) (answer : Answer) → P face → PassesTo P answer
-    → AddOnly P (packet_causes now face (Ok packet) answer)
+    → AddOnly P (packet_causes now face packet answer)
 of_packet P now face (AnInterest whole i) answer asker all = of_interest P now face whole i answer.verdict answer.sends asker all
 of_packet P now face (AData whole d) answer asker all = of_data P now face whole d answer.verdict answer.sends
 of_packet P now face (ANack reason whole i) answer asker all = of_nack P now face reason whole i answer.verdict answer.sends
@@ -214,22 +216,22 @@ module _ (seen : Seen) (P : ℕ → Type 0) (face : ℕ) (asker : P face) (whole
 
   forwarded_passes : (choice : Choice) (answer : Answer)
       → choice_for seen.policy i.name (moments (seen.records (key_of i)).out_records) (ask_from seen.policy face i) ≡ choice
-      → answer ≡ forwarded seen (key_of i) whole i face choice → PassesTo P answer
+      → answer ≡ by_strategy seen (key_of i) whole i face choice → PassesTo P answer
   forwarded_passes choices.NoRoute answer chosen is = back seen P face asker _ answer is
   forwarded_passes (choices.Send faces) answer chosen is =
       sent_passes (not (is_alive (seen.records (key_of i))) && seen.is_full) faces (sent_on whole i.hop_limit) answer (λ f has. chosen_are faces f chosen has) is
 
-  unserved_passes : (o : Option (List ℕ)) (answer : Answer) → answer ≡ unserved seen face whole i o → PassesTo P answer
+  unserved_passes : (o : Option (List ℕ)) (answer : Answer) → answer ≡ by_repository seen face whole i o → PassesTo P answer
   unserved_passes (Some octets) answer is = back seen P face asker octets answer is
   unserved_passes None answer is = forwarded_passes _ answer refl is
 
-  cache_passes : (o : Option (List ℕ)) (answer : Answer) → answer ≡ by_cache seen face whole i o → PassesTo P answer
+  cache_passes : (o : Option (List ℕ)) (answer : Answer) → answer ≡ by_content_store seen face whole i o → PassesTo P answer
   cache_passes (Some octets) answer is = back seen P face asker octets answer is
   cache_passes None answer is = unserved_passes (served i.name i.can_be_prefix seen.policy.held.objects) answer is
 
   data_passes : (b : Bool) (answer : Answer)
       → WhereTrue b (answer ≡ record { verdict = Dropped Loop; sends = (face, nack_text DUPLICATE whole) ∷ [] })
-      ((given : Option (List ℕ)) × seen.MayGive (key_of i) given × (answer ≡ by_cache seen face whole i given)) → PassesTo P answer
+      ((given : Option (List ℕ)) × seen.MayGive (key_of i) given × (answer ≡ by_content_store seen face whole i given)) → PassesTo P answer
   data_passes true answer is e = absurd (never (sym (ap (λ (a : Answer). a.verdict) is) ∙ e))
     where
       never : Dropped Loop ≡ Passed → ⊥
@@ -373,7 +375,7 @@ module _ (old new : NodeState) (sound : IsSound old) where
         ∙ chosen_up p (open_faces p) i.name (moments (records_at step.waiting (key_of i)).out_records) (ask_from p face i) faces f sound.routes chosen has
 
     frame_adds : (read : Result PlainFrame PacketFault) → Open face → RepliesToPacket (seen_in p step.waiting old.cache) face read answer
-        → AddOnly Open (packet_causes p.now face read answer)
+        → AddOnly Open (causes_by p.now answer.sends (read_outcome face read answer.verdict))
     frame_adds (Err fault) here replies = tt
     frame_adds (Ok (AnInterest whole i)) here replies =
         of_packet Open p.now face (AnInterest whole i) answer here
@@ -383,21 +385,21 @@ module _ (old new : NodeState) (sound : IsSound old) where
     frame_adds (Ok Idle) here replies = of_idle Open p.now face answer.verdict answer.sends
 
     none_added : (read : Result PlainFrame PacketFault) (verdict : Verdict) (sends : List Send) → verdict ≡ Dropped NoFace
-        → AddOnly Open (packet_causes p.now face read (record { verdict = verdict; sends = sends }))
+        → AddOnly Open (causes_by p.now sends (read_outcome face read verdict))
     none_added (Err fault) verdict sends is = tt
     none_added (Ok packet) verdict sends is =
-        subst (λ (v : Verdict). AddOnly Open (packet_causes p.now face (Ok packet) (record { verdict = v; sends = sends }))) (sym is) tt
+        subst (λ (v : Verdict). AddOnly Open (causes_by p.now sends (packet_outcome face packet v))) (sym is) tt
 
     adds : (b : Bool) → is_open face old.policy.faces ≡ b
         → WhereTrue b (RepliesToPacket (seen_in p step.waiting old.cache) face (frame_at octets) answer) (answer ≡ dropped NoFace)
-        → AddOnly Open (packet_causes p.now face (frame_at octets) answer)
+        → AddOnly Open (causes_by p.now answer.sends (read_outcome face (frame_at octets) answer.verdict))
     adds true here replies = frame_adds (frame_at octets) here replies
     adds false closed is = none_added (frame_at octets) answer.verdict answer.sends (ap (λ (a : Answer). a.verdict) is)
 
     packet_sound : IsSound new
     packet_sound =
         same_faces keeps
-        (follows_within Open (packet_causes p.now face (frame_at octets) answer) step.waiting new.pending
+        (follows_within Open (causes_by p.now answer.sends (read_outcome face (frame_at octets) answer.verdict)) step.waiting new.pending
         (adds (is_open face old.policy.faces) refl step.replies) step.pending (waits_open p.now step.waiting step.expiry))
 
   tick_sound : (now : ℕ) (answer : Answer) → IsStep old (Tick now) answer new → IsSound new
@@ -466,11 +468,11 @@ module _ (old new : NodeState) (sound : IsSound old) where
     down_sound : IsSound new
     down_sound =
         elim (is_open face old.policy.faces) as (λ b. answer ≡ cond b (passed []) (dropped NoFace)
-        → FollowAll (closing_causes face answer.verdict) step.waiting new.pending
+        → FollowAll (causes_by at_closing.now answer.sends (closing_outcome face answer.verdict)) step.waiting new.pending
         → new.policy ≡ cond b (with_next_version (record at_closing { faces = without_entry face old.policy.faces; routes = without_face old.policy.routes face })) at_closing
         → IsSound new) [
-          | true ↦ λ is follows policy. closed (subst (λ (v : Verdict). FollowAll (closing_causes face v) step.waiting new.pending) (ap (λ (a : Answer). a.verdict) is) follows) policy
-          | false ↦ λ is follows policy. not_open (subst (λ (v : Verdict). FollowAll (closing_causes face v) step.waiting new.pending) (ap (λ (a : Answer). a.verdict) is) follows) policy
+          | true ↦ λ is follows policy. closed (subst (λ (v : Verdict). FollowAll (causes_by at_closing.now answer.sends (closing_outcome face v)) step.waiting new.pending) (ap (λ (a : Answer). a.verdict) is) follows) policy
+          | false ↦ λ is follows policy. not_open (subst (λ (v : Verdict). FollowAll (causes_by at_closing.now answer.sends (closing_outcome face v)) step.waiting new.pending) (ap (λ (a : Answer). a.verdict) is) follows) policy
         ] step.replies step.pending step.policy
 
 pub step_sound : (old new : NodeState) (event : PlainEvent) (answer : Answer) → IsSound old → IsStep old event answer new → IsSound new

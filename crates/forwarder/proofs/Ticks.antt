@@ -5,7 +5,7 @@ use Rattle.std.specs.FinMap as map
 use Rattle.hmac_keys.specs.KeyFile.{AreApart}
 use Rattle.ndn_packets.specs.Key.{PlainKey}
 use Rattle.pit_fib.specs.declared.pit.TheConstants.{MAX_PENDING}
-use Rattle.pit_fib.specs.Cause.{Cause, Expires, records_after}
+use Rattle.pit_fib.specs.Cause.{Expires, records_after}
 use Rattle.pit_fib.specs.Records.{Records, Pending, records_at}
 use Rattle.content_store.specs.Store.{CachedData}
 use Rattle.forwarder.specs.Event.{PlainEvent, Tick}
@@ -14,11 +14,15 @@ use Rattle.forwarder.specs.Verdict.{Answer, passed}
 use Rattle.forwarder.specs.Policy.{Policy, at_moment}
 use Rattle.forwarder.specs.Effects.{IsAfter}
 use Rattle.forwarder.specs.Replies.{Replies}
-use Rattle.forwarder.specs.Causes.{causes_of, after_causes}
-use Rattle.forwarder.specs.Runs.{Run, Start, Then, Brings, ErasesData, HasTicksFor, IsPolicyOf, IsRun, IsWaiting, MayCache, MayHold, MayReply, is_denied, now_of, records_of, seen_after}
+use Rattle.forwarder.specs.Causes.{after_causes, causes_by}
+use Rattle.forwarder.specs.Outcome.{Outcome, outcome_of}
+use Rattle.forwarder.specs.Cache.{TakesAway, cache_use}
+use Rattle.forwarder.specs.Runs.{Run, Start, Then, HasTicksFor, IsPolicyOf, IsRun, IsWaiting, MayCache, MayHold, MayReply, is_denied, now_of, records_of, seen_after}
 use Rattle.forwarder.proofs.LaterMoments.{policy_keys}
 use Rattle.forwarder.proofs.Histories.{one_history, one_policy}
-use Rattle.forwarder.proofs.Denials.{denied_brings, denied_causes, denied_effect}
+use Rattle.forwarder.proofs.Denials.{denied_effect}
+use Rattle.forwarder.proofs.PastRecords.{next_records, records_then}
+use Rattle.forwarder.proofs.Uses.{denied_outcome}
 use Rattle.forwarder.proofs.RunSteps.{more_replies}
 
 now_ticks : (past other : Run) → HasTicksFor past other → now_of other ≡ now_of past
@@ -32,13 +36,9 @@ now_ticks (Then before event answer) (Then other another reply) (t, inr (d, e, a
     let n = now_ticks before other t in
     ap (λ (k : ℕ). max k (moment another)) n ∙ ap (λ (x : PlainEvent). max (now_of before) (moment x)) e
 
--- the records of a key after one event
-abbrev next_records : ℕ → PlainEvent → Answer → PlainKey → Records → Records
-next_records now event answer key r = after_causes (causes_of now event answer) key (records_after (Expires now) key r)
-
 idle_records : (now : ℕ) (event : PlainEvent) (answer : Answer) (key : PlainKey) (r : Records) → is_denied answer.verdict ≡ true
     → next_records now event answer key r ≡ records_after (Expires now) key r
-idle_records now event answer key r d = ap (λ (causes : List Cause). after_causes causes key (records_after (Expires now) key r)) (denied_causes now event answer d)
+idle_records now event answer key r d = ap (λ (o : Outcome). after_causes (causes_by now answer.sends o) key (records_after (Expires now) key r)) (denied_outcome event answer.verdict d)
 
 records_ticks : (past other : Run) → HasTicksFor past other → (key : PlainKey) → records_of other key ≡ records_of past key
 records_ticks Start Start t key = refl
@@ -47,17 +47,21 @@ records_ticks (Then before event answer) Start t key = absurd t
 records_ticks (Then before event answer) (Then other another reply) (t, inl (e, a)) key =
     let n = now_ticks before other t in
     let r = records_ticks before other t key in
-    ap (λ (k : ℕ). next_records (max k (moment another)) another reply key (records_of other key)) n
+    sym (records_then other another reply key)
+    ∙ ap (λ (k : ℕ). next_records (max k (moment another)) another reply key (records_of other key)) n
     ∙ ap (λ (q : Records). next_records (max (now_of before) (moment another)) another reply key q) r
     ∙ ap (λ (x : PlainEvent). next_records (max (now_of before) (moment x)) x reply key (records_of before key)) e
     ∙ ap (λ (x : Answer). next_records (max (now_of before) (moment event)) event x key (records_of before key)) a
+    ∙ records_then before event answer key
 records_ticks (Then before event answer) (Then other another reply) (t, inr (d, e, a)) key =
     let n = now_ticks before other t in
     let r = records_ticks before other t key in
-    ap (λ (k : ℕ). next_records (max k (moment another)) another reply key (records_of other key)) n
+    sym (records_then other another reply key)
+    ∙ ap (λ (k : ℕ). next_records (max k (moment another)) another reply key (records_of other key)) n
     ∙ ap (λ (q : Records). next_records (max (now_of before) (moment another)) another reply key q) r
     ∙ ap (λ (x : PlainEvent). next_records (max (now_of before) (moment x)) x reply key (records_of before key)) e
     ∙ sym (idle_records (max (now_of before) (moment event)) event answer key (records_of before key) d)
+    ∙ records_then before event answer key
 
 -- who waits is the same, at the same moment
 waiting_ticks : (past other : Run) → HasTicksFor past other → (now : ℕ) (waiting : Pending) → IsWaiting past now waiting → IsWaiting other now waiting
@@ -70,18 +74,22 @@ held_ticks : (past other : Run) → HasTicksFor past other → (c : CachedData) 
 held_ticks Start Start t c h = absurd h
 held_ticks Start (Then other another reply) t c h = absurd t
 held_ticks (Then before event answer) Start t c h = absurd t
-held_ticks (Then before event answer) (Then other another reply) (t, inl (e, a)) c (inl (waiting, w, brings)) =
+held_ticks (Then before event answer) (Then other another reply) (t, inl (e, a)) c (inl (used, (waiting, w, awaited))) =
     let now = max (now_of before) (moment event) in
     let n : max (now_of other) (moment event) ≡ now = ap (λ (k : ℕ). max k (moment event)) (now_ticks before other t) in
     let v = waiting_ticks before other t now waiting w in
     subst (λ (x : PlainEvent). MayHold (Then other x reply) c) (sym e) (subst (λ (x : Answer). MayHold (Then other event x) c) (sym a)
-    (inl (waiting, subst (λ (k : ℕ). IsWaiting other k waiting) (sym n) v, subst (λ (k : ℕ). Brings k waiting event answer.verdict c) (sym n) brings)))
+    (inl (ap (λ (k : ℕ). cache_use k (outcome_of event answer.verdict)) n ∙ used, (waiting, subst (λ (k : ℕ). IsWaiting other k waiting) (sym n) v, awaited))))
 held_ticks (Then before event answer) (Then other another reply) (t, inl (e, a)) c (inr (h, stays)) =
-    subst (λ (x : PlainEvent). MayHold (Then other x reply) c) (sym e) (subst (λ (x : Answer). MayHold (Then other event x) c) (sym a) (inr (held_ticks before other t c h, stays)))
-held_ticks (Then before event answer) (Then other another reply) (t, inr (d, e, a)) c (inl (waiting, w, brings)) =
-    absurd (denied_brings (max (now_of before) (moment event)) waiting event answer.verdict c d brings)
+    let now = max (now_of before) (moment event) in
+    let n : max (now_of other) (moment event) ≡ now = ap (λ (k : ℕ). max k (moment event)) (now_ticks before other t) in
+    subst (λ (x : PlainEvent). MayHold (Then other x reply) c) (sym e) (subst (λ (x : Answer). MayHold (Then other event x) c) (sym a)
+    (inr (held_ticks before other t c h, subst (λ (k : ℕ). ¬ TakesAway (cache_use k (outcome_of event answer.verdict)) c) (sym n) stays)))
+held_ticks (Then before event answer) (Then other another reply) (t, inr (d, e, a)) c (inl (used, waits)) =
+    let now = max (now_of before) (moment event) in
+    let none = ap (cache_use now) (denied_outcome event answer.verdict d) in cc (used, none)
 held_ticks (Then before event answer) (Then other another reply) (t, inr (d, e, a)) c (inr (h, stays)) =
-    inr (held_ticks before other t c h, subst (λ (x : PlainEvent). ¬ ErasesData x reply.verdict c) (sym e) (λ x. x))
+    subst (λ (x : PlainEvent). MayHold (Then other x reply) c) (sym e) (inr (held_ticks before other t c h, λ takes. takes))
 
 -- what a denied event leaves is what its moment leaves
 denied_after : (first : Policy) (before : Run) (event : PlainEvent) (answer : Answer) (was p : Policy) → AreApart first.keys → MayReply first before event answer

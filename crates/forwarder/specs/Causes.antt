@@ -10,8 +10,9 @@ use Rattle.ndn_packets.specs.Packet.{PlainInterest, PlainFrame, AnInterest, ADat
 use Rattle.ndn_packets.specs.declared.fault.PacketFault.{PacketFault}
 use Rattle.pit_fib.specs.Cause.{Cause, Arrives, SentTo, Satisfied, NackCame, Withdrawn, Removed, Closed, records_after}
 use Rattle.pit_fib.specs.Records.{InRecord, Records}
-use Rattle.forwarder.specs.Event.{PlainEvent, Packet, FaceUp, FaceDown, Tick, Send}
-use Rattle.forwarder.specs.Verdict.{Verdict, Passed, Allowed, DataAllowed, Denied, NoRule, Dropped, Answer}
+use Rattle.forwarder.specs.Event.{PlainEvent, Send}
+use Rattle.forwarder.specs.Outcome.{Outcome, Nothing, InterestPassed, CommandAllowed, DataCame, NackPassed, FaceClosed, outcome_of}
+use Rattle.forwarder.specs.Verdict.{Answer}
 
 -- a moment and a period after it, which stops at the last moment
 abbrev pub deadline : ℕ → ℕ → ℕ
@@ -60,45 +61,19 @@ nack_causes face reason i sends =
     NackCame (key_of i) face i.nonce reason
     ∷ (if is_nil sends then [] else Removed (key_of i) ∷ [])
 
-abbrev pub passed_causes : ℕ → ℕ → PlainFrame → List Send → List Cause
-passed_causes now face (AnInterest whole i) sends = interest_causes now face whole i sends
-passed_causes now face (AData whole d) sends = []
-passed_causes now face (ANack reason whole i) sends = nack_causes face reason i sends
-passed_causes now face Idle sends = []
-
--- all that an allowed Data answers was answered, sent or not
-abbrev pub data_causes : PlainFrame → List Cause
-data_causes (AnInterest whole i) = []
-data_causes (AData whole d) = Satisfied d.name (sha256 whole) ∷ []
-data_causes (ANack reason whole i) = []
-data_causes Idle = []
-
-abbrev pub packet_causes : ℕ → ℕ → Result PlainFrame PacketFault → Answer → List Cause
-packet_causes now face (Err fault) answer = []
-packet_causes now face (Ok packet) answer = elim answer.verdict [
-  | Passed ↦ passed_causes now face packet answer.sends
-  | Allowed rule status ↦ []
-  | DataAllowed rule ↦ data_causes packet
-  | Denied kind rule reason ↦ []
-  | NoRule kind ↦ []
-  | Dropped reason ↦ []
-]
-
-abbrev pub closing_causes : ℕ → Verdict → List Cause
-closing_causes face Passed = Closed face ∷ []
-closing_causes face (Allowed rule status) = []
-closing_causes face (DataAllowed rule) = []
-closing_causes face (Denied kind rule reason) = []
-closing_causes face (NoRule kind) = []
-closing_causes face (Dropped reason) = []
+-- All that an allowed Data answers was answered, sent or not.
+abbrev pub causes_by : ℕ → List Send → Outcome → List Cause
+causes_by now sends Nothing = []
+causes_by now sends (InterestPassed face whole i) = interest_causes now face whole i sends
+causes_by now sends (CommandAllowed face i status) = []
+causes_by now sends (DataCame whole d) = Satisfied d.name (sha256 whole) ∷ []
+causes_by now sends (NackPassed face reason i) = nack_causes face reason i sends
+causes_by now sends (FaceClosed face) = Closed face ∷ []
 
 -- the causes of an event and its answer in their order, at this moment, where what was due has
 -- expired
 abbrev pub causes_of : ℕ → PlainEvent → Answer → List Cause
-causes_of now (Packet face t octets) answer = packet_causes now face (frame_at octets) answer
-causes_of now (FaceUp face scope t) answer = []
-causes_of now (FaceDown face t) answer = closing_causes face answer.verdict
-causes_of now (Tick t) answer = []
+causes_of now event answer = causes_by now answer.sends (outcome_of event answer.verdict)
 
 -- the records of a key after these causes, in their order
 abbrev pub after_causes : List Cause → PlainKey → Records → Records

@@ -4,12 +4,21 @@ use Rattle.std.specs.Prelude.{◌≡◌, ◌∷◌, ◌++◌, ℕ, List}
 use Rattle.ndn_packets.specs.Packet.{PlainInterest}
 use Rattle.forwarder.specs.declared.state.State.{State}
 use Rattle.forwarder.specs.Event.{Send}
-use Rattle.forwarder.specs.Verdict.{Allowed}
-use Rattle.forwarder.specs.Request.{Request}
+use Rattle.mgmt_core.specs.Reading.{command_at}
+use Rattle.forwarder.specs.Cache.{CacheAfter, CacheUse, Untouched, command_use}
+use Rattle.forwarder.specs.Request.{Request, Refused, ForList, ForTables, ForRepository, ForData}
 use Rattle.forwarder.specs.Said.{recorded_of}
 use Rattle.forwarder.specs.Commands.{after_request, allowed_reply, replied, with_record}
-use Rattle.forwarder.specs.Node.{NodeState, CacheAfterRequest}
+use Rattle.forwarder.specs.Node.{NodeState}
 use Rattle.forwarder.specs.State.{IsLater, state_of}
+
+-- what an allowed command asks the cache for: one on the repository nothing
+abbrev pub request_use : PlainInterest → ℕ → Request → CacheUse
+request_use i status (Refused reason) = Untouched
+request_use i status (ForList asked) = Untouched
+request_use i status ForTables = command_use (command_at i.name) status
+request_use i status ForRepository = Untouched
+request_use i status ForData = Untouched
 
 -- an allowed command that is this request was answered and had its effect, at whose moment the node
 -- was this
@@ -21,9 +30,8 @@ pub record IsCommanded (was : NodeState) (face : ℕ) (i : PlainInterest) (reque
       ∷ (allowed_reply was.policy face i request).fetches
   pub policy : new.policy ≡ with_record (after_request was.policy face i request) (recorded_of i)
   pub pending : new.pending ≡ was.pending
-  pub cache : (rule : ℕ)
-      → CacheAfterRequest was.policy.now was.pending face i (Allowed rule status)
-      was.cache new.cache request
+  pub cache : CacheAfter was.policy.now was.pending (request_use i status request)
+      was.cache new.cache
 
 -- the sends stand after the earlier ones
 abbrev pub IsCarriedOut : State → State → List Send → List Send → ℕ → ℕ → PlainInterest → Request

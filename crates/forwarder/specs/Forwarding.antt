@@ -1,6 +1,6 @@
 -- How an Interest is sent on that nothing held answers (NFD Developer's Guide, "Outgoing Interest
 -- Pipeline").
-use Rattle.std.specs.Prelude.{◌≡◌, ◌++◌, ℕ, List, Ok}
+use Rattle.std.specs.Prelude.{◌≡◌, ◌++◌, ℕ, List}
 use Rattle.ndn_packets.specs.Key.{key_of}
 use Rattle.ndn_packets.specs.Packet.{PlainInterest, AnInterest}
 use Rattle.pit_fib.specs.Pit.{moments}
@@ -10,10 +10,9 @@ use Rattle.forwarder.specs.declared.state.State.{State}
 use Rattle.forwarder.specs.declared.verdict.Verdict as code
 use Rattle.forwarder.specs.Event.{Send}
 use Rattle.forwarder.specs.Verdict.{Answer, verdict_of}
-use Rattle.forwarder.specs.Causes.{packet_causes}
-use Rattle.forwarder.specs.Handling.{seen_by}
+use Rattle.forwarder.specs.Handling.{packet_causes, seen_by}
 use Rattle.forwarder.specs.NextHops.{ask_from, choice_for}
-use Rattle.forwarder.specs.Replies.{forwarded}
+use Rattle.forwarder.specs.Replies.{by_strategy}
 use Rattle.forwarder.specs.Node.{FollowAll, NodeState}
 use Rattle.forwarder.specs.State.{state_of}
 
@@ -26,8 +25,8 @@ choice_from s face i =
 -- an Interest was sent on by this choice
 pub record IsForwarded (was : NodeState) (face : ℕ) (whole : List ℕ) (i : PlainInterest)
     (choice : Choice) (answer : Answer) (new : NodeState) : Type 0 where
-  pub replied : answer ≡ forwarded (seen_by was) (key_of i) whole i face choice
-  pub pending : FollowAll (packet_causes was.policy.now face (Ok (AnInterest whole i)) answer)
+  pub replied : answer ≡ by_strategy (seen_by was) (key_of i) whole i face choice
+  pub pending : FollowAll (packet_causes was.policy.now face (AnInterest whole i) answer)
       was.pending new.pending
   pub alive : HoldsTheLiving new.pending
   pub policy : new.policy ≡ was.policy

@@ -7,20 +7,23 @@ use Rattle.ndn_packets.specs.View.{plain_data, plain_interest}
 use Rattle.ndn_packets.specs.declared.data.Data.{Data}
 use Rattle.ndn_packets.specs.declared.interest.Interest.{Interest}
 use Rattle.info_rules.specs.declared.decision.Decision.{Decision}
+use Rattle.pit_fib.specs.Cause.{Cause}
 use Rattle.pit_fib.specs.Records.{HoldsTheLiving}
 use Rattle.repo_core.specs.Objects.{AreObjects}
 use Rattle.forwarder.specs.declared.state.State.{State}
 use Rattle.forwarder.specs.declared.verdict.Verdict as code
 use Rattle.forwarder.specs.Event.{Send}
 use Rattle.forwarder.specs.Faces.{is_open}
-use Rattle.forwarder.specs.Verdict.{Answer, verdict_of}
+use Rattle.forwarder.specs.Verdict.{Answer, Verdict, verdict_of}
 use Rattle.forwarder.specs.Policy.{Policy}
 use Rattle.forwarder.specs.Request.{is_decided}
 use Rattle.forwarder.specs.Said.{IsSaid}
 use Rattle.forwarder.specs.Effects.{after_said}
-use Rattle.forwarder.specs.Causes.{packet_causes}
+use Rattle.forwarder.specs.Outcome.{packet_outcome}
+use Rattle.forwarder.specs.Causes.{causes_by}
+use Rattle.forwarder.specs.Cache.{CacheAfter, CacheUse, cache_use}
 use Rattle.forwarder.specs.Replies.{Seen, RepliesToPacket}
-use Rattle.forwarder.specs.Node.{NodeState, CacheAfterPacket, FollowAll, Unharmed, seen_in}
+use Rattle.forwarder.specs.Node.{NodeState, FollowAll, Unharmed, seen_in}
 use Rattle.forwarder.specs.State.{IsLater, IsSound, state_of}
 
 -- what a packet changes, by whether rules decide it
@@ -32,17 +35,25 @@ IsPacketEffect p face packet new false = new ≡ p
 abbrev pub seen_by : NodeState → Seen
 seen_by s = seen_in s.policy s.pending s.cache
 
+-- what a packet and its answer do to records, and ask the cache for
+abbrev pub packet_causes : ℕ → ℕ → PlainFrame → Answer → List Cause
+packet_causes now face packet answer =
+    causes_by now answer.sends (packet_outcome face packet answer.verdict)
+
+abbrev pub packet_use : ℕ → ℕ → PlainFrame → Verdict → CacheUse
+packet_use now face packet verdict = cache_use now (packet_outcome face packet verdict)
+
 -- a packet was answered and had its effect, at whose moment the node was this
 pub record IsAnswered (was : NodeState) (face : ℕ) (packet : PlainFrame) (answer : Answer)
     (new : NodeState) : Type 0 where
   pub replies : RepliesToPacket (seen_by was) face (Ok packet) answer
   pub policy : IsPacketEffect was.policy face packet new.policy
       (is_decided was.policy face packet)
-  pub pending : FollowAll (packet_causes was.policy.now face (Ok packet) answer)
+  pub pending : FollowAll (packet_causes was.policy.now face packet answer)
       was.pending new.pending
   pub alive : HoldsTheLiving new.pending
-  pub cache : CacheAfterPacket was.policy was.pending face (Ok packet) answer.verdict
-      was.cache new.cache
+  pub cache : CacheAfter was.policy.now was.pending
+      (packet_use was.policy.now face packet answer.verdict) was.cache new.cache
 
 -- the sends stand after the earlier ones
 abbrev pub IsHandled : State → State → List Send → List Send → ℕ → ℕ → PlainFrame → code.Verdict

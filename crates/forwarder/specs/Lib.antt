@@ -11,7 +11,9 @@ pub mod Commands
 pub mod Datasets
 pub mod Replies
 pub mod Effects
+pub mod Outcome
 pub mod Causes
+pub mod Cache
 pub mod Node
 pub mod Runs
 pub mod Sends

@@ -43,43 +43,56 @@ pub record Seen : Type 1 where
   -- the cache may give these octets for an Interest of this key, or nothing
   pub MayGive : PlainKey → Option (List ℕ) → Type 0
 
--- ---- Interests for Data
+-- ---- Interests for Data, pipeline by pipeline
 
--- An Interest that nothing held answers: back to its face where no next hop may get it; not
--- forwarded where its key would be one too many; else to the chosen faces.
-abbrev pub forwarded : Seen → PlainKey → List ℕ → PlainInterest → ℕ → Choice → Answer
-forwarded seen key whole i face choices.NoRoute =
-    passed ((face, nack_text NO_ROUTE whole) ∷ [])
-forwarded seen key whole i face (choices.Send faces) =
+-- Interest Loop: a Nack goes back
+abbrev pub interest_loop : ℕ → List ℕ → Answer
+interest_loop face whole = record {
+  verdict = Dropped Loop;
+  sends = (face, nack_text DUPLICATE whole) ∷ [];
+}
+
+-- Content Store Hit: what is held goes back
+abbrev pub content_store_hit : ℕ → List ℕ → Answer
+content_store_hit face octets = passed ((face, octets) ∷ [])
+
+-- Outgoing Interest: to each of these faces, or not at all where its key would be one too many
+abbrev pub outgoing_interest : Seen → PlainKey → List ℕ → PlainInterest → List ℕ → Answer
+outgoing_interest seen key whole i faces =
     if not (is_alive (seen.records key)) && seen.is_full then dropped PitFull
     else passed (to_each faces (sent_on whole i.hop_limit))
 
--- the repository answers, or a face is asked; MustBeFresh does not bind the repository
-abbrev pub unserved : Seen → ℕ → List ℕ → PlainInterest → Option (List ℕ) → Answer
-unserved seen face whole i (Some octets) = passed ((face, octets) ∷ [])
-unserved seen face whole i None =
-    forwarded seen (key_of i) whole i face
+-- Interest Reject: a Nack goes back where no next hop may get the Interest
+abbrev pub interest_reject : ℕ → List ℕ → Answer
+interest_reject face whole = passed ((face, nack_text NO_ROUTE whole) ∷ [])
+
+abbrev pub by_strategy : Seen → PlainKey → List ℕ → PlainInterest → ℕ → Choice → Answer
+by_strategy seen key whole i face choices.NoRoute = interest_reject face whole
+by_strategy seen key whole i face (choices.Send faces) = outgoing_interest seen key whole i faces
+
+-- what the repository stores goes back too; MustBeFresh does not bind it
+abbrev pub by_repository : Seen → ℕ → List ℕ → PlainInterest → Option (List ℕ) → Answer
+by_repository seen face whole i (Some octets) = content_store_hit face octets
+by_repository seen face whole i None =
+    by_strategy seen (key_of i) whole i face
     (choice_for seen.policy i.name (moments (seen.records (key_of i)).out_records)
     (ask_from seen.policy face i))
 
-abbrev pub without_cache : Seen → ℕ → List ℕ → PlainInterest → Answer
-without_cache seen face whole i =
-    unserved seen face whole i (served i.name i.can_be_prefix seen.policy.held.objects)
+-- Content Store Miss: the repository answers, or the strategy chooses
+abbrev pub content_store_miss : Seen → ℕ → List ℕ → PlainInterest → Answer
+content_store_miss seen face whole i =
+    by_repository seen face whole i (served i.name i.can_be_prefix seen.policy.held.objects)
 
-abbrev pub by_cache : Seen → ℕ → List ℕ → PlainInterest → Option (List ℕ) → Answer
-by_cache seen face whole i (Some octets) = passed ((face, octets) ∷ [])
-by_cache seen face whole i None = without_cache seen face whole i
+abbrev pub by_content_store : Seen → ℕ → List ℕ → PlainInterest → Option (List ℕ) → Answer
+by_content_store seen face whole i (Some octets) = content_store_hit face octets
+by_content_store seen face whole i None = content_store_miss seen face whole i
 
--- A loop is answered by a Nack; else the cache answers, or the repository, or a face is asked.
+-- Incoming Interest: one that loops asks no content store
 abbrev pub RepliesForData : Seen → ℕ → List ℕ → PlainInterest → Answer → Type 0
 RepliesForData seen face whole i answer =
-    WhereTrue (loops (seen.records (key_of i)) face i.nonce)
-    (answer ≡ record {
-      verdict = Dropped Loop;
-      sends = (face, nack_text DUPLICATE whole) ∷ [];
-    })
+    WhereTrue (loops (seen.records (key_of i)) face i.nonce) (answer ≡ interest_loop face whole)
     ((given : Option (List ℕ)) × seen.MayGive (key_of i) given
-    × (answer ≡ by_cache seen face whole i given))
+    × (answer ≡ by_content_store seen face whole i given))
 
 -- ---- each kind of packet
 

@@ -3,27 +3,25 @@
 use Rattle.std.specs.Prelude.{◌≡◌, ◌⊎◌, ℕ, Bool, true, false, List, [], ◌∷◌, Option, None, Some, All, Result, Ok, Err, max, nat_le, ⊤}
 use Rattle.std.specs.FinMap as map
 use Rattle.hmac_keys.specs.KeyFile.{AreApart}
-use Rattle.ndn_names.specs.Name.{IsPrefix}
 use Rattle.ndn_packets.specs.FrameReading.{frame_at}
 use Rattle.ndn_packets.specs.Key.{PlainKey}
 use Rattle.ndn_packets.specs.Packet.{PlainFrame, AnInterest, AData, ANack, Idle}
 use Rattle.ndn_packets.specs.declared.fault.PacketFault.{PacketFault}
 use Rattle.pit_fib.specs.declared.pit.TheConstants.{MAX_PENDING}
 use Rattle.pit_fib.specs.Cause.{Cause, Expires, records_after}
-use Rattle.pit_fib.specs.Records.{Records, Pending, HoldsTheLiving, no_records, records_at}
-use Rattle.content_store.specs.Store.{CachedData, CanServe, full_name_of}
-use Rattle.mgmt_core.specs.declared.action.Action.TheVariants.{EraseCache}
-use Rattle.mgmt_core.specs.declared.types.TheConstants.{OK}
-use Rattle.mgmt_core.specs.Reading.{PlainCommand, command_at}
-use Rattle.forwarder.specs.Event.{PlainEvent, Packet, FaceUp, FaceDown, Tick}
-use Rattle.forwarder.specs.Event.{moment}
+use Rattle.pit_fib.specs.Past.{records_of as records_after_all}
+use Rattle.pit_fib.specs.Records.{Records, Pending, HoldsTheLiving, records_at}
+use Rattle.content_store.specs.Store.{CachedData, CanServe}
+use Rattle.forwarder.specs.Event.{PlainEvent, Packet, FaceUp, FaceDown, Tick, moment}
 use Rattle.forwarder.specs.Verdict.{Verdict, Passed, Allowed, DataAllowed, Denied, NoRule, Dropped, Answer, passed}
 use Rattle.forwarder.specs.Policy.{Policy, at_moment}
 use Rattle.forwarder.specs.Request.{Request, Refused, ForList, ForTables, ForRepository, ForData, request_of}
 use Rattle.forwarder.specs.Effects.{IsAfter}
-use Rattle.forwarder.specs.Causes.{causes_of, after_causes, before_earlier}
+use Rattle.forwarder.specs.Outcome.{outcome_of}
+use Rattle.forwarder.specs.Causes.{causes_of, before_earlier}
+use Rattle.forwarder.specs.Cache.{Inserts, IsAwaited, TakesAway, cache_use}
 use Rattle.forwarder.specs.Replies.{Seen, Replies}
-use Rattle.forwarder.specs.Node.{NodeState, IsAwaited, held_from}
+use Rattle.forwarder.specs.Node.{NodeState}
 
 -- a run: nothing, or a run and then an event with its answer. An event that was refused memory is
 -- in none.
@@ -49,14 +47,6 @@ KeysAreApart first (Then before event answer) = KeysAreApart first before
 
 -- ---- pending Interests (NFD Developer's Guide, "Pending Interest Table")
 
--- the records of a key: of each event what is due expires first, and then it has its causes
-abbrev pub records_of : Run → PlainKey → Records
-records_of Start key = no_records
-records_of (Then before event answer) key =
-    let now = max (now_of before) (moment event) in
-    after_causes (causes_of now event answer) key
-    (records_after (Expires now) key (records_of before key))
-
 -- all that ended or began records in a run, the last first: of each event what is due expires, and
 -- then its own causes follow
 abbrev pub past_causes : Run → List Cause
@@ -64,6 +54,10 @@ past_causes Start = []
 past_causes (Then before event answer) =
     let now = max (now_of before) (moment event) in
     before_earlier (causes_of now event answer) (Expires now ∷ past_causes before)
+
+-- the records of a key after all of these
+abbrev pub records_of : Run → PlainKey → Records
+records_of past key = records_after_all (past_causes past) key
 
 -- the keys that are alive after a run, with their records, once this moment has come
 pub record IsWaiting (past : Run) (now : ℕ) (waiting : Pending) : Type 0 where
@@ -73,52 +67,16 @@ pub record IsWaiting (past : Run) (now : ℕ) (waiting : Pending) : Type 0 where
 
 -- ---- what the cache may hold (NFD Developer's Guide, "Content Store")
 
--- the event brings this Data, which is allowed, and which some face waits for
-abbrev pub BringsPacket : ℕ → Pending → Result PlainFrame PacketFault → Verdict → CachedData
-    → Type 0
-BringsPacket now waiting (Err fault) verdict c = ⊥
-BringsPacket now waiting (Ok (AnInterest whole i)) verdict c = ⊥
-BringsPacket now waiting (Ok (AData whole d)) verdict c =
-    ((rule : ℕ) × (verdict ≡ DataAllowed rule)) × IsAwaited waiting whole d
-    × (c ≡ held_from now whole d)
-BringsPacket now waiting (Ok (ANack reason whole i)) verdict c = ⊥
-BringsPacket now waiting (Ok Idle) verdict c = ⊥
-
-abbrev pub Brings : ℕ → Pending → PlainEvent → Verdict → CachedData → Type 0
-Brings now waiting (Packet face t octets) verdict c =
-    BringsPacket now waiting (frame_at octets) verdict c
-Brings now waiting (FaceUp face scope t) verdict c = ⊥
-Brings now waiting (FaceDown face t) verdict c = ⊥
-Brings now waiting (Tick t) verdict c = ⊥
-
--- an allowed erase without Count, of a name that the full name begins with
-abbrev pub ErasesByCommand : Result PlainCommand ℕ → CachedData → Type 0
-ErasesByCommand (Err status) c = ⊥
-ErasesByCommand (Ok command) c =
-    (command.action ≡ EraseCache) × (command.count ≡ None) × IsPrefix command.name (full_name_of c)
-
-abbrev pub ErasesByPacket : Result PlainFrame PacketFault → Verdict → CachedData → Type 0
-ErasesByPacket (Err fault) verdict c = ⊥
-ErasesByPacket (Ok (AnInterest whole i)) verdict c =
-    ((rule : ℕ) × (verdict ≡ Allowed rule OK)) × ErasesByCommand (command_at i.name) c
-ErasesByPacket (Ok (AData whole d)) verdict c = ⊥
-ErasesByPacket (Ok (ANack reason whole i)) verdict c = ⊥
-ErasesByPacket (Ok Idle) verdict c = ⊥
-
-abbrev pub ErasesData : PlainEvent → Verdict → CachedData → Type 0
-ErasesData (Packet face t octets) verdict c = ErasesByPacket (frame_at octets) verdict c
-ErasesData (FaceUp face scope t) verdict c = ⊥
-ErasesData (FaceDown face t) verdict c = ⊥
-ErasesData (Tick t) verdict c = ⊥
-
--- The Data came, was allowed and was waited for, and no erase has taken it since. Whether the cache
+-- The Data came, was allowed and was awaited, and no erase has taken it since. Whether the cache
 -- still holds it is not said.
 abbrev pub MayHold : Run → CachedData → Type 0
 MayHold Start c = ⊥
 MayHold (Then before event answer) c =
     let now = max (now_of before) (moment event) in
-    ((waiting : Pending) × IsWaiting before now waiting × Brings now waiting event answer.verdict c)
-    ⊎ (MayHold before c × ¬ ErasesData event answer.verdict c)
+    let used = cache_use now (outcome_of event answer.verdict) in
+    ((used ≡ Inserts c)
+    × ((waiting : Pending) × IsWaiting before now waiting × IsAwaited waiting c))
+    ⊎ (MayHold before c × ¬ TakesAway used c)
 
 -- what the cache may give for an Interest of a key: nothing, or a Data that it may hold and that
 -- can serve it

@@ -8,7 +8,7 @@ ghost use Rattle.pit_fib.specs.Records.{HoldsTheLiving};
 ghost use Rattle.repo_core.specs.Repo.{IsOfferPrepared, after_offer};
 ghost use Rattle.forwarder.specs.Event.{Send};
 ghost use Rattle.forwarder.specs.Handling.{AwaitsPacket, HandlesPacket, data_packet, seen_by};
-ghost use Rattle.forwarder.specs.Node.{CacheAfterData};
+ghost use Rattle.forwarder.specs.Cache.{CacheAfter, Inserts, held_from};
 ghost use Rattle.forwarder.specs.Policy.{Policy};
 ghost use Rattle.forwarder.specs.Replies.{IsSentToAskers};
 ghost use Rattle.forwarder.specs.Request.{is_out_of_scope};
@@ -94,8 +94,9 @@ impl State {
         ensures pending { Follows (Satisfied (components packet.now.name)
             (sha256 packet.now.whole.now)) self.old.pit.pending self.new.pit.pending }
         ensures living { HoldsTheLiving self.new.pit.pending }
-        ensures cache { CacheAfterData self.old.now self.old.pit.pending packet.now.whole.now
-            (plain_data packet.now) self.old.tables.store self.new.tables.store }
+        ensures cache { CacheAfter self.old.now self.old.pit.pending
+            (Inserts (held_from self.old.now packet.now.whole.now (plain_data packet.now)))
+            self.old.tables.store self.new.tables.store }
     {
         let askers = self.pit.satisfy(packet);
         let is_awaited = askers.len() > 0;

@@ -9,7 +9,8 @@ use Rattle.content_store.specs.Store.{StoreState}
 use Rattle.ndn_packets.specs.View.{plain_interest}
 use Rattle.forwarder.specs.Commands.{replied, tables_reply, tables_status, with_record}
 use Rattle.forwarder.specs.Event.{Send}
-use Rattle.forwarder.specs.Node.{CacheAfterCommand, NodeState}
+use Rattle.forwarder.specs.Cache.{CacheAfter, command_use}
+use Rattle.forwarder.specs.Node.{NodeState}
 use Rattle.forwarder.specs.Policy.{Policy, with_next_version}
 use Rattle.forwarder.specs.Said.{recorded_of}
 use Rattle.forwarder.specs.State.{IsLater, policy_of, state_of}
@@ -61,7 +62,7 @@ returns-clause-done c =
     let policy = ap policy_of c.next_version.ensures ∙ sym (c.record.ensures.recorded (with_next_version applied) refl)
     ∙ ap (λ (q : Policy). with_record q (recorded_of i))
     (after_applied p command face status c.apply.new.tables.fib.table c.apply.new.tables.strategies.table answered c.in_ok-applied.ensures.routes c.in_ok-applied.ensures.choices) in
-    let cache = cache_applied command face status c.numbers.result.now p.routes p.choices was.cache c.apply.new.tables.store
+    let cache = cache_applied p.now was.pending command face status c.numbers.result.now p.routes p.choices was.cache c.apply.new.tables.store
     c.in_ok-applied.ensures.status c.in_ok-applied.ensures.cached c.in_ok-applied.ensures.capacity in
     let prepared = with_tables (state_of c.args.self.now) c.prepare.new.self.fib.table c.prepare.new.self.strategies.table c.prepare.new.self.store
     c.prepare.ensures.routes c.prepare.ensures.choices c.prepare.ensures.store in (
@@ -72,5 +73,5 @@ returns-clause-done c =
       subst (λ (n : NodeState). IsLater n c.args.arrived.now.moment was) prepared c.pass_time.ensures.later,
       tables_done was new face status i content (Ok command) c.requires.read answered (first ∙ second ∙ third) policy
           (ap (λ (s : NodeState). s.pending) kept)
-          (subst (λ (s : StoreState). CacheAfterCommand (Ok command) status was.cache s) (sym (ap (λ (s : NodeState). s.cache) kept)) cache),
+          (subst (λ (s : StoreState). CacheAfter p.now was.pending (command_use (Ok command) status) was.cache s) (sym (ap (λ (s : NodeState). s.cache) kept)) cache),
     )

@@ -15,7 +15,7 @@ returns-clause-sends c =
       sends,
       c.in_ok-push_to_each.ensures.ok
           ∙ ap (λ faces. c.args.out.now.sends ++ to_each faces whole) c.without_face.ensures,
-      sent_to_askers (state_of c.args.self.now) whole (plain_data c.args.packet.now) c.satisfy-askers.result c.satisfy-askers.ensures.faces c.args.face c.satisfy-askers.ensures.rising,
+      sent_to_askers (state_of c.args.self.now) c.args.self.now.now whole (plain_data c.args.packet.now) c.satisfy-askers.result c.satisfy-askers.ensures.faces c.args.face c.satisfy-askers.ensures.rising,
     )
 
 pub returns-clause-cache : goal.returns-clause-cache
@@ -26,10 +26,10 @@ returns-clause-cache c =
     let askers = c.satisfy-askers.result in
     elim c.if-is_awaited.branch [
       | then-is_awaited w ↦
-          cached old whole d askers c.satisfy-askers.ensures.faces c.args.self.now.now c.args.self.now.tables.store c.if-is_awaited.self.tables.store
+          cached old c.args.self.now.now whole d askers c.satisfy-askers.ensures.faces c.args.self.now.tables.store c.if-is_awaited.self.tables.store
           (subst (λ n. 0 < n) c.len-is_awaited.ensures.exact w.if-is_awaited.true) w.put.result
           (rw w.self-is w.put.ensures.ok) (λ no. loses_some-contained _ _ (rw w.self-is (w.put.ensures.refused no))) (rw w.self-is w.put.ensures.capacity)
       | else-is_awaited w ↦
-          not_cached old whole d askers c.satisfy-askers.ensures.faces c.args.self.now.now c.args.self.now.tables.store c.if-is_awaited.self.tables.store
+          not_cached old c.args.self.now.now whole d askers c.satisfy-askers.ensures.faces c.args.self.now.tables.store c.if-is_awaited.self.tables.store
           (subst (λ n. n ≤ 0) c.len-is_awaited.ensures.exact w.if-is_awaited.false) (rw w.self-is refl)
     ]

@@ -12,7 +12,7 @@ use Rattle.strategies.specs.declared.strategy.Choice.TheVariants as choices
 use Rattle.forwarder.specs.Forwarding.{choice_from}
 use Rattle.forwarder.specs.Handling.{seen_by}
 use Rattle.forwarder.specs.NextHops.{ask_from, choice_for}
-use Rattle.forwarder.specs.Replies.{forwarded}
+use Rattle.forwarder.specs.Replies.{by_strategy}
 use Rattle.forwarder.specs.State.{policy_of, state_of}
 use Rattle.forwarder.proofs.ForwardSteps.{nack_causes_are, nack_is_short}
 use Rattle.forwarder.proofs.state.State.forward.Goals as goal
@@ -39,7 +39,7 @@ returns-in_ok-push_nack-in-NoRoute-clause-forwards c =
       (face, nack_text NO_ROUTE whole) ∷ [],
       c.in_ok-push_nack-in-NoRoute.ensures.ok,
       record {
-        replied = ap (forwarded (seen_by (state_of old)) (key_of i) whole i face) (sym none);
+        replied = ap (by_strategy (seen_by (state_of old)) (key_of i) whole i face) (sym none);
         pending = nack_causes_are old.now face NO_ROUTE whole i old.pit.pending c.withdraw.new.self.pending c.args.interest.now.spelled (omega arith) withdrawn;
         alive = c.withdraw.ensures.living;
         policy = refl;

@@ -1,0 +1,84 @@
+-- What the cache is asked for by an event, and what that leaves of it (NFD Developer's Guide,
+-- "Content Store").
+use Rattle.std.specs.Prelude.{◌≡◌, ◌⊎◌, ℕ, List, Bool, true, false, All, Contains, Option, None, Result, Ok, Err, IsTrue, is_some, ◌==◌, if◌then◌else◌}
+use Rattle.sha2.specs.Sha256.{sha256}
+use Rattle.ndn_tlv.specs.Element.{Field}
+use Rattle.ndn_names.specs.Name.{IsPrefix}
+use Rattle.ndn_packets.specs.Answers.{answers}
+use Rattle.ndn_packets.specs.Key.{PlainKey, key_of}
+use Rattle.ndn_packets.specs.Packet.{PlainData}
+use Rattle.pit_fib.specs.Records.{Pending, is_alive, records_at}
+use Rattle.content_store.specs.Store.{CachedData, Erases as IsErased, Finds, StoreState, full_name_of, with_cached}
+use Rattle.mgmt_core.specs.declared.action.Action.TheVariants.{EraseCache}
+use Rattle.mgmt_core.specs.declared.types.TheConstants.{OK}
+use Rattle.mgmt_core.specs.Reading.{PlainCommand, command_at}
+use Rattle.forwarder.specs.Outcome.{Outcome, Nothing, InterestPassed, CommandAllowed, DataCame, NackPassed, FaceClosed}
+use Rattle.forwarder.specs.Request.{list_asked}
+
+pub data CacheUse : Type 0 where
+  Untouched : CacheUse
+  -- an Interest of this key asks for Data
+  LooksUp : (key : PlainKey) → CacheUse
+  -- an allowed Data is to be held, if it is awaited
+  Inserts : (c : CachedData) → CacheUse
+  -- an allowed command erases Data under a name, at most so many
+  Erases : (name : List Field) (count : Option ℕ) → CacheUse
+
+-- a Data as it is held from its arrival on
+abbrev pub held_from : ℕ → List ℕ → PlainData → CachedData
+held_from now whole d = record {
+  name = d.name;
+  digest = sha256 whole;
+  octets = whole;
+  freshness = d.freshness;
+  arrival = now;
+}
+
+-- an allowed command of this status, where this is read off its name
+abbrev pub command_use : Result PlainCommand ℕ → ℕ → CacheUse
+command_use (Err refused) status = Untouched
+command_use (Ok c) status = elim c.action [
+  | EraseCache ↦ if status == OK then Erases c.name c.count else Untouched
+  | _ ↦ Untouched
+]
+
+-- what an event asks the cache for that comes to this now
+abbrev pub cache_use : ℕ → Outcome → CacheUse
+cache_use now Nothing = Untouched
+cache_use now (InterestPassed face whole i) =
+    if is_some (list_asked i) then Untouched else LooksUp (key_of i)
+cache_use now (CommandAllowed face i status) = command_use (command_at i.name) status
+cache_use now (DataCame whole d) = Inserts (held_from now whole d)
+cache_use now (NackPassed face reason i) = Untouched
+cache_use now (FaceClosed face) = Untouched
+
+-- some face has an in-record under a key that the Data answers
+abbrev pub IsAwaited : Pending → CachedData → Type 0
+IsAwaited waiting c =
+    (key : PlainKey) × IsTrue (answers c.name c.digest key.name key.can_be_prefix)
+    × (is_alive (records_at waiting key) ≡ true)
+
+-- some of what was held may be gone, or in another order; nothing is new
+abbrev pub MayForget : StoreState → StoreState → Type 0
+MayForget old new =
+    All (λ c. Contains old.cached c) new.cached × (new.capacity ≡ old.capacity)
+
+-- What a use leaves of the cache: what is given becomes the most recently used; an awaited Data is
+-- held, or the cache forgets for want of memory; an erase is that of the content store.
+abbrev pub CacheAfter : ℕ → Pending → CacheUse → StoreState → StoreState → Type 0
+CacheAfter now waiting Untouched old new = new ≡ old
+CacheAfter now waiting (LooksUp key) old new =
+    (given : Option (List ℕ)) × Finds key now old given new
+CacheAfter now waiting (Inserts c) old new =
+    (IsAwaited waiting c × ((new ≡ with_cached old c) ⊎ MayForget old new))
+    ⊎ ((¬ IsAwaited waiting c) × (new ≡ old))
+CacheAfter now waiting (Erases name count) old new =
+    ((gone : ℕ) × IsErased name count old.cached new.cached gone)
+    × (new.capacity ≡ old.capacity)
+
+-- the use takes away whatever Data of this full name is held
+abbrev pub TakesAway : CacheUse → CachedData → Type 0
+TakesAway Untouched c = ⊥
+TakesAway (LooksUp key) c = ⊥
+TakesAway (Inserts other) c = ⊥
+TakesAway (Erases name count) c = (count ≡ None) × IsPrefix name (full_name_of c)

@@ -1,0 +1,68 @@
+-- What an event comes to, read once off the event and what is said of it. By this are told the
+-- records that change, what the cache is asked for, and which hops a command sets (NFD Developer's
+-- Guide, "Forwarding").
+use Rattle.std.specs.Prelude.{ℕ, List, Result, Ok, Err}
+use Rattle.ndn_packets.specs.FrameReading.{frame_at}
+use Rattle.ndn_packets.specs.Packet.{PlainInterest, PlainData, PlainFrame, AnInterest, AData, ANack, Idle}
+use Rattle.ndn_packets.specs.declared.fault.PacketFault.{PacketFault}
+use Rattle.forwarder.specs.Event.{PlainEvent, Packet, FaceUp, FaceDown, Tick}
+use Rattle.forwarder.specs.Verdict.{Verdict, Passed, Allowed, DataAllowed, Denied, NoRule, Dropped}
+
+pub data Outcome : Type 0 where
+  -- no more than that its moment comes, or that a face opens
+  Nothing : Outcome
+  -- an Interest that is no command was passed
+  InterestPassed : (face : ℕ) (whole : List ℕ) (i : PlainInterest) → Outcome
+  -- a command of this status was allowed
+  CommandAllowed : (face : ℕ) (i : PlainInterest) (status : ℕ) → Outcome
+  -- a Data was allowed
+  DataCame : (whole : List ℕ) (d : PlainData) → Outcome
+  -- a Nack for what was sent was passed
+  NackPassed : (face reason : ℕ) (i : PlainInterest) → Outcome
+  -- a face closed
+  FaceClosed : (face : ℕ) → Outcome
+
+abbrev pub passed_packet : ℕ → PlainFrame → Outcome
+passed_packet face (AnInterest whole i) = InterestPassed face whole i
+passed_packet face (AData whole d) = Nothing
+passed_packet face (ANack reason whole i) = NackPassed face reason i
+passed_packet face Idle = Nothing
+
+abbrev pub allowed_command : ℕ → ℕ → PlainFrame → Outcome
+allowed_command face status (AnInterest whole i) = CommandAllowed face i status
+allowed_command face status (AData whole d) = Nothing
+allowed_command face status (ANack reason whole i) = Nothing
+allowed_command face status Idle = Nothing
+
+abbrev pub allowed_data : PlainFrame → Outcome
+allowed_data (AnInterest whole i) = Nothing
+allowed_data (AData whole d) = DataCame whole d
+allowed_data (ANack reason whole i) = Nothing
+allowed_data Idle = Nothing
+
+-- by what is said of a packet from a face
+abbrev pub packet_outcome : ℕ → PlainFrame → Verdict → Outcome
+packet_outcome face packet Passed = passed_packet face packet
+packet_outcome face packet (Allowed rule status) = allowed_command face status packet
+packet_outcome face packet (DataAllowed rule) = allowed_data packet
+packet_outcome face packet (Denied kind rule reason) = Nothing
+packet_outcome face packet (NoRule kind) = Nothing
+packet_outcome face packet (Dropped reason) = Nothing
+
+abbrev pub read_outcome : ℕ → Result PlainFrame PacketFault → Verdict → Outcome
+read_outcome face (Err fault) verdict = Nothing
+read_outcome face (Ok packet) verdict = packet_outcome face packet verdict
+
+abbrev pub closing_outcome : ℕ → Verdict → Outcome
+closing_outcome face Passed = FaceClosed face
+closing_outcome face (Allowed rule status) = Nothing
+closing_outcome face (DataAllowed rule) = Nothing
+closing_outcome face (Denied kind rule reason) = Nothing
+closing_outcome face (NoRule kind) = Nothing
+closing_outcome face (Dropped reason) = Nothing
+
+abbrev pub outcome_of : PlainEvent → Verdict → Outcome
+outcome_of (Packet face now octets) verdict = read_outcome face (frame_at octets) verdict
+outcome_of (FaceUp face scope now) verdict = Nothing
+outcome_of (FaceDown face now) verdict = closing_outcome face verdict
+outcome_of (Tick now) verdict = Nothing
