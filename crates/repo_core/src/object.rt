@@ -13,9 +13,16 @@ use ndn_tlv::Memory;
 use std::alloc::Global;
 use std::marker::Model;
 
-/// A Data that is stored, seen as its full name and its octets.
+/// A Data that is stored, seen as its full name and its octets. It takes one word where it stands,
+/// so that many are moved soon.
 #[derive(Drop)]
 pub struct Object {
+    stored: Box<Stored>,
+}
+
+/// What is known of a Data that is stored.
+#[derive(Drop)]
+struct Stored {
     full_name: FullName,
     octets: Vec<u8>,
 }
@@ -32,9 +39,9 @@ impl Model for Object {
 
     ghost coded = { coded× name_code (coded_list coded_ℕ) };
 
-    ghost view = { λ o. (all_components o.full_name, o.octets.items) };
+    ghost view = { λ o. (all_components o.stored.value.full_name, o.stored.value.octets.items) };
 
-    ghost invariant = { λ o. o.full_name.digest ≡ sha256 o.octets.items };
+    ghost invariant = { λ o. o.stored.value.full_name.digest ≡ sha256 o.stored.value.octets.items };
 }
 
 impl Object {
@@ -44,21 +51,22 @@ impl Object {
     {
         let full_name = FullName::new(alloc, packet)?;
         let octets = Vec::from_slice(alloc, packet.whole)?;
-        Ok(Object { full_name, octets })
+        let stored = Box::new(alloc, Stored { full_name, octets })?;
+        Ok(Object { stored })
     }
 
     /// The octets of the Data.
     pub fn octets(&self) -> &[u8]
         ensures { result.now ≡ self.now.1 }
     {
-        &self.octets
+        &self.stored.octets
     }
 
     /// The TLV-VALUE of the full name.
     pub fn full_name(&self) -> &[u8]
         ensures { IsElements result.now self.now.0 }
     {
-        self.full_name.as_octets()
+        self.stored.full_name.as_octets()
     }
 
     /// Whether the full name comes before the name of these octets in canonical order.
@@ -66,7 +74,7 @@ impl Object {
         ensures { (name : List Field) → IsElements octets.now name
             → result ≡ is_lt (name_cmp self.now.0 name) }
     {
-        self.full_name.is_below(octets)
+        self.stored.full_name.is_below(octets)
     }
 
     /// Whether this is the full name.
@@ -74,28 +82,29 @@ impl Object {
         ensures { (name : List Field) → IsElements octets.now name
             → IsTrue result ↔ (self.now.0 ≡ name) }
     {
-        self.full_name.is(octets)
+        self.stored.full_name.is(octets)
     }
 
     /// Whether it is that of this Data.
     pub fn is_of(&self, packet: &Data<'_>) -> bool
         ensures { IsTrue result ↔ (self.now ≡ object_of packet.now) }
     {
-        self.octets.as_slice() == packet.whole && self.full_name.is_of(packet.name)
+        let stored = &*self.stored;
+        stored.octets.as_slice() == packet.whole && stored.full_name.is_of(packet.name)
     }
 
     /// Whether the full name begins with a name.
     fn is_under(&self, name: Name<'_>) -> bool
         ensures { result ≡ begins_with (components name.entry) self.now.0 }
     {
-        self.full_name.is_under(name)
+        self.stored.full_name.is_under(name)
     }
 
     /// Whether this is the name or the full name.
     fn is_named(&self, name: Name<'_>) -> bool
         ensures { result ≡ full_name_answers (components name.entry) false self.now.0 }
     {
-        self.full_name.is_named(name)
+        self.stored.full_name.is_named(name)
     }
 
     /// Whether the Data answers an Interest of this name and flag.
@@ -113,6 +122,6 @@ impl Object {
     pub fn is_near(&self, name: Name<'_>, can_be_prefix: bool) -> bool
         ensures { result ≡ is_near (components name.entry) can_be_prefix self.now.0 }
     {
-        self.full_name.is_near(name, can_be_prefix)
+        self.stored.full_name.is_near(name, can_be_prefix)
     }
 }

@@ -8,7 +8,7 @@ use Rattle.repo_core.specs.Room.{IsPlace, HasAt}
 use Rattle.ndn_names.proofs.Rows.{sorted_put, from_put}
 use Rattle.repo_core.proofs.Places.{put_there, put_new}
 use Rattle.repo_core.proofs.objects.Objects.put.Goals as goal
-use Rattle.repo_core.proofs.objects.Objects.put.Goals.{After-has_at, After-drop-index_mut-then-has_at, After-insert_row}
+use Rattle.repo_core.proofs.objects.Objects.put.Goals.{After-has_at, After-drop-index_mut, After-insert_row}
 
 place : (c : After-has_at) → IsPlace name_cmp c.args.object.0 c.self.inside.rows.items c.place_of-at.result
 place c = (rw c.deref.ensures.value at c.place_of-at.ensures) c.args.object.0 c.full_name.ensures
@@ -16,7 +16,7 @@ place c = (rw c.deref.ensures.value at c.place_of-at.ensures) c.args.object.0 c.
 there : (c : After-has_at) → IsTrue c.has_at.result ↔ HasAt c.args.object.0 c.self.inside.rows.items c.place_of-at.result
 there c = (rw c.deref-2.ensures.value at c.has_at.ensures) c.args.object.0 c.full_name-2.ensures
 
-replaced : (c : After-drop-index_mut-then-has_at) → set c.self.inside.rows.items c.place_of-at.result c.args.object ≡ put name_cmp c.args.object.0 c.args.object.1 c.self.inside.rows.items
+replaced : (c : After-drop-index_mut) → set c.self.inside.rows.items c.place_of-at.result c.args.object ≡ put name_cmp c.args.object.0 c.args.object.1 c.self.inside.rows.items
 replaced c =
     let before = (goal.at.invariant_of-self c).After-has_at in
     sym (put_there name_cmp-total name_cmp-antisymmetric c.args.object.0 c.self.inside.rows.items c.place_of-at.result (place before) ((there before).0 c.if-has_at.true) c.args.object.1)
