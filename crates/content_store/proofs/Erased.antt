@@ -103,6 +103,10 @@ module _ (h f : ℕ → Option Row) (order : List ℕ) (start end p : ℕ) (row 
   pub lower_next : IsLower name (shown f (without_range start (end + 1) order)) start
   lower_next = subst (λ (rs : List Placed). IsLower name rs start) (sym step.2) (lower_removed name (shown h (without_range start end order)) start within_rows lower)
 
+  pub left_next : (all : List Placed) → end < length all → shown h (without_range start end order) ≡ without_range start end all
+      → shown f (without_range start (end + 1) order) ≡ without_range start (end + 1) all
+  left_next all short left = step.2 ∙ ap (λ (rs : List Placed). remove rs start) left ∙ range_one all start end le short
+
   pub here : (d : Placed) → get_or (shown h (without_range start end order)) start d ≡ (p, row)
   here d = shown_at h (without_range start end order) start row rows.there within (ap h stands ∙ at) d ∙ (λ i. (stands i, row))
 

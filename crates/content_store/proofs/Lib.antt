@@ -12,3 +12,4 @@ pub mod Given
 pub mod Losses
 pub mod Taken
 pub mod Erased
+pub mod Bounds

@@ -2,5 +2,6 @@ pub mod Store
 pub mod Entry
 pub mod Sought
 pub mod Rows
+pub mod Blocks
 pub mod Uses
 pub mod Find

@@ -8,6 +8,7 @@ ghost use Rattle.ndn_packets.specs.Answers.{full_name};
 ghost use Rattle.ndn_packets.specs.FullName.{is_near};
 ghost use Rattle.ndn_packets.specs.Key.{plain_key};
 ghost use Rattle.content_store.specs.Store.{cached_at, full_name_of, IsFresh, CanServe};
+ghost use Rattle.content_store.specs.Blocks.{fresh_until};
 
 use crate::full_name::{HEAD_LEN, compare_full_names, compare_heads, compare_with_name};
 use ndn_names::component_type::PARAMETERS_SHA256_DIGEST;
@@ -156,10 +157,17 @@ impl Entry {
         answers && (!key.must_be_fresh || self.is_fresh(now))
     }
 
+    /// When the FreshnessPeriod since the arrival is over.
+    pub fn fresh_until(&self) -> u64
+        ensures { result ≡ fresh_until self.now }
+    {
+        self.arrival.saturating_add(self.freshness)
+    }
+
     /// Whether the FreshnessPeriod since the arrival is not over.
     fn is_fresh(&self, now: u64) -> bool
         ensures { IsTrue result ↔ IsFresh self.now now }
     {
-        now < self.arrival.saturating_add(self.freshness)
+        now < self.fresh_until()
     }
 }

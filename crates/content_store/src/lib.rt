@@ -1,6 +1,7 @@
 //! The Data that a forwarder keeps to answer later Interests.
 #![tactic(auto)]
 
+mod blocks;
 mod entry;
 mod fault;
 mod full_name;

@@ -10,9 +10,11 @@ ghost use Rattle.ndn_packets.specs.Answers.{full_name};
 ghost use Rattle.ndn_packets.specs.Key.{plain_key};
 ghost use Rattle.content_store.specs.Store.{CanServe, full_name_of};
 ghost use Rattle.content_store.specs.Rows.{Placed, Rising, IsRows, IsLower, FirstWith, IsValidRows, shown, name_at};
+ghost use Rattle.content_store.specs.Blocks.{AreBounds};
 ghost use Rattle.content_store.specs.Sought.{sought_name};
 ghost use Rattle.content_store.specs.Uses.{Sound, TakesUnder, without_range};
 
+use crate::blocks::{Block, Change, add_row, follow, next_place, remove_row, remove_rows};
 use crate::entry::Entry;
 use crate::sought::{Sought, is_below};
 use lru::LruCache;
@@ -35,18 +37,22 @@ pub struct Row {
 pub struct Rows {
     entries: Slab<Row>,
     order: Vec<u32>,
+    // What is known of parts of `order`, for Interests with MustBeFresh.
+    blocks: Vec<Block>,
 }
 
 impl Model for Rows {
     ghost use Rattle.std.specs.Prelude.{List};
     ghost use Rattle.slab.specs.Slab.{get};
     ghost use Rattle.content_store.specs.Rows.{Placed, shown, IsRows};
+    ghost use Rattle.content_store.specs.Blocks.{AreBounds};
 
     ghost Value = { List Placed };
 
     ghost view = { λ r. shown (get r.entries) r.order.items };
 
-    ghost invariant = { λ r. IsRows (get r.entries) r.order.items };
+    ghost invariant = { λ r. IsRows (get r.entries) r.order.items
+        × AreBounds (shown (get r.entries) r.order.items) r.blocks.items };
 }
 
 /// Where the first full name that is not less than what is sought is. Each comparison counts.
@@ -76,11 +82,13 @@ fn lower_bound(entries: &Slab<Row>, order: &[u32], sought: Sought<'_>, steps: &m
 fn first_serving(
     entries: &Slab<Row>,
     order: &[u32],
+    blocks: &[Block],
     key: Key<'_>,
     now: u64,
     steps: &mut u64,
 ) -> Option<usize>
     requires rows { IsRows (get entries.now) order.now }
+    requires blocks { AreBounds (shown (get entries.now) order.now) blocks.now }
     requires short { length order.now < 131072 }
     requires room { steps.old ≤ 2 ^ 64 - 1 - 17 }
     ensures first { FirstWith (CanServe (plain_key key.entry) now)
@@ -89,23 +97,26 @@ fn first_serving(
     ensures few { steps.new ≤ steps.old + 17 }
 {
     let start = lower_bound(entries, order, Sought::Named(key.name), steps);
-    first_from(entries, order, start, key, now)
+    first_from(entries, order, blocks, start, key, now)
 }
 
 /// Where the first is that can serve an Interest of this key, from where its name would stand.
 fn first_from(
     entries: &Slab<Row>,
     order: &[u32],
+    blocks: &[Block],
     start: usize,
     key: Key<'_>,
     now: u64,
 ) -> Option<usize>
     requires rows { IsRows (get entries.now) order.now }
+    requires blocks { AreBounds (shown (get entries.now) order.now) blocks.now }
     requires start { IsLower (components key.name) (shown (get entries.now) order.now) start }
     ensures { FirstWith (CanServe (plain_key key.entry) now)
         (shown (get entries.now) order.now) result }
 {
-    for at in start..order.len() {
+    let mut at = start;
+    while at < order.len() {
         let entry = &entries[order[at] as usize].entry;
         if !entry.is_near(key) {
             return None;
@@ -113,6 +124,7 @@ fn first_from(
         if entry.can_serve(key, now) {
             return Some(at);
         }
+        at = next_place(blocks, at, key.must_be_fresh, now);
     }
     None
 }
@@ -153,6 +165,7 @@ impl Rows {
         Rows {
             entries: Slab::new(alloc),
             order: Vec::new(alloc),
+            blocks: Vec::new(alloc),
         }
     }
 
@@ -164,7 +177,7 @@ impl Rows {
         ensures counted { steps.old ≤ steps.new }
         ensures few { steps.new ≤ steps.old + 17 }
     {
-        first_serving(&self.entries, &self.order, key, now, steps)
+        first_serving(&self.entries, &self.order, &self.blocks, key, now, steps)
     }
 
     /// Where the name of a key would stand, if one can serve an Interest of this key.
@@ -174,7 +187,7 @@ impl Rows {
             (λ _. (at : ℕ) × FirstWith (CanServe (plain_key key.entry) now) self.now (Some at)) }
     {
         let start = self.place_for(Sought::Named(key.name));
-        match first_from(&self.entries, &self.order, start, key, now) {
+        match first_from(&self.entries, &self.order, &self.blocks, start, key, now) {
             Some(_) => Some(start),
             None => None,
         }
@@ -190,7 +203,7 @@ impl Rows {
         } else {
             self.place_for(Sought::Named(key.name))
         };
-        first_from(&self.entries, &self.order, start, key, now)
+        first_from(&self.entries, &self.order, &self.blocks, start, key, now)
     }
 
     /// How many there are. All that is true of them.
@@ -215,6 +228,7 @@ impl Rows {
     {
         self.order.clear();
         self.entries.clear();
+        self.blocks.clear();
     }
 
     /// Where what is sought stands, or would go.
@@ -250,9 +264,13 @@ impl Rows {
         ensures err { OnErr result (self.new ≡ self.old) }
         ensures valid { OnOk result (IsValidRows self.new) }
     {
+        let until = row.entry.fresh_until();
         let place = hold(&mut self.entries, row)?;
         match self.order.insert(at, place) {
-            Ok(()) => Ok(place),
+            Ok(()) => {
+                add_row(&self.entries, &self.order, &mut self.blocks, at, until);
+                Ok(place)
+            }
             Err(_) => {
                 self.entries.remove(place as usize);
                 Err(Memory)
@@ -271,7 +289,9 @@ impl Rows {
         ensures valid { IsValidRows self.new }
     {
         let place = self.order[at];
-        self.entries[place as usize].entry.renew(freshness, arrival);
+        let entry = &mut self.entries[place as usize].entry;
+        entry.renew(freshness, arrival);
+        follow(&mut self.blocks, Change::Renewed(at, entry.fresh_until()));
     }
 
     /// Takes out what stands at a place of the slab.
@@ -283,7 +303,9 @@ impl Rows {
     {
         let at = index_of(&self.entries, &self.order, place);
         self.order.remove(at);
-        self.entries.remove(place as usize);
+        let row = self.entries.remove(place as usize);
+        let until = row.entry.fresh_until();
+        remove_row(&self.entries, &self.order, &mut self.blocks, at, until);
     }
 
     /// Takes out what begins with a name, the least full names first and at most `most`, and their
@@ -297,6 +319,7 @@ impl Rows {
         let start = self.place_for(Sought::Named(name));
         let end = remove_under(&mut self.entries, used, &self.order, start, name, most);
         cut(&mut self.order, start, end);
+        remove_rows(&self.entries, &self.order, &mut self.blocks, start, end);
         (end - start) as u64
     }
 }
@@ -316,6 +339,8 @@ fn remove_under(
     ensures from { start ≤ result }
     ensures within { result ≤ length order.now }
     ensures rows { IsRows (get entries.new) (without_range start result order.now) }
+    ensures left { shown (get entries.new) (without_range start result order.now)
+        ≡ without_range start result (shown (get entries.old) order.now) }
     ensures taken { (next : ℕ) → Sound (shown (get entries.old) order.now) used.old.entries next
         → TakesUnder (components name.entry) most (shown (get entries.old) order.now) used.old
         (shown (get entries.new) (without_range start result order.now)) used.new next

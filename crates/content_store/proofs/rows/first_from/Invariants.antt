@@ -1,4 +1,4 @@
-use Rattle.std.proofs.Common.{ℕ, ◌<◌, get_or}
+use Rattle.std.proofs.Common.{ℕ, ◌<◌, ◌≤◌, ◌-◌, get_or, length}
 use Rattle.slab.specs.Slab.{get}
 use Rattle.ndn_packets.specs.Key.{plain_key}
 use Rattle.content_store.specs.Rows.{Placed, shown, held_at}
@@ -7,4 +7,9 @@ use Rattle.content_store.proofs.rows.first_from.Given as goal
 
 abbrev pub invariant-loop-at : goal.invariant-loop-at
 invariant-loop-at l =
-    (k : ℕ) (d : Placed) → k < l.at → CanServe (plain_key l.key) l.now (held_at (get_or (shown (get l.entries) l.order) k d)) → ⊥
+    (l.fn.start ≤ l.at)
+    × ((k : ℕ) (d : Placed) → k < l.at → k < length (shown (get l.entries) l.order)
+    → CanServe (plain_key l.key) l.now (held_at (get_or (shown (get l.entries) l.order) k d)) → ⊥)
+
+abbrev pub decreases-loop-at : goal.decreases-loop-at
+decreases-loop-at l = length l.order - l.at

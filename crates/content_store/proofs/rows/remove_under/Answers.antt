@@ -13,7 +13,7 @@ use Rattle.content_store.specs.Rows.{IsLower, IsRows, Placed, name_at, shown}
 use Rattle.content_store.specs.Uses.{Sound, TakesUnder, cached_in, without_range}
 use Rattle.content_store.proofs.Shown.{length-shown}
 use Rattle.content_store.proofs.Taken.{nothing_taken}
-use Rattle.content_store.proofs.Erased.{TakenSoFar, fewer_next, here, lower_next, none_left, range_len, rows_next, sound_next, taken_next, there_at}
+use Rattle.content_store.proofs.Erased.{TakenSoFar, fewer_next, here, left_next, lower_next, none_left, range_len, rows_next, sound_next, taken_next, there_at}
 use Rattle.content_store.proofs.rows.remove_under.Goals as goal
 use Rattle.content_store.proofs.rows.remove_under.Goals.{then-end-start-via-then-end-start, then-end-start-via-else-end-start+then-not-is_under}
 
@@ -24,6 +24,7 @@ loop-end-init c =
     record {
       rows = subst (IsRows (get c.args.entries.now)) (sym whole) c.requires.rows;
       lower = subst (λ (l : List ℕ). IsLower (components c.args.name) (shown (get c.args.entries.now) l) c.args.start) (sym whole) c.requires.start;
+      left = ap (λ (l : List ℕ). shown (get c.args.entries.now) l) whole ∙ sym (take-append-drop c.args.start all);
       at_most = omega arith;
       cap = refl;
       taken =
@@ -87,6 +88,9 @@ loop-end-preserved c =
     record {
       rows = rows_next h f c.args.order.now c.args.start c.loop-end.end place row (components c.args.name) inv.rows inv.lower from lt refl c.remove-row.ensures.value c.remove-row.ensures.updates.others;
       lower = lower_next h f c.args.order.now c.args.start c.loop-end.end place row (components c.args.name) inv.rows inv.lower from lt refl c.remove-row.ensures.value c.remove-row.ensures.updates.others;
+      left =
+          left_next h f c.args.order.now c.args.start c.loop-end.end place row (components c.args.name) inv.rows inv.lower from lt refl c.remove-row.ensures.value c.remove-row.ensures.updates.others
+          (shown (get c.args.entries.now) c.args.order.now) (omega (arith, length-shown (get c.args.entries.now) c.args.order.now c.requires.rows.there)) inv.left;
       at_most = omega (arith, c.if-end-start.false);
       cap = ap (λ (u : LruCache ℕ ℕ). u.cap) uses ∙ inv.cap;
       taken =
@@ -112,6 +116,15 @@ returns-clause-from c =
     let len = length-shown (get c.args.entries.now) c.args.order.now c.requires.rows.there in
     let le = c.requires.start.within in
     omega arith
+
+pub returns-clause-left : goal.returns-clause-left
+returns-clause-left c =
+    let len = length-shown (get c.args.entries.now) c.args.order.now c.requires.rows.there in
+    let le = c.requires.start.within in
+    let from = c.loop-end.auto.end in
+    let same : c.loop-end.end ≡ length c.args.order.now = omega arith in
+    let all = shown (get c.args.entries.now) c.args.order.now in
+    subst (λ (n : ℕ). shown (get c.loop-end.entries) (without_range c.args.start n c.args.order.now) ≡ without_range c.args.start n all) same c.loop-end.invariant.left
 
 pub returns-clause-taken : goal.returns-clause-taken
 returns-clause-taken c =

@@ -10,6 +10,7 @@ abbrev pub invariant-loop-end : goal.invariant-loop-end
 invariant-loop-end l = record {
   rows : IsRows (get l.entries) (without_range l.start l.end l.order);
   lower : IsLower (components l.name) (shown (get l.entries) (without_range l.start l.end l.order)) l.start;
+  left : shown (get l.entries) (without_range l.start l.end l.order) ≡ without_range l.start l.end (shown (get l.initial.entries) l.order);
   at_most : l.end - l.start ≤ l.most;
   cap : l.used.cap ≡ l.initial.used.cap;
   taken : (next : ℕ) → Sound (shown (get l.initial.entries) l.order) l.initial.used.entries next

@@ -1,9 +1,37 @@
-use Rattle.std.proofs.Common.{◌-◌, ℕ, List, sym, subst}
+use Rattle.std.proofs.Common.{◌≡◌, ◌-◌, ℕ, List, length, sym, ap, subst, ◌∙◌, arith}
 use Rattle.slab.specs.Slab.{get}
 use Rattle.ndn_names.specs.View.{components}
-use Rattle.content_store.specs.Rows.{Placed, shown}
+use Rattle.content_store.specs.declared.blocks.Change.TheVariants.{Removed}
+use Rattle.content_store.specs.Blocks.{AreBounds, Follows}
+use Rattle.content_store.specs.Rows.{IsRows, Placed, shown}
+use Rattle.content_store.proofs.Shown.{length-shown}
 use Rattle.content_store.specs.Uses.{Sound, TakesUnder, without_range}
 use Rattle.content_store.proofs.rows.Rows.remove_under.Goals as goal
+
+pub invariant_of-self : goal.invariant_of-self
+invariant_of-self c =
+    let h = get c.self.inside.entries in
+    let f = get c.remove_under-end.new.entries in
+    let order = c.self.inside.order.items in
+    let start = c.place_for-start.result in
+    let end = c.remove_under-end.result in
+    let rows = shown h order in
+    let out = c.remove_under-end.ensures in
+    let le = out.from in
+    let within = out.within in
+    let value = c.deref.ensures.value in
+    let valid : IsRows f c.cut.new.order.items =
+    subst (λ (l : List ℕ). IsRows f l) (sym c.cut.ensures) (subst (λ (l : List ℕ). IsRows f (without_range start end l)) value out.rows) in
+    let left : shown f c.cut.new.order.items ≡ without_range start end rows =
+    ap (shown f) c.cut.ensures ∙ subst (λ (l : List ℕ). shown f (without_range start end l) ≡ without_range start end (shown h l)) value out.left in
+    let follows : Follows (Removed start end) rows (shown f c.deref-2.result.now) = (
+      omega arith,
+      omega (arith, ap length value, length-shown h order c.self.invariant.0.there),
+      ap (shown f) c.deref-2.ensures.value ∙ left,
+    ) in (
+      valid,
+      subst (λ (l : List ℕ). AreBounds (shown f l) c.remove_rows.new.blocks.items) c.deref-2.ensures.value (c.remove_rows.ensures rows follows c.self.invariant.1),
+    )
 
 pub returns : goal.returns
 returns c =

@@ -9,12 +9,13 @@ use Rattle.content_store.specs.Store.{full_name_of}
 use Rattle.content_store.specs.Rows.{Placed, shown, IsRows}
 use Rattle.content_store.proofs.Shown.{length-shown, shown_at, all_there, valid_shown}
 use Rattle.content_store.proofs.Edits.{valued}
+use Rattle.content_store.proofs.Bounds.{one_renewed}
 use Rattle.content_store.proofs.rows.Rows.renew.Goals as goal
 use Rattle.content_store.proofs.rows.Rows.renew.Goals.{After-index-place, After-index_mut, After-renew}
 
 inside : (c : After-index-place) → c.args.at < length c.self.inside.order.items
 inside c =
-    let len = length-shown (get c.self.inside.entries) c.self.inside.order.items c.self.invariant.there in
+    let len = length-shown (get c.self.inside.entries) c.self.inside.order.items c.self.invariant.0.there in
     let lt = c.requires in
     omega (arith, ap length c.self.view_is)
 
@@ -24,12 +25,12 @@ stands c = c.index-place.ensures ∙ get_or_default c.self.inside.order.items c.
 pub index-place-requires : goal.index-place-requires
 index-place-requires c =
     let count : vec_len c.self.inside.order ≡ length c.self.inside.order.items = search rules in
-    let len = length-shown (get c.self.inside.entries) c.self.inside.order.items c.self.invariant.there in
+    let len = length-shown (get c.self.inside.entries) c.self.inside.order.items c.self.invariant.0.there in
     let lt = c.requires in
     omega (arith, ap length c.self.view_is)
 
 there : (c : After-index-place) → IsSome (get c.self.inside.entries c.index-place.result.now)
-there c = subst (λ (p : ℕ). IsSome (get c.self.inside.entries p)) (sym (stands c)) (all_there (λ p. IsSome (get c.self.inside.entries p)) c.self.inside.order.items c.args.at c.self.invariant.there (inside c))
+there c = subst (λ (p : ℕ). IsSome (get c.self.inside.entries p)) (sym (stands c)) (all_there (λ p. IsSome (get c.self.inside.entries p)) c.self.inside.order.items c.args.at c.self.invariant.0.there (inside c))
 
 pub index_mut-requires : goal.index_mut-requires
 index_mut-requires c = there (goal.at.index_mut-requires c).After-index-place
@@ -37,13 +38,13 @@ index_mut-requires c = there (goal.at.index_mut-requires c).After-index-place
 row_at : (c : After-index_mut) → (d : Placed) → get_or c.args.self.now c.args.at d ≡ (c.index-place.result.now, c.index_mut.result.now)
 row_at c d =
     let order = c.self.inside.order.items in
-    let len = length-shown (get c.self.inside.entries) order c.self.invariant.there in
+    let len = length-shown (get c.self.inside.entries) order c.self.invariant.0.there in
     let lt = c.requires in
     let within : c.args.at < length order = omega (arith, ap length c.self.view_is) in
     let place : c.index-place.result.now ≡ get_or order c.args.at 0 = c.index-place.ensures ∙ get_or_default order c.args.at c.index-place.result.now 0 within in
     let at = ap (get c.self.inside.entries) (sym place) ∙ c.index_mut.ensures.value in
     ap (λ (rows : List Placed). get_or rows c.args.at d) (sym c.self.view_is)
-    ∙ shown_at (get c.self.inside.entries) order c.args.at c.index_mut.result.now c.self.invariant.there within at d ∙ (λ i. (sym place i, c.index_mut.result.now))
+    ∙ shown_at (get c.self.inside.entries) order c.args.at c.index_mut.result.now c.self.invariant.0.there within at d ∙ (λ i. (sym place i, c.index_mut.result.now))
 
 abbrev new_row : After-renew → Row
 new_row c = record { entry = c.renew.new.self; serial = c.index_mut.result.now.serial }
@@ -55,10 +56,18 @@ whole c =
     let some : IsSome (get c.self.inside.entries c.index-place.result.now) = subst IsSome (sym c.index_mut.ensures.value) refl in
     let wrote = Updates-with_value c.self.inside.entries c.index-place.result.now (new_row c) some in
     valued (get c.self.inside.entries) (get (with_value c.self.inside.entries c.index-place.result.now (new_row c))) c.self.inside.order.items c.index-place.result.now c.index_mut.result.now (new_row c)
-    c.self.invariant c.index_mut.ensures.value wrote.changed wrote.others (ap full_name_of c.renew.ensures)
+    c.self.invariant.0 c.index_mut.ensures.value wrote.changed wrote.others (ap full_name_of c.renew.ensures)
 
 pub invariant_of-self : goal.invariant_of-self
-invariant_of-self c = (whole (goal.at.invariant_of-self c).After-renew).1
+invariant_of-self c =
+    let r = (goal.at.invariant_of-self c).After-renew in
+    let i = (goal.at.invariant_of-self c).After-index-place in
+    let some : IsSome (get c.self.inside.entries c.index-place.result.now) = subst IsSome (sym c.index_mut.ensures.value) refl in
+    let wrote = Updates-with_value c.self.inside.entries c.index-place.result.now (new_row r) some in
+    let follows =
+    one_renewed (get c.self.inside.entries) (get (with_value c.self.inside.entries c.index-place.result.now (new_row r))) c.self.inside.order.items c.args.at c.index-place.result.now c.fresh_until.result
+    c.index_mut.result.now (new_row r) c.self.invariant.0 (whole r).1 (inside i) (sym (stands i)) c.index_mut.ensures.value wrote.changed wrote.others (omega arith) in
+    ((whole r).1, c.follow.ensures _ _ follows c.self.invariant.1)
 
 pub returns-clause-rows : goal.returns-clause-rows
 returns-clause-rows c =

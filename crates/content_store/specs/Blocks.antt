@@ -1,0 +1,45 @@
+-- What blocks of the list are known to hold, for private contracts.
+use Rattle.std.specs.Prelude.{◌≡◌, ◌≢◌, ℕ, ◌+◌, ◌-◌, ◌^◌, ◌<◌, ◌≤◌, List, insert, length, min, slice_index_or}
+use Rattle.std.specs.List.{All}
+use Rattle.content_store.specs.Store.{CachedData}
+use Rattle.content_store.specs.Rows.{Placed, held_at}
+use Rattle.content_store.specs.Uses.{without_range}
+use Rattle.content_store.specs.declared.blocks.Block.{Block}
+use Rattle.content_store.specs.declared.blocks.Change.{Change}
+use Rattle.content_store.specs.declared.blocks.Change.TheVariants.{Added, Renewed, Removed}
+
+-- when the FreshnessPeriod since the arrival is over
+abbrev pub fresh_until : CachedData → ℕ
+fresh_until c = min (c.arrival + c.freshness) (2 ^ 64 - 1)
+
+-- nothing that stands there is fresh after its moment
+abbrev pub Bounds : List Placed → Block → Type 0
+Bounds rows b =
+    (k : ℕ) (d : Placed) → b.start ≤ k → k < b.end → k < length rows
+    → fresh_until (held_at (slice_index_or rows k d)) ≤ b.until
+
+abbrev pub AreBounds : List Placed → List Block → Type 0
+AreBounds rows blocks = All (Bounds rows) blocks
+
+-- what a change does to the list
+abbrev pub Follows : Change → List Placed → List Placed → Type 0
+Follows (Added at until) rows rows' =
+    (row : Placed) × (at ≤ length rows) × (fresh_until (held_at row) ≤ until)
+    × (rows' ≡ insert rows at row)
+Follows (Renewed at until) rows rows' =
+    (length rows' ≡ length rows)
+    × ((d : Placed) → fresh_until (held_at (slice_index_or rows' at d)) ≤ until)
+    × ((k : ℕ) (d : Placed) → k ≢ at → k < length rows
+    → slice_index_or rows' k d ≡ slice_index_or rows k d)
+Follows (Removed start end) rows rows' =
+    (start ≤ end) × (end ≤ length rows) × (rows' ≡ without_range start end rows)
+
+-- what the blocks of a list are stays so
+abbrev pub Keeps : List Placed → List Block → List Block → Type 0
+Keeps rows blocks blocks' = AreBounds rows blocks → AreBounds rows blocks'
+
+-- after a change of the list to this one
+abbrev pub Carries : Change → List Placed → List Block → List Block → Type 0
+Carries change rows' blocks blocks' =
+    (rows : List Placed) → Follows change rows rows' → AreBounds rows blocks
+    → AreBounds rows' blocks'

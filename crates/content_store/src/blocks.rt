@@ -1,0 +1,284 @@
+ghost use Rattle.std.specs.Prelude.{◌≡◌, ◌↔◌, false, ◌+◌, ◌-◌, ◌<◌, ◌≤◌, ◌^◌, ℕ, List, IsTrue, insert, length, slice_index_or};
+ghost use Rattle.slab.specs.Slab.{get};
+ghost use Rattle.content_store.specs.Blocks.{AreBounds, Bounds, Carries, Follows, Keeps, fresh_until};
+ghost use Rattle.content_store.specs.Rows.{IsRows, Placed, held_at, shown};
+ghost use Rattle.content_store.specs.declared.blocks.Change.TheVariants as changes;
+
+use crate::rows::Row;
+use slab::Slab;
+
+/// The greatest number of rows that a block has before it is halved.
+const MAX_BLOCK: usize = 512;
+
+/// Places of the list that stand together, and a moment from which on no Data there is fresh.
+#[derive(Clone, Copy)]
+pub struct Block {
+    pub start: usize,
+    pub end: usize,
+    pub until: u64,
+}
+
+/// How the list of rows changed.
+#[derive(Clone, Copy)]
+pub enum Change {
+    /// One came before a place, and is fresh until then.
+    Added(usize, u64),
+    /// One at a place is fresh until another moment.
+    Renewed(usize, u64),
+    /// Those from a place on, up to another, are gone.
+    Removed(usize, usize),
+}
+
+/// Where a place is once those between two others are gone.
+fn moved(at: usize, start: usize, end: usize) -> usize
+    ensures low { at ≤ start → result ≡ at }
+    ensures within { start ≤ at → at ≤ end → result ≡ start }
+    ensures high { start ≤ end → end ≤ at → result + (end - start) ≡ at }
+{
+    if at <= start {
+        at
+    } else if at <= end {
+        start
+    } else {
+        at - end.saturating_sub(start)
+    }
+}
+
+impl Block {
+    /// Whether a place is in it.
+    fn holds(self, at: usize) -> bool
+        ensures { IsTrue result ↔ ((self.start ≤ at) × (at < self.end)) }
+    {
+        self.start <= at && at < self.end
+    }
+
+    /// As it is after one came before a place. It takes in what comes at its end.
+    fn with(self, at: usize, until: u64) -> Block
+        ensures { (rows : List Placed) (row : Placed) → at ≤ length rows
+            → fresh_until (held_at row) ≤ until → Bounds rows self
+            → Bounds (insert rows at row) result }
+    {
+        if self.end < at {
+            return self;
+        }
+        let end = self.end.saturating_add(1);
+        if at <= self.start && self.start > 0 {
+            let start = self.start.saturating_add(1);
+            return Block { start, end, ..self };
+        }
+        let until = self.until.max(until);
+        Block { end, until, ..self }
+    }
+
+    /// As it is after one at a place is fresh until another moment.
+    fn renewed(self, at: usize, until: u64) -> Block
+        ensures { (rows rows' : List Placed) → Follows (changes.Renewed at until) rows rows'
+            → Bounds rows self → Bounds rows' result }
+    {
+        if !self.holds(at) {
+            return self;
+        }
+        let until = self.until.max(until);
+        Block { until, ..self }
+    }
+
+    /// As it is after those from a place up to another are gone.
+    fn without(self, start: usize, end: usize) -> Block
+        ensures { (rows rows' : List Placed) → Follows (changes.Removed start end) rows rows'
+            → Bounds rows self → Bounds rows' result }
+    {
+        Block {
+            start: moved(self.start, start, end),
+            end: moved(self.end, start, end),
+            until: self.until,
+        }
+    }
+
+    /// As it is after a change.
+    fn after(self, change: Change) -> Block
+        ensures { (rows rows' : List Placed) → Follows change rows rows'
+            → Bounds rows self → Bounds rows' result }
+    {
+        match change {
+            Change::Added(at, until) => self.with(at, until),
+            Change::Renewed(at, until) => self.renewed(at, until),
+            Change::Removed(start, end) => self.without(start, end),
+        }
+    }
+}
+
+/// Follows a change of the list.
+pub fn follow(blocks: &mut Vec<Block>, change: Change)
+    ensures { (rows' : List Placed) → Carries change rows' blocks.old.items blocks.new.items }
+{
+    for at in 0..blocks.len() {
+        blocks[at] = blocks[at].after(change);
+    }
+}
+
+/// The index of the block that holds a place.
+fn index_at(blocks: &[Block], at: usize) -> usize {
+    blocks.partition_point(|block| block.end <= at)
+}
+
+/// The place to look at after one that cannot serve: with MustBeFresh the next one of which it is
+/// not known that its Data is not fresh.
+pub fn next_place(blocks: &[Block], at: usize, must_be_fresh: bool, now: u64) -> usize
+    requires { at + 1 < 2 ^ 64 }
+    ensures after { at < result }
+    ensures next { must_be_fresh ≡ false → result ≡ at + 1 }
+    ensures over { (rows : List Placed) → AreBounds rows blocks.now
+        → (k : ℕ) (d : Placed) → at < k → k < result → k < length rows
+        → fresh_until (held_at (slice_index_or rows k d)) ≤ now }
+{
+    if !must_be_fresh {
+        return at + 1;
+    }
+    match blocks.get(index_at(blocks, at)) {
+        Some(block) if block.holds(at) && block.until <= now => block.end,
+        _ => at + 1,
+    }
+}
+
+/// The block from a place up to another.
+fn block_of(entries: &Slab<Row>, order: &[u32], start: usize, end: usize) -> Block
+    requires { IsRows (get entries.now) order.now }
+    ensures { Bounds (shown (get entries.now) order.now) result }
+{
+    let end = end.min(order.len());
+    let mut until = 0;
+    for at in start..end {
+        until = until.max(entries[order[at] as usize].entry.fresh_until());
+    }
+    Block { start, end, until }
+}
+
+/// Makes the first block, if there is memory.
+fn begin(entries: &Slab<Row>, order: &[u32], blocks: &mut Vec<Block>)
+    requires { IsRows (get entries.now) order.now }
+    ensures { Keeps (shown (get entries.now) order.now) blocks.old.items blocks.new.items }
+{
+    if blocks.is_empty() {
+        let _ = blocks.push(block_of(entries, order, 0, order.len()));
+    }
+}
+
+/// Halves a block that has become long, if there is memory.
+fn halve(entries: &Slab<Row>, order: &[u32], blocks: &mut Vec<Block>, index: usize)
+    requires { IsRows (get entries.now) order.now }
+    ensures { Keeps (shown (get entries.now) order.now) blocks.old.items blocks.new.items }
+{
+    if index >= blocks.len() {
+        return;
+    }
+    let block = blocks[index];
+    let len = block.end.saturating_sub(block.start);
+    if len <= MAX_BLOCK {
+        return;
+    }
+    let middle = block.end - len / 2;
+    let second = block_of(entries, order, middle, block.end);
+    if blocks.insert(index + 1, second).is_ok() {
+        blocks[index] = block_of(entries, order, block.start, middle);
+    }
+}
+
+/// Looks at a block anew.
+fn look_again(entries: &Slab<Row>, order: &[u32], blocks: &mut Vec<Block>, index: usize)
+    requires { IsRows (get entries.now) order.now }
+    ensures { Keeps (shown (get entries.now) order.now) blocks.old.items blocks.new.items }
+{
+    if index >= blocks.len() {
+        return;
+    }
+    let block = blocks[index];
+    blocks[index] = block_of(entries, order, block.start, block.end);
+}
+
+/// Takes out the blocks that hold nothing.
+fn drop_empty(blocks: &mut Vec<Block>)
+    ensures { (rows : List Placed) → Keeps rows blocks.old.items blocks.new.items }
+{
+    blocks.retain(|block| block.start < block.end);
+}
+
+/// Joins a block with the next one where both are short.
+fn join(blocks: &mut Vec<Block>, index: usize)
+    ensures { (rows : List Placed) → Keeps rows blocks.old.items blocks.new.items }
+{
+    if index >= blocks.len() || index + 1 >= blocks.len() {
+        return;
+    }
+    let first = blocks[index];
+    let second = blocks[index + 1];
+    let len = second.end.saturating_sub(first.start);
+    if first.end != second.start || len > MAX_BLOCK / 2 {
+        return;
+    }
+    blocks.remove(index + 1);
+    blocks[index] = Block {
+        start: first.start,
+        end: second.end,
+        until: first.until.max(second.until),
+    };
+}
+
+/// Follows one more before a place, which is fresh until then.
+pub fn add_row(entries: &Slab<Row>, order: &[u32], blocks: &mut Vec<Block>, at: usize, until: u64)
+    requires { IsRows (get entries.now) order.now }
+    ensures { Carries (changes.Added at until) (shown (get entries.now) order.now)
+        blocks.old.items blocks.new.items }
+{
+    follow(blocks, Change::Added(at, until));
+    begin(entries, order, blocks);
+    let index = index_at(blocks, at);
+    halve(entries, order, blocks, index);
+}
+
+/// Follows one less at a place, which was fresh until then.
+pub fn remove_row(
+    entries: &Slab<Row>,
+    order: &[u32],
+    blocks: &mut Vec<Block>,
+    at: usize,
+    until: u64,
+)
+    requires rows { IsRows (get entries.now) order.now }
+    requires room { at + 1 < 2 ^ 64 }
+    ensures { Carries (changes.Removed at (at + 1)) (shown (get entries.now) order.now)
+        blocks.old.items blocks.new.items }
+{
+    let index = index_at(blocks, at);
+    follow(blocks, Change::Removed(at, at + 1));
+    if index >= blocks.len() {
+        return;
+    }
+    let block = blocks[index];
+    if block.start >= block.end {
+        drop_empty(blocks);
+        return;
+    }
+    if block.until == until {
+        look_again(entries, order, blocks, index);
+    }
+    join(blocks, index);
+}
+
+/// Follows that those from a place up to another are gone.
+pub fn remove_rows(
+    entries: &Slab<Row>,
+    order: &[u32],
+    blocks: &mut Vec<Block>,
+    start: usize,
+    end: usize,
+)
+    requires { IsRows (get entries.now) order.now }
+    ensures { Carries (changes.Removed start end) (shown (get entries.now) order.now)
+        blocks.old.items blocks.new.items }
+{
+    follow(blocks, Change::Removed(start, end));
+    drop_empty(blocks);
+    let index = index_at(blocks, start);
+    look_again(entries, order, blocks, index);
+    look_again(entries, order, blocks, index.saturating_sub(1));
+}
