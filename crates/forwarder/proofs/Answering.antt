@@ -1,14 +1,14 @@
 -- An Interest for Data is answered: by a Nack where it loops, from the cache or the repository, or by
 -- sending it on.
 use Rattle.std.proofs.Common.{◌≡◌, ℕ, ◌≤◌, Bool, true, false, cond, List, [], ◌∷◌, length, Option, None, Some, Result, Ok, Err, inl, inr, refl, sym, ap, subst, ◌∙◌}
-use Rattle.std.specs.Prelude.{◌⊎◌, IfOk, not, ◌&&◌}
+use Rattle.std.specs.Prelude.{◌⊎◌, IfOk, max, not, ◌&&◌}
 use Rattle.std.specs.List.{All}
 use Rattle.std.specs.FinMap.{entries, find, get-entries}
 use Rattle.std.specs.Ordering.{is_eq}
 use Rattle.std.proofs.Math.Bridge.{le_prop}
 use Rattle.std.proofs.Math.Logic.{∥∥₁_elim}
 use Rattle.std.proofs.lemmas.Cmp.{tied_itself}
-use Rattle.std.proofs.lemmas.List.Elements.{All-head}
+use Rattle.std.proofs.lemmas.List.Elements.{All-contains, All-head}
 use Rattle.ndn_tlv.specs.Element.{Field}
 use Rattle.ndn_tlv.specs.declared.memory.Memory.{Memory}
 use Rattle.ndn_names.specs.Key.{name_cmp-total}
@@ -21,7 +21,7 @@ use Rattle.ndn_packets.specs.declared.types.TheConstants.{DUPLICATE}
 use Rattle.pit_fib.specs.Pit.{loops}
 use Rattle.pit_fib.specs.Records.{HoldsTheLiving, is_alive, records_at}
 use Rattle.pit_fib.specs.Cause.{Cause}
-use Rattle.content_store.specs.Store.{Finds, IsCachedData, IsStore, StoreState}
+use Rattle.content_store.specs.Store.{CachedData, CanServe, Finds, IsCachedData, IsLeast, IsStore, StoreState}
 use Rattle.repo_core.specs.Objects.{AreObjects, IsObject, Objects, first_octets, full_name_answers, kept, served}
 use Rattle.repo_core.proofs.Kept.{entries-kept}
 use Rattle.repo_core.proofs.Stored.{kept_objects}
@@ -97,6 +97,34 @@ strategy_passes seen key whole i face (choices.Send faces) = by_full (not (is_al
 
 pub later_sound : (old was : NodeState) (moment : ℕ) → IsSound old → IsLater old moment was → IsSound was
 later_sound old was moment sound later = step_sound old was _ _ sound (tick_step old was moment later)
+
+-- ---- what is held for an Interest when its moment comes
+
+-- what may be served is
+pub nothing_served : (key : PlainKey) (now : ℕ) (cached : List CachedData) (c : CachedData) → IsLeast (CanServe key now) cached c → All (λ d. ¬ CanServe key now d) cached → ⊥
+nothing_served key now cached c least none = All-contains (λ d. ¬ CanServe key now d) cached c none least.is_cached least.has
+
+module _ (old was : NodeState) (moment : ℕ) (later : IsLater old moment was) where
+  abbrev then : ℕ
+  then = max old.policy.now moment
+
+  now_then : was.policy.now ≡ then
+  now_then = ap (λ (p : Policy). p.now) later.policy
+
+  pub least_then : (key : PlainKey) (c : CachedData) → IsLeast (CanServe key then) old.cache.cached c → IsLeast (CanServe key was.policy.now) was.cache.cached c
+  least_then key c least =
+      subst (λ (s : StoreState). IsLeast (CanServe key was.policy.now) s.cached c) (sym later.cache)
+      (subst (λ (n : ℕ). IsLeast (CanServe key n) old.cache.cached c) (sym now_then) least)
+
+  pub uncached_then : (key : PlainKey) → All (λ c. ¬ CanServe key then c) old.cache.cached → Finds key was.policy.now was.cache None was.cache
+  uncached_then key none = (
+    subst (λ (s : StoreState). All (λ c. ¬ CanServe key was.policy.now c) s.cached) (sym later.cache)
+        (subst (λ (n : ℕ). All (λ c. ¬ CanServe key n c) old.cache.cached) (sym now_then) none),
+    refl,
+  )
+
+  pub served_then : (name : List Field) (flag : Bool) → served name flag was.policy.held.objects ≡ served name flag old.policy.held.objects
+  served_then name flag = ap (λ (p : Policy). served name flag p.held.objects) later.policy
 
 -- ---- an Interest that is refused
 

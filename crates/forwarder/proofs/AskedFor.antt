@@ -115,16 +115,16 @@ module _ (first : Policy) (past : Run) (event : PlainEvent) (answer : Answer) (r
   seen = seen_after past q reply.waiting
 
   -- the face asked for this packet, if it is a Data
-  abbrev OutRecords : PlainFrame → Type 0
-  OutRecords (AData whole d) = WasAskedFor first past reply.was event face octets whole d
-  OutRecords (AnInterest whole i) = Unit {0}
-  OutRecords (ANack reason whole i) = Unit {0}
-  OutRecords Idle = Unit {0}
+  abbrev Asked : PlainFrame → Type 0
+  Asked (AData whole d) = WasAskedFor first past reply.was event face octets whole d
+  Asked (AnInterest whole i) = Unit {0}
+  Asked (ANack reason whole i) = Unit {0}
+  Asked Idle = Unit {0}
 
   same_frame : (packet other : PlainFrame) → frame_at octets ≡ Ok packet → frame_at octets ≡ Ok other → other ≡ packet
   same_frame packet other read again = (let e : Ok packet ≡ Ok other = sym read ∙ again in cc e)
 
-  forwarded_asked : (f : IsForwardedData seen event (face, octets)) → (frame_at octets ≡ Ok (AData f.whole f.packet)) × OutRecords (AData f.whole f.packet)
+  forwarded_asked : (f : IsForwardedData seen event (face, octets)) → (frame_at octets ≡ Ok (AData f.whole f.packet)) × Asked (AData f.whole f.packet)
   forwarded_asked f =
       let key = f.waits.0 in
       let waits = some_ask (map.get (records_after (Expires now) key (records_of past key)).in_records face)
@@ -132,19 +132,19 @@ module _ (first : Policy) (past : Run) (event : PlainEvent) (answer : Answer) (r
         ap frame_at f.received ∙ data_alone f.octets f.whole f.packet f.read,
         inl (
           record { rule = f.rule; brings = f.decided; said = f.allowed },
-          record { key = key; ask = waits.0; waits = waits.1; answered = f.waits.1 },
+          record { key = key; in_record = waits.0; waits = waits.1; answered = f.waits.1 },
         ),
       )
 
   -- an earlier Data that answers the Interest of the event
   earlier : (r : IsReply seen event (face, octets)) (whole : List ℕ) (d : PlainData) → octets ≡ whole → AllowedIn first past (AData whole d)
-      → IsTrue (answers d.name (sha256 whole) r.interest.name r.interest.can_be_prefix) → (frame_at octets ≡ Ok (AData whole d)) × OutRecords (AData whole d)
+      → IsTrue (answers d.name (sha256 whole) r.interest.name r.interest.can_be_prefix) → (frame_at octets ≡ Ok (AData whole d)) × Asked (AData whole d)
   earlier r whole d same allowed answered = (
     ap frame_at same ∙ allowed_reads first past whole d allowed,
     inr (r.whole, r.interest, record { now = r.now; octets = r.octets; brings = r.brings; read = r.read }, inl (answered, allowed)),
   )
 
-  cached_asked : (r : IsReply seen event (face, octets)) → seen.MayGive (key_of r.interest) (Some octets) → (whole : List ℕ) × (d : PlainData) × (frame_at octets ≡ Ok (AData whole d)) × OutRecords (AData whole d)
+  cached_asked : (r : IsReply seen event (face, octets)) → seen.MayGive (key_of r.interest) (Some octets) → (whole : List ℕ) × (d : PlainData) × (frame_at octets ≡ Ok (AData whole d)) × Asked (AData whole d)
   cached_asked r (c, holds, serves, same) =
       let i = r.interest in
       let came = cached_came_allowed first past c is holds in
@@ -156,7 +156,7 @@ module _ (first : Policy) (past : Run) (event : PlainEvent) (answer : Answer) (r
       (c.octets, d, found.0, found.1)
 
   stored_asked : (r : IsReply seen event (face, octets)) → served r.interest.name r.interest.can_be_prefix seen.policy.held.objects ≡ Some octets
-      → (whole : List ℕ) × (d : PlainData) × (frame_at octets ≡ Ok (AData whole d)) × OutRecords (AData whole d)
+      → (whole : List ℕ) × (d : PlainData) × (frame_at octets ≡ Ok (AData whole d)) × Asked (AData whole d)
   stored_asked r stored =
       let i = r.interest in
       let row = served_row i.name i.can_be_prefix seen.policy.held.objects octets stored in
@@ -167,22 +167,22 @@ module _ (first : Policy) (past : Run) (event : PlainEvent) (answer : Answer) (r
       let found = earlier r octets d refl came.1 answered in
       (octets, d, found.0, found.1)
 
-  own_asked : (r : IsReply seen event (face, octets)) (whole : List ℕ) (d : PlainData) → IsOwnAnswer q face r.whole r.interest octets → OutRecords (AData whole d)
+  own_asked : (r : IsReply seen event (face, octets)) (whole : List ℕ) (d : PlainData) → IsOwnAnswer q face r.whole r.interest octets → Asked (AData whole d)
   own_asked r whole d own = inr (r.whole, r.interest, record { now = r.now; octets = r.octets; brings = r.brings; read = r.read }, inr own)
 
-  by_frame : (whole : List ℕ) (d : PlainData) → frame_at octets ≡ Ok (AData whole d) → (packet : PlainFrame) × (frame_at octets ≡ Ok packet) × OutRecords packet → OutRecords (AData whole d)
-  by_frame whole d read found = subst OutRecords (same_frame (AData whole d) found.0 read found.1) found.2
+  by_frame : (whole : List ℕ) (d : PlainData) → frame_at octets ≡ Ok (AData whole d) → (packet : PlainFrame) × (frame_at octets ≡ Ok packet) × Asked packet → Asked (AData whole d)
+  by_frame whole d read found = subst Asked (same_frame (AData whole d) found.0 read found.1) found.2
 
   pub sent_was_asked_for : (whole : List ℕ) (d : PlainData) → Contains answer.sends (face, octets) → frame_at octets ≡ Ok (AData whole d) → WasAskedFor first past reply.was event face octets whole d
   sent_was_asked_for whole d sent read =
       by_cause (All-contains (IsExplained seen event) answer.sends (face, octets) (all_explained seen event answer fits reply.replies) sent)
     where
-      by_hand : (r : IsReply seen event (face, octets)) → IsAtHand seen face r.whole r.interest octets → OutRecords (AData whole d)
+      by_hand : (r : IsReply seen event (face, octets)) → IsAtHand seen face r.whole r.interest octets → Asked (AData whole d)
       by_hand r (inl given) = let found = cached_asked r given in by_frame whole d read (AData found.0 found.1, found.2, found.3)
       by_hand r (inr (inl stored)) = let found = stored_asked r stored in by_frame whole d read (AData found.0 found.1, found.2, found.3)
       by_hand r (inr (inr own)) = own_asked r whole d own
 
-      by_cause : IsExplained seen event (face, octets) → OutRecords (AData whole d)
+      by_cause : IsExplained seen event (face, octets) → Asked (AData whole d)
       by_cause (inl f) = let found = forwarded_asked f in by_frame whole d read (AData f.whole f.packet, found.0, found.1)
       by_cause (inr (inl r)) = by_hand r r.at_hand
       by_cause (inr (inr other)) = (let yes : is_data octets ≡ true = either (begins_as_data octets) (is_data_frame (frame_at octets)) (ap is_data_frame read) in cc (other, yes))

@@ -118,7 +118,7 @@ pub sent_alive : (key : PlainKey) (face : ℕ) (nonce : List ℕ) (now : ℕ) (k
     → is_alive (records_after (SentTo key face nonce now) k r) ≡ true
 sent_alive key face nonce now k r alive =
     settled_alive (changed (SentTo key face nonce now) k r)
-    (elim (same_key k key) as (λ b. is_alive (cond b (record { asks = r.in_records; asked = fin.insert r.out_records face (sent_at nonce now) }) r) ≡ true) [
+    (elim (same_key k key) as (λ b. is_alive (cond b (record { in_records = r.in_records; out_records = fin.insert r.out_records face (sent_at nonce now) }) r) ≡ true) [
       | true ↦ alive
       | false ↦ alive
     ])
@@ -160,7 +160,7 @@ has_at (f ∷ faces) (suc i) face at = ap (λ (b : Bool). (f == face) || b) (has
 -- who arrives asks
 pub arrived_alive : (key : PlainKey) (face : ℕ) (ask : InRecord) (r : Records) → is_alive (records_after (Arrives key face ask) key r) ≡ true
 arrived_alive key face ask r =
-    let asking : Records = record { asks = fin.insert r.in_records face ask; asked = r.out_records } in
+    let asking : Records = record { in_records = fin.insert r.in_records face ask; out_records = r.out_records } in
     settled_alive (changed (Arrives key face ask) key r)
     (subst (λ (b : Bool). is_alive (cond b asking r) ≡ true) (sym (same_self key)) (alive_insert r.in_records r.out_records face ask))
 

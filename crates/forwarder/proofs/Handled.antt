@@ -1,6 +1,6 @@
 -- A packet that is answered once its moment has come is one step.
-use Rattle.std.proofs.Common.{◌≡◌, ℕ, Bool, true, false, cond, List, [], ◌++◌, Option, None, Some, Result, Ok, Err, refl, sym, ap, subst, ◌∙◌}
-use Rattle.std.specs.Prelude.{IfOk}
+use Rattle.std.proofs.Common.{◌≡◌, ℕ, Bool, true, false, cond, List, [], ◌++◌, Option, None, Some, Result, Ok, Err, inl, inr, refl, sym, ap, subst, ◌∙◌}
+use Rattle.std.specs.Prelude.{◌⊎◌, IfOk}
 use Rattle.std.proofs.lemmas.List.{append-nil}
 use Rattle.ndn_tlv.specs.declared.memory.Memory.{Memory}
 use Rattle.forwarder.specs.declared.state.State.{State}
@@ -22,7 +22,7 @@ use Rattle.forwarder.specs.Causes.{causes_by}
 use Rattle.forwarder.specs.Cache.{CacheAfter, cache_use}
 use Rattle.forwarder.specs.Replies.{RepliesToPacket}
 use Rattle.forwarder.specs.Handling.{IsAnswered, IsHandled, IsPacketEffect, packet_causes, packet_use}
-use Rattle.forwarder.specs.Node.{NodeState, FollowAll, IsStep, seen_in}
+use Rattle.forwarder.specs.Node.{NodeState, FollowAll, IsStep, NeedsNoMemory, seen_in}
 use Rattle.forwarder.specs.State.{IsLater, state_of}
 use Rattle.forwarder.proofs.Uses.{dropped_outcome}
 
@@ -83,6 +83,12 @@ module _ (old was new : NodeState) (face now : ℕ) (octets : List ℕ) (answer 
       alive = answered.alive;
       cache = cache_read;
     }
+
+-- what needs no memory, where it is a packet on an open face
+pub needs_read : (p : Policy) (face : ℕ) (read : Result PlainFrame PacketFault) (packet : PlainFrame) → is_open face p.faces ≡ true → read ≡ Ok packet
+    → (is_open face p.faces ≡ false) ⊎ NeedsNoMemory p face read → NeedsNoMemory p face (Ok packet)
+needs_read p face read packet here is (inl closed) = cc (here, closed)
+needs_read p face read packet here is (inr needs) = subst (NeedsNoMemory p face) is needs
 
 -- ---- packets that are dropped
 

@@ -256,7 +256,7 @@ module _ (key : PlainKey) (face : ℕ) (nonce : List ℕ) (reason : ℕ) where
   pub nacked_asks : (r : Records) → is_alive r ≡ true → (records_after came key r).in_records ≡ r.in_records
   nacked_asks r alive =
       let same : (changed came key r).in_records ≡ r.in_records =
-      elim (same_key key key) as (λ b. (cond b (record { asks = r.in_records; asked = with_reason face nonce reason r.out_records (get r.out_records face) }) r).in_records ≡ r.in_records) [ true ↦ refl | false ↦ refl ] in
+      elim (same_key key key) as (λ b. (cond b (record { in_records = r.in_records; out_records = with_reason face nonce reason r.out_records (get r.out_records face) }) r).in_records ≡ r.in_records) [ true ↦ refl | false ↦ refl ] in
       ap (λ b. (cond b (changed came key r) no_records).in_records) (ap (λ (m : InRecords). ltb 0 (fin.len m)) same ∙ alive) ∙ same
 
   -- a Nonce that was not sent changes nothing
@@ -279,12 +279,12 @@ module _ (key : PlainKey) (face : ℕ) (nonce : List ℕ) (reason : ℕ) where
   unknown_nack old new living unknown follows k = follows k ∙ ap settled (stays (same_key k key) refl) ∙ settled_stays old living k
     where
       stays : (b : Bool) → same_key k key ≡ b → changed came k (records_at old k) ≡ records_at old k
-      stays false t = ap (λ b. cond b (record { asks = (records_at old k).in_records; asked = with_reason face nonce reason (records_at old k).out_records (get (records_at old k).out_records face) }) (records_at old k)) t
+      stays false t = ap (λ b. cond b (record { in_records = (records_at old k).in_records; out_records = with_reason face nonce reason (records_at old k).out_records (get (records_at old k).out_records face) }) (records_at old k)) t
       stays true t =
           let other = (not_pending (records_at old key) face nonce reason).0 unknown in
           let here = subst (λ (q : PlainKey). was_sent (get (records_at old q).out_records face) nonce ≡ false) (sym (one_key k key t)) other in
-          ap (λ b. cond b (record { asks = (records_at old k).in_records; asked = with_reason face nonce reason (records_at old k).out_records (get (records_at old k).out_records face) }) (records_at old k)) t
-          ∙ ap (λ (asked : OutRecords). let r : Records = record { asks = (records_at old k).in_records; asked = asked } in r) (not_kept (records_at old k).out_records here)
+          ap (λ b. cond b (record { in_records = (records_at old k).in_records; out_records = with_reason face nonce reason (records_at old k).out_records (get (records_at old k).out_records face) }) (records_at old k)) t
+          ∙ ap (λ (asked : OutRecords). let r : Records = record { in_records = (records_at old k).in_records; out_records = asked } in r) (not_kept (records_at old k).out_records here)
 
 some_nacks : (asks : InRecords) (reason : ℕ) → ltb 0 (fin.len asks) ≡ true → is_nil (nacks_to asks reason) ≡ false
 some_nacks asks reason alive = go (entries asks) (sym (ap (ltb 0) (len-entries asks)) ∙ alive)

@@ -140,7 +140,7 @@ module _ (name : List Field) (face : ℕ) where
   record_routes p (Some r) = refl
 
   -- an allowed command of status 200
-  is_done : Verdict → Bool
+  abbrev is_done : Verdict → Bool
   is_done Passed = false
   is_done (Allowed rule status) = status == OK
   is_done (DataAllowed rule) = false

@@ -1,6 +1,6 @@
 -- What is said where rules decided.
 use Rattle.std.proofs.Common.{◌≡◌, ℕ, refl, List, Result, Ok, Err, sym, subst, inl}
-use Rattle.std.specs.Prelude.{IfOk, MatchResult}
+use Rattle.std.specs.Prelude.{IfOk, MatchResult, OnErr}
 use Rattle.hmac_keys.specs.KeyFile.{NamedKey}
 use Rattle.ndn_tlv.specs.declared.memory.Memory.{Memory}
 use Rattle.ndn_packets.specs.Packet.{PlainFrame, PlainData, AData}
@@ -33,3 +33,7 @@ pub said_of_data : (rules : List PlainRule) (keys : List NamedKey) (whole : List
     → IfOk result (λ d. (p : Policy) → p.rules ≡ rules → p.keys ≡ keys → IsSaid p (AData whole packet) d)
 said_of_data rules keys whole packet Refused (Ok d) h = of_data rules keys whole packet d h
 said_of_data rules keys whole packet Refused (Err e) h = tt
+
+pub may_refuse : (P : Decision → Type 0) (R : Type 0) (result : Result Decision Memory) → MatchResult result P (λ _. R) → OnErr result R
+may_refuse P R (Ok d) h = tt
+may_refuse P R (Err e) h = h

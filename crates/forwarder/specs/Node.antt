@@ -1,10 +1,13 @@
 -- A node, and one step of it (NFD Developer's Guide, "Forwarding").
-use Rattle.std.specs.Prelude.{◌≡◌, ◌⊎◌, ℕ, List, false, Result, Ok, Err, nat_le, ⊤}
+use Rattle.std.specs.Prelude.{◌≡◌, ◌⊎◌, ℕ, List, true, false, Result, Ok, Err, nat_le, ⊤}
 use Rattle.std.specs.FinMap as map
 use Rattle.ndn_packets.specs.FrameReading.{frame_at}
 use Rattle.ndn_packets.specs.Key.{PlainKey}
 use Rattle.ndn_packets.specs.Packet.{PlainFrame, AnInterest, AData, ANack, Idle}
 use Rattle.ndn_packets.specs.declared.fault.PacketFault.{PacketFault}
+use Rattle.info_rules.specs.Decides.{MayRefuse}
+use Rattle.info_rules.specs.declared.decision.Decision.TheVariants.{Allowed}
+use Rattle.info_rules.specs.declared.rules.RuleNo.{RuleNo}
 use Rattle.pit_fib.specs.declared.pit.TheConstants.{MAX_PENDING}
 use Rattle.pit_fib.specs.Cause.{Cause, Expires, Follows}
 use Rattle.pit_fib.specs.Records.{Pending, HoldsTheLiving, records_at}
@@ -12,12 +15,14 @@ use Rattle.content_store.specs.Store.{Gives, StoreState}
 use Rattle.forwarder.specs.Event.{PlainEvent, Packet, FaceUp, FaceDown, Tick, moment}
 use Rattle.forwarder.specs.Faces.{is_open}
 use Rattle.forwarder.specs.Policy.{Policy, at_moment}
+use Rattle.forwarder.specs.Request.{Refused, is_out_of_scope, request_of}
+use Rattle.forwarder.specs.Said.{IsSaid}
 use Rattle.forwarder.specs.Replies.{Seen, Replies}
 use Rattle.forwarder.specs.Effects.{IsAfter}
 use Rattle.forwarder.specs.Outcome.{outcome_of}
 use Rattle.forwarder.specs.Causes.{causes_of, after_causes}
 use Rattle.forwarder.specs.Cache.{CacheAfter, MayForget, cache_use}
-use Rattle.forwarder.specs.Verdict.{Answer}
+use Rattle.forwarder.specs.Verdict.{Answer, DropReason}
 
 pub record NodeState : Type 0 where
   pub policy : Policy
@@ -67,17 +72,23 @@ pub record Unharmed (old new : NodeState) : Type 0 where
 
 -- ---- where no memory is asked for
 
--- octets that are no packet, or a link packet that holds none
-abbrev pub HoldsNoPacket : Result PlainFrame PacketFault → Type 0
-HoldsNoPacket (Err fault) = ⊤
-HoldsNoPacket (Ok (AnInterest whole i)) = ⊥
-HoldsNoPacket (Ok (AData whole d)) = ⊥
-HoldsNoPacket (Ok (ANack reason whole i)) = ⊥
-HoldsNoPacket (Ok Idle) = ⊤
+-- Octets that are no packet, or a link packet that holds none; what is out of scope, or an Interest
+-- whose HopLimit is 0; and a Data that is not allowed, where no checker of its rule expands a
+-- template.
+abbrev pub NeedsNoMemory : Policy → ℕ → Result PlainFrame PacketFault → Type 0
+NeedsNoMemory p face (Err fault) = ⊤
+NeedsNoMemory p face (Ok (AnInterest whole i)) =
+    (reason : DropReason) × (request_of p face i ≡ Refused reason)
+NeedsNoMemory p face (Ok (AData whole d)) =
+    (is_out_of_scope p face d.name ≡ true)
+    ⊎ (((rule : RuleNo) → ¬ IsSaid p (AData whole d) (Allowed rule))
+    × (¬ MayRefuse p.rules (AData whole d)))
+NeedsNoMemory p face (Ok (ANack reason whole i)) = is_out_of_scope p face i.name ≡ true
+NeedsNoMemory p face (Ok Idle) = ⊤
 
 abbrev pub AsksNoMemory : NodeState → PlainEvent → Type 0
 AsksNoMemory old (Packet face now octets) =
-    (is_open face old.policy.faces ≡ false) ⊎ HoldsNoPacket (frame_at octets)
+    (is_open face old.policy.faces ≡ false) ⊎ NeedsNoMemory old.policy face (frame_at octets)
 AsksNoMemory old (FaceUp face scope now) = ⊤
 AsksNoMemory old (FaceDown face now) = ⊤
 AsksNoMemory old (Tick now) = ⊤

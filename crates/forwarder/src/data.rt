@@ -1,4 +1,4 @@
-ghost use Rattle.std.specs.Prelude.{◌≡◌, ◌≤◌, ◌++◌, true, false, List, length, IsOk};
+ghost use Rattle.std.specs.Prelude.{◌≡◌, ◌≤◌, ◌++◌, true, false, List, length, Ok, IsOk};
 ghost use Rattle.sha2.specs.Sha256.{sha256};
 ghost use Rattle.ndn_names.specs.View.{components};
 ghost use Rattle.ndn_packets.specs.View.{plain_data};
@@ -9,6 +9,7 @@ ghost use Rattle.repo_core.specs.Repo.{IsOfferPrepared, after_offer};
 ghost use Rattle.forwarder.specs.Event.{Send};
 ghost use Rattle.forwarder.specs.Handling.{AwaitsPacket, HandlesPacket, data_packet, seen_by};
 ghost use Rattle.forwarder.specs.Cache.{CacheAfter, Inserts, held_from};
+ghost use Rattle.forwarder.specs.Node.{NeedsNoMemory};
 ghost use Rattle.forwarder.specs.Policy.{Policy};
 ghost use Rattle.forwarder.specs.Replies.{IsSentToAskers};
 ghost use Rattle.forwarder.specs.Request.{is_out_of_scope};
@@ -36,8 +37,10 @@ impl State {
         out: &mut Sends,
     ) -> Result<Verdict, Memory>
         requires ready { AwaitsPacket self.old arrived.now.face }
-        ensures { HandlesPacket self.old self.new out.old.sends out.new.sends
+        ensures handles { HandlesPacket self.old self.new out.old.sends out.new.sends
             arrived.now.face arrived.now.moment (data_packet arrived.now.packet.now) result }
+        ensures without_memory { NeedsNoMemory (policy_of self.old) arrived.now.face
+            (Ok (data_packet arrived.now.packet.now)) → IsOk result }
     {
         if self.is_out_of_scope(arrived.face, arrived.packet.name) {
             return Ok(self.drop_packet(arrived.moment, DropReason::Scope));

@@ -1,5 +1,6 @@
-ghost use Rattle.std.specs.Prelude.{◌≡◌, ◌↔◌, Some, IsTrue, IfOk, IfSome, IsOk, OnOk};
+ghost use Rattle.std.specs.Prelude.{◌≡◌, ◌↔◌, Some, IsTrue, IfOk, IfSome, IsOk, OnOk, OnErr};
 ghost use Rattle.std.specs.Option.{option_map};
+ghost use Rattle.info_rules.specs.Decides.{MayRefuse};
 ghost use Rattle.ndn_packets.specs.Packet.{AData, AnInterest, plain_signature};
 ghost use Rattle.ndn_packets.specs.View.{plain_data, plain_interest};
 ghost use Rattle.replay_guard.specs.Guard.{IsPrepared, signer_of};
@@ -93,8 +94,10 @@ pub(crate) fn said_of_data(
     keys: &KeyBook,
     packet: &Data<'_>,
 ) -> Result<Decision, Memory>
-    ensures { IfOk result (λ said. (p : Policy) → p.rules ≡ rules.now → p.keys ≡ keys.now
+    ensures said { IfOk result (λ said. (p : Policy) → p.rules ≡ rules.now → p.keys ≡ keys.now
         → IsSaid p (AData packet.now.whole.now (plain_data packet.now)) said) }
+    ensures memory { OnErr result
+        (MayRefuse rules.now (AData packet.now.whole.now (plain_data packet.now))) }
 {
     rules.decide(alloc, keys, Packet::Data(packet))
 }

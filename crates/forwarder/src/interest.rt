@@ -1,15 +1,19 @@
-ghost use Rattle.std.specs.Prelude.{◌≡◌, ◌≢◌, ◌+◌, ◌≤◌, ℕ, true, false, length, None, Some, IfOk, IsOk};
+ghost use Rattle.std.specs.Prelude.{◌≡◌, ◌≢◌, ◌+◌, ◌≤◌, ◌++◌, ◌∷◌, [], ℕ, true, false, length, max, All, None, Some, Ok, IfOk, IsOk, IsSome};
+ghost use Rattle.content_store.specs.Store.{CachedData, CanServe, IsLeast};
 ghost use Rattle.ndn_packets.specs.Key.{key_of};
 ghost use Rattle.ndn_packets.specs.View.{plain_interest};
+ghost use Rattle.ndn_packets.specs.Writing.{nack_text};
 ghost use Rattle.pit_fib.specs.Cause.{Arrives};
 ghost use Rattle.pit_fib.specs.Faces.{has_face};
+ghost use Rattle.pit_fib.specs.Pit.{loops};
 ghost use Rattle.pit_fib.specs.Records.{HoldsTheLiving, is_alive, records_at};
+ghost use Rattle.repo_core.specs.Objects.{served};
 ghost use Rattle.strategies.specs.declared.strategy.Choice.TheVariants as choices;
 ghost use Rattle.forwarder.specs.Causes.{sent_causes};
 ghost use Rattle.forwarder.specs.Faces.{is_open};
 ghost use Rattle.forwarder.specs.Forwarding.{ForwardsBy, choice_from};
 ghost use Rattle.forwarder.specs.Handling.{AwaitsPacket, HandlesPacket, interest_packet};
-ghost use Rattle.forwarder.specs.Node.{FollowAll};
+ghost use Rattle.forwarder.specs.Node.{FollowAll, NeedsNoMemory};
 ghost use Rattle.forwarder.specs.Request.{ForData, request_of};
 ghost use Rattle.forwarder.specs.State.{IsSound, policy_of, state_of};
 
@@ -32,8 +36,10 @@ impl State {
         out: &mut Sends,
     ) -> Result<Verdict, Memory>
         requires ready { AwaitsPacket self.old arrived.now.face }
-        ensures { HandlesPacket self.old self.new out.old.sends out.new.sends
+        ensures handles { HandlesPacket self.old self.new out.old.sends out.new.sends
             arrived.now.face arrived.now.moment (interest_packet arrived.now.packet.now) result }
+        ensures without_memory { NeedsNoMemory (policy_of self.old) arrived.now.face
+            (Ok (interest_packet arrived.now.packet.now)) → IsOk result }
     {
         if has_no_hops(arrived.packet) {
             return Ok(self.drop_packet(arrived.moment, DropReason::HopLimit));
@@ -49,7 +55,7 @@ impl State {
     }
 
     /// Answers an Interest for Data: by a Nack where it loops, from the cache or the repository, or
-    /// by sending it on.
+    /// by sending it on. What is held is looked for first, since that takes no memory.
     fn answer(
         &mut self,
         arrived: &Arrived<'_, Interest<'_>>,
@@ -62,25 +68,129 @@ impl State {
         ensures { HandlesPacket self.old self.new out.old.sends out.new.sends
             arrived.now.face arrived.now.moment (interest_packet arrived.now.packet.now) result }
     {
-        let face = arrived.face;
         let interest = arrived.packet;
-        let key = interest.key();
-        self.pit.prepare(key, interest.whole.len())?;
-        out.reserve(MAX_FACES, MAX_PACKET + NACK_EXTRA)?;
+        let now = self.now.max(arrived.moment);
+        if let Some(place) = self.tables.store.place_for(interest.key(), now) {
+            return self.serve_cached(arrived, place, out);
+        }
+        if self.repo.serve(interest).is_some() {
+            return self.serve_stored(arrived, out);
+        }
+        self.miss(arrived, out)
+    }
+
+    /// Answers an Interest from the cache, at the place that it gave for it (NFD Developer's Guide,
+    /// "Content Store Hit Pipeline"), or by a Nack where it loops.
+    fn serve_cached(
+        &mut self,
+        arrived: &Arrived<'_, Interest<'_>>,
+        place: usize,
+        out: &mut Sends,
+    ) -> Result<Verdict, Memory>
+        requires ready { AwaitsPacket self.old arrived.now.face }
+        requires for_data { request_of (policy_of self.old) arrived.now.face
+            (plain_interest arrived.now.packet.now) ≡ ForData }
+        requires held { (c : CachedData)
+            × IsLeast (CanServe (key_of (plain_interest arrived.now.packet.now))
+            (max self.old.now arrived.now.moment)) self.old.tables.store.cached c }
+        ensures { HandlesPacket self.old self.new out.old.sends out.new.sends
+            arrived.now.face arrived.now.moment (interest_packet arrived.now.packet.now) result }
+    {
+        out.reserve(1, MAX_PACKET + NACK_EXTRA)?;
         self.pass_time(arrived.moment);
-        if self.pit.loops(key, face, interest.nonce) {
-            out.push_nack(face, DUPLICATE, interest.whole)?;
+        if self.nack_loop(arrived, out)? {
             return Ok(Verdict::Dropped(DropReason::Loop));
         }
-        if let Some(octets) = self.tables.store.find(key, self.now) {
-            out.push(face, octets)?;
-            return Ok(Verdict::Passed);
+        let key = arrived.packet.key();
+        let Some(octets) = self.tables.store.serve_at(place, key, self.now) else {
+            unreachable!()
+        };
+        out.push(arrived.face, octets)?;
+        Ok(Verdict::Passed)
+    }
+
+    /// Answers an Interest from the repository, which stores something for it, or by a Nack where
+    /// it loops.
+    fn serve_stored(
+        &mut self,
+        arrived: &Arrived<'_, Interest<'_>>,
+        out: &mut Sends,
+    ) -> Result<Verdict, Memory>
+        requires ready { AwaitsPacket self.old arrived.now.face }
+        requires for_data { request_of (policy_of self.old) arrived.now.face
+            (plain_interest arrived.now.packet.now) ≡ ForData }
+        requires uncached { All (λ c. ¬ CanServe (key_of (plain_interest arrived.now.packet.now))
+            (max self.old.now arrived.now.moment) c) self.old.tables.store.cached }
+        requires stored { IsSome (served (plain_interest arrived.now.packet.now).name
+            (plain_interest arrived.now.packet.now).can_be_prefix self.old.repo.held.objects) }
+        ensures { HandlesPacket self.old self.new out.old.sends out.new.sends
+            arrived.now.face arrived.now.moment (interest_packet arrived.now.packet.now) result }
+    {
+        out.reserve(1, MAX_PACKET + NACK_EXTRA)?;
+        self.pass_time(arrived.moment);
+        if self.nack_loop(arrived, out)? {
+            return Ok(Verdict::Dropped(DropReason::Loop));
         }
-        if let Some(octets) = self.repo.serve(interest) {
-            out.push(face, octets)?;
-            return Ok(Verdict::Passed);
+        let Some(octets) = self.repo.serve(arrived.packet) else {
+            unreachable!()
+        };
+        out.push(arrived.face, octets)?;
+        Ok(Verdict::Passed)
+    }
+
+    /// Sends an Interest on for which nothing is held (NFD Developer's Guide, "Content Store Miss
+    /// Pipeline"), or a Nack back.
+    fn miss(
+        &mut self,
+        arrived: &Arrived<'_, Interest<'_>>,
+        out: &mut Sends,
+    ) -> Result<Verdict, Memory>
+        requires ready { AwaitsPacket self.old arrived.now.face }
+        requires for_data { request_of (policy_of self.old) arrived.now.face
+            (plain_interest arrived.now.packet.now) ≡ ForData }
+        requires hops { arrived.now.packet.now.hop_limit ≢ Some 0 }
+        requires uncached { All (λ c. ¬ CanServe (key_of (plain_interest arrived.now.packet.now))
+            (max self.old.now arrived.now.moment) c) self.old.tables.store.cached }
+        requires unstored { served (plain_interest arrived.now.packet.now).name
+            (plain_interest arrived.now.packet.now).can_be_prefix self.old.repo.held.objects
+            ≡ None }
+        ensures { HandlesPacket self.old self.new out.old.sends out.new.sends
+            arrived.now.face arrived.now.moment (interest_packet arrived.now.packet.now) result }
+    {
+        let interest = arrived.packet;
+        self.pit.prepare(interest.key(), interest.whole.len())?;
+        out.reserve(MAX_FACES, MAX_PACKET + NACK_EXTRA)?;
+        self.pass_time(arrived.moment);
+        if self.nack_loop(arrived, out)? {
+            return Ok(Verdict::Dropped(DropReason::Loop));
         }
-        self.forward(face, interest, out)
+        self.forward(arrived.face, interest, out)
+    }
+
+    /// Sends a Nack back where an Interest loops (NFD Developer's Guide, "Interest Loop Pipeline"),
+    /// and answers whether it does. Room for it is reserved.
+    fn nack_loop(
+        &self,
+        arrived: &Arrived<'_, Interest<'_>>,
+        out: &mut Sends,
+    ) -> Result<bool, Memory>
+        requires places { 1 ≤ out.old.places }
+        requires space { length arrived.now.packet.now.whole.now + NACK_EXTRA ≤ out.old.space }
+        ensures ok { IsOk result }
+        ensures found { IfOk result (λ is_loop. is_loop
+            ≡ loops (records_at self.entry.now.pit.pending
+            (key_of (plain_interest arrived.now.packet.now))) arrived.now.face
+            (plain_interest arrived.now.packet.now).nonce) }
+        ensures sent { result ≡ Ok true → out.new.sends ≡ out.old.sends
+            ++ (arrived.now.face, nack_text DUPLICATE arrived.now.packet.now.whole.now) ∷ [] }
+        ensures same { result ≡ Ok false → out.new ≡ out.old }
+    {
+        let interest = arrived.packet;
+        if !self.pit.loops(interest.key(), arrived.face, interest.nonce) {
+            return Ok(false);
+        }
+        out.push_nack(arrived.face, DUPLICATE, interest.whole)?;
+        Ok(true)
     }
 
     /// Sends an Interest that nothing held answers to where its strategy chooses, or a Nack back.

@@ -1,4 +1,4 @@
-ghost use Rattle.std.specs.Prelude.{◌≡◌, ◌+◌, ◌++◌, ◌≤◌, ℕ, true, IfOk, IsOk, IsSome};
+ghost use Rattle.std.specs.Prelude.{◌≡◌, ◌+◌, ◌++◌, ◌≤◌, ℕ, true, Ok, IfOk, IsOk, IsSome};
 ghost use Rattle.std.specs.FinMap as map;
 ghost use Rattle.ndn_packets.specs.Key.{plain_key};
 ghost use Rattle.ndn_packets.specs.Packet.{ANack};
@@ -6,7 +6,9 @@ ghost use Rattle.ndn_packets.specs.View.{plain_interest};
 ghost use Rattle.forwarder.specs.Faces.{is_open, numbers};
 ghost use Rattle.forwarder.specs.Handling.{AwaitsPacket, HandlesPacket};
 ghost use Rattle.forwarder.specs.NackRoom.{in_records_at, nack_room};
+ghost use Rattle.forwarder.specs.Node.{NeedsNoMemory};
 ghost use Rattle.forwarder.specs.Replies.{nacks_to};
+ghost use Rattle.forwarder.specs.State.{policy_of};
 
 use crate::arrived::Arrived;
 use crate::sends::Sends;
@@ -29,9 +31,12 @@ impl State {
         out: &mut Sends,
     ) -> Result<Verdict, Memory>
         requires ready { AwaitsPacket self.old arrived.now.face }
-        ensures { HandlesPacket self.old self.new out.old.sends out.new.sends
+        ensures handles { HandlesPacket self.old self.new out.old.sends out.new.sends
             arrived.now.face arrived.now.moment (ANack reason arrived.now.packet.now.whole.now
             (plain_interest arrived.now.packet.now)) result }
+        ensures without_memory { NeedsNoMemory (policy_of self.old) arrived.now.face
+            (Ok (ANack reason arrived.now.packet.now.whole.now
+            (plain_interest arrived.now.packet.now))) → IsOk result }
     {
         let interest = arrived.packet;
         if self.is_out_of_scope(arrived.face, interest.name) {

@@ -4,8 +4,8 @@ ghost use Rattle.ndn_packets.specs.Writing.{AreOctets};
 ghost use Rattle.repo_core.specs.Objects.{AreObjects};
 ghost use Rattle.forwarder.specs.Event.{Packet, Send};
 ghost use Rattle.forwarder.specs.Faces.{is_open};
-ghost use Rattle.forwarder.specs.Node.{HoldsNoPacket, IsStep, Unharmed};
-ghost use Rattle.forwarder.specs.State.{IsLater, IsSound, state_of};
+ghost use Rattle.forwarder.specs.Node.{NeedsNoMemory, IsStep, Unharmed};
+ghost use Rattle.forwarder.specs.State.{IsLater, IsSound, policy_of, state_of};
 ghost use Rattle.forwarder.specs.Verdict.{verdict_of};
 ghost use Rattle.forwarder.specs.declared.verdict.Verdict.TheVariants as said;
 
@@ -35,7 +35,7 @@ impl State {
             × (out.new.sends ≡ out.old.sends)) }
         ensures objects { AreObjects self.new.repo.held.objects }
         ensures without_memory { (is_open face self.old.faces ≡ false)
-            ⊎ HoldsNoPacket (frame_at octets.now) → IsOk result }
+            ⊎ NeedsNoMemory (policy_of self.old) face (frame_at octets.now) → IsOk result }
         ensures octets { AreOctets octets.now }
     {
         if !self.faces.contains(face) {

@@ -5,9 +5,9 @@ use Rattle.ndn_packets.proofs.Held.{data_held}
 use Rattle.ndn_packets.specs.declared.frame.Frame.{Frame}
 use Rattle.ndn_packets.specs.declared.fault.PacketFault.{PacketFault}
 use Rattle.forwarder.specs.Event.{Packet}
-use Rattle.forwarder.specs.State.{state_of}
+use Rattle.forwarder.specs.State.{policy_of, state_of}
 use Rattle.forwarder.specs.declared.verdict.DropReason.TheVariants as why
-use Rattle.forwarder.proofs.Handled.{closed_step, drops_by, handles_by, idle_step, malformed_step}
+use Rattle.forwarder.proofs.Handled.{closed_step, drops_by, handles_by, idle_step, malformed_step, needs_read}
 use Rattle.forwarder.proofs.StoredData.{handled_stores, later_stores}
 use Rattle.forwarder.proofs.state.State.receive.Goals as goal
 
@@ -38,17 +38,17 @@ returns-in-Ok-Idle-clause-handled c =
 pub returns-in-Ok-Interest-clause-handled : goal.returns-in-Ok-Interest-clause-handled
 returns-in-Ok-Interest-clause-handled c =
     handles_by c.args.self.now c.receive_interest.new.self c.args.out.now.sends c.receive_interest.new.out.sends c.args.face c.args.now c.args.octets.now _
-    c.receive_interest.result (sym c.contains.ensures ∙ c.if-not-contains.false) (sym c.in-Ok-Interest.ensures.exact ∙ ap as_read c.in-Ok-Interest.field-0-is) c.receive_interest.ensures.handled
+    c.receive_interest.result (sym c.contains.ensures ∙ c.if-not-contains.false) (sym c.in-Ok-Interest.ensures.exact ∙ ap as_read c.in-Ok-Interest.field-0-is) c.receive_interest.ensures.handles.handled
 
 pub returns-in-Ok-Data-clause-handled : goal.returns-in-Ok-Data-clause-handled
 returns-in-Ok-Data-clause-handled c =
     handles_by c.args.self.now c.receive_data.new.self c.args.out.now.sends c.receive_data.new.out.sends c.args.face c.args.now c.args.octets.now _
-    c.receive_data.result (sym c.contains.ensures ∙ c.if-not-contains.false) (sym c.in-Ok-Data.ensures.exact ∙ ap as_read c.in-Ok-Data.field-0-is) c.receive_data.ensures.handled
+    c.receive_data.result (sym c.contains.ensures ∙ c.if-not-contains.false) (sym c.in-Ok-Data.ensures.exact ∙ ap as_read c.in-Ok-Data.field-0-is) c.receive_data.ensures.handles.handled
 
 pub returns-in-Ok-Nack-clause-handled : goal.returns-in-Ok-Nack-clause-handled
 returns-in-Ok-Nack-clause-handled c =
     handles_by c.args.self.now c.receive_nack.new.self c.args.out.now.sends c.receive_nack.new.out.sends c.args.face c.args.now c.args.octets.now _
-    c.receive_nack.result (sym c.contains.ensures ∙ c.if-not-contains.false) (sym c.in-Ok-Nack.ensures.exact ∙ ap as_read c.in-Ok-Nack.field-0-is) c.receive_nack.ensures.handled
+    c.receive_nack.result (sym c.contains.ensures ∙ c.if-not-contains.false) (sym c.in-Ok-Nack.ensures.exact ∙ ap as_read c.in-Ok-Nack.field-0-is) c.receive_nack.ensures.handles.handled
 
 pub returns-then-not-contains-clause-objects : goal.returns-then-not-contains-clause-objects
 returns-then-not-contains-clause-objects c = later_stores c.args.self.now c.drop_packet.new.self c.args.now c.drop_packet.ensures.later c.requires.objects
@@ -65,11 +65,11 @@ receive_interest-requires c = record {
 }
 
 pub returns-in-Ok-Interest-clause-memory : goal.returns-in-Ok-Interest-clause-memory
-returns-in-Ok-Interest-clause-memory c = c.receive_interest.ensures.memory
+returns-in-Ok-Interest-clause-memory c = c.receive_interest.ensures.handles.memory
 
 pub returns-in-Ok-Interest-clause-objects : goal.returns-in-Ok-Interest-clause-objects
 returns-in-Ok-Interest-clause-objects c =
-    handled_stores c.args.self.now c.receive_interest.new.self c.args.out.now.sends c.receive_interest.new.out.sends c.args.face c.args.now _ c.receive_interest.result c.receive_interest.ensures tt c.requires.objects
+    handled_stores c.args.self.now c.receive_interest.new.self c.args.out.now.sends c.receive_interest.new.out.sends c.args.face c.args.now _ c.receive_interest.result c.receive_interest.ensures.handles tt c.requires.objects
 
 pub receive_data-requires : goal.receive_data-requires
 receive_data-requires c = record {
@@ -77,11 +77,11 @@ receive_data-requires c = record {
 }
 
 pub returns-in-Ok-Data-clause-memory : goal.returns-in-Ok-Data-clause-memory
-returns-in-Ok-Data-clause-memory c = c.receive_data.ensures.memory
+returns-in-Ok-Data-clause-memory c = c.receive_data.ensures.handles.memory
 
 pub returns-in-Ok-Data-clause-objects : goal.returns-in-Ok-Data-clause-objects
 returns-in-Ok-Data-clause-objects c =
-    handled_stores c.args.self.now c.receive_data.new.self c.args.out.now.sends c.receive_data.new.out.sends c.args.face c.args.now _ c.receive_data.result c.receive_data.ensures (data_held c.in-Ok-Data.data.whole.now (plain_data c.in-Ok-Data.data) c.in-Ok-Data.data.spelled) c.requires.objects
+    handled_stores c.args.self.now c.receive_data.new.self c.args.out.now.sends c.receive_data.new.out.sends c.args.face c.args.now _ c.receive_data.result c.receive_data.ensures.handles (data_held c.in-Ok-Data.data.whole.now (plain_data c.in-Ok-Data.data) c.in-Ok-Data.data.spelled) c.requires.objects
 
 pub receive_nack-requires : goal.receive_nack-requires
 receive_nack-requires c = record {
@@ -89,11 +89,11 @@ receive_nack-requires c = record {
 }
 
 pub returns-in-Ok-Nack-clause-memory : goal.returns-in-Ok-Nack-clause-memory
-returns-in-Ok-Nack-clause-memory c = c.receive_nack.ensures.memory
+returns-in-Ok-Nack-clause-memory c = c.receive_nack.ensures.handles.memory
 
 pub returns-in-Ok-Nack-clause-objects : goal.returns-in-Ok-Nack-clause-objects
 returns-in-Ok-Nack-clause-objects c =
-    handled_stores c.args.self.now c.receive_nack.new.self c.args.out.now.sends c.receive_nack.new.out.sends c.args.face c.args.now _ c.receive_nack.result c.receive_nack.ensures tt c.requires.objects
+    handled_stores c.args.self.now c.receive_nack.new.self c.args.out.now.sends c.receive_nack.new.out.sends c.args.face c.args.now _ c.receive_nack.result c.receive_nack.ensures.handles tt c.requires.objects
 
 pub returns-then-not-contains-clause-octets : goal.returns-then-not-contains-clause-octets
 returns-then-not-contains-clause-octets c = λ i. omega (arith, c.type_inv.octets i)
@@ -112,3 +112,15 @@ returns-in-Ok-Data-clause-octets c = λ i. omega (arith, c.type_inv.octets i)
 
 pub returns-in-Ok-Nack-clause-octets : goal.returns-in-Ok-Nack-clause-octets
 returns-in-Ok-Nack-clause-octets c = λ i. omega (arith, c.type_inv.octets i)
+
+pub returns-in-Ok-Interest-clause-without_memory : goal.returns-in-Ok-Interest-clause-without_memory
+returns-in-Ok-Interest-clause-without_memory c = λ needs. c.receive_interest.ensures.without_memory
+    (needs_read (policy_of c.args.self.now) c.args.face _ _ (sym c.contains.ensures ∙ c.if-not-contains.false) (sym c.in-Ok-Interest.ensures.exact ∙ ap as_read c.in-Ok-Interest.field-0-is) needs)
+
+pub returns-in-Ok-Data-clause-without_memory : goal.returns-in-Ok-Data-clause-without_memory
+returns-in-Ok-Data-clause-without_memory c = λ needs. c.receive_data.ensures.without_memory
+    (needs_read (policy_of c.args.self.now) c.args.face _ _ (sym c.contains.ensures ∙ c.if-not-contains.false) (sym c.in-Ok-Data.ensures.exact ∙ ap as_read c.in-Ok-Data.field-0-is) needs)
+
+pub returns-in-Ok-Nack-clause-without_memory : goal.returns-in-Ok-Nack-clause-without_memory
+returns-in-Ok-Nack-clause-without_memory c = λ needs. c.receive_nack.ensures.without_memory
+    (needs_read (policy_of c.args.self.now) c.args.face _ _ (sym c.contains.ensures ∙ c.if-not-contains.false) (sym c.in-Ok-Nack.ensures.exact ∙ ap as_read c.in-Ok-Nack.field-0-is) needs)

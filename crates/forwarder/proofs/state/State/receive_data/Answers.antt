@@ -1,4 +1,4 @@
-use Rattle.std.proofs.Common.{[], refl, sym, ap, subst, ◌∙◌}
+use Rattle.std.proofs.Common.{[], inl, inr, refl, sym, ap, subst, ◌∙◌}
 use Rattle.std.proofs.lemmas.List.{append-nil}
 use Rattle.ndn_packets.specs.Packet.{AData}
 use Rattle.ndn_packets.specs.View.{plain_data}
@@ -7,14 +7,14 @@ use Rattle.forwarder.specs.Event.{Send}
 use Rattle.forwarder.specs.Handling.{IsAnswered}
 use Rattle.forwarder.specs.Policy.{Policy}
 use Rattle.forwarder.specs.Said.{IsSaid}
-use Rattle.forwarder.specs.State.{state_of}
+use Rattle.forwarder.specs.State.{policy_of, state_of}
 use Rattle.forwarder.specs.Verdict.{verdict_of}
 use Rattle.forwarder.specs.declared.verdict.Verdict as code
 use Rattle.forwarder.proofs.Answered.{data_by_no_rule, data_denied, data_out_of_scope, later_scope, refused_packet, unharmed}
 use Rattle.forwarder.proofs.state.State.receive_data.Goals as goal
 
-pub returns-then-is_out_of_scope : goal.returns-then-is_out_of_scope
-returns-then-is_out_of_scope c = record {
+pub returns-then-is_out_of_scope-clause-handles : goal.returns-then-is_out_of_scope-clause-handles
+returns-then-is_out_of_scope-clause-handles c = record {
   handled =
       let was = state_of c.drop_packet.new.self in
       let later = c.drop_packet.ensures.later in
@@ -31,15 +31,15 @@ returns-then-is_out_of_scope c = record {
   memory = tt;
 }
 
-pub returns-in_err-rule : goal.returns-in_err-rule
-returns-in_err-rule c = refused_packet c.from_residual.result c.from_residual.ensures.0 (unharmed _ _ refl refl refl, refl)
+pub returns-in_err-rule-clause-handles : goal.returns-in_err-rule-clause-handles
+returns-in_err-rule-clause-handles c = refused_packet c.from_residual.result c.from_residual.ensures.0 (unharmed _ _ refl refl refl, refl)
 
 pub receive_allowed-requires-clause-allowed : goal.receive_allowed-requires-clause-allowed
 receive_allowed-requires-clause-allowed c = λ p rules keys.
-    subst (λ (said : Decision). IsSaid p (AData c.args.arrived.now.packet.now.whole.now (plain_data c.args.arrived.now.packet.now)) said) c.in-Allowed.is (c.in_ok-rule.ensures p rules keys)
+    subst (λ (said : Decision). IsSaid p (AData c.args.arrived.now.packet.now.whole.now (plain_data c.args.arrived.now.packet.now)) said) c.in-Allowed.is (c.in_ok-rule.ensures.said p rules keys)
 
-pub returns-in-Denied : goal.returns-in-Denied
-returns-in-Denied c = record {
+pub returns-in-Denied-clause-handles : goal.returns-in-Denied-clause-handles
+returns-in-Denied-clause-handles c = record {
   handled =
       let old = state_of c.args.self.now in
       let was = state_of c.pass_time.new.self in
@@ -54,13 +54,13 @@ returns-in-Denied c = record {
             (later_scope old was c.args.arrived.now.face c.args.arrived.now.moment d.name later ∙ sym c.is_out_of_scope.ensures ∙ c.if-is_out_of_scope.false)
             c.in-Denied.rule c.in-Denied.reason
             (subst (λ (said : Decision). IsSaid was.policy (AData whole d) said) c.in-Denied.is
-            (c.in_ok-rule.ensures was.policy (ap (λ (p : Policy). p.rules) later.policy) (ap (λ (p : Policy). p.keys) later.policy))),
+            (c.in_ok-rule.ensures.said was.policy (ap (λ (p : Policy). p.rules) later.policy) (ap (λ (p : Policy). p.keys) later.policy))),
       );
   memory = tt;
 }
 
-pub returns-in-NoRule : goal.returns-in-NoRule
-returns-in-NoRule c = record {
+pub returns-in-NoRule-clause-handles : goal.returns-in-NoRule-clause-handles
+returns-in-NoRule-clause-handles c = record {
   handled =
       let old = state_of c.args.self.now in
       let was = state_of c.pass_time-in-NoRule.new.self in
@@ -74,7 +74,21 @@ returns-in-NoRule c = record {
         data_by_no_rule was c.args.arrived.now.face whole d later.living
             (later_scope old was c.args.arrived.now.face c.args.arrived.now.moment d.name later ∙ sym c.is_out_of_scope.ensures ∙ c.if-is_out_of_scope.false)
             (subst (λ (said : Decision). IsSaid was.policy (AData whole d) said) c.in-NoRule.is
-            (c.in_ok-rule.ensures was.policy (ap (λ (p : Policy). p.rules) later.policy) (ap (λ (p : Policy). p.keys) later.policy))),
+            (c.in_ok-rule.ensures.said was.policy (ap (λ (p : Policy). p.rules) later.policy) (ap (λ (p : Policy). p.keys) later.policy))),
       );
   memory = tt;
 }
+
+pub returns-in_err-rule-clause-without_memory : goal.returns-in_err-rule-clause-without_memory
+returns-in_err-rule-clause-without_memory c = λ needs. elim needs [
+  | inl out ↦ let here = sym c.is_out_of_scope.ensures ∙ c.if-is_out_of_scope.false in cc (here, out)
+  | inr (never, sure) ↦ absurd (sure c.in_err-rule.ensures.memory)
+]
+
+pub returns-in-Allowed-clause-without_memory : goal.returns-in-Allowed-clause-without_memory
+returns-in-Allowed-clause-without_memory c = λ needs. elim needs [
+  | inl out ↦ let here = sym c.is_out_of_scope.ensures ∙ c.if-is_out_of_scope.false in cc (here, out)
+  | inr (never, sure) ↦ absurd (never c.in-Allowed.rule
+    (subst (λ (said : Decision). IsSaid (policy_of c.args.self.now) (AData c.args.arrived.now.packet.now.whole.now (plain_data c.args.arrived.now.packet.now)) said) c.in-Allowed.is
+    (c.in_ok-rule.ensures.said (policy_of c.args.self.now) refl refl)))
+]

@@ -20,8 +20,8 @@ use Rattle.forwarder.proofs.Answered.{later_scope, refused_packet, unharmed}
 use Rattle.forwarder.proofs.NackSteps.{awaited_alive, expired_room, nack_answered, nack_out_of_scope, nacked_asks, removed_causes, unknown_nack}
 use Rattle.forwarder.proofs.state.State.receive_nack.Goals as goal
 
-pub returns-then-is_out_of_scope : goal.returns-then-is_out_of_scope
-returns-then-is_out_of_scope c = record {
+pub returns-then-is_out_of_scope-clause-handles : goal.returns-then-is_out_of_scope-clause-handles
+returns-then-is_out_of_scope-clause-handles c = record {
   handled =
       let was = state_of c.drop_packet.new.self in
       let later = c.drop_packet.ensures.later in
@@ -38,11 +38,11 @@ returns-then-is_out_of_scope c = record {
   memory = tt;
 }
 
-pub returns-in_err-room : goal.returns-in_err-room
-returns-in_err-room c = refused_packet c.from_residual.result c.from_residual.ensures.0 (unharmed _ _ refl refl refl, refl)
+pub returns-in_err-room-clause-handles : goal.returns-in_err-room-clause-handles
+returns-in_err-room-clause-handles c = refused_packet c.from_residual.result c.from_residual.ensures.0 (unharmed _ _ refl refl refl, refl)
 
-pub returns-in_err-reserve : goal.returns-in_err-reserve
-returns-in_err-reserve c = refused_packet c.from_residual-in_err-reserve.result c.from_residual-in_err-reserve.ensures.0 (unharmed _ _ refl refl refl, c.reserve.ensures.sends)
+pub returns-in_err-reserve-clause-handles : goal.returns-in_err-reserve-clause-handles
+returns-in_err-reserve-clause-handles c = refused_packet c.from_residual-in_err-reserve.result c.from_residual-in_err-reserve.ensures.0 (unharmed _ _ refl refl refl, c.reserve.ensures.sends)
 
 pub push_nacks-requires-clause-known : goal.push_nacks-requires-clause-known
 push_nacks-requires-clause-known c = λ f some.
@@ -71,8 +71,8 @@ push_nacks-requires-clause-space c =
       c.in_ok-reserve.ensures.space,
     )
 
-pub returns-in-NoPending : goal.returns-in-NoPending
-returns-in-NoPending c = record {
+pub returns-in-NoPending-clause-handles : goal.returns-in-NoPending-clause-handles
+returns-in-NoPending-clause-handles c = record {
   handled =
       let old = state_of c.args.self.now in
       let was = state_of c.pass_time.new.self in
@@ -95,8 +95,8 @@ returns-in-NoPending c = record {
   memory = tt;
 }
 
-pub returns-in-Waiting : goal.returns-in-Waiting
-returns-in-Waiting c = record {
+pub returns-in-Waiting-clause-handles : goal.returns-in-Waiting-clause-handles
+returns-in-Waiting-clause-handles c = record {
   handled =
       let old = state_of c.args.self.now in
       let was = state_of c.pass_time.new.self in
@@ -119,8 +119,8 @@ returns-in-Waiting c = record {
   memory = tt;
 }
 
-pub returns-in_ok-push_nacks-in-All : goal.returns-in_ok-push_nacks-in-All
-returns-in_ok-push_nacks-in-All c = record {
+pub returns-in_ok-push_nacks-in-All-clause-handles : goal.returns-in_ok-push_nacks-in-All-clause-handles
+returns-in_ok-push_nacks-in-All-clause-handles c = record {
   handled =
       let old = state_of c.args.self.now in
       let was = state_of c.pass_time.new.self in
@@ -150,3 +150,9 @@ returns-in_ok-push_nacks-in-All c = record {
       );
   memory = tt;
 }
+
+pub returns-in_err-room-clause-without_memory : goal.returns-in_err-room-clause-without_memory
+returns-in_err-room-clause-without_memory c = λ out. let here = sym c.is_out_of_scope.ensures ∙ c.if-is_out_of_scope.false in cc (here, out)
+
+pub returns-in_err-reserve-clause-without_memory : goal.returns-in_err-reserve-clause-without_memory
+returns-in_err-reserve-clause-without_memory c = λ out. let here = sym c.is_out_of_scope.ensures ∙ c.if-is_out_of_scope.false in cc (here, out)
