@@ -1,12 +1,12 @@
 -- A full name that is not held.
 use Rattle.std.proofs.Common.{◌≡◌, ◌≢◌, ◌⊎◌, inl, inr, ℕ, ◌+◌, ◌-◌, ◌<◌, ◌≤◌, cond, not, List, [], ◌∷◌, length, get_or, insert, refl, sym, ap, subst, ◌∙◌, arith}
-use Rattle.std.specs.List.{AllByRecursion}
+use Rattle.std.specs.List.{All, AllByRecursion, Contains}
 use Rattle.std.specs.Ordering.{ordering_reverse}
 use Rattle.std.specs.declared.cmp.Ordering.{Ordering}
 use Rattle.std.specs.declared.cmp.Ordering.TheVariants.{Less, Equal, Greater}
 use Rattle.std.proofs.lemmas.Cmp.{tied_itself}
 use Rattle.std.proofs.lemmas.List.Edits.{length-insert, get_or-insert_below, get_or-insert_at, get_or-insert_above}
-use Rattle.std.proofs.lemmas.List.Elements.{recursion_from_All}
+use Rattle.std.proofs.lemmas.List.Elements.{All-contains, recursion_from_All}
 use Rattle.ndn_tlv.specs.Element.{Field}
 use Rattle.ndn_names.specs.Order.{name_cmp}
 use Rattle.ndn_names.specs.Key.{name_cmp-total, name_cmp-antisymmetric}
@@ -14,8 +14,8 @@ use Rattle.content_store.specs.declared.rows.Row.{Row}
 use Rattle.content_store.specs.Store.{CachedData, full_name_of, without}
 use Rattle.content_store.specs.Rows.{Placed, name_at, Rising, IsLower}
 use Rattle.content_store.specs.Uses.{cached_in, Sound}
-use Rattle.content_store.proofs.Uses.{differ}
-use Rattle.content_store.proofs.Least.{each}
+use Rattle.content_store.proofs.Uses.{differ, one_row}
+use Rattle.content_store.proofs.Least.{each, found_at}
 
 not_same : (a b : List Field) → name_cmp a b ≡ Less → a ≡ b → ⊥
 not_same a b less e = (let tie = ap (λ x. name_cmp x b) e ∙ tied_itself name_cmp-total b in let clash : Less ≡ Equal = sym less ∙ tie in cc)
@@ -98,8 +98,22 @@ without_none name [] h = refl
 without_none name (c ∷ cs) h =
     ap (λ b. cond (not b) (c ∷ without name cs) (without name cs)) (differ (full_name_of c) name h.0) ∙ ap (λ (t : List CachedData). c ∷ t) (without_none name cs h.1)
 
+-- nothing that is held has a full name that stands nowhere
+pub none_named : (rows : List Placed) (at : ℕ) (name : List Field) → Rising rows → IsLower name rows at → ((d : Placed) → at < length rows → name_at (get_or rows at d) ≢ name)
+    → (used : List (ℕ × ℕ)) (next : ℕ) → Sound rows used next → All (λ d. full_name_of d ≢ name) (cached_in rows used)
+none_named rows at name rising lower other used next sound =
+    each (λ d. full_name_of d ≢ name) rows used next sound (λ d. full_name_of d ≢ name) (not_at rows at name rising lower other)
+
+-- what is held and has the full name of what stands at a place is that
+pub is_there : (rows : List Placed) (used : List (ℕ × ℕ)) (next at : ℕ) (r : Placed) → Sound rows used next → at < length rows → get_or rows at r ≡ r
+    → (c : CachedData) → Contains (cached_in rows used) c → full_name_of c ≡ name_at r → c ≡ r.1.entry
+is_there rows used next at r sound lt is c held =
+    let Q : CachedData → Type 0 = λ d. full_name_of d ≡ name_at r → d ≡ r.1.entry in
+    All-contains Q (cached_in rows used) c
+    (each Q rows used next sound Q (λ k row q within here named.
+    ap (λ (x : Row). x.entry) (one_row rows sound.valid.rising q r.0 row r.1 (found_at rows k (q, row) sound.valid within (here (q, row))) (found_at rows at r sound.valid lt is) named))) held
+
 pub none_without : (rows : List Placed) (at : ℕ) (name : List Field) → Rising rows → IsLower name rows at → ((d : Placed) → at < length rows → name_at (get_or rows at d) ≢ name)
     → (used : List (ℕ × ℕ)) (next : ℕ) → Sound rows used next → without name (cached_in rows used) ≡ cached_in rows used
 none_without rows at name rising lower other used next sound =
-    without_none name _ (recursion_from_All (λ d. full_name_of d ≢ name) (cached_in rows used)
-    (each (λ d. full_name_of d ≢ name) rows used next sound (λ d. full_name_of d ≢ name) (not_at rows at name rising lower other)))
+    without_none name _ (recursion_from_All (λ d. full_name_of d ≢ name) (cached_in rows used) (none_named rows at name rising lower other used next sound))

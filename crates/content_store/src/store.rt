@@ -1,6 +1,6 @@
 ghost use Rattle.std.specs.Prelude.{◌≡◌, ◌↔◌, ◌⊎◌, ◌+◌, ◌-◌, ◌<◌, ◌≤◌, ◌^◌, [], ℕ, length, insert, slice_index_or, Err, IsTrue, false, IfOk, MatchOption};
 ghost use Rattle.std.specs.Option.{option_map};
-ghost use Rattle.std.specs.List.{All};
+ghost use Rattle.std.specs.List.{All, Contains};
 ghost use Rattle.ndn_names.specs.View.{components};
 ghost use Rattle.ndn_packets.specs.Key.{plain_key};
 ghost use Rattle.content_store.specs.Store.{CachedData, IsLeast, IsStore, CanServe, Gives, Finds, Erases, LosesSome, StoreState, cached_at, full_name_of, with_cached};
@@ -109,8 +109,9 @@ impl Store {
 
     /// Keeps a Data that arrived at this moment, in milliseconds since 1970, in place of one of the
     /// same full name, and as the most recently used. Where there was none and the store is full,
-    /// the least recently used goes. One that is held takes no memory. Answers false, and leaves
-    /// the store as it was, for want of memory and where other octets have this full name. After
+    /// the least recently used goes. One that is held takes no memory, and is not refused. Answers
+    /// false, and leaves the store as it was, for want of memory and where other octets have this
+    /// full name. After
     /// 2^64 - 1 full names it forgets all at the next new one, answers false, and is as a new store.
     pub fn put(&mut self, packet: &Data<'_>, arrival: u64) -> bool
         ensures ok { IsTrue result
@@ -118,6 +119,9 @@ impl Store {
         ensures refused { result ≡ false → LosesSome self.old.cached self.new.cached }
         ensures unharmed { result ≡ false
             → (self.new ≡ self.old) ⊎ (self.new ≡ record self.old { cached = [] }) }
+        ensures same { (c : CachedData) → Contains self.old.cached c
+            → full_name_of c ≡ full_name_of (cached_at packet.now arrival)
+            → c.octets ≡ packet.now.whole.now → IsTrue result }
         ensures capacity { self.new.capacity ≡ self.old.capacity }
         ensures store { IsStore self.new }
     {
@@ -233,6 +237,8 @@ fn put_same(
     ensures ok { IsTrue result
         → Renews rows.old used.old at (cached_at packet.now arrival) rows.new used.new }
     ensures refused { result ≡ false → (rows.new ≡ rows.old) × (used.new ≡ used.old) }
+    ensures same { (d : Placed) → (slice_index_or rows.old at d).1.entry.octets
+        ≡ packet.now.whole.now → IsTrue result }
 {
     let row = rows.row(at);
     if row.entry.octets() != packet.whole {

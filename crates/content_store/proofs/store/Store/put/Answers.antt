@@ -4,12 +4,48 @@ use Rattle.content_store.specs.Rows.{Placed, name_at}
 use Rattle.content_store.specs.Uses.{IsHeld, cached_in}
 use Rattle.content_store.proofs.Least.{held_store}
 use Rattle.content_store.proofs.Changes.{held_put}
-use Rattle.content_store.proofs.Fresh.{rising_insert, none_without}
+use Rattle.content_store.proofs.Fresh.{rising_insert, is_there, none_named, none_without}
+use Rattle.content_store.proofs.Promotes.{stands_at}
+use Rattle.std.specs.List.{All, Contains}
+use Rattle.std.proofs.lemmas.List.Elements.{All-contains}
 use Rattle.content_store.proofs.Given.{seen}
 use Rattle.content_store.proofs.Losses.{cached_is_data, loses_either, nothing_lost}
 use Rattle.content_store.proofs.Renewed.{held_none, held_same}
 use Rattle.content_store.proofs.store.Store.put.Goals as goal
 use Rattle.content_store.proofs.store.Store.put.Goals.{Else-is_full, In-Ok, Else-not-put_new, After-put_same}
+
+-- ---- what is held with these octets
+
+other : (c : Else-is_full) → (d : Placed) → c.place_for-at.result < length c.self.inside.rows
+    → name_at (get_or c.self.inside.rows c.place_for-at.result d) ≢ full_name_of (cached_at c.args.packet.now c.args.arrival)
+other c = λ d lt same. c.is_full.ensures.no c.if-is_full.false d lt same
+
+-- the full name is not held
+absent : (c : Else-is_full) → (d : CachedData) → Contains c.args.self.now.cached d → full_name_of d ≢ full_name_of (cached_at c.args.packet.now c.args.arrival)
+absent c d held =
+    let name = full_name_of (cached_at c.args.packet.now c.args.arrival) in
+    All-contains (λ d. full_name_of d ≢ name) c.args.self.now.cached d
+    (subst (λ (s : StoreState). All (λ d. full_name_of d ≢ name) s.cached) c.self.view_is
+    (none_named c.self.inside.rows c.place_for-at.result name c.self.invariant.sound.valid.rising c.place_for-at.ensures (other c) c.self.inside.used.entries c.self.inside.next c.self.invariant.sound)) held
+
+pub returns-then-is_full-clause-same : goal.returns-then-is_full-clause-same
+returns-then-is_full-clause-same c =
+    let yes = c.is_full.ensures.yes c.if-is_full.true in
+    let r = stands_at c.self.inside.rows c.place_for-at.result yes.0 in
+    λ d held named octets.
+    let there : d ≡ r.0.1.entry =
+    is_there c.self.inside.rows c.self.inside.used.entries c.self.inside.next c.place_for-at.result r.0 c.self.invariant.sound yes.0 (r.1 r.0) d
+    (subst (λ (s : StoreState). Contains s.cached d) (sym c.self.view_is) held) (named ∙ sym (yes.1 r.0) ∙ ap name_at (r.1 r.0)) in
+    c.put_same.ensures.same r.0 (ap (λ (x : Placed). x.1.entry.octets) (r.1 r.0) ∙ ap (λ (e : CachedData). e.octets) (sym there) ∙ octets)
+
+pub returns-then-self-clause-same : goal.returns-then-self-clause-same
+returns-then-self-clause-same c = λ d held named octets. absurd (absent (goal.at.returns-then-self-clause-same c).Else-is_full d held named)
+
+pub returns-in_default-clause-same : goal.returns-in_default-clause-same
+returns-in_default-clause-same c = λ d held named octets. absurd (absent (goal.at.returns-in_default-clause-same c).Else-is_full d held named)
+
+pub returns-then-not-put_new-clause-same : goal.returns-then-not-put_new-clause-same
+returns-then-not-put_new-clause-same c = λ d held named octets. absurd (absent (goal.at.returns-then-not-put_new-clause-same c).Else-is_full d held named)
 
 -- ---- serial numbers are used up
 
@@ -67,10 +103,6 @@ pub returns-then-is_full-clause-store : goal.returns-then-is_full-clause-store
 returns-then-is_full-clause-store c = held_store _ _ c.self.inside.capacity c.self.inside.next (same (goal.at.returns-then-is_full-clause-store c).After-put_same).0
 
 -- ---- it is new
-
-other : (c : Else-is_full) → (d : Placed) → c.place_for-at.result < length c.self.inside.rows
-    → name_at (get_or c.self.inside.rows c.place_for-at.result d) ≢ full_name_of (cached_at c.args.packet.now c.args.arrival)
-other c = λ d lt same. c.is_full.ensures.no c.if-is_full.false d lt same
 
 pub put_new-requires-clause-fits : goal.put_new-requires-clause-fits
 put_new-requires-clause-fits c =
