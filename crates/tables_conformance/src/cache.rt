@@ -1,5 +1,6 @@
 //! Data that are kept to answer Interests.
 
+mod fresh_among_stale;
 mod random_sequences;
 
 use crate::rows::check_rows;
@@ -101,6 +102,7 @@ fn store_erase(rt: HostRuntime) {
 8: put /A 01 0 0, put /A/B 02 0 0, erase /A 18446744073709551615 -> 2 (0 of 8)
 8: put /A 01 0 0, erase /A 0, erase /B all, erase /A/B 1, erase / all -> 0 0 0 1 (0 of 8)
 8: erase / all, erase / 1 -> 0 0 (0 of 8)
+8: put /A 01 0 0, put /B/1 02 0 0, put /B/2 03 0 0, put /B/3 04 0 0, put /C 05 0 0, erase /B 2, find /A - 0, find /B p 0, find /C - 0 -> 2 01 04 05 (3 of 8)
 # A shorter name is less, then a shorter component.
 8: put /A/B 01 0 0, put /A 02 0 0, erase / 1, find /A p 0 -> 1 01 (1 of 8)
 8: put /AA 01 0 0, put /B 02 0 0, erase / 1, find / p 0 -> 1 01 (1 of 8)

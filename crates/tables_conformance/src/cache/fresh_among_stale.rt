@@ -1,0 +1,69 @@
+//! One fresh Data under a name, among many that are not.
+
+use super::{put_number, put_packet};
+use content_store::*;
+use ndn_names::NameBuf;
+use ndn_packets::*;
+use std::alloc::Global;
+use test_support::data_of;
+
+/// Keeps a Data of each number up to `count`: the fresh one at one, and the other at the rest.
+fn put_all(
+    store: &mut Store,
+    fresh: &mut [u8],
+    stale: &mut [u8],
+    count: u32,
+    at: u32,
+) -> Option<bool> {
+    put_number(fresh, at);
+    for step in 0..count {
+        // In another order than that of the numbers.
+        let number = step * 7 % count;
+        put_number(stale, number);
+        let packet = if number == at { &*fresh } else { &*stale };
+        if !put_packet(store, packet, 0)? {
+            return Some(false);
+        }
+    }
+    Some(true)
+}
+
+/// What MustBeFresh gives under a name at this moment.
+fn fresh_under<'a>(store: &'a mut Store, name: &NameBuf, now: u64) -> Option<&'a [u8]> {
+    let key = Key {
+        name: name.view(),
+        can_be_prefix: true,
+        must_be_fresh: true,
+    };
+    store.find(key, now)
+}
+
+/// Whether the fresh one is given until its period is over, while others go, and until it goes.
+fn is_given_while_fresh(store: &mut Store, name: &NameBuf, fresh: &[u8]) -> Option<bool> {
+    let Frame::Data(data) = read_frame(fresh).ok()? else {
+        return None;
+    };
+    let is_given = fresh_under(store, name, 9) == Some(fresh);
+    let is_over = fresh_under(store, name, 10).is_none();
+    let is_left = store.erase(name.view(), Some(600)) == 600
+        && fresh_under(store, name, 9) == Some(fresh);
+    let is_gone = store.erase(data.name, None) == 1 && fresh_under(store, name, 9).is_none();
+    Some(is_given && is_over && is_left && is_gone)
+}
+
+/// Whether the one that is fresh for 10 ms is found among 2,000 that never are.
+fn is_fresh_found(alloc: Global, at: u32) -> Option<bool> {
+    let mut fresh = data_of(alloc, "/n/0000", "02", Some(10))?;
+    let mut stale = data_of(alloc, "/n/0000", "01", Some(0))?;
+    let mut store = Store::new(alloc, 2000).ok()?;
+    let name = NameBuf::from_uri(alloc, "/n").ok()?;
+    let is_kept = put_all(&mut store, &mut fresh, &mut stale, 2000, at)?;
+    Some(is_kept && is_given_while_fresh(&mut store, &name, &fresh)?)
+}
+
+#[test]
+fn fresh_data_among_stale(rt: HostRuntime) {
+    assert!(rt; is_fresh_found(rt.alloc(), 600) == Some(true));
+    assert!(rt; is_fresh_found(rt.alloc(), 1234) == Some(true));
+    assert!(rt; is_fresh_found(rt.alloc(), 1999) == Some(true));
+}
