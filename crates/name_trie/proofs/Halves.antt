@@ -45,7 +45,7 @@ module _ {K X : Type 0} {R : K → K → Ordering} (total : IsTotalOrder R) wher
       let one : suc at ≡ at + 1 = omega arith in
       subst (λ n. AllLower R k (take n rows)) one (upto k rows at row lt is sorted gt)
 
-row_at : {Y : Type 0} (rows : List Y) (at : ℕ) → at < length rows → (row : Y) × (row ≡ get_or rows at row)
+pub row_at : {Y : Type 0} (rows : List Y) (at : ℕ) → at < length rows → (row : Y) × (row ≡ get_or rows at row)
 row_at [] at lt = absurd (omega arith)
 row_at (e ∷ rows) zero lt = (e, refl)
 row_at (e ∷ rows) (suc at) lt = row_at rows at (omega arith)

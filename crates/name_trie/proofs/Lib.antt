@@ -1,4 +1,5 @@
 pub mod Halves
+pub mod Forgotten
 pub mod Revised
 pub mod Walks
 pub mod Changed

@@ -10,7 +10,7 @@ use Rattle.name_trie.specs.Trie.{Heap, child, value, up, walk, lookup}
 
 -- a node that holds nothing
 abbrev pub bare : {V : Type 0} → Option ℕ → Node V
-bare parent = record { parent = parent; children = empty; value = None }
+bare parent = record { parent = parent; hint = tt; children = empty; value = None }
 
 module _ {V : Type 0} where
   -- a bare node k hangs below a node now
@@ -39,7 +39,8 @@ module _ {V : Type 0} where
     pub was : up h k ≡ Some o
     pub gone : h' k ≡ None
     pub above : (p : ℕ) → o ≡ Some p → p ≢ k
-        → h' p ≡ option_map (λ (m : Node V). record m { children = revise (unless_is k) m.children }) (h p)
+        → h' p ≡ option_map
+        (λ (m : Node V). record m { children = revise (unless_is k) m.children }) (h p)
     pub others : (j : ℕ) → j ≢ k → o ≢ Some j → h' j ≡ h j
 
   -- a node has this value now, or none
@@ -50,7 +51,8 @@ module _ {V : Type 0} where
     pub others : (j : ℕ) → j ≢ k → h' j ≡ h j
 
   -- k held nothing, and is gone with the links to it
-  pub record Lacks (k : ℕ) (h : Heap V) (root : Option ℕ) (h' : Heap V) (root' : Option ℕ) : Type 0 where
+  pub record Lacks (k : ℕ) (h : Heap V) (root : Option ℕ) (h' : Heap V) (root' : Option ℕ)
+      : Type 0 where
     pub roots : root' ≡ unless k root
     pub links : (a : ℕ) (c : Field) → child h' a c ≡ unless k (child h a c)
     pub gone : up h' k ≡ None
@@ -65,7 +67,8 @@ module _ {V : Type 0} where
 
   -- what a name led to, it leads to still
   abbrev pub KeepsWalks : Heap V → Option ℕ → Heap V → Option ℕ → Type 0
-  KeepsWalks h root h' root' = (q : List Field) (k : ℕ) → walk h root q ≡ Some k → walk h' root' q ≡ Some k
+  KeepsWalks h root h' root' =
+      (q : List Field) (k : ℕ) → walk h root q ≡ Some k → walk h' root' q ≡ Some k
 
 -- a node that a name of less than 64 components leads to
 abbrev pub HasRoomBelow : {V : Type 0} → Heap V → Option ℕ → ℕ → Type 0

@@ -15,7 +15,8 @@ links_of None = []
 links_of (Some n) = entries n.children
 
 -- the names below a node, where f gives those of each child
-abbrev pub below : {V : Type 0} → (Option ℕ → List (List Field × V)) → List (Field × ℕ) → List (List Field × V)
+abbrev pub below : {V : Type 0} → (Option ℕ → List (List Field × V)) → List (Field × ℕ)
+    → List (List Field × V)
 below f [] = []
 below f (e ∷ es) = map (λ r. (e.0 ∷ r.0, r.1)) (f (Some e.1)) ++ below f es
 
@@ -69,7 +70,8 @@ pub record Sound {V : Type 0} (h : Heap V) (root : Option ℕ) : Type 0 where
   pub back : (a : ℕ) (c : Field) (k : ℕ) → child h a c ≡ Some k → up h k ≡ Some (Some a)
   pub once : (a : ℕ) (c d : Field) (k : ℕ) → child h a c ≡ Some k → child h a d ≡ Some k → c ≡ d
   pub top : (k : ℕ) → root ≡ Some k → up h k ≡ Some None
-  pub reach : (k : ℕ) (u : Option ℕ) → up h k ≡ Some u → (q : List Field) × (length q ≤ 64) × (walk h root q ≡ Some k)
+  pub reach : (k : ℕ) (u : Option ℕ) → up h k ≡ Some u
+      → (q : List Field) × (length q ≤ 64) × (walk h root q ≡ Some k)
 
 -- rows whose names go on from a first part
 abbrev pub named : {V : Type 0} → List Field → List (List Field × V) → List (List Field × V)

@@ -1,4 +1,5 @@
-ghost use Rattle.std.specs.Prelude.{◌≡◌, ◌<◌, ◌≤◌, ℕ, None, Some, Option, List, length, insert, slice_set, slice_index_or, IfOk, IfErr, OnErr, OnOk, option_and_then, nat_eq, ◌==◌, IsSome, IsTrue, false};
+ghost use Rattle.std.specs.Prelude.{◌≡◌, ◌≢◌, ◌<◌, ◌≤◌, ℕ, None, Some, Option, List, length, insert, slice_set, slice_index_or, IfOk, IfErr, IfSome, OnErr, OnOk, option_and_then, nat_eq, ◌==◌, IsSome, IsTrue, false};
+ghost use Rattle.std.specs.List.{All, AllWithin, HoldsAt};
 ghost use lib.Dec.{T};
 ghost use Rattle.std.specs.FinMap as map;
 ghost use Rattle.ndn_tlv.specs.Element.{Field};
@@ -7,7 +8,7 @@ ghost use Rattle.ndn_names.specs.View.{field_of};
 ghost use Rattle.name_trie.specs.ByName.{revise};
 ghost use Rattle.name_trie.specs.Links.{unless_is};
 
-use crate::component_buf::{ComponentBuf, head_of};
+use crate::component_buf::{ComponentBuf, Hint, head_of};
 use ndn_names::Component;
 use ndn_tlv::Memory;
 use std::alloc::Global;
@@ -88,16 +89,83 @@ impl Children {
     {
         match place_of(&self.rows, component.view()) {
             Ok(at) => self.rows[at].1 = child,
-            Err(at) => self.rows.insert(at, (component, child))?,
+            Err(at) => insert_row(&mut self.rows, at, (component, child))?,
         }
         Ok(())
     }
 
-    /// Removes a child.
-    pub fn forget(&mut self, child: usize)
+    /// Removes a child, which stands under one component at most. It is looked for from where the
+    /// hint points.
+    pub fn forget(&mut self, child: usize, hint: &Hint)
+        requires { (c d : Field) → map.get self.old c ≡ Some child → map.get self.old d ≡ Some child
+            → c ≡ d }
         ensures { self.new ≡ revise (unless_is child) self.old }
     {
-        self.rows.retain(|row| row.1 != child);
+        if let Some(at) = row_of(&self.rows, child, hint) {
+            self.rows.remove(at);
+        }
+    }
+}
+
+/// Inserts a row. The first takes room for itself alone, since most nodes have one child.
+fn insert_row(
+    rows: &mut Vec<(ComponentBuf, usize)>,
+    at: usize,
+    row: (ComponentBuf, usize),
+) -> Result<(), Memory>
+    requires { at ≤ length rows.old.items }
+    ensures ok { OnOk result (rows.new.items ≡ insert rows.old.items at row) }
+    ensures err { OnErr result (rows.new.items ≡ rows.old.items) }
+{
+    if rows.is_empty() {
+        rows.reserve_exact(1)?;
+    }
+    rows.insert(at, row)?;
+    Ok(())
+}
+
+/// The first row from which on the hint's may stand.
+fn start_of(rows: &[(ComponentBuf, usize)], hint: &Hint) -> usize
+    ensures { result ≤ length rows.now }
+{
+    let mut low = 0;
+    let mut high = rows.len();
+    while low < high {
+        let mid = low + (high - low) / 2;
+        if rows[mid].0.is_before(hint) {
+            low = mid + 1;
+        } else {
+            high = mid;
+        }
+    }
+    low
+}
+
+/// A child's row among those from one place to another.
+fn row_within(rows: &[(ComponentBuf, usize)], child: usize, from: usize, to: usize) -> Option<usize>
+    requires { to ≤ length rows.now }
+    ensures found { IfSome result (λ at. (at < length rows.now)
+        × HoldsAt (λ row. row.1 ≡ child) rows.now at) }
+    ensures absent { result ≡ None → AllWithin (λ row. row.1 ≢ child) rows.now from to }
+{
+    for at in from..to {
+        if rows[at].1 == child {
+            return Some(at);
+        }
+    }
+    None
+}
+
+/// Where the row of a child is: looked for from where the hint points to the end, and then before.
+fn row_of(rows: &[(ComponentBuf, usize)], child: usize, hint: &Hint) -> Option<usize>
+    ensures found { IfSome result (λ at. (at < length rows.now)
+        × HoldsAt (λ row. row.1 ≡ child) rows.now at) }
+    ensures absent { result ≡ None → All (λ row. row.1 ≢ child) rows.now }
+{
+    let start = start_of(rows, hint);
+    match row_within(rows, child, start, rows.len()) {
+        Some(at) => Some(at),
+        None => row_within(rows, child, 0, start),
     }
 }
 

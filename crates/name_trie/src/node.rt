@@ -9,7 +9,7 @@ ghost use Rattle.name_trie.specs.Trie.{child, value, up, walk, lookup, last_on, 
 ghost use Rattle.name_trie.specs.Changes.{Joins, Starts, Cuts, IsBare, Sets, Lacks, SameLookups, KeepsWalks, HasRoomBelow};
 
 use crate::children::Children;
-use crate::component_buf::ComponentBuf;
+use crate::component_buf::{ComponentBuf, Hint};
 use ndn_names::{Component, Name};
 use ndn_tlv::Memory;
 use slab::Slab;
@@ -20,6 +20,8 @@ use std::alloc::Global;
 pub struct Node<V> {
     /// The node that it is a child of.
     pub parent: Option<usize>,
+    /// Where its parent looks for it.
+    pub hint: Hint,
     pub children: Children,
     pub value: Option<V>,
 }
@@ -86,6 +88,7 @@ pub fn add_child<V: Drop>(
     let key = ComponentBuf::from_component(alloc, component)?;
     let k = nodes.insert(Node {
         parent: Some(at),
+        hint: key.hint(),
         children: Children::new(alloc),
         value: None,
     })?;
@@ -114,6 +117,7 @@ pub fn add_root<V: Drop>(alloc: Global, nodes: &mut Slab<Node<V>>) -> Result<usi
 {
     let k = nodes.insert(Node {
         parent: None,
+        hint: Hint::of_root(),
         children: Children::new(alloc),
         value: None,
     })?;
@@ -122,14 +126,16 @@ pub fn add_root<V: Drop>(alloc: Global, nodes: &mut Slab<Node<V>>) -> Result<usi
 
 /// Takes a node out, and the link to it. Gives its parent.
 pub fn cut<V: Drop>(nodes: &mut Slab<Node<V>>, k: usize) -> Option<usize>
-    requires { IsSome (get nodes.old k) }
+    requires there { IsSome (get nodes.old k) }
+    requires once { (a : ℕ) (c d : Field) → child (get nodes.old) a c ≡ Some k
+        → child (get nodes.old) a d ≡ Some k → c ≡ d }
     ensures cuts { Cuts k result (get nodes.old) (get nodes.new) }
     ensures fewer { slab_len nodes.new < slab_len nodes.old }
 {
     let node = nodes.remove(k);
     if let Some(parent) = node.parent {
         if let Some(above) = nodes.get_mut(parent) {
-            above.children.forget(k);
+            above.children.forget(k, &node.hint);
         }
     }
     node.parent
@@ -253,8 +259,8 @@ pub fn make_path<V: Drop>(
     Ok(at)
 }
 
-/// The value of the longest prefix of a name that has one. Adds one to `steps` for each search among
-/// the children of a node.
+/// The value of the longest prefix of a name that has one. Adds one to `steps` for each search
+/// among the children of a node.
 pub fn longest<'a, V>(
     nodes: &'a Slab<Node<V>>,
     root: Option<usize>,

@@ -54,7 +54,7 @@ returns-clause-ok g c =
       node = node;
       there = there;
       fresh = c.in_ok-k.ensures.was_vacant;
-      leaf = wrote.others k (λ e. ne (sym e)) ∙ added.changed ∙ ap (λ (m : Links). Some (record { parent = Some at; children = m; value = None })) c.new.ensures;
+      leaf = wrote.others k (λ e. ne (sym e)) ∙ added.changed ∙ ap (λ (m : Links). Some (record { parent = Some at; hint = tt; children = m; value = None })) c.new.ensures;
       above = wrote.changed ∙ ap (λ (m : Links). Some (record node { children = m })) (on_ok c.insert-2.result _ (sym c.is_err.ensures.value ∙ c.if-is_err.false) c.insert-2.ensures.ok ∙ ap (λ x. insert node.children x k) c.in_ok-key.ensures);
       others = λ j not_k not_at. wrote.others j not_at ∙ added.others j not_k;
     }

@@ -1,33 +1,42 @@
-use Rattle.std.proofs.Common.{rules, ◌≡◌, ℕ, List, [], ◌∷◌, true, false, cond, not, eqb, refl, ap, subst, sym, ◌∙◌}
+use Rattle.std.proofs.Common.{◌≡◌, ℕ, List, refl, ap, subst, sym, ◌∙◌}
 use lib.Dec.{T}
-use Rattle.std.proofs.lemmas.Fn.{filter_same}
-use Rattle.std.specs.Prelude.{filter, Some, None}
 use Rattle.std.specs.FinMap as map
-use Rattle.std.specs.FinMap.{from_sorted}
+use Rattle.std.specs.FinMap.{find, from_sorted, get, get-from_sorted}
 use Rattle.ndn_tlv.specs.Element.{Field}
 use Rattle.ndn_names.specs.Order.{component_cmp}
-use Rattle.name_trie.specs.ByName.{revise, revised, with_entry}
+use Rattle.ndn_names.specs.Key.{component_cmp-total, component_cmp-antisymmetric}
+use Rattle.name_trie.specs.ByName.{revise, revised}
 use Rattle.name_trie.specs.Links.{Links, unless_is}
+use Rattle.name_trie.proofs.Forgotten.{others_stay, without_row}
 use Rattle.name_trie.proofs.Revised.{sorted_revised, from_revised}
 use Rattle.name_trie.proofs.children.Children.forget.Goals as goal
+use Rattle.name_trie.proofs.children.Children.forget.Goals.{After-drop-remove}
 
-filtered : (k : ℕ) (rows : List (Field × ℕ)) → filter (λ row. not (eqb row.1 k)) rows ≡ revised (unless_is k) rows
-filtered k [] = refl
-filtered k (row ∷ rows) =
-    let rest = filtered k rows in
-    elim (eqb row.1 k) as (λ b. cond (not b) (row ∷ filter (λ row. not (eqb row.1 k)) rows) (filter (λ row. not (eqb row.1 k)) rows)
-    ≡ with_entry row.0 (cond b None (Some row.1)) (revised (unless_is k) rows)) [ true ↦ rest | false ↦ ap (λ l. row ∷ l) rest ]
+-- what is found in the rows is what the map has
+found_in : (rows : List (Field × ℕ)) (m : Links) → T (map.is_sorted component_cmp rows) → from_sorted {R = component_cmp} rows ≡ m → (k : Field) → find component_cmp k rows ≡ get m k
+found_in rows m sorted is k = sym (get-from_sorted component_cmp rows k sorted) ∙ ap (λ (m : Links). get m k) is
 
-left : (c : goal.After-retain) → c.retain.new.self.items ≡ revised (unless_is c.args.child) c.self.inside.rows.items
+left : (c : After-drop-remove) → c.remove.new.self.items ≡ revised (unless_is c.args.child) c.self.inside.rows.items
 left c =
-    filter_same _ (λ (row : Field × ℕ). not (eqb row.1 c.args.child)) _ (λ x b f' k. search rules) c.self.inside.rows.items c.retain.new.self.items c.retain.ensures.filtered
-    ∙ filtered c.args.child c.self.inside.rows.items
+    let found = rw c.deref.ensures.value at c.in-Some.ensures.found in
+    let has = found_in c.self.inside.rows.items c.args.self.now c.self.invariant c.self.view_is in
+    c.remove.ensures.items
+    ∙ without_row component_cmp-total component_cmp-antisymmetric c.args.child c.self.inside.rows.items c.self.invariant
+    (λ j k e f. c.requires j k (sym (has j) ∙ e) (sym (has k) ∙ f)) c.in-Some.at found.0 found.1
 
 pub invariant_of-self : goal.invariant_of-self
 invariant_of-self c =
     subst (λ (l : List (Field × ℕ)). T (map.is_sorted component_cmp l)) (sym (left c)) (sorted_revised component_cmp (unless_is c.args.child) c.self.inside.rows.items c.self.invariant)
 
-pub returns : goal.returns
-returns c =
+pub returns-in-Some : goal.returns-in-Some
+returns-in-Some c =
     ap (λ (l : List (Field × ℕ)). from_sorted {R = component_cmp} l) (left c) ∙ from_revised component_cmp (unless_is c.args.child) c.self.inside.rows.items c.self.invariant
     ∙ ap (λ (m : Links). revise (unless_is c.args.child) m) c.self.view_is
+
+pub returns-in_default : goal.returns-in_default
+returns-in_default c =
+    let absent = rw c.deref.ensures.value at c.in_default.ensures.absent in
+    sym (ap (λ (m : Links). revise (unless_is c.args.child) m) (sym c.self.view_is)
+    ∙ sym (from_revised component_cmp (unless_is c.args.child) c.self.inside.rows.items c.self.invariant)
+    ∙ ap (λ (l : List (Field × ℕ)). from_sorted {R = component_cmp} l) (others_stay c.args.child c.self.inside.rows.items (absent refl))
+    ∙ c.self.view_is)
