@@ -1,6 +1,8 @@
 //! What a call of the pending Interest table makes of a row for which it brings memory.
 
-ghost use Rattle.std.specs.Prelude.{◌≡◌, ◌≤◌, unwrap_or};
+ghost use Rattle.std.specs.Prelude.{◌≡◌, ◌≤◌, Option, None, Some, unwrap_or};
+ghost use Rattle.std.specs.Option.{option_map};
+ghost use Rattle.std.specs.FinMap as map;
 ghost use Rattle.pit_fib.specs.declared.faces.TheConstants.{MAX_FACES};
 ghost use Rattle.pit_fib.specs.Kept.{new_in};
 ghost use Rattle.pit_fib.specs.declared.room.TheConstants.{FEW};
@@ -10,20 +12,23 @@ use crate::faces::MAX_FACES;
 use crate::flags::Flags;
 use crate::room::{FEW, Room};
 use crate::row::Row;
+use crate::slots::Slots;
 use name_trie::Becomes;
 use ndn_tlv::Memory;
 use std::alloc::Global;
 
 /// Memory for the records of one arrival: those of a new entry, or the Interests of an entry whose
-/// own memory is full.
+/// own memory is full; and slots for a name under which nothing is kept.
 #[derive(Drop)]
 pub struct RecordRoom {
     in_records: Room<InRecord>,
     out_records: Room<OutRecord>,
     more: Room<InRecord>,
+    slots: Box<Slots>,
     ghost has_asks: { FEW ≤ in_records },
     ghost has_asked: { FEW ≤ out_records },
     ghost has_more: { MAX_FACES ≤ more },
+    ghost has_slots: { slots.value ≡ map.empty },
 }
 
 impl RecordRoom {
@@ -31,10 +36,12 @@ impl RecordRoom {
         let in_records = Room::new(alloc, FEW)?;
         let out_records = Room::new(alloc, FEW)?;
         let more = Room::new(alloc, MAX_FACES)?;
+        let slots = Box::new(alloc, Slots::new())?;
         Ok(RecordRoom {
             in_records,
             out_records,
             more,
+            slots,
         })
     }
 }
@@ -67,12 +74,13 @@ impl Becomes<Row> for Arrival {
             in_records,
             out_records,
             more,
+            slots,
         } = room;
-        let mut row = row.unwrap_or(Row::new());
-        let mut entry = entry_or_new(row.take(flags), in_records, out_records);
+        let mut slots = slots_of(row).unwrap_or(slots);
+        let mut entry = entry_or_new(slots.take(flags), in_records, out_records);
         entry.arrive(face, in_record, more);
-        row.set(flags, entry);
-        row
+        slots.set(flags, entry);
+        Row::from_slots(slots)
     }
 }
 
@@ -99,13 +107,22 @@ impl Becomes<Row> for Departure {
             out_record,
             room,
         } = self;
-        let mut row = row.unwrap_or(Row::new());
-        if let Some(mut entry) = row.take(flags) {
+        let Some(mut slots) = slots_of(row) else {
+            return Row::new();
+        };
+        if let Some(mut entry) = slots.take(flags) {
             entry.sent(face, out_record, room);
-            row.set(flags, entry);
+            slots.set(flags, entry);
         }
-        row
+        Row::from_slots(slots)
     }
+}
+
+/// The slots of a row, if there is memory for them.
+fn slots_of(row: Option<Row>) -> Option<Box<Slots>>
+    ensures { unwrap_or (option_map (λ s. s.value) result) map.empty ≡ unwrap_or row map.empty }
+{
+    row?.into_slots()
 }
 
 /// The entry, or a new one in this memory.

@@ -20,6 +20,7 @@ mod prepared;
 mod revisions;
 mod room;
 mod row;
+mod slots;
 mod strategy_table;
 
 pub use by_face::Used;

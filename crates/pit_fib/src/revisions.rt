@@ -3,7 +3,8 @@
 use crate::entry::Entry;
 use crate::faces::Faces;
 use crate::flags::Flags;
-use crate::row::{Revision, Row};
+use crate::row::Row;
+use crate::slots::Revision;
 use name_trie::Take;
 
 /// Ends the Interests whose deadline is not after now.

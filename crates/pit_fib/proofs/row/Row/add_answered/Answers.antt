@@ -1,29 +1,9 @@
-use Rattle.std.proofs.Common.{◌≡◌, Bool, List, ℕ, true, false, cond, refl, sym, ap, ◌∙◌}
-use Rattle.std.specs.FinMap.{get}
-use Rattle.std.specs.Prelude.{Option}
-use Rattle.pit_fib.specs.Flags.{flags}
-use Rattle.pit_fib.specs.Kept.{Kept, with_asking, with_answered}
-use Rattle.pit_fib.proofs.Rows.{got_at}
+use Rattle.std.proofs.Common.{sym, ap, ◌∙◌}
+use Rattle.pit_fib.specs.Kept.{Row, with_answered}
+use Rattle.pit_fib.proofs.Rows.{no_slots, answered_none}
 use Rattle.pit_fib.proofs.row.Row.add_answered.Goals as goal
-use Rattle.pit_fib.proofs.row.Row.add_answered.Goals.{After-add_faces-3, then-is_own, else-is_own}
 
--- the faces after the keys without CanBePrefix
-first : (c : After-add_faces-3) → c.if-is_own.faces
-    ≡ cond c.args.is_own (with_asking (get c.args.self.now (flags false true)) (with_asking (get c.args.self.now (flags false false)) c.args.faces.now)) c.args.faces.now
-first c =
-    let a = got_at false false c.self.inside.exact c.self.inside.exact_fresh c.self.inside.prefix c.self.inside.prefix_fresh c.args.self.now (flags false false) c.self.view_is refl refl in
-    let b = got_at false true c.self.inside.exact c.self.inside.exact_fresh c.self.inside.prefix c.self.inside.prefix_fresh c.args.self.now (flags false true) c.self.view_is refl refl in
-    elim c.if-is_own.branch [
-      | then-is_own w ↦ w.faces-is ∙ w.add_faces-then-is_own.ensures ∙ ap (with_asking c.self.inside.exact_fresh) w.add_faces.ensures
-          ∙ (λ i. with_asking (b i) (with_asking (a i) c.args.faces.now))
-          ∙ sym (ap (λ t. cond t (with_asking (get c.args.self.now (flags false true)) (with_asking (get c.args.self.now (flags false false)) c.args.faces.now)) c.args.faces.now) w.if-is_own.true)
-      | else-is_own w ↦ w.faces-is
-          ∙ sym (ap (λ t. cond t (with_asking (get c.args.self.now (flags false true)) (with_asking (get c.args.self.now (flags false false)) c.args.faces.now)) c.args.faces.now) w.if-is_own.false)
-    ]
-
-pub returns : goal.returns
-returns c =
-    let d = got_at true false c.self.inside.exact c.self.inside.exact_fresh c.self.inside.prefix c.self.inside.prefix_fresh c.args.self.now (flags true false) c.self.view_is refl refl in
-    let e = got_at true true c.self.inside.exact c.self.inside.exact_fresh c.self.inside.prefix c.self.inside.prefix_fresh c.args.self.now (flags true true) c.self.view_is refl refl in
-    c.add_faces-3.ensures ∙ ap (with_asking c.self.inside.prefix_fresh) (c.add_faces-2.ensures ∙ ap (with_asking c.self.inside.prefix) (first c))
-    ∙ (λ i. with_asking (e i) (with_asking (d i) (cond c.args.is_own (with_asking (get c.args.self.now (flags false true)) (with_asking (get c.args.self.now (flags false false)) c.args.faces.now)) c.args.faces.now)))
+pub returns-in_default : goal.returns-in_default
+returns-in_default c =
+    sym (ap (λ (m : Row). with_answered c.args.is_own c.args.faces.now m) (no_slots c.self.inside.slots c.args.self.now c.self.view_is c.in_default.is)
+    ∙ answered_none c.args.is_own c.args.faces.now)

@@ -1,34 +1,13 @@
-use Rattle.std.proofs.Common.{◌≡◌, true, false, refl, sym, ap, ◌∙◌, Bor}
-use Rattle.std.specs.Prelude.{Option, None, Some}
+use Rattle.std.proofs.Common.{◌≡◌, sym, ap, ◌∙◌}
+use Rattle.std.specs.Prelude.{Option, None}
 use Rattle.std.specs.Option.{option_map, option_copied}
-use Rattle.pit_fib.specs.Kept.{Kept}
-use Rattle.pit_fib.proofs.Rows.{got_at}
+use Rattle.std.specs.FinMap.{empty, get, get-empty}
+use Rattle.pit_fib.specs.Flags.{flags_cmp}
+use Rattle.pit_fib.specs.Kept.{Row}
+use Rattle.pit_fib.proofs.Rows.{no_slots}
 use Rattle.pit_fib.proofs.row.Row.get.Goals as goal
 
-same : (o : Option (Bor Kept)) → option_map (λ e. e.now) o ≡ option_copied o
-same None = refl
-same (Some e) = refl
-
-pub returns-in-true-true : goal.returns-in-true-true
-returns-in-true-true c =
-    let is = c.in-true-true in
-    same c.as_ref.result ∙ c.as_ref.ensures.value
-    ∙ got_at true true c.self.inside.exact c.self.inside.exact_fresh c.self.inside.prefix c.self.inside.prefix_fresh c.args.self.now c.args.flags c.self.view_is is.is-0 is.is-1
-
-pub returns-in-true-false : goal.returns-in-true-false
-returns-in-true-false c =
-    let is = c.in-true-false in
-    same c.as_ref-in-true-false.result ∙ c.as_ref-in-true-false.ensures.value
-    ∙ got_at true false c.self.inside.exact c.self.inside.exact_fresh c.self.inside.prefix c.self.inside.prefix_fresh c.args.self.now c.args.flags c.self.view_is is.is-0 is.is-1
-
-pub returns-in-false-true : goal.returns-in-false-true
-returns-in-false-true c =
-    let is = c.in-false-true in
-    same c.as_ref-in-false-true.result ∙ c.as_ref-in-false-true.ensures.value
-    ∙ got_at false true c.self.inside.exact c.self.inside.exact_fresh c.self.inside.prefix c.self.inside.prefix_fresh c.args.self.now c.args.flags c.self.view_is is.is-0 is.is-1
-
-pub returns-in-false-false : goal.returns-in-false-false
-returns-in-false-false c =
-    let is = c.in-false-false in
-    same c.as_ref-in-false-false.result ∙ c.as_ref-in-false-false.ensures.value
-    ∙ got_at false false c.self.inside.exact c.self.inside.exact_fresh c.self.inside.prefix c.self.inside.prefix_fresh c.args.self.now c.args.flags c.self.view_is is.is-0 is.is-1
+pub returns-in_err-as_ref : goal.returns-in_err-as_ref
+returns-in_err-as_ref c =
+    let none : c.args.self.now ≡ empty = no_slots c.self.inside.slots c.args.self.now c.self.view_is (sym c.as_ref.ensures.value ∙ ap option_copied c.in_err-as_ref.was) in
+    ap (option_map (λ e. e.now)) c.from_residual.ensures ∙ sym (ap (λ (m : Row). get m c.args.flags) none ∙ get-empty flags_cmp c.args.flags)

@@ -1,10 +1,10 @@
 use Rattle.std.proofs.Common.{true, false, ◌∙◌}
 use Rattle.pit_fib.proofs.Rows.{put_at}
-use Rattle.pit_fib.proofs.row.Row.set.Goals as goal
-use Rattle.pit_fib.proofs.row.Row.set.Goals.{in-Some-1, in-None-1}
-use Rattle.pit_fib.proofs.row.Row.set.Goals.{in-Some-2, in-None-2}
-use Rattle.pit_fib.proofs.row.Row.set.Goals.{in-Some-3, in-None-3}
-use Rattle.pit_fib.proofs.row.Row.set.Goals.{in-Some-4, in-None-4}
+use Rattle.pit_fib.proofs.slots.Slots.set.Goals as goal
+use Rattle.pit_fib.proofs.slots.Slots.set.Goals.{in-Some-1, in-None-1}
+use Rattle.pit_fib.proofs.slots.Slots.set.Goals.{in-Some-2, in-None-2}
+use Rattle.pit_fib.proofs.slots.Slots.set.Goals.{in-Some-3, in-None-3}
+use Rattle.pit_fib.proofs.slots.Slots.set.Goals.{in-Some-4, in-None-4}
 
 pub returns-in-true-true : goal.returns-in-true-true
 returns-in-true-true c =

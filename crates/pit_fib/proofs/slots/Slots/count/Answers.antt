@@ -4,7 +4,7 @@ use Rattle.std.specs.FinMap.{FinMap, len}
 use Rattle.pit_fib.specs.Flags.{flags_cmp}
 use Rattle.pit_fib.specs.Kept.{Kept}
 use Rattle.pit_fib.proofs.Rows.{len-row}
-use Rattle.pit_fib.proofs.row.Row.count.Goals as goal
+use Rattle.pit_fib.proofs.slots.Slots.count.Goals as goal
 
 one : (b : Bool) → bool_byte b ≡ cond b 1 0
 one true = refl

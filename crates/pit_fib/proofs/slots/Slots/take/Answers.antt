@@ -2,7 +2,7 @@ use Rattle.std.proofs.Common.{◌≡◌, true, false, sym, ap, ◌∙◌}
 use Rattle.std.specs.Prelude.{Option}
 use Rattle.pit_fib.specs.Kept.{Kept, by_flags, row_of}
 use Rattle.pit_fib.proofs.Rows.{got_at, taken_at}
-use Rattle.pit_fib.proofs.row.Row.take.Goals as goal
+use Rattle.pit_fib.proofs.slots.Slots.take.Goals as goal
 
 pub returns-in-true-true-clause-value : goal.returns-in-true-true-clause-value
 returns-in-true-true-clause-value c =

@@ -1,0 +1,156 @@
+ghost use Rattle.std.specs.Prelude.{◌≡◌, ◌≤◌, ◌==◌, ℕ, Option};
+ghost use Rattle.std.specs.Option.{option_map, option_and_then};
+ghost use Rattle.std.specs.FinMap as map;
+ghost use Rattle.name_trie.specs.Least.{least};
+ghost use Rattle.pit_fib.specs.Kept.{deadline, row_of, with_answered};
+
+use crate::entry::{Entry, add_faces, lesser};
+use crate::faces::Faces;
+use crate::flags::Flags;
+use std::marker::Model;
+
+/// What is kept under the keys of one name, of which there are at most four, by their flags.
+#[derive(Drop)]
+pub struct Slots {
+    exact: Option<Entry>,
+    exact_fresh: Option<Entry>,
+    prefix: Option<Entry>,
+    prefix_fresh: Option<Entry>,
+}
+
+impl Model for Slots {
+    ghost use Rattle.std.specs.FinMap as map;
+    ghost use Rattle.pit_fib.specs.Flags.{flags_code};
+    ghost use Rattle.pit_fib.specs.Kept.{Row as Rows, by_flags, kept_code, row_of};
+
+    ghost Value = { Rows };
+
+    ghost coded = { map.code flags_code kept_code };
+
+    ghost view = { λ r. row_of (by_flags r.exact r.exact_fresh r.prefix r.prefix_fresh) };
+}
+
+/// What becomes of what is kept under the keys of a name.
+pub trait Revision {
+    ghost use Rattle.pit_fib.specs.declared.flags.Flags.{Flags};
+    ghost use Rattle.pit_fib.specs.Kept.{Kept};
+
+    ghost after: { Self → Flags → Kept → Option Kept };
+
+    fn apply(&self, flags: Flags, entry: Entry) -> Option<Entry>
+        ensures { result ≡ after self.now flags entry };
+}
+
+/// What becomes of one entry, if it is there.
+fn revised<R: Revision>(how: &R, flags: Flags, entry: Option<Entry>) -> Option<Entry>
+    ensures { result ≡ option_and_then (R.after how.now flags) entry }
+{
+    how.apply(flags, entry?)
+}
+
+impl Slots {
+    /// Nothing.
+    pub fn new() -> Slots
+        ensures { result ≡ map.empty }
+    {
+        Slots {
+            exact: None,
+            exact_fresh: None,
+            prefix: None,
+            prefix_fresh: None,
+        }
+    }
+
+    /// What is kept under the key of these flags.
+    pub fn get(&self, flags: Flags) -> Option<&Entry>
+        ensures { option_map (λ e. e.now) result ≡ map.get self.now flags }
+    {
+        match (flags.can_be_prefix, flags.must_be_fresh) {
+            (false, false) => self.exact.as_ref(),
+            (false, true) => self.exact_fresh.as_ref(),
+            (true, false) => self.prefix.as_ref(),
+            (true, true) => self.prefix_fresh.as_ref(),
+        }
+    }
+
+    /// Takes out what is kept under the key of these flags.
+    pub fn take(&mut self, flags: Flags) -> Option<Entry>
+        ensures value { result ≡ map.get self.old flags }
+        ensures left { self.new ≡ map.remove self.old flags }
+    {
+        match (flags.can_be_prefix, flags.must_be_fresh) {
+            (false, false) => self.exact.take(),
+            (false, true) => self.exact_fresh.take(),
+            (true, false) => self.prefix.take(),
+            (true, true) => self.prefix_fresh.take(),
+        }
+    }
+
+    /// Keeps an entry under the key of these flags.
+    pub fn set(&mut self, flags: Flags, entry: Entry)
+        ensures { self.new ≡ map.insert self.old flags entry }
+    {
+        match (flags.can_be_prefix, flags.must_be_fresh) {
+            (false, false) => self.exact = Some(entry),
+            (false, true) => self.exact_fresh = Some(entry),
+            (true, false) => self.prefix = Some(entry),
+            (true, true) => self.prefix_fresh = Some(entry),
+        }
+    }
+
+    /// How many keys there are.
+    pub fn count(&self) -> usize
+        ensures { result ≡ map.len self.now }
+    {
+        usize::from(self.exact.is_some())
+            + usize::from(self.exact_fresh.is_some())
+            + usize::from(self.prefix.is_some())
+            + usize::from(self.prefix_fresh.is_some())
+    }
+
+    /// Revises each entry.
+    pub fn revise<R: Revision>(&mut self, how: &R)
+        ensures { self.new
+            ≡ row_of (λ f. option_and_then (R.after how.now f) (map.get self.old f)) }
+    {
+        self.exact = revised(how, Flags::new(false, false), self.exact.take());
+        self.exact_fresh = revised(how, Flags::new(false, true), self.exact_fresh.take());
+        self.prefix = revised(how, Flags::new(true, false), self.prefix.take());
+        self.prefix_fresh = revised(how, Flags::new(true, true), self.prefix_fresh.take());
+    }
+
+    /// The least deadline, or 0 where nothing is kept.
+    pub fn deadline(&self) -> u64
+        ensures { result ≡ least deadline (map.entries self.now) }
+    {
+        let exact = lesser(deadline_of(&self.exact), deadline_of(&self.exact_fresh));
+        let all = lesser(
+            lesser(exact, deadline_of(&self.prefix)),
+            deadline_of(&self.prefix_fresh),
+        );
+        all.unwrap_or(0)
+    }
+
+    /// Adds the faces that ask under the keys with CanBePrefix or, if the name is a Data's own,
+    /// under all.
+    pub fn add_answered(&self, is_own: bool, faces: &mut Faces)
+        ensures { faces.new ≡ with_answered is_own faces.old self.now }
+    {
+        if is_own {
+            add_faces(&self.exact, faces);
+            add_faces(&self.exact_fresh, faces);
+        }
+        add_faces(&self.prefix, faces);
+        add_faces(&self.prefix_fresh, faces);
+    }
+}
+
+/// The least deadline of an entry, if it is there.
+fn deadline_of(entry: &Option<Entry>) -> Option<u64>
+    ensures { result ≡ option_map deadline entry.now }
+{
+    match entry {
+        Some(entry) => Some(entry.deadline()),
+        None => None,
+    }
+}
