@@ -7,6 +7,7 @@ pub mod Updates
 pub mod FaceTests
 pub mod LongestPrefix
 pub mod Refusals
+pub mod Limits
 pub mod RootChoice
 pub mod PendingTables
 pub mod PendingPlaces

@@ -1,7 +1,7 @@
 -- Why a table takes no value of a name.
 use Rattle.std.proofs.Common.{◌≡◌, ◌⊎◌, inl, inr, ℕ, ◌<◌, ◌≤◌, Bool, true, false, cond, length, List, refl, sym, ap, ◌∙◌, leb}
 use Rattle.std.specs.Prelude.{Option, None, Some, IsSome, is_some, nat_lt, nat_le, if◌then◌else◌}
-use Rattle.std.proofs.lemmas.Bool.{leb-false, le-ltb, le-leb, lt-leb}
+use Rattle.std.proofs.lemmas.Bool.{leb-false, ltb-false, le-ltb, le-leb, lt-leb}
 use Rattle.std.specs.FinMap.{get, len, contains_key}
 use Rattle.ndn_tlv.specs.Element.{Field}
 use Rattle.pit_fib.specs.declared.fault.TableFault.{TableFault}
@@ -41,3 +41,11 @@ room_if_taken table name none =
       | true ↦ λ e. absurd cc
       | false ↦ λ e. room_of (get table name) (len table) e
     ] none
+
+-- a name that is not refused is not too deep
+pub shallow_if_taken : {X : Type 0} (table : ByName X) (name : List Field) → refusal table name ≡ None → length name ≤ 32
+shallow_if_taken table name none =
+    elim (nat_lt 32 (length name)) as (λ b. nat_lt 32 (length name) ≡ b → (if b then Some TooDeep else (if contains_key table name then None else (if nat_le 4096 (len table) then Some TableFull else None))) ≡ None → length name ≤ 32) [
+      | true ↦ λ t e. absurd cc
+      | false ↦ λ t e. ltb-false 32 (length name) t
+    ] refl none

@@ -2,6 +2,7 @@ pub mod Faces
 pub mod Tables
 pub mod Hops
 pub mod Refusal
+pub mod Limits
 pub mod Fib
 pub mod StrategyTable
 pub mod Records

@@ -3,7 +3,9 @@ ghost use Rattle.std.specs.FinMap as map;
 ghost use Rattle.ndn_names.specs.View.{components};
 ghost use Rattle.pit_fib.specs.declared.faces.TheConstants.{MAX_FACES};
 ghost use Rattle.pit_fib.specs.declared.fault.TableFault.TheVariants as faults;
+ghost use Rattle.pit_fib.specs.declared.fib.TheConstants.{MAX_ENTRIES};
 ghost use Rattle.pit_fib.specs.Hops.{in_order};
+ghost use Rattle.pit_fib.specs.Limits.{AreShallow, HaveFewHops};
 ghost use Rattle.pit_fib.specs.Refusal.{refusal};
 ghost use Rattle.pit_fib.specs.Fib.{costs_at, HasRoomFor, with_route, without_route, without_face, longest_hops, listed};
 
@@ -34,12 +36,15 @@ impl Model for Fib {
     ghost use Rattle.std.specs.Coded.{coded_ℕ};
     ghost use Rattle.pit_fib.specs.Tables.{ByFace};
     ghost use Rattle.name_trie.specs.NameTable.{NameTable, name_table_code};
+    ghost use Rattle.pit_fib.specs.Limits.{IsWithinLimits, HaveFewHops};
 
     ghost Value = { NameTable ByFace };
 
     ghost coded = { name_table_code (map.code coded_ℕ coded_ℕ) };
 
     ghost view = { λ f. f.costs };
+
+    ghost invariant = { λ f. IsWithinLimits f.costs.table × HaveFewHops f.costs.table };
 }
 
 impl Fib {
@@ -51,6 +56,16 @@ impl Fib {
         Fib {
             costs: NameMap::new(alloc),
         }
+    }
+
+    /// The number of names. The clauses beside `exact` are true of every table.
+    pub fn len(&self) -> usize
+        ensures exact { result ≡ map.len self.now.table }
+        ensures bounded { map.len self.now.table ≤ MAX_ENTRIES }
+        ensures shallow { AreShallow self.now.table }
+        ensures hops { HaveFewHops self.now.table }
+    {
+        self.costs.len()
     }
 
     /// The costs of a name's hops.

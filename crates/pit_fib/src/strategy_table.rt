@@ -1,8 +1,10 @@
-ghost use Rattle.std.specs.Prelude.{◌≡◌, ◌≢◌, Err, None, Some, IsSome, IfErr, IfOk, MatchOption, OnErr, OnOk};
+ghost use Rattle.std.specs.Prelude.{◌≡◌, ◌≢◌, ◌≤◌, Err, None, Some, IsSome, IfErr, IfOk, MatchOption, OnErr, OnOk};
 ghost use Rattle.std.specs.FinMap as map;
 ghost use Rattle.ndn_names.specs.View.{components};
 ghost use Rattle.pit_fib.specs.declared.fault.TableFault.TheVariants as faults;
 ghost use Rattle.name_trie.specs.ByName.{longest as longest_in};
+ghost use Rattle.pit_fib.specs.declared.fib.TheConstants.{MAX_ENTRIES};
+ghost use Rattle.pit_fib.specs.Limits.{AreShallow};
 ghost use Rattle.pit_fib.specs.Refusal.{refusal};
 ghost use Rattle.pit_fib.specs.StrategyTable.{only_best_route, without_choice};
 
@@ -37,6 +39,7 @@ impl Model for StrategyTable {
     ghost use Rattle.std.specs.FinMap as map;
     ghost use Rattle.name_trie.specs.NameTable.{NameTable, name_table_code};
     ghost use Rattle.pit_fib.specs.declared.strategy_table.StrategyId.{StrategyId};
+    ghost use Rattle.pit_fib.specs.Limits.{IsWithinLimits};
     ghost use Rattle.pit_fib.specs.StrategyTable.{strategy_code};
 
     ghost Value = { NameTable StrategyId };
@@ -48,7 +51,8 @@ impl Model for StrategyTable {
       prepared = s.others.prepared;
     } };
 
-    ghost invariant = { λ s. map.get s.others.table [] ≡ None };
+    ghost invariant = { λ s. (map.get s.others.table [] ≡ None)
+        × IsWithinLimits (map.insert s.others.table [] s.root) };
 }
 
 impl StrategyTable {
@@ -61,6 +65,15 @@ impl StrategyTable {
             root: StrategyId::BestRoute,
             others: NameMap::new(alloc),
         }
+    }
+
+    /// The number of names, `/` included. The clauses beside `exact` are true of every table.
+    pub fn len(&self) -> usize
+        ensures exact { result ≡ map.len self.now.table }
+        ensures bounded { map.len self.now.table ≤ MAX_ENTRIES }
+        ensures shallow { AreShallow self.now.table }
+    {
+        self.others.len() + 1
     }
 
     /// Sets the strategy of a name.

@@ -21,5 +21,5 @@ returns c =
     ∙ ap (λ l. l ++ shown c.loop-name.yielded)
     (c.in_ok-push.ensures.items ∙ ap (λ l. l ++ (c.new.result, root) ∷ []) c.new-list.ensures.items ∙ ap (λ n. (n, root) ∷ []) c.new.ensures)
     ∙ ap (λ l. ([], root) ∷ l) all
-    ∙ sym (entries_with_root c.self.inside.others.table root c.self.invariant)
+    ∙ sym (entries_with_root c.self.inside.others.table root c.self.invariant.0)
     ∙ ap (λ t. entries t.table) c.self.view_is

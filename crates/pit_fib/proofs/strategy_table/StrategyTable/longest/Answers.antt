@@ -14,7 +14,7 @@ found : (c : After-longest) (o : Option StrategyId) → o ≡ longest c.self.ins
 found c o is =
     let name = components c.args.name in
     ap (λ (p : Option StrategyId). option_or p (Some c.self.inside.root)) is
-    ∙ sym (longest_with_root c.self.inside.others.table c.self.inside.root c.self.invariant name)
+    ∙ sym (longest_with_root c.self.inside.others.table c.self.inside.root c.self.invariant.0 name)
     ∙ ap (λ t. longest t.table name) c.self.view_is
 
 pub returns-in-Some : goal.returns-in-Some

@@ -14,7 +14,7 @@ shallow c few = subst (λ n. n ≤ 32) c.len.ensures.exact few
 all_names : (c : After-len-2) → len c.args.self.now.table ≡ c.len-2.result + 1
 all_names c =
     sym (ap (λ t. len t.table) c.self.view_is)
-    ∙ len_with_root c.self.inside.others.table c.self.inside.root c.self.invariant
+    ∙ len_with_root c.self.inside.others.table c.self.inside.root c.self.invariant.0
     ∙ ap (λ n. n + 1) (sym c.len-2.ensures)
 
 there : {A B : Type 0} (f : A → B) (o : Option A) → is_some (option_map f o) ≡ is_some o
