@@ -1,25 +1,23 @@
 -- What a Data answers, and the faces that ask for it.
 use Rattle.std.proofs.Common.{◌≡◌, ◌⊎◌, inl, inr, ℕ, Bool, true, false, cond, List, [], ◌∷◌, ◌++◌, refl, sym, ap, subst, ◌∙◌, eqb, append_assoc}
-use Rattle.std.specs.Prelude.{Option, None, Some, IsSome, IsTrue, is_some, ◌&&◌, ◌||◌, ◌↔◌}
-use Rattle.std.specs.Option.{option_map, option_and_then}
+use Rattle.std.specs.Prelude.{Option, None, Some, IsTrue, is_some, ◌&&◌, ◌||◌}
+use Rattle.std.specs.Option.{option_and_then}
 use Rattle.std.specs.List.{list_any}
-use Rattle.std.specs.Ordering.{nat_cmp, eq_by_cmp, is_eq, ordering_then}
-use Rattle.std.specs.FinMap as map
+use Rattle.std.specs.Ordering.{nat_cmp, eq_by_cmp, is_eq}
 use Rattle.std.specs.FinMap.{FinMap, get, get-entries, find, contains_key, entries}
 use Rattle.std.proofs.lemmas.Bool.Decides.{nat_tests}
 use Rattle.std.proofs.Common.{arith}
 use Rattle.std.proofs.lemmas.Bool.{eqb-true}
 use Rattle.std.specs.Cmp.{tied_itself}
 use Rattle.ndn_tlv.specs.Element.{Field}
-use Rattle.ndn_names.specs.Key.{component_cmp-total, component_cmp-antisymmetric, name_cmp-antisymmetric}
+use Rattle.ndn_names.specs.Key.{component_cmp-total, component_cmp-antisymmetric}
 use Rattle.ndn_names.specs.Order.{component_cmp, name_cmp}
 use Rattle.ndn_packets.specs.Answers.{answers, begins_with, full_name}
-use Rattle.ndn_packets.specs.Key.{PlainKey}
 use Rattle.name_trie.specs.Taken.{changed_along, taken, taken_along}
 use Rattle.name_trie.proofs.Revised.{equal}
 use Rattle.pit_fib.specs.declared.flags.Flags.{Flags}
 use Rattle.pit_fib.specs.Faces.{IsRising, adding, has_face}
-use Rattle.pit_fib.specs.Flags.{flags, flags_of}
+use Rattle.pit_fib.specs.Flags.{flags}
 use Rattle.pit_fib.specs.Kept.{Kept, Row, changed_row, is_answered, kept_in, unanswered, with_answered, with_faces_of, with_asking}
 use Rattle.pit_fib.specs.Pit.{AtMost64}
 use Rattle.pit_fib.specs.Records.{InRecord}
@@ -38,9 +36,6 @@ along (d ∷ q) (c ∷ name) can_be_prefix = eq_by_cmp component_cmp d c && alon
 pub gone_if : (is_own : Bool) (f : Flags) (o : Option Kept) → option_and_then (unanswered is_own f) o ≡ cond (is_answered is_own f) None o
 gone_if is_own f None = elim (is_answered is_own f) as (λ b. ◌≡◌ {A = Option Kept} None (cond b None None)) [ true ↦ refl | false ↦ refl ]
 gone_if is_own f (Some s) = refl
-
-left_of : Bool → Row → Option Row
-left_of is_own = changed_row (unanswered is_own)
 
 pub and_some : (o : Option Row) → option_and_then Some o ≡ o
 and_some None = refl

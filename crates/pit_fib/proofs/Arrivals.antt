@@ -1,19 +1,17 @@
 -- An Interest that arrives, and one that is sent.
 use Rattle.std.proofs.Common.{◌≡◌, ◌⊎◌, inl, inr, ℕ, ◌<◌, ◌≤◌, Bool, true, false, cond, refl, sym, ap, subst, ◌∙◌, arith, ltb, leb}
-use Rattle.std.specs.Prelude.{Option, None, Some, IsSome, is_some, unwrap_or, ◌||◌}
-use Rattle.std.specs.Option.{option_map}
-use Rattle.std.specs.Ordering.{nat_cmp}
+use Rattle.std.specs.Prelude.{Option, None, Some, IsSome, unwrap_or, ◌||◌}
 use Rattle.std.specs.FinMap as map
-use Rattle.std.specs.FinMap.{FinMap, get, len, contains_key}
+use Rattle.std.specs.FinMap.{get, len, contains_key}
 use Rattle.std.proofs.lemmas.Bool.{leb-true, leb-false}
 use Rattle.std.proofs.lemmas.Bool.Decides.{nat_tests}
 use Rattle.ndn_packets.specs.Key.{PlainKey}
 use Rattle.name_trie.specs.NameTable.{NameTable}
 use Rattle.pit_fib.specs.declared.prepared.Prepared.{Prepared}
 use Rattle.pit_fib.specs.Faced.{Faced, has_place, placed, set_in, with_face_value}
-use Rattle.pit_fib.specs.Kept.{Kept, Row, Rows, with_in_record, has_place_in, kept_at, new_in, kept_out_records, sent_in}
+use Rattle.pit_fib.specs.Kept.{Kept, Row, with_in_record, kept_at, new_in}
 use Rattle.pit_fib.specs.Prepared.{CanSend, HasMemory, HasNoArrival, calls_of}
-use Rattle.pit_fib.specs.Records.{InRecord, OutRecord, Records, no_records}
+use Rattle.pit_fib.specs.Records.{InRecord}
 use Rattle.pit_fib.proofs.KeptTables.{records_in}
 use Rattle.pit_fib.proofs.Memory.{not_wide, wide}
 use Rattle.pit_fib.proofs.Preparations.{memory_after, memory_arrives, memory_sends}

@@ -1,10 +1,9 @@
 -- Faces that are gathered, one after the other.
-use Rattle.std.proofs.Common.{◌≡◌, ℕ, suc, ◌+◌, ◌<◌, Bool, true, false, cond, List, [], ◌∷◌, ◌++◌, length, get_or, take, refl, sym, ap, subst, ◌∙◌, arith, eqb, ltb, zero, ◌⊎◌, inl, inr}
+use Rattle.std.proofs.Common.{◌≡◌, ℕ, suc, ◌<◌, Bool, true, false, cond, List, [], ◌∷◌, length, get_or, take, refl, sym, ap, subst, ◌∙◌, arith, eqb, ltb, zero, ◌⊎◌, inl, inr}
 use Rattle.std.specs.Prelude.{IsTrue, ◌||◌, nat_le}
 use Rattle.std.specs.List.{AllByRecursion, list_any}
 use Rattle.std.proofs.lemmas.Bool.{eqb-true}
 use Rattle.std.proofs.lemmas.Bool.Decides.{nat_tests}
-use Rattle.std.proofs.lemmas.List.{take_more}
 use Rattle.pit_fib.specs.Faces.{IsRising, has_face, with_face, adding}
 use Rattle.pit_fib.specs.Pit.{AtMost64}
 use Rattle.pit_fib.proofs.RisingFaces.{with_rises}
@@ -90,18 +89,6 @@ module _ (P : ℕ → Type 0) (few : AtMost64 P) (face : ℕ) (has : P face) (fa
 
   pub face_added : (IsRising new) × ((f : ℕ) → has_face f new ≡ (has_face f faces || eqb face f))
   face_added = added_is (has_face face faces) refl
-
-any_push : {X : Type 0} (p : X → Bool) (xs : List X) (x : X) → list_any p (xs ++ x ∷ []) ≡ (list_any p xs || p x)
-any_push p [] x = or_false (p x)
-  where
-    or_false : (a : Bool) → (a || false) ≡ a
-    or_false true = refl
-    or_false false = refl
-any_push p (y ∷ xs) x = ap (λ b. p y || b) (any_push p xs x) ∙ or_more (p y) (list_any p xs) (p x)
-
--- one more item is looked at
-pub any_more : {X : Type 0} (p : X → Bool) (xs : List X) (i : ℕ) (x : X) → i < length xs → x ≡ get_or xs i x → list_any p (take (i + 1) xs) ≡ (list_any p (take i xs) || p x)
-any_more p xs i x lt is = ap (list_any p) (take_more xs i x lt ∙ ap (λ y. take i xs ++ y ∷ []) (sym is)) ∙ any_push p (take i xs) x
 
 pub wider : (a b d : Bool) → (IsTrue b → IsTrue d) → IsTrue (a || b) → IsTrue (a || d)
 wider true b d sub e = refl

@@ -5,10 +5,10 @@ use Rattle.std.specs.Prelude.{Option, None, Some, IfSome, IsSome, IsTrue, ◌↔
 use Rattle.std.specs.Option.{option_map, option_and_then}
 use Rattle.std.specs.declared.cmp.Ordering.{Ordering}
 use Rattle.std.specs.declared.cmp.Ordering.TheVariants.{Less, Equal, Greater}
-use Rattle.std.specs.Ordering.{nat_cmp, eq_by_cmp, is_eq, is_lt, ordering_then}
+use Rattle.std.specs.Ordering.{nat_cmp, eq_by_cmp, is_eq, ordering_then}
 use Rattle.std.specs.Cmp.{tied_itself}
 use Rattle.std.specs.FinMap as map
-use Rattle.std.specs.FinMap.{FinMap, get, insert, remove, get-insert, get-remove, get-empty, empty, empty_of_len, len, len-empty, entries, entries-from_sorted, len-entries, same_map, len-insert}
+use Rattle.std.specs.FinMap.{FinMap, get, insert, get-insert, get-remove, get-empty, empty, len, len-empty, entries, entries-from_sorted, len-entries, same_map, len-insert}
 use Rattle.std.specs.FinMap.Entries.{below_all}
 use Rattle.ndn_names.proofs.Rows.{first_of, second_of, len-from_sorted}
 use Rattle.ndn_tlv.specs.Element.{Field}
@@ -26,13 +26,13 @@ use Rattle.pit_fib.specs.declared.prepared.Prepared.{Prepared}
 use Rattle.pit_fib.specs.Flags.{flags_cmp, same_flags, flags_of, key_at}
 use Rattle.pit_fib.specs.Kept.{Kept, Row, Rows, changed_row, only, kept_after, kept_at, kept_in, living, answer_in, nacked, pending_of, was_sent_in, with_kept}
 use Rattle.pit_fib.specs.Prepared.{AreAlive, CanSend, HasMemory, IsReady, IsWithin}
-use Rattle.pit_fib.specs.Pit.{AtMost64, HasRecord, all_nacked, least_reason, nacked_answer, was_sent}
+use Rattle.pit_fib.specs.Pit.{all_nacked, least_reason, nacked_answer, was_sent}
 use Rattle.pit_fib.specs.declared.nacked.Nacked.TheVariants.{NoPending}
 use Rattle.pit_fib.specs.Records.{OutRecord, Records, Pending, HoldsTheLiving, no_records, is_alive, records_at}
 use Rattle.pit_fib.specs.Cause.{Cause, changed, settled, same_key, with_reason, Follows}
 use Rattle.pit_fib.proofs.PendingFaces.{Adds, none_few, stays_few}
-use Rattle.pit_fib.proofs.PendingTables.{one_key, same_self, dead_none}
-use Rattle.pit_fib.proofs.Rows.{flags_cmp-total, flags_cmp-antisymmetric, get-changed_row, kept_in_or, both}
+use Rattle.pit_fib.proofs.PendingTables.{one_key, dead_none}
+use Rattle.pit_fib.proofs.Rows.{flags_cmp-total, get-changed_row, kept_in_or, both}
 
 -- ---- keys as names and flags
 

@@ -3,6 +3,7 @@ pub mod Memory
 pub mod Places
 pub mod RisingFaces
 pub mod OrderedHops
+pub mod SortedHops
 pub mod Updates
 pub mod FaceTests
 pub mod LongestPrefix

@@ -1,10 +1,10 @@
 -- Changes of tables by name keep the limits.
 use Rattle.std.proofs.Common.{◌≡◌, ◌⊎◌, inl, inr, ℕ, ◌+◌, ◌-◌, ◌<◌, ◌≤◌, Bool, true, false, cond, List, [], ◌∷◌, length, nat_cmp, refl, sym, ap, subst, ◌∙◌, arith, eqb}
-use Rattle.std.specs.Prelude.{Option, None, Some, IsSome, is_some, unwrap_or}
+use Rattle.std.specs.Prelude.{Option, None, Some, IsSome, unwrap_or}
 use Rattle.std.specs.Option.{option_and_then}
 use Rattle.std.specs.Ordering.{eq_by_cmp, is_eq}
 use Rattle.std.specs.Cmp.{nat_cmp_total, tied_itself}
-use Rattle.std.specs.FinMap.{FinMap, get, len, empty, empty_of_len, entries, insert, remove, contains_key, get-empty, get-insert, get-remove, len-empty, len-entries, len-insert, len-remove}
+use Rattle.std.specs.FinMap.{get, len, empty, empty_of_len, entries, insert, remove, contains_key, get-empty, get-insert, get-remove, len-empty, len-entries, len-insert, len-remove}
 use Rattle.std.proofs.lemmas.Bool.{eqb-true, eqb-false}
 use Rattle.ndn_tlv.specs.Element.{Field}
 use Rattle.ndn_names.specs.Order.{name_cmp}

@@ -1,14 +1,13 @@
 -- Values by face, in their memory.
-use Rattle.std.proofs.Common.{◌≡◌, ◌⊎◌, inl, inr, ℕ, ◌+◌, ◌<◌, ◌≤◌, Bool, true, false, cond, List, [], length, refl, sym, ap, subst, ◌∙◌, arith, ltb, leb}
+use Rattle.std.proofs.Common.{◌≡◌, ℕ, ◌<◌, ◌≤◌, Bool, true, false, cond, List, [], length, sym, ap, ◌∙◌, arith, ltb, leb}
 use lib.Dec.{T}
-use Rattle.std.specs.Prelude.{Option, None, IsSome, IsTrue, is_some, ◌||◌}
+use Rattle.std.specs.Prelude.{IsTrue, ◌||◌}
 use Rattle.std.specs.Ordering.{nat_cmp}
-use Rattle.std.specs.FinMap as map
-use Rattle.std.specs.FinMap.{FinMap, get, len, from_sorted, is_sorted}
-use Rattle.std.proofs.lemmas.Bool.{leb-true, le-leb, ltb-true}
+use Rattle.std.specs.FinMap.{len, from_sorted, is_sorted}
+use Rattle.std.proofs.lemmas.Bool.{leb-true, ltb-true}
 use Rattle.std.proofs.lemmas.Bool.Decides.{nat_tests}
 use Rattle.ndn_names.proofs.Rows.{len-from_sorted, from_none}
-use Rattle.pit_fib.specs.Faced.{Faced, has_place, none_in, placed, with_face_value}
+use Rattle.pit_fib.specs.Faced.{Faced, has_place, none_in, placed}
 
 pub not_wide : (n : ℕ) → n < 64 → leb 64 n ≡ false
 not_wide n lt = grind (arith, nat_tests)

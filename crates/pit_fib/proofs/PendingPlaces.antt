@@ -2,13 +2,13 @@
 use Rattle.std.proofs.Common.{◌≡◌, ℕ, zero, suc, ◌+◌, Bool, true, false, cond, List, refl, ap, sym, ◌∙◌, arith, ltb}
 use Rattle.std.specs.Prelude.{Option, Some, None, is_some, unwrap_or}
 use Rattle.std.specs.FinMap as map
-use Rattle.std.specs.FinMap.{FinMap, get, len-insert, get-empty, empty, empty_of_len, len, same_map}
+use Rattle.std.specs.FinMap.{FinMap, get, len-insert, get-empty, empty_of_len, len, same_map}
 use Rattle.std.specs.Ordering.{nat_cmp}
 use Rattle.std.specs.Cmp.{nat_cmp_total}
 use Rattle.std.proofs.lemmas.Bool.Decides.{nat_tests}
-use Rattle.ndn_packets.specs.Key.{PlainKey, key_cmp}
+use Rattle.ndn_packets.specs.Key.{PlainKey}
 use Rattle.pit_fib.specs.Records.{InRecord, OutRecord, Records, Pending, HoldsTheLiving, no_records, is_alive, records_at}
-use Rattle.pit_fib.specs.Cause.{Arrives, SentTo, NackCame, Withdrawn, Removed, changed, same_key, sent_at, with_reason}
+use Rattle.pit_fib.specs.Cause.{Arrives, SentTo, NackCame, changed, same_key, sent_at, with_reason}
 use Rattle.ndn_packets.specs.Key.{key_cmp-total, key_cmp-antisymmetric}
 use Rattle.pit_fib.proofs.PendingTables.{same_self, dead_none}
 
@@ -45,14 +45,6 @@ with_its_reason face nonce reason s = record { in_records = s.in_records; out_re
 
 pub nacked_elsewhere : (key : PlainKey) (face : ℕ) (nonce : List ℕ) (reason : ℕ) (k : PlainKey) (s : Records) → same_key k key ≡ false → changed (NackCame key face nonce reason) k s ≡ s
 nacked_elsewhere key face nonce reason k s t = ap (λ b. cond b (with_its_reason face nonce reason s) s) t
-
-pub nacked_here : (key : PlainKey) (face : ℕ) (nonce : List ℕ) (reason : ℕ) (s : Records) → changed (NackCame key face nonce reason) key s ≡ with_its_reason face nonce reason s
-nacked_here key face nonce reason s = ap (λ b. cond b (with_its_reason face nonce reason s) s) (same_self key)
-
-pub nacked_nothing : (key : PlainKey) (face : ℕ) (nonce : List ℕ) (reason : ℕ) → changed (NackCame key face nonce reason) key no_records ≡ no_records
-nacked_nothing key face nonce reason =
-    nacked_here key face nonce reason no_records
-    ∙ ap (λ (o : Option OutRecord). record { in_records = empty; out_records = with_reason face nonce reason empty o }) (get-empty nat_cmp face)
 
 -- ---- tables that show the same records
 

@@ -1,7 +1,6 @@
 -- The calls that are prepared.
 use Rattle.std.proofs.Common.{◌≡◌, ◌⊎◌, inl, inr, ℕ, ◌≤◌, Bool, true, false, refl, sym, ap, subst, ◌∙◌}
 use Rattle.std.specs.Prelude.{Option, None, Some, IfSome, is_some, not}
-use Rattle.std.specs.Option.{option_map}
 use Rattle.ndn_packets.specs.Key.{PlainKey}
 use Rattle.name_trie.specs.NameTable.{NameTable}
 use Rattle.pit_fib.specs.declared.prepared.Ready.{Ready}

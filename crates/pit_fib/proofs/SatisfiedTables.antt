@@ -1,8 +1,8 @@
 -- A table after a Data was taken along its name and, where something is kept below it, under its full
 -- name.
-use Rattle.std.proofs.Common.{◌≡◌, ◌⊎◌, inl, inr, ℕ, Bool, true, false, cond, List, [], ◌∷◌, ◌++◌, refl, sym, ap, subst, ◌∙◌}
-use Rattle.std.specs.Prelude.{Option, None, Some, IsSome, IsTrue, is_some, ◌&&◌, ◌||◌, ◌↔◌}
-use Rattle.std.specs.Option.{option_map, option_and_then}
+use Rattle.std.proofs.Common.{◌≡◌, inl, inr, ℕ, Bool, true, false, cond, List, [], ◌∷◌, ◌++◌, refl, sym, ap, subst, ◌∙◌}
+use Rattle.std.specs.Prelude.{Option, None, Some, IsSome, IsTrue, is_some, ◌||◌, ◌↔◌}
+use Rattle.std.specs.Option.{option_and_then}
 use Rattle.std.specs.Ordering.{nat_cmp, eq_by_cmp}
 use Rattle.std.specs.FinMap.{get, get-empty}
 use Rattle.ndn_tlv.specs.Element.{Field}
@@ -17,7 +17,7 @@ use Rattle.name_trie.specs.Taken.{changed_along, taken as take_if, taken_along}
 use Rattle.name_trie.proofs.Revised.{equal}
 use Rattle.pit_fib.specs.Faces.{IsRising, has_face}
 use Rattle.pit_fib.specs.Flags.{flags_of, key_at}
-use Rattle.pit_fib.specs.Kept.{Kept, Row, Rows, changed_row, kept_after, kept_at, kept_in, living, pending_of, unanswered, with_answered}
+use Rattle.pit_fib.specs.Kept.{Kept, Row, Rows, changed_row, kept_at, kept_in, living, pending_of, unanswered, with_answered}
 use Rattle.pit_fib.specs.Pit.{AtMost64, HasRecord, WaitsFor}
 use Rattle.pit_fib.specs.Prepared.{AreAlive}
 use Rattle.pit_fib.specs.Records.{InRecord, Records, is_alive, no_records, records_at}

@@ -1,6 +1,7 @@
 -- Next hops (NFD Developer's Guide, "Forwarding Information Base").
-use Rattle.std.specs.Prelude.{ℕ, List, [], ◌∷◌, Bool, false, map, fold, nat_lt, ◌==◌, ◌&&◌, ◌||◌, if◌then◌else◌}
-use Rattle.std.specs.FinMap.{entries}
+use Rattle.std.specs.Prelude.{◌≡◌, ◌↔◌, ℕ, List, [], ◌∷◌, Bool, true, false, Some, map, fold, nat_lt, ◌==◌, ◌&&◌, ◌||◌, if◌then◌else◌}
+use Rattle.std.specs.List.{AllByRecursion, Contains}
+use Rattle.std.specs.FinMap.{entries, get}
 use Rattle.pit_fib.specs.declared.hops.Hop.{Hop}
 use Rattle.pit_fib.specs.Faces.{has_face}
 use Rattle.pit_fib.specs.Tables.{ByFace}
@@ -25,6 +26,16 @@ in_order costs = fold {A = ℕ × ℕ} {B = List Hop} (λ hops e. with_hop (unma
 -- the hops of an entry, in order
 abbrev pub hops_of : ByFace → List Hop
 hops_of costs = in_order (entries costs)
+
+-- each hop stands before every later one
+abbrev pub AreInOrder : List Hop → Type 0
+AreInOrder [] = Unit {0}
+AreInOrder (h ∷ hops) = AllByRecursion (λ g. is_before h g ≡ true) hops × AreInOrder hops
+
+-- these are the faces with their costs, and no others
+abbrev pub AreHopsOf : ByFace → List Hop → Type 0
+AreHopsOf costs hops = (hop : Hop) → Contains hops hop
+    ↔ ((get costs hop.face ≡ Some hop.cost) × (hop.local ≡ false))
 
 -- the hops, with `local` set on these faces
 abbrev pub marked : List ℕ → List Hop → List Hop

@@ -3,7 +3,6 @@ use Rattle.std.specs.Prelude.{ℕ, Bool, true, false, List, [], ◌∷◌, Optio
 use Rattle.std.specs.Coded.{Coded, code_by, coded×, coded_bool}
 use Rattle.std.specs.Option.{option_map, option_and_then}
 use Rattle.std.specs.FinMap as map
-use Rattle.ndn_tlv.specs.Element.{Field}
 use Rattle.ndn_packets.specs.Key.{PlainKey, key_cmp}
 use Rattle.name_trie.specs.ByName.{ByName, revise, with_entry}
 use Rattle.name_trie.specs.Flat.{flatten}
@@ -16,8 +15,8 @@ use Rattle.pit_fib.specs.Faces.{adding}
 use Rattle.pit_fib.specs.declared.nacked.Nacked.{Nacked}
 use Rattle.pit_fib.specs.declared.nacked.Nacked.TheVariants.{NoPending}
 use Rattle.pit_fib.specs.Pit.{all_nacked, least_reason, was_sent}
-use Rattle.pit_fib.specs.Records.{InRecord, InRecords, OutRecord, OutRecords, Records, Pending, no_records, is_alive, records_code}
-use Rattle.pit_fib.specs.Cause.{Cause, changed, until_after, sent_at, with_reason}
+use Rattle.pit_fib.specs.Records.{InRecord, OutRecord, Records, Pending, no_records, is_alive, records_code}
+use Rattle.pit_fib.specs.Cause.{Cause, changed, until_after, with_reason}
 
 -- the records, and whether there is memory for out-records of all faces
 pub record Kept : Type 0 where

@@ -144,7 +144,7 @@ impl FaceMap<OutRecord> {
 }
 
 impl FaceMap<InRecord> {
-    /// The least deadline, or 0 where no face asks.
+    /// The least deadline of the in-records, in milliseconds since 1970, or 0 where there is none.
     fn deadline(&self) -> u64
         ensures { result ≡ least (λ r. r.deadline) (map.entries self.now.values) }
     {
@@ -214,7 +214,7 @@ impl Entry {
         if self.is_alive() { Some(self) } else { None }
     }
 
-    /// The least deadline.
+    /// The least deadline of the in-records, in milliseconds since 1970.
     pub fn deadline(&self) -> u64
         ensures { result ≡ deadline self.now }
     {

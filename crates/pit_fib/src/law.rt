@@ -4,6 +4,9 @@ ghost use Rattle.std.specs.FinMap as map;
 ghost use Rattle.ndn_tlv.specs.Element.{Field};
 ghost use Rattle.ndn_packets.specs.Key.{PlainKey};
 ghost use Rattle.name_trie.specs.ByName.{ByName, IsLongest, longest, revise};
+ghost use Rattle.pit_fib.specs.Tables.{ByFace};
+ghost use Rattle.pit_fib.specs.declared.hops.Hop.{Hop};
+ghost use Rattle.pit_fib.specs.Hops.{AreInOrder, AreHopsOf, hops_of};
 ghost use Rattle.pit_fib.specs.Records.{Records, Pending, HoldsTheLiving, is_alive, records_at};
 ghost use Rattle.pit_fib.specs.Cause.{Cause, Expires, records_after, with_reason};
 ghost use Rattle.pit_fib.specs.Pit.{IsLeastReason, was_sent, nacked_answer};
@@ -22,6 +25,15 @@ pub fn longest_is_the_longest_prefix<V>()
     ensures none { (table : ByName V) (name : List Field)
         → ((n : ℕ) → n ≤ length name → map.get table (take n name) ≡ None)
         → longest table name ≡ None }
+{}
+
+/// Law: the hops of an entry stand by cost and then by face, they are exactly its faces with their
+/// costs, and no other list is both.
+pub fn hops_are_in_order()
+    ensures sorted { (costs : ByFace) → AreInOrder (hops_of costs) }
+    ensures same { (costs : ByFace) → AreHopsOf costs (hops_of costs) }
+    ensures only { (costs : ByFace) (hops : List Hop) → AreInOrder hops → AreHopsOf costs hops
+        → hops ≡ hops_of costs }
 {}
 
 /// Law: of a map by face whose values are changed, each face has its own value changed, or none.
@@ -68,8 +80,8 @@ pub fn expiry_may_come_twice()
         ≡ records_after (Expires n) key r }
 {}
 
-/// Law: a table has at most 4,096 names or keys, a route or strategy at most 32 components, and a key
-/// or name at most 64 faces.
+/// Law: a table has at most 4,096 names or keys, a route or strategy at most 32 components, and a
+/// key or name at most 64 faces.
 pub fn table_limits_are_as_promised()
     ensures { (MAX_FACES ≡ 64) × (MAX_ENTRIES ≡ 4096) × (MAX_DEPTH ≡ 32) × (MAX_PENDING ≡ 4096) }
 {}

@@ -29,9 +29,9 @@ pub use fault::{PitFault, TableFault};
 pub use fib::{Fib, MAX_DEPTH, MAX_ENTRIES};
 pub use hops::{Hop, Hops};
 pub use law::{
-    expiry_may_come_twice, longest_is_the_longest_prefix, nacks_tell_the_least_reason,
-    records_are_the_past, records_tell_the_table, revising_changes_each_value,
-    table_limits_are_as_promised,
+    expiry_may_come_twice, hops_are_in_order, longest_is_the_longest_prefix,
+    nacks_tell_the_least_reason, records_are_the_past, records_tell_the_table,
+    revising_changes_each_value, table_limits_are_as_promised,
 };
 pub use nacked::Nacked;
 pub use pit::{MAX_PENDING, Pit};

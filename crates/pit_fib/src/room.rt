@@ -30,7 +30,9 @@ impl<V> Model for Room<V> {
 
 impl<V: Drop> Room<V> {
     /// No memory.
-    pub fn none(alloc: Global) -> Room<V> {
+    pub fn none(alloc: Global) -> Room<V>
+        ensures { result ≡ 0 }
+    {
         Room {
             rows: Vec::new(alloc),
         }

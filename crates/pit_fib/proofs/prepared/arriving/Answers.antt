@@ -1,5 +1,5 @@
-use Rattle.std.proofs.Common.{◌≡◌, inl, inr, true, false, ap, sym, ◌∙◌}
-use Rattle.std.specs.Prelude.{Some, None}
+use Rattle.std.proofs.Common.{◌≡◌, inl, inr, ap, sym, ◌∙◌}
+use Rattle.std.specs.Prelude.{Some}
 use Rattle.ndn_packets.specs.Key.{plain_key}
 use Rattle.pit_fib.specs.Prepared.{calls_of}
 use Rattle.pit_fib.proofs.Preparations.{is_arrival, not_arrival, none_left, some_left}

@@ -1,7 +1,7 @@
-use Rattle.std.proofs.Common.{◌≡◌, sym, ap, ◌∙◌}
+use Rattle.std.proofs.Common.{◌≡◌, ap, ◌∙◌}
 use Rattle.std.specs.Prelude.{unwrap_or}
 use Rattle.std.specs.FinMap.{empty, get, insert, remove}
-use Rattle.pit_fib.specs.Kept.{Kept, Row, with_in_record, kept_in, new_in}
+use Rattle.pit_fib.specs.Kept.{Row, with_in_record, kept_in, new_in}
 use Rattle.pit_fib.proofs.Rows.{in_slots, kept_in_or, put_back, slots_or}
 use Rattle.pit_fib.proofs.arrival.ArrivalBecomesRow.apply.Goals as goal
 

@@ -1,5 +1,5 @@
 use Rattle.std.proofs.Common.{◌≡◌, sym, ap, ◌∙◌, Box, Global}
-use Rattle.std.specs.Prelude.{Option, None, Some, unwrap_or}
+use Rattle.std.specs.Prelude.{Option, unwrap_or}
 use Rattle.std.specs.Option.{option_map}
 use Rattle.std.specs.FinMap.{empty, get, get-empty, insert, remove}
 use Rattle.pit_fib.specs.declared.slots.Slots.{Slots}

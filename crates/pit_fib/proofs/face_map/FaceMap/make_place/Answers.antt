@@ -1,11 +1,10 @@
-use Rattle.std.proofs.Common.{◌≡◌, ℕ, ◌+◌, ◌<◌, ◌≤◌, ◌++◌, rules, arith, ap, sym, ◌∙◌, length, vec_len, true, cond, leb}
+use Rattle.std.proofs.Common.{◌≡◌, ◌+◌, ◌<◌, ◌≤◌, ◌++◌, rules, arith, ap, sym, ◌∙◌, length, vec_len, true, cond}
 use Rattle.std.specs.Prelude.{is_ok}
 use Rattle.std.specs.Vec.{vec_capacity}
 use Rattle.std.specs.FinMap.{len, from_sorted}
 use Rattle.std.specs.Ordering.{nat_cmp}
-use Rattle.pit_fib.specs.Faced.{Faced, has_place, placed}
-use Rattle.pit_fib.proofs.Memory.{len-faced, placed_full, placed_there, placed_moved, placed_nowhere, wide}
-use Rattle.pit_fib.proofs.face_map.FaceMap.make_place.Given as given
+use Rattle.pit_fib.specs.Faced.{Faced}
+use Rattle.pit_fib.proofs.Memory.{len-faced, placed_full, placed_there, placed_moved, wide}
 use Rattle.pit_fib.proofs.face_map.FaceMap.make_place.Goals as goal
 
 pub returns-then-len-ge-MAX_FACES : goal.returns-then-len-ge-MAX_FACES

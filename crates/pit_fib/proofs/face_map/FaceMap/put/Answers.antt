@@ -1,12 +1,11 @@
-use Rattle.std.proofs.Common.{◌≡◌, ℕ, ◌<◌, ◌≤◌, set, ap, sym, ◌∙◌, length, vec_len, rules, arith, ◌⊎◌, inl, inr, true, cond, leb, ◌+◌}
-use Rattle.std.specs.Prelude.{Option, None, IsSome, IsTrue, is_ok, insert}
+use Rattle.std.proofs.Common.{◌≡◌, ◌<◌, set, ap, sym, ◌∙◌, length, vec_len, rules, arith, ◌⊎◌, inl, inr, true, cond, leb, ◌+◌}
+use Rattle.std.specs.Prelude.{Option, None, IsSome, is_ok, insert}
 use Rattle.std.specs.Vec.{vec_capacity}
 use Rattle.std.specs.Ordering.{nat_cmp}
 use Rattle.std.specs.Cmp.{nat_cmp_total}
-use Rattle.std.specs.FinMap as map
-use Rattle.std.specs.FinMap.{get, put, len, get-from_sorted}
+use Rattle.std.specs.FinMap.{get, put, get-from_sorted}
 use Rattle.ndn_names.proofs.Rows.{sorted_put, from_put}
-use Rattle.pit_fib.specs.Faced.{Faced, has_place, with_face_value}
+use Rattle.pit_fib.specs.Faced.{Faced, with_face_value}
 use Rattle.pit_fib.proofs.Memory.{len-faced, room_left}
 use Rattle.pit_fib.proofs.face_map.FaceMap.put.Given as given
 use Rattle.pit_fib.proofs.face_map.FaceMap.put.Goals as goal

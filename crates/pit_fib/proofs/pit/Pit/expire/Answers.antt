@@ -1,12 +1,9 @@
-use Rattle.std.proofs.Common.{◌≡◌, ℕ, true, false, cond, refl, sym, ap, subst, ◌∙◌}
-use Rattle.std.specs.FinMap as map
-use Rattle.ndn_packets.specs.Key.{PlainKey, plain_key}
-use Rattle.pit_fib.specs.Flags.{flags_of}
-use Rattle.pit_fib.specs.Records.{Records, Pending, no_records}
-use Rattle.pit_fib.specs.Cause.{Expires, changed, Follows}
-use Rattle.pit_fib.specs.Kept.{Kept, expired, living, pending_of, withdrawn, without_face}
+use Rattle.std.proofs.Common.{refl, ap, subst}
+use Rattle.pit_fib.specs.Records.{Pending}
+use Rattle.pit_fib.specs.Cause.{Expires, Follows}
+use Rattle.pit_fib.specs.Kept.{expired, living, pending_of}
 use Rattle.pit_fib.specs.Pit.{PitState}
-use Rattle.pit_fib.proofs.KeptTables.{Steps, holds_the_living, one_steps, step_alive, step_all, step_follows, step_memory, step_one, step_within}
+use Rattle.pit_fib.proofs.KeptTables.{Steps, holds_the_living, step_alive, step_all, step_follows, step_memory, step_within}
 use Rattle.pit_fib.proofs.PendingTables.{dead_after_expiry}
 use Rattle.pit_fib.proofs.Expiry.{idle_row, later_row}
 use Rattle.pit_fib.proofs.pit.Pit.expire.Goals as goal

@@ -1,13 +1,11 @@
 use Rattle.std.proofs.Common.{◌≡◌, ◌⊎◌, ◌<◌, inl, inr, true, cond, List, ℕ, refl, subst, sym, ap, ◌∙◌}
 use Rattle.std.specs.Prelude.{Some, is_some, unwrap_or}
-use Rattle.std.specs.FinMap as map
 use Rattle.std.specs.FinMap.{len, get, insert}
 use Rattle.ndn_packets.specs.Key.{PlainKey, plain_key}
-use Rattle.pit_fib.specs.declared.flags.Flags.{Flags}
 use Rattle.pit_fib.specs.Flags.{flags_of}
 use Rattle.pit_fib.specs.Kept.{Kept, with_in_record, kept_at, new_in, pending_of, row_arrived, with_kept}
 use Rattle.pit_fib.specs.Records.{InRecord, Records, Pending, is_alive, records_at}
-use Rattle.pit_fib.specs.Cause.{Arrives, changed, same_key, Follows}
+use Rattle.pit_fib.specs.Cause.{Arrives, same_key, Follows}
 use Rattle.pit_fib.specs.Pit.{PitState, HasRoomFor}
 use Rattle.pit_fib.specs.Prepared.{AreAlive, calls_of}
 use Rattle.pit_fib.proofs.Arrivals.{asked_is, kept_or_new, memory_arrived}

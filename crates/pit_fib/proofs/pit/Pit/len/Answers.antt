@@ -1,7 +1,5 @@
-use Rattle.std.proofs.Common.{◌≡◌, ◌<◌, ◌^◌, ap, sym, ◌∙◌, arith}
-use Rattle.std.specs.FinMap.{len, entries}
-use Rattle.name_trie.specs.Flat.{total}
-use Rattle.pit_fib.specs.Kept.{Row, pending_of}
+use Rattle.std.proofs.Common.{ap, sym, ◌∙◌, arith}
+use Rattle.std.specs.FinMap.{len}
 use Rattle.pit_fib.specs.Pit.{PitState}
 use Rattle.pit_fib.proofs.KeptTables.{holds_the_living, len-pending}
 use Rattle.pit_fib.proofs.pit.Pit.len.Goals as goal

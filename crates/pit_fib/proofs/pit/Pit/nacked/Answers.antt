@@ -1,13 +1,12 @@
-use Rattle.std.proofs.Common.{◌≡◌, ℕ, Bool, true, false, cond, List, refl, subst, sym, ap, ◌∙◌}
-use Rattle.std.specs.Prelude.{Option, None, Some}
+use Rattle.std.proofs.Common.{◌≡◌, false, cond, refl, subst, sym, ap, ◌∙◌}
+use Rattle.std.specs.Prelude.{Option}
 use Rattle.std.specs.Option.{option_and_then}
 use Rattle.std.specs.FinMap as map
 use Rattle.ndn_packets.specs.Key.{PlainKey, plain_key}
 use Rattle.name_trie.specs.ByName.{with_value}
 use Rattle.pit_fib.specs.declared.nacked.Nacked.TheVariants.{NoPending}
-use Rattle.pit_fib.specs.Flags.{flags_of}
-use Rattle.pit_fib.specs.Records.{Records, Pending, no_records, records_at}
-use Rattle.pit_fib.specs.Cause.{NackCame, changed, same_key, with_reason, Follows}
+use Rattle.pit_fib.specs.Records.{Records, Pending, records_at}
+use Rattle.pit_fib.specs.Cause.{NackCame, same_key, with_reason, Follows}
 use Rattle.pit_fib.specs.Kept.{Kept, answer_in, changed_row, kept_at, living, nacked, only, pending_of}
 use Rattle.pit_fib.specs.Pit.{PitState, nacked_answer, all_nacked, least_reason, was_sent}
 use Rattle.pit_fib.proofs.KeptTables.{Steps, holds_the_living, one_steps, step_alive, step_follows, step_one, step_within, records_kept, was_sent_shown, nack_answers}

@@ -1,14 +1,13 @@
-use Rattle.std.proofs.Common.{◌≡◌, ℕ, true, false, cond, refl, sym, ap, subst, ◌∙◌}
+use Rattle.std.proofs.Common.{cond, refl, sym, ap, subst, ◌∙◌}
 use Rattle.std.specs.FinMap as map
-use Rattle.ndn_packets.specs.Key.{PlainKey, plain_key}
-use Rattle.pit_fib.specs.Flags.{flags_of}
-use Rattle.pit_fib.specs.Records.{Records, Pending, no_records}
-use Rattle.pit_fib.specs.Cause.{Removed, changed, Follows}
+use Rattle.ndn_packets.specs.Key.{plain_key}
+use Rattle.pit_fib.specs.Records.{Pending, no_records}
+use Rattle.pit_fib.specs.Cause.{Removed, Follows}
 use Rattle.std.specs.Option.{option_and_then}
 use Rattle.name_trie.specs.ByName.{with_value}
-use Rattle.pit_fib.specs.Kept.{Kept, changed_row, only, expired, living, pending_of, withdrawn, without_face}
+use Rattle.pit_fib.specs.Kept.{Kept, changed_row, only, living, pending_of}
 use Rattle.pit_fib.specs.Pit.{PitState}
-use Rattle.pit_fib.proofs.KeptTables.{Steps, holds_the_living, one_steps, step_alive, step_all, step_follows, step_memory, step_one, step_within}
+use Rattle.pit_fib.proofs.KeptTables.{Steps, holds_the_living, one_steps, step_alive, step_follows, step_memory, step_one, step_within}
 use Rattle.pit_fib.proofs.PendingTables.{dead_after_removal}
 use Rattle.std.specs.Prelude.{Option, None, Some}
 use Rattle.pit_fib.proofs.PendingTables.{dead_none}

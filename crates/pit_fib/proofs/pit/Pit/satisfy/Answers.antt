@@ -1,4 +1,4 @@
-use Rattle.std.proofs.Common.{◌≡◌, ◌≤◌, true, false, ◌∷◌, ◌++◌, [], ℕ, List, refl, sym, ap, subst, ◌∙◌, lit≤}
+use Rattle.std.proofs.Common.{◌≡◌, true, false, [], ℕ, List, refl, ap, subst, ◌∙◌, lit≤}
 use Rattle.std.specs.Prelude.{None, IsTrue, ◌↔◌}
 use Rattle.std.specs.FinMap.{get}
 use Rattle.sha2.specs.Sha256.{sha256}
@@ -8,7 +8,7 @@ use Rattle.name_trie.specs.Taken.{taken_along}
 use Rattle.pit_fib.specs.Faces.{has_face}
 use Rattle.pit_fib.specs.Records.{Pending}
 use Rattle.pit_fib.specs.Cause.{Satisfied, Follows}
-use Rattle.pit_fib.specs.Kept.{Rows, pending_of, with_answered}
+use Rattle.pit_fib.specs.Kept.{pending_of, with_answered}
 use Rattle.pit_fib.specs.Pit.{PitState, WaitsFor}
 use Rattle.pit_fib.proofs.KeptTables.{Steps, holds_the_living, step_alive, step_follows, step_memory, step_within}
 use Rattle.pit_fib.proofs.PendingTables.{dead_after_data}

@@ -1,20 +1,20 @@
-use Rattle.std.proofs.Common.{◌≡◌, ◌⊎◌, ◌≤◌, inl, inr, Bool, true, false, cond, List, ℕ, refl, subst, sym, ap, ◌∙◌}
-use Rattle.std.specs.Prelude.{Option, None, Some, IsSome, is_some, ◌||◌}
+use Rattle.std.proofs.Common.{◌≡◌, ◌⊎◌, inl, inr, true, false, cond, refl, subst, sym, ap, ◌∙◌}
+use Rattle.std.specs.Prelude.{Option, None, Some, is_some, ◌||◌}
 use Rattle.std.specs.Option.{option_map}
 use Rattle.std.specs.Ordering.{nat_cmp}
 use Rattle.std.specs.FinMap as map
-use Rattle.std.specs.FinMap.{len, get, insert, contains_key}
+use Rattle.std.specs.FinMap.{get, insert, contains_key}
 use Rattle.ndn_packets.specs.Key.{PlainKey, plain_key}
 use Rattle.pit_fib.specs.declared.prepared.Prepared.{Prepared}
-use Rattle.pit_fib.specs.Faced.{Faced, has_place, set_in}
+use Rattle.pit_fib.specs.Faced.{has_place, set_in}
 use Rattle.pit_fib.specs.Flags.{flags_of}
-use Rattle.pit_fib.specs.Kept.{Kept, has_place_in, kept_at, pending_of, row_sent, kept_out_records, sent_in, with_kept, with_kept_if}
-use Rattle.pit_fib.specs.Records.{OutRecord, Records, Pending, is_alive, records_at}
+use Rattle.pit_fib.specs.Kept.{Kept, has_place_in, kept_at, pending_of, row_sent, kept_out_records, sent_in, with_kept_if}
+use Rattle.pit_fib.specs.Records.{OutRecord, Pending, is_alive, records_at}
 use Rattle.pit_fib.specs.Cause.{SentTo, changed, same_key, sent_at, Follows}
 use Rattle.pit_fib.specs.Pit.{PitState, HasRoomFor}
 use Rattle.pit_fib.specs.Prepared.{AreAlive, calls_of}
 use Rattle.pit_fib.proofs.Arrivals.{memory_sent, set_is}
-use Rattle.pit_fib.proofs.KeptTables.{holds_the_living, kept_where_alive, put_alive, put_bounded, put_follows, records_kept, row_where_kept, step_put}
+use Rattle.pit_fib.proofs.KeptTables.{holds_the_living, kept_where_alive, put_alive, put_bounded, put_follows, row_where_kept, step_put}
 use Rattle.pit_fib.proofs.PendingFaces.{grows_few, room_for_sent}
 use Rattle.pit_fib.proofs.PendingPlaces.{sent_elsewhere, sent_here}
 use Rattle.pit_fib.proofs.PendingTables.{same_self}

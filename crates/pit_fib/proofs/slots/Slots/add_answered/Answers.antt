@@ -1,8 +1,7 @@
-use Rattle.std.proofs.Common.{◌≡◌, Bool, List, ℕ, true, false, cond, refl, sym, ap, ◌∙◌}
+use Rattle.std.proofs.Common.{◌≡◌, true, false, cond, refl, sym, ap, ◌∙◌}
 use Rattle.std.specs.FinMap.{get}
-use Rattle.std.specs.Prelude.{Option}
 use Rattle.pit_fib.specs.Flags.{flags}
-use Rattle.pit_fib.specs.Kept.{Kept, with_asking, with_answered}
+use Rattle.pit_fib.specs.Kept.{with_asking}
 use Rattle.pit_fib.proofs.Rows.{got_at}
 use Rattle.pit_fib.proofs.slots.Slots.add_answered.Goals as goal
 use Rattle.pit_fib.proofs.slots.Slots.add_answered.Goals.{After-add_faces-3, then-is_own, else-is_own}

@@ -1,4 +1,4 @@
-use Rattle.std.proofs.Common.{◌≡◌, true, false, sym, ap, ◌∙◌}
+use Rattle.std.proofs.Common.{true, false, ap, ◌∙◌}
 use Rattle.std.specs.Prelude.{Option}
 use Rattle.pit_fib.specs.Kept.{Kept, by_flags, row_of}
 use Rattle.pit_fib.proofs.Rows.{got_at, taken_at}

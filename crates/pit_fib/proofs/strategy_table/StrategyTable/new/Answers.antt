@@ -1,5 +1,4 @@
-use Rattle.std.proofs.Common.{◌≡◌, inr, ap, [], ◌∙◌, sym, subst, arith}
-use Rattle.std.specs.Prelude.{None}
+use Rattle.std.proofs.Common.{inr, ap, [], ◌∙◌, sym, subst, arith}
 use Rattle.std.specs.FinMap.{get, get-empty, len-empty, empty, insert}
 use Rattle.ndn_names.specs.Order.{name_cmp}
 use Rattle.pit_fib.specs.declared.strategy_table.StrategyId.{StrategyId}
