@@ -169,7 +169,8 @@ fn interest_shown(alloc: Global, interest: Option<&[u8]>) -> Option<String> {
 }
 
 /// A call that names a key and has one word for an answer: `ask KEY FACE NONCE DEADLINE`,
-/// `sent KEY ASKER FACE NONCE NOW`, `loops KEY FACE NONCE`, `withdraw KEY FACE`, `remove KEY`.
+/// `sent KEY ASKER FACE NONCE NOW`, `loops KEY FACE NONCE`, `prepare KEY OCTETS`,
+/// `withdraw KEY FACE`, `remove KEY`.
 fn word_of(
     table: &mut Table,
     call: &str,
@@ -188,6 +189,7 @@ fn word_of(
             table.sent(key, face, first.parse().ok()?, nonce, now.parse().ok()?)
         }
         "loops" => table.pit.loops(key, face, nonce_of(first)?),
+        "prepare" => table.prepare(key, usize::try_from(face).ok()?),
         "withdraw" => {
             table.withdraw(key, face);
             return Some("-");
@@ -270,27 +272,58 @@ fn exact_key(name: &NameBuf) -> Key<'_> {
     }
 }
 
-/// Keeps an Interest under the key of a number.
-fn ask_numbered(alloc: Global, table: &mut Table, number: u16, face: u64) -> Option<bool> {
-    let name = numbered(alloc, number)?;
-    Some(table.ask(exact_key(&name), face, [0; 4], 9).is_none())
+/// Keeps an Interest under the key of a number: of keys with names of their own, or of those with
+/// each setting of the flags under one name.
+fn ask_numbered(
+    alloc: Global,
+    table: &mut Table,
+    number: u16,
+    face: u64,
+    share_names: bool,
+) -> Option<bool> {
+    let flags = if share_names { number % 4 } else { 0 };
+    let name = numbered(alloc, if share_names { number / 4 } else { number })?;
+    let key = Key {
+        name: name.view(),
+        can_be_prefix: flags >= 2,
+        must_be_fresh: flags % 2 == 1,
+    };
+    Some(table.ask(key, face, [0; 4], 9).is_none())
 }
 
 /// Interests under 4,096 keys, one more, and one under a key that stands.
-fn fills(alloc: Global, table: &mut Table) -> Option<bool> {
+fn fills(alloc: Global, table: &mut Table, share_names: bool) -> Option<bool> {
     for number in 0..4096 {
-        if !ask_numbered(alloc, table, number, 1)? {
+        if !ask_numbered(alloc, table, number, 1, share_names)? {
             return Some(false);
         }
     }
-    let takes_new = ask_numbered(alloc, table, 4096, 1)?;
-    let takes_known = ask_numbered(alloc, table, 4095, 2)?;
+    let takes_new = ask_numbered(alloc, table, 4096, 1, share_names)?;
+    let takes_known = ask_numbered(alloc, table, 4095, 2, share_names)?;
     Some(!takes_new && takes_known && table.pit.len() == 4096)
 }
 
-fn is_filled(alloc: Global) -> Option<bool> {
+fn is_filled(alloc: Global, share_names: bool) -> Option<bool> {
     let mut table = Table::new(alloc);
-    fills(alloc, &mut table)
+    fills(alloc, &mut table, share_names)
+}
+
+const ROUNDS: u32 = 100_000;
+
+/// Whether a table is empty after many rounds. Each asks under one of 4,096 keys, and removes the
+/// key of 64 rounds before.
+fn ends_empty(alloc: Global, table: &mut Table, _key: Key<'_>, _other: Key<'_>) -> Option<bool> {
+    for round in 0..ROUNDS {
+        let number = u16::try_from(round % 4096).ok()?;
+        if !ask_numbered(alloc, table, number, 1, false)? {
+            return Some(false);
+        }
+        let old = numbered(alloc, (number + 4032) % 4096)?;
+        table.remove(exact_key(&old));
+    }
+    let stood = table.pit.len();
+    table.expire(9);
+    Some(stood == 64 && table.pit.is_empty())
 }
 
 /// Whether Interests of 64 faces are all sent to 64 faces.
@@ -338,7 +371,13 @@ fn played_on<F: Fn(Global, &mut Table, Key<'_>, Key<'_>) -> Option<bool>>(
 
 #[test]
 fn full_pending_table(rt: HostRuntime) {
-    assert!(rt; is_filled(rt.alloc()) == Some(true));
+    assert!(rt; is_filled(rt.alloc(), false) == Some(true));
+    assert!(rt; is_filled(rt.alloc(), true) == Some(true));
+}
+
+#[test]
+fn many_rounds_of_one_table(rt: HostRuntime) {
+    assert!(rt; played(rt.alloc(), &ends_empty) == Some(true));
 }
 
 #[test]

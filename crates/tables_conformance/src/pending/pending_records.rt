@@ -107,3 +107,29 @@ ask /A 1 7 5, sent /A 1 2 7 1, sent /A 1 3 7 1, nack /A 3 7 50, close 2, len, us
 fn a_face_that_closes(rt: HostRuntime) {
     check_rows(&rt, rt.alloc(), A_FACE_THAT_CLOSES, answers);
 }
+
+const A_PREPARATION_ON_A_PATH_THAT_EMPTIES: &str = "\
+ask /A/B 1 1 9, prepare /A/B/C 4, remove /A/B, ask /A/B/C 2 2 9, of /A/B 1, of /A/B/C 2, data /A/B/C, len -> yes; yes; -; yes; none; 00000002; faces 2; 0 true
+ask /A/B 1 1 9, ask /A/D 3 2 9, prepare /A/B/C 4, data /A/B, ask /A/B/C 2 3 9, of /A/B/C 2, data /A/D, data /A/B/C, len -> yes; yes; yes; faces 1; yes; 00000003; faces 3; faces 2; 0 true
+";
+
+/// What is prepared stays so while the Interests on its way go.
+#[test]
+fn a_preparation_on_a_path_that_empties(rt: HostRuntime) {
+    check_rows(
+        &rt,
+        rt.alloc(),
+        A_PREPARATION_ON_A_PATH_THAT_EMPTIES,
+        answers,
+    );
+}
+
+const NAMES_OF_64_COMPONENTS: &str = "\
+ask /a1/a2/a3/a4/a5/a6/a7/a8/b1/b2/b3/b4/b5/b6/b7/b8/c1/c2/c3/c4/c5/c6/c7/c8/d1/d2/d3/d4/d5/d6/d7/d8/e1/e2/e3/e4/e5/e6/e7/e8/f1/f2/f3/f4/f5/f6/f7/f8/g1/g2/g3/g4/g5/g6/g7/g8/h1/h2/h3/h4/h5/h6/h7/h8 1 1 9, ask /a1/a2/a3/a4/a5/a6/a7/a8/b1/b2/b3/b4/b5/b6/b7/b8/c1/c2/c3/c4/c5/c6/c7/c8/d1/d2/d3/d4/d5/d6/d7/d8/e1/e2/e3/e4/e5/e6/e7/e8/f1/f2/f3/f4/f5/f6/f7/f8/g1/g2/g3/g4/g5/g6/g7/g8/h1/h2/h3/h4/h5/h6/h7+p 2 2 9, of /a1/a2/a3/a4/a5/a6/a7/a8/b1/b2/b3/b4/b5/b6/b7/b8/c1/c2/c3/c4/c5/c6/c7/c8/d1/d2/d3/d4/d5/d6/d7/d8/e1/e2/e3/e4/e5/e6/e7/e8/f1/f2/f3/f4/f5/f6/f7/f8/g1/g2/g3/g4/g5/g6/g7/g8/h1/h2/h3/h4/h5/h6/h7/h8 1, data /a1/a2/a3/a4/a5/a6/a7/a8/b1/b2/b3/b4/b5/b6/b7/b8/c1/c2/c3/c4/c5/c6/c7/c8/d1/d2/d3/d4/d5/d6/d7/d8/e1/e2/e3/e4/e5/e6/e7/e8/f1/f2/f3/f4/f5/f6/f7/f8/g1/g2/g3/g4/g5/g6/g7/g8/h1/h2/h3/h4/h5/h6/h7/h8, len -> yes; yes; 00000001; faces 1 2; 0 true
+";
+
+/// Interests may have names of 64 components.
+#[test]
+fn names_of_64_components(rt: HostRuntime) {
+    check_rows(&rt, rt.alloc(), NAMES_OF_64_COMPONENTS, answers);
+}
