@@ -111,8 +111,8 @@ impl Store {
     /// same full name, and as the most recently used. Where there was none and the store is full,
     /// the least recently used goes. One that is held takes no memory, and is not refused. Answers
     /// false, and leaves the store as it was, for want of memory and where other octets have this
-    /// full name. After
-    /// 2^64 - 1 full names it forgets all at the next new one, answers false, and is as a new store.
+    /// full name. After 2^64 - 1 full names it forgets all at the next new one, answers false, and
+    /// is as a new store.
     pub fn put(&mut self, packet: &Data<'_>, arrival: u64) -> bool
         ensures ok { IsTrue result
             → self.new ≡ with_cached self.old (cached_at packet.now arrival) }
