@@ -1,17 +1,13 @@
 -- What stands in a full name after a name.
-use Rattle.std.proofs.Common.{◌≡◌, ℕ, zero, suc, get_or, ◌<◌, ◌≤◌, ◌⊎◌, inl, inr, refl, Bool, true, false, List, [], ◌∷◌, ◌++◌, length, drop, sym, ap, ◌∙◌, arith, append_assoc}
-use Rattle.std.specs.Prelude.{◌↔◌, IsTrue, nat_lt, slice_get, ◌&&◌, Option, None, Some}
+use Rattle.std.proofs.Common.{◌≡◌, ℕ, ◌⊎◌, inl, inr, refl, Bool, true, false, List, [], ◌∷◌, ◌++◌, length, drop, sym, ap, ◌∙◌, arith, append_assoc}
+use Rattle.std.specs.Prelude.{◌↔◌, IsTrue, ◌&&◌}
 use Rattle.std.proofs.lemmas.List.{length-append, append-nil}
-use Rattle.std.proofs.lemmas.List.Concat.{flat_map-append}
-use Rattle.ndn_tlv.specs.Element.{Field, IsElements, element}
-use Rattle.ndn_tlv.proofs.Numbers.{spelling_head}
+use Rattle.ndn_tlv.specs.Element.{Field}
 use Rattle.std.proofs.lemmas.Bool.Decides.{same_from_decides}
 use Rattle.ndn_packets.proofs.Answering.{prefix_is, is_answers}
 use Rattle.sha2.specs.Sha256.{sha256}
-use Rattle.ndn_tlv.specs.Number.{spelling}
-use Rattle.ndn_names.specs.Name.{IsPrefix, octets_of}
-use Rattle.ndn_names.proofs.Prefixes.{begins_with as begins}
-use Rattle.ndn_packets.specs.Answers.{Answers, answers, begins_with, full_name}
+use Rattle.ndn_names.specs.Name.{IsPrefix}
+use Rattle.ndn_packets.specs.Answers.{Answers, answers, full_name}
 use Rattle.ndn_packets.specs.FullName.{PlainFullName, all_components}
 use Rattle.ndn_packets.proofs.Near.{after_front}
 use Rattle.repo_core.specs.Objects.{full_name_answers, is_digest_alone}

@@ -1,14 +1,12 @@
 -- Full names that answer stand together, close behind the name that is asked for.
-use Rattle.std.proofs.Common.{◌≡◌, ◌≢◌, ℕ, suc, ◌+◌, ◌<◌, ◌≤◌, Bool, true, false, cond, List, [], ◌∷◌, ◌++◌, length, get_or, take, drop, filter, refl, sym, ap, subst, ◌∙◌, arith, inl, inr, append-nil}
+use Rattle.std.proofs.Common.{◌≡◌, ◌≢◌, ℕ, suc, ◌+◌, ◌<◌, Bool, true, false, cond, List, [], ◌∷◌, ◌++◌, length, get_or, take, drop, filter, refl, sym, ap, subst, ◌∙◌, arith, inl, inr, append-nil}
 use lib.Dec.{T}
 use Rattle.std.specs.Prelude.{◌&&◌, ◌||◌, ◌==◌, nat_lt}
 use Rattle.std.specs.List.{AllByRecursion}
-use Rattle.std.specs.List.Sorted.{IsPartitionedBy, IsPartitionPoint}
+use Rattle.std.specs.List.Sorted.{IsPartitionedBy}
 use Rattle.std.specs.declared.cmp.Ordering.{Ordering}
 use Rattle.std.specs.declared.cmp.Ordering.TheVariants.{Less, Equal, Greater}
-use Rattle.std.specs.Ordering.{eq_by_cmp, is_eq, ordering_then, ordering_reverse, nat_cmp}
-use Rattle.std.specs.Cmp.{Equal-is, tied_itself}
-use Rattle.std.specs.Cmp.Lexicographic.{slice_cmp}
+use Rattle.std.specs.Ordering.{is_eq, ordering_then}
 use Rattle.std.specs.FinMap.{is_sorted}
 use Rattle.std.proofs.lemmas.Bool.{cases_lt}
 use Rattle.std.proofs.lemmas.List.{take-append-drop, get_or-drop, length-drop, take_more}
@@ -16,13 +14,13 @@ use Rattle.std.proofs.Math.Seq.{drop-cons}
 use Rattle.std.proofs.lemmas.List.Elements.{filter-append}
 use Rattle.ndn_tlv.specs.Element.{Field}
 use Rattle.ndn_names.specs.Order.{component_cmp, name_cmp}
-use Rattle.ndn_names.specs.Key.{component_cmp-antisymmetric, component_cmp-total, name_cmp-total}
+use Rattle.ndn_names.specs.Key.{name_cmp-total}
 use Rattle.ndn_packets.specs.Answers.{begins_with}
 use Rattle.ndn_packets.specs.FullName.{is_near, starts_small}
 use Rattle.ndn_packets.proofs.Near.{between}
 use Rattle.repo_core.specs.Objects.{answering, full_name_answers, is_digest_alone}
 use Rattle.repo_core.specs.Room.{IsPlace}
-use Rattle.repo_core.proofs.Places.{rises, all_from}
+use Rattle.repo_core.proofs.Places.{rises, all_from, get_or_same}
 
 both_true : (a b : Bool) → (a && b) ≡ true → (a ≡ true) × (b ≡ true)
 both_true true b e = (refl, e)
@@ -97,23 +95,36 @@ all_map : {X : Type 0} (P Q : X → Type 0) → ((x : X) → P x → Q x) → (x
 all_map P Q f [] h = tt
 all_map P Q f (x ∷ xs) h = (f x h.0, all_map P Q f xs h.1)
 
-pub candidates_are : (name : List Field) (flag : Bool) (rows rest : Rows) (start stop : ℕ) → IsPlace name_cmp name rows start → rest ≡ drop start rows
-    → IsPartitionPoint (λ row. is_near name flag row.0 ≡ true) (λ row. is_near name flag row.0 ≡ false) rest stop
-    → answering name flag (take stop rest) ≡ answering name flag rows
-candidates_are name flag rows rest start stop place is point =
+-- what is not near is not followed by what answers
+pub ended : (name : List Field) (flag : Bool) (rest : Rows) (stop : ℕ) (row : List Field × List ℕ) → IsPartitionedBy (λ o. is_near name flag o.0) rest → stop < length rest → row ≡ get_or rest stop row
+    → is_near name flag row.0 ≡ false → answering name flag rest ≡ answering name flag (take stop rest)
+ended name flag rest stop row parted lt is far =
+    let test : List Field × List ℕ → Bool = λ o. full_name_answers name flag o.0 in
+    let near : List Field × List ℕ → Bool = λ o. is_near name flag o.0 in
+    let here : (d : List Field × List ℕ) → near (get_or rest stop d) ≡ false = λ d. ap near (get_or_same rest stop d row lt ∙ sym is) ∙ far in
+    let back : filter test (drop stop rest) ≡ [] =
+    filter_none test (drop stop rest) (all_from (λ o. test o ≡ false) rest stop
+    (λ k d le within. far_answers_not name flag (get_or rest k d).0 (not_near (near (get_or rest k d)) (λ yes. (let first = parted stop k d le within yes in let no = here d in cc))))) in
+    ap (filter test) (sym (take-append-drop stop rest))
+    ∙ filter-append test (take stop rest) (drop stop rest)
+    ∙ ap (λ (t : Rows). filter test (take stop rest) ++ t) back
+    ∙ append-nil (filter test (take stop rest))
+  where
+    not_near : (b : Bool) → (b ≡ true → ⊥) → b ≡ false
+    not_near true never = absurd (never refl)
+    not_near false never = refl
+
+pub candidates_are : (name : List Field) (flag : Bool) (rows rest : Rows) (start : ℕ) → IsPlace name_cmp name rows start → rest ≡ drop start rows
+    → answering name flag rest ≡ answering name flag rows
+candidates_are name flag rows rest start place is =
     let test : List Field × List ℕ → Bool = λ o. full_name_answers name flag o.0 in
     let front : filter test (take start rows) ≡ [] =
     filter_none test (take start rows) (all_map (λ row. name_cmp name row.0 ≡ Greater) (λ row. test row ≡ false) (λ row gt. below_answers_not name flag row.0 gt) (take start rows) place.before) in
-    let back : filter test (drop stop rest) ≡ [] =
-    filter_none test (drop stop rest) (all_from (λ row. test row ≡ false) rest stop (λ k d le within. far_answers_not name flag (get_or rest k d).0 (point.1 k d le within))) in
     sym (
     ap (filter test) (sym (take-append-drop start rows))
     ∙ filter-append test (take start rows) (drop start rows)
     ∙ ap (λ (t : Rows). t ++ filter test (drop start rows)) front
-    ∙ ap (filter test) (sym is ∙ sym (take-append-drop stop rest))
-    ∙ filter-append test (take stop rest) (drop stop rest)
-    ∙ ap (λ (t : Rows). filter test (take stop rest) ++ t) back
-    ∙ append-nil (filter test (take stop rest))
+    ∙ ap (filter test) (sym is)
     )
 
 -- the first that answers

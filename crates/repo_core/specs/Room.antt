@@ -21,7 +21,8 @@ shelf_code =
     (λ s. (s.table, s.room)) (λ p. record { table = p.0; room = p.1 }) (λ _. refl)
 
 -- all rows before a place have lesser keys, and those from it on have not
-pub record IsPlace {K X : Type 0} (R : K → K → Ordering) (key : K) (rows : List (K × X)) (at : ℕ) : Type 0 where
+pub record IsPlace {K X : Type 0} (R : K → K → Ordering) (key : K) (rows : List (K × X))
+    (at : ℕ) : Type 0 where
   pub within : at ≤ length rows
   pub before : AllByRecursion (λ row. R key row.0 ≡ Greater) (take at rows)
   pub after : (k : ℕ) (row : K × X) → at ≤ k → k < length rows

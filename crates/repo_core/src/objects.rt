@@ -1,10 +1,12 @@
 ghost use Rattle.std.specs.Prelude.{◌≡◌, ◌↔◌, ◌<◌, ◌≤◌, List, length, OnOk, IsOk, IsTrue};
 ghost use lib.Dec.{T};
 ghost use Rattle.std.specs.FinMap as map;
+ghost use Rattle.std.specs.List.Sorted.{IsPartitionedBy};
 ghost use Rattle.std.specs.Option.{option_map};
 ghost use Rattle.ndn_tlv.specs.Element.{Field, IsElements};
 ghost use Rattle.ndn_names.specs.Order.{name_cmp};
 ghost use Rattle.ndn_names.specs.View.{components};
+ghost use Rattle.ndn_packets.specs.FullName.{is_near};
 ghost use Rattle.repo_core.specs.Objects.{answering, first_octets, number_answering, served, without_answering};
 ghost use Rattle.repo_core.specs.Room.{HasAt, IsPlace};
 
@@ -135,24 +137,29 @@ fn has_at(objects: &[Object], at: usize, octets: &[u8]) -> bool
     }
 }
 
-/// A part that has all objects that answer an Interest of this name and flag.
+/// A part that has all objects that answer an Interest of this name and flag, the near ones first.
 fn candidates<'a>(objects: &'a [Object], name: Name<'_>, can_be_prefix: bool) -> &'a [Object]
     requires { T (map.is_sorted name_cmp objects.now) }
-    ensures { answering (components name.entry) can_be_prefix result.now
+    ensures same { answering (components name.entry) can_be_prefix result.now
         ≡ answering (components name.entry) can_be_prefix objects.now }
+    ensures near { IsPartitionedBy (λ o. is_near (components name.entry) can_be_prefix o.0)
+        result.now }
 {
     let start = place_of(objects, name.as_octets());
     let (_, rest) = objects.split_at(start);
-    let end = rest.partition_point(|object| object.is_near(name, can_be_prefix));
-    &rest[..end]
+    rest
 }
 
 /// How many of these answer.
 fn count_of(objects: &[Object], name: Name<'_>, can_be_prefix: bool) -> usize
+    requires { IsPartitionedBy (λ o. is_near (components name) can_be_prefix o.0) objects.now }
     ensures { result ≡ length (answering (components name.entry) can_be_prefix objects.now) }
 {
     let mut count = 0;
     for object in objects {
+        if !object.is_near(name, can_be_prefix) {
+            return count;
+        }
         if object.answers(name, can_be_prefix) {
             count += 1;
         }
@@ -162,10 +169,14 @@ fn count_of(objects: &[Object], name: Name<'_>, can_be_prefix: bool) -> usize
 
 /// The octets of the first of these that answers.
 fn first_of<'a>(objects: &'a [Object], name: Name<'_>, can_be_prefix: bool) -> Option<&'a [u8]>
+    requires { IsPartitionedBy (λ o. is_near (components name) can_be_prefix o.0) objects.now }
     ensures { option_map (λ o. o.now) result
         ≡ first_octets (answering (components name.entry) can_be_prefix objects.now) }
 {
     for object in objects {
+        if !object.is_near(name, can_be_prefix) {
+            return None;
+        }
         if object.answers(name, can_be_prefix) {
             return Some(object.octets());
         }

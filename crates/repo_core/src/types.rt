@@ -16,8 +16,8 @@ pub const FULL: u16 = 503;
 /// "Interest Packet", InterestLifetime).
 pub const DEFAULT_LIFETIME: u64 = 4000;
 
-/// Law: these are the numbers of the repository's replies, and the lifetime of an Interest that gives
-/// none (NDN Packet Format 0.3, "Interest Packet", InterestLifetime).
+/// Law: these are the numbers of the repository's replies, and the lifetime of an Interest that
+/// gives none (NDN Packet Format 0.3, "Interest Packet", InterestLifetime).
 pub fn repo_statuses_are_as_assigned()
     ensures done { (PENDING ≡ 100) × (OK ≡ 200) }
     ensures refused { (BAD_PARAMETERS ≡ 400) × (NOT_FOUND ≡ 404) × (FULL ≡ 503) }

@@ -40,7 +40,8 @@ impl Model for Wants {
 
     ghost view = { λ w. map.from_sorted w.rows.items };
 
-    ghost invariant = { λ w. T (map.is_sorted want_cmp w.rows.items) × (MAX_WANTS ≤ vec_capacity w.rows) };
+    ghost invariant = { λ w. T (map.is_sorted want_cmp w.rows.items)
+        × (MAX_WANTS ≤ vec_capacity w.rows) };
 }
 
 impl Wants {

@@ -9,5 +9,5 @@ pub returns : goal.returns
 returns c =
     let part = answering (components c.args.name) c.args.can_be_prefix in
     c.count_of.ensures
-    ∙ ap length (c.candidates.ensures
+    ∙ ap length (c.candidates.ensures.same
     ∙ ap part (c.deref.ensures.value ∙ sym (entries-from_sorted name_cmp c.self.inside.rows.items c.self.invariant) ∙ ap (λ t. entries t.table) c.self.view_is))
