@@ -1,5 +1,5 @@
 -- What a cache may hold came in an event that allowed it.
-use Rattle.std.proofs.Common.{◌≡◌, ℕ, Bool, true, false, List, refl, sym, ap, subst, ◌∙◌, Result, Ok, Err, inl, inr}
+use Rattle.std.proofs.Common.{◌≡◌, ℕ, Bool, true, false, List, refl, sym, ap, subst, ◌∙◌, Result, Ok, inl, inr}
 use Rattle.std.specs.Prelude.{Some, None, max, not, if◌then◌else◌}
 use Rattle.sha2.specs.Sha256.{sha256}
 use Rattle.ndn_packets.specs.FrameReading.{frame_at}

@@ -13,17 +13,16 @@ use Rattle.info_rules.specs.declared.decision.Decision.TheVariants as decided
 use Rattle.pit_fib.specs.declared.nacked.Nacked.{Nacked}
 use Rattle.pit_fib.specs.declared.nacked.Nacked.TheVariants as nacks
 use Rattle.pit_fib.specs.Pit.{loops, moments}
-use Rattle.pit_fib.specs.Records.{InRecords, Records, Pending, is_alive}
+use Rattle.pit_fib.specs.Records.{InRecords, Records, is_alive}
 use Rattle.strategies.specs.declared.strategy.Choice.{Choice}
 use Rattle.strategies.specs.declared.strategy.Choice.TheVariants as choices
-use Rattle.content_store.specs.Store.{CachedData}
 use Rattle.mgmt_core.specs.Writing.{segment_at}
 use Rattle.repo_core.specs.Objects.{served}
 use Rattle.pit_fib.specs.declared.faces.TheConstants.{MAX_FACES}
 use Rattle.forwarder.specs.Event.{PlainEvent, Packet, FaceUp, FaceDown, Tick}
 use Rattle.forwarder.specs.Faces.{is_open}
-use Rattle.forwarder.specs.Event.{moment, to_each}
-use Rattle.forwarder.specs.Verdict.{Answer, Verdict, Passed, Allowed, DataAllowed, Denied, NoRule, Dropped, WhereTrue, BadFace, FaceOpen, FacesFull, Loop, NoFace, NoSegment, PitFull, Scope as OutOfScope, dropped, passed}
+use Rattle.forwarder.specs.Event.{to_each}
+use Rattle.forwarder.specs.Verdict.{Answer, Dropped, WhereTrue, BadFace, FaceOpen, FacesFull, Loop, NoFace, NoSegment, PitFull, Scope as OutOfScope, dropped, passed}
 use Rattle.forwarder.specs.Policy.{Policy}
 use Rattle.forwarder.specs.Request.{ListAsked, Request, Refused, ForList, ForTables, ForRepository, ForData, is_command, is_out_of_scope, request_of}
 use Rattle.forwarder.specs.NextHops.{ask_from, choice_for, sent_on}

@@ -2,7 +2,7 @@
 -- faces, and what is kept of the Nack that came.
 use Rattle.std.proofs.Common.{◌≡◌, ◌⊎◌, inl, inr, ℕ, ◌+◌, ◌<◌, ◌≤◌, Bool, true, false, cond, eqb, ltb, List, [], ◌∷◌, ◌++◌, length, drop, Option, None, Some, refl, sym, ap, subst, ◌∙◌, arith}
 use lib.Dec.{T}
-use Rattle.std.specs.Prelude.{is_some, option_and_then, map, slice_get, unwrap_or, Ok, ◌||◌}
+use Rattle.std.specs.Prelude.{is_some, option_and_then, map, slice_get, unwrap_or, ◌||◌}
 use Rattle.std.specs.Option.{option_map}
 use Rattle.std.specs.List.{AllByRecursion}
 use Rattle.std.specs.Ordering.{nat_cmp, eq_by_cmp}

@@ -1,5 +1,5 @@
 -- Commands are answered once their moment has come: they are carried out, or refused.
-use Rattle.std.proofs.Common.{◌≡◌, ℕ, Bool, true, List, [], ◌∷◌, ◌++◌, Ok, refl, sym, ap, subst, ◌∙◌}
+use Rattle.std.proofs.Common.{◌≡◌, ℕ, Bool, true, List, [], ◌∷◌, ◌++◌, refl, sym, ap, subst, ◌∙◌}
 use Rattle.std.specs.Prelude.{codes, max}
 use Rattle.ndn_packets.specs.Packet.{PlainInterest, AnInterest}
 use Rattle.info_rules.specs.declared.decision.Decision.{Decision}

@@ -1,5 +1,5 @@
 -- What events come to, and what they ask the cache for.
-use Rattle.std.proofs.Common.{◌≡◌, ℕ, Bool, true, false, cond, List, refl, sym, ap, ◌∙◌, Result, Ok, Err}
+use Rattle.std.proofs.Common.{◌≡◌, ℕ, Bool, true, false, cond, List, refl, sym, ap, Result, Ok, Err}
 use Rattle.std.specs.Prelude.{Option, None, Some, is_some, ◌==◌}
 use Rattle.ndn_packets.specs.Answers.{begins_with}
 use Rattle.ndn_packets.specs.FrameReading.{frame_at}
@@ -14,9 +14,9 @@ use Rattle.mgmt_core.specs.Reading.{PlainCommand, command_at}
 use Rattle.forwarder.specs.Event.{PlainEvent, Packet, FaceUp, FaceDown, Tick}
 use Rattle.forwarder.specs.Verdict.{Verdict, DropReason, Passed, Allowed, DataAllowed, Denied, NoRule, Dropped}
 use Rattle.forwarder.specs.Policy.{Policy}
-use Rattle.forwarder.specs.Request.{ListAsked, Request, Refused, ForList, ForTables, ForRepository, ForData, is_command, list_asked, management, request_of}
-use Rattle.forwarder.specs.Outcome.{Outcome, Nothing, InterestPassed, CommandAllowed, DataCame, NackPassed, FaceClosed, allowed_data, closing_outcome, outcome_of, packet_outcome, read_outcome}
-use Rattle.forwarder.specs.Cache.{CacheUse, Untouched, LooksUp, Inserts, Erases, cache_use, command_use, held_from}
+use Rattle.forwarder.specs.Request.{ListAsked, is_command, list_asked, management, request_of}
+use Rattle.forwarder.specs.Outcome.{Outcome, Nothing, InterestPassed, CommandAllowed, DataCame, NackPassed, FaceClosed, closing_outcome, outcome_of, packet_outcome, read_outcome}
+use Rattle.forwarder.specs.Cache.{Untouched, LooksUp, Inserts, Erases, cache_use, command_use, held_from}
 use Rattle.forwarder.specs.Runs.{is_denied}
 use Rattle.forwarder.specs.Commanding.{request_use}
 use Rattle.forwarder.specs.Handling.{packet_use}

@@ -1,6 +1,6 @@
 -- What the cache is asked for by an event, and what that leaves of it (NFD Developer's Guide,
 -- "Content Store").
-use Rattle.std.specs.Prelude.{◌≡◌, ◌⊎◌, ℕ, List, Bool, true, false, All, Contains, Option, None, Result, Ok, Err, IsTrue, is_some, ◌==◌, if◌then◌else◌}
+use Rattle.std.specs.Prelude.{◌≡◌, ◌⊎◌, ℕ, List, true, All, Contains, Option, None, Result, Ok, Err, IsTrue, is_some, ◌==◌, if◌then◌else◌}
 use Rattle.sha2.specs.Sha256.{sha256}
 use Rattle.ndn_tlv.specs.Element.{Field}
 use Rattle.ndn_names.specs.Name.{IsPrefix}

@@ -5,15 +5,13 @@ use Rattle.ndn_packets.specs.View.{plain_interest}
 use Rattle.ndn_packets.specs.Writing.{nack_text}
 use Rattle.ndn_packets.specs.declared.types.TheConstants.{DUPLICATE}
 use Rattle.pit_fib.specs.Pit.{loops}
-use Rattle.pit_fib.specs.Records.{Pending, records_at}
+use Rattle.pit_fib.specs.Records.{records_at}
 use Rattle.content_store.specs.Store.{Finds}
-use Rattle.repo_core.specs.Objects.{AreObjects, served}
 use Rattle.forwarder.specs.Event.{Send}
-use Rattle.forwarder.specs.Policy.{Policy}
 use Rattle.forwarder.specs.Sending.{SendsState}
 use Rattle.forwarder.specs.State.{IsLater, state_of}
-use Rattle.forwarder.proofs.Answered.{refused_packet, sure_packet, unharmed}
-use Rattle.forwarder.proofs.Answering.{CanGoBack, cache_answered, cached_goes_back, forwards_handled, interest_is_short, later_sound, least_then, loop_answered, nothing_served, repository_answered, served_goes_back, served_then, uncached_then}
+use Rattle.forwarder.proofs.Answered.{refused_packet, unharmed}
+use Rattle.forwarder.proofs.Answering.{CanGoBack, cache_answered, cached_goes_back, interest_is_short, least_then, loop_answered, nothing_served}
 use Rattle.forwarder.proofs.state.State.serve_cached.Goals as goal
 
 pub returns-in_err-reserve : goal.returns-in_err-reserve

@@ -1,19 +1,18 @@
-use Rattle.std.proofs.Common.{◌≡◌, true, false, List, [], ◌∷◌, ◌++◌, None, Some, Ok, refl, sym, ap, subst, ◌∙◌, arith}
+use Rattle.std.proofs.Common.{◌≡◌, true, false, List, [], ◌∷◌, ◌++◌, Some, Ok, refl, sym, ap, subst, ◌∙◌, arith}
 use Rattle.std.proofs.lemmas.Bool.{false≢true}
-use Rattle.ndn_packets.specs.Key.{PlainKey, key_of}
+use Rattle.ndn_packets.specs.Key.{key_of}
 use Rattle.ndn_packets.specs.View.{plain_interest}
 use Rattle.ndn_packets.specs.Writing.{nack_text}
 use Rattle.ndn_packets.specs.declared.types.TheConstants.{DUPLICATE}
 use Rattle.pit_fib.specs.Pit.{loops}
-use Rattle.pit_fib.specs.Records.{Pending, records_at}
-use Rattle.content_store.specs.Store.{Finds}
+use Rattle.pit_fib.specs.Records.{records_at}
 use Rattle.repo_core.specs.Objects.{AreObjects, served}
 use Rattle.forwarder.specs.Event.{Send}
 use Rattle.forwarder.specs.Policy.{Policy}
 use Rattle.forwarder.specs.Sending.{SendsState}
 use Rattle.forwarder.specs.State.{IsLater, state_of}
-use Rattle.forwarder.proofs.Answered.{refused_packet, sure_packet, unharmed}
-use Rattle.forwarder.proofs.Answering.{CanGoBack, cache_answered, cached_goes_back, forwards_handled, interest_is_short, later_sound, least_then, loop_answered, nothing_served, repository_answered, served_goes_back, served_then, uncached_then}
+use Rattle.forwarder.proofs.Answered.{refused_packet, unharmed}
+use Rattle.forwarder.proofs.Answering.{CanGoBack, interest_is_short, loop_answered, repository_answered, served_goes_back, uncached_then}
 use Rattle.forwarder.proofs.state.State.serve_stored.Goals as goal
 
 pub returns-in_err-reserve : goal.returns-in_err-reserve
