@@ -7,20 +7,17 @@ use ndn_packets::*;
 use std::alloc::Global;
 use test_support::data_of;
 
-/// Keeps a Data of each number up to `count`: the fresh one at one, and the other at the rest.
-fn put_all(
-    store: &mut Store,
-    fresh: &mut [u8],
-    stale: &mut [u8],
-    count: u32,
-    at: u32,
-) -> Option<bool> {
-    put_number(fresh, at);
-    for step in 0..count {
+/// How many Data there are.
+const COUNT: u32 = 2000;
+
+/// Keeps a Data of each number: the fresh one at one, and stale ones at the rest.
+fn put_all(alloc: Global, store: &mut Store, fresh: &[u8], at: u32) -> Option<bool> {
+    let mut stale = data_of(alloc, "/n/0000", "01", Some(0))?;
+    for step in 0..COUNT {
         // In another order than that of the numbers.
-        let number = step * 7 % count;
-        put_number(stale, number);
-        let packet = if number == at { &*fresh } else { &*stale };
+        let number = step * 7 % COUNT;
+        put_number(&mut stale, number);
+        let packet = if number == at { fresh } else { &stale };
         if !put_packet(store, packet, 0)? {
             return Some(false);
         }
@@ -51,14 +48,16 @@ fn is_given_while_fresh(store: &mut Store, name: &NameBuf, fresh: &[u8]) -> Opti
     Some(is_given && is_over && is_left && is_gone)
 }
 
-/// Whether the one that is fresh for 10 ms is found among 2,000 that never are.
+/// Whether the one that is fresh for 10 ms is found among others that never are.
 fn is_fresh_found(alloc: Global, at: u32) -> Option<bool> {
     let mut fresh = data_of(alloc, "/n/0000", "02", Some(10))?;
-    let mut stale = data_of(alloc, "/n/0000", "01", Some(0))?;
-    let mut store = Store::new(alloc, 2000).ok()?;
+    put_number(&mut fresh, at);
+    let mut store = Store::new(alloc, COUNT as usize).ok()?;
     let name = NameBuf::from_uri(alloc, "/n").ok()?;
-    let is_kept = put_all(&mut store, &mut fresh, &mut stale, 2000, at)?;
-    Some(is_kept && is_given_while_fresh(&mut store, &name, &fresh)?)
+    if !put_all(alloc, &mut store, &fresh, at)? {
+        return Some(false);
+    }
+    is_given_while_fresh(&mut store, &name, &fresh)
 }
 
 #[test]
