@@ -86,7 +86,7 @@ fn take_turns<P: Ports, W: Write>(
             return Ok(());
         }
         text.clear();
-        put_turn(alloc, &mut text, number + 1, &turn, node.rules(), &outbox)?;
+        put_turn(&mut text, number + 1, &turn, node.rules(), &outbox)?;
         if writer.write_all(text.as_slice()).is_err() {
             return Err(Fault::Script(RunFault::Write));
         }
@@ -96,7 +96,6 @@ fn take_turns<P: Ports, W: Write>(
 
 /// Appends the text of a turn, as a script prints that of an event. At the end there is none.
 fn put_turn(
-    alloc: Global,
     text: &mut Vec<u8>,
     number: u64,
     turn: &Turn,
@@ -111,7 +110,7 @@ fn put_turn(
         Turn::Refused => put_refused(text, number),
         Turn::End => return Ok(()),
     };
-    if put.is_err() || put_sends(alloc, text, outbox).is_err() {
+    if put.is_err() || put_sends(text, outbox).is_err() {
         return Err(Fault::Script(RunFault::Memory));
     }
     Ok(())

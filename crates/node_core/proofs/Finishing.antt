@@ -19,8 +19,8 @@ use Rattle.forwarder.specs.declared.node.NodeFault.{NodeFault}
 use Rattle.forwarder.specs.declared.node.NodeFault.TheVariants.{Memory}
 use Rattle.node_core.specs.declared.script.RunFault.{RunFault}
 use Rattle.node_core.specs.declared.script.RunFault.TheVariants as fault
-use Rattle.node_core.proofs.Known.{Appends-then, Appends-kept, AppendsFront-after, AppendsFront-all}
-use Rattle.node_core.proofs.Playing.{Fed, Fed-start, Plays-then, joined-append}
+use Rattle.node_core.proofs.Known.{Appends-start, Appends-then, Appends-kept, Consumes-start, AppendsFront-after, AppendsFront-all}
+use Rattle.node_core.proofs.Playing.{Fed, Fed-start, Plays-none, Plays-then, joined-append}
 
 -- where a run starts
 abbrev pub start : NodeState → Place
@@ -167,6 +167,12 @@ module _ (first : NodeState) (fresh : IsNew first) where
   Stops-from_feed (fault.Node e) unread left held holds stream read h = absurd h
   Stops-from_feed fault.Memory unread left held holds stream read h =
       (h.4.events, h.2, IsTextOfRun-from_plays h.0 h.1 h.2 h.4, h.5, BeginsWith-known unread left stream h.0 h.3 h.1 h.2 h.4 read h.6)
+
+  -- memory was refused before anything was read
+  pub Stops-memory : (unread held : Option (List ℕ)) → Stops first fault.Memory unread unread held held
+  Stops-memory unread held =
+      Stops-from_feed fault.Memory unread unread held held [] (Consumes-start unread)
+      ([], start first, [], [], Plays-none (start first), AppendsFront-all held held [] (Appends-start held), refl)
 
   -- a refused chunk
   pub Stops-chunk : (f : RunFault) (unread left held holds new : Option (List ℕ)) (front chunk : List ℕ) (mid : Place) (line : List ℕ) → Fed front (start first) mid line [] held holds

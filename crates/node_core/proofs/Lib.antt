@@ -8,3 +8,4 @@ pub mod Serving
 pub mod Finishing
 pub mod OneReading
 pub mod Appending
+pub mod Digits

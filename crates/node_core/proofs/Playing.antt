@@ -3,7 +3,7 @@ use Rattle.std.proofs.Common.{◌≡◌, ℕ, suc, ◌+◌, ◌<◌, ◌≤◌, 
 use Rattle.std.proofs.Common.{Bool, true, false, ◌==◌, eq-eqb}
 use Rattle.std.proofs.lemmas.Bool.{eqb-true}
 use Rattle.node_core.proofs.Lists.{Lacks-append}
-use Rattle.std.specs.Prelude.{Option, IfOk, OnOk, OnErr}
+use Rattle.std.specs.Prelude.{Option, Some, IfErr, IfOk, OnOk, OnErr}
 use Rattle.std.specs.Io.KnownBytes.{Appends}
 use Rattle.ndn_tlv.specs.declared.memory.Memory.{Memory}
 use Rattle.info_rules.specs.Rule.{PlainRule}
@@ -13,17 +13,19 @@ use Rattle.forwarder.specs.Node.{NodeState, IsStep, Unharmed, AsksNoMemory}
 use Rattle.forwarder.specs.Policy.{Policy}
 use Rattle.forwarder.specs.Verdict.{verdict_of}
 use Rattle.std.specs.Prelude.{IsOk}
+use Rattle.std.proofs.lemmas.Result.{IfErr-weaker, on_ok_weaker}
+use Rattle.node_core.specs.Script.Ending.{AppendsFront}
 use Rattle.node_core.specs.Script.Line.{Lacks, IsSkipped, IsEventLine, IsBadLine}
 use Rattle.forwarder.specs.Sends.{BringsOctets}
 use Rattle.node_core.specs.Outcomes.{Outcome, Answered, NoMemory, IsOutcome, AreOutcomes}
 use Rattle.node_core.specs.Script.Writing.{said_text, lines_text, outcome_text, outcomes_text}
 use Rattle.node_core.specs.Script.{ended, joined, AreLines, Say}
-use Rattle.node_core.specs.Script.Play.{Place, IsPending, PlaysEvent, EventStops, AddStops, Plays, TurnsBad, FeedStops, LineStops}
+use Rattle.node_core.specs.Script.Play.{Place, IsPending, PlaysEvent, AddStops, LineFails, Plays, TurnsBad, FeedStops, LineStops}
 use Rattle.node_core.specs.declared.script.RunFault.{RunFault}
 use Rattle.node_core.specs.declared.script.RunFault.TheVariants as fault
 use Rattle.forwarder.proofs.LaterMoments.{after_rules}
 use Rattle.node_core.proofs.Outcomes.{AreOutcomes-append}
-use Rattle.node_core.proofs.Known.{Appends-start, Appends-then, Appends-kept, AppendsFront-after, AppendsFront-all}
+use Rattle.node_core.proofs.Known.{Keeps-from_none, Appends-start, Appends-then, AppendsFront-all}
 
 -- ---- one reply
 
@@ -57,20 +59,18 @@ rules_kept old new (event ∷ events) [] h = absurd h
 rules_kept old new (event ∷ events) (outcome ∷ outcomes) h =
     rules_kept h.0 new events outcomes h.2 ∙ rules_stay old h.0 event outcome h.1
 
-pub PlaysEvent-from_step : (from to : Place) (event : PlainEvent) (outcome : Result Verdict Memory) (rules : List PlainRule) (held out : List Send) (before text : List ℕ) → held ≡ []
+pub PlaysEvent-from_step : (from to : Place) (event : PlainEvent) (outcome : Result Verdict Memory) (rules : List PlainRule) (held out : List Send) → held ≡ []
     → IfOk outcome (λ verdict. (sends : List Send) × (out ≡ held ++ sends) × IsStep from.node event (record { verdict = verdict_of verdict; sends = sends }) to.node)
     → OnErr outcome (Unharmed from.node to.node × (out ≡ held)) → (AsksNoMemory from.node event → IsOk outcome) → BringsOctets event
-    → rules ≡ to.node.policy.rules → before ≡ [] → text ≡ before ++ lines_text (from.events + 1) (said_text rules outcome) out
-    → to.lines ≡ from.lines → to.events ≡ from.events + 1 → PlaysEvent event from to text
-PlaysEvent-from_step from to event outcome rules held out before text none ok err quiet octets shown empty is lines events =
+    → rules ≡ to.node.policy.rules → to.lines ≡ from.lines → to.events ≡ from.events + 1
+    → PlaysEvent event from to (lines_text (from.events + 1) (said_text rules outcome) out)
+PlaysEvent-from_step from to event outcome rules held out none ok err quiet octets shown lines events =
     let r = outcome_from_step from.node to.node event outcome held out none ok err quiet octets in
     let same : rules ≡ from.node.policy.rules = shown ∙ rules_stay from.node to.node event r.done_as r.handled in
     record {
       done_as = r.done_as;
       handled = r.handled;
-      text_is =
-          is ∙ ap (λ (b : List ℕ). b ++ lines_text (from.events + 1) (said_text rules outcome) out) empty
-          ∙ r.text_is rules (from.events + 1) ∙ ap (λ (l : List PlainRule). outcome_text l (from.events + 1) r.done_as) same;
+      text_is = r.text_is rules (from.events + 1) ∙ ap (λ (l : List PlainRule). outcome_text l (from.events + 1) r.done_as) same;
       lines = lines;
       events = events;
     }
@@ -102,15 +102,18 @@ Plays-event line event from mid to text lacks is outcomes node lines events = re
   counted = events ∙ outcomes.events;
 }
 
-pub LineStops-from_reply : (f : RunFault) (line : List ℕ) (event : PlainEvent) (from : Place) (held holds : Option (List ℕ)) → Lacks 10 line → IsEventLine event line
-    → EventStops f event from held holds → LineStops f line from held holds
-LineStops-from_reply (fault.BadLine n) line event from held holds lacks is h = absurd h
-LineStops-from_reply fault.Read line event from held holds lacks is h = absurd h
-LineStops-from_reply fault.Write line event from held holds lacks is h =
-    let to : Place = record { node = h.0.node; lines = h.0.lines + 1; events = h.0.events } in
-    (to, h.1, Plays-event line event from h.0 to h.1 lacks is h.2 refl refl refl, h.3)
-LineStops-from_reply (fault.Node n) line event from held holds lacks is h = absurd h
-LineStops-from_reply fault.Memory line event from held holds lacks is h = h
+pub LineStops-from_fails : (f : RunFault) (line : List ℕ) (from : Place) (held : Option (List ℕ)) → LineFails f line from → LineStops f line from held held
+LineStops-from_fails (fault.BadLine n) line from held h = (h.0, h.1, Keeps-from_none held held (Appends-start held))
+LineStops-from_fails fault.Read line from held h = absurd h
+LineStops-from_fails fault.Write line from held h = absurd h
+LineStops-from_fails (fault.Node n) line from held h = absurd h
+LineStops-from_fails fault.Memory line from held h = Keeps-from_none held held (Appends-start held)
+
+-- the answer to a line could not be written
+pub LineStops-cut : (result : Result (Unit {0}) RunFault) (line : List ℕ) (from to : Place) (text : List ℕ) (held holds : Option (List ℕ)) → Plays (line ∷ []) from to text
+    → OnErr result (AppendsFront held holds text) → IfErr result (λ f. f ≡ fault.Write) → IfErr result (λ f. LineStops f line from held holds)
+LineStops-cut (Ok done) line from to text held holds plays cut is = tt
+LineStops-cut (Err f) line from to text held holds plays cut is = rw is (to, text, plays, cut)
 
 -- ---- lines after lines
 
@@ -126,7 +129,7 @@ Say-append (l ∷ a) b [] (f ∷ fs) ha hb = inl (ha.0, Say-append a b [] (f ∷
 Say-append (l ∷ a) b (e ∷ es) fs (inl h) hb = inl (h.0, Say-append a b (e ∷ es) fs h.1 hb)
 Say-append (l ∷ a) b (e ∷ es) fs (inr h) hb = inr (h.0, Say-append a b es fs h.1 hb)
 
-outcomes_text-append : (rules : List PlainRule) (n : ℕ) (rs ss : List Outcome) → outcomes_text rules n (rs ++ ss) ≡ outcomes_text rules n rs ++ outcomes_text rules (n + length rs) ss
+pub outcomes_text-append : (rules : List PlainRule) (n : ℕ) (rs ss : List Outcome) → outcomes_text rules n (rs ++ ss) ≡ outcomes_text rules n rs ++ outcomes_text rules (n + length rs) ss
 outcomes_text-append rules n [] ss = let e : n + 0 ≡ n = omega arith in rw e refl
 outcomes_text-append rules n (r ∷ rs) ss =
     let e : n + suc (length rs) ≡ n + 1 + length rs = omega arith in
@@ -172,6 +175,14 @@ joined-append (l ∷ a) b = ap (λ (t : List ℕ). ended l ++ t) (joined-append 
 
 pub IsBadLine-long : (line : List ℕ) → 20000 < length line → IsBadLine line
 IsBadLine-long line long = (λ h. omega (arith, h.0), λ event h. omega (arith, h.0))
+
+-- a line that is too long is a bad one
+pub LineFails-from_add : (f : RunFault) (line : List ℕ) (from : Place) → AddStops f line from → LineFails f line from
+LineFails-from_add (fault.BadLine n) line from h = (h.0, IsBadLine-long line h.1)
+LineFails-from_add fault.Read line from h = absurd h
+LineFails-from_add fault.Write line from h = absurd h
+LineFails-from_add (fault.Node n) line from h = absurd h
+LineFails-from_add fault.Memory line from h = h
 
 first_octet : (o : ℕ) (text : List ℕ) (b : Bool) → (o == 10) ≡ b → ((line rest : List ℕ) × (ended text ≡ ended line ++ rest) × Lacks 10 line)
     → (line rest : List ℕ) × (ended (o ∷ text) ≡ ended line ++ rest) × Lacks 10 line
@@ -244,18 +255,6 @@ Fed-then stream from mid to line rest front after text held holds new fed is pla
           ∙ ap (λ (t : List ℕ). t ++ ([] ++ after)) (sym (joined-append fed.lines ((line ++ front) ∷ [])));
     }
 
--- where a line is found too long
-pub FeedStops-add : (f : RunFault) (stream : List ℕ) (from mid : Place) (line rest front after : List ℕ) (held holds : Option (List ℕ)) → Fed stream from mid line rest held holds
-    → rest ≡ front ++ (10 ∷ after) → Lacks 10 line → Lacks 10 front → AddStops f (line ++ front) mid → FeedStops f stream from held holds
-FeedStops-add (fault.BadLine n) stream from mid line rest front after held holds fed is la lb h =
-    let whole = Fed-line_is stream from mid line rest front after held holds fed is in
-    (fed.lines, mid, fed.text, fed.plays, fed.written, h.0, TurnsBad-ended stream (line ++ front) after fed.lines whole (Lacks-append 10 line front la lb) (IsBadLine-long (line ++ front) h.1))
-FeedStops-add fault.Read stream from mid line rest front after held holds fed is la lb h = absurd h
-FeedStops-add fault.Write stream from mid line rest front after held holds fed is la lb h = absurd h
-FeedStops-add (fault.Node n) stream from mid line rest front after held holds fed is la lb h = absurd h
-FeedStops-add fault.Memory stream from mid line rest front after held holds fed is la lb h =
-    (fed.lines, mid, fed.text, line ++ rest, fed.plays, AppendsFront-all held holds fed.text fed.written, fed.stream_is)
-
 -- where a line that has not ended is found too long
 pub FeedStops-last : (f : RunFault) (stream : List ℕ) (from mid : Place) (line rest : List ℕ) (held holds : Option (List ℕ)) → Fed stream from mid line rest held holds
     → Lacks 10 line → Lacks 10 rest → AddStops f (line ++ rest) mid → FeedStops f stream from held holds
@@ -268,38 +267,93 @@ FeedStops-last fault.Memory stream from mid line rest held holds fed la lb h =
     (fed.lines, mid, fed.text, line ++ rest, fed.plays, AppendsFront-all held holds fed.text fed.written, fed.stream_is)
 
 -- where a line is refused
-pub FeedStops-line : (f : RunFault) (stream : List ℕ) (from mid : Place) (line rest front after : List ℕ) (held holds new : Option (List ℕ)) → Fed stream from mid line rest held holds
-    → rest ≡ front ++ (10 ∷ after) → Lacks 10 line → Lacks 10 front → LineStops f (line ++ front) mid holds new → FeedStops f stream from held new
-FeedStops-line (fault.BadLine n) stream from mid line rest front after held holds new fed is la lb h =
+pub FeedStops-line : (f : RunFault) (stream : List ℕ) (from mid : Place) (line rest front after : List ℕ) (held holds : Option (List ℕ)) → Fed stream from mid line rest held holds
+    → rest ≡ front ++ (10 ∷ after) → Lacks 10 line → Lacks 10 front → LineFails f (line ++ front) mid → FeedStops f stream from held holds
+FeedStops-line (fault.BadLine n) stream from mid line rest front after held holds fed is la lb h =
     let whole = Fed-line_is stream from mid line rest front after held holds fed is in
-    (fed.lines, mid, fed.text, fed.plays, Appends-kept held holds new fed.text fed.written h.2, h.0, TurnsBad-ended stream (line ++ front) after fed.lines whole (Lacks-append 10 line front la lb) h.1)
-FeedStops-line fault.Read stream from mid line rest front after held holds new fed is la lb h = absurd h
-FeedStops-line fault.Write stream from mid line rest front after held holds new fed is la lb h =
-    let whole = Fed-line_is stream from mid line rest front after held holds fed is in (
-      fed.lines ++ ((line ++ front) ∷ []),
-      h.0,
-      fed.text ++ h.1,
-      [] ++ after,
-      Plays-then fed.lines ((line ++ front) ∷ []) from mid h.0 fed.text h.1 fed.plays h.2,
-      AppendsFront-after held holds new fed.text h.1 fed.written h.3,
-      whole ∙ shape_next (joined fed.lines) (line ++ front) after
-          ∙ ap (λ (t : List ℕ). t ++ ([] ++ after)) (sym (joined-append fed.lines ((line ++ front) ∷ []))),
-    )
-FeedStops-line (fault.Node n) stream from mid line rest front after held holds new fed is la lb h = absurd h
-FeedStops-line fault.Memory stream from mid line rest front after held holds new fed is la lb h =
-    (fed.lines, mid, fed.text, line ++ rest, fed.plays, AppendsFront-all held new fed.text (Appends-kept held holds new fed.text fed.written h), fed.stream_is)
+    (fed.lines, mid, fed.text, fed.plays, fed.written, h.0, TurnsBad-ended stream (line ++ front) after fed.lines whole (Lacks-append 10 line front la lb) h.1)
+FeedStops-line fault.Read stream from mid line rest front after held holds fed is la lb h = absurd h
+FeedStops-line fault.Write stream from mid line rest front after held holds fed is la lb h = absurd h
+FeedStops-line (fault.Node n) stream from mid line rest front after held holds fed is la lb h = absurd h
+FeedStops-line fault.Memory stream from mid line rest front after held holds fed is la lb h =
+    (fed.lines, mid, fed.text, line ++ rest, fed.plays, AppendsFront-all held holds fed.text fed.written, fed.stream_is)
 
-pub on_ok_both : {E P Q S : Type 0} (r : Result (Unit {0}) E) → (P → Q → S) → OnOk r P → OnOk r Q → OnOk r S
-on_ok_both (Ok u) f p q = f p q
-on_ok_both (Err e) f p q = tt
+-- ---- answers that were gathered, and are written
 
-pub LineStops-move : (f : RunFault) (a b : List ℕ) (p q : Place) (held holds : Option (List ℕ)) → a ≡ b → p ≡ q → LineStops f a p held holds → LineStops f b q held holds
-LineStops-move f a b p q held holds ea ep h =
-    subst (λ (x : Place). LineStops f b x held holds) ep (subst (λ (x : List ℕ). LineStops f x p held holds) ea h)
+-- the text that a writer got is the text that was gathered
+gathered : (a : List ℕ) (text : List ℕ) (held holds : Option (List ℕ)) → a ≡ [] ++ text → Appends held holds a → Appends held holds text
+gathered a text held holds is written = subst (Appends held holds) is written
 
-pub Plays-move : (a b : List ℕ) (p q to : Place) (text : List ℕ) → a ≡ b → p ≡ q → Plays (a ∷ []) p to text → Plays (b ∷ []) q to text
-Plays-move a b p q to text ea ep h =
-    subst (λ (x : Place). Plays (b ∷ []) x to text) ep (subst (λ (x : List ℕ). Plays (x ∷ []) p to text) ea h)
+gathered_front : (a text : List ℕ) (held holds : Option (List ℕ)) → AppendsFront (Some []) (Some a) text → AppendsFront held holds a → AppendsFront held holds text
+gathered_front a text held holds h k =
+    (k.0, k.1 ++ h.1, h.2 ∙ ap (λ (t : List ℕ). t ++ h.1) (sym h.3 ∙ k.2) ∙ append_assoc k.0 k.1 h.1, k.3)
+
+-- a text without its last octet begins as the text does
+init_after : (xs ys zs : List ℕ) (a z : ℕ) → xs ++ (a ∷ []) ≡ ys ++ (z ∷ zs) → (rest : List ℕ) × (xs ≡ ys ++ rest)
+init_after xs [] zs a z h = (xs, refl)
+init_after [] (y ∷ ys) zs a z h = absurd (let e = ap length h in omega (arith, e, length-append ys (z ∷ zs)))
+init_after (x ∷ xs) (y ∷ ys) zs a z h =
+    let more = init_after xs ys zs a z cc in
+    let first : x ≡ y = cc in
+    (more.0, let rest = more.1 in cc (first, rest))
+
+-- a line with its LF is not empty
+nonempty : (line rest : List ℕ) → (o : ℕ) × (more : List ℕ) × (ended line ++ rest ≡ o ∷ more)
+nonempty [] rest = (10, rest, refl)
+nonempty (o ∷ line) rest = (o, ended line ++ rest, refl)
+
+-- the octets before a bad line
+TurnsBad-begins : (stream : List ℕ) (lines : List (List ℕ)) → TurnsBad stream lines → (rest : List ℕ) × (stream ≡ joined lines ++ rest)
+TurnsBad-begins stream lines turns =
+    let t = turns [] in
+    let n = nonempty t.0 t.1 in
+    init_after stream (joined lines) n.1 10 n.0 (ap ended (sym (append-nil stream)) ∙ t.2 ∙ ap (λ (s : List ℕ). joined lines ++ s) n.2)
+
+-- the answers before a refused line were written
+pub FeedStops-written : (f : RunFault) (stream : List ℕ) (from : Place) (text : List ℕ) (held holds : Option (List ℕ)) → FeedStops f stream from (Some []) (Some text)
+    → Appends held holds text → FeedStops f stream from held holds
+FeedStops-written (fault.BadLine n) stream from text held holds h written = (h.0, h.1, h.2, h.3, gathered text h.2 held holds h.4 written, h.5, h.6)
+FeedStops-written fault.Read stream from text held holds h written = absurd h
+FeedStops-written fault.Write stream from text held holds h written = (h.0, h.1, h.2, h.3, h.4, gathered_front text h.2 held holds h.5 (AppendsFront-all held holds text written), h.6)
+FeedStops-written (fault.Node n) stream from text held holds h written = absurd h
+FeedStops-written fault.Memory stream from text held holds h written = (h.0, h.1, h.2, h.3, h.4, gathered_front text h.2 held holds h.5 (AppendsFront-all held holds text written), h.6)
+
+-- the answers before a refused line could not be written
+pub FeedStops-cut : (f : RunFault) (stream : List ℕ) (from : Place) (text : List ℕ) (held holds : Option (List ℕ)) → FeedStops f stream from (Some []) (Some text)
+    → AppendsFront held holds text → FeedStops fault.Write stream from held holds
+FeedStops-cut (fault.BadLine n) stream from text held holds h cut =
+    let begins = TurnsBad-begins stream h.0 h.6 in
+    (h.0, h.1, h.2, begins.0, h.3, subst (AppendsFront held holds) h.4 cut, begins.1)
+FeedStops-cut fault.Read stream from text held holds h cut = absurd h
+FeedStops-cut fault.Write stream from text held holds h cut = (h.0, h.1, h.2, h.3, h.4, gathered_front text h.2 held holds h.5 cut, h.6)
+FeedStops-cut (fault.Node n) stream from text held holds h cut = absurd h
+FeedStops-cut fault.Memory stream from text held holds h cut = (h.0, h.1, h.2, h.3, h.4, gathered_front text h.2 held holds h.5 cut, h.6)
+
+module _ (stream : List ℕ) (from to : Place) (line after : List ℕ) (held holds : Option (List ℕ)) where
+  gathered_cut_of : (result : Result (Unit {0}) RunFault)
+      → OnOk result ((lines : List (List ℕ)) × (text : List ℕ) × Plays lines from to text × Appends (Some []) (Some after) text × (stream ≡ joined lines ++ line))
+      → IfErr result (λ f. FeedStops f stream from (Some []) (Some after)) → AppendsFront held holds after → FeedStops fault.Write stream from held holds
+  gathered_cut_of (Ok done) played stopped cut = (played.0, to, played.1, line, played.2, subst (AppendsFront held holds) played.3 cut, played.4)
+  gathered_cut_of (Err f) played stopped cut = FeedStops-cut f stream from after held holds stopped cut
+
+module _ (result : Result (Unit {0}) RunFault) (stream : List ℕ) (from : Place) where
+  -- what was gathered, from an empty text on
+  module _ (to : Place) (line before after : List ℕ) (held holds : Option (List ℕ)) (none : before ≡ []) where
+    pub gathered_written : OnOk result ((lines : List (List ℕ)) × (text : List ℕ) × Plays lines from to text × Appends (Some before) (Some after) text × (stream ≡ joined lines ++ line))
+        → Appends held holds after
+        → OnOk result ((lines : List (List ℕ)) × (text : List ℕ) × Plays lines from to text × Appends held holds text × (stream ≡ joined lines ++ line))
+    gathered_written played written =
+        on_ok_weaker result (λ h. (h.0, h.1, h.2, gathered after h.1 held holds (rw none at h.3) written, h.4)) played
+
+    pub gathered_cut : OnOk result ((lines : List (List ℕ)) × (text : List ℕ) × Plays lines from to text × Appends (Some before) (Some after) text × (stream ≡ joined lines ++ line))
+        → IfErr result (λ f. FeedStops f stream from (Some before) (Some after)) → AppendsFront held holds after → FeedStops fault.Write stream from held holds
+    gathered_cut played stopped cut = gathered_cut_of stream from to line after held holds result (rw none at played) (rw none at stopped) cut
+
+  pub gathered_stopped : (before after : List ℕ) (held holds : Option (List ℕ)) → before ≡ [] → IfErr result (λ f. FeedStops f stream from (Some before) (Some after))
+      → Appends held holds after → IfErr result (λ f. FeedStops f stream from held holds)
+  gathered_stopped before after held holds none stopped written =
+      IfErr-weaker result (λ f. FeedStops f stream from (Some before) (Some after)) (λ f. FeedStops f stream from held holds)
+      (λ f h. FeedStops-written f stream from after held holds (rw none at h) written) stopped
 
 pub Fed-ended : (stream : List ℕ) (from mid to : Place) (line rest front after text now : List ℕ) (held holds new : Option (List ℕ)) → Fed stream from mid line rest held holds
     → rest ≡ front ++ (10 ∷ after) → Plays ((line ++ front) ∷ []) mid to text → Appends holds new text → now ≡ [] → Fed stream from to now after held new

@@ -106,41 +106,57 @@ goes_on_from old new events outcomes h = λ first past begins run stands. runs_s
 
 -- ---- turns
 
+-- with their outcomes
+
+pub Serves-start : (node : NodeState) (before : Shown) → (s : Serves node node before before 0 0 0) × (s.outcomes ≡ [])
+Serves-start node before = (
+  record {
+    arrivals = [];
+    outcomes = [];
+    came = GivesAll-none before.coming before.coming _ refl;
+    handled = refl;
+    goes_on = goes_on_from node node [] [] refl;
+    taken = [];
+    are_taken = (refl, refl);
+    takes = Takes-same before.taken before.taken refl;
+    failures = refl;
+    events_is = refl;
+    refused_is = refl;
+  },
+  refl,
+)
+
+pub Serves-more : (old mid new : NodeState) (before between after : Shown) (events refused failed more : ℕ) (done_as : Outcome) (h : Serves old mid before between events refused failed)
+    → Handles mid new between after done_as more
+    → (s : Serves old new before after (events + 1) (refused + refused_count (done_as ∷ [])) (failed + more)) × (s.outcomes ≡ h.outcomes ++ (done_as ∷ []))
+Serves-more old mid new before between after events refused failed more done_as h k =
+    let outcomes = h.outcomes ++ (done_as ∷ []) in
+    let arrivals = h.arrivals ++ (k.event ∷ []) in
+    let handled = AreOutcomes-append old mid new h.arrivals (k.event ∷ []) h.outcomes (done_as ∷ []) h.handled (new, k.handled, refl) in
+    let sends : all_sends outcomes ≡ all_sends h.outcomes ++ sends_of done_as = all_sends-append h.outcomes (done_as ∷ []) ∙ ap (λ (t : List Send). all_sends h.outcomes ++ t) (append-nil (sends_of done_as)) in (
+      record {
+        arrivals = arrivals;
+        outcomes = outcomes;
+        came = GivesAll-then before.coming between.coming after.coming _ h.arrivals k.event h.came k.came;
+        handled = handled;
+        goes_on = goes_on_from old new arrivals outcomes handled;
+        taken = h.taken ++ k.taken;
+        are_taken = rw sends (AreTakenOf-append (all_sends h.outcomes) (sends_of done_as) failed more h.taken k.taken h.are_taken k.are_taken);
+        takes = Takes-then before.taken between.taken after.taken h.taken k.taken h.takes k.takes;
+        failures = k.failures ∙ ap (λ (n : ℕ). many_more n more) h.failures ∙ many_more-add before.failures failed more;
+        events_is = let e = h.events_is in omega (arith, e, length-append h.arrivals (k.event ∷ []));
+        refused_is = ap (λ (n : ℕ). n + refused_count (done_as ∷ [])) h.refused_is ∙ sym (refused_count-append h.outcomes (done_as ∷ []));
+      },
+      refl,
+    )
+
 pub Serves-none : (node : NodeState) (before : Shown) → Serves node node before before 0 0 0
-Serves-none node before = record {
-  arrivals = [];
-  outcomes = [];
-  came = GivesAll-none before.coming before.coming _ refl;
-  handled = refl;
-  goes_on = goes_on_from node node [] [] refl;
-  taken = [];
-  are_taken = (refl, refl);
-  takes = Takes-same before.taken before.taken refl;
-  failures = refl;
-  events_is = refl;
-  refused_is = refl;
-}
+Serves-none node before = (Serves-start node before).0
 
 pub Serves-then : (old mid new : NodeState) (before between after : Shown) (events refused failed more : ℕ) (done_as : Outcome) → Serves old mid before between events refused failed
     → Handles mid new between after done_as more → Serves old new before after (events + 1) (refused + refused_count (done_as ∷ [])) (failed + more)
 Serves-then old mid new before between after events refused failed more done_as h k =
-    let outcomes = h.outcomes ++ (done_as ∷ []) in
-    let arrivals = h.arrivals ++ (k.event ∷ []) in
-    let handled = AreOutcomes-append old mid new h.arrivals (k.event ∷ []) h.outcomes (done_as ∷ []) h.handled (new, k.handled, refl) in
-    let sends : all_sends outcomes ≡ all_sends h.outcomes ++ sends_of done_as = all_sends-append h.outcomes (done_as ∷ []) ∙ ap (λ (t : List Send). all_sends h.outcomes ++ t) (append-nil (sends_of done_as)) in
-    record {
-      arrivals = arrivals;
-      outcomes = outcomes;
-      came = GivesAll-then before.coming between.coming after.coming _ h.arrivals k.event h.came k.came;
-      handled = handled;
-      goes_on = goes_on_from old new arrivals outcomes handled;
-      taken = h.taken ++ k.taken;
-      are_taken = rw sends (AreTakenOf-append (all_sends h.outcomes) (sends_of done_as) failed more h.taken k.taken h.are_taken k.are_taken);
-      takes = Takes-then before.taken between.taken after.taken h.taken k.taken h.takes k.takes;
-      failures = k.failures ∙ ap (λ (n : ℕ). many_more n more) h.failures ∙ many_more-add before.failures failed more;
-      events_is = let e = h.events_is in omega (arith, e, length-append h.arrivals (k.event ∷ []));
-      refused_is = ap (λ (n : ℕ). n + refused_count (done_as ∷ [])) h.refused_is ∙ sym (refused_count-append h.outcomes (done_as ∷ []));
-    }
+    (Serves-more old mid new before between after events refused failed more done_as h k).0
 
 pub Serves-answered : (old mid new : NodeState) (before between after : Shown) (events refused failed more : ℕ) (answer : Answer) → Serves old mid before between events refused failed
     → Handles mid new between after (Answered answer) more → Serves old new before after (events + 1) refused (failed + more)

@@ -1,142 +1,255 @@
-ghost use Rattle.std.specs.Prelude.{◌≡◌, ◌++◌, ◌∷◌, codes, OnOk};
+ghost use Rattle.std.specs.Prelude.{◌≡◌, ◌<◌, ◌≤◌, ◌+◌, ◌*◌, ◌++◌, ◌∷◌, codes, length, slice_index, vec_len, IsOk, OnErr, OnOk};
 ghost use Rattle.std.specs.Fmt.{decimal};
 ghost use Rattle.std.specs.List.{flat_map};
+ghost use Rattle.std.specs.Vec.{vec_capacity};
+ghost use Rattle.hex.specs.Hex.{encode_lower, lower_digits};
+ghost use Rattle.ndn_tlv.specs.Writing.{Puts};
 ghost use Rattle.info_rules.specs.Names.{reason_name};
 ghost use Rattle.forwarder.specs.Commands.{id_of};
-ghost use Rattle.node_core.specs.Script.Writing.{drop_name, kind_name as kind_name_of, lines_text, said_line, said_text, send_text, verdict_text};
+ghost use Rattle.node_core.specs.Script.Writing.{drop_name, hex_word, kind_name as kind_name_of, lines_text, said_line, said_text, send_text, verdict_text};
 ghost use Rattle.forwarder.specs.Verdict.{reason_of, verdict_of};
 
 use forwarder::{DropReason, Outbox, Verdict, id_of};
 use info_rules::{Kind, Reason, RuleNo, Rules};
+use itoa::Buffer;
 use ndn_tlv::Memory;
-use std::alloc::Global;
-use std::io::Write;
 
 /// Appends the text of an answer: a line with the event's number and what was said of it, and a
-/// line for each send. A rule stands by its id. After `Memory` a part of it may stand there.
+/// line for each send. A rule stands by its id. Where memory is refused, nothing is appended.
 pub fn put_answer(
-    alloc: Global,
     text: &mut Vec<u8>,
     number: u64,
     rules: &Rules,
     outcome: &Result<Verdict, Memory>,
     outbox: &Outbox,
 ) -> Result<(), Memory>
-    ensures { OnOk result
-        (text.new.items ≡ text.old.items
+    ensures ok { OnOk result (text.new.items ≡ text.old.items
         ++ lines_text number (said_text rules.now outcome.now) outbox.now) }
+    ensures err { OnErr result (text.new.items ≡ text.old.items) }
+    // Where there is room, memory is not refused.
+    ensures room { vec_len text.old
+        + length (lines_text number (said_text rules.now outcome.now) outbox.now)
+        ≤ vec_capacity text.old → IsOk result }
+    ensures capacity { vec_capacity text.old ≤ vec_capacity text.new }
 {
-    put_outcome(text, number, rules, outcome)?;
-    put_sends(alloc, text, outbox)
-}
-
-fn put_outcome(
-    text: &mut Vec<u8>,
-    number: u64,
-    rules: &Rules,
-    outcome: &Result<Verdict, Memory>,
-) -> Result<(), Memory>
-    ensures { OnOk result (text.new.items
-        ≡ text.old.items ++ said_line number (said_text rules.now outcome.now)) }
-{
-    match outcome {
-        Ok(verdict) => put_verdict(text, number, verdict, rules),
-        Err(_) => put_refused(text, number),
+    let len = text.len();
+    let done = put_parts(text, number, rules, outcome, outbox);
+    if done.is_err() {
+        text.truncate(len);
     }
+    done
 }
 
 /// Appends the line of an event that was answered: its number and its verdict, as a script prints
-/// them. A rule stands by its id, which is empty where there is no rule of its number. After
-/// `Memory` a part of the line may stand there.
+/// them. A rule stands by its id, which is empty where there is no rule of its number. Where memory
+/// is refused, nothing is appended.
 pub fn put_verdict(
     text: &mut Vec<u8>,
     number: u64,
     verdict: &Verdict,
     rules: &Rules,
 ) -> Result<(), Memory>
-    ensures { OnOk result (text.new.items ≡ text.old.items
+    ensures ok { OnOk result (text.new.items ≡ text.old.items
         ++ said_line number (verdict_text rules.now (verdict_of verdict.now))) }
+    ensures err { OnErr result (text.new.items ≡ text.old.items) }
+    // Where there is room, memory is not refused.
+    ensures room { vec_len text.old
+        + length (said_line number (verdict_text rules.now (verdict_of verdict.now)))
+        ≤ vec_capacity text.old → IsOk result }
+    ensures capacity { vec_capacity text.old ≤ vec_capacity text.new }
 {
-    put_number(text, number)?;
-    text.push(b' ')?;
-    put_said(text, rules, *verdict)?;
-    text.push(b'\n')?;
-    Ok(())
+    let len = text.len();
+    let done = put_line(text, number, *verdict, rules);
+    if done.is_err() {
+        text.truncate(len);
+    }
+    done
 }
 
-/// Appends the line of an event for which a step had no memory, as a script prints it. After
-/// `Memory` a part of the line may stand there.
+/// Appends the line of an event for which a step had no memory, as a script prints it. Where memory
+/// is refused, nothing is appended.
 pub fn put_refused(text: &mut Vec<u8>, number: u64) -> Result<(), Memory>
-    ensures { OnOk result
+    ensures ok { OnOk result
         (text.new.items ≡ text.old.items ++ said_line number (codes "memory")) }
+    ensures err { OnErr result (text.new.items ≡ text.old.items) }
+    // Where there is room, memory is not refused.
+    ensures room { vec_len text.old + length (said_line number (codes "memory"))
+        ≤ vec_capacity text.old → IsOk result }
+    ensures capacity { vec_capacity text.old ≤ vec_capacity text.new }
+{
+    let len = text.len();
+    let done = put_refused_line(text, number);
+    if done.is_err() {
+        text.truncate(len);
+    }
+    done
+}
+
+/// Appends a line for each send, as a script prints them: the face, and the octets in hexadecimal or
+/// a dash for none. Where memory is refused, nothing is appended.
+pub fn put_sends(text: &mut Vec<u8>, outbox: &Outbox) -> Result<(), Memory>
+    ensures ok { OnOk result (text.new.items ≡ text.old.items ++ flat_map send_text outbox.now) }
+    ensures err { OnErr result (text.new.items ≡ text.old.items) }
+    // Where there is room, memory is not refused.
+    ensures room { vec_len text.old + length (flat_map send_text outbox.now)
+        ≤ vec_capacity text.old → IsOk result }
+    ensures capacity { vec_capacity text.old ≤ vec_capacity text.new }
+{
+    let len = text.len();
+    let done = put_send_lines(text, outbox);
+    if done.is_err() {
+        text.truncate(len);
+    }
+    done
+}
+
+/// Appends the text of an answer, or some octets of it.
+fn put_parts(
+    text: &mut Vec<u8>,
+    number: u64,
+    rules: &Rules,
+    outcome: &Result<Verdict, Memory>,
+    outbox: &Outbox,
+) -> Result<(), Memory>
+    ensures { Puts text.old text.new result
+        (lines_text number (said_text rules.now outcome.now) outbox.now) }
+{
+    put_outcome(text, number, rules, outcome)?;
+    put_send_lines(text, outbox)
+}
+
+/// Appends the line of an event, or some octets of it.
+fn put_outcome(
+    text: &mut Vec<u8>,
+    number: u64,
+    rules: &Rules,
+    outcome: &Result<Verdict, Memory>,
+) -> Result<(), Memory>
+    ensures { Puts text.old text.new result
+        (said_line number (said_text rules.now outcome.now)) }
+{
+    match outcome {
+        Ok(verdict) => put_line(text, number, *verdict, rules),
+        Err(_) => put_refused_line(text, number),
+    }
+}
+
+/// Appends the line of an event that was answered, or some octets of it.
+fn put_line(text: &mut Vec<u8>, number: u64, verdict: Verdict, rules: &Rules) -> Result<(), Memory>
+    ensures { Puts text.old text.new result
+        (said_line number (verdict_text rules.now (verdict_of verdict))) }
+{
+    put_number(text, number)?;
+    put_word(text, b" ")?;
+    put_said(text, rules, verdict)?;
+    put_word(text, b"\n")
+}
+
+/// Appends the line of an event that had no memory, or some octets of it.
+fn put_refused_line(text: &mut Vec<u8>, number: u64) -> Result<(), Memory>
+    ensures { Puts text.old text.new result (said_line number (codes "memory")) }
 {
     put_number(text, number)?;
     put_word(text, b" memory\n")
 }
 
-/// Appends a line for each send, as a script prints them: the face, and the octets in hexadecimal or
-/// a dash for none. After `Memory` a part of the lines may stand there.
-pub fn put_sends(alloc: Global, text: &mut Vec<u8>, outbox: &Outbox) -> Result<(), Memory>
-    ensures { OnOk result (text.new.items ≡ text.old.items ++ flat_map send_text outbox.now) }
+/// Appends a line for each send, or some octets of them.
+fn put_send_lines(text: &mut Vec<u8>, outbox: &Outbox) -> Result<(), Memory>
+    ensures { Puts text.old text.new result (flat_map send_text outbox.now) }
 {
     for i in 0..outbox.len() {
         if let Some((face, octets)) = outbox.sent(i) {
-            put_send(alloc, text, face, octets)?;
+            put_send(text, face, octets)?;
         }
     }
     Ok(())
 }
 
-fn put_send(alloc: Global, text: &mut Vec<u8>, face: u64, octets: &[u8]) -> Result<(), Memory>
-    ensures { OnOk result (text.new.items ≡ text.old.items ++ send_text (face, octets.now)) }
+/// Appends the line of a send, or some octets of it.
+fn put_send(text: &mut Vec<u8>, face: u64, octets: &[u8]) -> Result<(), Memory>
+    ensures { Puts text.old text.new result (send_text (face, octets.now)) }
 {
-    text.extend_from_slice(b"> ")?;
+    put_word(text, b"> ")?;
     put_number(text, face)?;
-    text.push(b' ')?;
+    put_word(text, b" ")?;
+    put_octets(text, octets)?;
+    put_word(text, b"\n")
+}
+
+/// Appends octets in hexadecimal, or a dash for none, or some of these digits.
+fn put_octets(text: &mut Vec<u8>, octets: &[u8]) -> Result<(), Memory>
+    ensures { Puts text.old text.new result (hex_word octets.now) }
+{
     if octets.is_empty() {
-        text.push(b'-')?;
-    } else {
-        let word = hex::encode(alloc, octets)?;
-        text.extend_from_slice(word.as_bytes())?;
+        return put_word(text, b"-");
     }
-    text.push(b'\n')?;
+    put_digits(text, octets)
+}
+
+/// Appends octets in hexadecimal, or nothing.
+fn put_digits(text: &mut Vec<u8>, octets: &[u8]) -> Result<(), Memory>
+    ensures { Puts text.old text.new result (encode_lower octets.now) }
+{
+    let start = text.len();
+    let len = octets.len().saturating_mul(2);
+    text.resize(start.saturating_add(len), 0)?;
+    fill_digits(&mut text[start..], octets);
     Ok(())
 }
 
-fn put_number(text: &mut Vec<u8>, number: u64) -> Result<(), Memory>
-    ensures { OnOk result (text.new.items ≡ text.old.items ++ decimal number) }
+/// Fills a text with the two digits of each octet.
+fn fill_digits(digits: &mut [u8], octets: &[u8])
+    requires { length digits.old ≡ 2 * length octets.now }
+    ensures { digits.new ≡ encode_lower octets.now }
 {
-    write!(text, "{number}").map_err(|_| Memory)
+    for i in 0..octets.len() {
+        digits[2 * i] = digit_of(octets[i] / 16);
+        digits[2 * i + 1] = digit_of(octets[i] % 16);
+    }
 }
 
+/// The digit of a value. It is computed, so that the loop over octets has no branch and no table.
+#[inline(always)]
+fn digit_of(value: u8) -> u8
+    requires { value < 16 }
+    ensures { result ≡ slice_index lower_digits value }
+{
+    if value < 10 {
+        value + b'0'
+    } else {
+        value - 10 + b'a'
+    }
+}
+
+/// Appends a number in decimal, or nothing.
+fn put_number(text: &mut Vec<u8>, number: u64) -> Result<(), Memory>
+    ensures { Puts text.old text.new result (decimal number) }
+{
+    let mut buffer = Buffer::new();
+    put_word(text, buffer.format(number).as_bytes())
+}
+
+/// Appends what is said of an event, or some octets of it.
 fn put_said(text: &mut Vec<u8>, rules: &Rules, verdict: Verdict) -> Result<(), Memory>
-    ensures { OnOk result
-        (text.new.items ≡ text.old.items ++ verdict_text rules.now (verdict_of verdict)) }
+    ensures { Puts text.old text.new result (verdict_text rules.now (verdict_of verdict)) }
 {
     match verdict {
         Verdict::Passed => put_word(text, b"passed"),
         Verdict::Allowed(rule, status) => put_allowed(text, rules, rule, status),
-        Verdict::DataAllowed(rule) => {
-            put_word(text, b"data ")?;
-            put_word(text, id_of(rules, rule).as_bytes())
-        }
+        Verdict::DataAllowed(rule) => put_words(text, b"data ", id_of(rules, rule).as_bytes()),
         Verdict::Denied(kind, rule, reason) => put_denied(text, rules, kind, rule, reason),
-        Verdict::NoRule(kind) => {
-            put_word(text, b"no-rule ")?;
-            put_word(text, kind_name(kind))
-        }
+        Verdict::NoRule(kind) => put_words(text, b"no-rule ", kind_name(kind)),
         Verdict::Dropped(reason) => put_dropped(text, reason),
     }
 }
 
 fn put_allowed(text: &mut Vec<u8>, rules: &Rules, rule: RuleNo, status: u16) -> Result<(), Memory>
-    ensures { OnOk result (text.new.items ≡ text.old.items
-        ++ (codes "allowed " ++ (decimal status ++ (32 ∷ id_of rules.now rule.0)))) }
+    ensures { Puts text.old text.new result
+        (codes "allowed " ++ (decimal status ++ (32 ∷ id_of rules.now rule.0))) }
 {
     put_word(text, b"allowed ")?;
     put_number(text, status as u64)?;
-    text.push(b' ')?;
-    put_word(text, id_of(rules, rule).as_bytes())
+    put_words(text, b" ", id_of(rules, rule).as_bytes())
 }
 
 fn put_denied(
@@ -146,38 +259,33 @@ fn put_denied(
     rule: RuleNo,
     reason: Reason,
 ) -> Result<(), Memory>
-    ensures { OnOk result (text.new.items ≡ text.old.items ++ (codes "denied " ++ (kind_name_of kind
-        ++ (32 ∷ (reason_name reason ++ (32 ∷ id_of rules.now rule.0)))))) }
+    ensures { Puts text.old text.new result (codes "denied " ++ (kind_name_of kind
+        ++ (32 ∷ (reason_name reason ++ (32 ∷ id_of rules.now rule.0))))) }
 {
-    put_word(text, b"denied ")?;
-    put_word(text, kind_name(kind))?;
-    text.push(b' ')?;
-    put_word(text, reason.name().as_bytes())?;
-    text.push(b' ')?;
-    put_word(text, id_of(rules, rule).as_bytes())
+    put_words(text, b"denied ", kind_name(kind))?;
+    put_words(text, b" ", reason.name().as_bytes())?;
+    put_words(text, b" ", id_of(rules, rule).as_bytes())
 }
 
 fn put_dropped(text: &mut Vec<u8>, reason: DropReason) -> Result<(), Memory>
-    ensures { OnOk result
-        (text.new.items ≡ text.old.items ++ (codes "dropped " ++ drop_name (reason_of reason))) }
+    ensures { Puts text.old text.new result
+        (codes "dropped " ++ drop_name (reason_of reason)) }
 {
-    put_word(text, b"dropped ")?;
     match reason {
-        DropReason::NoFace => put_word(text, b"NoFace"),
+        DropReason::NoFace => put_word(text, b"dropped NoFace"),
         DropReason::Malformed(fault) => {
-            put_word(text, b"Malformed ")?;
-            put_word(text, fault.name().as_bytes())
+            put_words(text, b"dropped Malformed ", fault.name().as_bytes())
         }
-        DropReason::Idle => put_word(text, b"Idle"),
-        DropReason::HopLimit => put_word(text, b"HopLimit"),
-        DropReason::Scope => put_word(text, b"Scope"),
-        DropReason::Loop => put_word(text, b"Loop"),
-        DropReason::PitFull => put_word(text, b"PitFull"),
-        DropReason::NoPending => put_word(text, b"NoPending"),
-        DropReason::NoSegment => put_word(text, b"NoSegment"),
-        DropReason::BadFace => put_word(text, b"BadFace"),
-        DropReason::FaceOpen => put_word(text, b"FaceOpen"),
-        DropReason::FacesFull => put_word(text, b"FacesFull"),
+        DropReason::Idle => put_word(text, b"dropped Idle"),
+        DropReason::HopLimit => put_word(text, b"dropped HopLimit"),
+        DropReason::Scope => put_word(text, b"dropped Scope"),
+        DropReason::Loop => put_word(text, b"dropped Loop"),
+        DropReason::PitFull => put_word(text, b"dropped PitFull"),
+        DropReason::NoPending => put_word(text, b"dropped NoPending"),
+        DropReason::NoSegment => put_word(text, b"dropped NoSegment"),
+        DropReason::BadFace => put_word(text, b"dropped BadFace"),
+        DropReason::FaceOpen => put_word(text, b"dropped FaceOpen"),
+        DropReason::FacesFull => put_word(text, b"dropped FacesFull"),
     }
 }
 
@@ -190,8 +298,17 @@ fn kind_name(kind: Kind) -> &'static [u8]
     }
 }
 
+/// Appends two words, or some octets of them.
+fn put_words(text: &mut Vec<u8>, first: &[u8], second: &[u8]) -> Result<(), Memory>
+    ensures { Puts text.old text.new result (first.now ++ second.now) }
+{
+    put_word(text, first)?;
+    put_word(text, second)
+}
+
+/// Appends a word, or nothing.
 fn put_word(text: &mut Vec<u8>, word: &[u8]) -> Result<(), Memory>
-    ensures { OnOk result (text.new.items ≡ text.old.items ++ word.now) }
+    ensures { Puts text.old text.new result word.now }
 {
     text.extend_from_slice(word)?;
     Ok(())

@@ -19,4 +19,4 @@ pub use ports::{
     ANSWER_SECONDS, Arrival, MemoryPorts, Moments, PortFault, Ports, ServeFault, Served, Turn,
     UdpPorts, frame_room_is_as_promised, receive_one, send_from, send_one, serve, serve_turn,
 };
-pub use script::{RunFault, run_script, scripts_have_one_reading};
+pub use script::{RunFault, put_all, run_script, scripts_have_one_reading};

@@ -10,8 +10,9 @@ mod output;
 mod player;
 mod word;
 
-use crate::script::player::Player;
+use crate::script::player::{CHUNK, Player};
 use forwarder::{Node, NodeFault, NodeParts, Outbox};
+pub use output::put_all;
 use std::alloc::Global;
 use std::io::{Read, Write};
 use thiserror::Error;
@@ -25,7 +26,8 @@ pub enum RunFault {
     /// The reader failed, or was called 4,294,967,295 times.
     #[error("the script cannot be read")]
     Read,
-    /// The writer failed, took no octets, or was called 4,294,967,295 times for one answer.
+    /// The writer failed, took no octets, or was called 4,294,967,295 times for the answers to what
+    /// one read gave.
     #[error("the answers cannot be written")]
     Write,
     /// The node cannot be made. Nothing was read or written.
@@ -36,7 +38,8 @@ pub enum RunFault {
     Memory,
 }
 
-/// Runs the events of a script on a new node, and writes the answer to each as it comes.
+/// Runs the events of a script on a new node, and writes their answers: those to the lines that end
+/// in what one read gave, before it reads more.
 ///
 /// A line is `up FACE local|far MOMENT`, `down FACE MOMENT`, `tick MOMENT` or `in FACE MOMENT HEX`,
 /// with single spaces, decimal numbers without leading zeros, `-` for no octets, and an LF or the
@@ -65,16 +68,18 @@ pub fn run_script<R: Read, W: Write>(
         Ok(node) => node,
         Err(fault) => return Err(RunFault::Node(fault)),
     };
+    let Ok(mut chunk) = vec![in alloc; 0u8; CHUNK] else {
+        return Err(RunFault::Memory);
+    };
     let mut player = Player {
         alloc,
         node,
         outbox: Outbox::new(alloc),
-        line: Vec::new(alloc),
         text: Vec::new(alloc),
         lines: 0,
         events: 0,
     };
-    player.play(reader, writer)
+    player.play(chunk.as_mut_slice(), reader, writer)
 }
 
 /// Law: a text is a script of one list of events, or has one first bad line, after one list of

@@ -86,8 +86,7 @@ fn put_turn(
     let Ok(Turn::Done { verdict, .. }) = serve_turn(node, ports, &mut outbox) else {
         return false;
     };
-    put_verdict(text, number, &verdict, node.rules()).is_ok()
-        && put_sends(alloc, text, &outbox).is_ok()
+    put_verdict(text, number, &verdict, node.rules()).is_ok() && put_sends(text, &outbox).is_ok()
 }
 
 /// What is printed of a node's turns at a port, until nothing more comes.

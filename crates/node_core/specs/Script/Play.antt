@@ -64,14 +64,13 @@ pub record Plays (lines : List (List ℕ)) (from to : Place) (text : List ℕ) :
   pub numbered : to.lines ≡ from.lines + length lines
   pub counted : to.events ≡ from.events + length outcomes
 
--- what a refused reply wrote
-abbrev pub EventStops : RunFault → PlainEvent → Place → Option (List ℕ) → Option (List ℕ) → Type 0
-EventStops fault.Write event from held holds =
-    (to : Place) × (text : List ℕ) × PlaysEvent event from to text × AppendsFront held holds text
-EventStops fault.Memory event from held holds = Keeps held holds
-EventStops fault.Read event from held holds = ⊥
-EventStops (fault.BadLine n) event from held holds = ⊥
-EventStops (fault.Node _) event from held holds = ⊥
+-- why a line was refused
+abbrev pub LineFails : RunFault → List ℕ → Place → Type 0
+LineFails (fault.BadLine n) line from = (n ≡ from.lines + 1) × IsBadLine line
+LineFails fault.Memory line from = Unit {0}
+LineFails fault.Write line from = ⊥
+LineFails fault.Read line from = ⊥
+LineFails (fault.Node _) line from = ⊥
 
 -- why a line was refused, and what was written of its reply
 abbrev pub LineStops : RunFault → List ℕ → Place → Option (List ℕ) → Option (List ℕ) → Type 0

@@ -1,12 +1,13 @@
-ghost use Rattle.std.specs.Prelude.{◌≡◌, ◌≤◌, take, IfOk, IfErr, IfSome, IfNone};
+ghost use Rattle.std.specs.Prelude.{◌≡◌, ◌<◌, ◌≤◌, length, take, IfOk, IfErr, IfSome, IfNone};
 ghost use Rattle.std.specs.Io.KnownBytes.{Consumes, Keeps, IsAtEnd};
 
 use crate::script::RunFault;
 use std::io::{ErrorKind, Read};
 
 /// How many octets a read gave, which is 0 where it was interrupted, or nothing at the end.
-pub fn read_some<R: Read>(reader: &mut R, chunk: &mut [u8; 4096]) -> Result<Option<usize>, RunFault>
-    ensures bound { IfOk result (λ read. IfSome read (λ count. count ≤ 4096)) }
+pub fn read_some<R: Read>(reader: &mut R, chunk: &mut [u8]) -> Result<Option<usize>, RunFault>
+    requires { 0 < length chunk.old }
+    ensures bound { IfOk result (λ read. IfSome read (λ count. count ≤ length chunk.new)) }
     ensures given { IfOk result
         (λ read. IfSome read
         (λ count. Consumes (R.remaining reader.old) (R.remaining reader.new)

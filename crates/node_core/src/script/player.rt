@@ -1,43 +1,48 @@
-ghost use Rattle.std.specs.Prelude.{◌≡◌, ◌+◌, ◌≤◌, List, [], ◌∷◌, ◌++◌, ℕ, length, OnOk, IfErr};
+ghost use Rattle.std.specs.Prelude.{◌≡◌, ◌+◌, ◌≤◌, List, [], ◌∷◌, ◌++◌, ℕ, Some, length, OnErr, OnOk, IfErr};
 ghost use Rattle.std.specs.Io.KnownBytes.{Appends};
 ghost use Rattle.forwarder.specs.Event.{plain_owned};
 ghost use Rattle.node_core.specs.Script.Line.{Lacks};
 ghost use Rattle.node_core.specs.Script.{joined};
 ghost use Rattle.node_core.specs.Script.Ending.{Ends, Stops, ComesWithGoodParts};
-ghost use Rattle.node_core.specs.Script.Play.{place_of, HasRoom, IsNear, IsStart, IsPending, PlaysEvent, Plays, EventStops, LineStops, AddStops, FeedStops};
+ghost use Rattle.node_core.specs.Script.Play.{place_of, HasRoom, IsNear, IsStart, IsPending, PlaysEvent, Plays, LineFails, LineStops, AddStops, FeedStops};
+ghost use Rattle.node_core.specs.declared.script.player.TheConstants.{CHUNK};
 
 use crate::answer::put_answer;
 use crate::script::RunFault;
 use crate::script::input::read_some;
 use crate::script::line::{LONGEST_LINE, Line, line_of};
 use crate::script::output::put_all;
-use crate::script::word::cut;
+use crate::script::word::cut_line;
 use forwarder::{Node, Outbox, OwnedEvent};
 use std::alloc::Global;
 use std::io::{Read, Write};
 
-/// A script on its way: the node, the line that is being read, and how many lines and events there
-/// were.
+/// How many octets are read at once, at most.
+pub const CHUNK: usize = 65_536;
+
+/// A script on its way: the node, the answers that are not written yet, and how many lines and
+/// events there were.
 #[derive(Drop)]
 pub struct Player {
     pub alloc: Global,
     pub node: Node,
     pub outbox: Outbox,
-    pub line: Vec<u8>,
     pub text: Vec<u8>,
     pub lines: u64,
     pub events: u64,
 }
 
 impl Player {
-    /// Runs what the reader holds, from the start of a script on.
+    /// Runs what the reader holds, from the start of a script on. What is read is put into the
+    /// chunk.
     pub fn play<R: Read, W: Write>(
         &mut self,
+        chunk: &mut [u8],
         reader: &mut R,
         writer: &mut W,
     ) -> Result<(), RunFault>
         requires start { IsStart (place_of self.old) }
-        requires empty { self.old.line.items ≡ [] }
+        requires size { length chunk.old ≡ CHUNK }
         ensures done { OnOk result
             (Ends self.old.node (R.remaining reader.old) (R.remaining reader.new)
             (W.contents writer.old) (W.contents writer.new)) }
@@ -46,101 +51,158 @@ impl Player {
             (W.contents writer.old) (W.contents writer.new)) }
         ensures parts { IfErr result ComesWithGoodParts }
     {
-        let mut chunk = [0u8; 4096];
+        let mut line = Vec::new(self.alloc);
         for _ in 0..u32::MAX {
-            let Some(count) = read_some(reader, &mut chunk)? else {
-                return self.end_line(writer);
+            let Some(count) = read_some(reader, chunk)? else {
+                return self.end(writer, line.as_slice());
             };
-            self.feed(writer, &chunk[..count])?;
+            self.feed(writer, &mut line, &chunk[..count])?;
         }
         Err(RunFault::Read)
     }
 
-    // Handles the lines that end in the chunk, and keeps what comes after them.
-    fn feed<W: Write>(&mut self, writer: &mut W, chunk: &[u8]) -> Result<(), RunFault>
+    // Handles the lines that end in the chunk, writes their answers, and keeps what comes after
+    // them.
+    fn feed<W: Write>(
+        &mut self,
+        writer: &mut W,
+        line: &mut Vec<u8>,
+        chunk: &[u8],
+    ) -> Result<(), RunFault>
         requires room { HasRoom (place_of self.old) (length chunk.now + 1) }
-        requires pending { IsPending self.old.line.items }
-        ensures pending { OnOk result (IsPending self.new.line.items) }
+        requires pending { IsPending line.old.items }
+        ensures pending { OnOk result (IsPending line.new.items) }
         ensures near { OnOk result
             (IsNear (place_of self.old) (length chunk.now) (place_of self.new)) }
         ensures played { OnOk result ((lines : List (List ℕ)) × (text : List ℕ)
             × Plays lines (place_of self.old) (place_of self.new) text
             × Appends (W.contents writer.old) (W.contents writer.new) text
-            × (self.old.line.items ++ chunk.now ≡ joined lines ++ self.new.line.items)) }
+            × (line.old.items ++ chunk.now ≡ joined lines ++ line.new.items)) }
         ensures stopped { IfErr result
-            (λ fault. FeedStops fault (self.old.line.items ++ chunk.now) (place_of self.old)
+            (λ fault. FeedStops fault (line.old.items ++ chunk.now) (place_of self.old)
             (W.contents writer.old) (W.contents writer.new)) }
     {
+        self.text.clear();
+        let done = self.gather(line, chunk);
+        put_all(writer, self.text.as_slice())?;
+        done
+    }
+
+    // Handles the last line, which no LF ends, and writes its answer.
+    fn end<W: Write>(&mut self, writer: &mut W, line: &[u8]) -> Result<(), RunFault>
+        requires room { HasRoom (place_of self.old) 1 }
+        requires whole { Lacks 10 line.now }
+        ensures played { OnOk result ((text : List ℕ)
+            × Plays (line.now ∷ []) (place_of self.old) (place_of self.new) text
+            × Appends (W.contents writer.old) (W.contents writer.new) text) }
+        ensures stopped { IfErr result
+            (λ fault. LineStops fault line.now (place_of self.old)
+            (W.contents writer.old) (W.contents writer.new)) }
+    {
+        self.text.clear();
+        self.answer_line(line)?;
+        put_all(writer, self.text.as_slice())
+    }
+
+    // Handles the lines that end in the chunk, and keeps what comes after them. Their answers are
+    // appended to the text.
+    fn gather(&mut self, line: &mut Vec<u8>, chunk: &[u8]) -> Result<(), RunFault>
+        requires room { HasRoom (place_of self.old) (length chunk.now + 1) }
+        requires pending { IsPending line.old.items }
+        ensures pending { OnOk result (IsPending line.new.items) }
+        ensures near { OnOk result
+            (IsNear (place_of self.old) (length chunk.now) (place_of self.new)) }
+        ensures played { OnOk result ((lines : List (List ℕ)) × (text : List ℕ)
+            × Plays lines (place_of self.old) (place_of self.new) text
+            × Appends (Some self.old.text.items) (Some self.new.text.items) text
+            × (line.old.items ++ chunk.now ≡ joined lines ++ line.new.items)) }
+        ensures stopped { IfErr result
+            (λ fault. FeedStops fault (line.old.items ++ chunk.now) (place_of self.old)
+            (Some self.old.text.items) (Some self.new.text.items)) }
+    {
         let mut rest = chunk;
-        while let Some((front, after)) = cut(rest, b'\n') {
-            self.add(front)?;
-            self.end_line(writer)?;
+        while let Some((front, after)) = cut_line(rest) {
+            self.end_line(line, front)?;
             rest = after;
         }
-        self.add(rest)
+        self.add(line, rest)
     }
 
     // Adds to the line that is being read.
-    fn add(&mut self, octets: &[u8]) -> Result<(), RunFault>
-        requires room { HasRoom (place_of self.old) 1 }
-        requires short { length self.old.line.items ≤ 20000 }
-        ensures place { place_of self.new ≡ place_of self.old }
-        ensures ok { OnOk result (self.new.line.items ≡ self.old.line.items ++ octets.now) }
-        ensures short { OnOk result (length self.new.line.items ≤ 20000) }
+    fn add(&self, line: &mut Vec<u8>, octets: &[u8]) -> Result<(), RunFault>
+        requires room { HasRoom (place_of self.now) 1 }
+        requires short { length line.old.items ≤ 20000 }
+        ensures ok { OnOk result (line.new.items ≡ line.old.items ++ octets.now) }
+        ensures short { OnOk result (length line.new.items ≤ 20000) }
         ensures stopped { IfErr result
-            (λ fault. AddStops fault (self.old.line.items ++ octets.now) (place_of self.old)) }
+            (λ fault. AddStops fault (line.old.items ++ octets.now) (place_of self.now)) }
     {
-        if octets.len() > LONGEST_LINE - self.line.len() {
+        if octets.len() > LONGEST_LINE - line.len() {
             return Err(RunFault::BadLine(self.lines + 1));
         }
-        self.line
-            .extend_from_slice(octets)
-            .map_err(|_| RunFault::Memory)
+        line.extend_from_slice(octets).map_err(|_| RunFault::Memory)
     }
 
-    // Handles the line that was read.
-    fn end_line<W: Write>(&mut self, writer: &mut W) -> Result<(), RunFault>
+    // Handles the line that ends with these octets. Its answer is appended to the text.
+    fn end_line(&mut self, line: &mut Vec<u8>, octets: &[u8]) -> Result<(), RunFault>
         requires room { HasRoom (place_of self.old) 1 }
-        requires whole { Lacks 10 self.old.line.items }
-        ensures empty { OnOk result (self.new.line.items ≡ []) }
+        requires pending { IsPending line.old.items }
+        requires whole { Lacks 10 octets.now }
+        ensures empty { OnOk result (line.new.items ≡ []) }
         ensures near { OnOk result (IsNear (place_of self.old) 1 (place_of self.new)) }
         ensures played { OnOk result ((text : List ℕ)
-            × Plays (self.old.line.items ∷ []) (place_of self.old) (place_of self.new) text
-            × Appends (W.contents writer.old) (W.contents writer.new) text) }
+            × Plays ((line.old.items ++ octets.now) ∷ []) (place_of self.old) (place_of self.new) text
+            × (self.new.text.items ≡ self.old.text.items ++ text)) }
+        ensures kept { OnErr result (self.new.text.items ≡ self.old.text.items) }
         ensures stopped { IfErr result
-            (λ fault. LineStops fault self.old.line.items (place_of self.old)
-            (W.contents writer.old) (W.contents writer.new)) }
+            (λ fault. LineFails fault (line.old.items ++ octets.now) (place_of self.old)) }
     {
-        let Ok(said) = line_of(self.alloc, self.line.as_slice()) else {
+        if line.is_empty() {
+            return self.answer_line(octets);
+        }
+        self.add(line, octets)?;
+        self.answer_line(line.as_slice())?;
+        line.clear();
+        Ok(())
+    }
+
+    // Handles a line. Its answer is appended to the text.
+    fn answer_line(&mut self, line: &[u8]) -> Result<(), RunFault>
+        requires room { HasRoom (place_of self.old) 1 }
+        requires whole { Lacks 10 line.now }
+        ensures near { OnOk result (IsNear (place_of self.old) 1 (place_of self.new)) }
+        ensures played { OnOk result ((text : List ℕ)
+            × Plays (line.now ∷ []) (place_of self.old) (place_of self.new) text
+            × (self.new.text.items ≡ self.old.text.items ++ text)) }
+        ensures kept { OnErr result (self.new.text.items ≡ self.old.text.items) }
+        ensures stopped { IfErr result
+            (λ fault. LineFails fault line.now (place_of self.old)) }
+    {
+        let Ok(said) = line_of(self.alloc, line) else {
             return Err(RunFault::Memory);
         };
-        self.line.clear();
         match said {
             Line::Bad => return Err(RunFault::BadLine(self.lines + 1)),
             Line::Skipped => {}
-            Line::Event(event) => self.answer(writer, &event)?,
+            Line::Event(event) => self.answer(&event)?,
         }
         self.lines += 1;
         Ok(())
     }
 
-    // Hands the event to the node, and writes its answer.
-    fn answer<W: Write>(&mut self, writer: &mut W, event: &OwnedEvent) -> Result<(), RunFault>
+    // Hands the event to the node, and appends its answer to the text.
+    fn answer(&mut self, event: &OwnedEvent) -> Result<(), RunFault>
         requires room { HasRoom (place_of self.old) 1 }
-        ensures line { self.new.line ≡ self.old.line }
         ensures handled { OnOk result ((text : List ℕ)
             × PlaysEvent (plain_owned event.now) (place_of self.old) (place_of self.new) text
-            × Appends (W.contents writer.old) (W.contents writer.new) text) }
-        ensures stopped { IfErr result
-            (λ fault. EventStops fault (plain_owned event.now) (place_of self.old)
-            (W.contents writer.old) (W.contents writer.new)) }
+            × (self.new.text.items ≡ self.old.text.items ++ text)) }
+        ensures kept { OnErr result (self.new.text.items ≡ self.old.text.items) }
+        ensures fault { IfErr result (λ fault. fault ≡ RunFault.Memory) }
     {
         self.outbox.clear();
-        self.text.clear();
         let outcome = self.node.step(event.as_event(), &mut self.outbox);
         self.events += 1;
         let put = put_answer(
-            self.alloc,
             &mut self.text,
             self.events,
             self.node.rules(),
@@ -149,9 +211,6 @@ impl Player {
         );
         let Ok(()) = put else {
             return Err(RunFault::Memory);
-        };
-        let Ok(()) = put_all(writer, self.text.as_slice()) else {
-            return Err(RunFault::Write);
         };
         Ok(())
     }

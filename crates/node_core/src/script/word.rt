@@ -1,10 +1,11 @@
-ghost use Rattle.std.specs.Prelude.{◌≡◌, ℕ, ◌<◌, ◌^◌, List, ◌∷◌, ◌++◌, IfSome, IfNone, IfOk};
+ghost use Rattle.std.specs.Prelude.{◌≡◌, ℕ, ◌*◌, ◌<◌, ◌^◌, List, ◌∷◌, ◌++◌, length, Ok, IfSome, IfNone, IfOk, IsTrue, MatchOption};
+ghost use Rattle.hex.specs.Hex.{decode_pairs, hex_digit_value};
 ghost use Rattle.std.specs.Fmt.{decimal};
 ghost use Rattle.node_core.specs.Script.Line.{Lacks, scope_word, HexSpells};
 ghost use Rattle.forwarder.specs.declared.event.Scope.{Scope};
 
 use forwarder::Scope;
-use hex::FromHexError;
+use memchr::memchr;
 use ndn_tlv::Memory;
 use std::alloc::Global;
 use std::str;
@@ -21,6 +22,17 @@ pub fn cut(text: &[u8], at: u8) -> Option<(&[u8], &[u8])>
         }
     }
     None
+}
+
+/// What stands before the first LF, and what stands after it. It is faster than `cut` where the LF is
+/// far.
+pub fn cut_line(text: &[u8]) -> Option<(&[u8], &[u8])>
+    ensures found { IfSome result
+        (λ parts. (text.now ≡ parts.0.now ++ (10 ∷ parts.1.now)) × Lacks 10 parts.0.now) }
+    ensures none { IfNone result (Lacks 10 text.now) }
+{
+    let at = memchr(b'\n', text)?;
+    Some((&text[..at], &text[at + 1..]))
 }
 
 /// The words before the first two spaces, and what stands after them.
@@ -75,9 +87,43 @@ pub fn octets_of(alloc: Global, word: &[u8]) -> Result<Option<Vec<u8>>, Memory>
     if word.is_empty() {
         return Ok(None);
     }
-    match hex::decode(alloc, word) {
-        Ok(octets) => Ok(Some(octets)),
-        Err(FromHexError::OutOfMemory) => Err(Memory),
-        Err(_) => Ok(None),
+    if word.len() % 2 != 0 {
+        return Ok(None);
+    }
+    let mut octets = vec![in alloc; 0u8; word.len() / 2]?;
+    if fill(octets.as_mut_slice(), word) {
+        return Ok(Some(octets));
+    }
+    Ok(None)
+}
+
+/// Whether all are digits, of which each two spell an octet. Where they are, these octets take the
+/// place of others. All are read whatever they are, so that the loop has no branch.
+fn fill(octets: &mut [u8], digits: &[u8]) -> bool
+    requires { length digits.now ≡ 2 * length octets.old }
+    ensures found { IsTrue result → decode_pairs 0 digits.now ≡ Ok octets.new }
+    ensures none { (spelled : List ℕ) → decode_pairs 0 digits.now ≡ Ok spelled → IsTrue result }
+{
+    let mut greatest = 0;
+    for i in 0..octets.len() {
+        let high = value_of(digits[2 * i]);
+        let low = value_of(digits[2 * i + 1]);
+        greatest = high.max(low).max(greatest);
+        octets[i] = high % 16 * 16 + low % 16;
+    }
+    greatest < 16
+}
+
+/// The value of a digit of either case, or 255 where it is none.
+#[inline(always)]
+fn value_of(digit: u8) -> u8
+    ensures { MatchOption (hex_digit_value digit) (result ≡ 255)
+        (λ value. (result ≡ value) × (value < 16)) }
+{
+    match digit {
+        b'0'..=b'9' => digit - b'0',
+        b'a'..=b'f' => digit - b'a' + 10,
+        b'A'..=b'F' => digit - b'A' + 10,
+        _ => 255,
     }
 }

@@ -4,7 +4,7 @@ use Rattle.forwarder.specs.Node.{NodeState}
 use Rattle.forwarder.specs.Parts.{first_node, parts_fault}
 use Rattle.node_core.specs.Script.Ending.{Ends, Stops}
 use Rattle.node_core.specs.Script.Play.{IsNew}
-use Rattle.node_core.proofs.Finishing.{first_is_new, made_of_good_parts}
+use Rattle.node_core.proofs.Finishing.{Stops-memory, first_is_new, made_of_good_parts}
 use Rattle.node_core.proofs.script.run_script.Goals as goal
 
 pub play-requires-clause-start : goal.play-requires-clause-start
@@ -35,3 +35,8 @@ returns-clause-stopped g c =
     (λ fault. Stops node fault (g.R.Read.remaining c.args.reader.now) (g.R.Read.remaining c.play.new.reader) (g.W.Write.contents c.args.writer.now)
     (g.W.Write.contents c.play.new.writer)))
     same c.play.ensures.stopped
+
+pub returns-in_default-clause-stopped : goal.returns-in_default-clause-stopped
+returns-in_default-clause-stopped g c =
+    let p = c.args.parts in
+    Stops-memory (first_node p.rules p.keys p.repo p.cache) (first_is_new p.rules p.keys p.repo p.cache) (g.R.Read.remaining c.args.reader.now) (g.W.Write.contents c.args.writer.now)

@@ -1,5 +1,4 @@
-use Rattle.std.proofs.Common.{◌≡◌, ℕ, List, take, ap, sym, ◌∙◌}
-use Rattle.std.specs.Prelude.{Option, Some}
+use Rattle.std.proofs.Common.{ℕ, take, ap, sym, ◌∙◌}
 use Rattle.std.specs.Option.{option_map}
 use Rattle.node_core.specs.Udp.{UdpState}
 use Rattle.node_core.proofs.ports.udp.UdpPortsPorts.next.Goals as goal

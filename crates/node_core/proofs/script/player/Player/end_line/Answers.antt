@@ -1,35 +1,9 @@
-use Rattle.std.proofs.Common.{refl, []}
 use Rattle.std.proofs.lemmas.Result.{err_from_is_err_and}
 use Rattle.node_core.specs.Script.Play.{place_of}
-use Rattle.forwarder.specs.Event.{plain_owned}
-use Rattle.node_core.proofs.Known.{Appends-start}
-use Rattle.node_core.proofs.Playing.{LineStops-from_reply, Plays-skipped, Plays-event}
+use Rattle.node_core.proofs.Playing.{LineFails-from_add}
 use Rattle.node_core.proofs.script.player.Player.end_line.Goals as goal
-use Rattle.node_core.proofs.script.player.Player.end_line.Goals.{in-Skipped, in-Event+in_ok-answer-in-Event+in-Packet-1, in-Event+in_ok-answer-in-Event+in-FaceUp-1}
 
-pub returns-in_err-answer-in-Event-clause-stopped : goal.returns-in_err-answer-in-Event-clause-stopped
-returns-in_err-answer-in-Event-clause-stopped g c =
-    let line = c.args.self.now.line.items in
+pub returns-in_err-add-clause-stopped : goal.returns-in_err-add-clause-stopped
+returns-in_err-add-clause-stopped c =
     let p = err_from_is_err_and c.from_residual.result c.from_residual.ensures.1 in
-    let said = rw (c.in-Event.is, c.as_slice.ensures.value) at c.in-Ok.ensures in
-    let stops = LineStops-from_reply c.in_err-answer-in-Event.field-0.0 line (plain_owned c.in-Event.event) (place_of c.args.self.now) _ _ c.requires.whole said c.in_err-answer-in-Event.ensures.stopped in
-    rw (p.1, p.2) stops
-
-pub returns-clause-played : goal.returns-clause-played
-returns-clause-played g c =
-    let line = c.args.self.now.line.items in
-    elim c.match-said.branch [
-      | in-Skipped w ↦
-          let said = rw (w.in-Skipped.is, c.as_slice.ensures.value) at c.in-Ok.ensures in
-          rw (w.self-is, w.writer-is) ([], Plays-skipped line _ _ c.requires.whole said refl refl refl, Appends-start _)
-      | in-Event+in_ok-answer-in-Event+in-Packet-1 w ↦
-          let said = rw (w.in-Event.is, c.as_slice.ensures.value) at c.in-Ok.ensures in
-          let r = w.in_ok-answer-in-Event.ensures.handled in
-          rw (w.self-is, w.writer-is)
-          (r.0, Plays-event line (plain_owned w.in-Event.event) _ (place_of w.answer.new.self) _ r.0 c.requires.whole said r.1 refl refl refl, r.2)
-      | in-Event+in_ok-answer-in-Event+in-FaceUp-1 w ↦
-          let said = rw (w.in-Event.is, c.as_slice.ensures.value) at c.in-Ok.ensures in
-          let r = w.in_ok-answer-in-Event.ensures.handled in
-          rw (w.self-is, w.writer-is)
-          (r.0, Plays-event line (plain_owned w.in-Event.event) _ (place_of w.answer.new.self) _ r.0 c.requires.whole said r.1 refl refl refl, r.2)
-    ]
+    rw (p.1, p.2) (LineFails-from_add c.in_err-add.field-0.0 _ (place_of c.args.self.now) c.in_err-add.ensures.stopped)
