@@ -34,7 +34,8 @@ held_from now whole d = record {
   arrival = now;
 }
 
--- an allowed command of this status, where this is read off its name
+-- What an allowed command that was answered with this status asks for, where this is read off its
+-- name: an erase, where the status is 200. A name of the repository reads as no such command.
 abbrev pub command_use : Result PlainCommand ℕ → ℕ → CacheUse
 command_use (Err refused) status = Untouched
 command_use (Ok c) status = elim c.action [
@@ -42,7 +43,7 @@ command_use (Ok c) status = elim c.action [
   | _ ↦ Untouched
 ]
 
--- what an event asks the cache for that comes to this now
+-- what an event that comes to this asks the cache for, at this moment
 abbrev pub cache_use : ℕ → Outcome → CacheUse
 cache_use now Nothing = Untouched
 cache_use now (InterestPassed face whole i) =
@@ -64,7 +65,8 @@ MayForget old new =
     All (λ c. Contains old.cached c) new.cached × (new.capacity ≡ old.capacity)
 
 -- What a use leaves of the cache: what is given becomes the most recently used; an awaited Data is
--- held, or the cache forgets for want of memory; an erase is that of the content store.
+-- held, or is not and the cache may forget, and no other Data comes into it; an erase is that of the
+-- content store.
 abbrev pub CacheAfter : ℕ → Pending → CacheUse → StoreState → StoreState → Type 0
 CacheAfter now waiting Untouched old new = new ≡ old
 CacheAfter now waiting (LooksUp key) old new =
@@ -76,7 +78,8 @@ CacheAfter now waiting (Erases name count) old new =
     ((gone : ℕ) × IsErased name count old.cached new.cached gone)
     × (new.capacity ≡ old.capacity)
 
--- the use takes away whatever Data of this full name is held
+-- The use takes away whatever Data of this full name is held. An erase with Count may take it too,
+-- but which ones it takes is not read off the event.
 abbrev pub TakesAway : CacheUse → CachedData → Type 0
 TakesAway Untouched c = ⊥
 TakesAway (LooksUp key) c = ⊥

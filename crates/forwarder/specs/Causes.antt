@@ -80,7 +80,7 @@ abbrev pub after_causes : List Cause → PlainKey → Records → Records
 after_causes [] key r = r
 after_causes (cause ∷ causes) key r = after_causes causes key (records_after cause key r)
 
--- the causes, the last one first, before others that came earlier
+-- these causes in front of earlier ones, so that the last stands first
 abbrev pub before_earlier : List Cause → List Cause → List Cause
 before_earlier [] earlier = earlier
 before_earlier (cause ∷ causes) earlier = before_earlier causes (cause ∷ earlier)

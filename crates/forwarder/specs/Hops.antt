@@ -26,8 +26,8 @@ cost_after_command (Ok c) from name face was =
       | _ ↦ was
     ]
 
--- What one more event does to the cost of a hop, by what it comes to; None where there is no such
--- hop. An allowed command changes it where its status is 200. Where a face closes, its hops end.
+-- What an outcome does to the cost of a hop; None: there is no such hop. An allowed command changes
+-- it where its status is 200. Where a face closes, its hops end.
 abbrev pub cost_after : Outcome → List Field → ℕ → Option ℕ → Option ℕ
 cost_after Nothing name face was = was
 cost_after (InterestPassed from whole i) name face was = was

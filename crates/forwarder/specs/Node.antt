@@ -86,6 +86,7 @@ NeedsNoMemory p face (Ok (AData whole d)) =
 NeedsNoMemory p face (Ok (ANack reason whole i)) = is_out_of_scope p face i.name ≡ true
 NeedsNoMemory p face (Ok Idle) = ⊤
 
+-- the events that take no memory, read off the node before the event
 abbrev pub AsksNoMemory : NodeState → PlainEvent → Type 0
 AsksNoMemory old (Packet face now octets) =
     (is_open face old.policy.faces ≡ false) ⊎ NeedsNoMemory old.policy face (frame_at octets)

@@ -1,6 +1,6 @@
--- What an event comes to, read once off the event and what is said of it. By this are told the
--- records that change, what the cache is asked for, and which hops a command sets (NFD Developer's
--- Guide, "Forwarding").
+-- What an event comes to, read once off the event and its verdict. From this follow the records that
+-- change, what the cache is asked for, and which hops a command sets (NFD Developer's Guide,
+-- "Forwarding").
 use Rattle.std.specs.Prelude.{ℕ, List, Result, Ok, Err}
 use Rattle.ndn_packets.specs.FrameReading.{frame_at}
 use Rattle.ndn_packets.specs.Packet.{PlainInterest, PlainData, PlainFrame, AnInterest, AData, ANack, Idle}
@@ -9,9 +9,10 @@ use Rattle.forwarder.specs.Event.{PlainEvent, Packet, FaceUp, FaceDown, Tick}
 use Rattle.forwarder.specs.Verdict.{Verdict, Passed, Allowed, DataAllowed, Denied, NoRule, Dropped}
 
 pub data Outcome : Type 0 where
-  -- no more than that its moment comes, or that a face opens
+  -- no record, cached Data or hop changes but by its moment: a moment, a face that opens, and all
+  -- that is dropped or denied
   Nothing : Outcome
-  -- an Interest that is no command was passed
+  -- an Interest for Data, or for a segment of a list, was passed
   InterestPassed : (face : ℕ) (whole : List ℕ) (i : PlainInterest) → Outcome
   -- a command of this status was allowed
   CommandAllowed : (face : ℕ) (i : PlainInterest) (status : ℕ) → Outcome
@@ -40,7 +41,7 @@ allowed_data (AData whole d) = DataCame whole d
 allowed_data (ANack reason whole i) = Nothing
 allowed_data Idle = Nothing
 
--- by what is said of a packet from a face
+-- by the verdict on a packet from a face
 abbrev pub packet_outcome : ℕ → PlainFrame → Verdict → Outcome
 packet_outcome face packet Passed = passed_packet face packet
 packet_outcome face packet (Allowed rule status) = allowed_command face status packet

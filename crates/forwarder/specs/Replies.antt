@@ -66,6 +66,7 @@ outgoing_interest seen key whole i faces =
 abbrev pub interest_reject : ℕ → List ℕ → Answer
 interest_reject face whole = passed ((face, nack_text NO_ROUTE whole) ∷ [])
 
+-- by the strategy's choice
 abbrev pub by_strategy : Seen → PlainKey → List ℕ → PlainInterest → ℕ → Choice → Answer
 by_strategy seen key whole i face choices.NoRoute = interest_reject face whole
 by_strategy seen key whole i face (choices.Send faces) = outgoing_interest seen key whole i faces
@@ -87,7 +88,8 @@ abbrev pub by_content_store : Seen → ℕ → List ℕ → PlainInterest → Op
 by_content_store seen face whole i (Some octets) = content_store_hit face octets
 by_content_store seen face whole i None = content_store_miss seen face whole i
 
--- Incoming Interest: one that loops asks no content store
+-- Incoming Interest: one that loops gets a Nack; else the content store answers, the repository, or
+-- a face is asked
 abbrev pub RepliesForData : Seen → ℕ → List ℕ → PlainInterest → Answer → Type 0
 RepliesForData seen face whole i answer =
     WhereTrue (loops (seen.records (key_of i)) face i.nonce) (answer ≡ interest_loop face whole)

@@ -29,8 +29,8 @@ use pit_fib::MAX_FACES;
 
 impl State {
     /// Handles a Data (NFD Developer's Guide, "Incoming Data Pipeline"). Where the rules allow it,
-    /// its received octets go to each other face that waits for it, it is cached if there was such
-    /// a face, and stored where the repository wants it.
+    /// its received octets go to each other face that waits for it, it is cached if any face waited,
+    /// its own included, and stored where the repository wants it.
     pub fn receive_data(
         &mut self,
         arrived: &Arrived<'_, Data<'_>>,

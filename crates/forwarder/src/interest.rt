@@ -55,7 +55,7 @@ impl State {
     }
 
     /// Answers an Interest for Data: by a Nack where it loops, from the cache or the repository, or
-    /// by sending it on. What is held is looked for first, since that takes no memory.
+    /// by sending it on. What is held is looked for first, so that a hit prepares no record.
     fn answer(
         &mut self,
         arrived: &Arrived<'_, Interest<'_>>,
@@ -79,7 +79,7 @@ impl State {
         self.miss(arrived, out)
     }
 
-    /// Answers an Interest from the cache, at the place that it gave for it (NFD Developer's Guide,
+    /// Answers an Interest from the cache, at the place that `place_for` gave (NFD Developer's Guide,
     /// "Content Store Hit Pipeline"), or by a Nack where it loops.
     fn serve_cached(
         &mut self,

@@ -153,9 +153,9 @@ impl Node {
     /// end of the outbox.
     ///
     /// On `Memory` the cache may have forgotten Data or changed their order of use, and nothing
-    /// else changes. Face changes, moments, packets on faces that are not open, what is no packet
-    /// or out of scope, and Data that the rules do not allow take no memory; but a rule with a
-    /// hyper-relation may, to decide of a Data.
+    /// else changes. Face changes, moments, packets on faces that are not open, octets that hold no
+    /// packet, what is out of scope, Interests of HopLimit 0, and Data that the rules do not allow,
+    /// unless their first rule has a hyper-relation, take no memory.
     pub fn step(&mut self, event: Event<'_>, outbox: &mut Outbox) -> Result<Verdict, Memory>
         // One step, octets to octets.
         ensures answered { IfOk result

@@ -44,7 +44,7 @@ nacked_with nonce reason out_record =
     if same_nonce out_record.nonce nonce then record out_record { reason = Some reason }
     else out_record
 
--- the out-records, with the reason of a Nack from a face that had this one
+-- the out-records, with the reason of a Nack from a face whose out-record was this
 abbrev pub with_reason : ℕ → List ℕ → ℕ → OutRecords → Option OutRecord → OutRecords
 with_reason face nonce reason out_records None = out_records
 with_reason face nonce reason out_records (Some out_record) =

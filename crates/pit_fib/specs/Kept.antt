@@ -158,7 +158,7 @@ abbrev pub with_kept_if : Flags → Option Kept → Option Row → Row
 with_kept_if f None row = unwrap_or row map.empty
 with_kept_if f (Some s) row = with_kept f s row
 
--- The row after a sending to a face, for whose out-record there is this memory beside the entry's
+-- the row after a sending to a face, with this memory for its out-record beside the entry's own
 abbrev pub row_sent : Flags → ℕ → OutRecord → ℕ → Option Row → Row
 row_sent f face out_record room row =
     with_kept_if f (option_map (sent_in room face out_record) (kept_in row f)) row

@@ -55,7 +55,7 @@ pub fn records_are_the_past()
 {}
 
 /// Law: a Nack comes to nothing exactly where its Nonce was not the last one sent to its face, and
-/// gives a reason exactly where all faces asked have then answered by a Nack: the least one.
+/// gives a reason exactly where each out-record then has one: the least one.
 pub fn nacks_tell_the_least_reason()
     ensures pending { (r : Records) (face : ℕ) (nonce : List ℕ) (reason : ℕ)
         → (nacked_answer r face nonce reason ≡ answers.NoPending)

@@ -36,9 +36,10 @@ use std::mem;
 /// The greatest number of keys under which Interests wait.
 pub const MAX_PENDING: usize = MAX_ENTRIES;
 
-/// The pending Interest table (NFD Developer's Guide, "Pending Interest Table"): by key, an
-/// in-record for each face that waits, and an out-record for each face to which an Interest was
-/// sent. Each of its keys has an in-record. It takes no new key while 4,096 stand, and has records of at most 64 different faces.
+/// The pending Interest table (NFD Developer's Guide, "Pending Interest Table"): by key, an in-record
+/// for each face that waits, and an out-record for each face to which an Interest was sent. Each of
+/// its keys has an in-record. It takes no new key while 4,096 stand, and has records of at most 64
+/// different faces.
 #[derive(Drop)]
 pub struct Pit {
     alloc: Global,

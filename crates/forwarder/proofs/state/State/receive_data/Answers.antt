@@ -89,6 +89,6 @@ pub returns-in-Allowed-clause-without_memory : goal.returns-in-Allowed-clause-wi
 returns-in-Allowed-clause-without_memory c = λ needs. elim needs [
   | inl out ↦ let here = sym c.is_out_of_scope.ensures ∙ c.if-is_out_of_scope.false in cc (here, out)
   | inr (never, sure) ↦ absurd (never c.in-Allowed.rule
-    (subst (λ (said : Decision). IsSaid (policy_of c.args.self.now) (AData c.args.arrived.now.packet.now.whole.now (plain_data c.args.arrived.now.packet.now)) said) c.in-Allowed.is
-    (c.in_ok-rule.ensures.said (policy_of c.args.self.now) refl refl)))
+      (subst (λ (said : Decision). IsSaid (policy_of c.args.self.now) (AData c.args.arrived.now.packet.now.whole.now (plain_data c.args.arrived.now.packet.now)) said) c.in-Allowed.is
+      (c.in_ok-rule.ensures.said (policy_of c.args.self.now) refl refl)))
 ]
