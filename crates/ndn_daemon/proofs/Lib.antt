@@ -1,3 +1,4 @@
 pub mod Spelling
 pub mod Peers
 pub mod Requests
+pub mod Turns

@@ -9,7 +9,7 @@ use Rattle.pit_fib.specs.declared.faces.TheConstants.{MAX_FACES}
 use Rattle.ndn_daemon.specs.declared.command.Request.{Request}
 use Rattle.ndn_daemon.specs.declared.command.Request.TheVariants.{Help, Udp, Script as RunScript}
 use Rattle.ndn_daemon.specs.declared.fault.Fault.{Fault}
-use Rattle.ndn_daemon.specs.declared.fault.Fault.TheVariants.{CommandLine, Script}
+use Rattle.ndn_daemon.specs.declared.fault.Fault.TheVariants.{BadValue, CommandLine, Script}
 use Rattle.ndn_daemon.specs.Options.{IsOptions}
 use Rattle.ndn_daemon.specs.UdpOptions.{IsUdpOptions}
 
@@ -26,6 +26,20 @@ IsRequest name rows (Help error) = ⊥
 IsRequest name rows (RunScript node) = (name ≢ codes "udp") × IsOptions rows node
 IsRequest name rows (Udp node options) =
     (name ≡ codes "udp") × IsOptions rows node × IsUdpOptions rows options
+
+-- help, or what the options that were found for a subcommand ask for
+abbrev pub IsAsked : Request → Type 0
+IsAsked (Help error) = ⊤
+IsAsked (RunScript node) = (name : List ℕ) × (rows : List Row) × IsRequest name rows (RunScript node)
+IsAsked (Udp node options) =
+    (name : List ℕ) × (rows : List Row) × IsRequest name rows (Udp node options)
+
+-- the command line is wrong, a value is none that may be given there, or memory was refused
+abbrev pub IsFaultOfWords : Fault → Type 0
+IsFaultOfWords (CommandLine error) = ⊤
+IsFaultOfWords (BadValue place wanted) = ⊤
+IsFaultOfWords (Script Memory) = ⊤
+IsFaultOfWords why = ⊥
 
 -- the peers of a node on a port are at most 64
 abbrev pub HasFewPeers : Request → Type 0

@@ -1,8 +1,8 @@
 //! The command line, and its help.
-ghost use Rattle.std.specs.Prelude.{◌≡◌, IfOk};
+ghost use Rattle.std.specs.Prelude.{◌≡◌, IfErr, IfOk};
 ghost use Rattle.clap.specs.Words.{kind_of};
 ghost use Rattle.ndn_daemon.specs.Options.{ReadsInMemory, rows_in};
-ghost use Rattle.ndn_daemon.specs.Command.{HasFewPeers, IsRequest, reading_of};
+ghost use Rattle.ndn_daemon.specs.Command.{HasFewPeers, IsAsked, IsFaultOfWords, IsRequest, reading_of};
 
 use crate::fault::Fault;
 use crate::options::Options;
@@ -106,7 +106,9 @@ file, the port, input, output or memory fails.";
 
 /// Reads the arguments of a command line, the first of which is the program's name.
 pub fn request_of<S: AsStr>(alloc: Global, arguments: &[S]) -> Result<Request, Fault>
-    ensures { IfOk result HasFewPeers }
+    ensures asked { IfOk result IsAsked }
+    ensures few { IfOk result HasFewPeers }
+    ensures fault { IfErr result IsFaultOfWords }
 {
     let mut command = command(alloc)?;
     let matches = match command.try_get_matches_from_mut(arguments) {

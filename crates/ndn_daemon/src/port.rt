@@ -1,13 +1,16 @@
 //! A node on a UDP port of this machine.
-ghost use Rattle.std.specs.Prelude.{◌≡◌, ◌≤◌, ◌++◌, length, OnOk};
-ghost use Rattle.ndn_daemon.specs.Turn.{turn_text};
+ghost use Rattle.std.specs.Prelude.{◌≡◌, ◌↔◌, ◌≤◌, ◌+◌, ◌++◌, Err, None, length, vec_len, IsOk, IsTrue, IfErr, MatchOption, OnErr, OnOk};
+ghost use Rattle.std.specs.Vec.{vec_capacity};
+ghost use Rattle.forwarder.specs.Parts.{parts_fault};
+ghost use Rattle.node_core.specs.Ports.Serving.{shown};
+ghost use Rattle.ndn_daemon.specs.Turn.{EndsTurns, HasNoTurns, StopsAt, StopsTurns, TakesTurns, turn_text};
 
 use crate::fault::Fault;
 use crate::udp_options::UdpOptions;
 use info_rules::Rules;
 use node_core::{
-    MAX_FACES, Moments, Node, NodeParts, Outbox, Ports, RunFault, Turn, UdpPorts, put_refused,
-    put_sends, put_verdict, serve_turn,
+    MAX_FACES, Moments, Node, NodeParts, Outbox, Ports, RunFault, Turn, UdpPorts, put_all,
+    put_refused, put_sends, put_verdict, serve_turn,
 };
 use std::alloc::Global;
 use std::io;
@@ -41,13 +44,20 @@ fn milliseconds<R: Clock>(rt: &R) -> Option<u64> {
     u64::try_from(duration.as_millis()).ok()
 }
 
-/// Runs a node on its port for its turns, and writes each answer to standard output as it comes.
+/// Runs a node on its port for its turns, and writes each answer to standard output as it comes. Parts
+/// that are wrong are reported before the port is bound.
 pub fn run_on_port<R: AllocGlobal + Clock + Net + Print>(
     rt: &R,
     parts: NodeParts,
     options: &UdpOptions,
 ) -> Result<(), Fault>
     requires { length options.now.peers.items ≤ MAX_FACES }
+    ensures parts { MatchOption (parts_fault parts.repo parts.cache)
+        (IfErr result (StopsAt options.now.listen))
+        (λ fault. result ≡ Err (Fault.Script (RunFault.Node fault))) }
+    // Where no turn is asked for, none is taken.
+    ensures none { options.now.turns ≡ 0 → parts_fault parts.repo parts.cache ≡ None
+        → IfErr result (HasNoTurns options.now.listen) }
 {
     let mut node = match Node::new(rt.alloc(), parts) {
         Ok(node) => node,
@@ -68,33 +78,53 @@ pub fn run_on_port<R: AllocGlobal + Clock + Net + Print>(
     )
 }
 
-/// Takes so many turns, or ends where nothing more will come, and writes each answer as it comes.
+/// Lets a node take so many turns at a port, or as many as something comes for, and writes what is
+/// printed of each before the next.
 fn take_turns<P: Ports, W: Write>(
     alloc: Global,
     node: &mut Node,
     ports: &mut P,
     writer: &mut W,
     turns: u64,
-) -> Result<(), Fault> {
+) -> Result<(), Fault>
+    ensures done { OnOk result (TakesTurns node.old node.new
+        (shown (P.failures ports.old) (P.coming ports.old) (P.taken ports.old))
+        (shown (P.failures ports.new) (P.coming ports.new) (P.taken ports.new)) turns
+        (W.contents writer.old) (W.contents writer.new)) }
+    ensures stopped { IfErr result (StopsTurns node.old node.new
+        (shown (P.failures ports.old) (P.coming ports.old) (P.taken ports.old))
+        (shown (P.failures ports.new) (P.coming ports.new) (P.taken ports.new)) turns
+        (W.contents writer.old) (W.contents writer.new)) }
+    ensures fault { IfErr result EndsTurns }
+    ensures none { turns ≡ 0 → IsOk result }
+{
     let mut outbox = Outbox::new(alloc);
     let mut text = Vec::new(alloc);
     for number in 0..turns {
         let Ok(turn) = serve_turn(node, ports, &mut outbox) else {
             return Err(Fault::Unreceived);
         };
-        if turn == Turn::End {
+        if is_end(&turn) {
             return Ok(());
         }
         text.clear();
         put_turn(&mut text, number + 1, &turn, node.rules(), &outbox)?;
-        if writer.write_all(text.as_slice()).is_err() {
+        let Ok(()) = put_all(writer, text.as_slice()) else {
             return Err(Fault::Script(RunFault::Write));
-        }
+        };
     }
     Ok(())
 }
 
-/// Appends the text of a turn, as a script prints that of an event. At the end there is none.
+/// Whether nothing more came.
+fn is_end(turn: &Turn) -> bool
+    ensures { IsTrue result ↔ (turn.now ≡ Turn.End) }
+{
+    matches!(turn, Turn::End)
+}
+
+/// Appends the text of a turn, as a script prints that of an event. At the end there is none. Where
+/// memory is refused, nothing is appended.
 fn put_turn(
     text: &mut Vec<u8>,
     number: u64,
@@ -102,15 +132,22 @@ fn put_turn(
     rules: &Rules,
     outbox: &Outbox,
 ) -> Result<(), Fault>
-    ensures { OnOk result
+    ensures ok { OnOk result
         (text.new.items ≡ text.old.items ++ turn_text number rules.now turn.now outbox.now) }
+    ensures err { OnErr result (text.new.items ≡ text.old.items) }
+    ensures fault { IfErr result (λ fault. fault ≡ Fault.Script RunFault.Memory) }
+    // Where there is room, memory is not refused.
+    ensures room { vec_len text.old + length (turn_text number rules.now turn.now outbox.now)
+        ≤ vec_capacity text.old → IsOk result }
 {
+    let len = text.len();
     let put = match turn {
         Turn::Done { verdict, .. } => put_verdict(text, number, verdict, rules),
         Turn::Refused => put_refused(text, number),
         Turn::End => return Ok(()),
     };
     if put.is_err() || put_sends(text, outbox).is_err() {
+        text.truncate(len);
         return Err(Fault::Script(RunFault::Memory));
     }
     Ok(())

@@ -1,0 +1,81 @@
+-- Turns of a node at a port, one after another, and what is printed of them.
+use Rattle.std.proofs.Common.{◌≡◌, ℕ, ◌+◌, List, [], ◌∷◌, ◌++◌, length, refl, sym, ap, subst, ◌∙◌, arith, append-nil}
+use Rattle.std.specs.Prelude.{Result, Ok, Err, IsOk, IfErr}
+use Rattle.info_rules.specs.Rule.{PlainRule}
+use Rattle.forwarder.specs.Event.{PlainEvent, Send}
+use Rattle.forwarder.specs.Node.{NodeState}
+use Rattle.node_core.specs.declared.ports.TheConstants.{FRAME_ROOM}
+use Rattle.node_core.specs.declared.ports.serving.Turn.{Turn}
+use Rattle.node_core.specs.declared.ports.serving.Turn.TheVariants.{Done, Refused, End}
+use Rattle.node_core.specs.Outcomes.{Outcome, NoMemory, AreOutcomes}
+use Rattle.node_core.specs.Ports.Serving.{Shown, HasEnded, EndsNext, Handles, IsTurn, refused_count}
+use Rattle.node_core.specs.Script.Writing.{outcome_text, script_text}
+use Rattle.node_core.proofs.Playing.{outcomes_text-append, rules_kept}
+use Rattle.node_core.proofs.Serving.{Gives-none_left, Gives-none_same, Serves-start, Serves-more}
+use Rattle.ndn_daemon.specs.declared.fault.Fault.{Fault}
+use Rattle.ndn_daemon.specs.Turn.{Tells, turn_text}
+
+-- each event has one outcome
+as_many : (old new : NodeState) (events : List PlainEvent) (outcomes : List Outcome) → AreOutcomes old events outcomes new → length events ≡ length outcomes
+as_many old new [] [] h = refl
+as_many old new [] (outcome ∷ outcomes) h = absurd h
+as_many old new (event ∷ events) [] h = absurd h
+as_many old new (event ∷ events) (outcome ∷ outcomes) h = let e = as_many h.0 new events outcomes h.2 in omega (arith, e)
+
+pub Tells-none : (node : NodeState) (before : Shown) → Tells node node before before 0 []
+Tells-none node before =
+    let s = Serves-start node before in
+    record { refused = 0; failed = 0; serves = s.0; text_is = sym (ap (script_text node.policy.rules) s.1) }
+
+Tells-more : (old mid new : NodeState) (before between after : Shown) (number more : ℕ) (text : List ℕ) (done_as : Outcome) → Tells old mid before between number text
+    → Handles mid new between after done_as more → Tells old new before after (number + 1) (text ++ outcome_text mid.policy.rules (number + 1) done_as)
+Tells-more old mid new before between after number more text done_as h k =
+    let rules : List PlainRule = old.policy.rules in
+    let s = Serves-more old mid new before between after number h.refused h.failed more done_as h.serves k in
+    let kept : mid.policy.rules ≡ rules = rules_kept old mid h.serves.arrivals h.serves.outcomes h.serves.handled in
+    let many : 1 + length h.serves.outcomes ≡ number + 1 =
+    let a = as_many old mid h.serves.arrivals h.serves.outcomes h.serves.handled in let b = h.serves.events_is in omega (arith, a, b) in
+    record {
+      refused = h.refused + refused_count (done_as ∷ []);
+      failed = h.failed + more;
+      serves = s.0;
+      text_is =
+          ap (λ (t : List ℕ). t ++ outcome_text mid.policy.rules (number + 1) done_as) h.text_is
+          ∙ ap (λ (l : List PlainRule). script_text rules h.serves.outcomes ++ outcome_text l (number + 1) done_as) kept
+          ∙ ap (λ (t : List ℕ). script_text rules h.serves.outcomes ++ t) (sym (append-nil (outcome_text rules (number + 1) done_as)))
+          ∙ sym (outcomes_text-append rules 1 h.serves.outcomes (done_as ∷ []) ∙ ap (λ (n : ℕ). script_text rules h.serves.outcomes ++ (outcome_text rules n done_as ++ [])) many)
+          ∙ sym (ap (script_text rules) s.1);
+    }
+
+-- the rules stay in a turn
+turn_rules : (mid new : NodeState) (between after : Shown) (more : ℕ) (done_as : Outcome) → Handles mid new between after done_as more → new.policy.rules ≡ mid.policy.rules
+turn_rules mid new between after more done_as k = rules_kept mid new (k.event ∷ []) (done_as ∷ []) (new, k.handled, refl)
+
+-- one turn more
+pub Tells-turn : (old mid new : NodeState) (before between after : Shown) (number : ℕ) (text : List ℕ) (sends : List Send) (rules : List PlainRule) (turn : Turn) → (turn ≡ End → ⊥)
+    → Tells old mid before between number text → IsTurn mid new between after sends turn → rules ≡ new.policy.rules
+    → Tells old new before after (number + 1) (text ++ turn_text (number + 1) rules turn sends)
+Tells-turn old mid new before between after number text sends rules (Done verdict failed) goes_on h k shown =
+    let same = shown ∙ turn_rules mid new between after failed _ k in
+    rw same (Tells-more old mid new before between after number failed text _ h k)
+Tells-turn old mid new before between after number text sends rules Refused goes_on h k shown =
+    rw k.1 (Tells-more old mid new before between after number 0 text NoMemory h k.0)
+Tells-turn old mid new before between after number text sends rules End goes_on h k shown = absurd (goes_on refl)
+
+-- nothing more came
+same_shown : (before after : Shown) → EndsNext before after → after ≡ before
+same_shown before after e = λ i. record { failures = e.failures i; coming = Gives-none_same before.coming after.coming FRAME_ROOM e.coming i; taken = e.taken i }
+
+pub Tells-ended : (old mid new : NodeState) (before between after : Shown) (number : ℕ) (text : List ℕ) (sends : List Send) (turn : Turn) → turn ≡ End
+    → Tells old mid before between number text → IsTurn mid new between after sends turn → Tells old new before after number text × HasEnded after.coming
+Tells-ended old mid new before between after number text sends turn is h k =
+    let e : IsTurn mid new between after sends End = subst (IsTurn mid new between after sends) is k in
+    let shown : after ≡ between = same_shown between after e.0 in (
+      subst (λ (n : NodeState). Tells old n before after number text) (sym e.1) (subst (λ (x : Shown). Tells old mid before x number text) (sym shown) h),
+      Gives-none_left between.coming after.coming FRAME_ROOM e.0.coming,
+    )
+
+-- what is done has no fault
+pub no_fault : (r : Result (Unit {0}) Fault) (P : Fault → Type 0) → IsOk r → IfErr r P
+no_fault (Ok done) P h = tt
+no_fault (Err why) P h = let no : ⊥ = cc in absurd no
