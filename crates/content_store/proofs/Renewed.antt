@@ -140,8 +140,8 @@ held_renewed rows rows' used used' capacity next at entry h data' lt named renew
       (λ i. cached_in (rows_is i) (used_is i).entries) ∙ cached ∙ sym (take_all capacity _ short),
     )
 
-sound_none : Sound [] [] 0
-sound_none = record {
+sound_none : (next : ℕ) → Sound [] [] next
+sound_none next = record {
   valid = record { rising = λ i j d a b. absurd (omega arith); distinct = IsDistinct-from_apart nat_eq [] (λ i j d a b. absurd (omega arith)) };
   distinct = IsDistinct-from_apart nat_eq [] (λ i j d a b. absurd (omega arith));
   there = tt;
@@ -160,15 +160,15 @@ pub held_none : (rows rows' : List Placed) (used used' : LruCache ℕ ℕ) (capa
     → IsHeld rows' used' capacity 0 × (cached_in rows' used'.entries ≡ [])
 held_none rows rows' used used' capacity next h r u = (
   subst (λ (rs : List Placed). IsHeld rs used' capacity 0) (sym r) (subst (λ (us : LruCache ℕ ℕ). IsHeld [] us capacity 0) (sym u)
-      (record { sound = sound_none; cap = h.cap; within = omega arith; low = h.low; high = h.high })),
+      (record { sound = sound_none 0; cap = h.cap; within = omega arith; low = h.low; high = h.high })),
   (λ i. cached_in (r i) (u i).entries) ∙ none_cached,
 )
 
-pub held_new : (rows : List Placed) (used : LruCache ℕ ℕ) (capacity : ℕ) → rows ≡ [] → used ≡ lru_cache [] capacity → 1 ≤ capacity → capacity ≤ 65536
-    → IsHeld rows used capacity 0 × (cached_in rows used.entries ≡ [])
-held_new rows used capacity r u low high = (
-  subst (λ (rs : List Placed). IsHeld rs used capacity 0) (sym r) (subst (λ (us : LruCache ℕ ℕ). IsHeld [] us capacity 0) (sym u)
-      (record { sound = sound_none; cap = refl; within = omega arith; low = low; high = high })),
+pub held_new : (rows : List Placed) (used : LruCache ℕ ℕ) (capacity next : ℕ) → rows ≡ [] → used ≡ lru_cache [] capacity → 1 ≤ capacity → capacity ≤ 65536
+    → IsHeld rows used capacity next × (cached_in rows used.entries ≡ [])
+held_new rows used capacity next r u low high = (
+  subst (λ (rs : List Placed). IsHeld rs used capacity next) (sym r) (subst (λ (us : LruCache ℕ ℕ). IsHeld [] us capacity next) (sym u)
+      (record { sound = sound_none next; cap = refl; within = omega arith; low = low; high = high })),
   (λ i. cached_in (r i) (u i).entries) ∙ none_cached,
 )
 

@@ -19,6 +19,9 @@ use std::alloc::Global;
 use std::marker::Model;
 use std::num::NonZeroUsize;
 
+#[cfg(test)]
+mod tests;
+
 /// The greatest number of Data that a store can hold.
 pub const MAX_CAPACITY: usize = 65_536;
 

@@ -11,7 +11,7 @@ whole : (c : After-new-2) → IsHeld c.new-2.result c.in-Ok.used c.args.capacity
 whole c =
     let low : 0 < c.args.capacity = subst (λ (n : ℕ). 0 < n) c.in-Some.ensures c.in-Some.most.ok in
     let high = c.if-capacity-gt-MAX_CAPACITY.false in
-    held_new c.new-2.result c.in-Ok.used c.args.capacity c.new-2.ensures
+    held_new c.new-2.result c.in-Ok.used c.args.capacity 0 c.new-2.ensures
     (c.in-Ok.ensures ∙ ap (λ (n : ℕ). lru_cache [] n) c.in-Some.ensures) (omega arith) (omega arith)
 
 pub invariant_of-result : goal.invariant_of-result

@@ -1,0 +1,49 @@
+//! What a store does at its last serial number.
+
+use super::*;
+use ndn_packets::{Frame, read_frame};
+
+/// Data of the names `/A` and `/B`, with an empty Content and a digest of no octets as signature.
+const A: [u8; 17] = [
+    6, 15, 7, 3, 8, 1, 0x41, 0x15, 1, 0x78, 0x16, 3, 0x1b, 1, 0, 0x17, 0,
+];
+
+const B: [u8; 17] = [
+    6, 15, 7, 3, 8, 1, 0x42, 0x15, 1, 0x78, 0x16, 3, 0x1b, 1, 0, 0x17, 0,
+];
+
+/// An empty store of which this is the next serial number.
+fn store_from(alloc: Global, next: u64) -> Option<Store> {
+    let Ok(used) = LruCache::sparse(alloc, NonZeroUsize::new(4)?) else {
+        return None;
+    };
+    Some(Store {
+        alloc,
+        capacity: 4,
+        rows: Rows::new(alloc),
+        used,
+        next,
+    })
+}
+
+/// Whether a put of a Data is answered so, and leaves so many.
+fn puts(store: &mut Store, packet: &[u8], answer: bool, left: usize) -> bool {
+    match read_frame(packet) {
+        Ok(Frame::Data(data)) => store.put(&data, 0) == answer && store.len() == left,
+        _ => false,
+    }
+}
+
+/// Whether a store forgets all at the new full name after its last serial number, and no sooner.
+fn begins_again(store: &mut Store) -> bool {
+    puts(store, &A, true, 1)
+        && puts(store, &A, true, 1)
+        && puts(store, &B, false, 0)
+        && puts(store, &B, true, 1)
+}
+
+#[test]
+fn last_serial_number(rt: HostRuntime) {
+    let mut store = store_from(rt.alloc(), u64::MAX - 1);
+    assert!(rt; store.as_mut().is_some_and(begins_again));
+}
