@@ -8,3 +8,4 @@ pub mod Flat
 pub mod Least
 pub mod Taken
 pub mod Head
+pub mod Rows

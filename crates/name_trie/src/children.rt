@@ -9,6 +9,7 @@ ghost use Rattle.name_trie.specs.ByName.{revise};
 ghost use Rattle.name_trie.specs.Links.{unless_is};
 
 use crate::component_buf::{ComponentBuf, Hint, head_of};
+use crate::rows::Rows;
 use ndn_names::Component;
 use ndn_tlv::Memory;
 use std::alloc::Global;
@@ -18,7 +19,7 @@ use std::marker::Model;
 /// The children of a node, in canonical order of their components: the keys of their nodes.
 #[derive(Drop)]
 pub struct Children {
-    rows: Vec<(ComponentBuf, usize)>,
+    rows: Rows<(ComponentBuf, usize)>,
 }
 
 impl Model for Children {
@@ -27,29 +28,28 @@ impl Model for Children {
     ghost use Rattle.std.specs.FinMap as map;
     ghost use Rattle.ndn_names.specs.Order.{component_cmp};
     ghost use Rattle.name_trie.specs.Links.{Links};
+    ghost use Rattle.name_trie.specs.Rows.{items_of};
 
     ghost Value = { Links };
 
     ghost coded = { map.code (coded× coded_ℕ (coded_list coded_ℕ)) coded_ℕ };
 
-    ghost view = { λ m. map.from_sorted m.rows.items };
+    ghost view = { λ m. map.from_sorted (items_of m.rows) };
 
-    ghost invariant = { λ m. T (map.is_sorted component_cmp m.rows.items) };
+    ghost invariant = { λ m. T (map.is_sorted component_cmp (items_of m.rows)) };
 }
 
 impl Children {
-    pub fn new(alloc: Global) -> Children
+    pub fn new() -> Children
         ensures { result ≡ map.empty }
     {
-        Children {
-            rows: Vec::new(alloc),
-        }
+        Children { rows: Rows::Empty }
     }
 
     pub fn is_empty(&self) -> bool
         ensures { result ≡ (map.len self.now == 0) }
     {
-        self.rows.is_empty()
+        self.rows.as_slice().is_empty()
     }
 
     /// Whether there is a child whose component has this type or a lesser one.
@@ -59,7 +59,7 @@ impl Children {
         ensures no { result ≡ false
             → (c : Field) → c.0 ≤ kind → map.get self.now c ≡ None }
     {
-        match self.rows.first() {
+        match self.rows.as_slice().first() {
             Some(row) => row.0.view().kind <= kind,
             None => false,
         }
@@ -69,27 +69,34 @@ impl Children {
     pub fn rows(&self) -> &[(ComponentBuf, usize)]
         ensures { result.now ≡ map.entries self.now }
     {
-        &self.rows
+        self.rows.as_slice()
     }
 
     /// The child of a component.
     pub fn get(&self, component: Component<'_>) -> Option<usize>
         ensures { result ≡ map.get self.now (field_of component.entry) }
     {
-        match place_of(&self.rows, component) {
-            Ok(at) => Some(self.rows[at].1),
+        let rows = self.rows.as_slice();
+        match place_of(rows, component) {
+            Ok(at) => Some(rows[at].1),
             Err(_) => None,
         }
     }
 
-    /// Adds a child, or sets the one of this component.
-    pub fn insert(&mut self, component: ComponentBuf, child: usize) -> Result<(), Memory>
+    /// Adds a child of a component that has none.
+    pub fn insert(
+        &mut self,
+        alloc: Global,
+        component: ComponentBuf,
+        child: usize,
+    ) -> Result<(), Memory>
+        requires { map.get self.old component ≡ None }
         ensures ok { OnOk result (self.new ≡ map.insert self.old component child) }
         ensures err { OnErr result (self.new ≡ self.old) }
     {
-        match place_of(&self.rows, component.view()) {
-            Ok(at) => self.rows[at].1 = child,
-            Err(at) => insert_row(&mut self.rows, at, (component, child))?,
+        match place_of(self.rows.as_slice(), component.view()) {
+            Ok(_) => unreachable!(),
+            Err(at) => self.rows.insert(alloc, at, (component, child))?,
         }
         Ok(())
     }
@@ -101,27 +108,10 @@ impl Children {
             → c ≡ d }
         ensures { self.new ≡ revise (unless_is child) self.old }
     {
-        if let Some(at) = row_of(&self.rows, child, hint) {
+        if let Some(at) = row_of(self.rows.as_slice(), child, hint) {
             self.rows.remove(at);
         }
     }
-}
-
-/// Inserts a row. The first takes room for itself alone, since most nodes have one child.
-fn insert_row(
-    rows: &mut Vec<(ComponentBuf, usize)>,
-    at: usize,
-    row: (ComponentBuf, usize),
-) -> Result<(), Memory>
-    requires { at ≤ length rows.old.items }
-    ensures ok { OnOk result (rows.new.items ≡ insert rows.old.items at row) }
-    ensures err { OnErr result (rows.new.items ≡ rows.old.items) }
-{
-    if rows.is_empty() {
-        rows.reserve_exact(1)?;
-    }
-    rows.insert(at, row)?;
-    Ok(())
 }
 
 /// The first row from which on the hint's may stand.
@@ -183,6 +173,9 @@ fn place_of(rows: &[(ComponentBuf, usize)], component: Component<'_>) -> Result<
         ≡ insert rows.now at (field_of component.entry, k))
         × (map.find component_cmp (field_of component.entry) rows.now ≡ None)) }
 {
+    if rows.is_empty() {
+        return Err(0);
+    }
     let head = head_of(component.value);
     let mut low = 0;
     let mut high = rows.len();

@@ -8,6 +8,7 @@ mod held;
 mod listing;
 mod name_map;
 mod node;
+mod rows;
 mod take;
 mod timed;
 mod timed_map;

@@ -73,14 +73,15 @@ pub fn set_value<V: Drop>(nodes: &mut Slab<Node<V>>, at: usize, value: Option<V>
     nodes[at].value = value;
 }
 
-/// Adds a child that holds nothing.
+/// Adds a child that holds nothing, for a component that has none.
 pub fn add_child<V: Drop>(
     alloc: Global,
     nodes: &mut Slab<Node<V>>,
     at: usize,
     component: Component<'_>,
 ) -> Result<usize, Memory>
-    requires { IsSome (get nodes.old at) }
+    requires there { IsSome (get nodes.old at) }
+    requires fresh { child (get nodes.old) at (field_of component) ≡ None }
     ensures ok { IfOk result
         (λ k. Joins k at (field_of component.entry) (get nodes.old) (get nodes.new)) }
     ensures err { OnErr result (SameValues nodes.old nodes.new) }
@@ -89,10 +90,10 @@ pub fn add_child<V: Drop>(
     let k = nodes.insert(Node {
         parent: Some(at),
         hint: key.hint(),
-        children: Children::new(alloc),
+        children: Children::new(),
         value: None,
     })?;
-    if nodes[at].children.insert(key, k).is_err() {
+    if nodes[at].children.insert(alloc, key, k).is_err() {
         nodes.remove(k);
         return Err(Memory);
     }
@@ -118,7 +119,7 @@ pub fn add_root<V: Drop>(alloc: Global, nodes: &mut Slab<Node<V>>) -> Result<usi
     let k = nodes.insert(Node {
         parent: None,
         hint: Hint::of_root(),
-        children: Children::new(alloc),
+        children: Children::new(),
         value: None,
     })?;
     Ok(k)

@@ -31,8 +31,8 @@ returns-then-is_err-clause-err g c = λ j.
     let at = c.args.at in
     let added = c.in_ok-k.ensures.updates in
     let gone = c.remove.ensures.updates in
-    let ne : at ≢ k = apart old k at c.in_ok-k.ensures.was_vacant c.requires in
-    let wrote = Updates-with_value c.insert.new.self at (record node { children = c.insert-2.new.self }) (some_is (old at) _ (added.others at ne) c.requires) in
+    let ne : at ≢ k = apart old k at c.in_ok-k.ensures.was_vacant c.requires.there in
+    let wrote = Updates-with_value c.insert.new.self at (record node { children = c.insert-2.new.self }) (some_is (old at) _ (added.others at ne) c.requires.there) in
     let same : c.insert-2.new.self ≡ node.children = on_err c.insert-2.result _ (sym c.is_err.ensures.value ∙ c.if-is_err.true) c.insert-2.ensures.err in
     same_or j k (get c.remove.new.self j ≡ old j)
     (λ e. ap (get c.remove.new.self) e ∙ gone.changed ∙ sym (ap old e ∙ c.in_ok-k.ensures.was_vacant))
@@ -47,9 +47,9 @@ returns-clause-ok g c =
     let k = c.in_ok-k.k in
     let at = c.args.at in
     let added = c.in_ok-k.ensures.updates in
-    let ne : at ≢ k = apart old k at c.in_ok-k.ensures.was_vacant c.requires in
+    let ne : at ≢ k = apart old k at c.in_ok-k.ensures.was_vacant c.requires.there in
     let there : old at ≡ Some node = sym (added.others at ne) ∙ c.index_mut.ensures.value in
-    let wrote = Updates-with_value c.insert.new.self at (record node { children = c.insert-2.new.self }) (some_is (old at) _ (added.others at ne) c.requires) in
+    let wrote = Updates-with_value c.insert.new.self at (record node { children = c.insert-2.new.self }) (some_is (old at) _ (added.others at ne) c.requires.there) in
     record {
       node = node;
       there = there;

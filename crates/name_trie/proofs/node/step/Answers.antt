@@ -8,8 +8,8 @@ use Rattle.name_trie.proofs.Tidy.{made_or, bare_joined, bare_same}
 use Rattle.name_trie.proofs.Changed.{sound_joined, lacks_joined, lookups_lacking, walks_before, child_joined, same_heap, by_result, if_ok_then, live, there_by_up}
 use Rattle.name_trie.proofs.node.step.Goals as goal
 
-pub add_child-requires : goal.add_child-requires
-add_child-requires g c =
+pub add_child-requires-clause-there : goal.add_child-requires-clause-there
+add_child-requires-clause-there g c =
     let h = get c.args.nodes.now in
     let room = c.requires.room in
     let up = live h c.args.root c.requires.sound room.0 c.args.at room.2 in

@@ -14,6 +14,7 @@ use Rattle.ndn_names.specs.Key.{component_cmp-total}
 use Rattle.ndn_names.proofs.Rows.{first_of}
 use Rattle.name_trie.proofs.Flat.{below_less}
 use Rattle.name_trie.proofs.Revised.{find_below}
+use Rattle.name_trie.specs.Rows.{items_of}
 use Rattle.name_trie.proofs.children.Children.has_up_to.Goals as goal
 
 lower_kind : (c d : Field) → c.0 < d.0 → component_cmp c d ≡ Less
@@ -42,8 +43,8 @@ found (x ∷ rows) row first =
 pub returns-in-Some-clause-yes : goal.returns-in-Some-clause-yes
 returns-in-Some-clause-yes c = λ is.
     let row : Field × ℕ = c.in-Some.row.now in
-    let rows = c.self.inside.rows.items in
-    let first : Some row ≡ slice_get rows 0 = c.in-Some.ensures.value ∙ ap (λ l. slice_get l 0) c.deref.ensures.value in
+    let rows = items_of c.self.inside.rows in
+    let first : Some row ≡ slice_get rows 0 = c.in-Some.ensures.value ∙ ap (λ l. slice_get l 0) c.as_slice.ensures in
     let kind : c.view.result.kind ≡ row.0.0 = ap (λ (f : Field). f.0) c.view.ensures in
     let at : get c.args.self.now row.0 ≡ Some row.1 =
     ap (λ m. get m row.0) (sym c.self.view_is) ∙ get-from_sorted component_cmp rows row.0 c.self.invariant ∙ found rows row first in
@@ -52,14 +53,14 @@ returns-in-Some-clause-yes c = λ is.
 pub returns-in-Some-clause-no : goal.returns-in-Some-clause-no
 returns-in-Some-clause-no c = λ is d le.
     let row : Field × ℕ = c.in-Some.row.now in
-    let rows = c.self.inside.rows.items in
-    let first : Some row ≡ slice_get rows 0 = c.in-Some.ensures.value ∙ ap (λ l. slice_get l 0) c.deref.ensures.value in
+    let rows = items_of c.self.inside.rows in
+    let first : Some row ≡ slice_get rows 0 = c.in-Some.ensures.value ∙ ap (λ l. slice_get l 0) c.as_slice.ensures in
     let kind : c.view.result.kind ≡ row.0.0 = ap (λ (f : Field). f.0) c.view.ensures in
     ap (λ m. get m d) (sym c.self.view_is) ∙ get-from_sorted component_cmp rows d c.self.invariant
     ∙ not_found rows row first c.self.invariant d (omega (arith, le, kind, leb-false c.view.result.kind c.args.kind is))
 
 pub returns-in-None-clause-no : goal.returns-in-None-clause-no
 returns-in-None-clause-no c = λ is d le.
-    let rows = c.self.inside.rows.items in
-    let first : None ≡ slice_get rows 0 = c.in-None.ensures.value ∙ ap (λ l. slice_get l 0) c.deref.ensures.value in
+    let rows = items_of c.self.inside.rows in
+    let first : None ≡ slice_get rows 0 = c.in-None.ensures.value ∙ ap (λ l. slice_get l 0) c.as_slice.ensures in
     ap (λ m. get m d) (sym c.self.view_is) ∙ get-from_sorted component_cmp rows d c.self.invariant ∙ ap (find component_cmp d) (no_rows rows first)
