@@ -7,12 +7,16 @@ use std::alloc::Global;
 use std::test::*;
 use test_support::octets;
 
-/// The HMAC of a text under a key, the same wherever the text is parted.
+/// The HMAC of a text under a key, the same wherever the text is parted, and under a key that is
+/// kept.
 fn tag(alloc: Global, input: &str) -> Option<String> {
     let (key, text) = input.split_once(" | ")?;
     let key = octets(alloc, key)?;
     let text = octets(alloc, text)?;
     let tag = tag_of_any_parts(&key, &text)?;
+    if HmacKey::new(key).tag(&text, &[]) != tag {
+        return None;
+    }
     hex::encode(alloc, tag.as_slice()).ok()
 }
 

@@ -50,17 +50,17 @@ none_append name (first ∷ front) key h other =
 
 pub none_more : (name : List Field) (keys : List Key) (i : ℕ) (key : Key) → i < length keys → key ≡ get_or keys i key → is_eq (name_cmp key.name name) ≡ false → HasNone name keys i → HasNone name keys (i + 1)
 none_more name keys i key lt is other h =
-    let grown : named_keys (take (i + 1) keys) ≡ named_keys (take i keys) ++ (key.name, key.octets.items) ∷ [] =
-    ap named_keys (take_more keys i key lt ∙ ap (λ (k : Key). take i keys ++ k ∷ []) (sym is)) ∙ map-append (λ k. (k.name, k.octets.items)) (take i keys) (key ∷ []) in
-    ap (has_name name) grown ∙ none_append name (named_keys (take i keys)) (key.name, key.octets.items) h other
+    let grown : named_keys (take (i + 1) keys) ≡ named_keys (take i keys) ++ (key.name, key.hmac) ∷ [] =
+    ap named_keys (take_more keys i key lt ∙ ap (λ (k : Key). take i keys ++ k ∷ []) (sym is)) ∙ map-append (λ k. (k.name, k.hmac)) (take i keys) (key ∷ []) in
+    ap (has_name name) grown ∙ none_append name (named_keys (take i keys)) (key.name, key.hmac) h other
 
 pub none_at_all : (name : List Field) (keys : List Key) (i : ℕ) → length keys ≤ i → HasNone name keys i → has_name name (named_keys keys) ≡ false
 none_at_all name keys i done h = ap (λ (l : List Key). has_name name (named_keys l)) (sym (take_all i keys done)) ∙ h
 
-pub among_at : (name : List Field) (keys : List Key) (i : ℕ) (key : Key) → i < length keys → key ≡ get_or keys i key → is_eq (name_cmp key.name name) ≡ true → IsAmong (name, key.octets.items) (named_keys keys)
+pub among_at : (name : List Field) (keys : List Key) (i : ℕ) (key : Key) → i < length keys → key ≡ get_or keys i key → is_eq (name_cmp key.name name) ≡ true → IsAmong (name, key.hmac) (named_keys keys)
 among_at name [] i key lt is e = absurd (omega arith)
 among_at name (first ∷ keys) zero key lt is e =
-    inl (ap (λ (k : Key). (k.name, k.octets.items)) (sym is) ∙ ap (λ (n : List Field). (n, key.octets.items)) (one_name key.name name e))
+    inl (ap (λ (k : Key). (k.name, k.hmac)) (sym is) ∙ ap (λ (n : List Field). (n, key.hmac)) (one_name key.name name e))
 among_at name (first ∷ keys) (suc i) key lt is e = inr (among_at name keys i key (omega arith) is e)
 
 -- ---- a further key
@@ -116,6 +116,6 @@ apart_more (first ∷ keys) key apart h =
     others (other ∷ rest) h last = (h.0, others rest h.1 last)
 
 -- what a book shows with one key more
-pub named_more : (keys after : List Key) (key : Key) (shown : List NamedKey) → named_keys keys ≡ shown → after ≡ keys ++ key ∷ [] → named_keys after ≡ shown ++ (key.name, key.octets.items) ∷ []
+pub named_more : (keys after : List Key) (key : Key) (shown : List NamedKey) → named_keys keys ≡ shown → after ≡ keys ++ key ∷ [] → named_keys after ≡ shown ++ (key.name, key.hmac) ∷ []
 named_more keys after key shown view e =
-    ap named_keys e ∙ map-append (λ k. (k.name, k.octets.items)) keys (key ∷ []) ∙ ap (λ (front : List NamedKey). front ++ (key.name, key.octets.items) ∷ []) view
+    ap named_keys e ∙ map-append (λ k. (k.name, k.hmac)) keys (key ∷ []) ∙ ap (λ (front : List NamedKey). front ++ (key.name, key.hmac) ∷ []) view

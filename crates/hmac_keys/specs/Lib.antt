@@ -1,4 +1,5 @@
 pub mod Mac
+pub mod Started
 pub mod KeyFile
 pub mod KeyReading
 pub mod KeyCheck

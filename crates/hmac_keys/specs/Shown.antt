@@ -4,4 +4,4 @@ use Rattle.hmac_keys.specs.declared.key_book.Key.{Key}
 use Rattle.hmac_keys.specs.KeyFile.{NamedKey}
 
 abbrev pub named_keys : List Key → List NamedKey
-named_keys keys = map (λ k. (k.name, k.octets.items)) keys
+named_keys keys = map (λ k. (k.name, k.hmac)) keys

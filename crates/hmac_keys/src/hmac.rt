@@ -13,24 +13,68 @@ const OUTER_PAD: u8 = 0x5c;
 
 const INNER_PAD: u8 = 0x36;
 
+/// The inner and the outer hash of a key, each with the key's block taken in.
+#[derive(Drop)]
+pub(crate) struct Blocks {
+    inner: Sha256,
+    outer: Sha256,
+}
+
+impl Blocks {
+    ghost use Rattle.std.specs.Prelude.{◌≡◌, ◌++◌, ℕ, List};
+    ghost use Rattle.hmac_keys.specs.Mac.{Mac};
+    ghost use Rattle.hmac_keys.specs.Started.{AreOf};
+
+    /// Those of a key of any number of octets.
+    pub fn of(key: &[u8]) -> Blocks
+        ensures { AreOf result key.now }
+    {
+        let mut block = [0; BLOCK_LEN];
+        put_key(&mut block, key);
+        combine(&mut block, INNER_PAD);
+        let mut inner = Sha256::new();
+        inner.update(&block);
+        // The inner pad is taken off again with the outer one put on.
+        combine(&mut block, INNER_PAD ^ OUTER_PAD);
+        let mut outer = Sha256::new();
+        outer.update(&block);
+        Blocks { inner, outer }
+    }
+
+    /// The same once more, for another text.
+    pub fn copy(&self) -> Blocks
+        ensures { result ≡ self.now }
+    {
+        let Ok(inner) = self.inner.clone() else {
+            unreachable!()
+        };
+        let Ok(outer) = self.outer.clone() else {
+            unreachable!()
+        };
+        Blocks { inner, outer }
+    }
+
+    /// The HMAC of two slices, one after the other.
+    pub fn tag(self, first: &[u8], second: &[u8]) -> [u8; 32]
+        ensures { (key : List ℕ) → AreOf self key → result ≡ Mac key (first.now ++ second.now) }
+    {
+        let Blocks {
+            mut inner,
+            mut outer,
+        } = self;
+        inner.update(first);
+        inner.update(second);
+        outer.update(&inner.finalize());
+        outer.finalize()
+    }
+}
+
 /// The HMAC with SHA-256 of two slices, one after the other, under a key of any number of octets
 /// (RFC 2104): 32 octets, which are not shortened. It refuses nothing, and takes no memory.
 pub fn hmac_sha256(key: &[u8], first: &[u8], second: &[u8]) -> [u8; 32]
     ensures { result ≡ Mac key.now (first.now ++ second.now) }
 {
-    let mut block = [0; BLOCK_LEN];
-    put_key(&mut block, key);
-    combine(&mut block, INNER_PAD);
-    let mut inner = Sha256::new();
-    inner.update(&block);
-    inner.update(first);
-    inner.update(second);
-    // The inner pad is taken off again with the outer one put on.
-    combine(&mut block, INNER_PAD ^ OUTER_PAD);
-    let mut outer = Sha256::new();
-    outer.update(&block);
-    outer.update(&inner.finalize());
-    outer.finalize()
+    Blocks::of(key).tag(first, second)
 }
 
 /// Puts the key into a block of zeros, hashed where it is longer than the block.

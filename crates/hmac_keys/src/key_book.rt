@@ -7,6 +7,7 @@ ghost use Rattle.hmac_keys.specs.KeyFile.{AreApart, NamedKey, KeysOf};
 ghost use Rattle.hmac_keys.specs.KeyReading.{keys_in, AreKeys, IsFaultBeforeMemory, IsFaultOfOctets};
 
 use crate::fault::KeyFault;
+use crate::hmac_key::HmacKey;
 use crate::key_check::check_keys;
 use crate::key_line::{first_line, is_skipped, name_of, octets_of};
 use ndn_names::{Name, NameBuf};
@@ -21,7 +22,7 @@ pub(crate) const MAX_KEYS: usize = 256;
 #[derive(Drop)]
 struct Key {
     name: NameBuf,
-    octets: Vec<u8>,
+    hmac: HmacKey,
 }
 
 impl Key {
@@ -31,7 +32,7 @@ impl Key {
 
     /// The key of a line of this number, which is not skipped.
     fn read(alloc: Global, number: u64, line: &str) -> Result<Key, KeyFault>
-        ensures { MatchResult result (λ key. key_in line.now ≡ Some (key.name, key.octets.items))
+        ensures { MatchResult result (λ key. key_in line.now ≡ Some (key.name, key.hmac))
             (IsLineFault number (key_in line.now)) }
     {
         match line.rsplit_once(' ') {
@@ -39,7 +40,10 @@ impl Key {
             Some((uri, digits)) => {
                 let name = name_of(alloc, number, uri)?;
                 let octets = octets_of(alloc, number, digits)?;
-                Ok(Key { name, octets })
+                Ok(Key {
+                    name,
+                    hmac: HmacKey::new(octets),
+                })
             }
         }
     }
@@ -145,7 +149,7 @@ impl KeyBook {
 
     /// Adds a key that a line of this number has.
     fn add(&mut self, number: u64, key: Key) -> Result<(), KeyFault>
-        ensures { let next = with_key number self.old (key.name, key.octets.items) in
+        ensures { let next = with_key number self.old (key.name, key.hmac) in
             MatchResult result (λ _. next ≡ Ok self.new) (IsFaultOf next) }
     {
         if self.find(key.name.view()).is_some() {
@@ -164,9 +168,19 @@ impl KeyBook {
             ((octets : List ℕ) → IsAmong (components name.entry, octets) self.now → ⊥)
             (λ octets. IsAmong (components name.entry, octets.now) self.now) }
     {
+        Some(self.find_hmac(name)?.octets())
+    }
+
+    /// The key that has this very name, if there is one, for the tags of many texts. It takes no
+    /// memory.
+    pub fn find_hmac(&self, name: Name<'_>) -> Option<&HmacKey>
+        ensures { MatchOption result
+            ((octets : List ℕ) → IsAmong (components name.entry, octets) self.now → ⊥)
+            (λ key. IsAmong (components name.entry, key.now) self.now) }
+    {
         for key in &self.keys {
             if key.name.view().compare(name).is_eq() {
-                return Some(&key.octets);
+                return Some(&key.hmac);
             }
         }
         None

@@ -15,27 +15,27 @@ has_it c =
     ∙ ap (λ (name : List Field). has_name name c.args.self.now) c.view.ensures
 
 -- what the book shows with the key
-grown : (c : In_ok-push) → named_keys c.push.new.self.items ≡ c.args.self.now ++ (c.args.key.name, c.args.key.octets.items) ∷ []
+grown : (c : In_ok-push) → named_keys c.push.new.self.items ≡ c.args.self.now ++ (c.args.key.name, c.args.key.hmac) ∷ []
 grown c = named_more c.self.inside.keys.items c.push.new.self.items c.args.key c.args.self.now c.self.view_is c.in_ok-push.ensures.items
 
 pub returns-then-is_some : goal.returns-then-is_some
 returns-then-is_some c =
-    inl (named_twice c.args.number c.args.self.now (c.args.key.name, c.args.key.octets.items) (sym (has_it (goal.at.returns-then-is_some c).After-is_some) ∙ c.if-is_some.true))
+    inl (named_twice c.args.number c.args.self.now (c.args.key.name, c.args.key.hmac) (sym (has_it (goal.at.returns-then-is_some c).After-is_some) ∙ c.if-is_some.true))
 
 pub returns-then-len-eq-MAX_KEYS : goal.returns-then-len-eq-MAX_KEYS
 returns-then-len-eq-MAX_KEYS c =
     let lacks = sym (has_it (goal.at.returns-then-len-eq-MAX_KEYS c).After-is_some) ∙ c.if-is_some.false in
-    inl (one_too_many c.args.number c.args.self.now (c.args.key.name, c.args.key.octets.items) lacks (sym c.len.ensures.exact ∙ c.if-len-eq-MAX_KEYS.true))
+    inl (one_too_many c.args.number c.args.self.now (c.args.key.name, c.args.key.hmac) lacks (sym c.len.ensures.exact ∙ c.if-len-eq-MAX_KEYS.true))
 
 pub invariant_of-self-2 : goal.invariant_of-self-2
 invariant_of-self-2 c =
     let lacks = sym (has_it (goal.at.invariant_of-self-2 c).After-is_some) ∙ c.if-is_some.false in
     let few : length c.args.self.now ≤ 256 = subst (λ (keys : List NamedKey). length keys ≤ 256) c.self.view_is c.self.invariant.1 in
     rw (grown (goal.at.invariant_of-self-2 c).In_ok-push)
-    (apart_more c.args.self.now (c.args.key.name, c.args.key.octets.items) (subst AreApart c.self.view_is c.self.invariant.0) lacks, omega (arith, length-append {A = NamedKey}))
+    (apart_more c.args.self.now (c.args.key.name, c.args.key.hmac) (subst AreApart c.self.view_is c.self.invariant.0) lacks, omega (arith, length-append {A = NamedKey}))
 
 pub returns : goal.returns
 returns c =
     let lacks = sym (has_it (goal.at.returns c).After-is_some) ∙ c.if-is_some.false in
     let room : length c.args.self.now ≢ 256 = λ full. c.if-len-eq-MAX_KEYS.false (c.len.ensures.exact ∙ full) in
-    key_added c.args.number c.args.self.now (c.args.key.name, c.args.key.octets.items) lacks room ∙ ap (λ (keys : List NamedKey). Ok keys) (sym (grown (goal.at.returns c).In_ok-push))
+    key_added c.args.number c.args.self.now (c.args.key.name, c.args.key.hmac) lacks room ∙ ap (λ (keys : List NamedKey). Ok keys) (sym (grown (goal.at.returns c).In_ok-push))
