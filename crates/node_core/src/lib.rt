@@ -16,7 +16,8 @@ pub use forwarder::{
     steps_have_one_effect, steps_keep_nodes_sound, unanswered_interests_wait,
 };
 pub use ports::{
-    ANSWER_SECONDS, Arrival, MemoryPorts, Moments, PortFault, Ports, ServeFault, Served, Turn,
-    UdpPorts, frame_room_is_as_promised, receive_one, send_from, send_one, serve, serve_turn,
+    ANSWER_SECONDS, Arrival, FRAME_ROOM, MemoryPorts, Moments, PortFault, Ports, ServeFault,
+    Served, Turn, UdpPorts, frame_room_is_as_promised, receive_one, send_from, send_one, serve,
+    serve_turn, serve_turn_in,
 };
 pub use script::{RunFault, put_all, run_script, scripts_have_one_reading};

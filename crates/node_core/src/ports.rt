@@ -12,7 +12,7 @@ pub use datagram::{ANSWER_SECONDS, receive_one, send_from, send_one};
 use forwarder::Scope;
 pub use memory::MemoryPorts;
 use ndn_packets::MAX_FRAME;
-pub use serving::{ServeFault, Served, Turn, serve, serve_turn};
+pub use serving::{ServeFault, Served, Turn, serve, serve_turn, serve_turn_in};
 use thiserror::Error;
 pub use udp::{Moments, UdpPorts};
 

@@ -67,6 +67,7 @@ pub fn serve<P: Ports>(
         (shown (P.failures ports.new) (P.coming ports.new) (P.taken ports.new)) turns) }
 {
     let mut outbox = Outbox::new(alloc);
+    let mut buffer = [0; FRAME_ROOM];
     let mut served = Served {
         events: 0,
         refused: 0,
@@ -74,7 +75,7 @@ pub fn serve<P: Ports>(
         ended: false,
     };
     for _ in 0..turns {
-        let Ok(turn) = serve_turn(node, ports, &mut outbox) else {
+        let Ok(turn) = serve_turn_in(node, ports, &mut buffer, &mut outbox) else {
             return Err(ServeFault::Next {
                 after: served.events,
             });
@@ -112,12 +113,31 @@ pub fn serve_turn<P: Ports>(
         (shown (P.failures ports.new) (P.coming ports.new) (P.taken ports.new))
         × (node.new ≡ node.old) × (outbox.new ≡ [])) }
 {
+    serve_turn_in(node, ports, &mut [0; FRAME_ROOM], outbox)
+}
+
+/// As `serve_turn`, with a buffer of the caller's, so that many turns need only one. What it holds
+/// before has no effect.
+pub fn serve_turn_in<P: Ports>(
+    node: &mut Node,
+    ports: &mut P,
+    buffer: &mut [u8; FRAME_ROOM],
+    outbox: &mut Outbox,
+) -> Result<Turn, ServeFault>
+    ensures turn { IfOk result (IsTurn node.old node.new
+        (shown (P.failures ports.old) (P.coming ports.old) (P.taken ports.old))
+        (shown (P.failures ports.new) (P.coming ports.new) (P.taken ports.new)) outbox.new) }
+    ensures fault { IfErr result (λ fault. fault ≡ ServeFault.Next 0) }
+    ensures stopped { OnErr result (FailsNext
+        (shown (P.failures ports.old) (P.coming ports.old) (P.taken ports.old))
+        (shown (P.failures ports.new) (P.coming ports.new) (P.taken ports.new))
+        × (node.new ≡ node.old) × (outbox.new ≡ [])) }
+{
     outbox.clear();
-    let mut buffer = [0u8; FRAME_ROOM];
-    let Ok(arrival) = ports.next(&mut buffer) else {
+    let Ok(arrival) = ports.next(buffer) else {
         return Err(ServeFault::Next { after: 0 });
     };
-    let Some(event) = event_of(arrival, &buffer) else {
+    let Some(event) = event_of(arrival, buffer) else {
         return Ok(Turn::End);
     };
     match node.step(event, outbox) {

@@ -13,11 +13,11 @@ loop-preserved g c =
     let i = c.loop.invariant in
     let first = shown (g.P.Ports.failures c.args.ports.now) (g.P.Ports.coming c.args.ports.now) (g.P.Ports.taken c.args.ports.now) in
     let before = shown (g.P.Ports.failures c.loop.ports) (g.P.Ports.coming c.loop.ports) (g.P.Ports.taken c.loop.ports) in
-    let after = shown (g.P.Ports.failures c.serve_turn.new.ports) (g.P.Ports.coming c.serve_turn.new.ports) (g.P.Ports.taken c.serve_turn.new.ports) in
+    let after = shown (g.P.Ports.failures c.serve_turn_in.new.ports) (g.P.Ports.coming c.serve_turn_in.new.ports) (g.P.Ports.taken c.serve_turn_in.new.ports) in
     elim c.match-turn.branch [
       | in-Done w ↦
           let turn = rw w.in-Done.is at c.in-Ok.ensures.turn in
-          let serves = Serves-answered c.args.node.now c.loop.node c.serve_turn.new.node first before after c.loop.served.events c.loop.served.refused i.serves.0 w.in-Done.failed _ i.serves.1 turn in
+          let serves = Serves-answered c.args.node.now c.loop.node c.serve_turn_in.new.node first before after c.loop.served.events c.loop.served.refused i.serves.0 w.in-Done.failed _ i.serves.1 turn in
           let count = w.saturating_add.ensures ∙ ap (λ (n : ℕ). min (n + w.in-Done.failed) (2 ^ 64 - 1)) i.serves.2 ∙ count_of-add i.serves.0 w.in-Done.failed in
           record {
             ended = ap (λ (s : Served). s.ended) w.served-is ∙ i.ended;
@@ -27,7 +27,7 @@ loop-preserved g c =
           }
       | in-Refused w ↦
           let turn = rw w.in-Refused.is at c.in-Ok.ensures.turn in
-          let serves = Serves-refused c.args.node.now c.loop.node c.serve_turn.new.node first before after c.loop.served.events c.loop.served.refused i.serves.0 i.serves.1 turn.0 in
+          let serves = Serves-refused c.args.node.now c.loop.node c.serve_turn_in.new.node first before after c.loop.served.events c.loop.served.refused i.serves.0 i.serves.1 turn.0 in
           record {
             ended = ap (λ (s : Served). s.ended) w.served-is ∙ i.ended;
             few = rw w.served-is (omega (arith, i.few));
