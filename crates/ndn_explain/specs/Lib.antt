@@ -4,3 +4,4 @@ pub mod Dataset
 pub mod Segment
 pub mod TagCheck
 pub mod Explain
+pub mod Reply

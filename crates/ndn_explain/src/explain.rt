@@ -91,7 +91,7 @@ fn put_data_meaning(alloc: Global, text: &mut Vec<u8>, packet: &Data<'_>) -> Res
 }
 
 /// Appends the lines of a reply, or of the entries of a list.
-fn put_content(alloc: Global, text: &mut Vec<u8>, content: &[u8]) -> Result<(), Memory>
+pub fn put_content(alloc: Global, text: &mut Vec<u8>, content: &[u8]) -> Result<(), Memory>
     ensures { OnOk result (text.new.items
         ≡ text.old.items ++ content_lines (Some content.now)) }
 {

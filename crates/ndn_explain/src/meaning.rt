@@ -49,8 +49,8 @@ pub fn put_command(alloc: Global, text: &mut Vec<u8>, name: Name<'_>) -> Result<
     put_fields(alloc, text, fields)
 }
 
-/// The fields of a command of this name.
-fn parameters_in<'a>(name: Name<'a>) -> Option<&'a [u8]>
+/// The fields of a command of this name; `None` for the name of another Interest.
+pub fn parameters_in<'a>(name: Name<'a>) -> Option<&'a [u8]>
     ensures { option_map (λ v. v.now) result ≡ parameters_in (components name.entry) }
 {
     let digest = name.component(name.len().saturating_sub(1))?;

@@ -4,11 +4,11 @@ ghost use Rattle.std.specs.Fmt.{decimal};
 ghost use Rattle.ndn_names.specs.View.{components};
 ghost use Rattle.ndn_names.specs.Uri.{uri_of};
 ghost use Rattle.ndn_packets.specs.Packet.{plain_signature};
-ghost use Rattle.ndn_packets.specs.View.{plain_frame, plain_interest, plain_data};
+ghost use Rattle.ndn_packets.specs.View.{plain_frame, plain_interest};
 ghost use Rattle.ndn_explain.specs.Show.{line, named_line, flag_line, optional_line, hex_or_dash, signature_line, flag_lines, number_lines, parameter_lines, interest_lines, data_lines, frame_lines};
 
 use ndn_names::{Name, NameBuf};
-use ndn_packets::{Data, Frame, Interest, Signature};
+use ndn_packets::{Frame, Interest, Signature};
 use ndn_tlv::Memory;
 use std::alloc::Global;
 use std::io::Write;
@@ -19,7 +19,14 @@ pub fn put_frame(alloc: Global, text: &mut Vec<u8>, frame: &Frame<'_>) -> Result
 {
     match frame {
         Frame::Interest(interest) => put_interest(alloc, text, interest),
-        Frame::Data(data) => put_data(alloc, text, data),
+        Frame::Data(data) => put_data(
+            alloc,
+            text,
+            data.name,
+            data.freshness,
+            data.content,
+            data.signature,
+        ),
         Frame::Nack { reason, interest } => {
             put_number(text, "nack", *reason)?;
             put_interest(alloc, text, interest)
@@ -77,13 +84,26 @@ fn put_hops(text: &mut Vec<u8>, hops: Option<u8>) -> Result<(), Memory>
     }
 }
 
-fn put_data(alloc: Global, text: &mut Vec<u8>, packet: &Data<'_>) -> Result<(), Memory>
-    ensures { OnOk result (text.new.items ≡ text.old.items ++ data_lines (plain_data packet.now)) }
+/// Appends the lines of a Data of these fields.
+pub fn put_data(
+    alloc: Global,
+    text: &mut Vec<u8>,
+    name: Name<'_>,
+    freshness: u64,
+    content: Option<&[u8]>,
+    signature: Signature<'_>,
+) -> Result<(), Memory>
+    ensures { OnOk result (text.new.items ≡ text.old.items ++ data_lines (record {
+      name = components name.entry;
+      freshness = freshness;
+      content = option_map (λ c. c.now) content.entry;
+      signature = plain_signature signature.entry;
+    })) }
 {
-    put_name(alloc, text, "data", packet.name)?;
-    put_number(text, "freshness", packet.freshness)?;
-    put_optional(alloc, text, "content", packet.content)?;
-    put_signature(alloc, text, packet.signature)
+    put_name(alloc, text, "data", name)?;
+    put_number(text, "freshness", freshness)?;
+    put_optional(alloc, text, "content", content)?;
+    put_signature(alloc, text, signature)
 }
 
 fn put_signature(alloc: Global, text: &mut Vec<u8>, signature: Signature<'_>) -> Result<(), Memory>
