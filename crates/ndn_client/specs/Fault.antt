@@ -10,6 +10,10 @@ use Rattle.ndn_client.specs.declared.fault.Usage.{Usage}
 use Rattle.ndn_client.specs.declared.fault.Usage.TheVariants.{CommandLine, BadValue}
 use Rattle.ndn_client.specs.declared.fault.ToolFault.{ToolFault}
 use Rattle.ndn_client.specs.declared.fault.ToolFault.TheVariants as tool
+use Rattle.ndn_client.specs.declared.fault.Silence.{Silence}
+use Rattle.ndn_client.specs.declared.fault.Silence.TheVariants.{Closed, Far, Late}
+use Rattle.ndn_client.specs.declared.fault.Failure.{Failure}
+use Rattle.ndn_client.specs.declared.fault.Failure.TheVariants.{Refused, NoStatus, Nack, Silent}
 use Rattle.ndn_client.specs.declared.fault.Fault.{Fault}
 use Rattle.ndn_client.specs.declared.fault.Fault.TheVariants as fault
 
@@ -35,9 +39,11 @@ key_status (TwiceNamed line) = 1
 key_status TooMany = 1
 key_status KeyMemory = 3
 
--- 1 for a fault in the key file, 3 if the system refused something
+-- 1 for a fault in the key file and for a request that was not done, 3 if the system refused
+-- something
 abbrev pub status_of : Fault → ℕ
 status_of (fault.Tool why) = tool_status why
+status_of fault.NoKeyFile = 1
 status_of fault.NotText = 2
 status_of (fault.Keys why) = key_status why
 status_of fault.Read = 3
@@ -45,7 +51,8 @@ status_of fault.Clock = 3
 status_of fault.Write = 3
 status_of fault.Input = 3
 status_of fault.Send = 3
-status_of fault.NoAnswer = 3
+status_of (fault.Silent why) = 3
+status_of (fault.NotDone why) = 1
 
 abbrev pub out_of_memory : List ℕ
 out_of_memory = codes "error: out of memory\n"
@@ -72,9 +79,23 @@ key_text (TwiceNamed line) = codes "keys:" ++ decimal line ++ codes ": TwiceName
 key_text TooMany = codes "keys:0: TooMany\n"
 key_text KeyMemory = out_of_memory
 
+abbrev pub silence_text : Silence → Option (List ℕ)
+silence_text Closed = Some (codes "error: no program listens on this port\n")
+silence_text Far =
+    Some (codes "error: no answer came in 4 seconds; give --from, the port of a Local peer\n")
+silence_text Late =
+    Some (codes "error: no answer came in 4 seconds, though a program listens on this port\n")
+
+abbrev pub failure_text : Failure → Option (List ℕ)
+failure_text Refused = Some (codes "error: not done; the status says why\n")
+failure_text NoStatus = Some (codes "error: the answer is not a reply to a command\n")
+failure_text Nack = Some (codes "error: not done; a Nack came back\n")
+failure_text (Silent why) = silence_text why
+
 -- the message for standard error, with its LF
 abbrev pub text_of : Fault → Option (List ℕ)
 text_of (fault.Tool why) = tool_text why
+text_of fault.NoKeyFile = Some (codes "key not found\ngive --keys\n")
 text_of fault.NotText = Some (codes "error: an argument is not UTF-8 text\n")
 text_of (fault.Keys why) = Some (key_text why)
 text_of fault.Read = Some (codes "error: the key file cannot be read\n")
@@ -82,5 +103,5 @@ text_of fault.Clock = Some (codes "error: the clock cannot be read\n")
 text_of fault.Write = Some (codes "error: standard output cannot be written\n")
 text_of fault.Input = Some (codes "error: standard input cannot be read as UTF-8 text\n")
 text_of fault.Send = Some (codes "error: the packet cannot be sent to this port\n")
-text_of fault.NoAnswer =
-    Some (codes "error: no answer came; see that a node listens on this port\n")
+text_of (fault.Silent why) = silence_text why
+text_of (fault.NotDone why) = failure_text why

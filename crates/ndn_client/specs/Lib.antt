@@ -11,6 +11,7 @@ pub mod Command
 pub mod Input
 pub mod Parameters
 pub mod Answer
+pub mod Reply
 pub use Rattle.ndn_explain.specs.Show
 pub use Rattle.ndn_explain.specs.TagCheck
 pub use Rattle.ndn_explain.specs.Explain

@@ -34,11 +34,38 @@ pub enum ToolFault {
     Memory,
 }
 
+/// Why no answer came to a packet that was sent.
+#[derive(Clone, Copy, Debug, PartialEq, Eq)]
+pub enum Silence {
+    /// No program listens on the port.
+    Closed,
+    /// The name is under `/localhost`, and the port is a new one: a node hears such names from its
+    /// Local peers alone.
+    Far,
+    /// A program listens, and nothing came in time.
+    Late,
+}
+
+/// Why a request that was sent was not done.
+#[derive(Clone, Copy, Debug, PartialEq, Eq)]
+pub enum Failure {
+    /// The reply has another status.
+    Refused,
+    /// The answer to a command has no status.
+    NoStatus,
+    /// A Nack came.
+    Nack,
+    /// No answer came.
+    Silent(Silence),
+}
+
 /// Why the program did not do what it was asked.
 #[derive(Debug, Drop)]
 pub enum Fault {
     /// The job was not done.
     Tool(ToolFault),
+    /// A key is named, and no key file.
+    NoKeyFile,
     /// An argument is not UTF-8.
     NotText,
     /// The file is not a key file.
@@ -53,8 +80,10 @@ pub enum Fault {
     Input,
     /// The packet cannot be sent.
     Send,
-    /// No answer came in time.
-    NoAnswer,
+    /// No answer came to a packet that was sent as it is.
+    Silent(Silence),
+    /// A request was sent, and was not done.
+    NotDone(Failure),
 }
 
 impl ToolFault {
@@ -80,22 +109,25 @@ impl Fault {
     ghost use Rattle.std.specs.Prelude.{◌≡◌};
     ghost use Rattle.ndn_client.specs.Fault.{status_of};
 
-    /// The exit status: that of the job's fault, or 1 for a bad key file, 2 for a wrong command
-    /// line, 3 if reading, writing, sending, receiving or memory failed.
+    /// The exit status: that of the job's fault, or 1 for a bad key file and for a request that was
+    /// not done, 2 for a wrong command line, 3 if reading, writing, sending, receiving or memory
+    /// failed.
     pub fn exit_status(&self) -> u8
         ensures { result ≡ status_of self.now }
     {
         match self {
             Fault::Tool(fault) => fault.exit_status(),
             Fault::NotText => 2,
-            Fault::Keys(KeyFault::BadLine(_) | KeyFault::TwiceNamed(_) | KeyFault::TooMany) => 1,
+            Fault::Keys(KeyFault::BadLine(_) | KeyFault::TwiceNamed(_) | KeyFault::TooMany)
+            | Fault::NoKeyFile
+            | Fault::NotDone(_) => 1,
             Fault::Keys(KeyFault::Memory)
             | Fault::Read
             | Fault::Clock
             | Fault::Write
             | Fault::Input
             | Fault::Send
-            | Fault::NoAnswer => 3,
+            | Fault::Silent(_) => 3,
         }
     }
 }
@@ -131,6 +163,7 @@ impl fmt::Display for Fault {
     fn fmt<W: fmt::Write>(&self, f: &mut fmt::Formatter<W>) -> fmt::Result {
         match self {
             Fault::Tool(fault) => fault.fmt(f),
+            Fault::NoKeyFile => f.write_str("key not found\ngive --keys\n"),
             Fault::NotText => f.write_str("error: an argument is not UTF-8 text\n"),
             Fault::Keys(KeyFault::BadLine(line)) => writeln!(f, "keys:{line}: BadLine"),
             Fault::Keys(KeyFault::TwiceNamed(line)) => writeln!(f, "keys:{line}: TwiceNamed"),
@@ -141,9 +174,45 @@ impl fmt::Display for Fault {
             Fault::Write => f.write_str("error: standard output cannot be written\n"),
             Fault::Input => f.write_str("error: standard input cannot be read as UTF-8 text\n"),
             Fault::Send => f.write_str("error: the packet cannot be sent to this port\n"),
-            Fault::NoAnswer => {
-                f.write_str("error: no answer came; see that a node listens on this port\n")
+            Fault::Silent(silence) => silence.fmt(f),
+            Fault::NotDone(failure) => failure.fmt(f),
+        }
+    }
+}
+
+impl fmt::Display for Silence {
+    ghost use Rattle.ndn_client.specs.Fault.{silence_text};
+
+    // Each message ends with an LF.
+    ghost output = { silence_text };
+
+    fn fmt<W: fmt::Write>(&self, f: &mut fmt::Formatter<W>) -> fmt::Result {
+        match self {
+            Silence::Closed => f.write_str("error: no program listens on this port\n"),
+            Silence::Far => f.write_str(
+                "error: no answer came in 4 seconds; give --from, the port of a Local peer\n",
+            ),
+            Silence::Late => {
+                f.write_str(
+                    "error: no answer came in 4 seconds, though a program listens on this port\n",
+                )
             }
+        }
+    }
+}
+
+impl fmt::Display for Failure {
+    ghost use Rattle.ndn_client.specs.Fault.{failure_text};
+
+    // Each message ends with an LF.
+    ghost output = { failure_text };
+
+    fn fmt<W: fmt::Write>(&self, f: &mut fmt::Formatter<W>) -> fmt::Result {
+        match self {
+            Failure::Refused => f.write_str("error: not done; the status says why\n"),
+            Failure::NoStatus => f.write_str("error: the answer is not a reply to a command\n"),
+            Failure::Nack => f.write_str("error: not done; a Nack came back\n"),
+            Failure::Silent(silence) => silence.fmt(f),
         }
     }
 }

@@ -16,7 +16,9 @@ Example: a key, an Interest signed with it, and what that Interest holds.
   $ ndn_tool show $packet
 
 Exit status: 0 if the answer is printed, 1 for a fault in a key file, a missing key or a packet that
-cannot be read or written, 2 for a wrong command line, 3 if reading, writing or memory fails.";
+cannot be read or written, 2 for a wrong command line, 3 if reading, writing or memory fails. With
+--send: 0 if the reply has status 200, or 100 of an insert; 1 for another status, a Nack, and no
+answer.";
 
 pub const INTEREST: &str =
     "With --key the Interest is signed with HmacWithSha256 and has parameters, empty if none are
@@ -109,8 +111,8 @@ Example: a Data named /A, signed with a key.
 
 pub const SEND: &str =
     "Sends the packet to this port of 127.0.0.1, as one datagram, and prints the one answer in
-hexadecimal. With - the packet is that of standard input, in hexadecimal. Where no answer comes in
-time the exit status is 3.
+hexadecimal, whatever it says. With - the packet is that of standard input, in hexadecimal. Where no
+answer comes in time the exit status is 3.
 
 Example: a packet is written, sent to a node, and its answer said in words.
   $ ndn_tool interest /A --nonce 01020304 | ndn_tool send - --to 6363 | ndn_tool explain -";
@@ -133,6 +135,6 @@ pub const KEYS: &str = "The key file";
 
 pub const KEY: &str = "The name of the key to sign with";
 
-pub const PORT: &str = "Sends the command to this port of 127.0.0.1, and says the answer in words";
+pub const PORT: &str = "Sends the command to this port of 127.0.0.1, and says the reply in words";
 
 pub const FROM: &str = "The port of 127.0.0.1 that it is sent from; a new one if absent";

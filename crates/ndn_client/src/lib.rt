@@ -13,6 +13,7 @@ mod key_file;
 mod nonce;
 mod options;
 mod parameters;
+mod reply;
 mod repository_form;
 mod short_form;
 mod subcommand;
@@ -20,10 +21,11 @@ mod value;
 
 pub use answer::{command_packet, explained_text, hex_line, keys_given, put_answer};
 pub use command::parse_words;
-pub use fault::{Fault, ToolFault, Usage};
+pub use fault::{Failure, Fault, Silence, ToolFault, Usage};
 pub use input::{packet_in, put_input};
 pub use job::{
     CommandJob, DataJob, ExplainJob, InterestJob, Job, KeyChoice, Parameters, SendJob, Stamp,
     TagJob,
 };
 pub use key_file::read_book;
+pub use reply::{Outcome, judge, put_said, silence_of};

@@ -2,20 +2,24 @@
 //! packets hold.
 #![tactic(auto)]
 
+ghost use Rattle.std.specs.Prelude.{◌≤◌, length, IfOk};
+
 use hmac_keys::KeyBook;
 use ndn_client::{
-    Fault, Job, SendJob, ToolFault, command_packet, explained_text, hex_line, keys_given,
-    packet_in, parse_words, put_answer, put_input, read_book,
+    Failure, Fault, Job, Outcome, SendJob, ToolFault, command_packet, hex_line, judge, keys_given,
+    packet_in, parse_words, put_answer, put_input, put_said, read_book, silence_of,
 };
-use ndn_packets::MAX_FRAME;
-use node_core::{receive_one, send_from};
+use node_core::{ANSWER_SECONDS, send_from};
 use std::env::Env;
 use std::io::{Input, Write};
-use std::net::Net;
+use std::net::{Net, UdpSocket};
 use std::process::ExitCode;
 use std::rt::Files;
-use std::time::{Clock, SystemTime};
+use std::time::{Clock, Duration, Instant, SystemTime};
 use std::{env, fs, io};
+
+/// The greatest length of what a UDP datagram carries over IPv4, in octets.
+const MAX_DATAGRAM: usize = 65_507;
 
 fn main(rt: HostRuntime) -> ExitCode {
     let Err(fault) = run(&rt) else {
@@ -28,9 +32,33 @@ fn main(rt: HostRuntime) -> ExitCode {
 }
 
 /// Does what the command line asks for, and prints the answer.
-fn run<R: Clock + Env + AllocGlobal + Files + Input + Net + Print>(rt: &R) -> Result<(), Fault> {
-    let text = answer_to(rt, &asked_job(rt)?)?;
-    io::writer(rt).write_all(&text).map_err(|_| Fault::Write)
+fn run<R>(rt: &R) -> Result<(), Fault>
+where
+    R: Clock + Env + AllocGlobal + Eprint + Files + Input + Net + Print,
+{
+    let job = asked_job(rt)?;
+    match run_job(rt, &job) {
+        Err(Fault::Tool(ToolFault::NoKey)) if job.key_file().is_none() => Err(Fault::NoKeyFile),
+        done => done,
+    }
+}
+
+fn run_job<R>(rt: &R, job: &Job) -> Result<(), Fault>
+where
+    R: Clock + AllocGlobal + Eprint + Files + Input + Net + Print,
+{
+    let book = book_of(rt, job)?;
+    if let Job::Command(command) = job
+        && let Some(to) = command.stamp.to
+    {
+        let request = command_packet(rt.alloc(), command, &book)?;
+        return ask(rt, command.stamp.from, to, &request, &book);
+    }
+    print(rt, &answer_to(rt, job, &book)?)
+}
+
+fn print<R: Print>(rt: &R, text: &[u8]) -> Result<(), Fault> {
+    io::writer(rt).write_all(text).map_err(|_| Fault::Write)
 }
 
 /// What the command line asks for.
@@ -41,60 +69,139 @@ fn asked_job<R: Clock + Env + AllocGlobal>(rt: &R) -> Result<Job, Fault> {
 }
 
 /// The answer to a job, with the keys of its key file.
-fn answer_to<R: AllocGlobal + Files + Input + Net>(rt: &R, job: &Job) -> Result<Vec<u8>, Fault> {
-    let book = book_of(rt, job)?;
+fn answer_to<R: Clock + AllocGlobal + Input + Net>(
+    rt: &R,
+    job: &Job,
+    book: &KeyBook,
+) -> Result<Vec<u8>, Fault> {
     if let Job::Send(send) = job {
         return sent(rt, send);
-    }
-    if let Job::Command(command) = job
-        && let Some(port) = command.stamp.to
-    {
-        let packet = command_packet(rt.alloc(), command, &book)?;
-        let reply = reply_to(rt, command.stamp.from, port, &packet)?;
-        return Ok(explained_text(rt.alloc(), &reply, None)?);
     }
     let mut text = Vec::new(rt.alloc());
     if let Job::Explain(explain) = job
         && explain.packet.is_none()
     {
-        put_input(
-            rt.alloc(),
-            &mut text,
-            &input_of(rt)?,
-            keys_given(explain, &book),
-        )?;
+        let input = input_of(rt)?;
+        put_input(rt.alloc(), &mut text, &input, keys_given(explain, book))?;
     } else {
-        put_answer(rt.alloc(), job, &book, &mut text)?;
+        put_answer(rt.alloc(), job, book, &mut text)?;
     }
     Ok(text)
 }
 
-/// The answer to a packet that is sent, as a line of hexadecimal.
-fn sent<R: AllocGlobal + Input + Net>(rt: &R, job: &SendJob) -> Result<Vec<u8>, Fault> {
-    let reply = match &job.packet {
-        Some(packet) => reply_to(rt, job.from, job.to, packet)?,
+/// The one answer to a packet that is sent as it is, as a line of hexadecimal.
+fn sent<R: Clock + AllocGlobal + Input + Net>(rt: &R, job: &SendJob) -> Result<Vec<u8>, Fault> {
+    match &job.packet {
+        Some(packet) => reply_to(rt, job, packet),
         None => {
             let input = input_of(rt)?;
-            let packet = packet_in(rt.alloc(), input.as_bytes())?;
-            reply_to(rt, job.from, job.to, &packet)?
+            reply_to(rt, job, &packet_in(rt.alloc(), input.as_bytes())?)
         }
-    };
-    Ok(hex_line(rt.alloc(), &reply)?)
+    }
 }
 
-/// The one answer to a packet that is sent between these ports of 127.0.0.1, from a new port if
-/// none is named.
-fn reply_to<R: AllocGlobal + Net>(
+fn reply_to<R: Clock + AllocGlobal + Net>(
+    rt: &R,
+    job: &SendJob,
+    packet: &[u8],
+) -> Result<Vec<u8>, Fault> {
+    let mut reply = vec![in rt.alloc(); 0; MAX_DATAGRAM]?;
+    let socket = sent_between(rt, job.from, job.to, packet)?;
+    let start = Instant::now(rt).map_err(|_| Fault::Clock)?;
+    match receive(rt, &socket, start, &mut reply) {
+        Ok(len) => Ok(hex_line(rt.alloc(), &reply[..len])?),
+        Err(is_closed) => Err(Fault::Silent(silence_of(packet, job.from, is_closed))),
+    }
+}
+
+/// Sends a request, waits for the answer to it, and prints what that says.
+fn ask<R: Clock + AllocGlobal + Eprint + Net + Print>(
+    rt: &R,
+    from: Option<u16>,
+    to: u16,
+    request: &[u8],
+    book: &KeyBook,
+) -> Result<(), Fault> {
+    let socket = sent_between(rt, from, to, request)?;
+    match outcome_on(rt, &socket, request, book)? {
+        Ok(outcome) => outcome.map_err(Fault::NotDone),
+        Err(is_closed) => {
+            let silence = silence_of(request, from, is_closed);
+            Err(Fault::NotDone(Failure::Silent(silence)))
+        }
+    }
+}
+
+/// What the answer to a request comes to that was sent on this socket; if none comes in time,
+/// whether no program listens. Any other datagram is told on standard error.
+fn outcome_on<R: Clock + AllocGlobal + Eprint + Print>(
+    rt: &R,
+    socket: &UdpSocket,
+    request: &[u8],
+    book: &KeyBook,
+) -> Result<Result<Outcome, bool>, Fault> {
+    let start = Instant::now(rt).map_err(|_| Fault::Clock)?;
+    let mut buffer = vec![in rt.alloc(); 0; MAX_DATAGRAM]?;
+    for _ in 0..u64::MAX {
+        match receive(rt, socket, start, &mut buffer) {
+            Ok(len) => {
+                if let Some(outcome) = told(rt, request, &buffer[..len], book)? {
+                    return Ok(Ok(outcome));
+                }
+            }
+            Err(is_closed) => return Ok(Err(is_closed)),
+        }
+    }
+    Ok(Err(false))
+}
+
+/// Prints what the answer to a request says, and gives what it comes to; of another datagram a line
+/// on standard error.
+fn told<R: AllocGlobal + Eprint + Print>(
+    rt: &R,
+    request: &[u8],
+    datagram: &[u8],
+    book: &KeyBook,
+) -> Result<Option<Outcome>, Fault> {
+    let outcome = judge(rt.alloc(), request, datagram, book)?;
+    if outcome.is_none() {
+        // If standard error cannot be written, the datagram is left out all the same.
+        let _printed = eprintln!(rt; "ignored: a datagram that is no answer to the request");
+        return Ok(None);
+    }
+    let mut text = Vec::new(rt.alloc());
+    put_said(rt.alloc(), &mut text, request, datagram)?;
+    print(rt, &text)?;
+    Ok(outcome)
+}
+
+/// Sends a packet between these ports of 127.0.0.1, from a new port if none is named.
+fn sent_between<R: Net>(
     rt: &R,
     from: Option<u16>,
     to: u16,
     packet: &[u8],
-) -> Result<Vec<u8>, Fault> {
-    let mut reply = vec![in rt.alloc(); 0; MAX_FRAME]?;
-    let socket = send_from(rt, from.unwrap_or(0), to, packet).map_err(|_| Fault::Send)?;
-    let len = receive_one(&socket, &mut reply).map_err(|_| Fault::NoAnswer)?;
-    reply.truncate(len);
-    Ok(reply)
+) -> Result<UdpSocket, Fault> {
+    send_from(rt, from.unwrap_or(0), to, packet).map_err(|_| Fault::Send)
+}
+
+/// Receives one datagram before `ANSWER_SECONDS` from the start are over, and answers its length; if
+/// none comes, whether no program listens.
+fn receive<R: Clock>(
+    rt: &R,
+    socket: &UdpSocket,
+    start: Instant,
+    buffer: &mut [u8],
+) -> Result<usize, bool>
+    ensures { IfOk result (λ len. len ≤ length buffer.new) }
+{
+    let waited = start.elapsed(rt).map_err(|_| false)?;
+    let left = Duration::from_secs(ANSWER_SECONDS).saturating_sub(waited);
+    // A timeout of zero is refused, and the time is over.
+    socket.set_read_timeout(Some(left)).map_err(|_| false)?;
+    socket
+        .recv(buffer)
+        .map_err(|error| error.kind() == io::ErrorKind::ConnectionRefused)
 }
 
 /// The text of standard input.

@@ -1,8 +1,9 @@
 use super::*;
 use hmac_keys::KeyFault;
-use ndn_client::Usage;
-use ndn_packets::{PacketFault, WriteFault};
+use ndn_client::{Silence, Usage};
+use ndn_packets::{Frame, PacketFault, WriteFault, put_reply, read_frame};
 use std::alloc::Global;
+use std::net::Ipv4Addr;
 use std::process::Abort;
 
 /// The name `/ops/KEY/1` and its key, the text `key`.
@@ -876,7 +877,11 @@ fn statuses(rt: HostRuntime) {
     assert!(rt; ends_with(Fault::Write, 3));
     assert!(rt; ends_with(Fault::Input, 3));
     assert!(rt; ends_with(Fault::Send, 3));
-    assert!(rt; ends_with(Fault::NoAnswer, 3));
+    assert!(rt; ends_with(Fault::Silent(Silence::Late), 3));
+    assert!(rt; ends_with(Fault::NotDone(Failure::Refused), 1));
+    assert!(rt; ends_with(Fault::NotDone(Failure::NoStatus), 1));
+    assert!(rt; ends_with(Fault::NotDone(Failure::Nack), 1));
+    assert!(rt; ends_with(Fault::NotDone(Failure::Silent(Silence::Late)), 1));
     assert!(rt; ends_with(Fault::NotText, 2));
     assert!(rt; ends_with(Fault::Keys(KeyFault::TooMany), 1));
     assert!(rt; ends_with(Fault::Keys(KeyFault::Memory), 3));
@@ -920,4 +925,213 @@ fn refused_memory(rt: HostRuntime) {
             assert!(rt; prints_in_memory(rt.alloc(), command, wanted), "{command}");
         }
     }
+}
+
+/// A command, and after it datagrams with what each comes to as its answer. These and the packets below
+/// were made by a program of its own.
+const ROUTE_ANSWERS: &str =
+    "0598075008096c6f63616c686f737408036e66640803666962080b6164642d6e657874686f70080a680807030801416901020220b3efe71974da9dc26e88d0c074c8f0ff34ea85c38b109d9e9c6400b87694f2f20a040102030424002c1a1b01041c0f070d08036f707308034b45590801312804000f42402e20d113cf38056af9bbbec876471f4b51934978ef69345464b05cb762148eaa5dbb
+0684075008096c6f63616c686f737408036e66640803666962080b6164642d6e657874686f70080a680807030801416901020220b3efe71974da9dc26e88d0c074c8f0ff34ea85c38b109d9e9c6400b87694f2f2150965076601c867024f4b16031b01001720b6e80976e9dc6c36e0492f03adf2cda6bfa93df5c7b4489a5fc035173b9449cc done
+0689075008096c6f63616c686f737408036e66640803666962080b6164642d6e657874686f70080a680807030801416901020220b3efe71974da9dc26e88d0c074c8f0ff34ea85c38b109d9e9c6400b87694f2f21403190101150965076601c867024f4b16031b010017200602ae685b000dca6d6decfb56ebc898484758769e5599005ed9f69143744969 done
+0695075008096c6f63616c686f737408036e66640803666962080b6164642d6e657874686f70080a680807030801416901020220b3efe71974da9dc26e88d0c074c8f0ff34ea85c38b109d9e9c6400b87694f2f2150965076601c867024f4b16141b01041c0f070d08036f707308034b455908013117205ceb5308a6f73328666c6fafc664d2a3aa0bd99cefc1db7cfe1e153199fd7c96 done
+648850860684075008096c6f63616c686f737408036e66640803666962080b6164642d6e657874686f70080a680807030801416901020220b3efe71974da9dc26e88d0c074c8f0ff34ea85c38b109d9e9c6400b87694f2f2150965076601c867024f4b16031b01001720b6e80976e9dc6c36e0492f03adf2cda6bfa93df5c7b4489a5fc035173b9449cc done
+0689075008096c6f63616c686f737408036e66640803666962080b6164642d6e657874686f70080a680807030801416901020220b3efe71974da9dc26e88d0c074c8f0ff34ea85c38b109d9e9c6400b87694f2f2150e650c660164670770656e64696e6716031b01001720f2861129e4fe89a28ac3f8f5d863d77787e687707ffea2d3dbffff931c570071 refused
+0689075008096c6f63616c686f737408036e66640803666962080b6164642d6e657874686f70080a680807030801416901020220b3efe71974da9dc26e88d0c074c8f0ff34ea85c38b109d9e9c6400b87694f2f2150e650c6601c967074372656174656416031b01001720d1a4e05300228e4bbd7ed8400e403bfd56efd2d69de18b61b7ab08c5f579d57c refused
+0691075008096c6f63616c686f737408036e66640803666962080b6164642d6e657874686f70080a680807030801416901020220b3efe71974da9dc26e88d0c074c8f0ff34ea85c38b109d9e9c6400b87694f2f21516651466020190670e62616420706172616d657465727316031b01001720689978c98f8a69323643977fec1eb4dc40b8b61bbc6f11704efe7383f6c28f74 refused
+068a075008096c6f63616c686f737408036e66640803666962080b6164642d6e657874686f70080a680807030801416901020220b3efe71974da9dc26e88d0c074c8f0ff34ea85c38b109d9e9c6400b87694f2f2150f650d6602019367076e6f2072756c6516031b0100172062924306c582192eeb189054b7b09822234f805616dd37284d49e24c8a4b2459 refused
+0693075008096c6f63616c686f737408036e66640803666962080b6164642d6e657874686f70080a680807030801416901020220b3efe71974da9dc26e88d0c074c8f0ff34ea85c38b109d9e9c6400b87694f2f215186516660201946710756e6b6e6f776e20737472617465677916031b0100172097747fd9811beab613d2a8e9690979f15f8dede92e97dcbe462d7388caace6c9 refused
+0690075008096c6f63616c686f737408036e66640803666962080b6164642d6e657874686f70080a680807030801416901020220b3efe71974da9dc26e88d0c074c8f0ff34ea85c38b109d9e9c6400b87694f2f2151565136602019a670d66616365206e6f74206f70656e16031b01001720dacad5d16f033bb761ad498b9dd22e294ffe37175877695b1b0ad54858187086 refused
+0692075008096c6f63616c686f737408036e66640803666962080b6164642d6e657874686f70080a680807030801416901020220b3efe71974da9dc26e88d0c074c8f0ff34ea85c38b109d9e9c6400b87694f2f2151765156602019e670f70726566697820746f6f206c6f6e6716031b010017204b0f5c8061c8b98f67a8ba0ffd105cf3e896f3cc1f581e79253735645e2c0646 refused
+0692075008096c6f63616c686f737408036e66640803666962080b6164642d6e657874686f70080a680807030801416901020220b3efe71974da9dc26e88d0c074c8f0ff34ea85c38b109d9e9c6400b87694f2f215176515660201f5670f756e6b6e6f776e20636f6d6d616e6416031b010017204076392e9ddd4d50b0891dac67ff10cf99648f21918f0073924c06738c05fe76 refused
+068d075008096c6f63616c686f737408036e66640803666962080b6164642d6e657874686f70080a680807030801416901020220b3efe71974da9dc26e88d0c074c8f0ff34ea85c38b109d9e9c6400b87694f2f215126510660201f7670a7461626c652066756c6c16031b01001720115d79b507f5c3c9714ee5c8fc6802db12f4f871821995fd3bcff9f2341cfaf4 refused
+0685075008096c6f63616c686f737408036e66640803666962080b6164642d6e657874686f70080a680807030801416901020220b3efe71974da9dc26e88d0c074c8f0ff34ea85c38b109d9e9c6400b87694f2f2150a6508660201c867024f4b16031b01001720db94e6fe1ceff43a3e4a25736dd310b58b83030340abcfb84bf736fc743d2e05 refused
+067c075008096c6f63616c686f737408036e66640803666962080b6164642d6e657874686f70080a680807030801416901020220b3efe71974da9dc26e88d0c074c8f0ff34ea85c38b109d9e9c6400b87694f2f215017816031b010017208f68f4e9cb51a49915316218b03be99298313a60fe81bf0043ac6095142478c4 no-status
+0679075008096c6f63616c686f737408036e66640803666962080b6164642d6e657874686f70080a680807030801416901020220b3efe71974da9dc26e88d0c074c8f0ff34ea85c38b109d9e9c6400b87694f2f216031b01001720d8892954f4fd686b13158ca47a9af73669c0ae1412bb972479a1c312c2f8bf5e no-status
+64a5fd032005fd03210196509a0598075008096c6f63616c686f737408036e66640803666962080b6164642d6e657874686f70080a680807030801416901020220b3efe71974da9dc26e88d0c074c8f0ff34ea85c38b109d9e9c6400b87694f2f20a040102030424002c1a1b01041c0f070d08036f707308034b45590801312804000f42402e20d113cf38056af9bbbec876471f4b51934978ef69345464b05cb762148eaa5dbb nack
+0684075008096c6f63616c686f737408036e66640803666962080b6164642d6e657874686f70080a680807030801416901020220b3efe71974da9dc26e88d0c074c8f0ff34ea85c38b109d9e9c6400b87694f2f2150965076601c867024f4b16031b01001720b7e80976e9dc6c36e0492f03adf2cda6bfa93df5c7b4489a5fc035173b9449cc ignored
+0695075008096c6f63616c686f737408036e66640803666962080b6164642d6e657874686f70080a680807030801416901020220b3efe71974da9dc26e88d0c074c8f0ff34ea85c38b109d9e9c6400b87694f2f2150965076601c867024f4b16141b01041c0f070d08036f707308034b455908013117206f763b7d88c67f29cb12a65801b27c6af3fa6f0c72dd8f21713c318c0310752f ignored
+066d073908047265706f0806696e736572740807c90507030801410220856ad41dcba9cd04d16e32da8c22468001abf94c4a2d4d42b7c3a6e26de9f591150965076601c867024f4b16031b01001720d56beaf70800284532e7a6cd9c7891650a32fa9452c2d0cc736edff9e156e4ee ignored
+06370703080141150965076601c867024f4b16031b0100172097dfea7763e81d4fda5f800b89a98b5fd552a09ffd445dc759bcbbd9a875e1c5 ignored
+6418fd032005fd03210196500d050b07030801410a0401020304 ignored
+0598075008096c6f63616c686f737408036e66640803666962080b6164642d6e657874686f70080a680807030801416901020220b3efe71974da9dc26e88d0c074c8f0ff34ea85c38b109d9e9c6400b87694f2f20a040102030424002c1a1b01041c0f070d08036f707308034b45590801312804000f42402e20d113cf38056af9bbbec876471f4b51934978ef69345464b05cb762148eaa5dbb ignored
+6400 ignored
+- ignored
+0600 ignored
+";
+
+/// The same of a repository's insert, for which 100 is done.
+const INSERT_ANSWERS: &str =
+    "0581073908047265706f0806696e736572740807c90507030801410220856ad41dcba9cd04d16e32da8c22468001abf94c4a2d4d42b7c3a6e26de9f5910a040102030424002c1a1b01041c0f070d08036f707308034b45590801312804000f42402e2067118d1ececd0d1c18fc45b8ae9abc3778200f148c277b58cdf8f39b8cc0c96d
+0675073908047265706f0806696e736572740807c90507030801410220856ad41dcba9cd04d16e32da8c22468001abf94c4a2d4d42b7c3a6e26de9f5911511cf0fd00164670770656e64696e6784010016031b0100172007ca981da7330b26cf7f5160965fc8dceb813aed6b86cf7f235dccc6681de8df done
+0670073908047265706f0806696e736572740807c90507030801410220856ad41dcba9cd04d16e32da8c22468001abf94c4a2d4d42b7c3a6e26de9f591150ccf0ad001c867024f4b84010116031b01001720f69c48d52a992f60d2271f21462e4bd4ea3e0b66ee2edaf94db74938ed7b8ad2 done
+067e073908047265706f0806696e736572740807c90507030801410220856ad41dcba9cd04d16e32da8c22468001abf94c4a2d4d42b7c3a6e26de9f591151acf18d00201f7670f7265706f7369746f72792066756c6c84010016031b0100172005de5cf5b32c2c3608c2be5c86bd638df107073d0ef7ae4160af1bb516e9e903 refused
+0676073908047265706f0806696e736572740807c90507030801410220856ad41dcba9cd04d16e32da8c22468001abf94c4a2d4d42b7c3a6e26de9f5911512cf10d002019367076e6f2072756c6584010016031b010017203ea305e5d4b6d93ceedcd00a3231a4ed5b19c3aaf0106457bbdaec9fdbbe5feb refused
+0672073908047265706f0806696e736572740807c90507030801410220856ad41dcba9cd04d16e32da8c22468001abf94c4a2d4d42b7c3a6e26de9f591150e650c660164670770656e64696e6716031b010017204e91e6002f59420b23ab0761da4e1ff5821814272f36b8dd1489e22cd9cc63b5 refused
+";
+
+/// The same of a repository's check, for which 100 is not.
+const CHECK_ANSWERS: &str =
+    "0542073808047265706f0805636865636b0807c9050703080141022033b67cb5385ceddad93d0ee960679041613bed34b8b4a5e6362fe7539ba2d3ce0a04010203042400
+066f073808047265706f0805636865636b0807c9050703080141022033b67cb5385ceddad93d0ee960679041613bed34b8b4a5e6362fe7539ba2d3ce150ccf0ad001c867024f4b84010116031b01001720e321cf1c01ed9976608792d53dbe9f46213bbd83c57e8c27042f544af69c5bf6 done
+0674073808047265706f0805636865636b0807c9050703080141022033b67cb5385ceddad93d0ee960679041613bed34b8b4a5e6362fe7539ba2d3ce1511cf0fd00164670770656e64696e6784010016031b01001720bb9c36a2e1a9b2dad365d7d414a7293dc68d1f60313039c5793fe6517e20ca16 refused
+0677073808047265706f0805636865636b0807c9050703080141022033b67cb5385ceddad93d0ee960679041613bed34b8b4a5e6362fe7539ba2d3ce1514cf12d002019467096e6f7420666f756e6484010016031b0100172027cb3843c2e805daa3395bfd459ed163293d13329285a18a1fdb9aeed87ff864 refused
+";
+
+/// The same of an Interest for `/A`.
+const INTEREST_ANSWERS: &str = "050b07030801410a0401020304
+062f070308014115017816031b01001720e4f0b5aed03446e702356a360c7194c208b8b6a28ff30de430f1baa08ba29266 done
+062f070308014115017816031b01001720e5f0b5aed03446e702356a360c7194c208b8b6a28ff30de430f1baa08ba29266 done
+6418fd032005fd03210196500d050b07030801410a0401020304 nack
+0632070608014108014215017816031b01001720ad4bdd84fe28f6c7243eef0f1dbfdb7acd041e625c59fbbdf6c87b1bb228e5a5 ignored
+6418fd032005fd03210196500d050b07030801410a0401020305 ignored
+";
+
+/// The same of one with CanBePrefix.
+const PREFIX_ANSWERS: &str = "050d070308014121000a0401020304
+0632070608014108014215017816031b01001720ad4bdd84fe28f6c7243eef0f1dbfdb7acd041e625c59fbbdf6c87b1bb228e5a5 done
+";
+
+/// A Data has no answer.
+const NO_ANSWERS: &str =
+    "062f070308014115017816031b01001720e4f0b5aed03446e702356a360c7194c208b8b6a28ff30de430f1baa08ba29266
+062f070308014115017816031b01001720e4f0b5aed03446e702356a360c7194c208b8b6a28ff30de430f1baa08ba29266 ignored
+";
+
+/// What a datagram comes to as the answer to a request, in a word.
+fn word_of(outcome: Option<Outcome>) -> &'static str {
+    match outcome {
+        None => "ignored",
+        Some(Ok(())) => "done",
+        Some(Err(Failure::Refused)) => "refused",
+        Some(Err(Failure::NoStatus)) => "no-status",
+        Some(Err(Failure::Nack)) => "nack",
+        Some(Err(Failure::Silent(_))) => "silent",
+    }
+}
+
+/// Whether a datagram comes to this as the answer to a request, with the key `/ops/KEY/1`.
+fn comes_to(alloc: Global, request: &[u8], datagram: &[u8], wanted: &str) -> Option<bool> {
+    let book = KeyBook::read(alloc, OPS).ok()?;
+    let outcome = judge(alloc, request, datagram, &book).ok()?;
+    Some(word_of(outcome) == wanted)
+}
+
+/// The same of packets in hexadecimal, `-` for no octets.
+fn row_comes_to(alloc: Global, request: &str, row: &str) -> Option<bool> {
+    let (digits, wanted) = row.split_once(' ')?;
+    let digits = if digits == "-" { "" } else { digits };
+    let request = packet_in(alloc, request.as_bytes()).ok()?;
+    let datagram = packet_in(alloc, digits.as_bytes()).ok()?;
+    comes_to(alloc, &request, &datagram, wanted)
+}
+
+/// Checks rows of datagrams and words, after the line of the request.
+fn check_answers(rt: &(impl Abort + AllocGlobal), rows: &str) {
+    let (request, rows) = rows.split_once('\n').unwrap_or(("", ""));
+    assert!(rt; rows.contains(' '), "there are no rows");
+    for row in rows.lines() {
+        assert!(rt;
+            row_comes_to(rt.alloc(), request, row) == Some(true),
+            "{row}"
+        );
+    }
+}
+
+/// Which datagrams answer a request, and what they come to.
+#[test]
+fn answers(rt: HostRuntime) {
+    check_answers(&rt, ROUTE_ANSWERS);
+    check_answers(&rt, INSERT_ANSWERS);
+    check_answers(&rt, CHECK_ANSWERS);
+    check_answers(&rt, INTEREST_ANSWERS);
+    check_answers(&rt, PREFIX_ANSWERS);
+    check_answers(&rt, NO_ANSWERS);
+}
+
+/// A reply to the command with this status, and a text of 9,000 spaces.
+fn long_reply(alloc: Global, request: &[u8], status: u8) -> Option<Vec<u8>> {
+    let Ok(Frame::Interest(asked)) = read_frame(request) else {
+        return None;
+    };
+    let mut content = Vec::new(alloc);
+    content
+        .extend_from_slice(&[101, 253, 35, 47, 102, 1, status, 103, 253, 35, 40])
+        .ok()?;
+    content.resize(9011, b' ').ok()?;
+    let mut reply = Vec::new(alloc);
+    put_reply(&mut reply, asked.name, &content).ok()?;
+    Some(reply)
+}
+
+/// Whether such a reply comes to this, with the last octet of its signature changed by `change`.
+fn long_comes_to(alloc: Global, status: u8, change: u8, wanted: &str) -> Option<bool> {
+    let (request, _) = ROUTE_ANSWERS.split_once('\n')?;
+    let request = packet_in(alloc, request.as_bytes()).ok()?;
+    let mut reply = long_reply(alloc, &request, status)?;
+    if let Some(last) = reply.last_mut() {
+        *last ^= change;
+    }
+    comes_to(alloc, &request, &reply, wanted)
+}
+
+/// Whether the lines of such a reply begin and end so.
+fn long_says(alloc: Global, first: &str, last: &str) -> Option<bool> {
+    let (request, _) = ROUTE_ANSWERS.split_once('\n')?;
+    let request = packet_in(alloc, request.as_bytes()).ok()?;
+    let reply = long_reply(alloc, &request, 200)?;
+    let mut text = Vec::new(alloc);
+    put_said(alloc, &mut text, &request, &reply).ok()?;
+    Some(text.starts_with(first.as_bytes()) && text.ends_with(last.as_bytes()))
+}
+
+/// A reply that is longer than a packet may be.
+#[test]
+fn long_replies(rt: HostRuntime) {
+    assert!(rt; long_comes_to(rt.alloc(), 200, 0, "done") == Some(true));
+    assert!(rt; long_comes_to(rt.alloc(), 147, 0, "refused") == Some(true));
+    assert!(rt; long_comes_to(rt.alloc(), 200, 1, "ignored") == Some(true));
+    assert!(rt; long_says(rt.alloc(), "data /localhost/nfd/fib/add-nexthop/", " \n") == Some(true));
+}
+
+/// Whether a client that sent the request prints the second datagram of a node, and leaves out the
+/// first.
+fn hears(rt: &HostRuntime, request: &[u8], first: &[u8], second: &[u8]) -> Option<bool> {
+    let book = KeyBook::new(rt.alloc());
+    let node = UdpSocket::bind(rt, (Ipv4Addr::LOCALHOST, 0)).ok()?;
+    let port = node.local_addr().ok()?.port();
+    let client = sent_between(rt, None, port, request).ok()?;
+    let (_, address) = node.recv_from(&mut [0; 512]).ok()?;
+    node.send_to(first, address).ok()?;
+    node.send_to(second, address).ok()?;
+    let heard = outcome_on(rt, &client, request, &book).ok()?;
+    Some(heard == Ok(Err(Failure::Refused)))
+}
+
+/// The same of a reply of more than 9,000 octets.
+fn hears_long(rt: &HostRuntime) -> Option<bool> {
+    let (request, _) = ROUTE_ANSWERS.split_once('\n')?;
+    let request = packet_in(rt.alloc(), request.as_bytes()).ok()?;
+    let reply = long_reply(rt.alloc(), &request, 147)?;
+    hears(rt, &request, b"forged", &reply)
+}
+
+/// A client waits for its answer, whatever else comes.
+#[test]
+fn forged_answers(rt: HostRuntime) {
+    assert!(rt; hears_long(&rt) == Some(true));
+}
+
+/// Why no answer comes to a request in the first line of rows.
+fn silence(alloc: Global, rows: &str, from: Option<u16>) -> Option<Silence> {
+    let (request, _) = rows.split_once('\n')?;
+    let request = packet_in(alloc, request.as_bytes()).ok()?;
+    Some(silence_of(&request, from, false))
+}
+
+/// A command under `/localhost` needs the port of a Local peer.
+#[test]
+fn silences(rt: HostRuntime) {
+    assert!(rt; silence(rt.alloc(), ROUTE_ANSWERS, None) == Some(Silence::Far));
+    assert!(rt; silence(rt.alloc(), ROUTE_ANSWERS, Some(6401)) == Some(Silence::Late));
+    assert!(rt; silence(rt.alloc(), INSERT_ANSWERS, None) == Some(Silence::Late));
 }
