@@ -1,11 +1,13 @@
-ghost use Rattle.std.specs.Prelude.{◌≡◌, [], ◌∷◌, drop, length};
+ghost use Rattle.std.specs.Prelude.{◌≡◌, List, drop, length};
+ghost use Rattle.ndn_tlv.specs.Element.{Field};
+ghost use Rattle.ndn_names.specs.Name.{IsNameValue};
 ghost use Rattle.ndn_names.specs.View.{components, field_of};
 ghost use Rattle.ndn_packets.specs.Answers.{begins_with};
 ghost use Rattle.ndn_packets.specs.View.{plain_interest};
 ghost use Rattle.forwarder.specs.Policy.{Policy};
-ghost use Rattle.forwarder.specs.Request.{generic, has_no_hops as has_no_hops_of, is_local_name as is_local, list_after, list_asked, list_name, list_of_kind, management, named_request, numbered, request_named, shortest_number, versioned as versioned_as};
+ghost use Rattle.forwarder.specs.Request.{has_no_hops as has_no_hops_of, is_local_name as is_local, list_after, list_asked, list_name, list_of_kind, management, named_request, numbered, request_named, shortest_number, versioned as versioned_as};
 
-use ndn_names::component_type::{GENERIC, SEGMENT, VERSION};
+use ndn_names::component_type::{SEGMENT, VERSION};
 use ndn_names::{Component, Name};
 use ndn_packets::Interest;
 use ndn_tlv::{nni_len, nni_of};
@@ -40,32 +42,31 @@ pub(crate) enum NamedRequest {
     ForData,
 }
 
-/// Whether the component at this place is a GenericNameComponent of these octets.
-fn has_word(name: Name<'_>, at: usize, word: &[u8]) -> bool
-    ensures { result ≡ begins_with (generic word.now ∷ []) (drop at (components name.entry)) }
+/// Whether the name begins with the components that these octets spell.
+fn begins(name: Name<'_>, octets: &[u8]) -> bool
+    ensures { (prefix : List Field) → IsNameValue octets.now prefix
+        → result ≡ begins_with prefix (components name.entry) }
 {
-    match name.component(at) {
-        Some(component) => component.kind == GENERIC && component.value == word,
-        None => false,
-    }
+    name.as_octets().starts_with(octets)
 }
 
 /// Whether the name stays on this machine: it begins with `/localhost`.
 pub(crate) fn is_local_name(name: Name<'_>) -> bool
     ensures { result ≡ is_local (components name.entry) }
 {
-    has_word(name, 0, b"localhost")
+    begins(name, b"\x08\x09localhost")
 }
 
 /// Whether the name is a command's or a list's: it begins with `/localhost/nfd`.
 pub(crate) fn is_management(name: Name<'_>) -> bool
     ensures { result ≡ begins_with management (components name.entry) }
 {
-    has_word(name, 0, b"localhost") && has_word(name, 1, b"nfd")
+    begins(name, b"\x08\x09localhost\x08\x03nfd")
 }
 
 impl ListKind {
     ghost use Rattle.std.specs.Prelude.{◌≡◌, ◌++◌, ◌∷◌, [], codes};
+    ghost use Rattle.ndn_names.specs.Name.{IsNameValue};
     ghost use Rattle.forwarder.specs.Request.{generic, list_name, management};
 
     /// The third component of the list's name.
@@ -78,19 +79,27 @@ impl ListKind {
             ListKind::StrategyList => b"strategy-choice".as_slice(),
         }
     }
+
+    /// The octets of the list's name.
+    fn octets(self) -> &'static [u8]
+        ensures { IsNameValue result.now (list_name self) }
+    {
+        match self {
+            ListKind::RouteList => {
+                b"\x08\x09localhost\x08\x03nfd\x08\x03fib\x08\x04list".as_slice()
+            }
+            ListKind::StrategyList => {
+                b"\x08\x09localhost\x08\x03nfd\x08\x0fstrategy-choice\x08\x04list".as_slice()
+            }
+        }
+    }
 }
 
 /// Whether the name begins with that of a list.
 fn is_list_name(kind: ListKind, name: Name<'_>) -> bool
     ensures { result ≡ begins_with (list_name kind) (components name.entry) }
 {
-    if !is_management(name) {
-        return false;
-    }
-    if !has_word(name, 2, kind.module()) {
-        return false;
-    }
-    has_word(name, 3, b"list")
+    begins(name, kind.octets())
 }
 
 /// A number in its shortest form.
