@@ -8,7 +8,9 @@ use Rattle.node_core.specs.declared.ports.TheConstants.{FRAME_ROOM}
 use Rattle.node_core.specs.declared.ports.serving.Turn.{Turn}
 use Rattle.node_core.specs.declared.ports.serving.Turn.TheVariants.{Done, Refused, End}
 use Rattle.node_core.specs.Outcomes.{Outcome, NoMemory, AreOutcomes}
-use Rattle.node_core.specs.Ports.Serving.{Shown, HasEnded, EndsNext, Handles, IsTurn, refused_count}
+use Rattle.node_core.specs.Ports.Serving.{Shown, HasEnded, EndsNext, Handles, IsTurn, StopsServing, refused_count}
+use Rattle.node_core.specs.declared.ports.serving.ServeFault.{ServeFault}
+use Rattle.node_core.specs.declared.ports.serving.ServeFault.TheVariants.{Next}
 use Rattle.node_core.specs.Script.Writing.{outcome_text, script_text}
 use Rattle.node_core.proofs.Playing.{outcomes_text-append, rules_kept}
 use Rattle.node_core.proofs.Serving.{Gives-none_left, Gives-none_same, Serves-start, Serves-more}
@@ -74,6 +76,10 @@ Tells-ended old mid new before between after number text sends turn is h k =
       subst (λ (n : NodeState). Tells old n before after number text) (sym e.1) (subst (λ (x : Shown). Tells old mid before x number text) (sym shown) h),
       Gives-none_left between.coming after.coming FRAME_ROOM e.0.coming,
     )
+
+-- a fault comes before the last turn
+pub no_turns : (old new : NodeState) (before after : Shown) (turns : ℕ) (stop : ServeFault) → StopsServing old new before after turns stop → turns ≡ 0 → ⊥
+no_turns old new before after turns (Next events) h none = let less = h.5 in absurd (omega (arith, less, none))
 
 -- what is done has no fault
 pub no_fault : (r : Result (Unit {0}) Fault) (P : Fault → Type 0) → IsOk r → IfErr r P

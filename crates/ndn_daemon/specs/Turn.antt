@@ -5,11 +5,12 @@ use Rattle.std.specs.List.{flat_map}
 use Rattle.info_rules.specs.Rule.{PlainRule}
 use Rattle.node_core.specs.declared.ports.serving.Turn.{Turn}
 use Rattle.node_core.specs.declared.ports.serving.Turn.TheVariants.{Done, Refused, End}
+use Rattle.node_core.specs.declared.ports.serving.ServeFault.{ServeFault}
 use Rattle.forwarder.specs.declared.node.NodeFault.TheVariants.{Memory as NodeMemory}
 use Rattle.node_core.specs.declared.script.RunFault.TheVariants.{Memory, Node, Write}
 use Rattle.node_core.specs.Event.{Send}
 use Rattle.node_core.specs.Node.{NodeState}
-use Rattle.node_core.specs.Ports.Serving.{Shown, Serves, FailsNext, EndsAfter}
+use Rattle.node_core.specs.Ports.Serving.{Shown, Serves, FailsNext, EndsAfter, StopsServing}
 use Rattle.node_core.specs.Script.Ending.{AppendsFront}
 use Rattle.node_core.specs.Script.Writing.{said_line, script_text, send_text, verdict_text}
 use Rattle.node_core.specs.Verdict.{verdict_of}
@@ -53,6 +54,17 @@ StopsTurns old new before after turns held holds (Script Memory) =
     (events : ℕ) × (text : List ℕ) × Tells old new before after events text × (events ≤ turns)
     × AppendsFront held holds text
 StopsTurns old new before after turns held holds why = ⊥
+
+-- the same turns with nothing printed
+abbrev pub TakesQuietTurns : NodeState → NodeState → Shown → Shown → ℕ → Type 0
+TakesQuietTurns old new before after turns =
+    (events refused failed : ℕ) × (ended : Bool) × Serves old new before after events refused failed
+    × EndsAfter turns ended events after.coming
+
+-- the call for the next arrival failed, after so many events
+abbrev pub StopsQuietTurns : NodeState → NodeState → Shown → Shown → ℕ → Fault → Type 0
+StopsQuietTurns old new before after turns why =
+    (why ≡ Unreceived) × ((stop : ServeFault) × StopsServing old new before after turns stop)
 
 -- why turns end before their number: nothing can be received, an answer cannot be written, or memory
 -- to print it was refused

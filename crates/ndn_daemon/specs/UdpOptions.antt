@@ -1,7 +1,7 @@
 -- The values that the options of a node on a port spell.
-use Rattle.std.specs.Prelude.{◌≡◌, ◌≢◌, ℕ, ◌<◌, ◌≤◌, ◌^◌, List, [], Option, None, Some, All, AllPairs, codes, length, map, ⊤}
+use Rattle.std.specs.Prelude.{◌≡◌, ◌≢◌, ℕ, ◌<◌, ◌≤◌, ◌^◌, List, [], Option, None, Some, Bool, true, false, All, AllPairs, codes, length, map, ⊤}
 use Rattle.std.specs.Str.Parse.{IsNumeral, digits_value}
-use Rattle.clap.specs.Walk.{Row, all_of}
+use Rattle.clap.specs.Walk.{Row, all_of, one_of}
 use Rattle.pit_fib.specs.declared.faces.TheConstants.{MAX_FACES}
 use Rattle.ndn_daemon.specs.declared.fault.Fault.{Fault}
 use Rattle.ndn_daemon.specs.declared.fault.Fault.TheVariants.{BadValue}
@@ -15,6 +15,17 @@ values_or_none (Some values) = values
 
 abbrev pub values_at : List Row → List ℕ → List (List ℕ)
 values_at rows id = values_or_none (all_of id rows)
+
+-- what was found for a flag
+abbrev pub flag_at : List Row → List ℕ → Option (List ℕ)
+flag_at rows id = one_of id rows
+
+-- the parser says "true" of a flag that is there, and "false" of one that is not
+abbrev pub IsFlag : Option (List ℕ) → Bool → Type 0
+IsFlag said b =
+    (said ≡ Some (codes "true") → b ≡ true)
+    × (said ≡ Some (codes "false") → b ≡ false)
+    × (said ≡ None → b ≡ false)
 
 -- decimal digits of a number below 2^64; leading zeros are allowed
 abbrev pub IsNumber : List ℕ → ℕ → Type 0
@@ -47,6 +58,7 @@ pub record IsUdpOptions (rows : List Row) (options : UdpOptions) : Type 0 where
   pub peers : ArePorts (values_at rows (codes "PEERS")) options.peers.items
   pub local : IsLocal (given_or (codes "0") (value_at rows (codes "local")))
       (length options.peers.items) options.local
+  pub quiet : IsFlag (flag_at rows (codes "quiet")) options.quiet
 
 -- the fault of a text
 abbrev pub IsBadValue : Fault → Type 0

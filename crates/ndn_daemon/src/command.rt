@@ -8,7 +8,7 @@ use crate::fault::Fault;
 use crate::options::Options;
 use crate::udp_options::UdpOptions;
 use clap::error::ErrorKind;
-use clap::{Arg, ArgMatches, Command, Error};
+use clap::{Arg, ArgAction, ArgMatches, Command, Error};
 use node_core::RunFault;
 use std::alloc::{AllocError, Global};
 use std::convert::AsStr;
@@ -84,7 +84,8 @@ A key file has on each line the URI of a key's name, one space, and the key in h
 space would belong to the name.
 
 The answer to turn N is printed as `script` prints that to event N: a line `N VERDICT`, and a line
-`> FACE HEX` for each packet that goes out. Moments are those of the machine's clock.
+`> FACE HEX` for each packet that goes out. Moments are those of the machine's clock. With
+--quiet nothing is printed.
 
 Example: a node that takes two turns. In the first it opens a face for the port that an Interest for
 /A comes from; in the second the answer is a Nack.
@@ -195,6 +196,11 @@ fn udp_command<'a>(alloc: Global) -> Result<Command<'a>, AllocError> {
             "local",
             "K",
             "How many of the first peers are Local; 0 if absent",
+        ))?
+        .arg(flag(
+            alloc,
+            "quiet",
+            "Prints no answers; faults still go to standard error",
         ))?;
     with_node(alloc, command)?.arg(peers(alloc))
 }
@@ -238,4 +244,12 @@ fn required_option<'a>(alloc: Global, id: &'a str, value: &'a str, help: &'a str
 /// An option with a value.
 fn option<'a>(alloc: Global, id: &'a str, value: &'a str, help: &'a str) -> Arg<'a> {
     Arg::new(alloc, id).long(id).value_name(value).help(help)
+}
+
+/// An option without a value.
+fn flag<'a>(alloc: Global, id: &'a str, help: &'a str) -> Arg<'a> {
+    Arg::new(alloc, id)
+        .long(id)
+        .action(ArgAction::SetTrue)
+        .help(help)
 }

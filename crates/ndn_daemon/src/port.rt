@@ -1,16 +1,16 @@
 //! A node on a UDP port of this machine.
-ghost use Rattle.std.specs.Prelude.{◌≡◌, ◌↔◌, ◌≤◌, ◌+◌, ◌++◌, Err, None, length, vec_len, IsOk, IsTrue, IfErr, MatchOption, OnErr, OnOk};
+ghost use Rattle.std.specs.Prelude.{◌≡◌, ◌↔◌, ◌≤◌, ◌+◌, ◌++◌, Err, None, length, true, vec_len, IsOk, IsTrue, IfErr, MatchOption, OnErr, OnOk};
 ghost use Rattle.std.specs.Vec.{vec_capacity};
 ghost use Rattle.forwarder.specs.Parts.{parts_fault};
 ghost use Rattle.node_core.specs.Ports.Serving.{shown};
-ghost use Rattle.ndn_daemon.specs.Turn.{EndsTurns, HasNoTurns, StopsAt, StopsTurns, TakesTurns, turn_text};
+ghost use Rattle.ndn_daemon.specs.Turn.{EndsTurns, HasNoTurns, StopsAt, StopsQuietTurns, StopsTurns, TakesQuietTurns, TakesTurns, turn_text};
 
 use crate::fault::Fault;
 use crate::udp_options::UdpOptions;
 use info_rules::Rules;
 use node_core::{
-    MAX_FACES, Moments, Node, NodeParts, Outbox, Ports, RunFault, Turn, UdpPorts, put_all,
-    put_refused, put_sends, put_verdict, serve_turn,
+    FRAME_ROOM, MAX_FACES, Moments, Node, NodeParts, Outbox, Ports, RunFault, Turn, UdpPorts,
+    put_all, put_refused, put_sends, put_verdict, serve, serve_turn_in,
 };
 use std::alloc::Global;
 use std::io;
@@ -44,8 +44,8 @@ fn milliseconds<R: Clock>(rt: &R) -> Option<u64> {
     u64::try_from(duration.as_millis()).ok()
 }
 
-/// Runs a node on its port for its turns, and writes each answer to standard output as it comes. Parts
-/// that are wrong are reported before the port is bound.
+/// Runs a node on its port for its turns, and writes each answer to standard output as it comes, or
+/// none where it is quiet. Parts that are wrong are reported before the port is bound.
 pub fn run_on_port<R: AllocGlobal + Clock + Net + Print>(
     rt: &R,
     parts: NodeParts,
@@ -69,13 +69,54 @@ pub fn run_on_port<R: AllocGlobal + Clock + Net + Print>(
     let Ok(mut ports) = bound else {
         return Err(Fault::Unbound { port });
     };
-    take_turns(
+    take_as_asked(
         rt.alloc(),
         &mut node,
         &mut ports,
         &mut io::writer(rt),
-        options.turns,
+        options,
     )
+}
+
+/// Lets a node take the turns that the options ask for. A quiet node writes nothing.
+fn take_as_asked<P: Ports, W: Write>(
+    alloc: Global,
+    node: &mut Node,
+    ports: &mut P,
+    writer: &mut W,
+    options: &UdpOptions,
+) -> Result<(), Fault>
+    ensures fault { IfErr result EndsTurns }
+    ensures none { options.now.turns ≡ 0 → IsOk result }
+    ensures quiet { options.now.quiet ≡ true → W.contents writer.new ≡ W.contents writer.old }
+{
+    if options.quiet {
+        take_quiet_turns(alloc, node, ports, options.turns)
+    } else {
+        take_turns(alloc, node, ports, writer, options.turns)
+    }
+}
+
+/// Lets a node take so many turns at a port, or as many as something comes for, and prints nothing.
+fn take_quiet_turns<P: Ports>(
+    alloc: Global,
+    node: &mut Node,
+    ports: &mut P,
+    turns: u64,
+) -> Result<(), Fault>
+    ensures done { OnOk result (TakesQuietTurns node.old node.new
+        (shown (P.failures ports.old) (P.coming ports.old) (P.taken ports.old))
+        (shown (P.failures ports.new) (P.coming ports.new) (P.taken ports.new)) turns) }
+    ensures stopped { IfErr result (StopsQuietTurns node.old node.new
+        (shown (P.failures ports.old) (P.coming ports.old) (P.taken ports.old))
+        (shown (P.failures ports.new) (P.coming ports.new) (P.taken ports.new)) turns) }
+    ensures fault { IfErr result EndsTurns }
+    ensures none { turns ≡ 0 → IsOk result }
+{
+    match serve(alloc, node, ports, turns) {
+        Ok(_) => Ok(()),
+        Err(_) => Err(Fault::Unreceived),
+    }
 }
 
 /// Lets a node take so many turns at a port, or as many as something comes for, and writes what is
@@ -100,8 +141,9 @@ fn take_turns<P: Ports, W: Write>(
 {
     let mut outbox = Outbox::new(alloc);
     let mut text = Vec::new(alloc);
+    let mut buffer = [0; FRAME_ROOM];
     for number in 0..turns {
-        let Ok(turn) = serve_turn(node, ports, &mut outbox) else {
+        let Ok(turn) = serve_turn_in(node, ports, &mut buffer, &mut outbox) else {
             return Err(Fault::Unreceived);
         };
         if is_end(&turn) {

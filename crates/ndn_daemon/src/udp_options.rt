@@ -1,7 +1,7 @@
 //! The options of a node that listens on a port.
 ghost use Rattle.std.specs.Prelude.{◌≡◌, codes, map, option_map};
 ghost use Rattle.ndn_daemon.specs.Options.{Reads, ReadsInMemory, rows_in, value_at};
-ghost use Rattle.ndn_daemon.specs.UdpOptions.{ArePorts, Has, IsBadValue, IsLocal, IsNumber, IsPort, IsUdpOptions, values_at};
+ghost use Rattle.ndn_daemon.specs.UdpOptions.{ArePorts, Has, IsBadValue, IsFlag, IsLocal, IsNumber, IsPort, IsUdpOptions, flag_at, values_at};
 
 use crate::fault::Fault;
 use crate::options::{given_or, value};
@@ -20,6 +20,8 @@ pub struct UdpOptions {
     pub peers: Vec<u16>,
     /// How many of the first peers are Local, at most their number.
     pub local: u64,
+    /// Whether no answers are printed.
+    pub quiet: bool,
 }
 
 impl UdpOptions {
@@ -36,6 +38,7 @@ impl UdpOptions {
             turns,
             peers,
             local,
+            quiet: flag(found, "quiet"),
         })
     }
 }
@@ -56,6 +59,13 @@ fn required_number(found: &ArgMatches<'_>) -> Result<u64, Fault>
         Some(digits) => number_of("--turns", digits),
         None => Err(bad_number("--turns")),
     }
+}
+
+/// Whether a flag is there.
+fn flag(found: &ArgMatches<'_>, id: &str) -> bool
+    ensures { IsFlag (flag_at (rows_in found.now) id.now) result }
+{
+    found.get_flag(id)
 }
 
 fn given_peers(alloc: Global, found: &ArgMatches<'_>) -> Result<Vec<u16>, Fault>

@@ -53,7 +53,8 @@ fn script<R: AllocGlobal + Files + Input + Print>(rt: &R, options: Options) -> R
     run_script(rt.alloc(), &mut rt.reader(), &mut io::writer(rt), parts).map_err(Fault::Script)
 }
 
-/// Runs the node on its port, and writes each answer to standard output as it comes.
+/// Runs the node on its port, and writes each answer to standard output as it comes, unless it is
+/// quiet.
 fn udp<R: AllocGlobal + Clock + Files + Net + Print>(
     rt: &R,
     node: Options,

@@ -68,6 +68,7 @@ const UDP_HELP: &str = "
 ndn_node --help => udp     Runs the node on a UDP port
 ndn_node udp --help => Usage: ndn_node udp [OPTIONS] --listen <PORT> --turns <N> [PEERS]...
 ndn_node udp --help => --local <K>
+ndn_node udp --help => --quiet
 ndn_node udp --help => --cache <N>
 ";
 
@@ -147,6 +148,11 @@ fn udp_options_of(alloc: Global, command: &str) -> Option<String> {
     Some(text)
 }
 
+/// Whether the options of a node on a port say that it prints no answers.
+fn is_quiet(alloc: Global, command: &str) -> bool {
+    matches!(asked(alloc, command), Ok(Request::Udp(_, udp)) if udp.quiet)
+}
+
 #[test]
 fn udp_options(rt: HostRuntime) {
     let alloc = rt.alloc();
@@ -157,6 +163,8 @@ fn udp_options(rt: HostRuntime) {
         "ndn_node udp 7 --cache 5 --turns 18446744073709551615 8 --listen 065535 --local 2 9",
     );
     assert!(rt; given.as_deref() == Some("5 65535 18446744073709551615 2 7 8 9"));
+    assert!(rt; is_quiet(alloc, "ndn_node udp --listen 1 --quiet --turns 1 7"));
+    assert!(rt; !is_quiet(alloc, "ndn_node udp --listen 1 --turns 1 7"));
 }
 
 #[test]
