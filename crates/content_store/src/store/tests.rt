@@ -3,7 +3,7 @@
 use super::*;
 use ndn_packets::{Frame, read_frame};
 
-/// Data of the names `/A` and `/B`, with an empty Content and a digest of no octets as signature.
+/// Data of the names `/A` and `/B`, with the Content `x` and an empty SignatureValue.
 const A: [u8; 17] = [
     6, 15, 7, 3, 8, 1, 0x41, 0x15, 1, 0x78, 0x16, 3, 0x1b, 1, 0, 0x17, 0,
 ];
