@@ -11,6 +11,10 @@ import threading
 # up later: on four processors a figure may be 4 x 32 pages of 4 KiB off, so 512 KiB.
 COUNTING_KIB = 512
 
+# The C library keeps much of what a program frees. By these words it gives it back at once, so that
+# the resident memory is what the program holds.
+GIVES_BACK = {"MALLOC_TRIM_THRESHOLD_": "0", "MALLOC_TOP_PAD_": "0"}
+
 
 class Wrong(Exception):
     """Something did not hold."""
@@ -104,6 +108,7 @@ class ScriptNode:
         self.process = subprocess.Popen(
             [*words_of(command), *options],
             stdin=subprocess.PIPE, stdout=subprocess.PIPE, stderr=subprocess.PIPE, bufsize=1 << 16,
+            env={**os.environ, **GIVES_BACK},
         )
         self.reader = Reader(self.process.stdout)
         self.put_so_far = 0
