@@ -8,7 +8,7 @@ use Rattle.ndn_tlv.specs.Fields.{first_of, single}
 use Rattle.ndn_tlv.specs.Writing.{octets}
 use Rattle.ndn_names.specs.declared.component_type.TheConstants.{GENERIC}
 use Rattle.hmac_keys.specs.KeyFile.{NamedKey}
-use Rattle.ndn_packets.specs.declared.command_types.TheConstants.{CONTROL_RESPONSE, STATUS_CODE, REPO_COMMAND_RESPONSE, REPO_STATUS_CODE}
+use Rattle.ndn_packets.specs.declared.command_types.TheConstants.{CONTROL_RESPONSE, STATUS_CODE, REPO_COMMAND_PARAMETER, REPO_COMMAND_RESPONSE, REPO_STATUS_CODE}
 use Rattle.ndn_packets.specs.declared.fault.PacketFault.{PacketFault}
 use Rattle.ndn_packets.specs.Packet.{PlainInterest, PlainData, PlainFrame, AnInterest, AData, ANack, Idle}
 use Rattle.ndn_packets.specs.Answers.{answers}
@@ -45,20 +45,33 @@ is_word word (Some c) = c.0 == GENERIC && bytes_eq c.1 word
 abbrev pub is_insert : List Field → Bool
 is_insert name = is_word (codes "insert") (slice_get name (length name - 3))
 
+abbrev pub has_repository_fields : Option Field → Bool
+has_repository_fields None = false
+has_repository_fields (Some c) = is_some (single REPO_COMMAND_PARAMETER (elements_of c.1))
+
+-- a command is a repository's by the type of its parameters, which stand before their digest
+abbrev pub is_of_repository : List Field → Bool
+is_of_repository name = has_repository_fields (slice_get name (length name - 2))
+
 abbrev pub done_if : Bool → Outcome
 done_if is_done = if is_done then Ok tt else Err Refused
 
--- of a command of this name: 200 is done, and 100 of an insert, as the Data is waited for then
-abbrev pub code_outcome : List Field → Option ℕ → Option ℕ → Outcome
-code_outcome name (Some node) repository = done_if (node == 200)
-code_outcome name None (Some repository) =
-    done_if (repository == 200 || (repository == 100 && is_insert name))
-code_outcome name None None = Err NoStatus
+-- of a command on routes, strategies or the cache
+abbrev pub node_outcome : Option ℕ → Outcome
+node_outcome None = Err NoStatus
+node_outcome (Some code) = done_if (code == 200)
 
+-- of a repository's command: 100 of an insert is done too, as the Data is waited for then
+abbrev pub repository_outcome : List Field → Option ℕ → Outcome
+repository_outcome name None = Err NoStatus
+repository_outcome name (Some code) = done_if (code == 200 || (code == 100 && is_insert name))
+
+-- the reply has the type that replies to such commands have
 abbrev pub content_outcome : List Field → List ℕ → Outcome
 content_outcome name content =
-    code_outcome name (code_in CONTROL_RESPONSE STATUS_CODE content)
-    (code_in REPO_COMMAND_RESPONSE REPO_STATUS_CODE content)
+    if is_of_repository name
+    then repository_outcome name (code_in REPO_COMMAND_RESPONSE REPO_STATUS_CODE content)
+    else node_outcome (code_in CONTROL_RESPONSE STATUS_CODE content)
 
 abbrev pub reply_outcome : List Field → Option (List ℕ) → Outcome
 reply_outcome name None = Err NoStatus
@@ -73,17 +86,21 @@ abbrev pub is_right : Option TagCheck → Bool
 is_right (Some Right) = true
 is_right check = false
 
+abbrev pub is_same_name : List Field → List Field → Bool
+is_same_name a b = bytes_eq (octets a) (octets b)
+
 -- A Data that answers the Interest is taken, and that is all that a plain Interest asks for. For a
--- command its signature has to be right too.
+-- command it has to have the command's name and a right signature too.
 abbrev pub data_outcome : PlainInterest → PlainData → Option TagCheck → Option Outcome
 data_outcome asked d check =
     if is_command asked.name
-    then (if is_right check then Some (reply_outcome asked.name d.content) else None)
+    then (if is_same_name asked.name d.name && is_right check
+    then Some (reply_outcome asked.name d.content) else None)
     else Some (Ok tt)
 
 -- a Nack of it has its name and its Nonce
 abbrev pub is_same : PlainInterest → PlainInterest → Bool
-is_same asked i = bytes_eq (octets asked.name) (octets i.name) && bytes_eq asked.nonce i.nonce
+is_same asked i = is_same_name asked.name i.name && bytes_eq asked.nonce i.nonce
 
 abbrev pub frame_outcome : PlainInterest → PlainFrame → Option TagCheck → Option Outcome
 frame_outcome asked (AData whole d) check =
@@ -94,7 +111,7 @@ frame_outcome asked (ANack reason whole i) check =
 frame_outcome asked (AnInterest whole i) check = None
 frame_outcome asked Idle check = None
 
--- a reply that is longer than packets are has its name and is right, as it is what a node writes
+-- a reply of more than 8,800 octets is taken where it is what a node writes, octet for octet
 abbrev pub written_outcome : List Field → Option (List ℕ) → Option Outcome
 written_outcome name None = None
 written_outcome name (Some content) =

@@ -192,7 +192,7 @@ pub fn keys_given<'a>(job: &ExplainJob, book: &'a KeyBook) -> Option<&'a KeyBook
 }
 
 /// The octets of a packet in words. With keys its signature is checked.
-pub fn explained_text(
+fn explained_text(
     alloc: Global,
     octets: &[u8],
     keys: Option<&KeyBook>,

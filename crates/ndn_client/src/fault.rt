@@ -49,7 +49,7 @@ pub enum Silence {
 /// Why a request that was sent was not done.
 #[derive(Clone, Copy, Debug, PartialEq, Eq)]
 pub enum Failure {
-    /// The reply has another status.
+    /// The reply's status says that the command was not done.
     Refused,
     /// The answer to a command has no status.
     NoStatus,

@@ -19,7 +19,7 @@ mod short_form;
 mod subcommand;
 mod value;
 
-pub use answer::{command_packet, explained_text, hex_line, keys_given, put_answer};
+pub use answer::{command_packet, hex_line, keys_given, put_answer};
 pub use command::parse_words;
 pub use fault::{Failure, Fault, Silence, ToolFault, Usage};
 pub use input::{packet_in, put_input};

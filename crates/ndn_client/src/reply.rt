@@ -5,7 +5,7 @@ ghost use Rattle.ndn_names.specs.View.{components, field_of};
 ghost use Rattle.ndn_packets.specs.View.{plain_frame, plain_interest, plain_data};
 ghost use Rattle.ndn_packets.specs.FrameReading.{frame_at};
 ghost use Rattle.ndn_explain.specs.Reply.{written_content};
-ghost use Rattle.ndn_client.specs.Reply.{Outcome, code_in, is_insert, is_word, said_lines, long_lines, written_lines, silence_of, is_local, done_if, content_outcome, reply_outcome, is_command, is_right, data_outcome, is_same, frame_outcome, written_outcome, IsFrameJudged, IsDatagramJudged, IsJudged};
+ghost use Rattle.ndn_client.specs.Reply.{Outcome, code_in, is_insert, is_word, said_lines, long_lines, written_lines, silence_of, is_local, done_if, node_outcome, repository_outcome, is_of_repository, content_outcome, reply_outcome, is_command, is_right, data_outcome, is_same, is_same_name, frame_outcome, written_outcome, IsFrameJudged, IsDatagramJudged, IsJudged};
 
 use crate::fault::{Failure, Silence};
 use hmac_keys::KeyBook;
@@ -15,7 +15,7 @@ use ndn_explain::{
 use ndn_names::component_type::GENERIC;
 use ndn_names::{Component, Name};
 use ndn_packets::command_types::{
-    CONTROL_RESPONSE, REPO_COMMAND_RESPONSE, REPO_STATUS_CODE, STATUS_CODE,
+    CONTROL_RESPONSE, REPO_COMMAND_PARAMETER, REPO_COMMAND_RESPONSE, REPO_STATUS_CODE, STATUS_CODE,
 };
 use ndn_packets::{Data, Frame, Interest, read_frame};
 use ndn_tlv::{Memory, first_field, nni_of, single_element};
@@ -27,9 +27,9 @@ pub type Outcome = Result<(), Failure>;
 /// What a datagram comes to as the answer to a request; `None` where it is no answer to it.
 ///
 /// A Nack of the Interest is an answer. So is a Data that answers it, and then it is done; but for
-/// a command the Data has to have a right signature, by DigestSha256 or by a key of the book, or to
-/// be what a node writes as its reply, of any length. A command is done where the status is 200, or
-/// 100 of a repository's insert.
+/// a command the Data has to have the command's name and a right signature, by DigestSha256 or by a
+/// key of the book, or to be what a node writes as its reply, of any length. A command is done where
+/// the status is 200, or 100 of a repository's insert.
 pub fn judge(
     alloc: Global,
     request: &[u8],
@@ -101,10 +101,16 @@ fn data_outcome(asked: &Interest<'_>, packet: &Data<'_>, check: Option<TagCheck>
     if !is_command(asked.name) {
         return Some(Ok(()));
     }
-    if !is_right(check) {
-        return None;
+    if is_same_name(asked.name, packet.name) && is_right(check) {
+        return Some(reply_outcome(asked.name, packet.content));
     }
-    Some(reply_outcome(asked.name, packet.content))
+    None
+}
+
+fn is_same_name(a: Name<'_>, b: Name<'_>) -> bool
+    ensures { result ≡ is_same_name (components a.entry) (components b.entry) }
+{
+    a.as_octets() == b.as_octets()
 }
 
 fn is_right(check: Option<TagCheck>) -> bool
@@ -122,7 +128,7 @@ fn is_command(name: Name<'_>) -> bool
 fn is_same(asked: &Interest<'_>, other: &Interest<'_>) -> bool
     ensures { result ≡ is_same (plain_interest asked.now) (plain_interest other.now) }
 {
-    asked.name.as_octets() == other.name.as_octets() && asked.nonce == other.nonce
+    is_same_name(asked.name, other.name) && asked.nonce == other.nonce
 }
 
 fn reply_outcome(name: Name<'_>, content: Option<&[u8]>) -> Outcome
@@ -139,12 +145,43 @@ fn reply_outcome(name: Name<'_>, content: Option<&[u8]>) -> Outcome
 fn content_outcome(name: Name<'_>, content: &[u8]) -> Outcome
     ensures { result ≡ content_outcome (components name.entry) content.now }
 {
-    if let Some(code) = code_in(content, CONTROL_RESPONSE, STATUS_CODE) {
-        return done_if(code == 200);
+    if is_of_repository(name) {
+        repository_outcome(
+            name,
+            code_in(content, REPO_COMMAND_RESPONSE, REPO_STATUS_CODE),
+        )
+    } else {
+        node_outcome(code_in(content, CONTROL_RESPONSE, STATUS_CODE))
     }
-    match code_in(content, REPO_COMMAND_RESPONSE, REPO_STATUS_CODE) {
-        Some(code) => done_if(code == 200 || (code == 100 && is_insert(name))),
+}
+
+/// What a command on routes, strategies or the cache comes to by the status of its reply.
+fn node_outcome(code: Option<u64>) -> Outcome
+    ensures { result ≡ node_outcome code }
+{
+    match code {
         None => Err(Failure::NoStatus),
+        Some(code) => done_if(code == 200),
+    }
+}
+
+/// What a repository's command of this name comes to by the status of its reply.
+fn repository_outcome(name: Name<'_>, code: Option<u64>) -> Outcome
+    ensures { result ≡ repository_outcome (components name.entry) code }
+{
+    match code {
+        None => Err(Failure::NoStatus),
+        Some(code) => done_if(code == 200 || (code == 100 && is_insert(name))),
+    }
+}
+
+/// Whether a command of this name is a repository's, by the type of its parameters.
+fn is_of_repository(name: Name<'_>) -> bool
+    ensures { result ≡ is_of_repository (components name.entry) }
+{
+    match name.component(name.len().saturating_sub(2)) {
+        None => false,
+        Some(component) => single_element(component.value, REPO_COMMAND_PARAMETER).is_some(),
     }
 }
 

@@ -6,8 +6,8 @@ ghost use Rattle.std.specs.Prelude.{◌≤◌, length, IfOk};
 
 use hmac_keys::KeyBook;
 use ndn_client::{
-    Failure, Fault, Job, Outcome, SendJob, ToolFault, command_packet, hex_line, judge, keys_given,
-    packet_in, parse_words, put_answer, put_input, put_said, read_book, silence_of,
+    Failure, Fault, Job, Outcome, SendJob, Silence, ToolFault, command_packet, hex_line, judge,
+    keys_given, packet_in, parse_words, put_answer, put_input, put_said, read_book, silence_of,
 };
 use node_core::{ANSWER_SECONDS, send_from};
 use std::env::Env;
@@ -20,6 +20,17 @@ use std::{env, fs, io};
 
 /// The greatest length of what a UDP datagram carries over IPv4, in octets.
 const MAX_DATAGRAM: usize = 65_507;
+
+/// Why no datagram was received.
+#[derive(Clone, Copy)]
+enum Missed {
+    /// No program listens on the port.
+    Closed,
+    /// The time is over.
+    Late,
+    /// The clock cannot be read.
+    Clock,
+}
 
 fn main(rt: HostRuntime) -> ExitCode {
     let Err(fault) = run(&rt) else {
@@ -110,11 +121,11 @@ fn reply_to<R: Clock + AllocGlobal + Net>(
     let start = Instant::now(rt).map_err(|_| Fault::Clock)?;
     match receive(rt, &socket, start, &mut reply) {
         Ok(len) => Ok(hex_line(rt.alloc(), &reply[..len])?),
-        Err(is_closed) => Err(Fault::Silent(silence_of(packet, job.from, is_closed))),
+        Err(missed) => Err(Fault::Silent(silence_after(missed, packet, job.from)?)),
     }
 }
 
-/// Sends a request, waits for the answer to it, and prints what that says.
+/// Sends a request, and waits for the answer to it.
 fn ask<R: Clock + AllocGlobal + Eprint + Net + Print>(
     rt: &R,
     from: Option<u16>,
@@ -123,36 +134,43 @@ fn ask<R: Clock + AllocGlobal + Eprint + Net + Print>(
     book: &KeyBook,
 ) -> Result<(), Fault> {
     let socket = sent_between(rt, from, to, request)?;
-    match outcome_on(rt, &socket, request, book)? {
-        Ok(outcome) => outcome.map_err(Fault::NotDone),
-        Err(is_closed) => {
-            let silence = silence_of(request, from, is_closed);
-            Err(Fault::NotDone(Failure::Silent(silence)))
-        }
-    }
+    wait_for_answer(rt, &socket, from, request, book)
 }
 
-/// What the answer to a request comes to that was sent on this socket; if none comes in time,
-/// whether no program listens. Any other datagram is told on standard error.
-fn outcome_on<R: Clock + AllocGlobal + Eprint + Print>(
+/// Waits for the answer to a request that was sent on this socket, and prints what it says. Any other
+/// datagram is reported on standard error.
+fn wait_for_answer<R: Clock + AllocGlobal + Eprint + Print>(
     rt: &R,
     socket: &UdpSocket,
+    from: Option<u16>,
     request: &[u8],
     book: &KeyBook,
-) -> Result<Result<Outcome, bool>, Fault> {
+) -> Result<(), Fault> {
     let start = Instant::now(rt).map_err(|_| Fault::Clock)?;
     let mut buffer = vec![in rt.alloc(); 0; MAX_DATAGRAM]?;
     for _ in 0..u64::MAX {
         match receive(rt, socket, start, &mut buffer) {
             Ok(len) => {
                 if let Some(outcome) = told(rt, request, &buffer[..len], book)? {
-                    return Ok(Ok(outcome));
+                    return outcome.map_err(Fault::NotDone);
                 }
             }
-            Err(is_closed) => return Ok(Err(is_closed)),
+            Err(missed) => {
+                let silence = silence_after(missed, request, from)?;
+                return Err(Fault::NotDone(Failure::Silent(silence)));
+            }
         }
     }
-    Ok(Err(false))
+    Err(Fault::NotDone(Failure::Silent(Silence::Late)))
+}
+
+/// Why no answer came to a request from this port, or a new one.
+fn silence_after(missed: Missed, request: &[u8], from: Option<u16>) -> Result<Silence, Fault> {
+    match missed {
+        Missed::Clock => Err(Fault::Clock),
+        Missed::Closed => Ok(silence_of(request, from, true)),
+        Missed::Late => Ok(silence_of(request, from, false)),
+    }
 }
 
 /// Prints what the answer to a request says, and gives what it comes to; of another datagram a line
@@ -185,23 +203,25 @@ fn sent_between<R: Net>(
     send_from(rt, from.unwrap_or(0), to, packet).map_err(|_| Fault::Send)
 }
 
-/// Receives one datagram before `ANSWER_SECONDS` from the start are over, and answers its length; if
-/// none comes, whether no program listens.
+/// Receives one datagram before `ANSWER_SECONDS` from the start are over, and answers its length.
 fn receive<R: Clock>(
     rt: &R,
     socket: &UdpSocket,
     start: Instant,
     buffer: &mut [u8],
-) -> Result<usize, bool>
+) -> Result<usize, Missed>
     ensures { IfOk result (λ len. len ≤ length buffer.new) }
 {
-    let waited = start.elapsed(rt).map_err(|_| false)?;
+    let waited = start.elapsed(rt).map_err(|_| Missed::Clock)?;
     let left = Duration::from_secs(ANSWER_SECONDS).saturating_sub(waited);
     // A timeout of zero is refused, and the time is over.
-    socket.set_read_timeout(Some(left)).map_err(|_| false)?;
     socket
-        .recv(buffer)
-        .map_err(|error| error.kind() == io::ErrorKind::ConnectionRefused)
+        .set_read_timeout(Some(left))
+        .map_err(|_| Missed::Late)?;
+    socket.recv(buffer).map_err(|error| match error.kind() {
+        io::ErrorKind::ConnectionRefused => Missed::Closed,
+        _ => Missed::Late,
+    })
 }
 
 /// The text of standard input.
