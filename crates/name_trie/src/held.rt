@@ -1,5 +1,6 @@
-ghost use Rattle.std.specs.Prelude.{◌≡◌, ◌⊎◌, ◌<◌, ◌≤◌, None, Some, Ok, ℕ, List, IfOk, OnOk, IfSome, IsOk, IsSome};
+ghost use Rattle.std.specs.Prelude.{◌≡◌, ◌≢◌, ◌⊎◌, ◌<◌, ◌≤◌, None, Some, Ok, ℕ, List, IfOk, OnOk, OnErr, IfSome, IsOk, IsSome};
 ghost use Rattle.std.specs.Option.{option_map};
+ghost use Rattle.std.specs.Result.{IsOkAnd};
 ghost use Rattle.std.specs.FinSet as set;
 ghost use Rattle.slab.specs.Slab.{get};
 ghost use Rattle.ndn_tlv.specs.Element.{Field};
@@ -14,22 +15,52 @@ use slab::Slab;
 use std::alloc::Global;
 use timers::Timers;
 
-/// Ends what is held.
+/// Removes the nodes that only the held name needs, but not a node that is to be kept.
 pub fn release<V: Drop>(
     nodes: &mut Slab<Node<V>>,
     root: &mut Option<usize>,
     held: Option<(NameBuf, usize)>,
+    kept: Option<usize>,
 )
     requires { Sound (get nodes.old) root.old }
     ensures sound { Sound (get nodes.new) root.new }
     ensures same { SameLookups (get nodes.old) root.old (get nodes.new) root.new }
-    ensures tidy { IsTidy (get nodes.old) (option_map (λ p. p.1) held)
-        → IsTidy (get nodes.new) None }
+    ensures kept { (q : List Field) → IsSome kept → walk (get nodes.old) root.old q ≡ kept
+        → walk (get nodes.new) root.new q ≡ kept }
+    ensures tidy { (j : ℕ) → IsBare (get nodes.new) j → (kept ≡ Some j)
+        ⊎ ((option_map (λ p. p.1) held ≢ Some j) × IsBare (get nodes.old) j) }
     ensures values { (j : ℕ) → value_in (get nodes.new) j ≡ value_in (get nodes.old) j }
 {
     if let Some((_, k)) = held {
-        prune(nodes, root, k, None);
+        prune(nodes, root, k, kept);
     }
+}
+
+/// A name with its node, which is made where it is missing, and room for one more timer.
+pub fn hold<V: Drop>(
+    alloc: Global,
+    nodes: &mut Slab<Node<V>>,
+    root: &mut Option<usize>,
+    timers: &mut Timers,
+    name: Name<'_>,
+) -> Result<(NameBuf, usize), Memory>
+    requires { Sound (get nodes.old) root.old }
+    ensures sound { Sound (get nodes.new) root.new }
+    ensures same { SameLookups (get nodes.old) root.old (get nodes.new) root.new }
+    ensures own { IfOk result (λ p. p.0 ≡ components name.entry) }
+    ensures held { IfOk result
+        (λ p. walk (get nodes.new) root.new (components name.entry) ≡ Some p.1) }
+    ensures values { (j : ℕ) → value_in (get nodes.new) j ≡ value_in (get nodes.old) j }
+    ensures tidy { (j : ℕ) → IsBare (get nodes.new) j
+        → IsOkAnd result (λ p. p.1 ≡ j) ⊎ IsBare (get nodes.old) j }
+    ensures timers { timers.new.timers ≡ timers.old.timers }
+    ensures capacity { timers.old.capacity ≤ timers.new.capacity }
+    ensures room { IfOk result (λ _. set.len timers.new.timers < timers.new.capacity) }
+{
+    let key = NameBuf::from_name(alloc, name)?;
+    timers.reserve()?;
+    let k = make_path(alloc, nodes, root, name)?;
+    Ok((key, k))
 }
 
 /// The node that is held.
@@ -39,6 +70,17 @@ pub fn held_node(held: &Option<(NameBuf, usize)>) -> Option<usize>
     match held {
         Some((_, k)) => Some(*k),
         None => None,
+    }
+}
+
+/// The node that is to be held, where it was made.
+pub fn node_held(made: &Result<(NameBuf, usize), Memory>) -> Option<usize>
+    ensures ok { IfOk made.now (λ p. result ≡ Some p.1) }
+    ensures err { OnErr made.now (result ≡ None) }
+{
+    match made {
+        Ok((_, k)) => Some(*k),
+        Err(_) => None,
     }
 }
 
@@ -92,7 +134,7 @@ pub fn release_other<V: Drop>(
     if held_for(&held, name).is_some() {
         return held;
     }
-    release(nodes, root, held);
+    release(nodes, root, held, None);
     None
 }
 

@@ -8,8 +8,8 @@ ghost use Rattle.name_trie.specs.Flat.{total};
 ghost use Rattle.name_trie.specs.Taken.{taken, taken_along, changed_along};
 
 use crate::change::Change;
-use crate::held::{held_node, node_of, place_for, release, release_other};
-use crate::node::{Node, child_of, find, has_child_up_to, make_path, prune, value_of};
+use crate::held::{held_node, hold, node_held, node_of, place_for, release, release_other};
+use crate::node::{Node, child_of, find, has_child_up_to, prune, value_of};
 use crate::take::{Take, take_along, take_at};
 use crate::timed::{Becomes, Timed, change_all_timed, change_timed, expire, replace_at};
 use ndn_names::{Component, Name, NameBuf};
@@ -123,25 +123,20 @@ impl<V: Timed + Drop> TimedMap<V> {
         ensures ok { OnOk result (self.new.prepared ≡ Some (components name.entry)) }
         ensures err { OnErr result (self.new.prepared ≡ None) }
     {
-        let held = self.held.take();
-        release(&mut self.nodes, &mut self.root, held);
+        let old = self.held.take();
         self.is_ready = false;
-        let key = NameBuf::from_name(self.alloc, name)?;
-        self.timers.reserve()?;
-        let k = make_path(self.alloc, &mut self.nodes, &mut self.root, name)?;
-        self.held = Some((key, k));
+        let held = hold(
+            self.alloc,
+            &mut self.nodes,
+            &mut self.root,
+            &mut self.timers,
+            name,
+        );
+        let kept = node_held(&held);
+        release(&mut self.nodes, &mut self.root, old, kept);
+        self.held = Some(held?);
         self.is_ready = true;
         Ok(())
-    }
-
-    /// Ends what is prepared.
-    pub fn forget_prepared(&mut self)
-        ensures table { self.new.table ≡ self.old.table }
-        ensures prepared { self.new.prepared ≡ None }
-    {
-        let held = self.held.take();
-        release(&mut self.nodes, &mut self.root, held);
-        self.is_ready = false;
     }
 
     /// Changes the values that are due.

@@ -138,7 +138,7 @@ impl<V: Drop> NameTrie<V> {
     {
         let held = self.held.take();
         let result = put_value(self.alloc, &mut self.nodes, &mut self.root, name, value);
-        release(&mut self.nodes, &mut self.root, held);
+        release(&mut self.nodes, &mut self.root, held, None);
         result
     }
 
@@ -172,7 +172,7 @@ impl<V: Drop> NameTrie<V> {
         ensures prepared { self.new.prepared ≡ None }
     {
         let held = self.held.take();
-        release(&mut self.nodes, &mut self.root, held);
+        release(&mut self.nodes, &mut self.root, held, None);
     }
 
     /// Removes the value of a name. Answers whether there was one.

@@ -123,7 +123,6 @@ impl Pit {
         ensures living { HoldsTheLiving self.new.pending }
     {
         self.prepared = None;
-        self.rows.forget_prepared();
         widen(self.alloc, &mut self.spare)?;
         let prepared = Prepared::new(self.alloc, key, octets)?;
         self.rows.prepare(key.name)?;
