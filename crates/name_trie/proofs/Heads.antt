@@ -1,9 +1,11 @@
 -- The number of the first octets goes before the octets.
 use Rattle.std.proofs.Common.{◌≡◌, ℕ, zero, suc, ◌+◌, ◌*◌, ◌^◌, ◌<◌, ◌≤◌, List, [], ◌∷◌, length, refl, sym, ap, subst, ◌∙◌, add-one, arith}
 use Rattle.std.proofs.Math.Nat.{pow-succ', pow-le-pow_right}
+use Rattle.std.proofs.lemmas.List.{get_or_past}
 use Rattle.std.proofs.lemmas.Nat.{mul-add-lt}
 use Rattle.std.proofs.lemmas.Grind.{same_number_lists}
 use Rattle.std.specs.Prelude.{slice_index}
+use Rattle.std.specs.Int.{w64, from_be_bytes}
 use Rattle.std.specs.declared.cmp.Ordering.{Ordering}
 use Rattle.std.specs.declared.cmp.Ordering.TheVariants.{Less, Equal, Greater}
 use Rattle.std.specs.Ordering.{nat_cmp, ordering_then, ordering_reverse}
@@ -31,6 +33,19 @@ room n octets are lt =
 pub next : (n : ℕ) (octets : List ℕ) → head (n + 1) octets ≡ head n octets * 256 + slice_index octets n
 unfolding head
 next n octets = rw add-one refl
+
+-- past the last octet stand zeros
+pub past : (n : ℕ) (octets : List ℕ) → length octets ≤ n → head (n + 1) octets ≡ head n octets * 256
+past n octets le =
+    let none : slice_index octets n ≡ 0 = get_or_past octets n 0 le in
+    omega (arith, next n octets, none)
+
+-- eight octets, the first of them the most significant, are their head
+pub big_endian : (octets eight : List ℕ) → ((i : ℕ) → i < 8 → slice_index eight i ≡ slice_index octets i) → from_be_bytes w64 eight ≡ head 8 octets
+unfolding head
+big_endian octets eight same =
+    let at = λ (i : ℕ) (lt : i < 8). same i lt in
+    omega (arith, at 0 (omega arith), at 1 (omega arith), at 2 (omega arith), at 3 (omega arith), at 4 (omega arith), at 5 (omega arith), at 6 (omega arith), at 7 (omega arith))
 
 abbrev Agree : ℕ → List ℕ → List ℕ → Type 0
 Agree n a b = (j : ℕ) → j < n → slice_index a j ≡ slice_index b j

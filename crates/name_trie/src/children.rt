@@ -118,6 +118,9 @@ impl Children {
 fn start_of(rows: &[(ComponentBuf, usize)], hint: &Hint) -> usize
     ensures { result ≤ length rows.now }
 {
+    if rows.len() < 2 {
+        return 0;
+    }
     let mut low = 0;
     let mut high = rows.len();
     while low < high {
@@ -160,6 +163,7 @@ fn row_of(rows: &[(ComponentBuf, usize)], child: usize, hint: &Hint) -> Option<u
 }
 
 /// Where the child's row is, or where it would go.
+#[inline(always)]
 fn place_of(rows: &[(ComponentBuf, usize)], component: Component<'_>) -> Result<usize, usize>
     requires { T (map.is_sorted component_cmp rows.now) }
     ensures found { IfOk result (λ at. (at < length rows.now)

@@ -10,7 +10,7 @@ ghost use Rattle.name_trie.specs.Timed.{IsTimed, IsCounted, Recounts, size_at as
 ghost use Rattle.name_trie.specs.Taken.{taken, taken_along, changed_along};
 
 use crate::change::take_value;
-use crate::node::{Node, child_of, set_value};
+use crate::node::{Node, child_of, set_value, value_of};
 use crate::timed::{Timed, recount, retime, size_at, timer_at};
 use ndn_names::Name;
 use slab::Slab;
@@ -64,6 +64,9 @@ pub fn take_at<V: Timed + Drop, T: Take<V>>(
     ensures few { set.len timers.new.timers ≤ set.len timers.old.timers }
     ensures capacity { timers.old.capacity ≤ timers.new.capacity }
 {
+    if value_of(nodes, k).is_none() {
+        return;
+    }
     let old = timer_at(nodes, k);
     let was = size_at(nodes, k);
     take_from(nodes, k, is_own, how);

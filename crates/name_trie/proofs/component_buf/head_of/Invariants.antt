@@ -3,8 +3,8 @@ use Rattle.name_trie.specs.Head.{head}
 use Rattle.name_trie.proofs.Heads.{AreOctets}
 use Rattle.name_trie.proofs.component_buf.head_of.Given as goal
 
-abbrev pub invariant-loop-i : goal.invariant-loop-i
-invariant-loop-i l = record {
-  so_far : l.head ≡ head l.i l.octets;
+abbrev pub invariant-loop : goal.invariant-loop
+invariant-loop l = record {
+  so_far : l.head ≡ head l.counter l.octets;
   fit : AreOctets l.octets;
 }
