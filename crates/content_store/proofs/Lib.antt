@@ -13,3 +13,4 @@ pub mod Losses
 pub mod Taken
 pub mod Erased
 pub mod Bounds
+pub mod Flat

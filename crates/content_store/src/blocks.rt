@@ -4,6 +4,7 @@ ghost use Rattle.content_store.specs.Blocks.{AreBounds, Bounds, Carries, Follows
 ghost use Rattle.content_store.specs.Rows.{IsRows, Placed, held_at, shown};
 ghost use Rattle.content_store.specs.declared.blocks.Change.TheVariants as changes;
 
+use crate::places::Places;
 use crate::rows::Row;
 use slab::Slab;
 
@@ -141,20 +142,20 @@ pub fn next_place(blocks: &[Block], at: usize, must_be_fresh: bool, now: u64) ->
 }
 
 /// The block from a place up to another.
-fn block_of(entries: &Slab<Row>, order: &[u32], start: usize, end: usize) -> Block
+fn block_of(entries: &Slab<Row>, order: &Places, start: usize, end: usize) -> Block
     requires { IsRows (get entries.now) order.now }
     ensures { Bounds (shown (get entries.now) order.now) result }
 {
     let end = end.min(order.len());
     let mut until = 0;
     for at in start..end {
-        until = until.max(entries[order[at] as usize].entry.fresh_until());
+        until = until.max(entries[order.get(at) as usize].entry.fresh_until());
     }
     Block { start, end, until }
 }
 
 /// Makes the first block, if there is memory.
-fn begin(entries: &Slab<Row>, order: &[u32], blocks: &mut Vec<Block>)
+fn begin(entries: &Slab<Row>, order: &Places, blocks: &mut Vec<Block>)
     requires { IsRows (get entries.now) order.now }
     ensures { Keeps (shown (get entries.now) order.now) blocks.old.items blocks.new.items }
 {
@@ -164,7 +165,7 @@ fn begin(entries: &Slab<Row>, order: &[u32], blocks: &mut Vec<Block>)
 }
 
 /// Halves a block that has become long, if there is memory.
-fn halve(entries: &Slab<Row>, order: &[u32], blocks: &mut Vec<Block>, index: usize)
+fn halve(entries: &Slab<Row>, order: &Places, blocks: &mut Vec<Block>, index: usize)
     requires { IsRows (get entries.now) order.now }
     ensures { Keeps (shown (get entries.now) order.now) blocks.old.items blocks.new.items }
 {
@@ -184,7 +185,7 @@ fn halve(entries: &Slab<Row>, order: &[u32], blocks: &mut Vec<Block>, index: usi
 }
 
 /// Looks at a block anew.
-fn look_again(entries: &Slab<Row>, order: &[u32], blocks: &mut Vec<Block>, index: usize)
+fn look_again(entries: &Slab<Row>, order: &Places, blocks: &mut Vec<Block>, index: usize)
     requires { IsRows (get entries.now) order.now }
     ensures { Keeps (shown (get entries.now) order.now) blocks.old.items blocks.new.items }
 {
@@ -224,7 +225,7 @@ fn join(blocks: &mut Vec<Block>, index: usize)
 }
 
 /// Follows one more before a place, which is fresh until then.
-pub fn add_row(entries: &Slab<Row>, order: &[u32], blocks: &mut Vec<Block>, at: usize, until: u64)
+pub fn add_row(entries: &Slab<Row>, order: &Places, blocks: &mut Vec<Block>, at: usize, until: u64)
     requires { IsRows (get entries.now) order.now }
     ensures { Carries (changes.Added at until) (shown (get entries.now) order.now)
         blocks.old.items blocks.new.items }
@@ -238,7 +239,7 @@ pub fn add_row(entries: &Slab<Row>, order: &[u32], blocks: &mut Vec<Block>, at: 
 /// Follows one less at a place, which was fresh until then.
 pub fn remove_row(
     entries: &Slab<Row>,
-    order: &[u32],
+    order: &Places,
     blocks: &mut Vec<Block>,
     at: usize,
     until: u64,
@@ -267,7 +268,7 @@ pub fn remove_row(
 /// Follows that those from a place up to another are gone.
 pub fn remove_rows(
     entries: &Slab<Row>,
-    order: &[u32],
+    order: &Places,
     blocks: &mut Vec<Block>,
     start: usize,
     end: usize,

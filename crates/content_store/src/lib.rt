@@ -5,6 +5,7 @@ mod blocks;
 mod entry;
 mod fault;
 mod full_name;
+mod places;
 mod rows;
 mod sought;
 mod store;

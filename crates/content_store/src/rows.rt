@@ -16,6 +16,7 @@ ghost use Rattle.content_store.specs.Uses.{Sound, TakesUnder, without_range};
 
 use crate::blocks::{Block, Change, add_row, follow, next_place, remove_row, remove_rows};
 use crate::entry::Entry;
+use crate::places::Places;
 use crate::sought::{Sought, is_below};
 use lru::LruCache;
 use ndn_names::Name;
@@ -36,7 +37,7 @@ pub struct Row {
 #[derive(Drop)]
 pub struct Rows {
     entries: Slab<Row>,
-    order: Vec<u32>,
+    order: Places,
     // What is known of parts of `order`, for Interests with MustBeFresh.
     blocks: Vec<Block>,
 }
@@ -49,14 +50,14 @@ impl Model for Rows {
 
     ghost Value = { List Placed };
 
-    ghost view = { λ r. shown (get r.entries) r.order.items };
+    ghost view = { λ r. shown (get r.entries) r.order };
 
-    ghost invariant = { λ r. IsRows (get r.entries) r.order.items
-        × AreBounds (shown (get r.entries) r.order.items) r.blocks.items };
+    ghost invariant = { λ r. IsRows (get r.entries) r.order
+        × AreBounds (shown (get r.entries) r.order) r.blocks.items };
 }
 
 /// Where the first full name that is not less than what is sought is. Each comparison counts.
-fn lower_bound(entries: &Slab<Row>, order: &[u32], sought: Sought<'_>, steps: &mut u64) -> usize
+fn lower_bound(entries: &Slab<Row>, order: &Places, sought: Sought<'_>, steps: &mut u64) -> usize
     requires rows { IsRows (get entries.now) order.now }
     requires short { length order.now < 131072 }
     requires room { steps.old ≤ 2 ^ 64 - 1 - 17 }
@@ -66,13 +67,18 @@ fn lower_bound(entries: &Slab<Row>, order: &[u32], sought: Sought<'_>, steps: &m
 {
     let mut low = 0;
     let mut high = order.len();
+    let mut first = 0;
+    let mut last = usize::MAX;
     while low < high {
         let mid = low + (high - low) / 2;
+        let (block, place) = order.get_between(first, last, mid);
         *steps += 1;
-        if is_below(&entries[order[mid] as usize].entry, sought) {
+        if is_below(&entries[place as usize].entry, sought) {
             low = mid + 1;
+            first = block;
         } else {
             high = mid;
+            last = block.saturating_add(1);
         }
     }
     low
@@ -81,7 +87,7 @@ fn lower_bound(entries: &Slab<Row>, order: &[u32], sought: Sought<'_>, steps: &m
 /// Where the first is that can serve an Interest of this key.
 fn first_serving(
     entries: &Slab<Row>,
-    order: &[u32],
+    order: &Places,
     blocks: &[Block],
     key: Key<'_>,
     now: u64,
@@ -103,7 +109,7 @@ fn first_serving(
 /// Where the first is that can serve an Interest of this key, from where its name would stand.
 fn first_from(
     entries: &Slab<Row>,
-    order: &[u32],
+    order: &Places,
     blocks: &[Block],
     start: usize,
     key: Key<'_>,
@@ -117,7 +123,7 @@ fn first_from(
 {
     let mut at = start;
     while at < order.len() {
-        let entry = &entries[order[at] as usize].entry;
+        let entry = &entries[order.get(at) as usize].entry;
         if !entry.is_near(key) {
             return None;
         }
@@ -130,7 +136,7 @@ fn first_from(
 }
 
 /// Whether what stands before a place of the list comes before a name.
-fn is_above(entries: &Slab<Row>, order: &[u32], name: Name<'_>, at: usize) -> bool
+fn is_above(entries: &Slab<Row>, order: &Places, name: Name<'_>, at: usize) -> bool
     requires rows { IsRows (get entries.now) order.now }
     requires within { at ≤ length order.now }
     ensures { IsTrue result → (k : ℕ) (d : Placed) → k < at
@@ -140,11 +146,11 @@ fn is_above(entries: &Slab<Row>, order: &[u32], name: Name<'_>, at: usize) -> bo
     if at == 0 {
         return true;
     }
-    entries[order[at - 1] as usize].entry.is_below(name)
+    entries[order.get(at - 1) as usize].entry.is_below(name)
 }
 
 /// Whether a name would stand at a place of the list.
-fn is_lower(entries: &Slab<Row>, order: &[u32], name: Name<'_>, at: usize) -> bool
+fn is_lower(entries: &Slab<Row>, order: &Places, name: Name<'_>, at: usize) -> bool
     requires { IsRows (get entries.now) order.now }
     ensures { IsTrue result
         → IsLower (components name.entry) (shown (get entries.now) order.now) at }
@@ -155,7 +161,7 @@ fn is_lower(entries: &Slab<Row>, order: &[u32], name: Name<'_>, at: usize) -> bo
     if at == order.len() {
         return true;
     }
-    !entries[order[at] as usize].entry.is_below(name)
+    !entries[order.get(at) as usize].entry.is_below(name)
 }
 
 impl Rows {
@@ -164,7 +170,7 @@ impl Rows {
     {
         Rows {
             entries: Slab::new(alloc),
-            order: Vec::new(alloc),
+            order: Places::new(alloc),
             blocks: Vec::new(alloc),
         }
     }
@@ -219,7 +225,7 @@ impl Rows {
         requires { at < length self.now }
         ensures { (d : Placed) → (slice_index_or self.now at d).1 ≡ result.now }
     {
-        &self.entries[self.order[at] as usize]
+        &self.entries[self.order.get(at) as usize]
     }
 
     /// Takes out all.
@@ -258,6 +264,7 @@ impl Rows {
     /// Adds a row before the one at a place of the list. Gives its place in the slab.
     pub fn insert(&mut self, at: usize, row: Row) -> Result<u32, Memory>
         requires within { at ≤ length self.old }
+        requires short { length self.old < 131072 }
         requires fits { (p : ℕ) → Rising (insert self.old at (p, row)) }
         ensures ok { IfOk result (λ p. (lookup (nat_eq p) self.old ≡ None)
             × (self.new ≡ insert self.old at (p, row))) }
@@ -288,7 +295,7 @@ impl Rows {
             }) }
         ensures valid { IsValidRows self.new }
     {
-        let place = self.order[at];
+        let place = self.order.get(at);
         let entry = &mut self.entries[place as usize].entry;
         entry.renew(freshness, arrival);
         follow(&mut self.blocks, Change::Renewed(at, entry.fresh_until()));
@@ -318,7 +325,7 @@ impl Rows {
     {
         let start = self.place_for(Sought::Named(name));
         let end = remove_under(&mut self.entries, used, &self.order, start, name, most);
-        cut(&mut self.order, start, end);
+        self.order.cut(start, end);
         remove_rows(&self.entries, &self.order, &mut self.blocks, start, end);
         (end - start) as u64
     }
@@ -329,7 +336,7 @@ impl Rows {
 fn remove_under(
     entries: &mut Slab<Row>,
     used: &mut LruCache<u64, u32>,
-    order: &[u32],
+    order: &Places,
     start: usize,
     name: Name<'_>,
     most: u64,
@@ -347,7 +354,7 @@ fn remove_under(
         (result - start) }
 {
     for end in start..order.len() {
-        let place = order[end] as usize;
+        let place = order.get(end) as usize;
         if (end - start) as u64 == most || !entries[place].entry.is_under(name) {
             return end;
         }
@@ -355,17 +362,6 @@ fn remove_under(
         used.pop(&row.serial);
     }
     order.len()
-}
-
-/// Takes a range out of a list.
-fn cut(order: &mut Vec<u32>, start: usize, end: usize)
-    requires ordered { start ≤ end }
-    requires within { end ≤ length order.old.items }
-    ensures { order.new.items ≡ without_range start end order.old.items }
-{
-    let left = order.len() - (end - start);
-    order[start..].rotate_left(end - start);
-    order.truncate(left);
 }
 
 /// Puts a row into the slab. Gives its place there.
@@ -386,7 +382,7 @@ fn hold(entries: &mut Slab<Row>, row: Row) -> Result<u32, Memory>
 }
 
 /// Where in the list a place of the slab stands.
-fn index_of(entries: &Slab<Row>, order: &[u32], place: u32) -> usize
+fn index_of(entries: &Slab<Row>, order: &Places, place: u32) -> usize
     requires rows { IsRows (get entries.now) order.now }
     requires short { length order.now < 131072 }
     requires there { IsSome (lookup (nat_eq place) (shown (get entries.now) order.now)) }

@@ -1,4 +1,4 @@
-use Rattle.std.proofs.Common.{◌≡◌, ◌⊎◌, Bool, true, false, inl, inr, ℕ, ◌<◌, ◌≤◌, length, get_or, refl, sym, subst, arith}
+use Rattle.std.proofs.Common.{◌≡◌, ◌⊎◌, Bool, true, false, inl, inr, ℕ, ◌<◌, ◌≤◌, length, get_or, refl, sym, ap, subst, ◌∙◌, arith}
 use Rattle.slab.specs.Slab.{get}
 use Rattle.ndn_names.specs.View.{components}
 use Rattle.ndn_packets.specs.Key.{plain_key}
@@ -12,7 +12,7 @@ use Rattle.content_store.proofs.rows.first_from.Goals as goal
 use Rattle.content_store.proofs.rows.first_from.Goals.{After-is_near, After-next_place-at}
 
 here : (c : After-is_near) → (d : Placed) → get_or (shown (get c.args.entries.now) c.args.order.now) c.loop-at.at d ≡ (get_or c.args.order.now c.loop-at.at 0, c.index.result.now)
-here c = shown_at (get c.args.entries.now) c.args.order.now c.loop-at.at c.index.result.now c.requires.rows.there (omega arith) c.index.ensures
+here c = shown_at (get c.args.entries.now) c.args.order.now c.loop-at.at c.index.result.now c.requires.rows.there (omega arith) (ap (get c.args.entries.now) (sym c.get.ensures) ∙ c.index.ensures)
 
 pub loop-at-init : goal.loop-at-init
 loop-at-init c = (

@@ -1,4 +1,4 @@
-use Rattle.std.proofs.Common.{◌-◌, ◌<◌, get_or, length, sym, ◌∙◌, arith}
+use Rattle.std.proofs.Common.{◌-◌, ◌<◌, get_or, length, sym, ap, ◌∙◌, arith}
 use Rattle.slab.specs.Slab.{get}
 use Rattle.ndn_names.specs.View.{components}
 use Rattle.content_store.specs.Rows.{shown}
@@ -15,4 +15,4 @@ returns c =
     let len = length-shown h order c.requires.rows.there in
     let within : at < length order = omega arith in
     all_below (components c.args.name) (shown h order) c.requires.rows.rising at (get_or order at 0, c.index.result.now) (omega arith)
-    (λ e. shown_at h order at c.index.result.now c.requires.rows.there within c.index.ensures e) (less_is _ (sym c.is_below.ensures ∙ t)) k d (omega arith)
+    (λ e. shown_at h order at c.index.result.now c.requires.rows.there within (ap h (sym c.get.ensures) ∙ c.index.ensures) e) (less_is _ (sym c.is_below.ensures ∙ t)) k d (omega arith)

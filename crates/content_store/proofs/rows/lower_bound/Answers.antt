@@ -1,5 +1,5 @@
 use Rattle.content_store.specs.Store.{full_name_of}
-use Rattle.std.proofs.Common.{◌≡◌, ◌-◌, ◌+◌, ◌/◌, ◌<◌, ◌≤◌, ℕ, length, get_or, sym, ◌∙◌, subst, arith}
+use Rattle.std.proofs.Common.{◌≡◌, ◌-◌, ◌+◌, ◌/◌, ◌<◌, ◌≤◌, ℕ, length, get_or, sym, ap, ◌∙◌, subst, arith}
 use Rattle.std.specs.declared.cmp.Ordering.TheVariants.{Less}
 use Rattle.slab.specs.Slab.{get}
 use Rattle.ndn_names.specs.Order.{name_cmp}
@@ -17,7 +17,7 @@ here : (c : After-is_below) → (d : Placed) → get_or (shown (get c.args.entri
 here c =
     let lt = c.loop-low-test.true in
     let le = c.loop-low.invariant.1 in
-    shown_at (get c.args.entries.now) c.args.order.now (mid_of c) c.index.result.now c.requires.rows.there (omega arith) c.index.ensures
+    shown_at (get c.args.entries.now) c.args.order.now (mid_of c) c.index.result.now c.requires.rows.there (omega arith) (ap (get c.args.entries.now) (sym c.get_between-block.ensures) ∙ c.index.ensures)
 
 long : (c : After-is_below) → mid_of c < length (shown (get c.args.entries.now) c.args.order.now)
 long c =

@@ -1,5 +1,5 @@
-use Rattle.std.proofs.Common.{◌≡◌, ◌+◌, ◌-◌, ℕ, inl, inr, List, length, get_or, refl, sym, ap, subst, ◌∙◌, arith}
-use Rattle.std.specs.Prelude.{nat_eq}
+use Rattle.std.proofs.Common.{◌≡◌, ◌+◌, ◌-◌, ◌<◌, ℕ, inl, inr, List, length, get_or, refl, sym, ap, subst, ◌∙◌, arith}
+use Rattle.std.specs.Prelude.{IsSome, nat_eq}
 use Rattle.std.specs.Map.{remove_entry}
 use Rattle.std.proofs.lemmas.List.{take-append-drop}
 use Rattle.std.proofs.lemmas.Option.{same_Some}
@@ -42,15 +42,15 @@ loop-end-init c =
 pub index-requires : goal.index-requires
 index-requires c =
     let inv = c.loop-end.invariant in
-    let lt = c.loop-end-test.true in
+    let lt : c.loop-end.end < length c.args.order.now = omega (arith, c.loop-end-test.true, c.len-end-end.ensures) in
     let from = c.loop-end.auto.end in
-    there_at (get c.loop-end.entries) c.args.order.now c.args.start c.loop-end.end inv.rows from lt
+    subst (λ (p : ℕ). IsSome (get c.loop-end.entries p)) (sym c.get-place.ensures) (there_at (get c.loop-end.entries) c.args.order.now c.args.start c.loop-end.end inv.rows from lt)
 
 pub returns-then-end-start-clause-taken : goal.returns-then-end-start-clause-taken
 returns-then-end-start-clause-taken c =
     λ next sound. let inv = c.loop-end.invariant in
     let so = inv.taken next sound in
-    let lt = c.loop-end-test.true in
+    let lt : c.loop-end.end < length c.args.order.now = omega (arith, c.loop-end-test.true, c.len-end-end.ensures) in
     let from = c.loop-end.auto.end in
     record {
       sound = so.sound;
@@ -65,20 +65,20 @@ returns-then-end-start-clause-taken c =
                 let never : IsPrefix (components c.args.name) (full_name_of w.index.result.now.entry) → ⊥ = λ p. (let t = w.is_under.ensures.1 p in let f = w.if-not-is_under.true in cc) in
                 inr (none_left (components c.args.name) _ c.loop-end.used.entries next c.args.start so.sound inv.lower
                 (λ d within p. never (subst (λ (r : Placed). IsPrefix (components c.args.name) (name_at r))
-                (here (get c.loop-end.entries) (get c.loop-end.entries) c.args.order.now c.args.start c.loop-end.end (get_or c.args.order.now c.loop-end.end 0) w.index.result.now (components c.args.name)
-                inv.rows inv.lower from lt refl w.index.ensures (λ q ne. refl) d) p)))
+                (here (get c.loop-end.entries) (get c.loop-end.entries) c.args.order.now c.args.start c.loop-end.end c.get-place.result w.index.result.now (components c.args.name)
+                inv.rows inv.lower from lt (sym c.get-place.ensures) w.index.ensures (λ q ne. refl) d) p)))
           ];
     }
 
 pub loop-end-preserved : goal.loop-end-preserved
 loop-end-preserved c =
     let inv = c.loop-end.invariant in
-    let lt = c.loop-end-test.true in
+    let lt : c.loop-end.end < length c.args.order.now = omega (arith, c.loop-end-test.true, c.len-end-end.ensures) in
     let from = c.loop-end.auto.end in
     let most = inv.at_most in
     let h = get c.loop-end.entries in
     let f = get c.remove-row.new.self in
-    let place = get_or c.args.order.now c.loop-end.end 0 in
+    let place = c.get-place.result in
     let row : Row = c.remove-row.result in
     let one : c.index.result.now ≡ row = same_Some c.index.result.now row (sym c.index.ensures ∙ c.remove-row.ensures.value) in
     let under : IsPrefix (components c.args.name) (full_name_of row.entry) =
@@ -86,10 +86,10 @@ loop-end-preserved c =
     let used : LruCache ℕ ℕ = c.pop.new.self in
     let uses = c.pop.ensures.entries in
     record {
-      rows = rows_next h f c.args.order.now c.args.start c.loop-end.end place row (components c.args.name) inv.rows inv.lower from lt refl c.remove-row.ensures.value c.remove-row.ensures.updates.others;
-      lower = lower_next h f c.args.order.now c.args.start c.loop-end.end place row (components c.args.name) inv.rows inv.lower from lt refl c.remove-row.ensures.value c.remove-row.ensures.updates.others;
+      rows = rows_next h f c.args.order.now c.args.start c.loop-end.end place row (components c.args.name) inv.rows inv.lower from lt (sym c.get-place.ensures) c.remove-row.ensures.value c.remove-row.ensures.updates.others;
+      lower = lower_next h f c.args.order.now c.args.start c.loop-end.end place row (components c.args.name) inv.rows inv.lower from lt (sym c.get-place.ensures) c.remove-row.ensures.value c.remove-row.ensures.updates.others;
       left =
-          left_next h f c.args.order.now c.args.start c.loop-end.end place row (components c.args.name) inv.rows inv.lower from lt refl c.remove-row.ensures.value c.remove-row.ensures.updates.others
+          left_next h f c.args.order.now c.args.start c.loop-end.end place row (components c.args.name) inv.rows inv.lower from lt (sym c.get-place.ensures) c.remove-row.ensures.value c.remove-row.ensures.updates.others
           (shown (get c.args.entries.now) c.args.order.now) (omega (arith, length-shown (get c.args.entries.now) c.args.order.now c.requires.rows.there)) inv.left;
       at_most = omega (arith, c.if-end-start.false);
       cap = ap (λ (u : LruCache ℕ ℕ). u.cap) uses ∙ inv.cap;
@@ -99,14 +99,14 @@ loop-end-preserved c =
           let all = shown (get c.args.entries.now) c.args.order.now in
           let after = shown f (without_range c.args.start (c.loop-end.end + 1) c.args.order.now) in
           let fewer = so.fewer in
-          let less = fewer_next h f c.args.order.now c.args.start c.loop-end.end place row (components c.args.name) inv.rows inv.lower from lt refl c.remove-row.ensures.value c.remove-row.ensures.updates.others c.loop-end.used.entries next so.sound in
+          let less = fewer_next h f c.args.order.now c.args.start c.loop-end.end place row (components c.args.name) inv.rows inv.lower from lt (sym c.get-place.ensures) c.remove-row.ensures.value c.remove-row.ensures.updates.others c.loop-end.used.entries next so.sound in
           let more : (c.loop-end.end - c.args.start) + 1 ≡ (c.loop-end.end + 1) - c.args.start = omega arith in
           subst (λ (u : LruCache ℕ ℕ). TakenSoFar (components c.args.name) all c.args.used.now after u next ((c.loop-end.end + 1) - c.args.start)) (sym uses)
           (record {
-            sound = sound_next h f c.args.order.now c.args.start c.loop-end.end place row (components c.args.name) inv.rows inv.lower from lt refl c.remove-row.ensures.value c.remove-row.ensures.updates.others c.loop-end.used.entries next so.sound;
+            sound = sound_next h f c.args.order.now c.args.start c.loop-end.end place row (components c.args.name) inv.rows inv.lower from lt (sym c.get-place.ensures) c.remove-row.ensures.value c.remove-row.ensures.updates.others c.loop-end.used.entries next so.sound;
             fewer = omega arith;
             taken = subst (λ (n : ℕ). TakesLeast (components c.args.name) (cached_in all c.args.used.now.entries) (cached_in after (remove_entry (nat_eq row.serial) c.loop-end.used.entries)) n) more
-                (taken_next h f c.args.order.now c.args.start c.loop-end.end place row (components c.args.name) inv.rows inv.lower from lt refl c.remove-row.ensures.value c.remove-row.ensures.updates.others
+                (taken_next h f c.args.order.now c.args.start c.loop-end.end place row (components c.args.name) inv.rows inv.lower from lt (sym c.get-place.ensures) c.remove-row.ensures.value c.remove-row.ensures.updates.others
                 c.loop-end.used.entries next so.sound under (cached_in all c.args.used.now.entries) (c.loop-end.end - c.args.start) so.taken);
           });
     }
@@ -122,7 +122,7 @@ returns-clause-left c =
     let len = length-shown (get c.args.entries.now) c.args.order.now c.requires.rows.there in
     let le = c.requires.start.within in
     let from = c.loop-end.auto.end in
-    let same : c.loop-end.end ≡ length c.args.order.now = omega arith in
+    let same : c.loop-end.end ≡ c.len.result = omega (arith, c.len.ensures) in
     let all = shown (get c.args.entries.now) c.args.order.now in
     subst (λ (n : ℕ). shown (get c.loop-end.entries) (without_range c.args.start n c.args.order.now) ≡ without_range c.args.start n all) same c.loop-end.invariant.left
 
@@ -131,7 +131,7 @@ returns-clause-taken c =
     let inv = c.loop-end.invariant in
     let len = length-shown (get c.args.entries.now) c.args.order.now c.requires.rows.there in
     let le = c.requires.start.within in
-    let same : c.loop-end.end ≡ length c.args.order.now = omega arith in
+    let same : c.loop-end.end ≡ c.len.result = omega (arith, c.len.ensures) in
     let from = c.loop-end.auto.end in
     let all = shown (get c.args.entries.now) c.args.order.now in
     subst (λ (n : ℕ). (next : ℕ) → Sound all c.args.used.now.entries next

@@ -5,9 +5,9 @@ use Rattle.content_store.proofs.rows.Rows.clear.Goals as goal
 
 pub invariant_of-self : goal.invariant_of-self
 invariant_of-self c = (
-  (rows_none (get c.clear-2.new.self) c.clear.new.self.items c.clear.ensures.items).0,
+  (rows_none (get c.clear-2.new.self) c.clear.new.self c.clear.ensures).0,
   λ k d lt. absurd (omega (arith, ap length c.clear-3.ensures.items)),
 )
 
 pub returns : goal.returns
-returns c = (rows_none (get c.clear-2.new.self) c.clear.new.self.items c.clear.ensures.items).1
+returns c = (rows_none (get c.clear-2.new.self) c.clear.new.self c.clear.ensures).1

@@ -5,5 +5,5 @@ use Rattle.content_store.proofs.rows.Rows.first_serving.Goals as goal
 
 pub first_serving-requires-clause-short : goal.first_serving-requires-clause-short
 first_serving-requires-clause-short c =
-    let len = length-shown (get c.self.inside.entries) c.self.inside.order.items c.self.invariant.0.there in
-    omega (arith, ap length c.self.view_is, ap length c.deref.ensures.value)
+    let len = length-shown (get c.self.inside.entries) c.self.inside.order c.self.invariant.0.there in
+    omega (arith, ap length c.self.view_is)

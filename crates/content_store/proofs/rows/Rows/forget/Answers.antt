@@ -15,39 +15,43 @@ use Rattle.content_store.proofs.rows.Rows.forget.Goals.{After-remove-row}
 pub index_of-at-requires-clause-short : goal.index_of-at-requires-clause-short
 index_of-at-requires-clause-short c =
     let lt = c.requires.short in
-    let len = length-shown (get c.self.inside.entries) c.self.inside.order.items c.self.invariant.0.there in
-    omega (arith, ap length c.self.view_is, ap length c.deref.ensures.value)
+    let len = length-shown (get c.self.inside.entries) c.self.inside.order c.self.invariant.0.there in
+    omega (arith, ap length c.self.view_is)
 
-whole : (c : After-remove-row) → c.index_of-at.result < length (shown (get c.self.inside.entries) c.self.inside.order.items)
-    × (shown (get c.remove-row.new.self) c.remove.new.self.items ≡ remove_entry (nat_eq c.args.place) (shown (get c.self.inside.entries) c.self.inside.order.items))
-    × IsRows (get c.remove-row.new.self) c.remove.new.self.items
-    × (shown (get c.remove-row.new.self) c.remove.new.self.items ≡ remove (shown (get c.self.inside.entries) c.self.inside.order.items) c.index_of-at.result)
+whole : (c : After-remove-row) → c.index_of-at.result < length (shown (get c.self.inside.entries) c.self.inside.order)
+    × (shown (get c.remove-row.new.self) c.remove.new.self ≡ remove_entry (nat_eq c.args.place) (shown (get c.self.inside.entries) c.self.inside.order))
+    × IsRows (get c.remove-row.new.self) c.remove.new.self
+    × (shown (get c.remove-row.new.self) c.remove.new.self ≡ remove (shown (get c.self.inside.entries) c.self.inside.order) c.index_of-at.result)
 whole c =
-    let order = c.self.inside.order.items in
-    let within : c.index_of-at.result < length order = subst (λ (l : List ℕ). c.index_of-at.result < length l) c.deref.ensures.value c.index_of-at.ensures.within in
-    let found : get_or order c.index_of-at.result 0 ≡ c.args.place = ap (λ (l : List ℕ). get_or l c.index_of-at.result 0) (sym c.deref.ensures.value) ∙ c.index_of-at.ensures.found in
-    let all = forgotten (get c.self.inside.entries) (get c.remove-row.new.self) order c.remove.new.self.items c.index_of-at.result c.args.place c.self.invariant.0 within found
-    c.remove-row.ensures.updates.others c.remove.ensures.items in
+    let order = c.self.inside.order in
+    let within : c.index_of-at.result < length order = c.index_of-at.ensures.within in
+    let found : get_or order c.index_of-at.result 0 ≡ c.args.place = c.index_of-at.ensures.found in
+    let all = forgotten (get c.self.inside.entries) (get c.remove-row.new.self) order c.remove.new.self c.index_of-at.result c.args.place c.self.invariant.0 within found
+    c.remove-row.ensures.updates.others c.remove.ensures in
     let len = length-shown (get c.self.inside.entries) order c.self.invariant.0.there in
     (omega arith, all.0, all.1, all.2)
 
 pub invariant_of-self : goal.invariant_of-self
 invariant_of-self c =
     let w = whole (goal.at.invariant_of-self c).After-remove-row in
-    let rows = shown (get c.self.inside.entries) c.self.inside.order.items in
-    let rows' = shown (get c.remove-row.new.self) c.remove.new.self.items in (
+    let rows = shown (get c.self.inside.entries) c.self.inside.order in
+    let rows' = shown (get c.remove-row.new.self) c.remove.new.self in (
       w.2,
-      subst (λ (l : List ℕ). AreBounds (shown (get c.remove-row.new.self) l) c.remove_row.new.blocks.items) c.deref-2.ensures.value
-          (c.remove_row.ensures rows (subst (λ (l : List ℕ). Follows (Removed c.index_of-at.result (c.index_of-at.result + 1)) rows (shown (get c.remove-row.new.self) l)) (sym c.deref-2.ensures.value)
-          (one_removed rows rows' c.index_of-at.result w.0 w.3)) c.self.invariant.1),
+      c.remove_row.ensures rows (one_removed rows rows' c.index_of-at.result w.0 w.3) c.self.invariant.1,
     )
 
 pub remove_row-requires-clause-rows : goal.remove_row-requires-clause-rows
 remove_row-requires-clause-rows c =
-    subst (λ (l : List ℕ). IsRows (get c.remove-row.new.self) l) (sym c.deref-2.ensures.value) (whole (goal.at.remove_row-requires-clause-rows c).After-remove-row).2
+    (whole (goal.at.remove_row-requires-clause-rows c).After-remove-row).2
+
+pub remove_row-requires-clause-room : goal.remove_row-requires-clause-room
+remove_row-requires-clause-room c =
+    let w = whole (goal.at.remove_row-requires-clause-room c).After-remove-row in
+    let short = c.requires.short in
+    omega (arith, w.0, ap length c.self.view_is)
 
 pub returns-clause-rows : goal.returns-clause-rows
 returns-clause-rows c = (whole (goal.at.returns-clause-rows c).After-remove-row).1 ∙ ap (remove_entry (nat_eq c.args.place)) c.self.view_is
 
 pub returns-clause-valid : goal.returns-clause-valid
-returns-clause-valid c = valid_shown (get c.remove-row.new.self) c.remove.new.self.items (whole (goal.at.returns-clause-valid c).After-remove-row).2
+returns-clause-valid c = valid_shown (get c.remove-row.new.self) c.remove.new.self (whole (goal.at.returns-clause-valid c).After-remove-row).2

@@ -5,5 +5,5 @@ use Rattle.content_store.proofs.rows.Rows.place_for.Goals as goal
 
 pub lower_bound-requires-clause-short : goal.lower_bound-requires-clause-short
 lower_bound-requires-clause-short c =
-    let len = length-shown (get c.self.inside.entries) c.self.inside.order.items c.self.invariant.0.there in
-    omega (arith, ap length c.self.view_is, ap length c.deref.ensures.value)
+    let len = length-shown (get c.self.inside.entries) c.self.inside.order c.self.invariant.0.there in
+    omega (arith, ap length c.self.view_is)

@@ -12,25 +12,22 @@ pub invariant_of-self : goal.invariant_of-self
 invariant_of-self c =
     let h = get c.self.inside.entries in
     let f = get c.remove_under-end.new.entries in
-    let order = c.self.inside.order.items in
+    let order = c.self.inside.order in
     let start = c.place_for-start.result in
     let end = c.remove_under-end.result in
     let rows = shown h order in
     let out = c.remove_under-end.ensures in
     let le = out.from in
     let within = out.within in
-    let value = c.deref.ensures.value in
-    let valid : IsRows f c.cut.new.order.items =
-    subst (λ (l : List ℕ). IsRows f l) (sym c.cut.ensures) (subst (λ (l : List ℕ). IsRows f (without_range start end l)) value out.rows) in
-    let left : shown f c.cut.new.order.items ≡ without_range start end rows =
-    ap (shown f) c.cut.ensures ∙ subst (λ (l : List ℕ). shown f (without_range start end l) ≡ without_range start end (shown h l)) value out.left in
-    let follows : Follows (Removed start end) rows (shown f c.deref-2.result.now) = (
+    let valid : IsRows f c.cut.new.self = subst (λ (l : List ℕ). IsRows f l) (sym c.cut.ensures) out.rows in
+    let left : shown f c.cut.new.self ≡ without_range start end rows = ap (shown f) c.cut.ensures ∙ out.left in
+    let follows : Follows (Removed start end) rows (shown f c.cut.new.self) = (
       omega arith,
-      omega (arith, ap length value, length-shown h order c.self.invariant.0.there),
-      ap (shown f) c.deref-2.ensures.value ∙ left,
+      omega (arith, length-shown h order c.self.invariant.0.there),
+      left,
     ) in (
       valid,
-      subst (λ (l : List ℕ). AreBounds (shown f l) c.remove_rows.new.blocks.items) c.deref-2.ensures.value (c.remove_rows.ensures rows follows c.self.invariant.1),
+      c.remove_rows.ensures rows follows c.self.invariant.1,
     )
 
 pub returns : goal.returns
@@ -42,9 +39,6 @@ returns c =
     let name = components c.args.name in
     let used = c.args.used.now in
     let used' = c.remove_under-end.new.used in
-    let taken =
-    subst (λ (l : List ℕ). (next : ℕ) → Sound (shown h l) used.entries next → TakesUnder name c.args.most (shown h l) used (shown f (without_range start end l)) used' next (end - start))
-    c.deref.ensures.value c.remove_under-end.ensures.taken in
-    subst (λ (rows : List Placed). (next : ℕ) → Sound rows used.entries next → TakesUnder name c.args.most rows used (shown f c.cut.new.order.items) used' next (end - start)) c.self.view_is
-    (subst (λ (l : List ℕ). (next : ℕ) → Sound (shown h c.self.inside.order.items) used.entries next
-    → TakesUnder name c.args.most (shown h c.self.inside.order.items) used (shown f l) used' next (end - start)) (sym c.cut.ensures) taken)
+    subst (λ (rows : List Placed). (next : ℕ) → Sound rows used.entries next → TakesUnder name c.args.most rows used (shown f c.cut.new.self) used' next (end - start)) c.self.view_is
+    (subst (λ (l : List ℕ). (next : ℕ) → Sound (shown h c.self.inside.order) used.entries next
+    → TakesUnder name c.args.most (shown h c.self.inside.order) used (shown f l) used' next (end - start)) (sym c.cut.ensures) c.remove_under-end.ensures.taken)

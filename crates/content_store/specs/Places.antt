@@ -1,0 +1,25 @@
+-- A list of places in blocks, for private contracts.
+use Rattle.std.specs.Prelude.{◌≡◌, ℕ, ◌+◌, ◌<◌, ◌≤◌, ◌^◌, List, [], ◌∷◌, ◌++◌, length, slice_index_or}
+use Rattle.content_store.specs.declared.places.Block.{Block}
+
+-- the places of all blocks, one block after another
+unfoldable pub flat : List Block → List ℕ
+flat [] = []
+flat (b ∷ bs) = b.items.items ++ flat bs
+
+-- each block tells where it begins, the first at n
+unfoldable pub AreLaid : ℕ → List Block → Type 0
+AreLaid n [] = Unit {0}
+AreLaid n (b ∷ bs) = (b.start ≡ n) × AreLaid (n + length b.items.items) bs
+
+pub record IsLaid (blocks : List Block) : Type 0 where
+  pub laid : AreLaid 0 blocks
+  pub short : length (flat blocks) ≤ 131072
+
+-- a place of the list is in this block, or would go there
+pub record IsIn (blocks : List Block) (at i : ℕ) : Type 0 where
+  pub there : i < length blocks
+  pub begins : (d : Block) → (slice_index_or blocks i d).start ≤ at
+  pub ends : (d : Block) → let b = slice_index_or blocks i d in at ≤ b.start + length b.items.items
+  pub inside : at < length (flat blocks)
+      → (d : Block) → let b = slice_index_or blocks i d in at < b.start + length b.items.items

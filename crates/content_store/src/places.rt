@@ -1,0 +1,240 @@
+ghost use Rattle.std.specs.Prelude.{◌≡◌, ◌+◌, ◌<◌, ◌≤◌, ◌++◌, ◌/◌, [], length, drop, insert, slice_index, slice_index_or, IfOk, OnErr, OnOk};
+ghost use Rattle.std.specs.List.{remove};
+ghost use Rattle.content_store.specs.Places.{flat, IsLaid, IsIn};
+ghost use Rattle.content_store.specs.Uses.{without_range};
+
+use ndn_tlv::Memory;
+use std::alloc::Global;
+use std::marker::Model;
+
+/// The greatest number of places that a block has before it is halved.
+const MAX_BLOCK: usize = 1024;
+
+/// Places that stand together in the list, and where in the list they begin.
+#[derive(Drop)]
+pub struct Block {
+    pub start: usize,
+    pub items: Vec<u32>,
+}
+
+/// A list of places of the slab, in blocks, so that a change moves few of them.
+#[derive(Drop)]
+pub struct Places {
+    alloc: Global,
+    blocks: Vec<Block>,
+}
+
+impl Model for Places {
+    ghost use Rattle.std.specs.Prelude.{List, ℕ};
+    ghost use Rattle.content_store.specs.Places.{flat, IsLaid};
+
+    ghost Value = { List ℕ };
+
+    ghost view = { λ p. flat p.blocks.items };
+
+    ghost invariant = { λ p. IsLaid p.blocks.items };
+}
+
+/// The block in which a place of the list is, or would go. Two blocks may be known between which it
+/// is.
+fn block_at(blocks: &[Block], first: usize, last: usize, at: usize) -> usize
+    requires laid { IsLaid blocks.now }
+    requires some { 0 < length blocks.now }
+    requires within { at ≤ length (flat blocks.now) }
+    ensures { IsIn blocks.now at result }
+{
+    let mut low = 0;
+    if first < blocks.len() && blocks[first].start <= at {
+        low = first;
+    }
+    let mut high = blocks.len();
+    if low < last && last < high && at < blocks[last].start {
+        high = last;
+    }
+    while high - low > 1 {
+        let mid = low + (high - low) / 2;
+        if blocks[mid].start <= at {
+            low = mid;
+        } else {
+            high = mid;
+        }
+    }
+    low
+}
+
+/// Has each block tell where it begins.
+fn lay(blocks: &mut Vec<Block>)
+    requires { length (flat blocks.old.items) ≤ 131072 }
+    ensures same { flat blocks.new.items ≡ flat blocks.old.items }
+    ensures laid { IsLaid blocks.new.items }
+    ensures len { length blocks.new.items ≡ length blocks.old.items }
+{
+    let mut start = 0;
+    for index in 0..blocks.len() {
+        blocks[index].start = start;
+        start += blocks[index].items.len();
+    }
+}
+
+/// Halves a block.
+fn split(alloc: Global, blocks: &mut Vec<Block>, index: usize) -> Result<(), Memory>
+    requires laid { IsLaid blocks.old.items }
+    requires there { index < length blocks.old.items }
+    ensures same { flat blocks.new.items ≡ flat blocks.old.items }
+    ensures laid { IsLaid blocks.new.items }
+    ensures some { 0 < length blocks.new.items }
+{
+    let half = blocks[index].items.len() / 2;
+    let items = Vec::from_slice(alloc, &blocks[index].items[half..])?;
+    blocks.insert(index + 1, Block { start: 0, items })?;
+    blocks[index].items.truncate(half);
+    lay(blocks);
+    Ok(())
+}
+
+/// Makes the first block, or halves the one that is full where a place would go.
+fn make_room(alloc: Global, blocks: &mut Vec<Block>, at: usize) -> Result<(), Memory>
+    requires laid { IsLaid blocks.old.items }
+    requires within { at ≤ length (flat blocks.old.items) }
+    ensures same { flat blocks.new.items ≡ flat blocks.old.items }
+    ensures laid { IsLaid blocks.new.items }
+    ensures some { OnOk result (0 < length blocks.new.items) }
+{
+    if blocks.is_empty() {
+        let items = Vec::new(alloc);
+        blocks.push(Block { start: 0, items })?;
+        return Ok(());
+    }
+    let index = block_at(blocks, 0, 0, at);
+    if blocks[index].items.len() < MAX_BLOCK {
+        return Ok(());
+    }
+    split(alloc, blocks, index)
+}
+
+/// Puts a place into the block where it would go, if there is memory.
+fn put(blocks: &mut Vec<Block>, at: usize, place: u32) -> Result<(), Memory>
+    requires laid { IsLaid blocks.old.items }
+    requires some { 0 < length blocks.old.items }
+    requires within { at ≤ length (flat blocks.old.items) }
+    requires short { length (flat blocks.old.items) < 131072 }
+    ensures ok { IfOk result (λ _. flat blocks.new.items ≡ insert (flat blocks.old.items) at place) }
+    ensures err { OnErr result (flat blocks.new.items ≡ flat blocks.old.items) }
+    ensures laid { IsLaid blocks.new.items }
+{
+    let index = block_at(blocks, 0, 0, at);
+    let start = blocks[index].start;
+    blocks[index].items.insert(at - start, place)?;
+    lay(blocks);
+    Ok(())
+}
+
+/// The places of two blocks.
+fn joined(alloc: Global, first: &[u32], second: &[u32]) -> Result<Vec<u32>, Memory>
+    ensures { IfOk result (λ v. v.items ≡ first.now ++ second.now) }
+{
+    let mut items = Vec::from_slice(alloc, first)?;
+    items.extend_from_slice(second)?;
+    Ok(items)
+}
+
+/// Joins a block with the next one where both are short, and there is memory.
+fn join(alloc: Global, blocks: &mut Vec<Block>, index: usize)
+    requires { index < length blocks.old.items }
+    ensures { flat blocks.new.items ≡ flat blocks.old.items }
+{
+    if index + 1 >= blocks.len() {
+        return;
+    }
+    let len = blocks[index].items.len();
+    if len >= MAX_BLOCK || blocks[index + 1].items.len() > MAX_BLOCK / 2 - len / 2 {
+        return;
+    }
+    if let Ok(items) = joined(alloc, &blocks[index].items, &blocks[index + 1].items) {
+        blocks[index].items = items;
+        blocks.remove(index + 1);
+    }
+}
+
+impl Places {
+    pub fn new(alloc: Global) -> Places
+        ensures { result ≡ [] }
+    {
+        Places {
+            alloc,
+            blocks: Vec::new(alloc),
+        }
+    }
+
+    /// How many there are.
+    pub fn len(&self) -> usize
+        ensures { result ≡ length self.now }
+    {
+        match self.blocks.last() {
+            Some(block) => block.start + block.items.len(),
+            None => 0,
+        }
+    }
+
+    /// What stands at a place of the list, and in which block. Two blocks may be known between
+    /// which it is.
+    pub fn get_between(&self, first: usize, last: usize, at: usize) -> (usize, u32)
+        requires { at < length self.now }
+        ensures { result.1 ≡ slice_index self.now at }
+    {
+        let index = block_at(&self.blocks, first, last, at);
+        let block = &self.blocks[index];
+        (index, block.items[at - block.start])
+    }
+
+    /// What stands at a place of the list.
+    pub fn get(&self, at: usize) -> u32
+        requires { at < length self.now }
+        ensures { result ≡ slice_index self.now at }
+    {
+        self.get_between(0, 0, at).1
+    }
+
+    /// Adds one before a place of the list.
+    pub fn insert(&mut self, at: usize, place: u32) -> Result<(), Memory>
+        requires within { at ≤ length self.old }
+        requires short { length self.old < 131072 }
+        ensures ok { IfOk result (λ _. self.new ≡ insert self.old at place) }
+        ensures err { OnErr result (self.new ≡ self.old) }
+    {
+        make_room(self.alloc, &mut self.blocks, at)?;
+        put(&mut self.blocks, at, place)
+    }
+
+    /// Takes out the one at a place of the list.
+    pub fn remove(&mut self, at: usize)
+        requires { at < length self.old }
+        ensures { self.new ≡ remove self.old at }
+    {
+        let index = block_at(&self.blocks, 0, 0, at);
+        let start = self.blocks[index].start;
+        self.blocks[index].items.remove(at - start);
+        join(self.alloc, &mut self.blocks, index);
+        lay(&mut self.blocks);
+    }
+
+    /// Takes out those from a place of the list on, up to another.
+    pub fn cut(&mut self, start: usize, end: usize)
+        requires ordered { start ≤ end }
+        requires within { end ≤ length self.old }
+        ensures { self.new ≡ without_range start end self.old }
+    {
+        let mut at = end;
+        while at > start {
+            at -= 1;
+            self.remove(at);
+        }
+    }
+
+    /// Takes out all.
+    pub fn clear(&mut self)
+        ensures { self.new ≡ [] }
+    {
+        self.blocks.clear();
+    }
+}
