@@ -1,9 +1,10 @@
 -- A list of places in blocks.
 use Rattle.std.proofs.Common.{◌≡◌, ◌⊎◌, inl, inr, ℕ, zero, suc, ◌+◌, ◌-◌, ◌<◌, ◌≤◌, List, [], ◌∷◌, ◌++◌, length, get_or, set, take, drop, insert, append_assoc, refl, sym, ap, subst, ◌∙◌, arith}
 use Rattle.std.specs.List.{remove}
-use Rattle.std.proofs.lemmas.List.{length-append, get_or_append_left, get_or-append_right, get_or_default, append-nil, take-append-drop}
+use Rattle.std.proofs.lemmas.List.{length-append, get_or_append_left, get_or-append_right, get_or_default, append-nil, drop_all, take_all, take-append-drop}
 use Rattle.std.proofs.lemmas.List.Edits.{insert-append_left, insert-append_right, remove-append_left, remove-append_right}
 use Rattle.content_store.specs.declared.places.Block.{Block}
+use Rattle.content_store.specs.Uses.{without_range}
 use Rattle.content_store.specs.Places.{AreLaid, IsIn, IsLaid, flat}
 
 pub flat-append : (xs ys : List Block) → flat (xs ++ ys) ≡ flat xs ++ flat ys
@@ -105,6 +106,50 @@ flat_join [] i d both lt same = absurd (omega arith)
 flat_join (b ∷ []) zero d both lt same = absurd (omega arith)
 flat_join (b ∷ c ∷ bs) zero d both lt same = ap (λ (l : List ℕ). l ++ flat bs) same ∙ append_assoc b.items.items c.items.items (flat bs)
 flat_join (b ∷ bs) (suc i) d both lt same = ap (λ (l : List ℕ). b.items.items ++ l) (flat_join bs i d both (omega arith) same)
+
+pub flat_drop : (bs : List Block) (i : ℕ) (d : Block) → i < length bs → (get_or bs i d).items.items ≡ [] → flat (remove bs i) ≡ flat bs
+unfolding flat
+flat_drop [] i d lt none = absurd (omega arith)
+flat_drop (b ∷ bs) zero d lt none = sym (ap (λ (l : List ℕ). l ++ flat bs) none)
+flat_drop (b ∷ bs) (suc i) d lt none = ap (λ (l : List ℕ). b.items.items ++ l) (flat_drop bs i d (omega arith) none)
+
+-- ---- a range goes
+
+low_or_high : (m n : ℕ) → (m ≤ n) ⊎ (n ≤ m)
+low_or_high m n = grind arith
+
+range_none : (start end : ℕ) → without_range {X = ℕ} start end [] ≡ []
+range_none start end =
+    let front : take {A = ℕ} start [] ≡ [] = take_all start [] (omega arith) in
+    let back : drop {A = ℕ} end [] ≡ [] = drop_all end [] (omega arith) in
+    λ k. front k ++ back k
+
+-- a range of two lists, one after the other
+range_append : (xs ys : List ℕ) (start end s e : ℕ) → start ≤ end → s ≡ start - length xs → e ≡ end - length xs → without_range start end (xs ++ ys) ≡ without_range start end xs ++ without_range s e ys
+range_append [] ys start end s e le low high =
+    let one : start ≡ s = omega arith in
+    let two : end ≡ e = omega arith in
+    (λ k. without_range (one k) (two k) ys) ∙ ap (λ (l : List ℕ). l ++ without_range s e ys) (sym (range_none start end))
+range_append (x ∷ xs) ys zero zero s e le low high =
+    let one : 0 ≡ s = omega arith in
+    let two : 0 ≡ e = omega arith in
+    λ k. (x ∷ xs) ++ without_range (one k) (two k) ys
+range_append (x ∷ xs) ys zero (suc end) s e le low high = range_append xs ys zero end s e (omega arith) (omega arith) (omega arith)
+range_append (x ∷ xs) ys (suc start) zero s e le low high = absurd (omega arith)
+range_append (x ∷ xs) ys (suc start) (suc end) s e le low high = ap (λ (l : List ℕ). x ∷ l) (range_append xs ys start end s e (omega arith) (omega arith) (omega arith))
+
+pub flat_cut : (n : ℕ) (bs cs : List Block) (start end : ℕ) → AreLaid n bs → start ≤ end → length cs ≡ length bs
+    → ((i : ℕ) (d : Block) → i < length bs → (get_or cs i d).items.items ≡ without_range (start - (get_or bs i d).start) (end - (get_or bs i d).start) (get_or bs i d).items.items)
+    → flat cs ≡ without_range (start - n) (end - n) (flat bs)
+unfolding AreLaid flat
+flat_cut n [] [] start end a le len each = sym (range_none (start - n) (end - n))
+flat_cut n [] (c ∷ cs) start end a le len each = absurd (omega arith)
+flat_cut n (b ∷ bs) [] start end a le len each = absurd (omega arith)
+flat_cut n (b ∷ bs) (c ∷ cs) start end a le len each =
+    let first : c.items.items ≡ without_range (start - n) (end - n) b.items.items = each 0 b (omega arith) ∙ ap (λ (m : ℕ). without_range (start - m) (end - m) b.items.items) a.0 in
+    let rest = flat_cut (n + length b.items.items) bs cs start end a.1 le (omega arith) (λ i d lt. each (suc i) d (omega arith)) in
+    (λ k. first k ++ rest k)
+    ∙ sym (range_append b.items.items (flat bs) (start - n) (end - n) (start - (n + length b.items.items)) (end - (n + length b.items.items)) (omega arith) (omega arith) (omega arith))
 
 -- ---- laid anew
 

@@ -1,4 +1,4 @@
-ghost use Rattle.std.specs.Prelude.{◌≡◌, ◌+◌, ◌<◌, ◌≤◌, ◌++◌, ◌/◌, [], length, drop, insert, slice_index, slice_index_or, IfOk, OnErr, OnOk};
+ghost use Rattle.std.specs.Prelude.{◌≡◌, ◌+◌, ◌-◌, ◌<◌, ◌≤◌, ◌++◌, [], length, insert, slice_index, IfOk, OnErr, OnOk};
 ghost use Rattle.std.specs.List.{remove};
 ghost use Rattle.content_store.specs.Places.{flat, IsLaid, IsIn};
 ghost use Rattle.content_store.specs.Uses.{without_range};
@@ -138,21 +138,73 @@ fn joined(alloc: Global, first: &[u32], second: &[u32]) -> Result<Vec<u32>, Memo
     Ok(items)
 }
 
-/// Joins a block with the next one where both are short, and there is memory.
+/// Takes a block out that is empty, and joins one with the next one where both are short, and there
+/// is memory.
 fn join(alloc: Global, blocks: &mut Vec<Block>, index: usize)
     requires { index < length blocks.old.items }
     ensures { flat blocks.new.items ≡ flat blocks.old.items }
 {
+    let len = blocks[index].items.len();
+    if len == 0 {
+        blocks.remove(index);
+        return;
+    }
     if index + 1 >= blocks.len() {
         return;
     }
-    let len = blocks[index].items.len();
     if len >= MAX_BLOCK || blocks[index + 1].items.len() > MAX_BLOCK / 2 - len / 2 {
         return;
     }
     if let Ok(items) = joined(alloc, &blocks[index].items, &blocks[index + 1].items) {
         blocks[index].items = items;
         blocks.remove(index + 1);
+    }
+}
+
+/// Takes a range out of a list.
+fn cut(items: &mut Vec<u32>, start: usize, end: usize)
+    requires ordered { start ≤ end }
+    requires within { end ≤ length items.old.items }
+    ensures { items.new.items ≡ without_range start end items.old.items }
+{
+    let left = items.len() - (end - start);
+    items[start..].rotate_left(end - start);
+    items.truncate(left);
+}
+
+/// Takes out of a block what stands from a place of the list on, up to another.
+fn cut_block(block: &mut Block, start: usize, end: usize)
+    requires { start ≤ end }
+    ensures items { block.new.items.items ≡ without_range (start - block.old.start)
+        (end - block.old.start) block.old.items.items }
+{
+    let len = block.items.len();
+    let from = start.saturating_sub(block.start).min(len);
+    let to = end.saturating_sub(block.start).min(len);
+    cut(&mut block.items, from, to);
+}
+
+/// Takes out of all blocks what stands from a place of the list on, up to another.
+fn cut_blocks(blocks: &mut Vec<Block>, start: usize, end: usize)
+    requires laid { IsLaid blocks.old.items }
+    requires ordered { start ≤ end }
+    ensures { flat blocks.new.items ≡ without_range start end (flat blocks.old.items) }
+{
+    for index in 0..blocks.len() {
+        cut_block(&mut blocks[index], start, end);
+    }
+}
+
+/// Takes out the blocks that are empty.
+fn drop_empty(blocks: &mut Vec<Block>)
+    ensures { flat blocks.new.items ≡ flat blocks.old.items }
+{
+    let mut index = blocks.len();
+    while index > 0 {
+        index -= 1;
+        if blocks[index].items.is_empty() {
+            blocks.remove(index);
+        }
     }
 }
 
@@ -224,11 +276,9 @@ impl Places {
         requires within { end ≤ length self.old }
         ensures { self.new ≡ without_range start end self.old }
     {
-        let mut at = end;
-        while at > start {
-            at -= 1;
-            self.remove(at);
-        }
+        cut_blocks(&mut self.blocks, start, end);
+        drop_empty(&mut self.blocks);
+        lay(&mut self.blocks);
     }
 
     /// Takes out all.
