@@ -17,7 +17,7 @@ pub struct Block {
     pub items: Vec<u32>,
 }
 
-/// A list of places of the slab, in blocks, so that a change moves few of them.
+/// A list of places of the slab, in blocks, so that a change moves at most the places of one block.
 #[derive(Drop)]
 pub struct Places {
     alloc: Global,
@@ -35,8 +35,8 @@ impl Model for Places {
     ghost invariant = { λ p. IsLaid p.blocks.items };
 }
 
-/// The block in which a place of the list is, or would go. Two blocks may be known between which it
-/// is.
+/// The block in which a place of the list is, or would go. `first` and `last` are a hint: it is
+/// looked for between these blocks where it is there, and else among all.
 fn block_at(blocks: &[Block], first: usize, last: usize, at: usize) -> usize
     requires laid { IsLaid blocks.now }
     requires some { 0 < length blocks.now }
@@ -62,7 +62,7 @@ fn block_at(blocks: &[Block], first: usize, last: usize, at: usize) -> usize
     low
 }
 
-/// Has each block tell where it begins.
+/// Writes into each block where it begins.
 fn lay(blocks: &mut Vec<Block>)
     requires { length (flat blocks.old.items) ≤ 131072 }
     ensures same { flat blocks.new.items ≡ flat blocks.old.items }
@@ -228,8 +228,8 @@ impl Places {
         }
     }
 
-    /// What stands at a place of the list, and in which block. Two blocks may be known between
-    /// which it is.
+    /// What stands at a place of the list, and in which block. `first` and `last` are a hint: the
+    /// block is looked for between these where it is there, and else among all.
     pub fn get_between(&self, first: usize, last: usize, at: usize) -> (usize, u32)
         requires { at < length self.now }
         ensures { result.1 ≡ slice_index self.now at }

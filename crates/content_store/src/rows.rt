@@ -67,6 +67,7 @@ fn lower_bound(entries: &Slab<Row>, order: &Places, sought: Sought<'_>, steps: &
 {
     let mut low = 0;
     let mut high = order.len();
+    // Between these blocks the place is, which makes each next one quick to find.
     let mut first = 0;
     let mut last = usize::MAX;
     while low < high {

@@ -1,4 +1,4 @@
-use Rattle.std.proofs.Common.{◌≡◌, ◌-◌, ◌<◌, ◌≤◌, ℕ, length, vec_len, ◌∙◌, arith, rules}
+use Rattle.std.proofs.Common.{◌≡◌, ◌-◌, length, vec_len, ◌∙◌, arith, rules}
 use Rattle.content_store.specs.Places.{flat}
 use Rattle.content_store.specs.Uses.{without_range}
 use Rattle.content_store.proofs.Flat.{flat_cut}

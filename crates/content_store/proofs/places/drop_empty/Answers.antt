@@ -1,4 +1,4 @@
-use Rattle.std.proofs.Common.{◌≡◌, ◌-◌, ◌<◌, ◌≤◌, List, [], ℕ, length, vec_len, get_or, eqb-true, ap, sym, ◌∙◌, arith, rules}
+use Rattle.std.proofs.Common.{◌≡◌, ◌-◌, ◌<◌, [], length, vec_len, get_or, eqb-true, ap, sym, ◌∙◌, arith, rules}
 use Rattle.std.proofs.lemmas.List.{nil_from_length}
 use Rattle.std.proofs.lemmas.List.Edits.{length-remove}
 use Rattle.content_store.specs.declared.places.Block.{Block}

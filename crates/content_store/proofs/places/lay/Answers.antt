@@ -1,5 +1,5 @@
-use Rattle.std.proofs.Common.{◌≡◌, ℕ, ◌+◌, ◌<◌, ◌≤◌, ◌++◌, List, [], ◌∷◌, length, vec_len, get_or, take, set, ap, sym, subst, ◌∙◌, refl, arith, rules}
-use Rattle.std.proofs.lemmas.List.{take_all, take_more_set, length-append, length-set, get_or-set_same}
+use Rattle.std.proofs.Common.{◌≡◌, ◌+◌, ◌<◌, List, length, vec_len, take, set, ap, sym, subst, ◌∙◌, refl, arith, rules}
+use Rattle.std.proofs.lemmas.List.{take_more_set, length-append, length-set, get_or-set_same}
 use Rattle.content_store.specs.declared.places.Block.{Block}
 use Rattle.content_store.specs.Places.{AreLaid, flat}
 use Rattle.content_store.proofs.Flat.{flat_none, flat_push, flat_set, laid_none, laid_push, length-flat_take}

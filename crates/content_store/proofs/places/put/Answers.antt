@@ -1,4 +1,4 @@
-use Rattle.std.proofs.Common.{◌≡◌, ℕ, ◌-◌, ◌<◌, ◌≤◌, ◌+◌, List, length, get_or, set, insert, ap, sym, subst, ◌∙◌, arith, rules}
+use Rattle.std.proofs.Common.{◌≡◌, ◌-◌, ◌<◌, List, length, get_or, set, insert, ap, subst, ◌∙◌, arith, rules}
 use Rattle.std.proofs.lemmas.List.Edits.{length-insert}
 use Rattle.content_store.specs.declared.places.Block.{Block}
 use Rattle.content_store.specs.Places.{IsIn, flat}

@@ -1,4 +1,4 @@
-use Rattle.std.proofs.Common.{◌≡◌, ℕ, suc, ◌+◌, ◌-◌, ◌/◌, ◌<◌, ◌≤◌, ◌++◌, List, length, get_or, set, take, drop, insert, ap, sym, subst, ◌∙◌, arith}
+use Rattle.std.proofs.Common.{◌≡◌, ℕ, suc, ◌+◌, ◌-◌, ◌/◌, ◌++◌, List, length, get_or, set, take, drop, insert, ap, sym, ◌∙◌, arith}
 use Rattle.std.proofs.lemmas.List.{get_or_default, take-append-drop, take_rest}
 use Rattle.std.proofs.lemmas.List.Edits.{get_or-insert_below}
 use Rattle.content_store.specs.declared.places.Block.{Block}

@@ -1,11 +1,9 @@
-use Rattle.std.proofs.Common.{◌≡◌, ℕ, ◌+◌, ◌<◌, List, length, get_or, ap, sym, subst, ◌∙◌, arith}
+use Rattle.std.proofs.Common.{◌≡◌, ◌<◌, length, get_or, ap, ◌∙◌, arith}
 use Rattle.std.specs.Prelude.{nat_eq}
 use Rattle.std.specs.Map.{remove_entry}
 use Rattle.slab.specs.Slab.{get}
 use Rattle.content_store.specs.Rows.{shown, IsRows}
 use Rattle.content_store.proofs.Shown.{length-shown, valid_shown}
-use Rattle.content_store.specs.Blocks.{AreBounds, Follows}
-use Rattle.content_store.specs.declared.blocks.Change.TheVariants.{Removed}
 use Rattle.content_store.proofs.Bounds.{one_removed}
 use Rattle.content_store.proofs.Edits.{forgotten}
 use Rattle.std.specs.List.{remove}

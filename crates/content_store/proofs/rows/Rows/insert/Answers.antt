@@ -1,6 +1,6 @@
-use Rattle.std.proofs.Common.{◌≡◌, ℕ, List, length, insert, ap, sym, subst, ◌∙◌, arith}
+use Rattle.std.proofs.Common.{◌≡◌, List, length, insert, ap, sym, subst, ◌∙◌, arith}
 use Rattle.slab.specs.Slab.{get}
-use Rattle.content_store.specs.Blocks.{AreBounds, Follows}
+use Rattle.content_store.specs.Blocks.{Follows}
 use Rattle.content_store.specs.declared.blocks.Change.TheVariants.{Added}
 use Rattle.content_store.specs.Rows.{Placed, shown, Rising, IsRows}
 use Rattle.content_store.proofs.Shown.{length-shown, valid_shown}

@@ -1,4 +1,4 @@
-use Rattle.std.proofs.Common.{◌≡◌, length, ap, sym, ◌∙◌, subst}
+use Rattle.std.proofs.Common.{length, ap, sym, ◌∙◌, subst}
 use Rattle.slab.specs.Slab.{get}
 use Rattle.content_store.specs.Rows.{IsValidRows}
 use Rattle.content_store.proofs.Shown.{length-shown, valid_shown}

@@ -1,8 +1,8 @@
-use Rattle.std.proofs.Common.{◌≡◌, ◌-◌, ℕ, List, length, sym, ap, subst, ◌∙◌, arith}
+use Rattle.std.proofs.Common.{◌≡◌, ◌-◌, ℕ, List, sym, ap, subst, ◌∙◌, arith}
 use Rattle.slab.specs.Slab.{get}
 use Rattle.ndn_names.specs.View.{components}
 use Rattle.content_store.specs.declared.blocks.Change.TheVariants.{Removed}
-use Rattle.content_store.specs.Blocks.{AreBounds, Follows}
+use Rattle.content_store.specs.Blocks.{Follows}
 use Rattle.content_store.specs.Rows.{IsRows, Placed, shown}
 use Rattle.content_store.proofs.Shown.{length-shown}
 use Rattle.content_store.specs.Uses.{Sound, TakesUnder, without_range}
