@@ -22,7 +22,7 @@ use Rattle.pit_fib.specs.Records.{InRecord, Records}
 use Rattle.repo_core.specs.Objects.{Objects, first_octets, full_name_answers, if_kept, kept, served}
 use Rattle.repo_core.proofs.FullNames.{as_data}
 use Rattle.repo_core.proofs.Kept.{entries-kept, get-kept}
-use Rattle.forwarder.specs.Event.{PlainEvent, Packet, FaceUp, FaceDown, Tick, moment}
+use Rattle.forwarder.specs.Event.{PlainEvent, Packet, FaceUp, FaceDown, Tick, NewRules, moment}
 use Rattle.forwarder.specs.Faces.{is_open}
 use Rattle.forwarder.specs.Verdict.{Answer}
 use Rattle.forwarder.specs.Policy.{Policy, at_moment}
@@ -58,6 +58,7 @@ decided_reads p (Packet face now octets) whole d e = by_open (is_open face p.fac
 decided_reads p (FaceUp face scope now) whole d e = cc e
 decided_reads p (FaceDown face now) whole d e = cc e
 decided_reads p (Tick now) whole d e = cc e
+decided_reads p (NewRules rules keys now) whole d e = cc e
 
 allowed_reads : (first : Policy) (run : Run) (whole : List ℕ) (d : PlainData) → AllowedIn first run (AData whole d) → frame_at whole ≡ Ok (AData whole d)
 allowed_reads first Start whole d h = absurd h

@@ -9,7 +9,7 @@ use Rattle.info_rules.specs.declared.decision.Decision.{Decision}
 use Rattle.info_rules.specs.declared.decision.Decision.TheVariants as decided
 use Rattle.pit_fib.specs.Records.{Pending}
 use Rattle.content_store.specs.Store.{CachedData}
-use Rattle.forwarder.specs.Event.{PlainEvent, Packet, FaceUp, FaceDown, Tick}
+use Rattle.forwarder.specs.Event.{PlainEvent, Packet, FaceUp, FaceDown, Tick, NewRules}
 use Rattle.forwarder.specs.Faces.{is_open}
 use Rattle.forwarder.specs.Event.{moment}
 use Rattle.forwarder.specs.Verdict.{Answer, DropReason, DataAllowed, Dropped, WhereTrue, NoFace, Scope as OutOfScope, dropped}
@@ -84,6 +84,7 @@ event_came first before (Packet face at octets) answer c now is reply used =
 event_came first before (FaceUp face scope at) answer c now is reply used = cc used
 event_came first before (FaceDown face at) answer c now is reply used = absurd (closing_inserts now face answer.verdict c used)
 event_came first before (Tick at) answer c now is reply used = cc used
+event_came first before (NewRules rules keys at) answer c now is reply used = cc used
 
 pub cached_came_allowed : (first : Policy) (run : Run) (c : CachedData) → IsRun first run → MayHold run c → CameAllowed first run c
 cached_came_allowed first Start c is h = absurd h

@@ -19,7 +19,7 @@ use Rattle.strategies.specs.declared.strategy.Choice.TheVariants as choices
 use Rattle.mgmt_core.specs.Writing.{segment_at}
 use Rattle.repo_core.specs.Objects.{served}
 use Rattle.pit_fib.specs.declared.faces.TheConstants.{MAX_FACES}
-use Rattle.forwarder.specs.Event.{PlainEvent, Packet, FaceUp, FaceDown, Tick}
+use Rattle.forwarder.specs.Event.{PlainEvent, Packet, FaceUp, FaceDown, Tick, NewRules}
 use Rattle.forwarder.specs.Faces.{is_open}
 use Rattle.forwarder.specs.Event.{to_each}
 use Rattle.forwarder.specs.Verdict.{Answer, Dropped, WhereTrue, BadFace, FaceOpen, FacesFull, Loop, NoFace, NoSegment, PitFull, Scope as OutOfScope, dropped, passed}
@@ -175,3 +175,4 @@ module _ (p : Policy) (records : PlainKey → Records) (full : Bool) (G : PlainK
   denied_effect (FaceDown face now) h new e =
       never (mild_is answer (if is_open face p.faces then passed [] else dropped NoFace) h (mild_closing (is_open face p.faces)))
   denied_effect (Tick now) h new e = never (mild_is answer (passed []) h refl)
+  denied_effect (NewRules rules keys now) h new e = never (mild_is answer (passed []) h refl)

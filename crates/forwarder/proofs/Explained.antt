@@ -25,7 +25,7 @@ use Rattle.mgmt_core.specs.Writing.{segment_at}
 use Rattle.repo_core.specs.declared.reply.Want.{Want}
 use Rattle.repo_core.specs.Objects.{served}
 use Rattle.pit_fib.specs.declared.faces.TheConstants.{MAX_FACES}
-use Rattle.forwarder.specs.Event.{PlainEvent, Packet, FaceUp, FaceDown, Tick, Send}
+use Rattle.forwarder.specs.Event.{PlainEvent, Packet, FaceUp, FaceDown, Tick, NewRules, Send}
 use Rattle.forwarder.specs.Faces.{is_open}
 use Rattle.forwarder.specs.Event.{to_each}
 use Rattle.forwarder.specs.Verdict.{Answer, DropReason, Dropped, WhereTrue, BadFace, FaceOpen, FacesFull, Idle as IsIdle, Loop, Malformed, NoFace, NoSegment, PitFull, Scope as OutOfScope, dropped, passed}
@@ -263,3 +263,5 @@ all_explained seen (FaceDown face now) answer fits h = each_is seen (FaceDown fa
     by_open true = All-nil (IsExplained seen (FaceDown face now))
     by_open false = All-nil (IsExplained seen (FaceDown face now))
 all_explained seen (Tick now) answer fits h = each_is seen (Tick now) answer (passed []) h (All-nil (IsExplained seen (Tick now)))
+all_explained seen (NewRules rules keys now) answer fits h =
+    each_is seen (NewRules rules keys now) answer (passed []) h (All-nil (IsExplained seen (NewRules rules keys now)))

@@ -3,11 +3,13 @@ use Rattle.std.proofs.Common.{◌≡◌, ℕ, List, [], length, drop, Result, Ok
 use Rattle.std.specs.Prelude.{IfOk, OnErr}
 use Rattle.std.proofs.lemmas.List.{append-nil, drop_at}
 use Rattle.ndn_tlv.specs.declared.memory.Memory.{Memory}
-use Rattle.pit_fib.specs.Records.{Pending}
+use Rattle.hmac_keys.specs.KeyFile.{NamedKey}
+use Rattle.info_rules.specs.Rule.{PlainRule}
+use Rattle.pit_fib.specs.Records.{Pending, HoldsTheLiving, records_at}
 use Rattle.forwarder.specs.declared.verdict.Verdict as code
-use Rattle.forwarder.specs.Event.{PlainEvent, Send, Tick}
+use Rattle.forwarder.specs.Event.{PlainEvent, NewRules, Send, Tick}
 use Rattle.forwarder.specs.Node.{NodeState, IsStep, Unharmed}
-use Rattle.forwarder.specs.Policy.{Policy}
+use Rattle.forwarder.specs.Policy.{Policy, with_rules}
 use Rattle.forwarder.specs.Runs.{Run, Then, IsRun, Stands}
 use Rattle.forwarder.specs.State.{IsLater, IsSound}
 use Rattle.forwarder.specs.Verdict.{passed, verdict_of}
@@ -60,4 +62,19 @@ tick_step old new now later = record {
   pending = λ key. refl;
   alive = later.living;
   cache = later.cache;
+}
+
+-- rules and keys come, and nothing else happens
+pub rules_step : (old later new : NodeState) (rules : List PlainRule) (keys : List NamedKey) (now : ℕ) → IsLater old now later
+    → new.policy ≡ with_rules later.policy rules keys → new.pending ≡ later.pending → new.cache ≡ later.cache
+    → IsStep old (NewRules rules keys now) (passed []) new
+rules_step old later new rules keys now h policy pending cache = record {
+  waiting = later.pending;
+  living = h.living;
+  expiry = h.expiry;
+  replies = refl;
+  policy = policy ∙ ap (λ (p : Policy). with_rules p rules keys) h.policy;
+  pending = λ key. ap (λ (p : Pending). records_at p key) pending;
+  alive = subst HoldsTheLiving (sym pending) h.living;
+  cache = cache ∙ h.cache;
 }

@@ -11,7 +11,7 @@ use Rattle.ndn_packets.specs.Packet.{PlainInterest, PlainData, PlainFrame, AnInt
 use Rattle.ndn_packets.specs.declared.fault.PacketFault.{PacketFault}
 use Rattle.info_rules.specs.declared.decision.Decision.{Decision}
 use Rattle.info_rules.specs.declared.decision.Decision.TheVariants as decided
-use Rattle.forwarder.specs.Event.{PlainEvent, Packet, FaceUp, FaceDown, Tick}
+use Rattle.forwarder.specs.Event.{PlainEvent, Packet, FaceUp, FaceDown, Tick, NewRules}
 use Rattle.forwarder.specs.Faces.{is_open}
 use Rattle.forwarder.specs.Event.{moment}
 use Rattle.forwarder.specs.Verdict.{Answer, WhereTrue, NoFace, Scope as OutOfScope, dropped}
@@ -22,30 +22,21 @@ use Rattle.forwarder.specs.Commands.{command_answer}
 use Rattle.forwarder.specs.Replies.{Replies, RepliesBySaid, RepliesToCommand, RepliesToData, RepliesToPacket, RepliesToRequest}
 use Rattle.forwarder.specs.Effects.{IsAfter}
 use Rattle.forwarder.specs.Runs.{Run, Start, Then, BringsData, BringsRequest, HaveOneHistory, IsDataPacket, IsPolicyOf, KeysAreApart, IsRequestPacket, MayCache, MayReply, is_request, seen_after}
-use Rattle.forwarder.proofs.LaterMoments.{policy_keys}
+use Rattle.forwarder.proofs.LaterMoments.{policy_apart}
 use Rattle.forwarder.proofs.RunSteps.{seen_with}
 use Rattle.forwarder.proofs.OneEffect.{one_effect, one_said}
-
--- the book of a run's first policy, of every book that it has had
-pub first_apart : (first : Policy) (run : Run) → KeysAreApart first run → AreApart first.keys
-first_apart first Start apart = apart
-first_apart first (Then before event answer) apart = first_apart first before apart
-
-pub always_apart : (first : Policy) (run : Run) → AreApart first.keys → KeysAreApart first run
-always_apart first Start apart = apart
-always_apart first (Then before event answer) apart = always_apart first before apart
 
 pub one_history : (run : Run) → HaveOneHistory run run
 one_history Start = tt
 one_history (Then before event answer) = (refl, one_history before)
 
-pub one_policy : (first p q : Policy) (past other : Run) → AreApart first.keys → HaveOneHistory past other → IsPolicyOf first past p → IsPolicyOf first other q → p ≡ q
+pub one_policy : (first p q : Policy) (past other : Run) → KeysAreApart first past → HaveOneHistory past other → IsPolicyOf first past p → IsPolicyOf first other q → p ≡ q
 one_policy first p q Start Start apart same h k = h ∙ sym k
 one_policy first p q Start (Then other another reply) apart same h k = absurd same
 one_policy first p q (Then before event answer) Start apart same h k = absurd same
 one_policy first p q (Then before event answer) (Then other another reply) apart same h k =
-    let was : h.0 ≡ k.0 = one_policy first h.0 k.0 before other apart same.1 h.1 k.1 in
-    let keys : AreApart h.0.keys = subst AreApart (sym (policy_keys first before h.0 h.1)) apart in
+    let was : h.0 ≡ k.0 = one_policy first h.0 k.0 before other apart.0 same.1 h.1 k.1 in
+    let keys = policy_apart first before h.0 apart.0 h.1 in
     let after : IsAfter h.0 event q = subst (λ (e : PlainEvent). IsAfter h.0 e q) (sym same.0) (subst (λ (w : Policy). IsAfter w another q) (sym was) k.2) in
     one_effect h.0 p q event keys h.2 after
 
@@ -80,6 +71,7 @@ module _ (p : Policy) (r s : PlainKey → Records) (f g : Bool) (G H : PlainKey 
   one_answer (FaceUp face scope now) is h k = absurd is
   one_answer (FaceDown face now) is h k = absurd is
   one_answer (Tick now) is h k = absurd is
+  one_answer (NewRules rules keys now) is h k = absurd is
 
   by_said : (face : ℕ) (whole : List ℕ) (d : PlainData) (said : Decision) → RepliesBySaid (seen_with p r f G) face whole d a said
       → RepliesBySaid (seen_with p s g H) face whole d b said → a.verdict ≡ b.verdict
@@ -116,15 +108,16 @@ module _ (p : Policy) (r s : PlainKey → Records) (f g : Bool) (G H : PlainKey 
   one_verdict (FaceUp face scope now) is h k = absurd is
   one_verdict (FaceDown face now) is h k = absurd is
   one_verdict (Tick now) is h k = absurd is
+  one_verdict (NewRules rules keys now) is h k = absurd is
 
 -- what the second run shows, at the policy of the first
-module _ (first : Policy) (past other : Run) (event : PlainEvent) (a b : Answer) (apart : AreApart first.keys) (same : HaveOneHistory past other)
+module _ (first : Policy) (past other : Run) (event : PlainEvent) (a b : Answer) (apart : KeysAreApart first past) (same : HaveOneHistory past other)
     (h : MayReply first past event a) (k : MayReply first other event b) where
   was_one : k.was ≡ h.was
   was_one = sym (one_policy first h.was k.was past other apart same h.is_policy k.is_policy)
 
   keys_apart : AreApart h.was.keys
-  keys_apart = subst AreApart (sym (policy_keys first past h.was h.is_policy)) apart
+  keys_apart = policy_apart first past h.was apart h.is_policy
 
   other_replies : Replies (seen_after other (at_moment h.was (moment event)) k.waiting) event b
   other_replies = subst (λ (w : Policy). Replies (seen_after other (at_moment w (moment event)) k.waiting) event b) was_one k.replies

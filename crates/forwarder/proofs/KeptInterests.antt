@@ -24,7 +24,7 @@ use Rattle.strategies.specs.declared.strategy.Choice.{Choice}
 use Rattle.strategies.specs.declared.strategy.Choice.TheVariants as choices
 use Rattle.mgmt_core.specs.Writing.{segment_at}
 use Rattle.repo_core.specs.Objects.{served}
-use Rattle.forwarder.specs.Event.{PlainEvent, Packet, FaceUp, FaceDown, Tick, Send, moment, to_each}
+use Rattle.forwarder.specs.Event.{PlainEvent, Packet, FaceUp, FaceDown, Tick, NewRules, Send, moment, to_each}
 use Rattle.forwarder.specs.Faces.{is_open}
 use Rattle.forwarder.specs.Verdict.{Answer, Verdict, WhereTrue, Passed, Allowed, DataAllowed, Denied, NoRule, Dropped, Loop, NoFace, NoSegment, PitFull, dropped, passed}
 use Rattle.forwarder.specs.Request.{ListAsked, Request, Refused, ForList, ForTables, ForRepository, ForData, list_asked, request_of}
@@ -139,6 +139,7 @@ module _ (now : ℕ) (event : PlainEvent) (answer : Answer) (key : PlainKey) (fa
   event_kept (FaceUp from scope t) e = All-nil IsKeptBy
   event_kept (FaceDown from t) e = closing_kept from t answer.verdict
   event_kept (Tick t) e = All-nil IsKeptBy
+  event_kept (NewRules rules keys t) e = All-nil IsKeptBy
 
   all_kept : AllKept (causes_of now event answer)
   all_kept = event_kept event refl

@@ -1,8 +1,11 @@
--- The moment of a policy is the greatest one so far, and its rules, keys and prefix stay.
-use Rattle.std.proofs.Common.{◌≡◌, ℕ, Bool, true, false, List, refl, ap, ◌∙◌, Result, Ok, Err}
+-- The moment of a policy is the greatest one so far, its rules and keys are the last that came, and
+-- its prefix stays.
+use Rattle.std.proofs.Common.{◌≡◌, ◌⊎◌, inl, inr, ℕ, Bool, true, false, List, [], ◌∷◌, ◌++◌, refl, sym, ap, subst, ◌∙◌, Result, Ok, Err}
 use Rattle.std.specs.Prelude.{Option, Some, None, max, if◌then◌else◌}
+use Rattle.std.specs.List.{All}
+use Rattle.std.proofs.lemmas.List.Elements.{All-cons, All-head, All-nil, All-tail}
 use Rattle.ndn_tlv.specs.Element.{Field}
-use Rattle.hmac_keys.specs.KeyFile.{NamedKey}
+use Rattle.hmac_keys.specs.KeyFile.{AreApart, NamedKey}
 use Rattle.info_rules.specs.Rule.{PlainRule}
 use Rattle.ndn_packets.specs.Packet.{PlainInterest, PlainFrame, AnInterest, AData, ANack, Idle}
 use Rattle.info_rules.specs.declared.decision.Decision.{Decision}
@@ -11,16 +14,17 @@ use Rattle.replay_guard.specs.Freshness.{Recorded}
 use Rattle.mgmt_core.specs.Reading.{PlainCommand, command_at}
 use Rattle.pit_fib.specs.Fib.{without_face}
 use Rattle.forwarder.specs.declared.event.Scope.{Scope}
-use Rattle.forwarder.specs.Event.{PlainEvent, Packet, FaceUp, FaceDown, Tick}
+use Rattle.forwarder.specs.Event.{PlainEvent, Packet, FaceUp, FaceDown, Tick, NewRules}
 use Rattle.forwarder.specs.Faces.{is_open}
-use Rattle.forwarder.specs.Event.{moment}
+use Rattle.forwarder.specs.Event.{moment, rules_after}
+use Rattle.forwarder.specs.Verdict.{Answer}
 use Rattle.forwarder.specs.Faces.{with_face, without_entry}
 use Rattle.forwarder.specs.Policy.{Policy, at_moment, with_next_version}
 use Rattle.forwarder.specs.Request.{Request, Refused, ForList, ForTables, ForRepository, ForData, request_of}
 use Rattle.forwarder.specs.Said.{recorded_of}
 use Rattle.forwarder.specs.Commands.{after_request, after_tables, with_record}
 use Rattle.forwarder.specs.Effects.{IsEffect, IsAfter, after_packet, after_said, can_open, decided_packet, face_in, undecided_effect, with_closed, with_open}
-use Rattle.forwarder.specs.Runs.{Run, Start, Then, IsPolicyOf, now_of}
+use Rattle.forwarder.specs.Runs.{Run, Start, Then, AreLastRules, BringsKeysApart, BringsNoRules, HasNoNewRules, IsPolicyOf, KeysAreApart, events_back, now_of}
 
 -- what an event's effect leaves as it was once its moment has come
 abbrev Lasting : Type 0
@@ -40,12 +44,6 @@ closing_keeps : (p : Policy) (face : ℕ) → lasting (with_closed p face) ≡ l
 closing_keeps p face =
     one_keeps (is_open face p.faces)
     (with_next_version (record p { faces = without_entry face p.faces; routes = without_face p.routes face })) p refl
-
-undecided_keeps : (p : Policy) (event : PlainEvent) → lasting (undecided_effect p event) ≡ lasting p
-undecided_keeps p (Packet face now octets) = refl
-undecided_keeps p (FaceUp face scope now) = opening_keeps p face scope
-undecided_keeps p (FaceDown face now) = closing_keeps p face
-undecided_keeps p (Tick now) = refl
 
 tables_keep : (p : Policy) (face : ℕ) (c : Result PlainCommand ℕ) → lasting (after_tables p face c) ≡ lasting p
 tables_keep p face (Err status) = refl
@@ -74,22 +72,39 @@ said_keeps p face packet (Allowed rule) = packet_keeps p face packet
 said_keeps p face packet (Denied rule reason) = refl
 said_keeps p face packet NoRule = refl
 
-effect_keeps : (p new : Policy) (event : PlainEvent) (packet : Option PlainFrame) → IsEffect p event new packet → lasting new ≡ lasting p
-effect_keeps p new event None h = ap lasting h ∙ undecided_keeps p event
-effect_keeps p new event (Some packet) h =
-    ap lasting h.2 ∙ said_keeps p (face_in event) packet h.0
+-- the keys that are in force after an event
+abbrev keys_after : PlainEvent → List NamedKey → List NamedKey
+keys_after (Packet face now octets) keys = keys
+keys_after (FaceUp face scope now) keys = keys
+keys_after (FaceDown face now) keys = keys
+keys_after (Tick now) keys = keys
+keys_after (NewRules rules new now) keys = new
 
-after_lasts : (old new : Policy) (event : PlainEvent) → IsAfter old event new → lasting new ≡ lasting (at_moment old (moment event))
-after_lasts old new event h =
-    let p = at_moment old (moment event) in effect_keeps p new event (decided_packet p event) h
+-- the same once an event has had its effect: it may have brought rules and keys
+abbrev lasting_after : PlainEvent → Policy → Lasting
+lasting_after event p = (p.now, (rules_after event p.rules, (keys_after event p.keys, p.repo)))
+
+read_keeps : (p new : Policy) (face now : ℕ) (octets : List ℕ) (packet : Option PlainFrame) → IsEffect p (Packet face now octets) new packet → lasting new ≡ lasting p
+read_keeps p new face now octets None h = ap lasting h
+read_keeps p new face now octets (Some packet) h = ap lasting h.2 ∙ said_keeps p face packet h.0
+
+effect_keeps : (p new : Policy) (event : PlainEvent) → IsEffect p event new (decided_packet p event) → lasting new ≡ lasting_after event p
+effect_keeps p new (Packet face now octets) h = read_keeps p new face now octets (decided_packet p (Packet face now octets)) h
+effect_keeps p new (FaceUp face scope now) h = ap lasting h ∙ opening_keeps p face scope
+effect_keeps p new (FaceDown face now) h = ap lasting h ∙ closing_keeps p face
+effect_keeps p new (Tick now) h = ap lasting h
+effect_keeps p new (NewRules rules keys now) h = ap lasting h
+
+after_lasts : (old new : Policy) (event : PlainEvent) → IsAfter old event new → lasting new ≡ lasting_after event (at_moment old (moment event))
+after_lasts old new event h = effect_keeps (at_moment old (moment event)) new event h
 
 pub after_now : (old new : Policy) (event : PlainEvent) → IsAfter old event new → new.now ≡ max old.now (moment event)
 after_now old new event h = ap (λ (l : Lasting). l.0) (after_lasts old new event h)
 
-pub after_keys : (old new : Policy) (event : PlainEvent) → IsAfter old event new → new.keys ≡ old.keys
+after_keys : (old new : Policy) (event : PlainEvent) → IsAfter old event new → new.keys ≡ keys_after event old.keys
 after_keys old new event h = ap (λ (l : Lasting). l.1.1.0) (after_lasts old new event h)
 
-pub after_rules : (old new : Policy) (event : PlainEvent) → IsAfter old event new → new.rules ≡ old.rules
+pub after_rules : (old new : Policy) (event : PlainEvent) → IsAfter old event new → new.rules ≡ rules_after event old.rules
 after_rules old new event h = ap (λ (l : Lasting). l.1.0) (after_lasts old new event h)
 
 pub policy_now : (first : Policy) (past : Run) (p : Policy) → first.now ≡ 0 → IsPolicyOf first past p → p.now ≡ now_of past
@@ -97,6 +112,94 @@ policy_now first Start p zero h = ap (λ (q : Policy). q.now) h ∙ zero
 policy_now first (Then before event answer) p zero h =
     after_now h.0 p event h.2 ∙ ap (λ (n : ℕ). max n (moment event)) (policy_now first before h.0 zero h.1)
 
-pub policy_keys : (first : Policy) (past : Run) (p : Policy) → IsPolicyOf first past p → p.keys ≡ first.keys
-policy_keys first Start p h = ap (λ (q : Policy). q.keys) h
-policy_keys first (Then before event answer) p h = after_keys h.0 p event h.2 ∙ policy_keys first before h.0 h.1
+-- ---- the keys in force are apart
+
+apart_after : (event : PlainEvent) (keys : List NamedKey) → AreApart keys → BringsKeysApart event → AreApart (keys_after event keys)
+apart_after (Packet face now octets) keys apart brings = apart
+apart_after (FaceUp face scope now) keys apart brings = apart
+apart_after (FaceDown face now) keys apart brings = apart
+apart_after (Tick now) keys apart brings = apart
+apart_after (NewRules rules new now) keys apart brings = brings
+
+pub policy_apart : (first : Policy) (past : Run) (p : Policy) → KeysAreApart first past → IsPolicyOf first past p → AreApart p.keys
+policy_apart first Start p apart h = subst (λ (q : Policy). AreApart q.keys) (sym h) apart
+policy_apart first (Then before event answer) p apart h =
+    subst AreApart (sym (after_keys h.0 p event h.2)) (apart_after event h.0.keys (policy_apart first before h.0 apart.0 h.1) apart.1)
+
+pub books_apart : (first : Policy) (past : Run) → AreApart first.keys → All BringsKeysApart (events_back past) → KeysAreApart first past
+books_apart first Start apart brings = apart
+books_apart first (Then before event answer) apart brings =
+    (books_apart first before apart (All-tail BringsKeysApart event (events_back before) brings), All-head BringsKeysApart event (events_back before) brings)
+
+-- ---- the rules and keys in force are the last that came
+
+brings_none : (event : PlainEvent) (rules : List PlainRule) (keys : List NamedKey) → BringsNoRules event
+    → (rules_after event rules ≡ rules) × (keys_after event keys ≡ keys)
+brings_none (Packet face now octets) rules keys none = (refl, refl)
+brings_none (FaceUp face scope now) rules keys none = (refl, refl)
+brings_none (FaceDown face now) rules keys none = (refl, refl)
+brings_none (Tick now) rules keys none = (refl, refl)
+brings_none (NewRules new others now) rules keys none = absurd none
+
+-- an event that brings none leaves those in force
+none_come : (was p : Policy) (event : PlainEvent) → BringsNoRules event → IsAfter was event p → (p.rules ≡ was.rules) × (p.keys ≡ was.keys)
+none_come was p event none h =
+    let same = brings_none event was.rules was.keys none in (after_rules was p event h ∙ same.0, after_keys was p event h ∙ same.1)
+
+last_in_force : (first p : Policy) (past : Run) (rules : List PlainRule) (keys : List NamedKey) (later earlier : List PlainEvent) (now : ℕ)
+    → IsPolicyOf first past p → events_back past ≡ later ++ (NewRules rules keys now ∷ earlier) → All BringsNoRules later
+    → (p.rules ≡ rules) × (p.keys ≡ keys)
+last_in_force first p Start rules keys [] earlier now h e all = cc e
+last_in_force first p Start rules keys (x ∷ later) earlier now h e all = cc e
+last_in_force first p (Then before event answer) rules keys [] earlier now h e all =
+    let same : event ≡ NewRules rules keys now = cc e in (
+      after_rules h.0 p event h.2 ∙ ap (λ (x : PlainEvent). rules_after x h.0.rules) same,
+      after_keys h.0 p event h.2 ∙ ap (λ (x : PlainEvent). keys_after x h.0.keys) same,
+    )
+last_in_force first p (Then before event answer) rules keys (x ∷ later) earlier now h e all =
+    let same : x ≡ event = cc e in
+    let rest : events_back before ≡ later ++ (NewRules rules keys now ∷ earlier) = cc e in
+    let none : BringsNoRules event = subst BringsNoRules same (All-head BringsNoRules x later all) in
+    let stay = none_come h.0 p event none h.2 in
+    let was = last_in_force first h.0 before rules keys later earlier now h.1 rest (All-tail BringsNoRules x later all) in
+    (stay.0 ∙ was.0, stay.1 ∙ was.1)
+
+pub last_rules : (first p : Policy) (past : Run) (rules : List PlainRule) (keys : List NamedKey) → IsPolicyOf first past p → AreLastRules past rules keys
+    → (p.rules ≡ rules) × (p.keys ≡ keys)
+last_rules first p past rules keys h last = last_in_force first p past rules keys last.later last.earlier last.now h last.are_events last.are_last
+
+pub first_rules : (first p : Policy) (past : Run) → IsPolicyOf first past p → HasNoNewRules past → (p.rules ≡ first.rules) × (p.keys ≡ first.keys)
+first_rules first p Start h none = (ap (λ (q : Policy). q.rules) h, ap (λ (q : Policy). q.keys) h)
+first_rules first p (Then before event answer) h none =
+    let stay = none_come h.0 p event (All-head BringsNoRules event (events_back before) none) h.2 in
+    let was = first_rules first h.0 before h.1 (All-tail BringsNoRules event (events_back before) none) in
+    (stay.0 ∙ was.0, stay.1 ∙ was.1)
+
+abbrev MayHaveRules : Run → Type 0
+MayHaveRules past = HasNoNewRules past ⊎ ((rules : List PlainRule) × (keys : List NamedKey) × AreLastRules past rules keys)
+
+more_back : (before : Run) (event : PlainEvent) (answer : Answer) → BringsNoRules event → MayHaveRules before → MayHaveRules (Then before event answer)
+more_back before event answer none (inl all) = inl (All-cons BringsNoRules event (events_back before) none all)
+more_back before event answer none (inr (rules, keys, last)) = inr (
+  rules,
+  keys,
+  record {
+    later = event ∷ last.later;
+    now = last.now;
+    earlier = last.earlier;
+    are_events = ap (λ (events : List PlainEvent). event ∷ events) last.are_events;
+    are_last = All-cons BringsNoRules event last.later none last.are_last;
+  },
+)
+
+pub none_or_last : (past : Run) → MayHaveRules past
+none_or_last Start = inl (All-nil BringsNoRules)
+none_or_last (Then before (Packet face now octets) answer) = more_back before (Packet face now octets) answer tt (none_or_last before)
+none_or_last (Then before (FaceUp face scope now) answer) = more_back before (FaceUp face scope now) answer tt (none_or_last before)
+none_or_last (Then before (FaceDown face now) answer) = more_back before (FaceDown face now) answer tt (none_or_last before)
+none_or_last (Then before (Tick now) answer) = more_back before (Tick now) answer tt (none_or_last before)
+none_or_last (Then before (NewRules rules keys now) answer) = inr (
+  rules,
+  keys,
+  record { later = []; now = now; earlier = events_back before; are_events = refl; are_last = All-nil BringsNoRules },
+)

@@ -13,7 +13,7 @@ use Rattle.info_rules.specs.declared.decision.Decision.TheVariants as decided
 use Rattle.info_rules.specs.declared.rule.Kind.TheVariants as kinds
 use Rattle.pit_fib.specs.Pit.{nacked_answer}
 use Rattle.pit_fib.specs.Records.{Records}
-use Rattle.forwarder.specs.Event.{PlainEvent, Packet, FaceUp, FaceDown, Tick}
+use Rattle.forwarder.specs.Event.{PlainEvent, Packet, FaceUp, FaceDown, Tick, NewRules}
 use Rattle.forwarder.specs.Faces.{is_open}
 use Rattle.forwarder.specs.Verdict.{Answer, Verdict, Denied, NoRule, WhereTrue, Malformed, NoFace, Idle as IsIdle, Scope as OutOfScope, dropped, passed}
 use Rattle.forwarder.specs.Policy.{Policy}
@@ -101,6 +101,7 @@ module _ (p : Policy) (records : PlainKey → Records) (full : Bool) (G : PlainK
   event_tells (FaceUp face scope now) h = inl (mild_is answer (opening_answer p face) h (mild_opening p face))
   event_tells (FaceDown face now) h = inl (mild_is answer (if is_open face p.faces then passed [] else dropped NoFace) h (mild_closing (is_open face p.faces)))
   event_tells (Tick now) h = inl (mild_is answer (passed []) h refl)
+  event_tells (NewRules rules keys now) h = inl (mild_is answer (passed []) h refl)
 
   pub denial_named : (event : PlainEvent) (kind : Kind) (rule : ℕ) (reason : Reason) → Replies seen event answer → answer.verdict ≡ Denied kind rule reason
       → (packet : PlainFrame) × (n : RuleNo) × (decided_packet p event ≡ Some packet) × IsSaid p packet (decided.Denied n reason) × (rule ≡ n.0) × IsDenial p (face_in event) packet (decided.Denied n reason) answer

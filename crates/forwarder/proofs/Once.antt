@@ -17,7 +17,7 @@ use Rattle.replay_guard.specs.Guard.{Latest, Table, IsAfter as IsLater, IsFresh,
 use Rattle.replay_guard.proofs.Past.{fresh_by_table, one_more}
 use Rattle.replay_guard.proofs.Signers.{signer_cmp-total}
 use Rattle.mgmt_core.specs.Reading.{PlainCommand, command_at}
-use Rattle.forwarder.specs.Event.{PlainEvent, Packet, FaceUp, FaceDown, Tick}
+use Rattle.forwarder.specs.Event.{PlainEvent, Packet, FaceUp, FaceDown, Tick, NewRules}
 use Rattle.forwarder.specs.Faces.{is_open}
 use Rattle.forwarder.specs.Verdict.{Answer}
 use Rattle.forwarder.specs.Event.{moment}
@@ -26,10 +26,10 @@ use Rattle.forwarder.specs.Request.{Request, Refused, ForList, ForTables, ForRep
 use Rattle.forwarder.specs.Said.{IsFreshCommand, IsSaid, recorded_of, recorded_with, signer_in}
 use Rattle.forwarder.specs.Commands.{after_request, after_tables, with_record}
 use Rattle.forwarder.specs.Effects.{IsAfter, IsEffect, after_packet, after_said, can_open, decided_packet, face_in, undecided_effect}
-use Rattle.forwarder.specs.Runs.{Run, Start, Then, IsPolicyOf}
+use Rattle.forwarder.specs.Runs.{Run, Start, Then, IsPolicyOf, KeysAreApart}
 use Rattle.forwarder.specs.Allowed.{Allows, AllowedIn}
 use Rattle.forwarder.proofs.Histories.{one_history, one_policy}
-use Rattle.forwarder.proofs.LaterMoments.{policy_keys}
+use Rattle.forwarder.proofs.LaterMoments.{policy_apart}
 use Rattle.forwarder.proofs.OneEffect.{one_said}
 
 -- ---- what an event does to the guard: nothing, or it records an allowed command
@@ -43,6 +43,7 @@ undecided_guard p (Packet face now octets) = refl
 undecided_guard p (FaceUp face scope now) = guard_if (can_open p face) _ p refl
 undecided_guard p (FaceDown face now) = guard_if (is_open face p.faces) _ p refl
 undecided_guard p (Tick now) = refl
+undecided_guard p (NewRules rules keys now) = refl
 
 tables_guard : (p : Policy) (face : ℕ) (c : Result PlainCommand ℕ) → (after_tables p face c).guard ≡ p.guard
 tables_guard p face (Err status) = refl
@@ -170,14 +171,14 @@ seen_when_allowed was new event whole i r apart allows is h =
     let guard : new.guard ≡ with_recorded was.guard r = ap (λ (p : Policy). p.guard) new_is ∙ ap (λ (t : Table). with_recorded t r) (request_guard q f i (request_of q f i)) in
     subst (λ (t : Table). HasSeen t r) (sym guard) (seen_now was.guard r)
 
-seen_in_run : (first : Policy) (run : Run) (p : Policy) (whole : List ℕ) (i : PlainInterest) (r : Recorded) → AreApart first.keys → IsPolicyOf first run p → recorded_of i ≡ Some r
+seen_in_run : (first : Policy) (run : Run) (p : Policy) (whole : List ℕ) (i : PlainInterest) (r : Recorded) → KeysAreApart first run → IsPolicyOf first run p → recorded_of i ≡ Some r
     → AllowedIn first run (AnInterest whole i) → HasSeen p.guard r
 seen_in_run first Start p whole i r apart h is a = absurd a
 seen_in_run first (Then before event answer) p whole i r apart h is (inl a) =
-    seen_after_event h.0 p event r (guard_after h.0 p event h.2) (seen_in_run first before h.0 whole i r apart h.1 is a)
+    seen_after_event h.0 p event r (guard_after h.0 p event h.2) (seen_in_run first before h.0 whole i r apart.0 h.1 is a)
 seen_in_run first (Then before event answer) p whole i r apart h is (inr (was, w, allows)) =
-    let one : was ≡ h.0 = one_policy first was h.0 before before apart (one_history before) w h.1 in
-    let keys : AreApart h.0.keys = subst AreApart (sym (policy_keys first before h.0 h.1)) apart in
+    let one : was ≡ h.0 = one_policy first was h.0 before before apart.0 (one_history before) w h.1 in
+    let keys = policy_apart first before h.0 apart.0 h.1 in
     seen_when_allowed h.0 p event whole i r keys (subst (λ (q : Policy). Allows q event (AnInterest whole i)) one allows) is h.2
 
 -- a command that says when it was signed can be recorded
@@ -190,14 +191,14 @@ recorded_there i s (Some time) e t some = (
 )
 
 -- where a later command of the signer is allowed, it is newer
-pub newer : (first was : Policy) (run : Run) (event : PlainEvent) (whole other : List ℕ) (i j : PlainInterest) (r s : Recorded) → AreApart first.keys → AllowedIn first run (AnInterest whole i)
+pub newer : (first was : Policy) (run : Run) (event : PlainEvent) (whole other : List ℕ) (i j : PlainInterest) (r s : Recorded) → KeysAreApart first run → AllowedIn first run (AnInterest whole i)
     → IsPolicyOf first run was → Allows was event (AnInterest other j) → recorded_of i ≡ Some r → recorded_of j ≡ Some s → r.signer ≡ s.signer → (r.time < s.time) × NumberRises r.number s.number
 newer first was run event whole other i j r s apart allowed h allows is also same =
     let seen = seen_in_run first run was whole i r apart h is allowed in
     let fresh = subst (λ (o : Option Recorded). IfSome o (λ x. IsFresh was.guard x.signer x.time x.number (at_moment was (moment event)).now)) also allows.said.1 in
     seen s.time s.number (subst (λ (k : Signer). IsLater (map.get was.guard k) s.time s.number) (sym same) fresh.1)
 
-pub never_again : (first was : Policy) (run : Run) (event : PlainEvent) (whole other : List ℕ) (i j : PlainInterest) → AreApart first.keys → AllowedIn first run (AnInterest whole i)
+pub never_again : (first was : Policy) (run : Run) (event : PlainEvent) (whole other : List ℕ) (i j : PlainInterest) → KeysAreApart first run → AllowedIn first run (AnInterest whole i)
     → IsPolicyOf first run was → Allows was event (AnInterest other j) → i.signature ≡ j.signature → ⊥
 never_again first was run event whole other i j apart allowed h allows same =
     let named = signer_named was.rules was.keys (AnInterest other j) allows.rule allows.said.0 in

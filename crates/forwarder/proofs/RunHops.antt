@@ -30,7 +30,7 @@ use Rattle.mgmt_core.specs.declared.types.TheConstants.{OK}
 use Rattle.mgmt_core.specs.Reading.{PlainCommand, command_at}
 use Rattle.mgmt_core.specs.Tables.{face_of, routes_after}
 use Rattle.mgmt_core.specs.Writing.{segment_at}
-use Rattle.forwarder.specs.Event.{PlainEvent, Packet, FaceUp, FaceDown, Tick, moment}
+use Rattle.forwarder.specs.Event.{PlainEvent, Packet, FaceUp, FaceDown, Tick, NewRules, moment}
 use Rattle.forwarder.specs.Faces.{is_open, with_face, without_entry}
 use Rattle.forwarder.specs.Verdict.{Answer, Verdict, Passed, Allowed, DataAllowed, Denied, NoRule, Dropped, WhereTrue, NoFace, NoSegment, dropped, passed}
 use Rattle.forwarder.specs.Policy.{Policy, at_moment, with_next_version}
@@ -40,11 +40,11 @@ use Rattle.forwarder.specs.Commands.{after_request, after_tables, allowed_reply,
 use Rattle.forwarder.specs.Datasets.{dataset_text, is_present, list_answer, segment_answer, segment_name}
 use Rattle.forwarder.specs.Replies.{Seen, Replies, RepliesToPacket, RepliesToRequest}
 use Rattle.forwarder.specs.Effects.{IsEffect, after_said, can_open, decided_packet, packet_to_decide}
-use Rattle.forwarder.specs.Runs.{Run, Start, Then, IsPolicyOf, IsRun, MayCache, seen_after}
+use Rattle.forwarder.specs.Runs.{Run, Start, Then, IsPolicyOf, IsRun, KeysAreApart, MayCache, seen_after}
 use Rattle.forwarder.specs.Hops.{cost_after, cost_after_command, cost_of}
 use Rattle.forwarder.specs.Outcome.{Outcome, closing_outcome, outcome_of, packet_outcome, read_outcome}
 use Rattle.forwarder.proofs.Histories.{one_history, one_policy}
-use Rattle.forwarder.proofs.LaterMoments.{policy_keys}
+use Rattle.forwarder.proofs.LaterMoments.{policy_apart}
 use Rattle.forwarder.proofs.OneEffect.{one_said}
 use Rattle.forwarder.proofs.Requests.{by_request, no_command}
 use Rattle.forwarder.proofs.RunSteps.{seen_with}
@@ -289,16 +289,17 @@ module _ (name : List Field) (face : ℕ) where
         by_open true h e = ap (λ (p : Policy). cost_in p.routes name face) e ∙ closed q.routes name down face ∙ ap (λ (x : Answer). cost_after (closing_outcome down x.verdict) name face was) (sym h)
         by_open false h e = no_change e ∙ ap (λ (x : Answer). cost_after (closing_outcome down x.verdict) name face was) (sym h)
     event_read (Tick now) h e = no_change e
+    event_read (NewRules rules keys now) h e = ap (λ (p : Policy). cost_in p.routes name face) e
 
   -- ---- runs
 
-  pub routes_read : (first p : Policy) (past : Run) → AreApart first.keys → first.routes ≡ map.empty → IsRun first past → IsPolicyOf first past p → cost_in p.routes name face ≡ cost_of past name face
+  pub routes_read : (first p : Policy) (past : Run) → KeysAreApart first past → first.routes ≡ map.empty → IsRun first past → IsPolicyOf first past p → cost_in p.routes name face ≡ cost_of past name face
   routes_read first p Start apart none is h =
       ap (λ (q : Policy). cost_in q.routes name face) h ∙ ap (λ (r : Routes). cost_in r name face) none
       ∙ ap (λ (o : Option ByFace). map.get (unwrap_or o map.empty) face) (get-empty name_cmp name) ∙ get-empty nat_cmp face
   routes_read first p (Then before event answer) apart none (is, reply) (was, w, after) =
       let q = at_moment was (moment event) in
-      let one : reply.was ≡ was = one_policy first reply.was was before before apart (one_history before) reply.is_policy w in
+      let one : reply.was ≡ was = one_policy first reply.was was before before apart.0 (one_history before) reply.is_policy w in
       let replies = subst (λ (x : Policy). Replies (seen_after before (at_moment x (moment event)) reply.waiting) event answer) one reply.replies in
-      event_read q p (records_at reply.waiting) (nat_le MAX_PENDING (map.len reply.waiting)) (MayCache before q.now) (subst AreApart (sym (policy_keys first before was w)) apart) answer event replies after
-      ∙ ap (λ (x : Option ℕ). cost_after (outcome_of event answer.verdict) name face x) (routes_read first was before apart none is w)
+      event_read q p (records_at reply.waiting) (nat_le MAX_PENDING (map.len reply.waiting)) (MayCache before q.now) (policy_apart first before was apart.0 w) answer event replies after
+      ∙ ap (λ (x : Option ℕ). cost_after (outcome_of event answer.verdict) name face x) (routes_read first was before apart.0 none is w)

@@ -12,7 +12,7 @@ use Rattle.pit_fib.specs.Cause.{Expires, records_after}
 use Rattle.pit_fib.specs.Pit.{loops}
 use Rattle.pit_fib.specs.Records.{Records, records_at}
 use Rattle.content_store.specs.Store.{CachedData, Gives}
-use Rattle.forwarder.specs.Event.{PlainEvent, Packet, FaceUp, FaceDown, Tick}
+use Rattle.forwarder.specs.Event.{PlainEvent, Packet, FaceUp, FaceDown, Tick, NewRules}
 use Rattle.forwarder.specs.Faces.{is_open}
 use Rattle.forwarder.specs.Event.{moment}
 use Rattle.forwarder.specs.Verdict.{Answer, WhereTrue}
@@ -64,6 +64,7 @@ module _ (p : Policy) (records : PlainKey → Records) (full : Bool) (G H : Plai
   more_replies (FaceUp face scope now) answer h = h
   more_replies (FaceDown face now) answer h = h
   more_replies (Tick now) answer h = h
+  more_replies (NewRules rules keys now) answer h = h
 
 -- ---- what a node shows is what the past does
 

@@ -8,6 +8,8 @@ use Rattle.ndn_packets.specs.Packet.{PlainInterest, PlainData, PlainFrame, AnInt
 use Rattle.ndn_packets.specs.Writing.{nack_text}
 use Rattle.ndn_packets.specs.declared.types.TheConstants.{DUPLICATE}
 use Rattle.ndn_packets.specs.declared.fault.PacketFault.{PacketFault}
+use Rattle.hmac_keys.specs.KeyFile.{NamedKey}
+use Rattle.info_rules.specs.Rule.{PlainRule}
 use Rattle.info_rules.specs.declared.decision.Decision.{Decision}
 use Rattle.info_rules.specs.declared.decision.Decision.TheVariants as decided
 use Rattle.pit_fib.specs.Cause.{Cause, Expires, Arrives, SentTo, Withdrawn, Closed, records_after, Follows}
@@ -26,7 +28,7 @@ use Rattle.mgmt_core.specs.Tables.{AllAreUp}
 use Rattle.mgmt_core.proofs.OpenRoutes.{closing_leaves_up, command_leaves_up}
 use Rattle.pit_fib.specs.declared.faces.TheConstants.{MAX_FACES}
 use Rattle.forwarder.specs.declared.event.Scope.{Scope}
-use Rattle.forwarder.specs.Event.{PlainEvent, Packet, FaceUp, FaceDown, Tick, Send, to_each}
+use Rattle.forwarder.specs.Event.{PlainEvent, Packet, FaceUp, FaceDown, Tick, NewRules, Send, to_each}
 use Rattle.forwarder.specs.Faces.{FaceEntry, find_scope, is_open, numbers, with_face, without_entry}
 use Rattle.forwarder.specs.Verdict.{Verdict, WhereTrue, Passed, Allowed, DataAllowed, Denied, NoRule, Dropped, NoFace, NoSegment, PitFull, Loop, Answer, dropped, passed}
 use Rattle.forwarder.specs.Policy.{Policy, at_moment, open_faces, with_next_version}
@@ -408,6 +410,12 @@ module _ (old new : NodeState) (sound : IsSound old) where
       same_faces (subst (KeepsOpen old.policy) (sym step.policy) (refl, λ all. all))
       (follows_within (λ f. is_open f old.policy.faces ≡ true) [] step.waiting new.pending tt step.pending (waits_open p.now step.waiting step.expiry))
 
+  rules_sound : (rules : List PlainRule) (keys : List NamedKey) (now : ℕ) (answer : Answer) → IsStep old (NewRules rules keys now) answer new → IsSound new
+  rules_sound rules keys now answer step =
+      let p = at_moment old.policy now in
+      same_faces (subst (KeepsOpen old.policy) (sym step.policy) (refl, λ all. all))
+      (follows_within (λ f. is_open f old.policy.faces ≡ true) [] step.waiting new.pending tt step.pending (waits_open p.now step.waiting step.expiry))
+
   module _ (face : ℕ) (scope : Scope) (now : ℕ) (answer : Answer) (step : IsStep old (FaceUp face scope now) answer new) where
     abbrev at_opening : Policy
     at_opening = at_moment old.policy now
@@ -480,3 +488,4 @@ step_sound old new (Packet face now octets) answer sound step = packet_sound old
 step_sound old new (FaceUp face scope now) answer sound step = up_sound old new sound face scope now answer step
 step_sound old new (FaceDown face now) answer sound step = down_sound old new sound face now answer step
 step_sound old new (Tick now) answer sound step = tick_sound old new sound now answer step
+step_sound old new (NewRules rules keys now) answer sound step = rules_sound old new sound rules keys now answer step

@@ -24,7 +24,7 @@ use Rattle.repo_core.specs.Reading.{RepoCommand, repo_command_at}
 use Rattle.repo_core.specs.Repo.{Held, want_key, after_delete, after_insert, after_known, after_offer, after_some, repo_status_of}
 use Rattle.repo_core.specs.Wants.{is_wanted, unfilled, want_deadline}
 use Rattle.repo_core.proofs.Kept.{get-kept}
-use Rattle.forwarder.specs.Event.{PlainEvent, Packet, FaceUp, FaceDown, Tick}
+use Rattle.forwarder.specs.Event.{PlainEvent, Packet, FaceUp, FaceDown, Tick, NewRules}
 use Rattle.forwarder.specs.Faces.{is_open}
 use Rattle.forwarder.specs.Event.{moment}
 use Rattle.forwarder.specs.Faces.{with_face, without_entry}
@@ -137,6 +137,7 @@ undecided_stored p (FaceDown face now) = by_open (is_open face p.faces)
     by_open true = refl
     by_open false = refl
 undecided_stored p (Tick now) = refl
+undecided_stored p (NewRules rules keys now) = refl
 
 stored_after : (was new : Policy) (event : PlainEvent) (name : List Field) (octets : List ℕ) → IsAfter was event new → Holds new.held.objects name octets → StoredAfter was event name octets
 stored_after was new event name octets h at = by_packet (decided_packet (at_moment was (moment event)) event) refl h

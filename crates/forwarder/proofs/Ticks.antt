@@ -2,7 +2,6 @@
 use Rattle.std.proofs.Common.{◌≡◌, ℕ, true, List, refl, sym, ap, subst, ◌∙◌, inl, inr}
 use Rattle.std.specs.Prelude.{[], Option, Some, None, max, nat_le}
 use Rattle.std.specs.FinMap as map
-use Rattle.hmac_keys.specs.KeyFile.{AreApart}
 use Rattle.ndn_packets.specs.Key.{PlainKey}
 use Rattle.pit_fib.specs.declared.pit.TheConstants.{MAX_PENDING}
 use Rattle.pit_fib.specs.Cause.{Expires, records_after}
@@ -17,8 +16,8 @@ use Rattle.forwarder.specs.Replies.{Replies}
 use Rattle.forwarder.specs.Causes.{after_causes, causes_by}
 use Rattle.forwarder.specs.Outcome.{Outcome, outcome_of}
 use Rattle.forwarder.specs.Cache.{TakesAway, cache_use}
-use Rattle.forwarder.specs.Runs.{Run, Start, Then, HasTicksFor, IsPolicyOf, IsRun, IsWaiting, MayCache, MayHold, MayReply, is_denied, now_of, records_of, seen_after}
-use Rattle.forwarder.proofs.LaterMoments.{policy_keys}
+use Rattle.forwarder.specs.Runs.{Run, Start, Then, HasTicksFor, IsPolicyOf, IsRun, IsWaiting, KeysAreApart, MayCache, MayHold, MayReply, is_denied, now_of, records_of, seen_after}
+use Rattle.forwarder.proofs.LaterMoments.{policy_apart}
 use Rattle.forwarder.proofs.Histories.{one_history, one_policy}
 use Rattle.forwarder.proofs.Denials.{denied_effect}
 use Rattle.forwarder.proofs.PastRecords.{next_records, records_then}
@@ -92,32 +91,32 @@ held_ticks (Then before event answer) (Then other another reply) (t, inr (d, e, 
     subst (λ (x : PlainEvent). MayHold (Then other x reply) c) (sym e) (inr (held_ticks before other t c h, λ takes. takes))
 
 -- what a denied event leaves is what its moment leaves
-denied_after : (first : Policy) (before : Run) (event : PlainEvent) (answer : Answer) (was p : Policy) → AreApart first.keys → MayReply first before event answer
+denied_after : (first : Policy) (before : Run) (event : PlainEvent) (answer : Answer) (was p : Policy) → KeysAreApart first before → MayReply first before event answer
     → is_denied answer.verdict ≡ true → IsPolicyOf first before was → IsAfter was event p → IsAfter was (Tick (moment event)) p
 denied_after first before event answer was p apart reply d is after =
     let e : reply.was ≡ was = one_policy first reply.was was before before apart (one_history before) reply.is_policy is in
     let q = at_moment was (moment event) in
-    let keys : AreApart was.keys = subst AreApart (sym (policy_keys first before was is)) apart in
+    let keys = policy_apart first before was apart is in
     let replies : Replies (seen_after before q reply.waiting) event answer =
     subst (λ (w : Policy). Replies (seen_after before (at_moment w (moment event)) reply.waiting) event answer) e reply.replies in
     denied_effect q (records_at reply.waiting) (nat_le MAX_PENDING (map.len reply.waiting)) (MayCache before q.now) keys answer d event replies p after
 
-pub policy_ticks : (first : Policy) (past other : Run) → AreApart first.keys → IsRun first past → HasTicksFor past other → (p : Policy) → IsPolicyOf first past p → IsPolicyOf first other p
+pub policy_ticks : (first : Policy) (past other : Run) → KeysAreApart first past → IsRun first past → HasTicksFor past other → (p : Policy) → IsPolicyOf first past p → IsPolicyOf first other p
 policy_ticks first Start Start apart is t p h = h
 policy_ticks first Start (Then other another reply) apart is t p h = absurd t
 policy_ticks first (Then before event answer) Start apart is t p h = absurd t
 policy_ticks first (Then before event answer) (Then other another reply) apart is (t, inl (e, a)) p h =
-    (h.0, policy_ticks first before other apart is.0 t h.0 h.1, subst (λ (x : PlainEvent). IsAfter h.0 x p) (sym e) h.2)
+    (h.0, policy_ticks first before other apart.0 is.0 t h.0 h.1, subst (λ (x : PlainEvent). IsAfter h.0 x p) (sym e) h.2)
 policy_ticks first (Then before event answer) (Then other another reply) apart is (t, inr (d, e, a)) p h =
-    let after = denied_after first before event answer h.0 p apart is.1 d h.1 h.2 in
-    (h.0, policy_ticks first before other apart is.0 t h.0 h.1, subst (λ (x : PlainEvent). IsAfter h.0 x p) (sym e) after)
+    let after = denied_after first before event answer h.0 p apart.0 is.1 d h.1 h.2 in
+    (h.0, policy_ticks first before other apart.0 is.0 t h.0 h.1, subst (λ (x : PlainEvent). IsAfter h.0 x p) (sym e) after)
 
 -- what the cache may give after the first run, it may after the second
 given_ticks : (past other : Run) → HasTicksFor past other → (now : ℕ) (key : PlainKey) (given : Option (List ℕ)) → MayCache past now key given → MayCache other now key given
 given_ticks past other t now key None h = tt
 given_ticks past other t now key (Some octets) h = (h.0, held_ticks past other t h.0 h.1, h.2, h.3)
 
-reply_ticks : (first : Policy) (past other : Run) (event : PlainEvent) (answer : Answer) → AreApart first.keys → IsRun first past → HasTicksFor past other
+reply_ticks : (first : Policy) (past other : Run) (event : PlainEvent) (answer : Answer) → KeysAreApart first past → IsRun first past → HasTicksFor past other
     → MayReply first past event answer → MayReply first other event answer
 reply_ticks first past other event answer apart is t h =
     let p = at_moment h.was (moment event) in
@@ -130,7 +129,7 @@ reply_ticks first past other event answer apart is t h =
       replies = more_replies p (records_at h.waiting) (nat_le MAX_PENDING (map.len h.waiting)) (MayCache past p.now) (MayCache other p.now) (given_ticks past other t p.now) event answer h.replies;
     }
 
-tick_reply : (first : Policy) (past other : Run) (event : PlainEvent) (answer : Answer) → AreApart first.keys → IsRun first past → HasTicksFor past other
+tick_reply : (first : Policy) (past other : Run) (event : PlainEvent) (answer : Answer) → KeysAreApart first past → IsRun first past → HasTicksFor past other
     → MayReply first past event answer → MayReply first other (Tick (moment event)) (passed [])
 tick_reply first past other event answer apart is t h =
     let n : max (now_of other) (moment event) ≡ max (now_of past) (moment event) = ap (λ (k : ℕ). max k (moment event)) (now_ticks past other t) in
@@ -142,17 +141,17 @@ tick_reply first past other event answer apart is t h =
       replies = refl;
     }
 
-pub run_ticks : (first : Policy) (past other : Run) → AreApart first.keys → IsRun first past → HasTicksFor past other → IsRun first other
+pub run_ticks : (first : Policy) (past other : Run) → KeysAreApart first past → IsRun first past → HasTicksFor past other → IsRun first other
 run_ticks first Start Start apart is t = tt
 run_ticks first Start (Then other another reply) apart is t = absurd t
 run_ticks first (Then before event answer) Start apart is t = absurd t
 run_ticks first (Then before event answer) (Then other another reply) apart is (t, inl (e, a)) = (
-  run_ticks first before other apart is.0 t,
+  run_ticks first before other apart.0 is.0 t,
   subst (λ (x : PlainEvent). MayReply first other x reply) (sym e) (subst (λ (x : Answer). MayReply first other event x) (sym a)
-      (reply_ticks first before other event answer apart is.0 t is.1)),
+      (reply_ticks first before other event answer apart.0 is.0 t is.1)),
 )
 run_ticks first (Then before event answer) (Then other another reply) apart is (t, inr (d, e, a)) = (
-  run_ticks first before other apart is.0 t,
+  run_ticks first before other apart.0 is.0 t,
   subst (λ (x : PlainEvent). MayReply first other x reply) (sym e) (subst (λ (x : Answer). MayReply first other (Tick (moment event)) x) (sym a)
-      (tick_reply first before other event answer apart is.0 t is.1)),
+      (tick_reply first before other event answer apart.0 is.0 t is.1)),
 )

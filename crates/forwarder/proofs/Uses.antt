@@ -11,7 +11,7 @@ use Rattle.mgmt_core.specs.declared.action.Action.{Action}
 use Rattle.mgmt_core.specs.declared.action.Action.TheVariants.{AddNexthop, RemoveNexthop, SetStrategy, UnsetStrategy, EraseCache}
 use Rattle.mgmt_core.specs.declared.types.TheConstants.{OK}
 use Rattle.mgmt_core.specs.Reading.{PlainCommand, command_at}
-use Rattle.forwarder.specs.Event.{PlainEvent, Packet, FaceUp, FaceDown, Tick}
+use Rattle.forwarder.specs.Event.{PlainEvent, Packet, FaceUp, FaceDown, Tick, NewRules}
 use Rattle.forwarder.specs.Verdict.{Verdict, DropReason, Passed, Allowed, DataAllowed, Denied, NoRule, Dropped}
 use Rattle.forwarder.specs.Policy.{Policy}
 use Rattle.forwarder.specs.Request.{ListAsked, is_command, list_asked, management, request_of}
@@ -53,6 +53,7 @@ denied_outcome (Packet face now octets) v d = denied_read face (frame_at octets)
 denied_outcome (FaceUp face scope now) v d = refl
 denied_outcome (FaceDown face now) v d = denied_closing face v d
 denied_outcome (Tick now) v d = refl
+denied_outcome (NewRules rules keys now) v d = refl
 
 -- ---- what leaves the cache alone
 

@@ -11,11 +11,11 @@ use Rattle.pit_fib.specs.Fib.{without_face}
 use Rattle.repo_core.specs.Repo.{after_offer}
 use Rattle.pit_fib.specs.declared.faces.TheConstants.{MAX_FACES}
 use Rattle.forwarder.specs.declared.event.Scope.{Scope}
-use Rattle.forwarder.specs.Event.{PlainEvent, Packet, FaceUp, FaceDown, Tick}
+use Rattle.forwarder.specs.Event.{PlainEvent, Packet, FaceUp, FaceDown, Tick, NewRules}
 use Rattle.forwarder.specs.Faces.{is_open}
 use Rattle.forwarder.specs.Event.{moment}
 use Rattle.forwarder.specs.Faces.{with_face, without_entry}
-use Rattle.forwarder.specs.Policy.{Policy, at_moment, with_next_version}
+use Rattle.forwarder.specs.Policy.{Policy, at_moment, with_next_version, with_rules}
 use Rattle.forwarder.specs.Request.{is_decided}
 use Rattle.forwarder.specs.Said.{IsSaid}
 use Rattle.forwarder.specs.Commands.{after_allowed}
@@ -50,6 +50,7 @@ decided_packet p (Packet face now octets) =
 decided_packet p (FaceUp face scope now) = None
 decided_packet p (FaceDown face now) = None
 decided_packet p (Tick now) = None
+decided_packet p (NewRules rules keys now) = None
 
 -- what an allowed packet changes: a command has its effect, and a Data is stored where it is wanted
 abbrev pub after_packet : Policy → ℕ → PlainFrame → Policy
@@ -70,6 +71,7 @@ face_in (Packet face now octets) = face
 face_in (FaceUp face scope now) = face
 face_in (FaceDown face now) = face
 face_in (Tick now) = 0
+face_in (NewRules rules keys now) = 0
 
 -- an event that brings nothing to be decided
 abbrev pub undecided_effect : Policy → PlainEvent → Policy
@@ -77,6 +79,7 @@ undecided_effect p (Packet face now octets) = p
 undecided_effect p (FaceUp face scope now) = with_open p face scope
 undecided_effect p (FaceDown face now) = with_closed p face
 undecided_effect p (Tick now) = p
+undecided_effect p (NewRules rules keys now) = with_rules p rules keys
 
 -- what an event changes once its moment has come
 abbrev pub IsEffect : Policy → PlainEvent → Policy → Option PlainFrame → Type 0

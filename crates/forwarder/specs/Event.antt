@@ -1,5 +1,7 @@
 -- Events and what is sent, as plain data.
 use Rattle.std.specs.Prelude.{ℕ, List, map}
+use Rattle.hmac_keys.specs.KeyFile.{NamedKey}
+use Rattle.info_rules.specs.Rule.{PlainRule}
 use Rattle.forwarder.specs.declared.event.Scope.{Scope}
 use Rattle.forwarder.specs.declared.event.Event.{Event}
 use Rattle.forwarder.specs.declared.event.Event.TheVariants as code
@@ -11,6 +13,7 @@ pub data PlainEvent : Type 0 where
   FaceUp : (face : ℕ) (scope : Scope) (now : ℕ) → PlainEvent
   FaceDown : (face now : ℕ) → PlainEvent
   Tick : (now : ℕ) → PlainEvent
+  NewRules : (rules : List PlainRule) (keys : List NamedKey) (now : ℕ) → PlainEvent
 
 -- an event without where its octets lie in memory
 abbrev pub plain : Event → PlainEvent
@@ -18,18 +21,29 @@ plain (code.Packet face now octets) = Packet face now octets.now
 plain (code.FaceUp face scope now) = FaceUp face scope now
 plain (code.FaceDown face now) = FaceDown face now
 plain (code.Tick now) = Tick now
+plain (code.NewRules rules keys now) = NewRules rules keys now
 
 abbrev pub plain_owned : OwnedEvent → PlainEvent
 plain_owned (owned.Packet face now octets) = Packet face now octets.items
 plain_owned (owned.FaceUp face scope now) = FaceUp face scope now
 plain_owned (owned.FaceDown face now) = FaceDown face now
 plain_owned (owned.Tick now) = Tick now
+plain_owned (owned.NewRules rules keys now) = NewRules rules keys now
 
 abbrev pub moment : PlainEvent → ℕ
 moment (Packet face now octets) = now
 moment (FaceUp face scope now) = now
 moment (FaceDown face now) = now
 moment (Tick now) = now
+moment (NewRules rules keys now) = now
+
+-- the rules that are in force after an event, where these are before it
+abbrev pub rules_after : PlainEvent → List PlainRule → List PlainRule
+rules_after (Packet face now octets) rules = rules
+rules_after (FaceUp face scope now) rules = rules
+rules_after (FaceDown face now) rules = rules
+rules_after (Tick now) rules = rules
+rules_after (NewRules new keys now) rules = new
 
 -- octets that go to a face
 abbrev pub Send : Type 0

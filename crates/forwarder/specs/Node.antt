@@ -12,7 +12,7 @@ use Rattle.pit_fib.specs.declared.pit.TheConstants.{MAX_PENDING}
 use Rattle.pit_fib.specs.Cause.{Cause, Expires, Follows}
 use Rattle.pit_fib.specs.Records.{Pending, HoldsTheLiving, records_at}
 use Rattle.content_store.specs.Store.{Gives, StoreState}
-use Rattle.forwarder.specs.Event.{PlainEvent, Packet, FaceUp, FaceDown, Tick, moment}
+use Rattle.forwarder.specs.Event.{PlainEvent, Packet, FaceUp, FaceDown, Tick, NewRules, moment}
 use Rattle.forwarder.specs.Faces.{is_open}
 use Rattle.forwarder.specs.Policy.{Policy, at_moment}
 use Rattle.forwarder.specs.Request.{Refused, is_out_of_scope, request_of}
@@ -93,3 +93,4 @@ AsksNoMemory old (Packet face now octets) =
 AsksNoMemory old (FaceUp face scope now) = ⊤
 AsksNoMemory old (FaceDown face now) = ⊤
 AsksNoMemory old (Tick now) = ⊤
+AsksNoMemory old (NewRules rules keys now) = ⊤

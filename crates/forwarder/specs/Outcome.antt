@@ -5,12 +5,12 @@ use Rattle.std.specs.Prelude.{ℕ, List, Result, Ok, Err}
 use Rattle.ndn_packets.specs.FrameReading.{frame_at}
 use Rattle.ndn_packets.specs.Packet.{PlainInterest, PlainData, PlainFrame, AnInterest, AData, ANack, Idle}
 use Rattle.ndn_packets.specs.declared.fault.PacketFault.{PacketFault}
-use Rattle.forwarder.specs.Event.{PlainEvent, Packet, FaceUp, FaceDown, Tick}
+use Rattle.forwarder.specs.Event.{PlainEvent, Packet, FaceUp, FaceDown, Tick, NewRules}
 use Rattle.forwarder.specs.Verdict.{Verdict, Passed, Allowed, DataAllowed, Denied, NoRule, Dropped}
 
 pub data Outcome : Type 0 where
-  -- no record, cached Data or hop changes but by its moment: a moment, a face that opens, and all
-  -- that is dropped or denied
+  -- no record, cached Data or hop changes but by its moment: a moment, a face that opens, rules that
+  -- are replaced, and all that is dropped or denied
   Nothing : Outcome
   -- an Interest for Data, or for a segment of a list, was passed
   InterestPassed : (face : ℕ) (whole : List ℕ) (i : PlainInterest) → Outcome
@@ -67,3 +67,4 @@ outcome_of (Packet face now octets) verdict = read_outcome face (frame_at octets
 outcome_of (FaceUp face scope now) verdict = Nothing
 outcome_of (FaceDown face now) verdict = closing_outcome face verdict
 outcome_of (Tick now) verdict = Nothing
+outcome_of (NewRules rules keys now) verdict = Nothing

@@ -54,6 +54,10 @@ at_moment p moment =
     let now = max p.now moment in
     record p { now = now; held = record p.held { wants = wants_after now p.held.wants } }
 
+-- these rules and keys are in force; all else stays, the times of signers without a key included
+abbrev pub with_rules : Policy → List PlainRule → List NamedKey → Policy
+with_rules p rules keys = record p { rules = rules; keys = keys }
+
 -- the lists have another version
 abbrev pub with_next_version : Policy → Policy
 with_next_version p = record p { table_number = min (p.table_number + 1) (2 ^ 64 - 1) }

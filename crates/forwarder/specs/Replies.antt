@@ -23,7 +23,7 @@ use Rattle.strategies.specs.declared.strategy.Choice.{Choice}
 use Rattle.strategies.specs.declared.strategy.Choice.TheVariants as choices
 use Rattle.repo_core.specs.Objects.{served}
 use Rattle.pit_fib.specs.declared.faces.TheConstants.{MAX_FACES}
-use Rattle.forwarder.specs.Event.{PlainEvent, Packet, FaceUp, FaceDown, Tick, Send}
+use Rattle.forwarder.specs.Event.{PlainEvent, Packet, FaceUp, FaceDown, Tick, NewRules, Send}
 use Rattle.forwarder.specs.Faces.{is_open}
 use Rattle.forwarder.specs.Event.{to_each}
 use Rattle.forwarder.specs.Verdict.{WhereTrue, Answer, Dropped, NoFace, Malformed, Idle, Loop, PitFull, NoPending, BadFace, FaceOpen, FacesFull, Scope as OutOfScope, DataAllowed, Denied, NoRule, dropped, passed}
@@ -184,3 +184,4 @@ Replies seen (FaceUp face scope now) answer = answer ≡ opening_answer seen.pol
 Replies seen (FaceDown face now) answer =
     answer ≡ (if is_open face seen.policy.faces then passed [] else dropped NoFace)
 Replies seen (Tick now) answer = answer ≡ passed []
+Replies seen (NewRules rules keys now) answer = answer ≡ passed []

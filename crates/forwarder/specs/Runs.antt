@@ -1,8 +1,9 @@
 -- What a run of events and answers says: readings of the past, which keep no timer and no cache; of
 -- tables only how many keys are alive.
-use Rattle.std.specs.Prelude.{◌≡◌, ◌⊎◌, ℕ, Bool, true, false, List, [], ◌∷◌, Option, None, Some, All, Result, Ok, Err, max, nat_le, ⊤}
+use Rattle.std.specs.Prelude.{◌≡◌, ◌⊎◌, ℕ, Bool, true, false, List, [], ◌∷◌, ◌++◌, Option, None, Some, All, Result, Ok, Err, max, nat_le, ⊤}
 use Rattle.std.specs.FinMap as map
-use Rattle.hmac_keys.specs.KeyFile.{AreApart}
+use Rattle.hmac_keys.specs.KeyFile.{AreApart, NamedKey}
+use Rattle.info_rules.specs.Rule.{PlainRule}
 use Rattle.ndn_packets.specs.FrameReading.{frame_at}
 use Rattle.ndn_packets.specs.Key.{PlainKey}
 use Rattle.ndn_packets.specs.Packet.{PlainFrame, AnInterest, AData, ANack, Idle}
@@ -12,7 +13,7 @@ use Rattle.pit_fib.specs.Cause.{Cause, Expires, records_after}
 use Rattle.pit_fib.specs.Past.{records_of as records_after_all}
 use Rattle.pit_fib.specs.Records.{Records, Pending, HoldsTheLiving, records_at}
 use Rattle.content_store.specs.Store.{CachedData, CanServe}
-use Rattle.forwarder.specs.Event.{PlainEvent, Packet, FaceUp, FaceDown, Tick, moment}
+use Rattle.forwarder.specs.Event.{PlainEvent, Packet, FaceUp, FaceDown, Tick, NewRules, moment}
 use Rattle.forwarder.specs.Verdict.{Verdict, Passed, Allowed, DataAllowed, Denied, NoRule, Dropped, Answer, passed}
 use Rattle.forwarder.specs.Policy.{Policy, at_moment}
 use Rattle.forwarder.specs.Request.{Request, Refused, ForList, ForTables, ForRepository, ForData, request_of}
@@ -40,10 +41,44 @@ IsPolicyOf first Start p = p ≡ first
 IsPolicyOf first (Then before event answer) p =
     (was : Policy) × IsPolicyOf first before was × IsAfter was event p
 
--- In every book that a run has had no two keys have one name. No event brings another book.
+-- no two keys that the event brings have one name
+abbrev pub BringsKeysApart : PlainEvent → Type 0
+BringsKeysApart (Packet face t octets) = ⊤
+BringsKeysApart (FaceUp face scope t) = ⊤
+BringsKeysApart (FaceDown face t) = ⊤
+BringsKeysApart (Tick t) = ⊤
+BringsKeysApart (NewRules rules keys t) = AreApart keys
+
+-- In every book that a run has had no two keys have one name: in the first, and in those that its
+-- events brought.
 abbrev pub KeysAreApart : Policy → Run → Type 0
 KeysAreApart first Start = AreApart first.keys
-KeysAreApart first (Then before event answer) = KeysAreApart first before
+KeysAreApart first (Then before event answer) = KeysAreApart first before × BringsKeysApart event
+
+-- the event brings no rules and keys
+abbrev pub BringsNoRules : PlainEvent → Type 0
+BringsNoRules (Packet face t octets) = ⊤
+BringsNoRules (FaceUp face scope t) = ⊤
+BringsNoRules (FaceDown face t) = ⊤
+BringsNoRules (Tick t) = ⊤
+BringsNoRules (NewRules rules keys t) = ⊥
+
+-- the events of a run, the last first
+abbrev pub events_back : Run → List PlainEvent
+events_back Start = []
+events_back (Then before event answer) = event ∷ events_back before
+
+-- no event of the run brings rules and keys
+abbrev pub HasNoNewRules : Run → Type 0
+HasNoNewRules past = All BringsNoRules (events_back past)
+
+-- the last event of the run that brings rules and keys brings these
+pub record AreLastRules (past : Run) (rules : List PlainRule) (keys : List NamedKey) : Type 0 where
+  pub later : List PlainEvent
+  pub now : ℕ
+  pub earlier : List PlainEvent
+  pub are_events : events_back past ≡ later ++ (NewRules rules keys now ∷ earlier)
+  pub are_last : All BringsNoRules later
 
 -- ---- pending Interests (NFD Developer's Guide, "Pending Interest Table")
 
@@ -146,6 +181,7 @@ BringsRequest p (Packet face t octets) = IsRequestPacket p face (frame_at octets
 BringsRequest p (FaceUp face scope t) = ⊥
 BringsRequest p (FaceDown face t) = ⊥
 BringsRequest p (Tick t) = ⊥
+BringsRequest p (NewRules rules keys t) = ⊥
 
 -- a Data, allowed or not
 abbrev pub IsDataPacket : Result PlainFrame PacketFault → Type 0
@@ -160,6 +196,7 @@ BringsData (Packet face t octets) = IsDataPacket (frame_at octets)
 BringsData (FaceUp face scope t) = ⊥
 BringsData (FaceDown face t) = ⊥
 BringsData (Tick t) = ⊥
+BringsData (NewRules rules keys t) = ⊥
 
 -- ---- denied events
 

@@ -12,7 +12,7 @@ use Rattle.info_rules.specs.declared.rules.RuleNo.{RuleNo}
 use Rattle.info_rules.specs.declared.decision.Decision.{Decision}
 use Rattle.info_rules.specs.declared.decision.Decision.TheVariants.{Allowed}
 use Rattle.repo_core.specs.Objects.{served}
-use Rattle.forwarder.specs.Event.{PlainEvent, Packet, FaceUp, FaceDown, Tick, Send}
+use Rattle.forwarder.specs.Event.{PlainEvent, Packet, FaceUp, FaceDown, Tick, NewRules, Send}
 use Rattle.forwarder.specs.Said.{IsSaid}
 use Rattle.forwarder.specs.Commands.{reply_content}
 use Rattle.forwarder.specs.Datasets.{list_answer}
@@ -103,3 +103,4 @@ BringsOctets (Packet face now octets) = AreOctets octets
 BringsOctets (FaceUp face scope now) = ⊤
 BringsOctets (FaceDown face now) = ⊤
 BringsOctets (Tick now) = ⊤
+BringsOctets (NewRules rules keys now) = ⊤

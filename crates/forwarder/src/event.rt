@@ -1,6 +1,9 @@
 ghost use Rattle.std.specs.Prelude.{◌≡◌};
 ghost use Rattle.forwarder.specs.Event.{plain, plain_owned};
 
+use hmac_keys::KeyBook;
+use info_rules::Rules;
+
 /// Whether a face leads to a program on this machine or to another machine (NFD Developer's Guide,
 /// "Face Scope").
 #[derive(Clone, Copy, Debug, PartialEq, Eq)]
@@ -10,7 +13,7 @@ pub enum Scope {
 }
 
 /// What a node handles in one step. Moments are milliseconds since 1970 and may go backwards.
-#[derive(Clone, Copy, Debug)]
+#[derive(Drop)]
 pub enum Event<'a> {
     /// Octets came on a face.
     Packet {
@@ -31,6 +34,12 @@ pub enum Event<'a> {
     },
     /// Time passed.
     Tick {
+        now: u64,
+    },
+    /// These rules and keys take the place of those in force, for the events after this one.
+    NewRules {
+        rules: Rules,
+        keys: KeyBook,
         now: u64,
     },
 }
@@ -55,29 +64,31 @@ pub enum OwnedEvent {
     Tick {
         now: u64,
     },
+    NewRules {
+        rules: Rules,
+        keys: KeyBook,
+        now: u64,
+    },
 }
 
 impl OwnedEvent {
-    /// The event, with its octets lent.
-    pub fn as_event(&self) -> Event<'_>
-        ensures { plain result ≡ plain_owned self.now }
+    /// The event. The octets of a packet are moved to this place, which lends them.
+    pub fn into_event(self, held: &mut Vec<u8>) -> Event<'_>
+        ensures { plain result ≡ plain_owned self }
     {
         match self {
-            OwnedEvent::Packet { face, now, octets } => Event::Packet {
-                face: *face,
-                now: *now,
-                octets: octets.as_slice(),
-            },
-            OwnedEvent::FaceUp { face, scope, now } => Event::FaceUp {
-                face: *face,
-                scope: *scope,
-                now: *now,
-            },
-            OwnedEvent::FaceDown { face, now } => Event::FaceDown {
-                face: *face,
-                now: *now,
-            },
-            OwnedEvent::Tick { now } => Event::Tick { now: *now },
+            OwnedEvent::Packet { face, now, octets } => {
+                *held = octets;
+                Event::Packet {
+                    face,
+                    now,
+                    octets: held.as_slice(),
+                }
+            }
+            OwnedEvent::FaceUp { face, scope, now } => Event::FaceUp { face, scope, now },
+            OwnedEvent::FaceDown { face, now } => Event::FaceDown { face, now },
+            OwnedEvent::Tick { now } => Event::Tick { now },
+            OwnedEvent::NewRules { rules, keys, now } => Event::NewRules { rules, keys, now },
         }
     }
 }

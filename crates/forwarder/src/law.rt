@@ -1,6 +1,7 @@
 ghost use Rattle.std.specs.Prelude.{◌≡◌, ◌≢◌, ◌⊎◌, ◌↔◌, ◌<◌, ℕ, List, [], true, Some, All, Contains, Ok, max};
 ghost use Rattle.std.specs.FinMap as map;
-ghost use Rattle.hmac_keys.specs.KeyFile.{AreApart};
+ghost use Rattle.hmac_keys.specs.KeyFile.{AreApart, NamedKey};
+ghost use Rattle.info_rules.specs.Rule.{PlainRule};
 ghost use Rattle.forwarder.specs.Event.{PlainEvent};
 ghost use Rattle.forwarder.specs.Policy.{Policy, at_moment};
 ghost use Rattle.forwarder.specs.Event.{moment};
@@ -34,7 +35,7 @@ ghost use Rattle.forwarder.specs.Node.{NodeState, IsStep, Unharmed};
 ghost use Rattle.forwarder.specs.Causes.{in_record_for, causes_of};
 ghost use Rattle.forwarder.specs.Hops.{cost_of};
 ghost use Rattle.forwarder.specs.Kept.{IsAnswered, IsKept, IsPassed, IsSentOn};
-ghost use Rattle.forwarder.specs.Runs.{Run, Start, Then, BringsData, BringsRequest, HasTicksFor, HaveOneHistory, IsPolicyOf, IsRun, KeysAreApart, MayHold, MayReply, Stands, now_of, past_causes, records_of, seen_after};
+ghost use Rattle.forwarder.specs.Runs.{Run, Start, Then, AreLastRules, BringsData, BringsKeysApart, BringsRequest, HasNoNewRules, HasTicksFor, HaveOneHistory, IsPolicyOf, IsRun, KeysAreApart, MayHold, MayReply, Stands, now_of, past_causes, events_back, records_of, seen_after};
 
 /// Law: what follows from events alone is a function of them, where the keys of a book have
 /// different names.
@@ -118,9 +119,26 @@ pub fn each_send_is_explained()
         event answer }
 {}
 
-/// Law: where the keys of a first book have different names, so they have in every book of a run.
+/// Law: where the keys of a first book have different names, and so have those that each event
+/// brings, so have those of every book of a run, and of the one that is in force after it.
 pub fn keys_stay_apart()
-    ensures { (first : Policy) (past : Run) → AreApart first.keys → KeysAreApart first past }
+    ensures books { (first : Policy) (past : Run) → AreApart first.keys
+        → All BringsKeysApart (events_back past) → KeysAreApart first past }
+    ensures in_force { (first p : Policy) (past : Run) → KeysAreApart first past
+        → IsPolicyOf first past p → AreApart p.keys }
+{}
+
+/// Law: the rules and keys in force after a run, by which its next event is decided, are those of
+/// the last event that brought rules and keys, and where none did, the first ones.
+pub fn rules_in_force()
+    ensures last { (first p : Policy) (past : Run) (rules : List PlainRule) (keys : List NamedKey)
+        → IsPolicyOf first past p → AreLastRules past rules keys
+        → (p.rules ≡ rules) × (p.keys ≡ keys) }
+    ensures first { (first p : Policy) (past : Run) → IsPolicyOf first past p → HasNoNewRules past
+        → (p.rules ≡ first.rules) × (p.keys ≡ first.keys) }
+    // One of the two is so of every run.
+    ensures either { (past : Run) → HasNoNewRules past
+        ⊎ ((rules : List PlainRule) × (keys : List NamedKey) × AreLastRules past rules keys) }
 {}
 
 /// Law: each Data that is sent was asked for by the face that it goes to. Either the event brings

@@ -3,7 +3,7 @@ ghost use Rattle.forwarder.specs.Event.{plain, Send};
 ghost use Rattle.forwarder.specs.Node.{AsksNoMemory, IsStep, Unharmed};
 ghost use Rattle.forwarder.specs.Parts.{first_node, is_bad_prefix as is_bad_prefix_of, parts_fault};
 ghost use Rattle.forwarder.specs.Policy.{Policy};
-ghost use Rattle.forwarder.specs.Runs.{Run, Start, Then, IsRun, Stands};
+ghost use Rattle.forwarder.specs.Runs.{Run, Start, Then, BringsKeysApart, IsRun, Stands};
 ghost use Rattle.forwarder.specs.Sends.{BringsOctets};
 ghost use Rattle.forwarder.specs.State.{IsSound};
 ghost use Rattle.forwarder.specs.Verdict.{verdict_of};
@@ -152,10 +152,13 @@ impl Node {
     /// Handles one event (NFD Developer's Guide, "Forwarding"): the verdict, and the sends at the
     /// end of the outbox.
     ///
+    /// Rules and keys that come take the place of those in force, from the next event on, and all
+    /// else stays.
+    ///
     /// On `Memory` the cache may have forgotten Data or changed their order of use, and nothing
-    /// else changes. Face changes, moments, packets on faces that are not open, octets that hold no
-    /// packet, what is out of scope, Interests of HopLimit 0, and Data that the rules do not allow,
-    /// unless their first rule has a hyper-relation, take no memory.
+    /// else changes. Face changes, moments, new rules, packets on faces that are not open, octets
+    /// that hold no packet, what is out of scope, Interests of HopLimit 0, and Data that the rules do
+    /// not allow, unless their first rule has a hyper-relation, take no memory.
     pub fn step(&mut self, event: Event<'_>, outbox: &mut Outbox) -> Result<Verdict, Memory>
         // One step, octets to octets.
         ensures answered { IfOk result
@@ -174,6 +177,7 @@ impl Node {
         ensures without_memory { AsksNoMemory self.old (plain event.entry) → IsOk result }
         // So it is of every event.
         ensures octets { BringsOctets (plain event.entry) }
+        ensures keys { BringsKeysApart (plain event.entry) }
     {
         match event {
             Event::Packet { face, now, octets } => {
@@ -184,6 +188,9 @@ impl Node {
             Event::Tick { now } => {
                 self.state.pass_time(now);
                 Ok(Verdict::Passed)
+            }
+            Event::NewRules { rules, keys, now } => {
+                Ok(self.state.replace_rules(rules, keys, now))
             }
         }
     }

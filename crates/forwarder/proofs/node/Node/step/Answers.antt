@@ -1,6 +1,6 @@
 use Rattle.std.proofs.Common.{[]}
 use Rattle.std.proofs.lemmas.Result.{IfOk-weaker}
-use Rattle.forwarder.specs.Event.{Packet, FaceUp, FaceDown, Tick}
+use Rattle.forwarder.specs.Event.{Packet, FaceUp, FaceDown, Tick, NewRules}
 use Rattle.forwarder.specs.State.{state_of}
 use Rattle.forwarder.specs.Verdict.{passed}
 use Rattle.forwarder.specs.declared.verdict.Verdict.TheVariants as said
@@ -47,6 +47,13 @@ invariant_of-self-in-Tick c = (
   later_stores c.self.inside.state c.pass_time.new.self c.in-Tick.now c.pass_time.ensures.later c.self.invariant.1,
 )
 
+pub invariant_of-self-in-NewRules : goal.invariant_of-self-in-NewRules
+invariant_of-self-in-NewRules c = (
+  step_sound _ _ _ _ c.self.invariant.0 c.replace_rules.ensures.step,
+  undecided_stores (state_of c.self.inside.state).policy (state_of c.replace_rules.new.self).policy (NewRules c.in-NewRules.rules c.in-NewRules.keys c.in-NewRules.now)
+      c.replace_rules.ensures.step.policy c.self.invariant.1,
+)
+
 pub returns-in-Packet-clause-run : goal.returns-in-Packet-clause-run
 returns-in-Packet-clause-run c =
     rw (← c.self.view_is, ← c.outbox.view_is, c.in-Packet.is)
@@ -77,3 +84,9 @@ returns-in-Tick-clause-run c =
     rw (← c.self.view_is, ← c.outbox.view_is, c.in-Tick.is)
     (goes_on (state_of c.self.inside.state) (state_of c.pass_time.new.self) c.outbox.inside.sends.sends c.outbox.inside.sends.sends (Tick c.in-Tick.now) said.Passed
     (stays_quiet _ _ _ _ said.Passed (tick_step (state_of c.self.inside.state) (state_of c.pass_time.new.self) c.in-Tick.now c.pass_time.ensures.later)))
+
+pub returns-in-NewRules-clause-run : goal.returns-in-NewRules-clause-run
+returns-in-NewRules-clause-run c =
+    rw (← c.self.view_is, ← c.outbox.view_is, c.in-NewRules.is)
+    (goes_on (state_of c.self.inside.state) (state_of c.replace_rules.new.self) c.outbox.inside.sends.sends c.outbox.inside.sends.sends
+    (NewRules c.in-NewRules.rules c.in-NewRules.keys c.in-NewRules.now) c.replace_rules.result (stays_quiet _ _ _ _ c.replace_rules.result c.replace_rules.ensures.step))

@@ -1,0 +1,28 @@
+//! Rules and keys that take the place of others.
+ghost use Rattle.std.specs.Prelude.{[]};
+ghost use Rattle.hmac_keys.specs.KeyFile.{AreApart};
+ghost use Rattle.forwarder.specs.Event.{NewRules};
+ghost use Rattle.forwarder.specs.Node.{IsStep};
+ghost use Rattle.forwarder.specs.State.{state_of};
+ghost use Rattle.forwarder.specs.Verdict.{verdict_of};
+
+use crate::state::State;
+use crate::verdict::Verdict;
+use hmac_keys::KeyBook;
+use info_rules::Rules;
+
+impl State {
+    /// Puts these rules and keys in force, once the moment has come. All else stays.
+    pub fn replace_rules(&mut self, rules: Rules, keys: KeyBook, now: u64) -> Verdict
+        ensures step { IsStep (state_of self.old) (NewRules rules keys now)
+            (record { verdict = verdict_of result; sends = [] }) (state_of self.new) }
+        // So it is of every book.
+        ensures apart { AreApart keys }
+    {
+        self.pass_time(now);
+        self.rules = rules;
+        self.keys = keys;
+        prove!(self.keys.len() <= usize::MAX);
+        Verdict::Passed
+    }
+}
