@@ -23,7 +23,7 @@ use Rattle.forwarder.specs.Policy.{Policy, at_moment, with_next_version}
 use Rattle.forwarder.specs.Request.{Request, Refused, ForList, ForTables, ForRepository, ForData, request_of}
 use Rattle.forwarder.specs.Said.{recorded_of}
 use Rattle.forwarder.specs.Commands.{after_request, after_tables, with_record}
-use Rattle.forwarder.specs.Effects.{IsEffect, IsAfter, after_packet, after_said, can_open, decided_packet, face_in, undecided_effect, with_closed, with_open}
+use Rattle.forwarder.specs.Effects.{IsEffect, IsAfter, after_packet, after_said, can_open, decided_packet, with_closed, with_open}
 use Rattle.forwarder.specs.Runs.{Run, Start, Then, AreLastRules, BringsKeysApart, BringsNoRules, HasNoNewRules, IsPolicyOf, KeysAreApart, events_back, now_of}
 
 -- what an event's effect leaves as it was once its moment has come

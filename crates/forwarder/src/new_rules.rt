@@ -22,6 +22,7 @@ impl State {
         self.pass_time(now);
         self.rules = rules;
         self.keys = keys;
+        // What `KeyBook::len` says of every book is known from here on.
         prove!(self.keys.len() <= usize::MAX);
         Verdict::Passed
     }
