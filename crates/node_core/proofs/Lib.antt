@@ -7,5 +7,6 @@ pub mod Playing
 pub mod Serving
 pub mod Finishing
 pub mod OneReading
+pub mod FileWords
 pub mod Appending
 pub mod Digits

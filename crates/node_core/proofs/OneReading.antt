@@ -4,13 +4,21 @@ use Rattle.std.specs.Prelude.{◌⊎◌}
 use Rattle.std.specs.Fmt.{decimal}
 use Rattle.std.proofs.lemmas.Fmt.{decimal_injective}
 use Rattle.hex.specs.Hex.{decode_of}
+use Rattle.hmac_keys.specs.KeyFile.{KeysOf, NamedKey}
+use Rattle.hmac_keys.proofs.Files.{again}
+use Rattle.info_rules.specs.Meaning.{IsRuleFile}
+use Rattle.info_rules.specs.Rule.{PlainRule}
+use Rattle.info_rules.specs.Tree.{PlainEntry}
+use Rattle.info_rules.proofs.FileMeanings.{one_meaning}
+use Rattle.info_rules.proofs.TreeFinding.{one_tree}
+use Rattle.node_core.specs.Files.{AreRules}
 use Rattle.forwarder.specs.declared.event.Scope.{Scope}
 use Rattle.forwarder.specs.declared.event.Scope.TheVariants.{Local, Far}
-use Rattle.forwarder.specs.Event.{PlainEvent, Packet, FaceUp, FaceDown, Tick}
-use Rattle.node_core.specs.Script.Line.{Lacks, scope_word, HexSpells, LineSpells, IsEventLine, IsSkipped, IsBadLine, SaysNothing}
+use Rattle.forwarder.specs.Event.{PlainEvent, Packet, FaceUp, FaceDown, Tick, NewRules}
+use Rattle.node_core.specs.Script.Line.{Lacks, scope_word, HexSpells, LineSpells, IsEventLine, IsSkipped, IsBadLine, SaysNothing, SpellsKeys, SpellsRules}
 use Rattle.node_core.specs.Script.{ended, joined, AreLines, Say, IsScript, IsBadAt}
 use Rattle.node_core.proofs.Lists.{SameCut, cut_once}
-use Rattle.node_core.proofs.Words.{decoded_length, scope_word-Lacks, number-Lacks, up_words, down_words, in_words, tick_text}
+use Rattle.node_core.proofs.Words.{HexSpells-Lacks, decoded_length, scope_word-Lacks, number-Lacks, up_words, down_words, in_words, rules_words, tick_text}
 
 -- ---- a line says one event
 
@@ -25,11 +33,30 @@ no_hex_dash o octets word h k =
     let long = decoded_length word (o ∷ octets) k in
     let short = ap length h in omega (arith, long, short)
 
-HexSpells_once : (a b word : List ℕ) → HexSpells a word → HexSpells b word → a ≡ b
+pub HexSpells_once : (a b word : List ℕ) → HexSpells a word → HexSpells b word → a ≡ b
 HexSpells_once [] [] word h k = refl
 HexSpells_once [] (p ∷ b) word h k = absurd (no_hex_dash p b word h k)
 HexSpells_once (o ∷ a) [] word h k = absurd (no_hex_dash o a word k h)
 HexSpells_once (o ∷ a) (p ∷ b) word h k = cc (h, k)
+
+-- the octets of a word are one rule file, and one key file
+rules_of_octets : (octets : List ℕ) (a b : List PlainRule) → AreRules octets a → AreRules octets b → a ≡ b
+rules_of_octets octets a b h k =
+    let same = one_tree octets h.1.0 k.1.0 h.1.1 k.1.1 in
+    one_meaning k.1.0 a b (subst (λ (entries : List PlainEntry). IsRuleFile entries a) same h.1.2) k.1.2
+
+rules_once : (a b : List PlainRule) (word : List ℕ) → SpellsRules a word → SpellsRules b word → a ≡ b
+rules_once a b word h k =
+    let same = HexSpells_once h.0 k.0 word h.1 k.1 in
+    rules_of_octets k.0 a b (subst (λ (octets : List ℕ). AreRules octets a) same h.2) k.2
+
+keys_of_text : (text : List ℕ) (a b : List NamedKey) → KeysOf text a → KeysOf text b → a ≡ b
+keys_of_text text a b h k = let both : Ok a ≡ Ok b = sym (again text a h) ∙ again text b k in cc both
+
+keys_once : (a b : List NamedKey) (word : List ℕ) → SpellsKeys a word → SpellsKeys b word → a ≡ b
+keys_once a b word h k =
+    let same = HexSpells_once h.0 k.0 word h.1 k.1 in
+    keys_of_text k.0 a b (subst (λ (octets : List ℕ). KeysOf octets a) same h.2.1) k.2.1
 
 LineSpells_once : (a b : PlainEvent) (line : List ℕ) → LineSpells a line → LineSpells b line → a ≡ b
 LineSpells_once (FaceUp face scope now) b line h k =
@@ -54,6 +81,14 @@ LineSpells_once (Packet face now octets) b line h k =
     let n = decimal_injective now w.now h.0.1 w.wide.1 w.now_is in
     let o = HexSpells_once octets w.octets h.1.0 h.1.1 w.spelled in
     let e = w.event_is in cc (f, n, o, e)
+LineSpells_once (NewRules rules keys now) b line h k =
+    let ln = number-Lacks now h.0 in
+    let lr = HexSpells-Lacks h.1.2.0 h.1.0 h.1.2.1 in
+    let w = rules_words b _ (decimal now) h.1.0 h.1.1 ln lr refl (rw h.1.4 at k) in
+    let n = decimal_injective now w.now h.0 w.wide w.now_is in
+    let r = rules_once rules w.rules h.1.0 h.1.2 w.rules_spelled in
+    let s = keys_once keys w.keys h.1.1 h.1.3 w.keys_spelled in
+    let e = w.event_is in cc (n, r, s, e)
 
 abbrev first : List ℕ → ℕ
 first text = get_or text 0 0
@@ -62,6 +97,7 @@ first_of_event : (event : PlainEvent) (line : List ℕ) → LineSpells event lin
 first_of_event (FaceUp face scope now) line h = omega (arith, ap first h.1)
 first_of_event (FaceDown face now) line h = omega (arith, ap first h.1)
 first_of_event (Tick now) line h = omega (arith, ap first h.1)
+first_of_event (NewRules rules keys now) line h = omega (arith, ap first h.1.4)
 first_of_event (Packet face now octets) line h = omega (arith, ap first h.1.2)
 
 first_of_nothing : (line : List ℕ) → SaysNothing line → first line ≤ 35

@@ -8,16 +8,15 @@ use Rattle.std.specs.Io.KnownBytes.{Appends}
 use Rattle.ndn_tlv.specs.declared.memory.Memory.{Memory}
 use Rattle.info_rules.specs.Rule.{PlainRule}
 use Rattle.forwarder.specs.declared.verdict.Verdict.{Verdict}
-use Rattle.forwarder.specs.Event.{PlainEvent, Send}
+use Rattle.forwarder.specs.Event.{PlainEvent, Packet, FaceUp, FaceDown, Tick, NewRules, Send, rules_after}
 use Rattle.forwarder.specs.Node.{NodeState, IsStep, Unharmed, AsksNoMemory}
 use Rattle.forwarder.specs.Policy.{Policy}
-use Rattle.forwarder.specs.Verdict.{verdict_of}
+use Rattle.forwarder.specs.Verdict.{Answer, verdict_of}
 use Rattle.std.specs.Prelude.{IsOk}
 use Rattle.std.proofs.lemmas.Result.{IfErr-weaker, on_ok_weaker}
 use Rattle.node_core.specs.Script.Ending.{AppendsFront}
 use Rattle.node_core.specs.Script.Line.{Lacks, IsSkipped, IsEventLine, IsBadLine}
-use Rattle.forwarder.specs.Sends.{BringsOctets}
-use Rattle.node_core.specs.Outcomes.{Outcome, Answered, NoMemory, IsOutcome, AreOutcomes}
+use Rattle.node_core.specs.Outcomes.{Outcome, Answered, NoMemory, IsEvent, IsOutcome, AreOutcomes}
 use Rattle.node_core.specs.Script.Writing.{said_text, lines_text, outcome_text, outcomes_text}
 use Rattle.node_core.specs.Script.{ended, joined, AreLines, Say}
 use Rattle.node_core.specs.Script.Play.{Place, IsPending, PlaysEvent, AddStops, LineFails, Plays, TurnsBad, FeedStops, LineStops}
@@ -39,38 +38,58 @@ never_ok e h = cc
 
 pub outcome_from_step : (old new : NodeState) (event : PlainEvent) (outcome : Result Verdict Memory) (held out : List Send) → held ≡ []
     → IfOk outcome (λ verdict. (sends : List Send) × (out ≡ held ++ sends) × IsStep old event (record { verdict = verdict_of verdict; sends = sends }) new)
-    → OnErr outcome (Unharmed old new × (out ≡ held)) → (AsksNoMemory old event → IsOk outcome) → BringsOctets event → HasOutcome old new event outcome out
-outcome_from_step old new event (Ok verdict) held out none ok err quiet octets =
+    → OnErr outcome (Unharmed old new × (out ≡ held)) → (AsksNoMemory old event → IsOk outcome) → IsEvent event → HasOutcome old new event outcome out
+outcome_from_step old new event (Ok verdict) held out none ok err quiet is =
     let same : out ≡ ok.0 = ok.1 ∙ ap (λ (h : List Send). h ++ ok.0) none in
-    record { done_as = Answered (record { verdict = verdict_of verdict; sends = ok.0 }); handled = (octets, ok.2); text_is = λ rules n. rw same refl }
-outcome_from_step old new event (Err e) held out none ok err quiet octets =
+    record { done_as = Answered (record { verdict = verdict_of verdict; sends = ok.0 }); handled = (is, ok.2); text_is = λ rules n. rw same refl }
+outcome_from_step old new event (Err e) held out none ok err quiet is =
     let same : out ≡ [] = err.1 ∙ none in
-    record { done_as = NoMemory; handled = (octets, err.0, λ h. never_ok e (quiet h)); text_is = λ rules n. rw same refl }
+    record { done_as = NoMemory; handled = (is, err.0, λ h. never_ok e (quiet h)); text_is = λ rules n. rw same refl }
 
--- the rules stay
-rules_stay : (old new : NodeState) (event : PlainEvent) (outcome : Outcome) → IsOutcome old event outcome new → new.policy.rules ≡ old.policy.rules
-rules_stay old new event (Answered answer) h = after_rules old.policy new.policy event h.1.policy
-rules_stay old new event NoMemory h = ap (λ (p : Policy). p.rules) h.1.policy
+-- ---- the rules in force
 
-pub rules_kept : (old new : NodeState) (events : List PlainEvent) (outcomes : List Outcome) → AreOutcomes old events outcomes new → new.policy.rules ≡ old.policy.rules
-rules_kept old new [] [] h = ap (λ (n : NodeState). n.policy.rules) h
-rules_kept old new [] (outcome ∷ outcomes) h = absurd h
-rules_kept old new (event ∷ events) [] h = absurd h
-rules_kept old new (event ∷ events) (outcome ∷ outcomes) h =
-    rules_kept h.0 new events outcomes h.2 ∙ rules_stay old h.0 event outcome h.1
+-- what no event asks memory for is not refused for want of it
+refused_rules : (old new : NodeState) (event : PlainEvent) → IsOutcome old event NoMemory new → rules_after event old.policy.rules ≡ old.policy.rules
+refused_rules old new (Packet face now octets) h = refl
+refused_rules old new (FaceUp face scope now) h = refl
+refused_rules old new (FaceDown face now) h = refl
+refused_rules old new (Tick now) h = refl
+refused_rules old new (NewRules rules keys now) h = absurd (h.2 tt)
+
+next_rules : (old new : NodeState) (event : PlainEvent) (outcome : Outcome) → IsOutcome old event outcome new → new.policy.rules ≡ rules_after event old.policy.rules
+next_rules old new event (Answered answer) h = after_rules old.policy new.policy event h.1.policy
+next_rules old new event NoMemory h = ap (λ (p : Policy). p.rules) h.1.policy ∙ sym (refused_rules old new event h)
+
+-- the line of an event is the same by the rules after it
+answered_text : (old new : NodeState) (event : PlainEvent) (answer : Answer) (n : ℕ) → IsStep old event answer new
+    → outcome_text new.policy.rules n (Answered answer) ≡ outcome_text old.policy.rules n (Answered answer)
+answered_text old new (Packet face now octets) answer n h = ap (λ (l : List PlainRule). outcome_text l n (Answered answer)) (after_rules old.policy new.policy (Packet face now octets) h.policy)
+answered_text old new (FaceUp face scope now) answer n h = ap (λ (l : List PlainRule). outcome_text l n (Answered answer)) (after_rules old.policy new.policy (FaceUp face scope now) h.policy)
+answered_text old new (FaceDown face now) answer n h = ap (λ (l : List PlainRule). outcome_text l n (Answered answer)) (after_rules old.policy new.policy (FaceDown face now) h.policy)
+answered_text old new (Tick now) answer n h = ap (λ (l : List PlainRule). outcome_text l n (Answered answer)) (after_rules old.policy new.policy (Tick now) h.policy)
+answered_text old new (NewRules rules keys now) answer n h =
+    ap (λ (a : Answer). outcome_text new.policy.rules n (Answered a)) h.replies
+    ∙ sym (ap (λ (a : Answer). outcome_text old.policy.rules n (Answered a)) h.replies)
+
+pub same_text : (old new : NodeState) (event : PlainEvent) (outcome : Outcome) (n : ℕ) → IsOutcome old event outcome new
+    → outcome_text new.policy.rules n outcome ≡ outcome_text old.policy.rules n outcome
+same_text old new event (Answered answer) n h = answered_text old new event answer n h.1
+same_text old new event NoMemory n h = refl
 
 pub PlaysEvent-from_step : (from to : Place) (event : PlainEvent) (outcome : Result Verdict Memory) (rules : List PlainRule) (held out : List Send) → held ≡ []
     → IfOk outcome (λ verdict. (sends : List Send) × (out ≡ held ++ sends) × IsStep from.node event (record { verdict = verdict_of verdict; sends = sends }) to.node)
-    → OnErr outcome (Unharmed from.node to.node × (out ≡ held)) → (AsksNoMemory from.node event → IsOk outcome) → BringsOctets event
+    → OnErr outcome (Unharmed from.node to.node × (out ≡ held)) → (AsksNoMemory from.node event → IsOk outcome) → IsEvent event
     → rules ≡ to.node.policy.rules → to.lines ≡ from.lines → to.events ≡ from.events + 1
     → PlaysEvent event from to (lines_text (from.events + 1) (said_text rules outcome) out)
-PlaysEvent-from_step from to event outcome rules held out none ok err quiet octets shown lines events =
-    let r = outcome_from_step from.node to.node event outcome held out none ok err quiet octets in
-    let same : rules ≡ from.node.policy.rules = shown ∙ rules_stay from.node to.node event r.done_as r.handled in
+PlaysEvent-from_step from to event outcome rules held out none ok err quiet is shown lines events =
+    let r = outcome_from_step from.node to.node event outcome held out none ok err quiet is in
+    let number = from.events + 1 in
     record {
       done_as = r.done_as;
       handled = r.handled;
-      text_is = r.text_is rules (from.events + 1) ∙ ap (λ (l : List PlainRule). outcome_text l (from.events + 1) r.done_as) same;
+      text_is =
+          r.text_is rules number ∙ ap (λ (l : List PlainRule). outcome_text l number r.done_as) shown
+          ∙ same_text from.node to.node event r.done_as number r.handled;
       lines = lines;
       events = events;
     }
@@ -129,11 +148,22 @@ Say-append (l ∷ a) b [] (f ∷ fs) ha hb = inl (ha.0, Say-append a b [] (f ∷
 Say-append (l ∷ a) b (e ∷ es) fs (inl h) hb = inl (h.0, Say-append a b (e ∷ es) fs h.1 hb)
 Say-append (l ∷ a) b (e ∷ es) fs (inr h) hb = inr (h.0, Say-append a b es fs h.1 hb)
 
-pub outcomes_text-append : (rules : List PlainRule) (n : ℕ) (rs ss : List Outcome) → outcomes_text rules n (rs ++ ss) ≡ outcomes_text rules n rs ++ outcomes_text rules (n + length rs) ss
-outcomes_text-append rules n [] ss = let e : n + 0 ≡ n = omega arith in rw e refl
-outcomes_text-append rules n (r ∷ rs) ss =
-    let e : n + suc (length rs) ≡ n + 1 + length rs = omega arith in
-    rw e (ap (λ (t : List ℕ). outcome_text rules n r ++ t) (outcomes_text-append rules (n + 1) rs ss) ∙ sym (append_assoc (outcome_text rules n r) (outcomes_text rules (n + 1) rs) _))
+pub outcomes_text-append : (old new : NodeState) (es : List PlainEvent) (rs : List Outcome) → AreOutcomes old es rs new → (n : ℕ) (fs : List PlainEvent) (ss : List Outcome)
+    → outcomes_text old.policy.rules n (es ++ fs) (rs ++ ss) ≡ outcomes_text old.policy.rules n es rs ++ outcomes_text new.policy.rules (n + length rs) fs ss
+outcomes_text-append old new [] [] h n fs ss =
+    let e : n ≡ n + 0 = omega arith in
+    ap (λ (m : ℕ). outcomes_text old.policy.rules m fs ss) e ∙ ap (λ (k : NodeState). outcomes_text k.policy.rules (n + 0) fs ss) (sym h)
+outcomes_text-append old new [] (r ∷ rs) h n fs ss = absurd h
+outcomes_text-append old new (e ∷ es) [] h n fs ss = absurd h
+outcomes_text-append old new (e ∷ es) (r ∷ rs) h n fs ss =
+    let rules = rules_after e old.policy.rules in
+    let first = outcome_text old.policy.rules n r in
+    let count : n + 1 + length rs ≡ n + suc (length rs) = omega arith in
+    let more : outcomes_text rules (n + 1) (es ++ fs) (rs ++ ss) ≡ outcomes_text rules (n + 1) es rs ++ outcomes_text new.policy.rules (n + 1 + length rs) fs ss =
+    subst (λ (l : List PlainRule). outcomes_text l (n + 1) (es ++ fs) (rs ++ ss) ≡ outcomes_text l (n + 1) es rs ++ outcomes_text new.policy.rules (n + 1 + length rs) fs ss)
+    (next_rules old h.0 e r h.1) (outcomes_text-append h.0 new es rs h.2 (n + 1) fs ss) in
+    ap (λ (t : List ℕ). first ++ t) (more ∙ ap (λ (m : ℕ). outcomes_text rules (n + 1) es rs ++ outcomes_text new.policy.rules m fs ss) count)
+    ∙ sym (append_assoc first (outcomes_text rules (n + 1) es rs) (outcomes_text new.policy.rules (n + suc (length rs)) fs ss))
 
 pub Plays-none : (place : Place) → Plays [] place place []
 Plays-none place = record {
@@ -151,7 +181,6 @@ pub Plays-then : (a b : List (List ℕ)) (from mid to : Place) (x y : List ℕ) 
 Plays-then a b from mid to x y h k =
     let at : mid.events + 1 ≡ from.events + 1 + length h.outcomes = let e = h.counted in omega arith in
     let rules = from.node.policy.rules in
-    let kept : mid.node.policy.rules ≡ rules = rules_kept from.node mid.node h.events h.outcomes h.runs in
     record {
       events = h.events ++ k.events;
       outcomes = h.outcomes ++ k.outcomes;
@@ -160,9 +189,9 @@ Plays-then a b from mid to x y h k =
       runs = AreOutcomes-append from.node mid.node to.node h.events k.events h.outcomes k.outcomes h.runs k.runs;
       text_is =
           ap (λ (t : List ℕ). t ++ y) h.text_is
-          ∙ ap (λ (t : List ℕ). outcomes_text rules (from.events + 1) h.outcomes ++ t)
-          (k.text_is ∙ ap (λ (l : List PlainRule). outcomes_text l (mid.events + 1) k.outcomes) kept ∙ ap (λ (n : ℕ). outcomes_text rules n k.outcomes) at)
-          ∙ sym (outcomes_text-append rules (from.events + 1) h.outcomes k.outcomes);
+          ∙ ap (λ (t : List ℕ). outcomes_text rules (from.events + 1) h.events h.outcomes ++ t)
+          (k.text_is ∙ ap (λ (n : ℕ). outcomes_text mid.node.policy.rules n k.events k.outcomes) at)
+          ∙ sym (outcomes_text-append from.node mid.node h.events h.outcomes h.runs (from.events + 1) k.events k.outcomes);
       numbered = let e = h.numbered in let f = k.numbered in omega (arith, length-append a b);
       counted = let e = h.counted in let f = k.counted in omega (arith, length-append h.outcomes k.outcomes);
     }

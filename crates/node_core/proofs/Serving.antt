@@ -8,9 +8,8 @@ use Rattle.ndn_tlv.specs.declared.memory.Memory.{Memory}
 use Rattle.node_core.specs.declared.ports.TheConstants.{FRAME_ROOM}
 use Rattle.forwarder.specs.declared.verdict.Verdict.{Verdict}
 use Rattle.forwarder.specs.Node.{NodeState, IsStep, Unharmed, AsksNoMemory}
-use Rattle.forwarder.specs.Sends.{BringsOctets}
 use Rattle.forwarder.specs.Verdict.{Answer, verdict_of}
-use Rattle.node_core.specs.Outcomes.{Outcome, Answered, NoMemory, IsOutcome, AreOutcomes}
+use Rattle.node_core.specs.Outcomes.{Outcome, Answered, NoMemory, IsEvent, IsOutcome, AreOutcomes}
 use Rattle.node_core.specs.Ports.{Gives, Takes, count_of, cut_to, one_more}
 use Rattle.node_core.specs.Ports.Serving.{Shown, HasEnded, GivesAll, AreTakenOf, many_more, sends_of, all_sends, refused_count, GoesOn, Handles, EndsNext, Serves}
 use Rattle.node_core.proofs.Outcomes.{AreOutcomes-append, runs_stand}
@@ -108,7 +107,7 @@ goes_on_from old new events outcomes h = λ first past begins run stands. runs_s
 
 -- with their outcomes
 
-pub Serves-start : (node : NodeState) (before : Shown) → (s : Serves node node before before 0 0 0) × (s.outcomes ≡ [])
+pub Serves-start : (node : NodeState) (before : Shown) → (s : Serves node node before before 0 0 0) × (s.arrivals ≡ []) × (s.outcomes ≡ [])
 Serves-start node before = (
   record {
     arrivals = [];
@@ -124,11 +123,12 @@ Serves-start node before = (
     refused_is = refl;
   },
   refl,
+  refl,
 )
 
 pub Serves-more : (old mid new : NodeState) (before between after : Shown) (events refused failed more : ℕ) (done_as : Outcome) (h : Serves old mid before between events refused failed)
-    → Handles mid new between after done_as more
-    → (s : Serves old new before after (events + 1) (refused + refused_count (done_as ∷ [])) (failed + more)) × (s.outcomes ≡ h.outcomes ++ (done_as ∷ []))
+    → (k : Handles mid new between after done_as more)
+    → (s : Serves old new before after (events + 1) (refused + refused_count (done_as ∷ [])) (failed + more)) × (s.arrivals ≡ h.arrivals ++ (k.event ∷ [])) × (s.outcomes ≡ h.outcomes ++ (done_as ∷ []))
 Serves-more old mid new before between after events refused failed more done_as h k =
     let outcomes = h.outcomes ++ (done_as ∷ []) in
     let arrivals = h.arrivals ++ (k.event ∷ []) in
@@ -147,6 +147,7 @@ Serves-more old mid new before between after events refused failed more done_as 
         events_is = let e = h.events_is in omega (arith, e, length-append h.arrivals (k.event ∷ []));
         refused_is = ap (λ (n : ℕ). n + refused_count (done_as ∷ [])) h.refused_is ∙ sym (refused_count-append h.outcomes (done_as ∷ []));
       },
+      refl,
       refl,
     )
 
@@ -217,11 +218,11 @@ came_in_room before after size given event room is h =
     let Q : Option PlainEvent → Type 0 = λ o. Gives before after size o in
     subst P room (subst Q (sym is) h)
 
-pub Handles-refused : (old new : NodeState) (before after : Shown) (size : ℕ) (given : Option PlainEvent) (event : PlainEvent) (e : Memory) → BringsOctets event → size ≡ FRAME_ROOM → Some event ≡ given
+pub Handles-refused : (old new : NodeState) (before after : Shown) (size : ℕ) (given : Option PlainEvent) (event : PlainEvent) (e : Memory) → IsEvent event → size ≡ FRAME_ROOM → Some event ≡ given
     → Gives before.coming after.coming size given → Unharmed old new → (AsksNoMemory old event → IsOk {T = Verdict} {E = Memory} (Err e))
     → after.taken ≡ before.taken → after.failures ≡ before.failures → Handles old new before after NoMemory 0
-Handles-refused old new before after size given event e octets room is gives unharmed quiet taken failures =
-    let handled : IsOutcome old event NoMemory new = (octets, unharmed, λ h. let ok = quiet h in cc) in
+Handles-refused old new before after size given event e known room is gives unharmed quiet taken failures =
+    let handled : IsOutcome old event NoMemory new = (known, unharmed, λ h. let ok = quiet h in cc) in
     record {
       event = event;
       came = came_in_room before.coming after.coming size given event room is gives;
@@ -233,15 +234,15 @@ Handles-refused old new before after size given event e octets room is gives unh
       failures = failures;
     }
 
-pub Handles-answered : (old new : NodeState) (before mid after : Shown) (size : ℕ) (given : Option PlainEvent) (event : PlainEvent) (verdict : Verdict) (held out : List Send) (failed : ℕ) → BringsOctets event → size ≡ FRAME_ROOM
+pub Handles-answered : (old new : NodeState) (before mid after : Shown) (size : ℕ) (given : Option PlainEvent) (event : PlainEvent) (verdict : Verdict) (held out : List Send) (failed : ℕ) → IsEvent event → size ≡ FRAME_ROOM
     → Some event ≡ given → Gives before.coming mid.coming size given → mid.taken ≡ before.taken → mid.failures ≡ before.failures → held ≡ []
     → ((sends : List Send) × (out ≡ held ++ sends) × IsStep old event (record { verdict = verdict_of verdict; sends = sends }) new)
     → ((taken : List Send) × AreTakenOf out failed taken × Takes mid.taken after.taken taken) → after.coming ≡ mid.coming → after.failures ≡ many_more mid.failures failed
     → Handles old new before after (Answered (record { verdict = verdict_of verdict; sends = out })) failed
-Handles-answered old new before mid after size given event verdict held out failed octets room is gives taken failures none step sent coming counted =
+Handles-answered old new before mid after size given event verdict held out failed known room is gives taken failures none step sent coming counted =
     let all : out ≡ step.0 = step.1 ∙ ap (λ (h : List Send). h ++ step.0) none in
     let answer : Answer = record { verdict = verdict_of verdict; sends = out } in
-    let handled : IsOutcome old event (Answered answer) new = (octets, rw all step.2) in
+    let handled : IsOutcome old event (Answered answer) new = (known, rw all step.2) in
     let P : Option (List PlainEvent) → Type 0 = λ o. Gives before.coming o FRAME_ROOM (Some event) in
     let Q : Option (List Send) → Type 0 = λ o. Takes o after.taken sent.0 in
     record {

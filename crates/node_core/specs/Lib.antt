@@ -1,3 +1,4 @@
+pub mod Files
 pub mod Ports
 pub mod Udp
 pub mod Script

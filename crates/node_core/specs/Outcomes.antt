@@ -2,7 +2,7 @@
 use Rattle.std.specs.Prelude.{◌≡◌, List, [], ◌∷◌}
 use Rattle.forwarder.specs.Event.{PlainEvent}
 use Rattle.forwarder.specs.Node.{NodeState, IsStep, Unharmed, AsksNoMemory}
-use Rattle.forwarder.specs.Runs.{Run, Then}
+use Rattle.forwarder.specs.Runs.{Run, Then, BringsKeysApart}
 use Rattle.forwarder.specs.Sends.{BringsOctets}
 use Rattle.forwarder.specs.Verdict.{Answer}
 
@@ -11,12 +11,16 @@ pub data Outcome : Type 0 where
   Answered : (answer : Answer) → Outcome
   NoMemory : Outcome
 
--- How an event, which brings octets if it is a packet, is replied to: by a step, or not handled for
--- want of memory. The cache may then have forgotten some.
+-- what is so of every event: a packet has octets, and no two keys that come have one name
+abbrev pub IsEvent : PlainEvent → Type 0
+IsEvent event = BringsOctets event × BringsKeysApart event
+
+-- How an event is replied to: by a step, or not handled for want of memory. The cache may then have
+-- forgotten some.
 abbrev pub IsOutcome : NodeState → PlainEvent → Outcome → NodeState → Type 0
-IsOutcome old event (Answered answer) new = BringsOctets event × IsStep old event answer new
+IsOutcome old event (Answered answer) new = IsEvent event × IsStep old event answer new
 IsOutcome old event NoMemory new =
-    BringsOctets event × Unharmed old new × (AsksNoMemory old event → ⊥)
+    IsEvent event × Unharmed old new × (AsksNoMemory old event → ⊥)
 
 -- the events are replied to in order
 abbrev pub AreOutcomes : NodeState → List PlainEvent → List Outcome → NodeState → Type 0

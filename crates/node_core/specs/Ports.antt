@@ -2,7 +2,7 @@
 use Rattle.std.specs.Prelude.{◌≡◌, ℕ, ◌+◌, ◌-◌, ◌^◌, ◌≤◌, min, List, [], ◌∷◌, ◌++◌, take, Option, None, Some, ⊤}
 use Rattle.node_core.specs.declared.ports.Arrival.{Arrival}
 use Rattle.node_core.specs.declared.ports.Arrival.TheVariants as code
-use Rattle.forwarder.specs.Event.{PlainEvent, Packet, FaceUp, FaceDown, Tick, Send}
+use Rattle.forwarder.specs.Event.{PlainEvent, Packet, FaceUp, FaceDown, Tick, NewRules, Send}
 pub mod Serving
 pub mod Memory
 
@@ -13,6 +13,7 @@ LiesWithin size (code.Packet face now len) = len ≤ size
 LiesWithin size (code.FaceUp face scope now) = ⊤
 LiesWithin size (code.FaceDown face now) = ⊤
 LiesWithin size (code.Tick now) = ⊤
+LiesWithin size (code.NewRules rules keys now) = ⊤
 
 -- the event that arrived, if any, by the octets of the buffer
 abbrev pub arrived : Arrival → List ℕ → Option PlainEvent
@@ -21,6 +22,7 @@ arrived (code.Packet face now len) buffer = Some (Packet face now (take len buff
 arrived (code.FaceUp face scope now) buffer = Some (FaceUp face scope now)
 arrived (code.FaceDown face now) buffer = Some (FaceDown face now)
 arrived (code.Tick now) buffer = Some (Tick now)
+arrived (code.NewRules rules keys now) buffer = Some (NewRules rules keys now)
 
 -- an event as a buffer of so many octets can hold it: a packet is cut to them
 abbrev pub cut_to : ℕ → PlainEvent → PlainEvent
@@ -28,6 +30,7 @@ cut_to size (Packet face now octets) = Packet face now (take size octets)
 cut_to size (FaceUp face scope now) = FaceUp face scope now
 cut_to size (FaceDown face now) = FaceDown face now
 cut_to size (Tick now) = Tick now
+cut_to size (NewRules rules keys now) = NewRules rules keys now
 
 -- The first of what is to come was given, cut to so many octets, or nothing was to come. Where it
 -- is not known what comes, nothing is said.

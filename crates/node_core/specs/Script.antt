@@ -63,7 +63,7 @@ pub record IsTextOfRun (first : NodeState) (events : List PlainEvent) (text : Li
   pub outcomes : List Outcome
   pub last : NodeState
   pub runs : AreOutcomes first events outcomes last
-  pub written : text ≡ script_text first.policy.rules outcomes
+  pub written : text ≡ script_text first.policy.rules events outcomes
   -- what the laws say of runs holds of the events and their answers
   pub is_run : IsRun first.policy (run_from Start events outcomes)
   pub stands : Stands first.policy (run_from Start events outcomes) last

@@ -5,7 +5,7 @@ use Rattle.forwarder.specs.declared.event.Scope.TheVariants.{Local, Far}
 use Rattle.pit_fib.specs.declared.faces.TheConstants.{MAX_FACES}
 use Rattle.node_core.specs.declared.ports.TheConstants.{FRAME_ROOM}
 use Rattle.node_core.specs.declared.ports.Arrival.{Arrival}
-use Rattle.node_core.specs.declared.ports.Arrival.TheVariants.{End, Packet, FaceUp, FaceDown, Tick}
+use Rattle.node_core.specs.declared.ports.Arrival.TheVariants.{End, Packet, FaceUp, FaceDown, Tick, NewRules}
 
 pub record UdpState : Type 0 where
   -- the known ports, that of face 1 first
@@ -49,6 +49,7 @@ OpensPeer before after (Packet face now len) = ⊥
 OpensPeer before after End = ⊥
 OpensPeer before after (FaceDown face now) = ⊥
 OpensPeer before after (Tick now) = ⊥
+OpensPeer before after (NewRules rules keys now) = ⊥
 
 -- the datagram that waited comes unchanged, cut to the buffer
 abbrev pub GivesWaiting : UdpState → UdpState → List ℕ → Arrival → Type 0
@@ -60,6 +61,7 @@ GivesWaiting before after buffer (FaceUp face scope now) = ⊥
 GivesWaiting before after buffer End = ⊥
 GivesWaiting before after buffer (FaceDown face now) = ⊥
 GivesWaiting before after buffer (Tick now) = ⊥
+GivesWaiting before after buffer (NewRules rules keys now) = ⊥
 
 -- every known port has its face, and no datagram waits
 abbrev pub Listens : UdpState → Type 0
@@ -103,6 +105,7 @@ Receives before after port datagram (FaceUp face scope now) =
 Receives before after port datagram End = ⊥
 Receives before after port datagram (FaceDown face now) = ⊥
 Receives before after port datagram (Tick now) = ⊥
+Receives before after port datagram (NewRules rules keys now) = ⊥
 
 -- some datagram of some port was received into the front of the buffer
 abbrev pub GivesReceived : UdpState → UdpState → List ℕ → Arrival → Type 0

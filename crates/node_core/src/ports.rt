@@ -10,6 +10,8 @@ mod udp;
 
 pub use datagram::{ANSWER_SECONDS, receive_one, send_from, send_one};
 use forwarder::Scope;
+use hmac_keys::KeyBook;
+use info_rules::Rules;
 pub use memory::MemoryPorts;
 use ndn_packets::MAX_FRAME;
 pub use serving::{ServeFault, Served, Turn, serve, serve_turn, serve_turn_in};
@@ -26,18 +28,37 @@ pub fn frame_room_is_as_promised()
 {}
 
 /// What a port gives for one turn. Moments are milliseconds since 1970.
-#[derive(Clone, Copy, Debug, PartialEq, Eq)]
+#[derive(Drop)]
 pub enum Arrival {
     /// Nothing more will come.
     End,
     /// Octets came on a face: the first `len` of the buffer.
-    Packet { face: u64, now: u64, len: usize },
+    Packet {
+        face: u64,
+        now: u64,
+        len: usize,
+    },
     /// A face was opened.
-    FaceUp { face: u64, scope: Scope, now: u64 },
+    FaceUp {
+        face: u64,
+        scope: Scope,
+        now: u64,
+    },
     /// A face was closed.
-    FaceDown { face: u64, now: u64 },
+    FaceDown {
+        face: u64,
+        now: u64,
+    },
     /// Time passed.
-    Tick { now: u64 },
+    Tick {
+        now: u64,
+    },
+    /// These rules and keys take the place of those in force, for what comes after them.
+    NewRules {
+        rules: Rules,
+        keys: KeyBook,
+        now: u64,
+    },
 }
 
 /// A port failed.

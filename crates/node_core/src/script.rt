@@ -33,7 +33,7 @@ pub enum RunFault {
     /// The node cannot be made. Nothing was read or written.
     #[error("{0}")]
     Node(NodeFault),
-    /// Memory to read a line or to print an answer was refused.
+    /// Memory to read a line, with the rules and keys in it, or to print an answer was refused.
     #[error("out of memory")]
     Memory,
 }
@@ -41,10 +41,10 @@ pub enum RunFault {
 /// Runs the events of a script on a new node, and writes their answers: those to the lines that end
 /// in what one read gave, before it reads more.
 ///
-/// A line is `up FACE local|far MOMENT`, `down FACE MOMENT`, `tick MOMENT` or `in FACE MOMENT HEX`,
-/// with single spaces, decimal numbers without leading zeros, `-` for no octets, and an LF or the
-/// end of the input after at most 20,000 octets. Empty lines, and lines that begin with `#`, are
-/// skipped. An event for which a step has no memory is answered `memory`. The cache may then have
+/// A line is `up FACE local|far MOMENT`, `down FACE MOMENT`, `tick MOMENT`, `in FACE MOMENT HEX` or
+/// `rules MOMENT HEX HEX`, with single spaces, decimal numbers without leading zeros, `-` for no
+/// octets, and an LF or the end of the input after at most 20,000 octets. The octets of `rules` are
+/// those of a rule file and of a key file. Empty lines, and lines that begin with `#`, are skipped. An event for which a step has no memory is answered `memory`. The cache may then have
 /// forgotten Data, and nothing else changed.
 pub fn run_script<R: Read, W: Write>(
     alloc: Global,

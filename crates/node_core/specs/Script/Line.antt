@@ -3,11 +3,15 @@ use Rattle.std.specs.Prelude.{◌≡◌, ◌≢◌, ℕ, ◌<◌, ◌≤◌, ◌
 use Rattle.std.specs.List.{AllByRecursion, join_with_byte}
 use Rattle.std.specs.Fmt.{decimal}
 use Rattle.hex.specs.Hex.{decode_of}
+use Rattle.hmac_keys.specs.KeyFile.{NamedKey}
+use Rattle.hmac_keys.specs.KeyReading.{AreKeys}
+use Rattle.info_rules.specs.Rule.{PlainRule}
 use Rattle.forwarder.specs.declared.event.Scope.{Scope}
 use Rattle.forwarder.specs.declared.event.Scope.TheVariants.{Local, Far}
+use Rattle.node_core.specs.Files.{AreRules}
 use Rattle.node_core.specs.declared.script.line.Line.{Line}
 use Rattle.node_core.specs.declared.script.line.Line.TheVariants as said
-use Rattle.forwarder.specs.Event.{PlainEvent, Packet, FaceUp, FaceDown, Tick, plain_owned}
+use Rattle.forwarder.specs.Event.{PlainEvent, Packet, FaceUp, FaceDown, Tick, NewRules, plain_owned}
 
 -- the octet does not stand in the text
 abbrev pub Lacks : ℕ → List ℕ → Type 0
@@ -26,6 +30,13 @@ abbrev pub HexSpells : List ℕ → List ℕ → Type 0
 HexSpells [] word = word ≡ codes "-"
 HexSpells (o ∷ octets) word = decode_of word ≡ Ok (o ∷ octets)
 
+-- the octets of a rule file, and of a key file, in one word
+abbrev pub SpellsRules : List PlainRule → List ℕ → Type 0
+SpellsRules rules word = (octets : List ℕ) × HexSpells octets word × AreRules octets rules
+
+abbrev pub SpellsKeys : List NamedKey → List ℕ → Type 0
+SpellsKeys keys word = (octets : List ℕ) × HexSpells octets word × AreKeys octets keys
+
 -- the numbers of a script
 abbrev pub AreNumbers : ℕ → ℕ → Type 0
 AreNumbers face now = (face < 2 ^ 64) × (now < 2 ^ 64)
@@ -41,6 +52,9 @@ LineSpells (Tick now) line = (now < 2 ^ 64) × (line ≡ words (codes "tick" ∷
 LineSpells (Packet face now octets) line =
     AreNumbers face now × ((word : List ℕ) × HexSpells octets word
     × (line ≡ words (codes "in" ∷ decimal face ∷ decimal now ∷ word ∷ [])))
+LineSpells (NewRules rules keys now) line =
+    (now < 2 ^ 64) × ((a b : List ℕ) × SpellsRules rules a × SpellsKeys keys b
+    × (line ≡ words (codes "rules" ∷ decimal now ∷ a ∷ b ∷ [])))
 
 -- the longest line, in octets and without the LF at its end
 abbrev pub IsShort : List ℕ → Type 0

@@ -60,7 +60,7 @@ pub record Plays (lines : List (List ℕ)) (from to : Place) (text : List ℕ) :
   pub are_lines : AreLines lines
   pub say : Say lines events
   pub runs : AreOutcomes from.node events outcomes to.node
-  pub text_is : text ≡ outcomes_text from.node.policy.rules (from.events + 1) outcomes
+  pub text_is : text ≡ outcomes_text from.node.policy.rules (from.events + 1) events outcomes
   pub numbered : to.lines ≡ from.lines + length lines
   pub counted : to.events ≡ from.events + length outcomes
 

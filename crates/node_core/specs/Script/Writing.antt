@@ -11,7 +11,7 @@ use Rattle.info_rules.specs.declared.rule.Kind.{Kind}
 use Rattle.info_rules.specs.declared.rule.Kind.TheVariants as kinds
 use Rattle.forwarder.specs.declared.verdict.Verdict as code
 use Rattle.forwarder.specs.Commands.{id_of}
-use Rattle.forwarder.specs.Event.{Send}
+use Rattle.forwarder.specs.Event.{PlainEvent, Send, rules_after}
 use Rattle.node_core.specs.Outcomes.{Outcome, Answered, NoMemory}
 use Rattle.forwarder.specs.Verdict.{DropReason, NoFace, Malformed, Idle, HopLimit, Scope, Loop, PitFull, NoPending, NoSegment, BadFace, FaceOpen, FacesFull, Verdict, Passed, Allowed, DataAllowed, Denied, NoRule, Dropped, verdict_of}
 
@@ -70,12 +70,15 @@ outcome_text rules number (Answered answer) =
     lines_text number (verdict_text rules answer.verdict) answer.sends
 outcome_text rules number NoMemory = lines_text number (codes "memory") []
 
--- the text of replies, from this number on
-abbrev pub outcomes_text : List PlainRule → ℕ → List Outcome → List ℕ
-outcomes_text rules number [] = []
-outcomes_text rules number (done_as ∷ outcomes) =
-    outcome_text rules number done_as ++ outcomes_text rules (number + 1) outcomes
+-- The text of the replies to events, from this number on, where these rules are in force. The id in
+-- the line of an event is that of the rule file by which it was decided.
+abbrev pub outcomes_text : List PlainRule → ℕ → List PlainEvent → List Outcome → List ℕ
+outcomes_text rules number [] outcomes = []
+outcomes_text rules number (event ∷ events) [] = []
+outcomes_text rules number (event ∷ events) (done_as ∷ outcomes) =
+    outcome_text rules number done_as
+    ++ outcomes_text (rules_after event rules) (number + 1) events outcomes
 
 -- the text of a script's replies, by a node of these rules
-abbrev pub script_text : List PlainRule → List Outcome → List ℕ
-script_text rules outcomes = outcomes_text rules 1 outcomes
+abbrev pub script_text : List PlainRule → List PlainEvent → List Outcome → List ℕ
+script_text rules events outcomes = outcomes_text rules 1 events outcomes

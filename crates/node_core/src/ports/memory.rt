@@ -5,6 +5,7 @@ ghost use Rattle.node_core.specs.Ports.{Gives, LiesWithin, Takes, arrived, cut_t
 use crate::ports::{Arrival, PortFault, Ports, put_front};
 use forwarder::{Outbox, OwnedEvent};
 use std::alloc::Global;
+use std::collections::VecDeque;
 use std::marker::Model;
 
 /// A port in memory: it gives the events of a list, and keeps what is sent.
@@ -12,8 +13,7 @@ use std::marker::Model;
 /// A call that is told to fail does so once. A send that finds no memory is a failed one.
 #[derive(Drop)]
 pub struct MemoryPorts {
-    arrivals: Vec<OwnedEvent>,
-    given: usize,
+    arrivals: VecDeque<OwnedEvent>,
     taken: Outbox,
     failed: u64,
     next_told: u64,
@@ -21,14 +21,14 @@ pub struct MemoryPorts {
 }
 
 impl Model for MemoryPorts {
-    ghost use Rattle.std.specs.Prelude.{drop, map};
+    ghost use Rattle.std.specs.Prelude.{map};
     ghost use Rattle.forwarder.specs.Event.{plain_owned};
     ghost use Rattle.node_core.specs.Ports.Memory.{MemoryState};
 
     ghost Value = { MemoryState };
 
     ghost view = { λ p. record {
-      events = map plain_owned (drop p.given p.arrivals.items);
+      events = map plain_owned p.arrivals.items;
       sent = p.taken;
       failed = p.failed;
       next_told = p.next_told;
@@ -48,8 +48,7 @@ impl MemoryPorts {
         } }
     {
         MemoryPorts {
-            arrivals,
-            given: 0,
+            arrivals: VecDeque::from_vec(arrivals),
             taken: Outbox::new(alloc),
             failed: 0,
             next_told: 0,
@@ -110,12 +109,10 @@ impl Ports for MemoryPorts {
         if is_told(&mut self.next_told) {
             return Err(self.fail());
         }
-        let Some(event) = self.arrivals.get(self.given) else {
-            return Ok(Arrival::End);
-        };
-        let arrival = put_event(event, buffer);
-        self.given += 1;
-        Ok(arrival)
+        match self.arrivals.pop_front() {
+            Some(event) => Ok(put_event(event, buffer)),
+            None => Ok(Arrival::End),
+        }
     }
 
     fn send(&mut self, face: u64, octets: &[u8]) -> Result<(), PortFault>
@@ -155,26 +152,20 @@ fn is_told(told: &mut u64) -> bool
 }
 
 // Gives an event, and the octets of a packet at the front of the buffer, as many as it can hold.
-fn put_event(event: &OwnedEvent, buffer: &mut [u8]) -> Arrival
+fn put_event(event: OwnedEvent, buffer: &mut [u8]) -> Arrival
     ensures fits { LiesWithin (length buffer.new) result }
     ensures event { arrived result buffer.new
-        ≡ Some (cut_to (length buffer.new) (plain_owned event.now)) }
+        ≡ Some (cut_to (length buffer.new) (plain_owned event)) }
 {
     match event {
         OwnedEvent::Packet { face, now, octets } => Arrival::Packet {
-            face: *face,
-            now: *now,
+            face,
+            now,
             len: put_front(octets.as_slice(), buffer),
         },
-        OwnedEvent::FaceUp { face, scope, now } => Arrival::FaceUp {
-            face: *face,
-            scope: *scope,
-            now: *now,
-        },
-        OwnedEvent::FaceDown { face, now } => Arrival::FaceDown {
-            face: *face,
-            now: *now,
-        },
-        OwnedEvent::Tick { now } => Arrival::Tick { now: *now },
+        OwnedEvent::FaceUp { face, scope, now } => Arrival::FaceUp { face, scope, now },
+        OwnedEvent::FaceDown { face, now } => Arrival::FaceDown { face, now },
+        OwnedEvent::Tick { now } => Arrival::Tick { now },
+        OwnedEvent::NewRules { rules, keys, now } => Arrival::NewRules { rules, keys, now },
     }
 }

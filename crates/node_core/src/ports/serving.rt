@@ -164,6 +164,7 @@ fn event_of(arrival: Arrival, buffer: &[u8]) -> Option<Event<'_>>
         Arrival::FaceUp { face, scope, now } => Some(Event::FaceUp { face, scope, now }),
         Arrival::FaceDown { face, now } => Some(Event::FaceDown { face, now }),
         Arrival::Tick { now } => Some(Event::Tick { now }),
+        Arrival::NewRules { rules, keys, now } => Some(Event::NewRules { rules, keys, now }),
     }
 }
 

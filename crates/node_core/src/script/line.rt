@@ -1,9 +1,14 @@
-ghost use Rattle.std.specs.Prelude.{◌≡◌, ◌∷◌, ◌++◌, codes, IfSome, IfNone, IfOk};
+ghost use Rattle.std.specs.Prelude.{◌≡◌, ◌∷◌, ◌++◌, List, codes, IfSome, IfNone, IfOk};
+ghost use Rattle.hmac_keys.specs.KeyFile.{NamedKey};
+ghost use Rattle.info_rules.specs.Rule.{PlainRule};
 ghost use Rattle.forwarder.specs.Event.{PlainEvent, plain_owned};
-ghost use Rattle.node_core.specs.Script.Line.{LineSpells, LineIs};
+ghost use Rattle.node_core.specs.Script.Line.{LineSpells, LineIs, SpellsKeys, SpellsRules};
 
+use crate::files::read_rules;
 use crate::script::word::{cut, octets_of, parse_decimal, scope_of, three_words};
 use forwarder::OwnedEvent;
+use hmac_keys::{KeyBook, KeyFault};
+use info_rules::{Rules, RulesFaultKind};
 use ndn_tlv::Memory;
 use std::alloc::Global;
 
@@ -56,6 +61,9 @@ fn event_of(alloc: Global, line: &[u8]) -> Result<Option<OwnedEvent>, Memory>
     }
     if kind == b"tick".as_slice() {
         return Ok(tick(text));
+    }
+    if kind == b"rules".as_slice() {
+        return new_rules(alloc, text);
     }
     Ok(None)
 }
@@ -115,5 +123,64 @@ fn packet(alloc: Global, text: &[u8]) -> Result<Option<OwnedEvent>, Memory>
     match octets_of(alloc, word)? {
         Some(octets) => Ok(Some(OwnedEvent::Packet { face, now, octets })),
         None => Ok(None),
+    }
+}
+
+fn new_rules(alloc: Global, text: &[u8]) -> Result<Option<OwnedEvent>, Memory>
+    ensures found { IfOk result
+        (λ read. IfSome read
+        (λ event. LineSpells (plain_owned event) (codes "rules" ++ (32 ∷ text.now)))) }
+    ensures none { IfOk result
+        (λ read. IfNone read
+        ((event : PlainEvent) → LineSpells event (codes "rules" ++ (32 ∷ text.now)) → ⊥)) }
+{
+    let Some((now, rules, keys)) = three_words(text) else {
+        return Ok(None);
+    };
+    let Some(now) = parse_decimal(now) else {
+        return Ok(None);
+    };
+    let Some(rules) = rules_of(alloc, rules)? else {
+        return Ok(None);
+    };
+    match keys_of(alloc, keys)? {
+        Some(keys) => Ok(Some(OwnedEvent::NewRules { rules, keys, now })),
+        None => Ok(None),
+    }
+}
+
+/// The rules of a word that spells the octets of a rule file without a fault.
+fn rules_of(alloc: Global, word: &[u8]) -> Result<Option<Rules>, Memory>
+    ensures found { IfOk result (λ read. IfSome read (λ rules. SpellsRules rules word.now)) }
+    ensures none { IfOk result
+        (λ read. IfNone read ((rules : List PlainRule) → SpellsRules rules word.now → ⊥)) }
+{
+    let Some(octets) = octets_of(alloc, word)? else {
+        return Ok(None);
+    };
+    match read_rules(alloc, octets.as_slice()) {
+        Ok(rules) => Ok(Some(rules)),
+        Err(fault) => match fault.kind {
+            RulesFaultKind::Memory => Err(Memory),
+            _ => Ok(None),
+        },
+    }
+}
+
+/// The keys of a word that spells the octets of a key file without a fault.
+fn keys_of(alloc: Global, word: &[u8]) -> Result<Option<KeyBook>, Memory>
+    ensures found { IfOk result (λ read. IfSome read (λ keys. SpellsKeys keys word.now)) }
+    ensures none { IfOk result
+        (λ read. IfNone read ((keys : List NamedKey) → SpellsKeys keys word.now → ⊥)) }
+{
+    let Some(octets) = octets_of(alloc, word)? else {
+        return Ok(None);
+    };
+    match KeyBook::read_octets(alloc, octets.as_slice()) {
+        Ok(keys) => Ok(Some(keys)),
+        Err(fault) => match fault {
+            KeyFault::Memory => Err(Memory),
+            _ => Ok(None),
+        },
     }
 }

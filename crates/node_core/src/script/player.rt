@@ -184,23 +184,25 @@ impl Player {
         match said {
             Line::Bad => return Err(RunFault::BadLine(self.lines + 1)),
             Line::Skipped => {}
-            Line::Event(event) => self.answer(&event)?,
+            Line::Event(event) => self.answer(event)?,
         }
         self.lines += 1;
         Ok(())
     }
 
     // Hands the event to the node, and appends its answer to the text.
-    fn answer(&mut self, event: &OwnedEvent) -> Result<(), RunFault>
+    fn answer(&mut self, event: OwnedEvent) -> Result<(), RunFault>
         requires room { HasRoom (place_of self.old) 1 }
         ensures handled { OnOk result ((text : List ℕ)
-            × PlaysEvent (plain_owned event.now) (place_of self.old) (place_of self.new) text
+            × PlaysEvent (plain_owned event) (place_of self.old) (place_of self.new) text
             × (self.new.text.items ≡ self.old.text.items ++ text)) }
         ensures kept { OnErr result (self.new.text.items ≡ self.old.text.items) }
         ensures fault { IfErr result (λ fault. fault ≡ RunFault.Memory) }
     {
         self.outbox.clear();
-        let outcome = self.node.step(event.as_event(), &mut self.outbox);
+        let mut octets = Vec::new(self.alloc);
+        let event = event.into_event(&mut octets);
+        let outcome = self.node.step(event, &mut self.outbox);
         self.events += 1;
         let put = put_answer(
             &mut self.text,

@@ -11,7 +11,7 @@ returns-in-Err-clause-turn g c =
       Handles-refused c.args.node.now c.step.new.self
           (shown (g.P.Ports.failures c.args.ports.now) (g.P.Ports.coming c.args.ports.now) (g.P.Ports.taken c.args.ports.now))
           (shown (g.P.Ports.failures c.next.new.self) (g.P.Ports.coming c.next.new.self) (g.P.Ports.taken c.next.new.self))
-          _ (arrived c.in-Ok.arrival c.next.new.buffer) (plain c.in-Some.event) c.in-Err.field-0 c.step.ensures.octets room c.in-Some.ensures c.in-Ok.ensures.gives c.in-Err.ensures.memory.0 c.in-Err.ensures.without_memory
+          _ (arrived c.in-Ok.arrival c.next.new.buffer) (plain c.in-Some.event) c.in-Err.field-0 (c.step.ensures.octets, c.step.ensures.keys) room c.in-Some.ensures c.in-Ok.ensures.gives c.in-Err.ensures.memory.0 c.in-Err.ensures.without_memory
           c.next.ensures.takes_none c.in-Ok.ensures.works,
       c.in-Err.ensures.memory.1 ∙ c.clear.ensures,
     )
@@ -23,5 +23,5 @@ returns-in-Ok-step-clause-turn g c =
     (shown (g.P.Ports.failures c.args.ports.now) (g.P.Ports.coming c.args.ports.now) (g.P.Ports.taken c.args.ports.now))
     (shown (g.P.Ports.failures c.next.new.self) (g.P.Ports.coming c.next.new.self) (g.P.Ports.taken c.next.new.self))
     (shown (g.P.Ports.failures c.send_all-failed.new.ports) (g.P.Ports.coming c.send_all-failed.new.ports) (g.P.Ports.taken c.send_all-failed.new.ports))
-    _ (arrived c.in-Ok.arrival c.next.new.buffer) (plain c.in-Some.event) c.in-Ok-step.verdict c.clear.new.self c.step.new.outbox c.send_all-failed.result c.step.ensures.octets room c.in-Some.ensures c.in-Ok.ensures.gives
+    _ (arrived c.in-Ok.arrival c.next.new.buffer) (plain c.in-Some.event) c.in-Ok-step.verdict c.clear.new.self c.step.new.outbox c.send_all-failed.result (c.step.ensures.octets, c.step.ensures.keys) room c.in-Some.ensures c.in-Ok.ensures.gives
     c.next.ensures.takes_none c.in-Ok.ensures.works c.clear.ensures c.in-Ok-step.ensures.answered c.send_all-failed.ensures.sent c.send_all-failed.ensures.coming c.send_all-failed.ensures.failures

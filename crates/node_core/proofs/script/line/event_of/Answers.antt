@@ -12,3 +12,4 @@ returns-clause-none c =
     (λ e. differ_bytes kind c.as_slice-3.result.now c.eq-3.result c.eq-3.ensures c.if-eq-3.false (e ∙ sym c.as_slice-3.ensures))
     (λ e. differ_bytes kind c.as_slice-4.result.now c.eq-4.result c.eq-4.ensures c.if-eq-4.false (e ∙ sym c.as_slice-4.ensures))
     (λ e. differ_bytes kind c.as_slice.result.now c.eq.result c.eq.ensures c.if-eq.false (e ∙ sym c.as_slice.ensures))
+    (λ e. differ_bytes kind c.as_slice-5.result.now c.eq-5.result c.eq-5.ensures c.if-eq-5.false (e ∙ sym c.as_slice-5.ensures))

@@ -1,0 +1,21 @@
+//! The octets of rule files.
+ghost use Rattle.std.specs.Prelude.{MatchResult};
+ghost use Rattle.node_core.specs.Files.{AreRules, IsFaultOfRules};
+
+use info_rules::{InfoTree, Rules, RulesFault, RulesFaultKind};
+use std::alloc::Global;
+use std::str;
+
+/// The rules of the octets of a rule file. Octets that are not UTF-8 have a Syntax fault at line 0.
+pub fn read_rules(alloc: Global, octets: &[u8]) -> Result<Rules, RulesFault>
+    ensures { MatchResult result (AreRules octets.now) (IsFaultOfRules octets.now) }
+{
+    let Ok(text) = str::from_utf8(octets) else {
+        return Err(RulesFault {
+            line: 0,
+            kind: RulesFaultKind::Syntax,
+        });
+    };
+    let tree = InfoTree::read(alloc, text)?;
+    Rules::read(alloc, &tree)
+}
