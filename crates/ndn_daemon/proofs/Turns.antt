@@ -7,12 +7,13 @@ use Rattle.forwarder.specs.Node.{NodeState}
 use Rattle.node_core.specs.declared.ports.TheConstants.{FRAME_ROOM}
 use Rattle.node_core.specs.declared.ports.serving.Turn.{Turn}
 use Rattle.node_core.specs.declared.ports.serving.Turn.TheVariants.{Done, Refused, End}
-use Rattle.node_core.specs.Outcomes.{Outcome, NoMemory, AreOutcomes}
+use Rattle.node_core.specs.Outcomes.{Outcome, Answered, NoMemory, AreOutcomes}
+use Rattle.forwarder.specs.Verdict.{verdict_of}
 use Rattle.node_core.specs.Ports.Serving.{Shown, HasEnded, EndsNext, Handles, IsTurn, StopsServing, refused_count}
 use Rattle.node_core.specs.declared.ports.serving.ServeFault.{ServeFault}
 use Rattle.node_core.specs.declared.ports.serving.ServeFault.TheVariants.{Next}
 use Rattle.node_core.specs.Script.Writing.{outcome_text, script_text}
-use Rattle.node_core.proofs.Playing.{outcomes_text-append, rules_kept}
+use Rattle.node_core.proofs.Playing.{outcomes_text-append, same_text}
 use Rattle.node_core.proofs.Serving.{Gives-none_left, Gives-none_same, Serves-start, Serves-more}
 use Rattle.ndn_daemon.specs.declared.fault.Fault.{Fault}
 use Rattle.ndn_daemon.specs.Turn.{Tells, turn_text}
@@ -27,14 +28,15 @@ as_many old new (event ∷ events) (outcome ∷ outcomes) h = let e = as_many h.
 pub Tells-none : (node : NodeState) (before : Shown) → Tells node node before before 0 []
 Tells-none node before =
     let s = Serves-start node before in
-    record { refused = 0; failed = 0; serves = s.0; text_is = sym (ap (script_text node.policy.rules) s.1) }
+    record { refused = 0; failed = 0; serves = s.0; text_is = sym (ap (λ (es : List PlainEvent). script_text node.policy.rules es s.0.outcomes) s.1) }
 
 Tells-more : (old mid new : NodeState) (before between after : Shown) (number more : ℕ) (text : List ℕ) (done_as : Outcome) → Tells old mid before between number text
     → Handles mid new between after done_as more → Tells old new before after (number + 1) (text ++ outcome_text mid.policy.rules (number + 1) done_as)
 Tells-more old mid new before between after number more text done_as h k =
     let rules : List PlainRule = old.policy.rules in
+    let line = outcome_text mid.policy.rules (number + 1) done_as in
     let s = Serves-more old mid new before between after number h.refused h.failed more done_as h.serves k in
-    let kept : mid.policy.rules ≡ rules = rules_kept old mid h.serves.arrivals h.serves.outcomes h.serves.handled in
+    let past = script_text rules h.serves.arrivals h.serves.outcomes in
     let many : 1 + length h.serves.outcomes ≡ number + 1 =
     let a = as_many old mid h.serves.arrivals h.serves.outcomes h.serves.handled in let b = h.serves.events_is in omega (arith, a, b) in
     record {
@@ -42,24 +44,22 @@ Tells-more old mid new before between after number more text done_as h k =
       failed = h.failed + more;
       serves = s.0;
       text_is =
-          ap (λ (t : List ℕ). t ++ outcome_text mid.policy.rules (number + 1) done_as) h.text_is
-          ∙ ap (λ (l : List PlainRule). script_text rules h.serves.outcomes ++ outcome_text l (number + 1) done_as) kept
-          ∙ ap (λ (t : List ℕ). script_text rules h.serves.outcomes ++ t) (sym (append-nil (outcome_text rules (number + 1) done_as)))
-          ∙ sym (outcomes_text-append rules 1 h.serves.outcomes (done_as ∷ []) ∙ ap (λ (n : ℕ). script_text rules h.serves.outcomes ++ (outcome_text rules n done_as ++ [])) many)
-          ∙ sym (ap (script_text rules) s.1);
+          ap (λ (t : List ℕ). t ++ line) h.text_is
+          ∙ ap (λ (t : List ℕ). past ++ t) (sym (append-nil line))
+          ∙ sym (outcomes_text-append old mid h.serves.arrivals h.serves.outcomes h.serves.handled 1 (k.event ∷ []) (done_as ∷ [])
+          ∙ ap (λ (n : ℕ). past ++ (outcome_text mid.policy.rules n done_as ++ [])) many)
+          ∙ sym (ap (λ (es : List PlainEvent). script_text rules es s.0.outcomes) s.1 ∙ ap (script_text rules (h.serves.arrivals ++ (k.event ∷ []))) s.2);
     }
-
--- the rules stay in a turn
-turn_rules : (mid new : NodeState) (between after : Shown) (more : ℕ) (done_as : Outcome) → Handles mid new between after done_as more → new.policy.rules ≡ mid.policy.rules
-turn_rules mid new between after more done_as k = rules_kept mid new (k.event ∷ []) (done_as ∷ []) (new, k.handled, refl)
 
 -- one turn more
 pub Tells-turn : (old mid new : NodeState) (before between after : Shown) (number : ℕ) (text : List ℕ) (sends : List Send) (rules : List PlainRule) (turn : Turn) → (turn ≡ End → ⊥)
     → Tells old mid before between number text → IsTurn mid new between after sends turn → rules ≡ new.policy.rules
     → Tells old new before after (number + 1) (text ++ turn_text (number + 1) rules turn sends)
 Tells-turn old mid new before between after number text sends rules (Done verdict failed) goes_on h k shown =
-    let same = shown ∙ turn_rules mid new between after failed _ k in
-    rw same (Tells-more old mid new before between after number failed text _ h k)
+    let done_as = Answered (record { verdict = verdict_of verdict; sends = sends }) in
+    let same : turn_text (number + 1) rules (Done verdict failed) sends ≡ outcome_text mid.policy.rules (number + 1) done_as =
+    ap (λ (l : List PlainRule). outcome_text l (number + 1) done_as) shown ∙ same_text mid new k.event done_as (number + 1) k.handled in
+    rw same (Tells-more old mid new before between after number failed text done_as h k)
 Tells-turn old mid new before between after number text sends rules Refused goes_on h k shown =
     rw k.1 (Tells-more old mid new before between after number 0 text NoMemory h k.0)
 Tells-turn old mid new before between after number text sends rules End goes_on h k shown = absurd (goes_on refl)

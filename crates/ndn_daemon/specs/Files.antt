@@ -1,34 +1,13 @@
 -- What the octets of a rule file and of a key file are read as.
-use Rattle.std.specs.Prelude.{◌≡◌, ◌⊎◌, ℕ, List, Err, IsUtf8}
+use Rattle.std.specs.Prelude.{ℕ, List}
 use Rattle.hmac_keys.specs.KeyReading.{IsFaultOfOctets}
-use Rattle.info_rules.specs.declared.fault.RulesFault.{RulesFault}
-use Rattle.info_rules.specs.declared.fault.RulesFaultKind.TheVariants.{Syntax}
-use Rattle.info_rules.specs.Faults.{memory_fault}
-use Rattle.info_rules.specs.Meaning.{IsRuleFile}
-use Rattle.info_rules.specs.Rule.{PlainRule}
-use Rattle.info_rules.specs.RuleFile.{rules_in}
-use Rattle.info_rules.specs.Tree.{PlainEntry}
-use Rattle.info_rules.specs.TreeGrammar.{TreeOf}
-use Rattle.info_rules.specs.TreeReading.{tree_in, IsTreeFaultOf}
+use Rattle.node_core.specs.Files.{IsFaultOfRules}
 use Rattle.ndn_daemon.specs.declared.fault.Fault.{Fault}
 use Rattle.ndn_daemon.specs.declared.fault.Fault.TheVariants.{Rules, Keys}
 
--- the rules that the entries of octets mean, which are UTF-8
-abbrev pub AreRules : List ℕ → List PlainRule → Type 0
-AreRules octets rules =
-    IsUtf8 octets × ((entries : List PlainEntry) × TreeOf octets entries × IsRuleFile entries rules)
-
--- the fault of what the entries of octets say, or want of memory
-abbrev pub IsFaultOfEntries : List ℕ → RulesFault → Type 0
-IsFaultOfEntries octets why =
-    (entries : List PlainEntry) × TreeOf octets entries
-    × ((rules_in entries ≡ Err why) ⊎ (why ≡ memory_fault))
-
--- the fault of the text, or a wrong word without a line where the octets are not UTF-8
+-- the fault of what octets say of rules
 abbrev pub IsRuleFault : List ℕ → Fault → Type 0
-IsRuleFault octets (Rules why) =
-    (IsUtf8 octets × (IsTreeFaultOf (tree_in octets) why ⊎ IsFaultOfEntries octets why))
-    ⊎ (¬ (IsUtf8 octets) × (why ≡ record { line = 0; kind = Syntax }))
+IsRuleFault octets (Rules why) = IsFaultOfRules octets why
 IsRuleFault octets why = ⊥
 
 -- the fault of what octets say of keys

@@ -31,7 +31,7 @@ pub record Tells (old new : NodeState) (before after : Shown) (events : ℕ) (te
   pub refused : ℕ
   pub failed : ℕ
   pub serves : Serves old new before after events refused failed
-  pub text_is : text ≡ script_text old.policy.rules serves.outcomes
+  pub text_is : text ≡ script_text old.policy.rules serves.arrivals serves.outcomes
 
 -- each turn had an event, or after fewer nothing was left to come, and the text was written
 abbrev pub TakesTurns : NodeState → NodeState → Shown → Shown → ℕ → Option (List ℕ)

@@ -37,9 +37,10 @@ const SCRIPTS: &str = "A script has one event on each line, with single spaces b
   down FACE MOMENT          closes a face: its routes and the Interests pending there go
   tick MOMENT               lets time pass
   in FACE MOMENT HEX        hands the node a packet that arrived on a face
+  rules MOMENT HEX HEX      puts a rule file and a key file in the place of those in force
 FACE is the number of a face, from 1; at most 64 faces are open at once. MOMENT is a time in
-milliseconds since 1970. HEX is the packet in hexadecimal, or - for no octets. Empty lines, and
-lines that begin with #, are skipped.
+milliseconds since 1970. HEX is the packet or the file in hexadecimal, or - for no octets. Empty
+lines, and lines that begin with #, are skipped.
 
 The answer to event N is a line `N VERDICT`, followed by a line `> FACE HEX` for each packet that
 the node sends. The verdict is one of:
@@ -82,6 +83,10 @@ While 64 ports are known, no more faces open. No face is closed.
 
 A key file has on each line the URI of a key's name, one space, and the key in hexadecimal; a second
 space would belong to the name.
+
+Where a file of --rules or --keys has changed, the node reads both again, and the new rules and keys
+take a turn of their own. Write a new file beside the old one and rename it over. A fault in a file
+is reported, and the rules and keys in force stay.
 
 The answer to turn N is printed as `script` prints that to event N: a line `N VERDICT`, and a line
 `> FACE HEX` for each packet that goes out. Moments are those of the machine's clock. With

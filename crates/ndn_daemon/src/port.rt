@@ -7,6 +7,7 @@ ghost use Rattle.ndn_daemon.specs.Turn.{EndsTurns, HasNoTurns, StopsAt, StopsQui
 
 use crate::fault::Fault;
 use crate::udp_options::UdpOptions;
+use crate::watched_ports::{RuleSource, WatchedPorts};
 use info_rules::Rules;
 use node_core::{
     FRAME_ROOM, MAX_FACES, Moments, Node, NodeParts, Outbox, Ports, RunFault, Turn, UdpPorts,
@@ -45,10 +46,12 @@ fn milliseconds<R: Clock>(rt: &R) -> Option<u64> {
 }
 
 /// Runs a node on its port for its turns, and writes each answer to standard output as it comes, or
-/// none where it is quiet. Parts that are wrong are reported before the port is bound.
-pub fn run_on_port<R: AllocGlobal + Clock + Net + Print>(
+/// none where it is quiet. Its rules and keys are replaced where their source has new ones. Parts
+/// that are wrong are reported before the port is bound.
+pub fn run_on_port<R: AllocGlobal + Clock + Net + Print, S: RuleSource>(
     rt: &R,
     parts: NodeParts,
+    source: S,
     options: &UdpOptions,
 ) -> Result<(), Fault>
     requires { length options.now.peers.items ≤ MAX_FACES }
@@ -66,9 +69,10 @@ pub fn run_on_port<R: AllocGlobal + Clock + Net + Print>(
     let port = options.listen;
     let clock = MachineClock { rt, last: 0 };
     let bound = UdpPorts::bind(rt, port, options.peers.as_slice(), options.local, clock);
-    let Ok(mut ports) = bound else {
+    let Ok(ports) = bound else {
         return Err(Fault::Unbound { port });
     };
+    let mut ports = WatchedPorts::new(ports, source, 0);
     take_as_asked(
         rt.alloc(),
         &mut node,

@@ -3,9 +3,7 @@
 
 ghost use Rattle.std.specs.Prelude.{◌≤◌, length};
 
-use ndn_daemon::{
-    Fault, Options, Request, UdpOptions, read_keys, read_rules, request_of, run_on_port,
-};
+use ndn_daemon::{Fault, Options, Request, RuleFiles, UdpOptions, request_of, run_on_port};
 use node_core::{NodeParts, RunFault, run_script};
 use std::env::Env;
 use std::io::Input;
@@ -13,7 +11,7 @@ use std::net::Net;
 use std::process::ExitCode;
 use std::rt::Files;
 use std::time::Clock;
-use std::{env, fs, io};
+use std::{env, io};
 
 fn main(rt: HostRuntime) -> ExitCode {
     let Err(fault) = run(&rt) else {
@@ -26,7 +24,9 @@ fn main(rt: HostRuntime) -> ExitCode {
 }
 
 /// Does what the command line asks for.
-fn run<R: Clock + Env + AllocGlobal + Files + Input + Net + Print>(rt: &R) -> Result<(), Fault> {
+fn run<R: Clock + Env + AllocGlobal + Eprint + Files + Input + Net + Print>(
+    rt: &R,
+) -> Result<(), Fault> {
     let arguments = arguments_of(rt)?;
     match request_of(rt.alloc(), arguments.as_slice())? {
         Request::Help(help) => rt.print(help).map_err(|_| Fault::Script(RunFault::Write)),
@@ -49,49 +49,35 @@ fn arguments_of<R: Env + AllocGlobal>(rt: &R) -> Result<Vec<String>, Fault> {
 
 /// Runs the script on standard input, and writes each answer to standard output as it comes.
 fn script<R: AllocGlobal + Files + Input + Print>(rt: &R, options: Options) -> Result<(), Fault> {
-    let parts = parts_of(rt, options)?;
+    let (parts, _files) = parts_of(rt, options)?;
     run_script(rt.alloc(), &mut rt.reader(), &mut io::writer(rt), parts).map_err(Fault::Script)
 }
 
 /// Runs the node on its port, and writes each answer to standard output as it comes, unless it is
 /// quiet.
-fn udp<R: AllocGlobal + Clock + Files + Net + Print>(
+fn udp<R: AllocGlobal + Clock + Eprint + Files + Net + Print>(
     rt: &R,
     node: Options,
     options: &UdpOptions,
 ) -> Result<(), Fault>
     requires { length options.now.peers.items ≤ 64 }
 {
-    let parts = parts_of(rt, node)?;
-    run_on_port(rt, parts, options)
+    let (parts, files) = parts_of(rt, node)?;
+    run_on_port(rt, parts, files, options)
 }
 
-/// The parts of a node, with the rules and the keys of the files that are named.
-fn parts_of<R: AllocGlobal + Files>(rt: &R, options: Options) -> Result<NodeParts, Fault> {
-    let rules = read_rules(rt.alloc(), &contents(rt, &options.rules, "rule file")?)?;
-    let keys = read_keys(rt.alloc(), &contents(rt, &options.keys, "key file")?)?;
-    Ok(NodeParts {
+/// The parts of a node, with the rules and the keys of the files that are named, and these files.
+fn parts_of<R: AllocGlobal + Files>(
+    rt: &R,
+    options: Options,
+) -> Result<(NodeParts, RuleFiles<'_, R>), Fault> {
+    let files = RuleFiles::new(rt, options.rules, options.keys);
+    let (rules, keys) = files.read()?;
+    let parts = NodeParts {
         rules,
         keys,
         repo: options.repo,
         cache: options.cache,
-    })
-}
-
-/// The octets of a file, or none where no file is named.
-fn contents<R: AllocGlobal + Files>(
-    rt: &R,
-    path: &Option<String>,
-    file: &'static str,
-) -> Result<Vec<u8>, Fault> {
-    let Some(path) = path else {
-        return Ok(Vec::new(rt.alloc()));
     };
-    match fs::read(rt, path.as_str()) {
-        Ok(octets) => Ok(octets),
-        Err(error) if error.kind() == io::ErrorKind::OutOfMemory => {
-            Err(Fault::Script(RunFault::Memory))
-        }
-        Err(_) => Err(Fault::Unread { file }),
-    }
+    Ok((parts, files))
 }
