@@ -4,6 +4,7 @@ mod cache;
 mod decisions;
 mod faces;
 mod full_pending;
+mod new_rules;
 mod nodes;
 mod octets;
 mod packets;
@@ -69,6 +70,19 @@ fn script_of(alloc: Global, dialogue: &str) -> Option<String> {
     Some(script)
 }
 
+/// Appends what a word of a dialogue stands for: a packet, or the sample files, in hexadecimal.
+fn push_spelled(alloc: Global, text: &mut String, word: &str) -> Option<()> {
+    match word {
+        "SAMPLE" => text
+            .push_str(&hex::encode(alloc, SAMPLE.as_bytes()).ok()?)
+            .ok(),
+        "KEYS" => text
+            .push_str(&hex::encode(alloc, KEYS.as_bytes()).ok()?)
+            .ok(),
+        _ => text.push_str(hexadecimal_of(word)).ok(),
+    }
+}
+
 /// A dialogue with the hexadecimal that its words stand for.
 fn spelled(alloc: Global, dialogue: &str) -> Option<String> {
     let mut text = String::new(alloc);
@@ -77,7 +91,7 @@ fn spelled(alloc: Global, dialogue: &str) -> Option<String> {
             if before > 0 {
                 text.push(' ').ok()?;
             }
-            text.push_str(hexadecimal_of(word)).ok()?;
+            push_spelled(alloc, &mut text, word)?;
         }
         text.push('\n').ok()?;
     }

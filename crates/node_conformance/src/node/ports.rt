@@ -1,7 +1,8 @@
 use super::{parts, replies, script_of, spelled};
+use hmac_keys::KeyBook;
 use node_core::{
-    MemoryPorts, Node, NodeParts, Outbox, OwnedEvent, Scope, ServeFault, Served, Turn, put_refused,
-    put_sends, put_verdict, serve, serve_turn,
+    MemoryPorts, Node, NodeParts, Outbox, OwnedEvent, Ports, Scope, ServeFault, Served, Turn, put_refused,
+    put_sends, put_verdict, read_rules, serve, serve_turn,
 };
 use std::alloc::Global;
 
@@ -25,7 +26,7 @@ pub fn word(line: &str, i: usize) -> &str {
     line.split(' ').nth(i).unwrap_or("")
 }
 
-/// The octets of a packet's word: hexadecimal, or a dash for none.
+/// The octets of a word: hexadecimal, or a dash for none.
 fn packet_of(alloc: Global, word: &str) -> Option<Vec<u8>> {
     hex::decode(alloc, if word == "-" { "" } else { word }).ok()
 }
@@ -48,6 +49,11 @@ pub fn event_of(alloc: Global, line: &str) -> Option<OwnedEvent> {
             now: word(line, 2).parse::<u64>().ok()?,
         }),
         "tick" => Some(OwnedEvent::Tick { now: face }),
+        "rules" => Some(OwnedEvent::NewRules {
+            rules: read_rules(alloc, &packet_of(alloc, word(line, 2))?).ok()?,
+            keys: KeyBook::read_octets(alloc, &packet_of(alloc, word(line, 3))?).ok()?,
+            now: face,
+        }),
         _ => Some(OwnedEvent::Packet {
             face,
             now: word(line, 2).parse::<u64>().ok()?,
@@ -75,10 +81,10 @@ pub fn node_of(alloc: Global) -> Option<Node> {
 }
 
 /// Appends what is printed of one turn. It is false where no event was answered.
-fn put_turn(
+fn put_turn<P: Ports>(
     alloc: Global,
     node: &mut Node,
-    ports: &mut MemoryPorts,
+    ports: &mut P,
     number: u64,
     text: &mut Vec<u8>,
 ) -> bool {
@@ -90,7 +96,7 @@ fn put_turn(
 }
 
 /// What is printed of a node's turns at a port, until nothing more comes.
-fn put_turns(alloc: Global, node: &mut Node, ports: &mut MemoryPorts) -> Vec<u8> {
+fn put_turns<P: Ports>(alloc: Global, node: &mut Node, ports: &mut P) -> Vec<u8> {
     let mut text = Vec::new(alloc);
     for number in 1..1000 {
         if !put_turn(alloc, node, ports, number, &mut text) {
@@ -100,12 +106,21 @@ fn put_turns(alloc: Global, node: &mut Node, ports: &mut MemoryPorts) -> Vec<u8>
     text
 }
 
+/// Whether a node at a port prints this.
+pub fn prints_at<P: Ports>(
+    alloc: Global,
+    parts: NodeParts,
+    ports: &mut P,
+    wanted: &str,
+) -> Option<bool> {
+    let mut node = Node::new(alloc, parts).ok()?;
+    let text = put_turns(alloc, &mut node, ports);
+    Some(text.as_slice() == wanted.as_bytes())
+}
+
 /// Whether a node that gets the events of a dialogue at a port prints this.
 pub fn prints(alloc: Global, parts: NodeParts, dialogue: &str, wanted: &str) -> Option<bool> {
-    let mut ports = ports_of(alloc, dialogue)?;
-    let mut node = Node::new(alloc, parts).ok()?;
-    let text = put_turns(alloc, &mut node, &mut ports);
-    Some(text.as_slice() == wanted.as_bytes())
+    prints_at(alloc, parts, &mut ports_of(alloc, dialogue)?, wanted)
 }
 
 /// What the first path comes to in so many turns, where these calls are told to fail.

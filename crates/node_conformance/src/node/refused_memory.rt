@@ -8,20 +8,23 @@ use super::repository_life::{
 use super::routes::{ROUTE_COMMAND_AND_LIST, STRATEGY_AND_CACHE};
 use super::streams::Room;
 use super::{is_answer, parts, spelled};
-use node_core::{Event, Node, NodeFault, Outbox, RunFault, Verdict, run_script, serve};
+use node_core::{Node, NodeFault, Outbox, RunFault, Verdict, run_script, serve};
 use std::alloc::Global;
 
-/// What is said of an event, unless it had no memory.
-fn said_of(node: &mut Node, outbox: &mut Outbox, event: Event<'_>) -> Option<Verdict> {
+/// What is said of the event of a line, unless it had no memory.
+fn said_of(alloc: Global, node: &mut Node, outbox: &mut Outbox, line: &str) -> Option<Verdict> {
+    let mut octets = Vec::new(alloc);
+    let event = event_of(alloc, line)?.into_event(&mut octets);
     node.step(event, outbox).ok()
 }
 
-/// What is said of an event. One that had no memory is handled again, as if for the first time.
-fn verdict_on(node: &mut Node, outbox: &mut Outbox, event: Event<'_>) -> Option<Verdict> {
+/// What is said of the event of a line. One that had no memory is handled again, as if for the first
+/// time.
+fn verdict_on(alloc: Global, node: &mut Node, outbox: &mut Outbox, line: &str) -> Option<Verdict> {
     let before = outbox.len();
-    let said = said_of(node, outbox, event);
+    let said = said_of(alloc, node, outbox, line);
     if said.is_none() && outbox.len() == before {
-        return said_of(node, outbox, event);
+        return said_of(alloc, node, outbox, line);
     }
     said
 }
@@ -68,8 +71,7 @@ fn plays(alloc: Global, node: &mut Node, dialogue: &str) -> Option<bool> {
             }
             sends = 0;
             outbox.clear();
-            let event = event_of(alloc, line)?;
-            verdict = verdict_on(node, &mut outbox, event.as_event());
+            verdict = verdict_on(alloc, node, &mut outbox, line);
         }
     }
     Some(outbox.len() == sends)

@@ -223,24 +223,25 @@ fn udp_port_taken(rt: HostRuntime) {
     assert!(rt; is_taken(&rt) == Some(true));
 }
 
-/// Whether the next arrival is this one.
-fn brings(ports: &mut UdpPorts<Moving>, arrival: Arrival) -> bool {
-    ports.next(&mut [0; 100]) == Ok(arrival)
+/// Whether the next arrival opens this Far face at this moment.
+fn brings_face(ports: &mut UdpPorts<Moving>, opened: u64, at: u64) -> bool {
+    matches!(
+        ports.next(&mut [0; 100]),
+        Ok(Arrival::FaceUp { face, scope: Scope::Far, now }) if face == opened && now == at
+    )
+}
+
+/// Whether the next arrival is a packet of so many octets on this face at this moment.
+fn brings_packet(ports: &mut UdpPorts<Moving>, from: u64, at: u64, count: usize) -> bool {
+    matches!(
+        ports.next(&mut [0; 100]),
+        Ok(Arrival::Packet { face, now, len }) if face == from && now == at && len == count
+    )
 }
 
 /// Whether the next two arrivals, at these moments, open a face and bring so many octets on it.
 fn opens(ports: &mut UdpPorts<Moving>, face: u64, opened: u64, came: u64, len: usize) -> bool {
-    let opening = Arrival::FaceUp {
-        face,
-        scope: Scope::Far,
-        now: opened,
-    };
-    let packet = Arrival::Packet {
-        face,
-        now: came,
-        len,
-    };
-    brings(ports, opening) && brings(ports, packet)
+    brings_face(ports, face, opened) && brings_packet(ports, face, came, len)
 }
 
 /// Whether two ports open a face each, keep it, and get what is sent to it.
@@ -251,12 +252,7 @@ fn open_themselves(rt: &impl Net) -> Option<bool> {
     let second = send_one(rt, listen, b"22").ok()?;
     let opened = opens(&mut ports, 1, 1, 2, 1) && opens(&mut ports, 2, 3, 4, 2);
     first.send(b"333").ok()?;
-    let again = Arrival::Packet {
-        face: 1,
-        now: 5,
-        len: 3,
-    };
-    let kept = brings(&mut ports, again);
+    let kept = brings_packet(&mut ports, 1, 5, 3);
     let sent = ports.send(2, b"to two").is_ok() && ports.send(1, b"to one").is_ok();
     Some(
         opened

@@ -1,0 +1,141 @@
+use super::ports::{FIRST_PATH, ports_of, prints_at};
+use super::{parts, replies, spelled};
+use hmac_keys::KeyBook;
+use info_rules::Rules;
+use ndn_daemon::{RuleSource, WatchedPorts};
+use node_core::read_rules;
+use std::alloc::Global;
+
+const RULES_REPLACED: &str = "
+up 1 local 1000000
+1 passed
+up 2 far 1000000
+2 passed
+in 1 1000000 ADD
+3 allowed 200 ops
+> 1 ADDED
+in 1 1000000 INTEREST
+4 passed
+> 2 INTEREST
+in 2 1000000 D_A
+5 data any-data
+> 1 D_A
+rules 1000000 - -
+6 passed
+in 1 1000000 ADD_NEXT
+7 no-rule interest
+> 1 NO_RULE_NEXT
+in 1 1000000 AGAIN
+8 passed
+> 1 D_A
+rules 1000000 SAMPLE KEYS
+9 passed
+in 1 1000000 ADD
+10 denied interest Replay ops
+> 1 REPLAY
+in 1 1000000 ADD_NEXT
+11 allowed 200 ops
+> 1 ADDED_NEXT
+";
+
+/// New rules decide from the next event on. The cache, and the times of commands, stay.
+#[test]
+fn rules_replaced(rt: HostRuntime) {
+    replies(&rt, RULES_REPLACED);
+}
+
+const KEY_TAKEN_AWAY: &str = "
+up 1 local 1000000
+1 passed
+up 2 far 1000000
+2 passed
+in 1 1000000 ADD
+3 allowed 200 ops
+> 1 ADDED
+rules 1000000 SAMPLE -
+4 passed
+in 1 1000000 ADD_NEXT
+5 denied interest KeyUnknown ops
+> 1 KEY_UNKNOWN_NEXT
+in 1 1000000 INTEREST
+6 passed
+> 2 INTEREST
+rules 1000000 SAMPLE KEYS
+7 passed
+in 1 1000000 ADD
+8 denied interest Replay ops
+> 1 REPLAY
+in 1 1000000 ADD_NEXT
+9 allowed 200 ops
+> 1 ADDED_NEXT
+";
+
+/// Without its key a signer's commands are denied, and its routes stay. With the key given back an
+/// old command is still a replay.
+#[test]
+fn key_taken_away(rt: HostRuntime) {
+    replies(&rt, KEY_TAKEN_AWAY);
+}
+
+const NEW_RULES_BEFORE_DATA: &str = "
+up 1 local 1000000
+1 passed
+up 2 far 1000000
+2 passed
+in 1 1000000 ADD
+3 allowed 200 ops
+> 1 ADDED
+in 1 1000000 INTEREST
+4 passed
+> 2 INTEREST
+rules 1000000 - -
+5 passed
+in 2 1000000 D_A
+6 no-rule data
+rules 1000000 SAMPLE KEYS
+7 passed
+in 2 1000000 D_A
+8 data any-data
+> 1 D_A
+";
+
+/// A Data is decided by the rules that are in force when it comes. The Interest still waits.
+#[test]
+fn new_rules_before_data(rt: HostRuntime) {
+    replies(&rt, NEW_RULES_BEFORE_DATA);
+}
+
+/// A source that has rules once.
+#[derive(Drop)]
+struct Once {
+    rules: Option<(Rules, KeyBook)>,
+}
+
+impl RuleSource for Once {
+    fn renewed(&mut self) -> Option<(Rules, KeyBook)> {
+        self.rules.take()
+    }
+}
+
+/// What the first path comes to where there are no rules from the moment 1000 on.
+const NEW_RULES_COME_FIRST: &str = "1 passed
+2 passed
+3 passed
+4 passed
+> 1 NO_ROUTE
+5 no-rule data
+6 no-rule data";
+
+/// Whether a node at a port with new rules, which is asked a second after its start, prints this.
+fn prints_with_new_rules(alloc: Global, wanted: &str) -> Option<bool> {
+    let rules = Some((read_rules(alloc, b"").ok()?, KeyBook::new(alloc)));
+    let mut ports = WatchedPorts::new(ports_of(alloc, FIRST_PATH)?, Once { rules }, 0);
+    let wanted = spelled(alloc, wanted)?;
+    prints_at(alloc, parts(alloc)?, &mut ports, wanted.as_str())
+}
+
+/// New rules come before what arrived, which comes unchanged after them.
+#[test]
+fn new_rules_come_first(rt: HostRuntime) {
+    assert!(rt; prints_with_new_rules(rt.alloc(), NEW_RULES_COME_FIRST) == Some(true));
+}
