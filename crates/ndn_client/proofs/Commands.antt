@@ -1,5 +1,5 @@
 -- What the calls that build a command make of what is read of it.
-use Rattle.std.proofs.Common.{◌≡◌, ◌<◌, ◌+◌, ◌≤◌, ℕ, List, [], ◌∷◌, ◌++◌, length, get_or, take, map, Option, Bool, false, refl, sym, ap, ap₂, subst, ◌∙◌, ◌||◌}
+use Rattle.std.proofs.Common.{◌≡◌, ◌<◌, ◌+◌, ◌≤◌, ℕ, List, [], ◌∷◌, ◌++◌, length, get_or, take, map, Option, Some, Bool, true, false, refl, sym, ap, ap₂, subst, ◌∙◌, ◌||◌}
 use Rattle.std.proofs.lemmas.List.{get_or_default, take_more, map-append, take_all}
 use Rattle.std.specs.Borrow.{Bor}
 use Rattle.clap.specs.declared.builder.arg.Arg.{Arg}
@@ -32,6 +32,11 @@ pub helps_else : (old new : Command) (app : App) (on : Bool) → HasApp app old 
     → HasApp (on_top (λ (s : Shape). record s { arg_required_else_help = on }) app) new
 helps_else old new app on c e =
     (ap app_of_fields e ∙ ap (on_top (λ (s : Shape). record s { arg_required_else_help = on })) c.0, ap (λ f. f.has_globals) e ∙ c.1)
+
+pub versioned : (old new : Command) (app : App) (text : Bor (List ℕ)) → HasApp app old → out-Command new ≡ record (out-Command old) { version = Some text }
+    → HasApp (on_top (λ (s : Shape). record s { has_version = true }) app) new
+versioned old new app text c e =
+    (ap app_of_fields e ∙ ap (on_top (λ (s : Shape). record s { has_version = true })) c.0, ap (λ f. f.has_globals) e ∙ c.1)
 
 pub added : (old : Command) (arg : Arg) (new : Command) (app : App) (rule : Rule) → HasApp app old → HasRule rule arg → AddsArg old arg new → HasApp (with_rule app rule) new
 added old arg new app rule c r adds = (adds.shape r.1 ∙ ap₂ with_rule c.0 r.0, adds.globals ∙ ap₂ (λ a b. a || b) c.1 r.1)

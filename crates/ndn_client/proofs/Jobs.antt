@@ -1,5 +1,5 @@
 -- Which job a subcommand has.
-use Rattle.std.proofs.Common.{◌≡◌, ◌⊎◌, ℕ, List, Vec, Global, inl, inr, subst}
+use Rattle.std.proofs.Common.{◌≡◌, ℕ, List, Vec, Global, true, false}
 use Rattle.clap.specs.Walk.{Row}
 use Rattle.ndn_client.specs.declared.job.InterestJob.{InterestJob}
 use Rattle.ndn_client.specs.declared.job.DataJob.{DataJob}
@@ -7,14 +7,16 @@ use Rattle.ndn_client.specs.declared.job.CommandJob.{CommandJob}
 use Rattle.ndn_client.specs.declared.job.TagJob.{TagJob}
 use Rattle.ndn_client.specs.declared.job.ExplainJob.{ExplainJob}
 use Rattle.ndn_client.specs.declared.job.SendJob.{SendJob}
+use Rattle.ndn_client.specs.declared.job.AskJob.{AskJob}
 use Rattle.ndn_client.specs.declared.job.Job.{Job}
-use Rattle.ndn_client.specs.declared.job.Job.TheVariants.{Help, Interest, Data, Command, Tag, Show, Explain, Send}
+use Rattle.ndn_client.specs.declared.job.Job.TheVariants.{Help, Interest, Data, Command, Tag, Show, Explain, Send, Ask}
 use Rattle.ndn_client.specs.declared.subcommand.Subcommand.{Subcommand}
 use Rattle.ndn_client.specs.declared.subcommand.Subcommand.TheVariants as sub
 use Rattle.ndn_client.specs.Options.{IsInterestJob, IsDataJob, IsCommandJob, IsTagJob, IsShowJob, IsExplainJob, IsSendJob}
 use Rattle.ndn_client.specs.ShortForm.{IsShortJob}
 use Rattle.ndn_client.specs.RepositoryForm.{IsRepositoryJob}
-use Rattle.ndn_client.specs.Command.{IsJobFor}
+use Rattle.ndn_client.specs.Ask.{is_list, IsListJob, IsPeekJob}
+use Rattle.ndn_client.specs.Command.{IsJobFor, IsListedJob}
 
 module _ (now : ℕ) (words name : List ℕ) (rows : List Row) where
   pub an_interest : (job : Job) → IsJobFor sub.Interest now words name rows job → (x : InterestJob) × IsInterestJob rows x
@@ -26,6 +28,7 @@ module _ (now : ℕ) (words name : List ℕ) (rows : List Row) where
   an_interest (Show octets) h = absurd h
   an_interest (Explain job) h = absurd h
   an_interest (Send job) h = absurd h
+  an_interest (Ask job) h = absurd h
 
   pub a_data : (job : Job) → IsJobFor sub.Data now words name rows job → (x : DataJob) × IsDataJob rows x
   a_data (Help error) h = absurd h
@@ -36,6 +39,7 @@ module _ (now : ℕ) (words name : List ℕ) (rows : List Row) where
   a_data (Show octets) h = absurd h
   a_data (Explain job) h = absurd h
   a_data (Send job) h = absurd h
+  a_data (Ask job) h = absurd h
 
   pub a_command : (job : Job) → IsJobFor sub.Command now words name rows job → (x : CommandJob) × IsCommandJob rows x
   a_command (Help error) h = absurd h
@@ -46,28 +50,9 @@ module _ (now : ℕ) (words name : List ℕ) (rows : List Row) where
   a_command (Show octets) h = absurd h
   a_command (Explain job) h = absurd h
   a_command (Send job) h = absurd h
+  a_command (Ask job) h = absurd h
 
-  a_route : (job : Job) → IsJobFor sub.Route now words name rows job → (x : CommandJob) × IsShortJob now words name rows x
-  a_route (Help error) h = absurd h
-  a_route (Interest job) h = absurd h
-  a_route (Data job) h = absurd h
-  a_route (Command job) h = (job, h)
-  a_route (Tag job) h = absurd h
-  a_route (Show octets) h = absurd h
-  a_route (Explain job) h = absurd h
-  a_route (Send job) h = absurd h
-
-  a_strategy : (job : Job) → IsJobFor sub.Strategy now words name rows job → (x : CommandJob) × IsShortJob now words name rows x
-  a_strategy (Help error) h = absurd h
-  a_strategy (Interest job) h = absurd h
-  a_strategy (Data job) h = absurd h
-  a_strategy (Command job) h = (job, h)
-  a_strategy (Tag job) h = absurd h
-  a_strategy (Show octets) h = absurd h
-  a_strategy (Explain job) h = absurd h
-  a_strategy (Send job) h = absurd h
-
-  a_cache : (job : Job) → IsJobFor sub.Cache now words name rows job → (x : CommandJob) × IsShortJob now words name rows x
+  pub a_cache : (job : Job) → IsJobFor sub.Cache now words name rows job → (x : CommandJob) × IsShortJob now words name rows x
   a_cache (Help error) h = absurd h
   a_cache (Interest job) h = absurd h
   a_cache (Data job) h = absurd h
@@ -76,6 +61,7 @@ module _ (now : ℕ) (words name : List ℕ) (rows : List Row) where
   a_cache (Show octets) h = absurd h
   a_cache (Explain job) h = absurd h
   a_cache (Send job) h = absurd h
+  a_cache (Ask job) h = absurd h
 
   pub a_repository : (job : Job) → IsJobFor sub.Repository now words name rows job → (x : CommandJob) × IsRepositoryJob now words rows x
   a_repository (Help error) h = absurd h
@@ -86,6 +72,7 @@ module _ (now : ℕ) (words name : List ℕ) (rows : List Row) where
   a_repository (Show octets) h = absurd h
   a_repository (Explain job) h = absurd h
   a_repository (Send job) h = absurd h
+  a_repository (Ask job) h = absurd h
 
   pub a_tag : (job : Job) → IsJobFor sub.Tag now words name rows job → (x : TagJob) × IsTagJob rows x
   a_tag (Help error) h = absurd h
@@ -96,6 +83,7 @@ module _ (now : ℕ) (words name : List ℕ) (rows : List Row) where
   a_tag (Show octets) h = absurd h
   a_tag (Explain job) h = absurd h
   a_tag (Send job) h = absurd h
+  a_tag (Ask job) h = absurd h
 
   pub a_show : (job : Job) → IsJobFor sub.Show now words name rows job → (x : Vec ℕ Global) × IsShowJob rows x
   a_show (Help error) h = absurd h
@@ -106,6 +94,7 @@ module _ (now : ℕ) (words name : List ℕ) (rows : List Row) where
   a_show (Show octets) h = (octets, h)
   a_show (Explain job) h = absurd h
   a_show (Send job) h = absurd h
+  a_show (Ask job) h = absurd h
 
   pub an_explanation : (job : Job) → IsJobFor sub.Explain now words name rows job → (x : ExplainJob) × IsExplainJob rows x
   an_explanation (Help error) h = absurd h
@@ -116,6 +105,7 @@ module _ (now : ℕ) (words name : List ℕ) (rows : List Row) where
   an_explanation (Show octets) h = absurd h
   an_explanation (Explain job) h = (job, h)
   an_explanation (Send job) h = absurd h
+  an_explanation (Ask job) h = absurd h
 
   pub a_send : (job : Job) → IsJobFor sub.Send now words name rows job → (x : SendJob) × IsSendJob rows x
   a_send (Help error) h = absurd h
@@ -126,8 +116,39 @@ module _ (now : ℕ) (words name : List ℕ) (rows : List Row) where
   a_send (Show octets) h = absurd h
   a_send (Explain job) h = absurd h
   a_send (Send job) h = (job, h)
+  a_send (Ask job) h = absurd h
 
-  pub a_short : (s : Subcommand) → (s ≡ sub.Route) ⊎ ((s ≡ sub.Strategy) ⊎ (s ≡ sub.Cache)) → (job : Job) → IsJobFor s now words name rows job → (x : CommandJob) × IsShortJob now words name rows x
-  a_short s (inl e) job h = a_route job (subst (λ (t : Subcommand). IsJobFor t now words name rows job) e h)
-  a_short s (inr (inl e)) job h = a_strategy job (subst (λ (t : Subcommand). IsJobFor t now words name rows job) e h)
-  a_short s (inr (inr e)) job h = a_cache job (subst (λ (t : Subcommand). IsJobFor t now words name rows job) e h)
+  pub a_peek : (job : Job) → IsJobFor sub.Peek now words name rows job → (x : AskJob) × IsPeekJob now words rows x
+  a_peek (Help error) h = absurd h
+  a_peek (Interest job) h = absurd h
+  a_peek (Data job) h = absurd h
+  a_peek (Command job) h = absurd h
+  a_peek (Tag job) h = absurd h
+  a_peek (Show octets) h = absurd h
+  a_peek (Explain job) h = absurd h
+  a_peek (Send job) h = absurd h
+  a_peek (Ask job) h = (job, h)
+
+  -- by whether the verb is `list`
+
+  pub a_list : is_list rows ≡ true → (job : Job) → IsListedJob now words name rows job → (x : AskJob) × IsListJob now words name rows x
+  a_list said (Help error) h = absurd h
+  a_list said (Interest job) h = absurd h
+  a_list said (Data job) h = absurd h
+  a_list said (Command job) h = let apart = h.0 in absurd cc
+  a_list said (Tag job) h = absurd h
+  a_list said (Show octets) h = absurd h
+  a_list said (Explain job) h = absurd h
+  a_list said (Send job) h = absurd h
+  a_list said (Ask job) h = (job, h.1)
+
+  pub a_short : is_list rows ≡ false → (job : Job) → IsListedJob now words name rows job → (x : CommandJob) × IsShortJob now words name rows x
+  a_short other (Help error) h = absurd h
+  a_short other (Interest job) h = absurd h
+  a_short other (Data job) h = absurd h
+  a_short other (Command job) h = (job, h.1)
+  a_short other (Tag job) h = absurd h
+  a_short other (Show octets) h = absurd h
+  a_short other (Explain job) h = absurd h
+  a_short other (Send job) h = absurd h
+  a_short other (Ask job) h = let apart = h.0 in absurd cc

@@ -6,4 +6,3 @@ pub mod Lines
 pub mod Jobs
 pub mod ShortForms
 pub mod RepositoryForms
-pub mod Inputs

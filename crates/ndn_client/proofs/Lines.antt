@@ -11,7 +11,7 @@ use Rattle.clap.specs.Faults.{fault_of, is_simple_and_free}
 use Rattle.clap.specs.Kinds.{HasKind, IsAmong}
 use Rattle.clap.proofs.OnLiterals.{clap_on_literals}
 use Rattle.ndn_client.specs.declared.job.Job.{Job}
-use Rattle.ndn_client.specs.declared.job.Job.TheVariants.{Help, Interest, Data, Command, Tag, Show, Explain, Send}
+use Rattle.ndn_client.specs.declared.job.Job.TheVariants.{Help, Interest, Data, Command, Tag, Show, Explain, Send, Ask}
 use Rattle.ndn_client.specs.declared.subcommand.Subcommand.{Subcommand}
 use Rattle.ndn_client.specs.declared.subcommand.Subcommand.TheVariants as sub
 use Rattle.ndn_client.specs.declared.fault.Usage.TheVariants.{CommandLine, BadValue}
@@ -19,50 +19,54 @@ use Rattle.ndn_client.specs.declared.fault.ToolFault.{ToolFault}
 use Rattle.ndn_client.specs.declared.fault.ToolFault.TheVariants as fault
 use Rattle.ndn_client.specs.Value.{ReadsInMemory}
 use Rattle.ndn_client.specs.Nonce.{words_of}
-use Rattle.ndn_client.specs.CommandLine.{interest_app, data_app, command_app, route_app, strategy_app, cache_app, repository_app, tag_app, show_app, explain_app, send_app, subcommand_named, tool}
-use Rattle.ndn_client.specs.Command.{reading_of, faults, IsJob, IsFoundJob, IsJobOf, Asks, IsWrongLine, IsRefusedLine}
+use Rattle.ndn_client.specs.CommandLine.{interest_app, data_app, command_app, route_app, strategy_app, cache_app, repository_app, tag_app, show_app, explain_app, send_app, peek_app, subcommand_named, tool}
+use Rattle.ndn_client.specs.Command.{reading_of, faults, IsJob, IsFoundJob, IsJobOf, Asks, IsText, IsWrongLine, IsRefusedLine}
 
 -- the program's command line is of those whose matches are stated
 pub simple : is_simple tool ≡ true
-unfolding tool interest_app data_app command_app route_app strategy_app cache_app repository_app tag_app show_app explain_app send_app clap_on_literals
+unfolding tool interest_app data_app command_app route_app strategy_app cache_app repository_app tag_app show_app explain_app send_app peek_app clap_on_literals
 simple = refl
 
 pub simple_and_free : is_simple_and_free tool ≡ true
-unfolding tool interest_app data_app command_app route_app strategy_app cache_app repository_app tag_app show_app explain_app send_app clap_on_literals
+unfolding tool interest_app data_app command_app route_app strategy_app cache_app repository_app tag_app show_app explain_app send_app peek_app clap_on_literals
 simple_and_free = refl
 
 -- ---- an error
 
 module _ (now : ℕ) (arguments : List (List ℕ)) (error : Error) (has : HasKind (faults arguments) error) where
-  is_wrong : (k : ErrorKind) → kind_of error ≡ k → k ≢ kind.DisplayHelp → k ≢ kind.OutOfMemory → IsWrongLine now arguments (CommandLine error)
-  is_wrong k e help memory = elim has [
+  is_no_text : (k : ErrorKind) → kind_of error ≡ k → k ≢ kind.DisplayHelp → k ≢ kind.DisplayVersion → IsText (kind_of error) → ⊥
+  is_no_text k e help version (inl d) = help (sym e ∙ d)
+  is_no_text k e help version (inr d) = version (sym e ∙ d)
+
+  is_wrong : (k : ErrorKind) → kind_of error ≡ k → k ≢ kind.DisplayHelp → k ≢ kind.DisplayVersion → k ≢ kind.OutOfMemory → IsWrongLine now arguments (CommandLine error)
+  is_wrong k e help version memory = elim has [
     | inl m ↦ absurd (memory (sym e ∙ m))
-    | inr among ↦ (among, λ d. help (sym e ∙ d))
+    | inr among ↦ (among, is_no_text k e help version)
   ]
 
-  is_asked : kind_of error ≡ kind.DisplayHelp → IsAmong kind.DisplayHelp (faults arguments)
-  is_asked e = elim has [
-    | inl m ↦ let no : kind.DisplayHelp ≡ kind.OutOfMemory = sym e ∙ m in absurd cc
-    | inr among ↦ subst (λ k. IsAmong k (faults arguments)) e among
+  is_asked : (k : ErrorKind) → kind_of error ≡ k → k ≢ kind.OutOfMemory → IsAmong (kind_of error) (faults arguments)
+  is_asked k e memory = elim has [
+    | inl m ↦ absurd (memory (sym e ∙ m))
+    | inr among ↦ among
   ]
 
   answered_as : (k : ErrorKind) → kind_of error ≡ k → MatchResult (reading_of k error) (Asks now arguments) (IsRefusedLine now arguments)
-  answered_as kind.InvalidValue e = is_wrong _ e (λ x. cc) (λ x. cc)
-  answered_as kind.UnknownArgument e = is_wrong _ e (λ x. cc) (λ x. cc)
-  answered_as kind.InvalidSubcommand e = is_wrong _ e (λ x. cc) (λ x. cc)
-  answered_as kind.NoEquals e = is_wrong _ e (λ x. cc) (λ x. cc)
-  answered_as kind.ValueValidation e = is_wrong _ e (λ x. cc) (λ x. cc)
-  answered_as kind.TooManyValues e = is_wrong _ e (λ x. cc) (λ x. cc)
-  answered_as kind.TooFewValues e = is_wrong _ e (λ x. cc) (λ x. cc)
-  answered_as kind.WrongNumberOfValues e = is_wrong _ e (λ x. cc) (λ x. cc)
-  answered_as kind.ArgumentConflict e = is_wrong _ e (λ x. cc) (λ x. cc)
-  answered_as kind.MissingRequiredArgument e = is_wrong _ e (λ x. cc) (λ x. cc)
-  answered_as kind.MissingSubcommand e = is_wrong _ e (λ x. cc) (λ x. cc)
-  answered_as kind.DisplayHelp e = (e, is_asked e)
-  answered_as kind.DisplayHelpOnMissingArgumentOrSubcommand e = is_wrong _ e (λ x. cc) (λ x. cc)
-  answered_as kind.DisplayVersion e = is_wrong _ e (λ x. cc) (λ x. cc)
-  answered_as kind.Io e = is_wrong _ e (λ x. cc) (λ x. cc)
-  answered_as kind.Format e = is_wrong _ e (λ x. cc) (λ x. cc)
+  answered_as kind.InvalidValue e = is_wrong _ e (λ x. cc) (λ x. cc) (λ x. cc)
+  answered_as kind.UnknownArgument e = is_wrong _ e (λ x. cc) (λ x. cc) (λ x. cc)
+  answered_as kind.InvalidSubcommand e = is_wrong _ e (λ x. cc) (λ x. cc) (λ x. cc)
+  answered_as kind.NoEquals e = is_wrong _ e (λ x. cc) (λ x. cc) (λ x. cc)
+  answered_as kind.ValueValidation e = is_wrong _ e (λ x. cc) (λ x. cc) (λ x. cc)
+  answered_as kind.TooManyValues e = is_wrong _ e (λ x. cc) (λ x. cc) (λ x. cc)
+  answered_as kind.TooFewValues e = is_wrong _ e (λ x. cc) (λ x. cc) (λ x. cc)
+  answered_as kind.WrongNumberOfValues e = is_wrong _ e (λ x. cc) (λ x. cc) (λ x. cc)
+  answered_as kind.ArgumentConflict e = is_wrong _ e (λ x. cc) (λ x. cc) (λ x. cc)
+  answered_as kind.MissingRequiredArgument e = is_wrong _ e (λ x. cc) (λ x. cc) (λ x. cc)
+  answered_as kind.MissingSubcommand e = is_wrong _ e (λ x. cc) (λ x. cc) (λ x. cc)
+  answered_as kind.DisplayHelp e = (inl e, is_asked _ e (λ x. cc))
+  answered_as kind.DisplayHelpOnMissingArgumentOrSubcommand e = is_wrong _ e (λ x. cc) (λ x. cc) (λ x. cc)
+  answered_as kind.DisplayVersion e = (inr e, is_asked _ e (λ x. cc))
+  answered_as kind.Io e = is_wrong _ e (λ x. cc) (λ x. cc) (λ x. cc)
+  answered_as kind.Format e = is_wrong _ e (λ x. cc) (λ x. cc) (λ x. cc)
   answered_as kind.OutOfMemory e = tt
 
   pub answered_error : MatchResult (reading_of (kind_of error) error) (Asks now arguments) (IsRefusedLine now arguments)
@@ -83,6 +87,7 @@ no_help_of now words name rows error (Some sub.Tag) h = h
 no_help_of now words name rows error (Some sub.Show) h = h
 no_help_of now words name rows error (Some sub.Explain) h = h
 no_help_of now words name rows error (Some sub.Send) h = h
+no_help_of now words name rows error (Some sub.Peek) h = h
 
 no_help : (now : ℕ) (words : List ℕ) (used : Option (List ℕ × List Row)) (error : Error) → IsJob now words used (Help error) → ⊥
 no_help now words None error h = h
@@ -97,6 +102,7 @@ asked now arguments none (Ok (Tag job)) h = (none, h)
 asked now arguments none (Ok (Show octets)) h = (none, h)
 asked now arguments none (Ok (Explain job)) h = (none, h)
 asked now arguments none (Ok (Send job)) h = (none, h)
+asked now arguments none (Ok (Ask job)) h = (none, h)
 asked now arguments none (Err (fault.Usage (CommandLine error))) h = absurd h
 asked now arguments none (Err (fault.Usage (BadValue place wanted))) h = (none, h)
 asked now arguments none (Err fault.NoKey) h = h

@@ -25,14 +25,10 @@ use Rattle.ndn_client.specs.declared.job.Job.{Job}
 use Rattle.ndn_client.specs.declared.job.Job.TheVariants as job
 use Rattle.ndn_client.specs.declared.fault.ToolFault.{ToolFault}
 use Rattle.ndn_client.specs.declared.fault.ToolFault.TheVariants as fault
-use Rattle.ndn_explain.specs.Show.{frame_lines}
+use Rattle.ndn_explain.specs.Show.{frame_lines, hex_line}
 use Rattle.ndn_explain.specs.TagCheck.{MayBeChecked}
 use Rattle.ndn_explain.specs.Explain.{explanation}
-use Rattle.ndn_client.specs.Parameters.{command_name, IsTooLong}
-
--- octets in hexadecimal of lower case, on a line
-abbrev pub hex_line : List ℕ → List ℕ
-hex_line octets = encode_lower octets ++ codes "\n"
+use Rattle.ndn_requests.specs.Parameters.{command_name, IsTooLong}
 
 -- ---- the key
 
@@ -93,7 +89,7 @@ SignsCommand key book (Some sign) = SignsData key book sign
 -- signed Interest has where none are given, empty ones
 pub record AsksCommand (job : CommandJob) (book : List NamedKey) (w : InterestWriter)
     : Type 0 where
-  pub name : components w.name ≡ command_name job
+  pub name : components w.name ≡ command_name job.name job.parameters
   pub can_be_prefix : w.can_be_prefix ≡ false
   pub must_be_fresh : w.must_be_fresh ≡ false
   pub nonce : w.nonce ≡ job.stamp.nonce
@@ -106,11 +102,15 @@ pub record AsksCommand (job : CommandJob) (book : List NamedKey) (w : InterestWr
 
 -- ---- answers
 
--- the line of the Interest that is asked for
+-- the Interest that is asked for, and its line
+abbrev pub IsInterestPacket : InterestJob → List NamedKey → List ℕ → Type 0
+IsInterestPacket job book packet =
+    (w : InterestWriter) × AsksInterest job book w × (interest_refusal w ≡ None)
+    × (packet ≡ interest_text w)
+
 abbrev pub IsInterestAnswer : InterestJob → List NamedKey → List ℕ → Type 0
 IsInterestAnswer job book text =
-    (w : InterestWriter) × AsksInterest job book w × (interest_refusal w ≡ None)
-    × (text ≡ hex_line (interest_text w))
+    (packet : List ℕ) × IsInterestPacket job book packet × (text ≡ hex_line packet)
 
 abbrev pub IsDataAnswer : DataJob → List NamedKey → List ℕ → Type 0
 IsDataAnswer job book text =
@@ -168,6 +168,7 @@ IsAnswer (job.Tag asked) book text = IsTagAnswer asked book text
 IsAnswer (job.Show octets) book text = IsShown octets.items text
 IsAnswer (job.Explain asked) book text = IsExplainAnswer asked book text
 IsAnswer (job.Send asked) book text = text ≡ []
+IsAnswer (job.Ask asked) book text = IsInterestAnswer asked.interest book text
 
 -- ---- refusals: each but that for memory has its cause
 
@@ -194,7 +195,7 @@ IsRefusedCommand job book why =
 abbrev pub IsCommandRefusal : CommandJob → List NamedKey → ToolFault → Type 0
 IsCommandRefusal job book (fault.Usage usage) = ⊥
 IsCommandRefusal job book fault.NoKey = LacksChosen job.stamp.key.key book
-IsCommandRefusal job book (fault.Write why) = IsTooLong job why ⊎ IsRefusedCommand job book why
+IsCommandRefusal job book (fault.Write why) = IsTooLong job.name why ⊎ IsRefusedCommand job book why
 IsCommandRefusal job book (fault.Packet why) = ⊥
 IsCommandRefusal job book fault.Memory = ⊤
 
@@ -229,3 +230,4 @@ IsRefusal (job.Tag asked) book why = IsTagRefusal asked book why
 IsRefusal (job.Show octets) book why = IsNotShown octets.items why
 IsRefusal (job.Explain asked) book why = IsExplainRefusal asked why
 IsRefusal (job.Send asked) book why = why ≡ fault.Memory
+IsRefusal (job.Ask asked) book why = IsInterestRefusal asked.interest book why

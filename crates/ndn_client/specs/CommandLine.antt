@@ -9,7 +9,7 @@ use Rattle.clap.specs.Simple.{App, app_of, new_app, new_rule, new_shape, with_ru
 use Rattle.ndn_client.specs.declared.argument.Argument.{Argument}
 use Rattle.ndn_client.specs.declared.argument.Argument.TheVariants.{Positional, MaybePositional, Optional, Required, Flag}
 use Rattle.ndn_client.specs.declared.subcommand.Subcommand.{Subcommand}
-use Rattle.ndn_client.specs.declared.subcommand.Subcommand.TheVariants.{Interest, Data, Command as AnyCommand, Route, Strategy, Cache, Repository, Tag, Show, Explain, Send}
+use Rattle.ndn_client.specs.declared.subcommand.Subcommand.TheVariants.{Interest, Data, Command as AnyCommand, Route, Strategy, Cache, Repository, Tag, Show, Explain, Send, Peek}
 
 -- ---- arguments
 
@@ -113,15 +113,15 @@ stamped app = with_rules app (
 unfoldable pub route_app : App
 route_app = stamped (a_subcommand (codes "route") (
     a_positional (codes "VERB")
-    ∷ a_positional (codes "PREFIX")
-    ∷ a_required_option (codes "face")
+    ∷ an_optional_positional (codes "PREFIX")
+    ∷ an_option (codes "face")
     ∷ an_option (codes "cost")
     ∷ []))
 
 unfoldable pub strategy_app : App
 strategy_app = stamped (a_subcommand (codes "strategy") (
     a_positional (codes "VERB")
-    ∷ a_positional (codes "PREFIX")
+    ∷ an_optional_positional (codes "PREFIX")
     ∷ an_optional_positional (codes "STRATEGY")
     ∷ []))
 
@@ -164,6 +164,18 @@ send_app = a_subcommand (codes "send") (
     ∷ an_option (codes "from")
     ∷ [])
 
+unfoldable pub peek_app : App
+peek_app = a_subcommand (codes "peek") (
+    a_positional (codes "URI")
+    ∷ a_flag (codes "can-be-prefix")
+    ∷ a_flag (codes "must-be-fresh")
+    ∷ an_option (codes "lifetime")
+    ∷ an_option (codes "nonce")
+    ∷ a_flag (codes "raw")
+    ∷ an_option (codes "to")
+    ∷ an_option (codes "from")
+    ∷ [])
+
 -- ---- the subcommands by their names
 
 abbrev pub app_for : Subcommand → App
@@ -178,6 +190,7 @@ app_for Tag = tag_app
 app_for Show = show_app
 app_for Explain = explain_app
 app_for Send = send_app
+app_for Peek = peek_app
 
 abbrev pub subcommand_named : List ℕ → Option Subcommand
 subcommand_named word =
@@ -191,14 +204,16 @@ subcommand_named word =
     if bytes_eq word (codes "tag") then Some Tag else (
     if bytes_eq word (codes "show") then Some Show else (
     if bytes_eq word (codes "explain") then Some Explain else (
-    if bytes_eq word (codes "send") then Some Send else
-    None))))))))))
+    if bytes_eq word (codes "send") then Some Send else (
+    if bytes_eq word (codes "peek") then Some Peek else
+    None)))))))))))
 
 -- one of these is required, and none is named `help`
 unfoldable pub tool : App
 tool = record {
   top = record (new_shape (codes "ndn_tool")) {
     is_leaf = false;
+    has_version = true;
     disable_help_subcommand = true;
     subcommand_required = true;
     arg_required_else_help = true;
@@ -206,7 +221,7 @@ tool = record {
   subs =
       interest_app.top ∷ data_app.top ∷ command_app.top ∷ route_app.top ∷ strategy_app.top
       ∷ cache_app.top ∷ repository_app.top ∷ tag_app.top ∷ show_app.top
-      ∷ explain_app.top ∷ send_app.top ∷ [];
+      ∷ explain_app.top ∷ send_app.top ∷ peek_app.top ∷ [];
 }
 
 -- ---- what is built

@@ -10,10 +10,7 @@ use Rattle.ndn_client.specs.declared.fault.Usage.{Usage}
 use Rattle.ndn_client.specs.declared.fault.Usage.TheVariants.{CommandLine, BadValue}
 use Rattle.ndn_client.specs.declared.fault.ToolFault.{ToolFault}
 use Rattle.ndn_client.specs.declared.fault.ToolFault.TheVariants as tool
-use Rattle.ndn_client.specs.declared.fault.Silence.{Silence}
-use Rattle.ndn_client.specs.declared.fault.Silence.TheVariants.{Closed, Far, Late}
-use Rattle.ndn_client.specs.declared.fault.Failure.{Failure}
-use Rattle.ndn_client.specs.declared.fault.Failure.TheVariants.{Refused, NoStatus, Nack, Silent}
+use Rattle.ndn_requests.specs.Fault.{silence_text, failure_text}
 use Rattle.ndn_client.specs.declared.fault.Fault.{Fault}
 use Rattle.ndn_client.specs.declared.fault.Fault.TheVariants as fault
 
@@ -51,6 +48,7 @@ status_of fault.Clock = 3
 status_of fault.Write = 3
 status_of fault.Input = 3
 status_of fault.Send = 3
+status_of fault.From = 3
 status_of (fault.Silent why) = 3
 status_of (fault.NotDone why) = 1
 
@@ -79,19 +77,6 @@ key_text (TwiceNamed line) = codes "keys:" ++ decimal line ++ codes ": TwiceName
 key_text TooMany = codes "keys:0: TooMany\n"
 key_text KeyMemory = out_of_memory
 
-abbrev pub silence_text : Silence → Option (List ℕ)
-silence_text Closed = Some (codes "error: no program listens on this port\n")
-silence_text Far =
-    Some (codes "error: no answer came in 4 seconds; give --from, the port of a Local peer\n")
-silence_text Late =
-    Some (codes "error: no answer came in 4 seconds, though a program listens on this port\n")
-
-abbrev pub failure_text : Failure → Option (List ℕ)
-failure_text Refused = Some (codes "error: not done; the status says why\n")
-failure_text NoStatus = Some (codes "error: the answer is not a reply to a command\n")
-failure_text Nack = Some (codes "error: not done; a Nack came back\n")
-failure_text (Silent why) = silence_text why
-
 -- the message for standard error, with its LF
 abbrev pub text_of : Fault → Option (List ℕ)
 text_of (fault.Tool why) = tool_text why
@@ -103,5 +88,7 @@ text_of fault.Clock = Some (codes "error: the clock cannot be read\n")
 text_of fault.Write = Some (codes "error: standard output cannot be written\n")
 text_of fault.Input = Some (codes "error: standard input cannot be read as UTF-8 text\n")
 text_of fault.Send = Some (codes "error: the packet cannot be sent to this port\n")
+text_of fault.From =
+    Some (codes "error: the port of --from cannot be taken; another program has it\n")
 text_of (fault.Silent why) = silence_text why
 text_of (fault.NotDone why) = failure_text why

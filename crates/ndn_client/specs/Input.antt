@@ -1,70 +1,9 @@
--- What stands on standard input: one packet to send, or lines of which is said what they hold, of
--- packets in words, and of other lines as they are.
-use Rattle.std.specs.Prelude.{◌≡◌, ◌⊎◌, ℕ, ◌-◌, List, [], ◌∷◌, ◌++◌, length, take, codes, Option, Result, Ok, Err, Bool, false, ◌==◌, if◌then◌else◌, slice_get}
-use Rattle.hex.specs.declared.error.FromHexError.{FromHexError}
-use Rattle.hex.specs.Hex.{decode_of}
-use Rattle.hmac_keys.specs.KeyFile.{NamedKey, lines_of}
+-- What stands on standard input where one packet is to be sent.
+use Rattle.std.specs.Prelude.{ℕ, ◌-◌, List, length, take, ◌==◌, if◌then◌else◌, slice_get}
 use Rattle.ndn_tlv.specs.Options.{on_option}
-use Rattle.hmac_keys.specs.KeyReading.{at_last_space}
-use Rattle.ndn_packets.specs.declared.fault.PacketFault.{PacketFault}
-use Rattle.ndn_packets.specs.declared.fault.PacketFault.TheVariants as packet
-use Rattle.ndn_packets.specs.Packet.{PlainFrame}
-use Rattle.ndn_packets.specs.Link.{IsFrame}
-use Rattle.ndn_packets.specs.FrameFaults.{FaultOf}
-use Rattle.ndn_packets.specs.FaultName.{packet_name}
-use Rattle.ndn_explain.specs.declared.tag_check.TagCheck.{TagCheck}
-use Rattle.ndn_explain.specs.Show.{line, named_line}
-use Rattle.ndn_explain.specs.TagCheck.{MayBeChecked}
-use Rattle.ndn_explain.specs.Explain.{explanation}
 
 -- a text without the LF at its end
 abbrev pub without_lf : List ℕ → List ℕ
 without_lf text =
     on_option (λ o. if o == 10 then take (length text - 1) text else text) text
     (slice_get text (length text - 1))
-
--- `>` begins the lines of a script's answers that are packets
-abbrev pub is_send : List ℕ → Bool
-is_send [] = false
-is_send (o ∷ line) = o == 62
-
--- what stands before a packet, and its digits: those of a send stand after its last space
-abbrev pub parts_of : List ℕ → List ℕ × List ℕ
-parts_of text =
-    if is_send text then on_option (λ parts. parts) ([], text) (at_last_space text)
-    else ([], text)
-
--- a line as it is; of an empty one nothing
-abbrev pub repeated : List ℕ → List ℕ
-repeated [] = []
-repeated (o ∷ text) = line (o ∷ text)
-
--- octets in words, or why they are no packet
-abbrev pub IsSaidPacket : Option (List NamedKey) → List ℕ → List ℕ → Type 0
-IsSaidPacket keys octets said =
-    ((frame : PlainFrame) × (check : Option TagCheck) × IsFrame octets frame
-    × MayBeChecked frame keys check × (said ≡ explanation frame check))
-    ⊎ ((why : PacketFault) × FaultOf octets why
-    × (said ≡ named_line (codes "malformed") (packet_name why)))
-
--- the octets of a packet, or a line without any
-abbrev pub IsSaidPart : Option (List NamedKey) → List ℕ → List ℕ
-    → Result (List ℕ) FromHexError → List ℕ → Type 0
-IsSaidPart keys text head (Err why) said = said ≡ repeated text
-IsSaidPart keys text head (Ok []) said = said ≡ repeated text
-IsSaidPart keys text head (Ok (o ∷ octets)) said =
-    (words : List ℕ) × IsSaidPacket keys (o ∷ octets) words × (said ≡ repeated head ++ words)
-
-abbrev pub IsSaidLine : Option (List NamedKey) → List ℕ → List ℕ → Type 0
-IsSaidLine keys text said =
-    IsSaidPart keys text (parts_of text).0 (decode_of (parts_of text).1) said
-
-abbrev pub AreSaid : Option (List NamedKey) → List (List ℕ) → List ℕ → Type 0
-AreSaid keys [] said = said ≡ []
-AreSaid keys (text ∷ texts) said =
-    (first : List ℕ) × (others : List ℕ) × IsSaidLine keys text first
-    × AreSaid keys texts others × (said ≡ first ++ others)
-
--- of all lines of a text, which LFs part
-abbrev pub IsSaidInput : Option (List NamedKey) → List ℕ → List ℕ → Type 0
-IsSaidInput keys text said = AreSaid keys (lines_of text) said

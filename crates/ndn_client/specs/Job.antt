@@ -2,7 +2,7 @@
 use Rattle.std.specs.Prelude.{ℕ, List, Option, None, Some, string_bytes}
 use Rattle.std.specs.Option.{option_map}
 use Rattle.ndn_client.specs.declared.job.Job.{Job}
-use Rattle.ndn_client.specs.declared.job.Job.TheVariants.{Help, Interest, Data, Command, Tag, Show, Explain, Send}
+use Rattle.ndn_client.specs.declared.job.Job.TheVariants.{Help, Interest, Data, Command, Tag, Show, Explain, Send, Ask}
 
 -- the path of the key file that a job names
 abbrev pub key_file_of : Job → Option (List ℕ)
@@ -14,3 +14,4 @@ key_file_of (Tag job) = Some (string_bytes job.keys)
 key_file_of (Show octets) = None
 key_file_of (Explain job) = option_map string_bytes job.keys
 key_file_of (Send job) = None
+key_file_of (Ask job) = None

@@ -2,6 +2,7 @@ pub mod Value
 pub mod Options
 pub mod Nonce
 pub mod ShortForm
+pub mod Ask
 pub mod RepositoryForm
 pub mod Job
 pub mod Fault
@@ -9,9 +10,8 @@ pub mod KeyFile
 pub mod CommandLine
 pub mod Command
 pub mod Input
-pub mod Parameters
 pub mod Answer
-pub mod Reply
+pub mod Plan
 pub use Rattle.ndn_explain.specs.Show
 pub use Rattle.ndn_explain.specs.TagCheck
 pub use Rattle.ndn_explain.specs.Explain

@@ -1,5 +1,5 @@
 -- What the options of a subcommand spell, by what was found for each of them.
-use Rattle.std.specs.Prelude.{◌≡◌, ℕ, List, Option, None, Some, Bool, true, false, codes, bytes_eq, if◌then◌else◌, String, Vec, string_bytes}
+use Rattle.std.specs.Prelude.{◌≡◌, ℕ, List, Option, None, Some, Bool, true, false, is_some, is_none, ◌&&◌, codes, bytes_eq, if◌then◌else◌, unwrap_or, String, Vec, string_bytes}
 use Rattle.clap.specs.declared.parser.matches.ArgMatches.{ArgMatches}
 use Rattle.clap.specs.Matches.{found_of}
 use Rattle.clap.specs.Walk.{Row, rows_of, first_of, one_of}
@@ -8,8 +8,9 @@ use Rattle.ndn_names.specs.ReadsAs.{ReadsAs}
 use Rattle.ndn_client.specs.declared.job.KeyChoice.{KeyChoice}
 use Rattle.ndn_client.specs.declared.job.InterestJob.{InterestJob}
 use Rattle.ndn_client.specs.declared.job.DataJob.{DataJob}
-use Rattle.ndn_client.specs.declared.job.Parameters.{Parameters}
+use Rattle.ndn_requests.specs.declared.parameters.Parameters.{Parameters}
 use Rattle.ndn_client.specs.declared.job.Stamp.{Stamp}
+use Rattle.ndn_client.specs.declared.job.Ports.{Ports}
 use Rattle.ndn_client.specs.declared.job.CommandJob.{CommandJob}
 use Rattle.ndn_client.specs.declared.job.TagJob.{TagJob}
 use Rattle.ndn_client.specs.declared.job.ExplainJob.{ExplainJob}
@@ -41,6 +42,10 @@ abbrev pub MayHave : {A : Type 0} → Option (List ℕ) → (List ℕ → A → 
 MayHave value Spells None = value ≡ None
 MayHave value Spells (Some x) = Has value Spells x
 
+-- a value, or this where it is left out
+abbrev pub HasOr : {A : Type 0} → A → Option (List ℕ) → (List ℕ → A → Type 0) → A → Type 0
+HasOr {A} other value Spells x = (given : Option A) × MayHave value Spells given × (x ≡ unwrap_or given other)
+
 abbrev pub IsFlag : Option (List ℕ) → Bool → Type 0
 IsFlag said b =
     (said ≡ Some (codes "true") → b ≡ true)
@@ -60,6 +65,16 @@ SpellsStrategy word name = ReadsAs (strategy_uri word) name
 pub record IsKeyChoice (rows : List Row) (choice : KeyChoice) : Type 0 where
   pub keys : MayHave (value_at rows (codes "keys")) IsPath choice.keys
   pub key : MayHave (value_at rows (codes "key")) ReadsAs choice.key
+
+-- the ports that a packet is sent to and from; a port to send from wants one to send to
+pub record IsPorts (target source : Option (List ℕ)) (ports : Ports) : Type 0 where
+  pub to : MayHave target IsPort ports.to
+  pub from : MayHave source IsPort ports.from
+  pub pair : is_none ports.to && is_some ports.from ≡ false
+
+-- it is not sent
+abbrev pub AreNoPorts : Ports → Type 0
+AreNoPorts ports = (ports.to ≡ None) × (ports.from ≡ None)
 
 pub record IsInterestJob (rows : List Row) (job : InterestJob) : Type 0 where
   pub name : Has (value_at rows (codes "URI")) ReadsAs job.name
@@ -94,8 +109,7 @@ pub record IsStamp (rows : List Row) (stamp : Stamp) : Type 0 where
   pub time : Has (value_at rows (codes "time")) IsNumber stamp.time
   pub seq : MayHave (value_at rows (codes "seq")) IsNumber stamp.seq
   pub key : IsKeyChoice rows stamp.key
-  pub to : stamp.to ≡ None
-  pub from : stamp.from ≡ None
+  pub ports : AreNoPorts stamp.ports
 
 pub record IsCommandJob (rows : List Row) (job : CommandJob) : Type 0 where
   pub name : Has (value_at rows (codes "URI")) ReadsAs job.name

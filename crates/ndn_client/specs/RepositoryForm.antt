@@ -4,7 +4,7 @@ use Rattle.clap.specs.Walk.{Row}
 use Rattle.ndn_tlv.specs.Element.{Field}
 use Rattle.ndn_names.specs.declared.component_type.TheConstants.{GENERIC}
 use Rattle.ndn_names.specs.ReadsAs.{ReadsAs}
-use Rattle.ndn_client.specs.declared.job.Parameters.{Parameters}
+use Rattle.ndn_requests.specs.declared.parameters.Parameters.{Parameters}
 use Rattle.ndn_client.specs.declared.job.CommandJob.{CommandJob}
 use Rattle.ndn_client.specs.Value.{IsNumber}
 use Rattle.ndn_client.specs.Options.{value_at, flag_at, Has, MayHave, IsFlag}

@@ -1,42 +1,24 @@
 //! The answer to a job.
-ghost use Rattle.std.specs.Prelude.{◌≡◌, ◌++◌, List, ℕ, IfOk, OnErr, MatchResult, option_map};
+ghost use Rattle.std.specs.Prelude.{◌≡◌, MatchResult, option_map};
 ghost use Rattle.ndn_packets.specs.Link.{IsFrame};
 ghost use Rattle.ndn_packets.specs.View.{plain_frame};
-ghost use Rattle.ndn_client.specs.Answer.{IsAnswer, IsRefusal, IsInterestAnswer, IsInterestRefusal, IsDataAnswer, IsDataRefusal, IsCommandPacket, IsCommandAnswer, IsCommandRefusal, IsTagAnswer, IsTagRefusal, IsShown, IsExplained, IsExplainAnswer, IsExplainRefusal, IsNotShown, keys_given, IsHmac, SignsInterest, SignsData, IsNoKey, hex_line};
-ghost use Rattle.ndn_client.specs.Parameters.{command_name};
+ghost use Rattle.ndn_client.specs.Answer.{IsAnswer, IsRefusal, IsInterestAnswer, IsInterestPacket, IsInterestRefusal, IsDataAnswer, IsDataRefusal, IsCommandPacket, IsCommandAnswer, IsCommandRefusal, IsTagAnswer, IsTagRefusal, IsShown, IsExplained, IsExplainAnswer, IsExplainRefusal, IsNotShown, keys_given, IsHmac, SignsInterest, SignsData, IsNoKey};
+ghost use Rattle.ndn_requests.specs.Parameters.{command_name};
 
 use crate::fault::ToolFault;
 use crate::job::{CommandJob, DataJob, ExplainJob, InterestJob, Job, TagJob};
-use crate::parameters::command_name;
 use hmac_keys::{KeyBook, hmac_sha256};
-use ndn_explain::{check_of, put_explanation, put_frame};
+use ndn_explain::{check_of, hex_line, put_explanation, put_frame};
 use ndn_names::NameBuf;
 use ndn_packets::{DataWriter, Frame, InterestWriter, Sign, read_frame};
-use ndn_tlv::Memory;
-use std::alloc::{AllocError, Global};
+use ndn_requests::command_name;
+use std::alloc::Global;
 
-/// Appends what the program prints for a job, with the keys of its key file; nothing for a packet
-/// to send, nor for packets of standard input.
+/// What the program prints for a job that is not sent, with the keys of its key file; nothing for a
+/// packet to send as it is, nor for packets of standard input.
 ///
-/// Refuses a job by its cause or by `Memory`, never by `Usage`, and then appends nothing.
-pub fn put_answer(
-    alloc: Global,
-    job: &Job,
-    book: &KeyBook,
-    out: &mut Vec<u8>,
-) -> Result<(), ToolFault>
-    ensures answered { MatchResult result
-        (λ _. (text : List ℕ) × IsAnswer job.now book.now text
-        × (out.new.items ≡ out.old.items ++ text))
-        (IsRefusal job.now book.now) }
-    ensures err { OnErr result (out.new.items ≡ out.old.items) }
-{
-    let text = text_of(alloc, job, book)?;
-    out.extend_from_slice(&text)?;
-    Ok(())
-}
-
-fn text_of(alloc: Global, job: &Job, book: &KeyBook) -> Result<Vec<u8>, ToolFault>
+/// Refuses a job by its cause or by `Memory`, never by `Usage`.
+pub fn text_of(alloc: Global, job: &Job, book: &KeyBook) -> Result<Vec<u8>, ToolFault>
     ensures { MatchResult result
         (λ text. IsAnswer job.now book.now text.items)
         (IsRefusal job.now book.now) }
@@ -44,6 +26,7 @@ fn text_of(alloc: Global, job: &Job, book: &KeyBook) -> Result<Vec<u8>, ToolFaul
     match job {
         Job::Help(help) => Ok(help.to_string(alloc)?.into_bytes()),
         Job::Interest(job) => interest_text(alloc, job, book),
+        Job::Ask(job) => interest_text(alloc, &job.interest, book),
         Job::Data(job) => data_text(alloc, job, book),
         Job::Command(job) => command_text(alloc, job, book),
         Job::Tag(job) => tag_text(alloc, job, book),
@@ -56,6 +39,20 @@ fn text_of(alloc: Global, job: &Job, book: &KeyBook) -> Result<Vec<u8>, ToolFaul
 fn interest_text(alloc: Global, job: &InterestJob, book: &KeyBook) -> Result<Vec<u8>, ToolFault>
     ensures { MatchResult result
         (λ text. IsInterestAnswer job.now book.now text.items)
+        (IsInterestRefusal job.now book.now) }
+{
+    let packet = interest_packet(alloc, job, book)?;
+    Ok(hex_line(alloc, &packet)?)
+}
+
+/// The packet of an Interest, with the keys of its key file.
+pub fn interest_packet(
+    alloc: Global,
+    job: &InterestJob,
+    book: &KeyBook,
+) -> Result<Vec<u8>, ToolFault>
+    ensures { MatchResult result
+        (λ packet. IsInterestPacket job.now book.now packet.items)
         (IsInterestRefusal job.now book.now) }
 {
     let sign = interest_sign(&job.key.key, book)?;
@@ -73,7 +70,7 @@ fn interest_text(alloc: Global, job: &InterestJob, book: &KeyBook) -> Result<Vec
     };
     let mut packet = Vec::new(alloc);
     writer.write(&mut packet)?;
-    Ok(hex_line(alloc, &packet)?)
+    Ok(packet)
 }
 
 fn data_text(alloc: Global, job: &DataJob, book: &KeyBook) -> Result<Vec<u8>, ToolFault>
@@ -109,12 +106,12 @@ pub fn command_packet(alloc: Global, job: &CommandJob, book: &KeyBook) -> Result
         (λ packet. IsCommandPacket job.now book.now packet.items)
         (IsCommandRefusal job.now book.now) }
 {
-    match command_name(alloc, job) {
+    match command_name(alloc, &job.name, &job.parameters) {
         Ok(name) => named_command(alloc, job, &name, book),
         Err(fault) => {
             // A missing key is reported before a name that has no room.
             data_sign(&job.stamp.key.key, book)?;
-            Err(fault)
+            Err(ToolFault::from(fault))
         }
     }
 }
@@ -126,7 +123,7 @@ fn named_command<'a>(
     name: &'a NameBuf,
     book: &'a KeyBook,
 ) -> Result<Vec<u8>, ToolFault>
-    requires { name.now ≡ command_name job.now }
+    requires { name.now ≡ command_name job.now.name job.now.parameters }
     ensures { MatchResult result
         (λ packet. IsCommandPacket job.now book.now packet.items)
         (IsCommandRefusal job.now book.now) }
@@ -261,13 +258,4 @@ fn octets_in(octets: &Option<Vec<u8>>) -> Option<&[u8]>
         None => None,
         Some(octets) => Some(octets.as_slice()),
     }
-}
-
-/// A line of hexadecimal.
-pub fn hex_line(alloc: Global, octets: &[u8]) -> Result<Vec<u8>, AllocError>
-    ensures { IfOk result (λ text. text.items ≡ hex_line octets.now) }
-{
-    let mut text = hex::encode(alloc, octets)?;
-    text.push('\n')?;
-    Ok(text.into_bytes())
 }

@@ -5,11 +5,13 @@ ghost use Rattle.ndn_client.specs.Value.{IsUsage, ReadsInMemory};
 ghost use Rattle.ndn_client.specs.Options.{rows_in};
 ghost use Rattle.ndn_client.specs.CommandLine.{HasApp, tool};
 ghost use Rattle.ndn_client.specs.Nonce.{words_of};
-ghost use Rattle.ndn_client.specs.Command.{reading_of, IsJob, IsJobFor, IsNamedJob, Asks, IsRefusedLine};
+ghost use Rattle.ndn_client.specs.Command.{reading_of, IsJob, IsJobFor, IsListedJob, IsNamedJob, Asks, IsRefusedLine};
 
 use crate::fault::{ToolFault, Usage};
 use crate::help;
-use crate::job::{CommandJob, DataJob, ExplainJob, InterestJob, Job, SendJob, TagJob};
+use crate::job::{
+    AskJob, CommandJob, DataJob, ExplainJob, InterestJob, Job, SendJob, TagJob, is_list,
+};
 use crate::nonce::words_of;
 use crate::options::required_octets;
 use crate::subcommand::{Subcommand, with_subcommands};
@@ -50,7 +52,7 @@ fn answer_to(error: Error) -> Result<Job, ToolFault>
     ensures { result ≡ reading_of (kind_of error) error }
 {
     match error.kind() {
-        ErrorKind::DisplayHelp => Ok(Job::Help(error)),
+        ErrorKind::DisplayHelp | ErrorKind::DisplayVersion => Ok(Job::Help(error)),
         ErrorKind::OutOfMemory => Err(ToolFault::Memory),
         _ => Err(ToolFault::Usage(Usage::CommandLine(error))),
     }
@@ -105,7 +107,8 @@ fn job_for(
         Subcommand::Interest => Ok(Job::Interest(InterestJob::read(alloc, options)?)),
         Subcommand::Data => Ok(Job::Data(DataJob::read(alloc, options)?)),
         Subcommand::Command => Ok(Job::Command(CommandJob::read(alloc, options)?)),
-        Subcommand::Route | Subcommand::Strategy | Subcommand::Cache => {
+        Subcommand::Route | Subcommand::Strategy => listed_job(alloc, name, options, now, words),
+        Subcommand::Cache => {
             Ok(Job::Command(CommandJob::read_short(alloc, name, options, now, words)?))
         }
         Subcommand::Repository => {
@@ -115,7 +118,24 @@ fn job_for(
         Subcommand::Show => Ok(Job::Show(required_octets(alloc, options, "HEX")?)),
         Subcommand::Explain => Ok(Job::Explain(ExplainJob::read(alloc, options)?)),
         Subcommand::Send => Ok(Job::Send(SendJob::read(alloc, options)?)),
+        Subcommand::Peek => Ok(Job::Ask(AskJob::read_peek(alloc, options, now, words)?)),
     }
+}
+
+/// The list, or the command of a short form, that the options of a subcommand ask for.
+fn listed_job(
+    alloc: Global,
+    name: &str,
+    options: &ArgMatches<'_>,
+    now: u64,
+    words: &[u8],
+) -> Result<Job, ToolFault>
+    ensures { ReadsInMemory (IsListedJob now words.now name.now (rows_in options.now)) result }
+{
+    if is_list(options) {
+        return Ok(Job::Ask(AskJob::read_list(alloc, name, options, now, words)?));
+    }
+    Ok(Job::Command(CommandJob::read_short(alloc, name, options, now, words)?))
 }
 
 fn no_subcommand() -> ToolFault
@@ -135,7 +155,8 @@ fn command<'a>(alloc: Global) -> Result<Command<'a>, AllocError>
         .after_help(help::TOOL)
         .disable_help_subcommand(true)
         .subcommand_required(true)
-        .arg_required_else_help(true);
+        .arg_required_else_help(true)
+        .version(help::VERSION);
     let subcommands = [
         Subcommand::Interest,
         Subcommand::Data,
@@ -148,6 +169,7 @@ fn command<'a>(alloc: Global) -> Result<Command<'a>, AllocError>
         Subcommand::Show,
         Subcommand::Explain,
         Subcommand::Send,
+        Subcommand::Peek,
     ];
     with_subcommands(alloc, command, &subcommands)
 }

@@ -1,6 +1,7 @@
 //! Why the program stops: its message and its exit status.
 use hmac_keys::KeyFault;
 use ndn_packets::{PacketFault, WriteFault};
+use ndn_requests::{Failure, Silence};
 use ndn_tlv::Memory;
 use std::alloc::AllocError;
 use std::fmt;
@@ -34,31 +35,6 @@ pub enum ToolFault {
     Memory,
 }
 
-/// Why no answer came to a packet that was sent.
-#[derive(Clone, Copy, Debug, PartialEq, Eq)]
-pub enum Silence {
-    /// No program listens on the port.
-    Closed,
-    /// The name is under `/localhost`, and the port is a new one: a node hears such names from its
-    /// Local peers alone.
-    Far,
-    /// A program listens, and nothing came in time.
-    Late,
-}
-
-/// Why a request that was sent was not done.
-#[derive(Clone, Copy, Debug, PartialEq, Eq)]
-pub enum Failure {
-    /// The reply's status says that the command was not done.
-    Refused,
-    /// The answer to a command has no status.
-    NoStatus,
-    /// A Nack came.
-    Nack,
-    /// No answer came.
-    Silent(Silence),
-}
-
 /// Why the program did not do what it was asked.
 #[derive(Debug, Drop)]
 pub enum Fault {
@@ -80,6 +56,8 @@ pub enum Fault {
     Input,
     /// The packet cannot be sent.
     Send,
+    /// The port to send from cannot be taken.
+    From,
     /// No answer came to a packet that was sent as it is.
     Silent(Silence),
     /// A request was sent, and was not done.
@@ -127,6 +105,7 @@ impl Fault {
             | Fault::Write
             | Fault::Input
             | Fault::Send
+            | Fault::From
             | Fault::Silent(_) => 3,
         }
     }
@@ -174,45 +153,11 @@ impl fmt::Display for Fault {
             Fault::Write => f.write_str("error: standard output cannot be written\n"),
             Fault::Input => f.write_str("error: standard input cannot be read as UTF-8 text\n"),
             Fault::Send => f.write_str("error: the packet cannot be sent to this port\n"),
+            Fault::From => {
+                f.write_str("error: the port of --from cannot be taken; another program has it\n")
+            }
             Fault::Silent(silence) => silence.fmt(f),
             Fault::NotDone(failure) => failure.fmt(f),
-        }
-    }
-}
-
-impl fmt::Display for Silence {
-    ghost use Rattle.ndn_client.specs.Fault.{silence_text};
-
-    // Each message ends with an LF.
-    ghost output = { silence_text };
-
-    fn fmt<W: fmt::Write>(&self, f: &mut fmt::Formatter<W>) -> fmt::Result {
-        match self {
-            Silence::Closed => f.write_str("error: no program listens on this port\n"),
-            Silence::Far => f.write_str(
-                "error: no answer came in 4 seconds; give --from, the port of a Local peer\n",
-            ),
-            Silence::Late => {
-                f.write_str(
-                    "error: no answer came in 4 seconds, though a program listens on this port\n",
-                )
-            }
-        }
-    }
-}
-
-impl fmt::Display for Failure {
-    ghost use Rattle.ndn_client.specs.Fault.{failure_text};
-
-    // Each message ends with an LF.
-    ghost output = { failure_text };
-
-    fn fmt<W: fmt::Write>(&self, f: &mut fmt::Formatter<W>) -> fmt::Result {
-        match self {
-            Failure::Refused => f.write_str("error: not done; the status says why\n"),
-            Failure::NoStatus => f.write_str("error: the answer is not a reply to a command\n"),
-            Failure::Nack => f.write_str("error: not done; a Nack came back\n"),
-            Failure::Silent(silence) => silence.fmt(f),
         }
     }
 }
@@ -285,5 +230,17 @@ impl From<AllocError> for Fault {
 
     fn from(_error: AllocError) -> Fault {
         Fault::Tool(ToolFault::Memory)
+    }
+}
+
+impl From<WriteFault> for Fault {
+    ghost use Rattle.std.specs.Prelude.{◌≡◌};
+    ghost use Rattle.ndn_client.specs.declared.fault.Fault.TheVariants.{Tool};
+    ghost use Rattle.ndn_client.specs.Fault.{fault_of_write};
+
+    ghost from_gives = { λ why fault. fault ≡ Tool (fault_of_write why) };
+
+    fn from(fault: WriteFault) -> Fault {
+        Fault::Tool(ToolFault::from(fault))
     }
 }

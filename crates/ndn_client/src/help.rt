@@ -1,7 +1,9 @@
 //! The texts of the help.
 
+pub const VERSION: &str = "0.1.0";
+
 pub const ABOUT: &str =
-    "A Named Data Networking client: it writes packets, computes tags and shows what packets hold.";
+    "A Named Data Networking client: it asks nodes, gives them commands, and shows what packets hold.";
 
 pub const TOOL: &str =
     "Packets and other octets are in hexadecimal, two digits for each octet, in either case. URI is
@@ -47,18 +49,23 @@ Example: a next hop for /A, signed with a key.
       --nonce 01020304 --time 1000000 --keys ops.keys --key /ops/KEY/1";
 
 pub const ROUTE: &str =
-    "VERB is add or remove. remove has no --cost. Without --time the command has the time of the clock,
-and without --nonce a Nonce made of its time and its words. Without --key the signature is
-DigestSha256.
+    "VERB is add, remove or list. add and remove need PREFIX and --face; remove has no --cost. Without
+--time the command has the time of the clock, and without --nonce a Nonce made of its time and its
+words. Without --key the signature is DigestSha256. list takes --nonce, --send and --from alone; with
+--send it fetches all segments and prints a table with tabs between its columns.
 
 Example: a next hop for /A through face 2, and none.
   $ ndn_tool route add /A --face 2 --keys ops.keys --key /ops/KEY/1
-  $ ndn_tool route remove /A --face 2 --keys ops.keys --key /ops/KEY/1";
+  $ ndn_tool route remove /A --face 2 --keys ops.keys --key /ops/KEY/1
+
+Example: the routes of the node at port 6363, asked from the port of its first Local peer.
+  $ ndn_tool route list --send 6363 --from 7001";
 
 pub const STRATEGY: &str =
-    "VERB is set, which needs a strategy, or unset, which has none. STRATEGY is best-route, multicast or
-the URI of a strategy. Without --time the command has the time of the clock, and without --nonce a
-Nonce made of its time and its words. Without --key the signature is DigestSha256.
+    "VERB is set, which needs a strategy, unset, which has none, or list, which takes --nonce, --send and
+--from alone. STRATEGY is best-route, multicast or the URI of a strategy. Without --time the command
+has the time of the clock, and without --nonce a Nonce made of its time and its words. Without --key
+the signature is DigestSha256.
 
 Example: Interests under /A go to every next hop.
   $ ndn_tool strategy set /A multicast --keys ops.keys --key /ops/KEY/1";
@@ -107,7 +114,8 @@ Example: a Data named /A, signed with a key.
   freshness 0
   content 78
   signature 4 -
-  key-locator /ops/KEY/1";
+  key-locator /ops/KEY/1
+  text x";
 
 pub const SEND: &str =
     "Sends the packet to this port of 127.0.0.1, as one datagram, and prints the one answer in
@@ -116,6 +124,15 @@ answer comes in time the exit status is 3.
 
 Example: a packet is written, sent to a node, and its answer said in words.
   $ ndn_tool interest /A --nonce 01020304 | ndn_tool send - --to 6363 | ndn_tool explain -";
+
+pub const PEEK: &str =
+    "Without --to the Interest is printed in hexadecimal. With --to it is sent to this port of 127.0.0.1,
+and the Data that answers is printed as explain does, or by --raw its content alone. Without --nonce
+the Nonce is made of the time and the words. The exit status is 1 after a Nack, and where no answer
+comes.
+
+Example: the content of /A, as the node at port 6363 has it or fetches it.
+  $ ndn_tool peek /A --to 6363 --raw";
 
 pub const TIME: &str = "The time of the signature, in milliseconds since 1970";
 
@@ -136,5 +153,7 @@ pub const KEYS: &str = "The key file";
 pub const KEY: &str = "The name of the key to sign with";
 
 pub const PORT: &str = "Sends the command to this port of 127.0.0.1, and says the reply in words";
+
+pub const TO: &str = "The port of 127.0.0.1 that it is sent to";
 
 pub const FROM: &str = "The port of 127.0.0.1 that it is sent from; a new one if absent";

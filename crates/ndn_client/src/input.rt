@@ -1,20 +1,12 @@
-//! What stands on standard input: one packet, or lines with packets.
+//! The one packet of standard input.
 
-ghost use Rattle.std.specs.Prelude.{◌≡◌, ◌≢◌, ◌<◌, ◌⊎◌, ◌++◌, ◌∷◌, [], List, ℕ, Ok, OnOk, codes, option_map, length};
-ghost use Rattle.hmac_keys.specs.KeyFile.{lines_of};
+ghost use Rattle.std.specs.Prelude.{◌≡◌};
 ghost use Rattle.ndn_client.specs.Value.{AreOctets, ReadsInMemory};
-ghost use Rattle.ndn_client.specs.Input.{without_lf, is_send, parts_of, repeated, IsSaidPacket, IsSaidPart, IsSaidLine, IsSaidInput};
-ghost use Rattle.hex.specs.Hex.{decode_of};
-ghost use Rattle.ndn_packets.specs.FaultName.{packet_name};
-ghost use Rattle.ndn_explain.specs.Show.{named_line};
+ghost use Rattle.ndn_client.specs.Input.{without_lf};
 
 use crate::fault::ToolFault;
 use crate::short_form::refusal;
 use hex::FromHexError;
-use hmac_keys::{KeyBook, first_line};
-use ndn_explain::{check_of, put_explanation, put_label, put_value};
-use ndn_packets::{PacketFault, read_frame};
-use ndn_tlv::Memory;
 use std::alloc::Global;
 
 /// The one packet that a text spells in hexadecimal of either case, with or without an LF at its
@@ -38,138 +30,4 @@ fn without_lf(text: &[u8]) -> &[u8]
         Some(&octet) if octet == b'\n' => &text[..last],
         _ => text,
     }
-}
-
-/// Appends what is said of the lines of a text, which LFs part: the packet of a line in words, and
-/// a line without a packet as it is, but for empty lines. A packet is one or more octets in
-/// hexadecimal, alone in its line, or after the last space of a line that begins with `>`. With
-/// keys its signature is checked. After `Memory` some lines may have been appended.
-pub fn put_input(
-    alloc: Global,
-    text: &mut Vec<u8>,
-    input: &str,
-    keys: Option<&KeyBook>,
-) -> Result<(), Memory>
-    ensures { OnOk result ((said : List ℕ)
-        × IsSaidInput (option_map (λ b. b.now) keys.entry) input.now said
-        × (text.new.items ≡ text.old.items ++ said)) }
-{
-    let mut rest = input;
-    while !rest.is_empty() {
-        let (line, after) = first_line(rest);
-        put_line(alloc, text, line, keys)?;
-        rest = after;
-    }
-    Ok(())
-}
-
-fn put_line(
-    alloc: Global,
-    text: &mut Vec<u8>,
-    line: &str,
-    keys: Option<&KeyBook>,
-) -> Result<(), Memory>
-    ensures { OnOk result ((said : List ℕ)
-        × IsSaidLine (option_map (λ b. b.now) keys.entry) line.now said
-        × (text.new.items ≡ text.old.items ++ said)) }
-{
-    let (head, digits) = parts_of(line);
-    put_digits(alloc, text, line, head, digits, keys)
-}
-
-/// Appends what is said of a line with these digits, and what stands before them.
-fn put_digits(
-    alloc: Global,
-    text: &mut Vec<u8>,
-    line: &str,
-    head: &str,
-    digits: &str,
-    keys: Option<&KeyBook>,
-) -> Result<(), Memory>
-    ensures { OnOk result ((said : List ℕ)
-        × IsSaidPart (option_map (λ b. b.now) keys.entry) line.now head.now
-        (decode_of digits.now) said
-        × (text.new.items ≡ text.old.items ++ said)) }
-{
-    match hex::decode(alloc, digits) {
-        Ok(octets) => put_octets(alloc, text, line, head, &octets, keys),
-        Err(FromHexError::OutOfMemory) => Err(Memory),
-        Err(_) => put_repeated(text, line),
-    }
-}
-
-/// Appends what is said of a line with these octets, if there are any.
-fn put_octets(
-    alloc: Global,
-    text: &mut Vec<u8>,
-    line: &str,
-    head: &str,
-    octets: &[u8],
-    keys: Option<&KeyBook>,
-) -> Result<(), Memory>
-    ensures { OnOk result ((said : List ℕ)
-        × IsSaidPart (option_map (λ b. b.now) keys.entry) line.now head.now (Ok octets.now) said
-        × (text.new.items ≡ text.old.items ++ said)) }
-{
-    if octets.is_empty() {
-        return put_repeated(text, line);
-    }
-    put_repeated(text, head)?;
-    put_packet(alloc, text, octets, keys)
-}
-
-/// What stands before a packet in a line, and its digits.
-fn parts_of(line: &str) -> (&str, &str)
-    ensures { (result.0.now, result.1.now) ≡ parts_of line.now }
-{
-    if !is_send(line) {
-        return ("", line);
-    }
-    match line.rsplit_once(' ') {
-        Some(parts) => parts,
-        None => ("", line),
-    }
-}
-
-/// Whether the line begins as a send in a script's answers.
-fn is_send(line: &str) -> bool
-    ensures { result ≡ is_send line.now }
-{
-    line.starts_with('>')
-}
-
-/// Appends a line as it is, but for an empty one.
-fn put_repeated(text: &mut Vec<u8>, line: &str) -> Result<(), Memory>
-    ensures { OnOk result (text.new.items ≡ text.old.items ++ repeated line.now) }
-{
-    if line.is_empty() {
-        Ok(())
-    } else {
-        put_label(text, line)
-    }
-}
-
-/// Appends what is said of the octets of a packet, or why they are none.
-fn put_packet(
-    alloc: Global,
-    text: &mut Vec<u8>,
-    octets: &[u8],
-    keys: Option<&KeyBook>,
-) -> Result<(), Memory>
-    ensures { OnOk result ((said : List ℕ)
-        × IsSaidPacket (option_map (λ b. b.now) keys.entry) octets.now said
-        × (text.new.items ≡ text.old.items ++ said)) }
-{
-    match read_frame(octets) {
-        Ok(frame) => put_explanation(alloc, text, &frame, check_of(&frame, keys)),
-        Err(fault) => put_malformed(text, fault),
-    }
-}
-
-/// Appends why octets are no packet.
-fn put_malformed(text: &mut Vec<u8>, fault: PacketFault) -> Result<(), Memory>
-    ensures { OnOk result (text.new.items ≡ text.old.items
-        ++ named_line (codes "malformed") (packet_name fault)) }
-{
-    put_value(text, "malformed", fault.name().as_bytes())
 }

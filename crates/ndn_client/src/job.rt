@@ -1,14 +1,21 @@
 //! What a command line asks for.
 
 ghost use Rattle.std.specs.Prelude.{◌≡◌, option_map, string_bytes};
+ghost use Rattle.ndn_client.specs.Value.{ReadsInMemory};
+ghost use Rattle.ndn_client.specs.Options.{rows_in, AreParameters};
+ghost use Rattle.ndn_client.specs.ShortForm.{AreShortParameters};
+ghost use Rattle.ndn_client.specs.RepositoryForm.{AreRepositoryParameters};
+ghost use Rattle.ndn_client.specs.Ask.{is_alone, is_list, lacks, list_of, view_of};
 
 use crate::fault::ToolFault;
-use crate::nonce::nonce_of;
+use crate::nonce::nonce_or;
 use crate::options;
 use crate::repository_form::repository_name;
-use crate::short_form::{ShortForm, refusal};
+use crate::short_form::{action_in, check_fit, refusal};
 use clap::{ArgMatches, Error};
+use mgmt_core::Action;
 use ndn_names::NameBuf;
+use ndn_requests::{NodeList, Parameters, View, action_name, list_name};
 use std::alloc::Global;
 
 /// What a command line asks for: a subcommand with its options.
@@ -30,6 +37,17 @@ pub enum Job {
     Explain(ExplainJob),
     /// To send a packet, and to print the answer to it.
     Send(SendJob),
+    /// To send an Interest, and to say what the answer holds.
+    Ask(AskJob),
+}
+
+/// The ports of 127.0.0.1 that a packet is sent to and from.
+#[derive(Clone, Copy, Debug)]
+pub struct Ports {
+    /// The port that it is sent to, if it is sent; else it is printed.
+    pub to: Option<u16>,
+    /// The port that it is sent from; without one it is a new one.
+    pub from: Option<u16>,
 }
 
 /// The key of a signature: the file that it is in, and its name.
@@ -84,25 +102,6 @@ pub struct CommandJob {
     pub stamp: Stamp,
 }
 
-/// The parameters of a command. Those that a command of its kind does not have are left out.
-#[derive(Drop)]
-pub struct Parameters {
-    /// The name that the command is about.
-    pub name: NameBuf,
-    /// The face of a next hop; 0 is the one that the command comes from.
-    pub face: Option<u64>,
-    /// The cost of a next hop.
-    pub cost: Option<u64>,
-    /// The name of a strategy.
-    pub strategy: Option<NameBuf>,
-    /// The greatest number of Data to erase.
-    pub count: Option<u64>,
-    /// Whether Data with longer names are meant too.
-    pub can_be_prefix: bool,
-    /// The InterestLifetime in milliseconds.
-    pub lifetime: Option<u64>,
-}
-
 /// What makes a command one of its own, and who sends it.
 #[derive(Drop)]
 pub struct Stamp {
@@ -114,11 +113,7 @@ pub struct Stamp {
     pub seq: Option<u64>,
     /// The key of the signature; without one it is DigestSha256.
     pub key: KeyChoice,
-    /// The port of 127.0.0.1 that the command is sent to, if it is sent, and the answer said in
-    /// words.
-    pub to: Option<u16>,
-    /// The port that it is sent from; without one it is a new one.
-    pub from: Option<u16>,
+    pub ports: Ports,
 }
 
 /// Octets, and the key to compute their tag with.
@@ -151,6 +146,14 @@ pub struct SendJob {
     pub from: Option<u16>,
 }
 
+/// An Interest to send, and what is printed of the answer.
+#[derive(Drop)]
+pub struct AskJob {
+    pub interest: InterestJob,
+    pub view: View,
+    pub ports: Ports,
+}
+
 impl Job {
     ghost use Rattle.std.specs.Prelude.{◌≡◌, option_map};
     ghost use Rattle.ndn_client.specs.Job.{key_file_of};
@@ -165,7 +168,7 @@ impl Job {
             Job::Command(job) => job.stamp.key.path(),
             Job::Tag(job) => Some(job.keys.as_str()),
             Job::Explain(job) => path_in(&job.keys),
-            Job::Help(_) | Job::Show(_) | Job::Send(_) => None,
+            Job::Help(_) | Job::Show(_) | Job::Send(_) | Job::Ask(_) => None,
         }
     }
 }
@@ -222,7 +225,7 @@ impl CommandJob {
     {
         Ok(CommandJob {
             name: options::required_name(alloc, options, "URI")?,
-            parameters: Parameters::read(alloc, options)?,
+            parameters: parameters(alloc, options)?,
             stamp: Stamp::read(alloc, options)?,
         })
     }
@@ -239,8 +242,8 @@ impl CommandJob {
         ensures { ReadsInMemory
             (IsShortJob now words.now subcommand.now (rows_in options.now)) result }
     {
-        let form = ShortForm::read(subcommand, options)?;
-        CommandJob::read_form(alloc, form, options, now, words)
+        let action = action_in(subcommand, options)?;
+        CommandJob::read_form(alloc, action, options, now, words)
     }
 
     /// The command that the options of `repo` ask for. Where they leave out the time and the Nonce,
@@ -255,7 +258,7 @@ impl CommandJob {
     {
         Ok(CommandJob {
             name: repository_name(alloc, options)?,
-            parameters: Parameters::read_repository(alloc, options)?,
+            parameters: repository_parameters(alloc, options)?,
             stamp: Stamp::read_short(alloc, options, now, words)?,
         })
     }
@@ -263,72 +266,65 @@ impl CommandJob {
     /// The command of a short form.
     fn read_form(
         alloc: Global,
-        form: ShortForm,
+        action: Action,
         options: &ArgMatches<'_>,
         now: u64,
         words: &[u8],
     ) -> Result<CommandJob, ToolFault>
-        ensures { ReadsInMemory (IsFormJob form now words.now (rows_in options.now)) result }
+        ensures { ReadsInMemory (IsFormJob action now words.now (rows_in options.now)) result }
     {
-        form.check(options)?;
+        check_fit(action, options)?;
         Ok(CommandJob {
-            name: form.name(alloc)?,
-            parameters: Parameters::read_short(alloc, options)?,
+            name: action_name(alloc, action)?,
+            parameters: short_parameters(alloc, options)?,
             stamp: Stamp::read_short(alloc, options, now, words)?,
         })
     }
 }
 
-impl Parameters {
-    ghost use Rattle.ndn_client.specs.Value.{ReadsInMemory};
-    ghost use Rattle.ndn_client.specs.Options.{rows_in, AreParameters};
-    ghost use Rattle.ndn_client.specs.ShortForm.{AreShortParameters};
-    ghost use Rattle.ndn_client.specs.RepositoryForm.{AreRepositoryParameters};
+/// The parameters that the options of `command` spell.
+fn parameters(alloc: Global, options: &ArgMatches<'_>) -> Result<Parameters, ToolFault>
+    ensures { ReadsInMemory (AreParameters (rows_in options.now)) result }
+{
+    Ok(Parameters {
+        name: options::required_name(alloc, options, "name")?,
+        face: options::number(options, "face")?,
+        cost: options::number(options, "cost")?,
+        strategy: options::name(alloc, options, "strategy")?,
+        count: options::number(options, "count")?,
+        can_be_prefix: options::flag(options, "can-be-prefix"),
+        lifetime: options::number(options, "lifetime")?,
+    })
+}
 
-    /// The parameters that the options of `command` spell.
-    fn read(alloc: Global, options: &ArgMatches<'_>) -> Result<Parameters, ToolFault>
-        ensures { ReadsInMemory (AreParameters (rows_in options.now)) result }
-    {
-        Ok(Parameters {
-            name: options::required_name(alloc, options, "name")?,
-            face: options::number(options, "face")?,
-            cost: options::number(options, "cost")?,
-            strategy: options::name(alloc, options, "strategy")?,
-            count: options::number(options, "count")?,
-            can_be_prefix: options::flag(options, "can-be-prefix"),
-            lifetime: options::number(options, "lifetime")?,
-        })
-    }
+/// The parameters that the options of a short form spell.
+fn short_parameters(alloc: Global, options: &ArgMatches<'_>) -> Result<Parameters, ToolFault>
+    ensures { ReadsInMemory (AreShortParameters (rows_in options.now)) result }
+{
+    Ok(Parameters {
+        name: options::required_name(alloc, options, "PREFIX")?,
+        face: options::number(options, "face")?,
+        cost: options::number(options, "cost")?,
+        strategy: options::strategy(alloc, options, "STRATEGY")?,
+        count: options::number(options, "count")?,
+        can_be_prefix: false,
+        lifetime: None,
+    })
+}
 
-    /// The parameters that the options of a short form spell.
-    fn read_short(alloc: Global, options: &ArgMatches<'_>) -> Result<Parameters, ToolFault>
-        ensures { ReadsInMemory (AreShortParameters (rows_in options.now)) result }
-    {
-        Ok(Parameters {
-            name: options::required_name(alloc, options, "PREFIX")?,
-            face: options::number(options, "face")?,
-            cost: options::number(options, "cost")?,
-            strategy: options::strategy(alloc, options, "STRATEGY")?,
-            count: options::number(options, "count")?,
-            can_be_prefix: false,
-            lifetime: None,
-        })
-    }
-
-    /// The parameters that the options of `repo` spell.
-    fn read_repository(alloc: Global, options: &ArgMatches<'_>) -> Result<Parameters, ToolFault>
-        ensures { ReadsInMemory (AreRepositoryParameters (rows_in options.now)) result }
-    {
-        Ok(Parameters {
-            name: options::required_name(alloc, options, "NAME")?,
-            face: None,
-            cost: None,
-            strategy: None,
-            count: None,
-            can_be_prefix: options::flag(options, "can-be-prefix"),
-            lifetime: options::number(options, "lifetime")?,
-        })
-    }
+/// The parameters that the options of `repo` spell.
+fn repository_parameters(alloc: Global, options: &ArgMatches<'_>) -> Result<Parameters, ToolFault>
+    ensures { ReadsInMemory (AreRepositoryParameters (rows_in options.now)) result }
+{
+    Ok(Parameters {
+        name: options::required_name(alloc, options, "NAME")?,
+        face: None,
+        cost: None,
+        strategy: None,
+        count: None,
+        can_be_prefix: options::flag(options, "can-be-prefix"),
+        lifetime: options::number(options, "lifetime")?,
+    })
 }
 
 impl Stamp {
@@ -345,8 +341,10 @@ impl Stamp {
             time: options::required_number(options, "time")?,
             seq: options::number(options, "seq")?,
             key: KeyChoice::read(alloc, options)?,
-            to: None,
-            from: None,
+            ports: Ports {
+                to: None,
+                from: None,
+            },
         })
     }
 
@@ -360,24 +358,164 @@ impl Stamp {
         ensures { ReadsInMemory (IsShortStamp now words.now (rows_in options.now)) result }
     {
         let time = options::number(options, "time")?.unwrap_or(now);
-        let nonce = match options::nonce(options, "nonce")? {
-            Some(nonce) => nonce,
-            None => nonce_of(alloc, time, words)?,
-        };
-        let to = options::port(options, "send")?;
-        let from = options::port(options, "from")?;
-        if to.is_none() && from.is_some() {
-            return Err(refusal("from", "--send as well"));
-        }
+        let given = options::nonce(options, "nonce")?;
+        let ports = Ports::read(options, "send")?;
         Ok(Stamp {
-            nonce,
+            nonce: nonce_or(alloc, given, time, words)?,
             time,
             seq: options::number(options, "seq")?,
             key: KeyChoice::read(alloc, options)?,
-            to,
-            from,
+            ports,
         })
     }
+}
+
+impl Ports {
+    ghost use Rattle.std.specs.Prelude.{codes};
+    ghost use Rattle.ndn_client.specs.Value.{Reads};
+    ghost use Rattle.ndn_client.specs.Options.{rows_in, value_at, IsPorts};
+
+    /// The ports that the option of this id and `from` spell.
+    fn read(options: &ArgMatches<'_>, id: &'static str) -> Result<Ports, ToolFault>
+        ensures { Reads (IsPorts (value_at (rows_in options.now) id.now)
+            (value_at (rows_in options.now) (codes "from"))) result }
+    {
+        let to = options::port(options, id)?;
+        let from = options::port(options, "from")?;
+        if to.is_none() && from.is_some() {
+            return Err(refusal("from", "the port to send to as well"));
+        }
+        Ok(Ports { to, from })
+    }
+}
+
+impl AskJob {
+    ghost use Rattle.std.specs.Prelude.{◌≡◌, codes, true};
+    ghost use Rattle.ndn_client.specs.Value.{IsUsage, ReadsInMemory};
+    ghost use Rattle.ndn_client.specs.Options.{rows_in};
+    ghost use Rattle.ndn_client.specs.Ask.{IsListJob, IsPeekJob};
+
+    /// The list that `list` asks for, as a verb of the subcommand of this name. Where the options
+    /// leave out the Nonce, it is made of the time and the words.
+    pub fn read_list(
+        alloc: Global,
+        subcommand: &str,
+        options: &ArgMatches<'_>,
+        now: u64,
+        words: &[u8],
+    ) -> Result<AskJob, ToolFault>
+        ensures { ReadsInMemory
+            (IsListJob now words.now subcommand.now (rows_in options.now)) result }
+    {
+        if !is_alone(options) {
+            return Err(refusal(
+                "list",
+                "no name and no option but --nonce, --send and --from",
+            ));
+        }
+        let list = list_of(subcommand);
+        let given = options::nonce(options, "nonce")?;
+        let ports = Ports::read(options, "send")?;
+        Ok(AskJob {
+            interest: InterestJob {
+                name: list_name(alloc, list)?,
+                can_be_prefix: true,
+                must_be_fresh: true,
+                nonce: nonce_or(alloc, given, now, words)?,
+                lifetime: None,
+                hop_limit: None,
+                parameters: None,
+                time: None,
+                seq: None,
+                key: KeyChoice {
+                    keys: None,
+                    key: None,
+                },
+            },
+            view: View::Table(list),
+            ports,
+        })
+    }
+
+    /// The Interest that the options of `peek` ask for. Where they leave out the Nonce, it is made of
+    /// the time and the words.
+    pub fn read_peek(
+        alloc: Global,
+        options: &ArgMatches<'_>,
+        now: u64,
+        words: &[u8],
+    ) -> Result<AskJob, ToolFault>
+        ensures { ReadsInMemory (IsPeekJob now words.now (rows_in options.now)) result }
+    {
+        let given = options::nonce(options, "nonce")?;
+        let ports = Ports::read(options, "to")?;
+        Ok(AskJob {
+            interest: InterestJob {
+                name: options::required_name(alloc, options, "URI")?,
+                can_be_prefix: options::flag(options, "can-be-prefix"),
+                must_be_fresh: options::flag(options, "must-be-fresh"),
+                nonce: nonce_or(alloc, given, now, words)?,
+                lifetime: options::number(options, "lifetime")?,
+                hop_limit: None,
+                parameters: None,
+                time: None,
+                seq: None,
+                key: KeyChoice {
+                    keys: None,
+                    key: None,
+                },
+            },
+            view: view_of(options::flag(options, "raw")),
+            ports,
+        })
+    }
+}
+
+fn view_of(raw: bool) -> View
+    ensures { result ≡ view_of raw }
+{
+    if raw { View::Content } else { View::Lines }
+}
+
+/// The list of the subcommand of this name.
+fn list_of(subcommand: &str) -> NodeList
+    ensures { result ≡ list_of subcommand.now }
+{
+    if subcommand == "route" {
+        NodeList::Routes
+    } else {
+        NodeList::Strategies
+    }
+}
+
+/// Whether the verb is `list`.
+pub fn is_list(options: &ArgMatches<'_>) -> bool
+    ensures { result ≡ is_list (rows_in options.now) }
+{
+    match options::value(options, "VERB") {
+        None => false,
+        Some(verb) => verb == "list",
+    }
+}
+
+/// Whether nothing is given that belongs to the commands of the subcommand.
+fn is_alone(options: &ArgMatches<'_>) -> bool
+    ensures { result ≡ is_alone (rows_in options.now) }
+{
+    lacks(options, "PREFIX")
+        && lacks(options, "face")
+        && lacks(options, "cost")
+        && lacks(options, "STRATEGY")
+        && lacks(options, "time")
+        && lacks(options, "seq")
+        && lacks(options, "keys")
+        && lacks(options, "key")
+}
+
+fn lacks(options: &ArgMatches<'_>, id: &str) -> bool
+    ensures { result ≡ lacks (rows_in options.now) id.now }
+{
+    options::value(options, id).is_none()
 }
 
 impl TagJob {

@@ -12,20 +12,22 @@ mod job;
 mod key_file;
 mod nonce;
 mod options;
-mod parameters;
-mod reply;
+mod plan;
 mod repository_form;
 mod short_form;
 mod subcommand;
 mod value;
 
-pub use answer::{command_packet, hex_line, keys_given, put_answer};
 pub use command::parse_words;
-pub use fault::{Failure, Fault, Silence, ToolFault, Usage};
-pub use input::{packet_in, put_input};
+pub use fault::{Fault, ToolFault, Usage};
+pub use input::packet_in;
 pub use job::{
-    CommandJob, DataJob, ExplainJob, InterestJob, Job, KeyChoice, Parameters, SendJob, Stamp,
+    AskJob, CommandJob, DataJob, ExplainJob, InterestJob, Job, KeyChoice, Ports, SendJob, Stamp,
     TagJob,
 };
 pub use key_file::read_book;
-pub use reply::{Outcome, judge, put_said, silence_of};
+pub use ndn_explain::put_input;
+pub use ndn_requests::{
+    Exchange, Failure, NodeList, Outcome, Progress, Silence, View, judge, put_said, silence_of,
+};
+pub use plan::{Plan, fault_of_silence, plan_of, reads_input};

@@ -1,6 +1,6 @@
 //! The Nonce of a command whose options give none.
 
-ghost use Rattle.std.specs.Prelude.{◌≡◌, ◌++◌, flat_map, IfOk, OnOk};
+ghost use Rattle.std.specs.Prelude.{◌≡◌, ◌++◌, flat_map, unwrap_or, IfOk, OnOk};
 ghost use Rattle.ndn_client.specs.Nonce.{nonce_of, spaced};
 
 use sha2::{Digest, Sha256};
@@ -28,9 +28,24 @@ fn put_spaced(text: &mut Vec<u8>, word: &str) -> Result<(), AllocError>
     text.extend_from_slice(word.as_bytes())
 }
 
+/// The Nonce that is given, or one of its own for this time and these words.
+pub fn nonce_or(
+    alloc: Global,
+    given: Option<[u8; 4]>,
+    time: u64,
+    words: &[u8],
+) -> Result<[u8; 4], AllocError>
+    ensures { IfOk result (λ nonce. nonce ≡ unwrap_or given (nonce_of time words.now)) }
+{
+    match given {
+        Some(nonce) => Ok(nonce),
+        None => nonce_of(alloc, time, words),
+    }
+}
+
 /// A Nonce of its own for a time and the words of a command: the first four octets of SHA-256 over
 /// the time in decimal digits and the words.
-pub fn nonce_of(alloc: Global, time: u64, words: &[u8]) -> Result<[u8; 4], AllocError>
+fn nonce_of(alloc: Global, time: u64, words: &[u8]) -> Result<[u8; 4], AllocError>
     ensures { IfOk result (λ nonce. nonce ≡ nonce_of time words.now) }
 {
     let time = time.to_string(alloc)?;

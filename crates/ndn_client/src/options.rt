@@ -8,6 +8,7 @@ use crate::fault::{ToolFault, Usage};
 use crate::short_form::strategy_uri;
 use crate::value::{
     parse_hops, parse_name, parse_nonce, parse_number, parse_octets, parse_packet, parse_port,
+    parse_strategy,
 };
 use clap::ArgMatches;
 use ndn_names::NameBuf;
@@ -174,7 +175,7 @@ pub fn strategy(
 {
     match value(options, id) {
         None => Ok(None),
-        Some(value) => Ok(Some(parse_name(alloc, id, strategy_uri(value))?)),
+        Some(value) => Ok(Some(parse_strategy(alloc, id, strategy_uri(value))?)),
     }
 }
 

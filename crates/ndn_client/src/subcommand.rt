@@ -2,7 +2,7 @@
 
 ghost use Rattle.std.specs.Prelude.{map, IfOk};
 ghost use Rattle.clap.specs.Simple.{App};
-ghost use Rattle.ndn_client.specs.CommandLine.{HasApp, rule_for, a_subcommand, app_for, with_subcommands, interest_app, data_app, command_app, route_app, strategy_app, cache_app, repository_app, tag_app, show_app, explain_app, send_app, stamped};
+ghost use Rattle.ndn_client.specs.CommandLine.{HasApp, rule_for, a_subcommand, app_for, with_subcommands, interest_app, data_app, command_app, route_app, strategy_app, cache_app, repository_app, tag_app, show_app, explain_app, send_app, peek_app, stamped};
 
 use crate::argument::{Argument, with_arguments};
 use crate::help;
@@ -23,6 +23,7 @@ pub enum Subcommand {
     Show,
     Explain,
     Send,
+    Peek,
 }
 
 impl Subcommand {
@@ -45,6 +46,7 @@ impl Subcommand {
             "show" => Some(Subcommand::Show),
             "explain" => Some(Subcommand::Explain),
             "send" => Some(Subcommand::Send),
+            "peek" => Some(Subcommand::Peek),
             _ => None,
         }
     }
@@ -65,6 +67,7 @@ impl Subcommand {
             Subcommand::Show => show_command(alloc),
             Subcommand::Explain => explain_command(alloc),
             Subcommand::Send => send_command(alloc),
+            Subcommand::Peek => peek_command(alloc),
         }
     }
 }
@@ -167,12 +170,12 @@ fn route_command<'a>(alloc: Global) -> Result<Command<'a>, AllocError>
     ensures { IfOk result (HasApp route_app) }
 {
     let arguments = [
-        Argument::Positional("VERB", "add or remove"),
-        Argument::Positional("PREFIX", "The name of the route"),
-        Argument::Required("face", "N", help::FACE),
+        Argument::Positional("VERB", "add, remove or list"),
+        Argument::MaybePositional("PREFIX", "The name of the route"),
+        Argument::Optional("face", "N", help::FACE),
         Argument::Optional("cost", "N", help::COST),
     ];
-    let about = "Writes a command that adds or removes a next hop";
+    let about = "Adds or removes a next hop, or lists the routes";
     let command = described(alloc, "route", about, help::ROUTE, &arguments)?;
     with_stamp(alloc, command)
 }
@@ -181,11 +184,11 @@ fn strategy_command<'a>(alloc: Global) -> Result<Command<'a>, AllocError>
     ensures { IfOk result (HasApp strategy_app) }
 {
     let arguments = [
-        Argument::Positional("VERB", "set or unset"),
-        Argument::Positional("PREFIX", "The name that has the strategy"),
+        Argument::Positional("VERB", "set, unset or list"),
+        Argument::MaybePositional("PREFIX", "The name that has the strategy"),
         Argument::MaybePositional("STRATEGY", "The strategy"),
     ];
-    let about = "Writes a command that sets or unsets a strategy";
+    let about = "Sets or unsets a strategy, or lists the strategies";
     let command = described(alloc, "strategy", about, help::STRATEGY, &arguments)?;
     with_stamp(alloc, command)
 }
@@ -254,11 +257,28 @@ fn send_command<'a>(alloc: Global) -> Result<Command<'a>, AllocError>
 {
     let arguments = [
         Argument::Positional("HEX", "The packet, or - for that of standard input"),
-        Argument::Required("to", "PORT", "The port of 127.0.0.1 that it is sent to"),
+        Argument::Required("to", "PORT", help::TO),
         Argument::Optional("from", "PORT", help::FROM),
     ];
     let about = "Sends a packet to a node and prints the answer";
     described(alloc, "send", about, help::SEND, &arguments)
+}
+
+fn peek_command<'a>(alloc: Global) -> Result<Command<'a>, AllocError>
+    ensures { IfOk result (HasApp peek_app) }
+{
+    let arguments = [
+        Argument::Positional("URI", "The name"),
+        Argument::Flag("can-be-prefix", help::CAN_BE_PREFIX),
+        Argument::Flag("must-be-fresh", "Only fresh Data may answer"),
+        Argument::Optional("lifetime", "N", help::LIFETIME),
+        Argument::Optional("nonce", "HEX", "The Nonce, 4 octets"),
+        Argument::Flag("raw", "Prints the content alone, as it is"),
+        Argument::Optional("to", "PORT", help::TO),
+        Argument::Optional("from", "PORT", help::FROM),
+    ];
+    let about = "Asks a node for a Data and says what it holds";
+    described(alloc, "peek", about, help::PEEK, &arguments)
 }
 
 /// The command with the options of a stamp.

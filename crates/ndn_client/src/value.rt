@@ -12,11 +12,34 @@ use std::alloc::Global;
 pub fn parse_name(alloc: Global, place: &'static str, text: &str) -> Result<NameBuf, ToolFault>
     ensures { ReadsInMemory (ReadsAs text.now) result }
 {
+    parse_uri(alloc, place, text, "the URI of a name, such as /A/B")
+}
+
+/// The name of a strategy whose URI is this text.
+pub fn parse_strategy(alloc: Global, place: &'static str, text: &str) -> Result<NameBuf, ToolFault>
+    ensures { ReadsInMemory (ReadsAs text.now) result }
+{
+    parse_uri(
+        alloc,
+        place,
+        text,
+        "best-route, multicast or the URI of a strategy",
+    )
+}
+
+fn parse_uri(
+    alloc: Global,
+    place: &'static str,
+    text: &str,
+    wanted: &'static str,
+) -> Result<NameBuf, ToolFault>
+    ensures { ReadsInMemory (ReadsAs text.now) result }
+{
     match NameBuf::from_uri(alloc, text) {
         Ok(name) => Ok(name),
         Err(fault) => match fault {
             NameFault::Memory => Err(ToolFault::Memory),
-            _ => Err(bad_value(place, "the URI of a name, such as /A/B")),
+            _ => Err(bad_value(place, wanted)),
         },
     }
 }

@@ -1,13 +1,16 @@
 -- What a packet says to whoever looks for a fault, as lines of text: the lines of `show`, what its
 -- SignatureInfo holds (NDN Packet Format 0.3, "Signature"), whether the signature is right, and the
 -- segment, the command, the reply or the entries of a list that it is.
-use Rattle.std.specs.Prelude.{ℕ, List, [], ◌++◌, codes, Option, None, Some}
+use Rattle.std.specs.Prelude.{ℕ, List, [], ◌∷◌, ◌++◌, codes, Option, None, Some, ◌==◌, if◌then◌else◌}
+use Rattle.std.specs.List.{list_all}
 use Rattle.std.specs.Option.{option_map}
 use Rattle.std.specs.Fmt.{decimal}
 use Rattle.ndn_names.specs.Uri.{uri_of}
+use Rattle.ndn_packets.specs.declared.types.TheConstants.{CONGESTION, DUPLICATE, NO_ROUTE}
 use Rattle.ndn_packets.specs.Packet.{PlainLocator, Missing, KeyName, Digest, Other, PlainSignature, PlainSignatureInfo, PlainData, PlainFrame, AnInterest, AData, ANack, Idle}
-use Rattle.ndn_explain.specs.Show.{optional_line, frame_lines}
-use Rattle.ndn_explain.specs.Meaning.{command_lines, reply_lines}
+use Rattle.ndn_explain.specs.Show.{named_line, optional_line, interest_lines, frame_lines}
+use Rattle.ndn_explain.specs.Meaning.{command_lines, is_printable, reply_lines}
+use Rattle.ndn_explain.specs.declared.dataset.Layout.TheVariants.{Lines}
 use Rattle.ndn_explain.specs.Dataset.{dataset_lines}
 use Rattle.ndn_explain.specs.Segment.{segment_lines}
 use Rattle.ndn_explain.specs.declared.tag_check.TagCheck.{TagCheck}
@@ -37,9 +40,16 @@ signature_of (AData whole d) = Some d.signature
 signature_of (ANack reason whole i) = i.signature
 signature_of Idle = None
 
+-- a text of one line
+abbrev pub text_lines : List ℕ → List ℕ
+text_lines [] = []
+text_lines (o ∷ content) =
+    if list_all is_printable (o ∷ content) then named_line (codes "text") (o ∷ content) else []
+
 abbrev pub content_lines : Option (List ℕ) → List ℕ
 content_lines None = []
-content_lines (Some content) = reply_lines content ++ dataset_lines content
+content_lines (Some content) =
+    reply_lines content ++ (dataset_lines Lines content ++ text_lines content)
 
 -- of a Data with these octets
 abbrev pub data_meaning : List ℕ → PlainData → List ℕ
@@ -51,7 +61,22 @@ meaning (AData whole d) = data_meaning whole d
 meaning (ANack reason whole i) = command_lines i.name
 meaning Idle = []
 
+-- the name of the reason of a Nack (NDNLPv2, "Network Nack")
+abbrev pub reason_word : ℕ → List ℕ
+reason_word reason =
+    if reason == CONGESTION then codes " Congestion" else (
+    if reason == DUPLICATE then codes " Duplicate" else (
+    if reason == NO_ROUTE then codes " NoRoute" else []))
+
+-- the lines of `show`, with the reason's name
+abbrev pub named_frame_lines : PlainFrame → List ℕ
+named_frame_lines (AnInterest whole i) = frame_lines (AnInterest whole i)
+named_frame_lines (AData whole d) = frame_lines (AData whole d)
+named_frame_lines (ANack reason whole i) =
+    named_line (codes "nack") (decimal reason ++ reason_word reason) ++ interest_lines i
+named_frame_lines Idle = frame_lines Idle
+
 abbrev pub explanation : PlainFrame → Option TagCheck → List ℕ
 explanation frame check =
-    frame_lines frame
+    named_frame_lines frame
     ++ (signer_lines (signature_of frame) ++ (check_lines check ++ meaning frame))

@@ -5,3 +5,4 @@ pub mod Segment
 pub mod TagCheck
 pub mod Explain
 pub mod Reply
+pub mod Input

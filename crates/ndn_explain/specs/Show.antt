@@ -9,6 +9,10 @@ use Rattle.ndn_packets.specs.Packet.{PlainSignature, PlainInterest, PlainData, P
 abbrev pub line : List ℕ → List ℕ
 line text = text ++ codes "\n"
 
+-- octets in hexadecimal of lower case, on a line
+abbrev pub hex_line : List ℕ → List ℕ
+hex_line octets = encode_lower octets ++ codes "\n"
+
 -- a label, a space and a value
 abbrev pub named_line : List ℕ → List ℕ → List ℕ
 named_line label value = label ++ (codes " " ++ line value)

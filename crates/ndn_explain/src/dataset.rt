@@ -1,10 +1,10 @@
-//! The entries of a list of routes or of strategies, as lines of text.
+//! The entries of a list of routes or of strategies, as lines of text or as rows of a table.
 
 ghost use Rattle.std.specs.Prelude.{◌≡◌, ◌++◌, OnOk, Ok, flat_map};
 ghost use Rattle.std.specs.Option.{option_map};
 ghost use Rattle.ndn_tlv.specs.Reading.{elements_of};
 ghost use Rattle.ndn_tlv.specs.Fields.{first_of};
-ghost use Rattle.ndn_explain.specs.Dataset.{short_strategy, choice_line, number_word, hop_words, hop_line, entry_name, named_entry, entry_lines, dataset_lines};
+ghost use Rattle.ndn_explain.specs.Dataset.{labels_of, AreLabels, short_strategy, choice_line, number_word, hop_words, hop_line, entry_name, named_entry, entry_lines, dataset_lines};
 
 use crate::meaning::{Form, put_form};
 use ndn_packets::command_types::{COST, ENTRY, FACE_ID, NEXT_HOP, STRATEGY};
@@ -12,32 +12,64 @@ use ndn_packets::types::NAME;
 use ndn_tlv::{Memory, first_element, first_field};
 use std::alloc::Global;
 
-/// Appends the lines of the entries that a content holds; nothing for a content without any.
-pub fn put_entries(alloc: Global, text: &mut Vec<u8>, content: &[u8]) -> Result<(), Memory>
-    ensures { OnOk result (text.new.items ≡ text.old.items ++ dataset_lines content.now) }
+/// How the entries of a list are laid out.
+#[derive(Clone, Copy, Debug, PartialEq, Eq)]
+pub enum Layout {
+    /// Lines that say in words what each value is.
+    Lines,
+    /// Rows of a table, with tabs between the columns.
+    Table,
+}
+
+/// What stands before each value.
+#[derive(Clone, Copy)]
+struct Labels {
+    route: &'static str,
+    face: &'static str,
+    cost: &'static str,
+    choice: &'static str,
+    strategy: &'static str,
+}
+
+/// Appends the lines of the entries that a content holds; nothing for a content without any. After
+/// `Memory` some of them may have been appended.
+pub fn put_entries(
+    alloc: Global,
+    text: &mut Vec<u8>,
+    layout: Layout,
+    content: &[u8],
+) -> Result<(), Memory>
+    ensures { OnOk result (text.new.items ≡ text.old.items ++ dataset_lines layout content.now) }
 {
     let mut rest = content;
     while !rest.is_empty() {
         let Ok((element, after)) = first_element(rest) else {
             return Ok(());
         };
-        put_entry(alloc, text, element.kind, element.value)?;
+        put_entry(alloc, text, layout, element.kind, element.value)?;
         rest = after;
     }
     Ok(())
 }
 
 /// Appends the lines of an element that is an entry; nothing for another one.
-fn put_entry(alloc: Global, text: &mut Vec<u8>, kind: u32, value: &[u8]) -> Result<(), Memory>
-    ensures { OnOk result (text.new.items ≡ text.old.items ++ entry_lines (Ok (kind, value.now))) }
+fn put_entry(
+    alloc: Global,
+    text: &mut Vec<u8>,
+    layout: Layout,
+    kind: u32,
+    value: &[u8],
+) -> Result<(), Memory>
+    ensures { OnOk result (text.new.items
+        ≡ text.old.items ++ entry_lines layout (Ok (kind, value.now))) }
 {
     if kind != ENTRY {
         return Ok(());
     }
     let mut name = Vec::new(alloc);
     put_entry_name(alloc, &mut name, first_field(value, NAME))?;
-    put_choice(alloc, text, &name, first_field(value, STRATEGY))?;
-    put_hops(alloc, text, &name, value)
+    put_choice(alloc, text, layout, &name, first_field(value, STRATEGY))?;
+    put_hops(alloc, text, layout, &name, value)
 }
 
 fn put_entry_name(alloc: Global, text: &mut Vec<u8>, name: Option<&[u8]>) -> Result<(), Memory>
@@ -54,20 +86,22 @@ fn put_entry_name(alloc: Global, text: &mut Vec<u8>, name: Option<&[u8]>) -> Res
 fn put_choice(
     alloc: Global,
     text: &mut Vec<u8>,
+    layout: Layout,
     name: &[u8],
     strategy: Option<&[u8]>,
 ) -> Result<(), Memory>
     ensures { OnOk result (text.new.items ≡ text.old.items
-        ++ choice_line name.now (option_map (λ s. s.now) strategy.entry)) }
+        ++ choice_line layout name.now (option_map (λ s. s.now) strategy.entry)) }
 {
     let Some(strategy) = strategy else {
         return Ok(());
     };
     let mut uri = Vec::new(alloc);
     put_form(alloc, &mut uri, Form::Strategy, strategy)?;
-    text.extend_from_slice(b"strategy ")?;
+    let labels = labels_of(layout);
+    text.extend_from_slice(labels.choice.as_bytes())?;
     text.extend_from_slice(name)?;
-    text.push(b' ')?;
+    text.extend_from_slice(labels.strategy.as_bytes())?;
     text.extend_from_slice(short_strategy(&uri))?;
     text.push(b'\n')?;
     Ok(())
@@ -87,16 +121,22 @@ fn short_strategy(uri: &[u8]) -> &[u8]
 }
 
 /// Appends a line for each next hop of an entry of this name.
-fn put_hops(alloc: Global, text: &mut Vec<u8>, name: &[u8], entry: &[u8]) -> Result<(), Memory>
+fn put_hops(
+    alloc: Global,
+    text: &mut Vec<u8>,
+    layout: Layout,
+    name: &[u8],
+    entry: &[u8],
+) -> Result<(), Memory>
     ensures { OnOk result (text.new.items ≡ text.old.items
-        ++ flat_map (hop_line name.now) (elements_of entry.now)) }
+        ++ flat_map (hop_line layout name.now) (elements_of entry.now)) }
 {
     let mut rest = entry;
     while !rest.is_empty() {
         let Ok((element, after)) = first_element(rest) else {
             return Ok(());
         };
-        put_hop(alloc, text, name, element.kind, element.value)?;
+        put_hop(alloc, text, layout, name, element.kind, element.value)?;
         rest = after;
     }
     Ok(())
@@ -106,34 +146,42 @@ fn put_hops(alloc: Global, text: &mut Vec<u8>, name: &[u8], entry: &[u8]) -> Res
 fn put_hop(
     alloc: Global,
     text: &mut Vec<u8>,
+    layout: Layout,
     name: &[u8],
     kind: u32,
     value: &[u8],
 ) -> Result<(), Memory>
     ensures { OnOk result (text.new.items
-        ≡ text.old.items ++ hop_line name.now (Ok (kind, value.now))) }
+        ≡ text.old.items ++ hop_line layout name.now (Ok (kind, value.now))) }
 {
     if kind != NEXT_HOP {
         return Ok(());
     }
-    text.extend_from_slice(b"route ")?;
+    text.extend_from_slice(labels_of(layout).route.as_bytes())?;
     text.extend_from_slice(name)?;
-    put_hop_words(alloc, text, value)?;
+    put_hop_words(alloc, text, layout, value)?;
     text.push(b'\n')?;
     Ok(())
 }
 
-fn put_hop_words(alloc: Global, text: &mut Vec<u8>, fields: &[u8]) -> Result<(), Memory>
-    ensures { OnOk result (text.new.items ≡ text.old.items ++ hop_words (elements_of fields.now)) }
+fn put_hop_words(
+    alloc: Global,
+    text: &mut Vec<u8>,
+    layout: Layout,
+    fields: &[u8],
+) -> Result<(), Memory>
+    ensures { OnOk result (text.new.items
+        ≡ text.old.items ++ hop_words layout (elements_of fields.now)) }
 {
-    put_number_word(alloc, text, b" face ", first_field(fields, FACE_ID))?;
-    put_number_word(alloc, text, b" cost ", first_field(fields, COST))
+    let labels = labels_of(layout);
+    put_number_word(alloc, text, labels.face, first_field(fields, FACE_ID))?;
+    put_number_word(alloc, text, labels.cost, first_field(fields, COST))
 }
 
 fn put_number_word(
     alloc: Global,
     text: &mut Vec<u8>,
-    label: &[u8],
+    label: &str,
     number: Option<&[u8]>,
 ) -> Result<(), Memory>
     ensures { OnOk result (text.new.items ≡ text.old.items
@@ -142,6 +190,27 @@ fn put_number_word(
     let Some(number) = number else {
         return Ok(());
     };
-    text.extend_from_slice(label)?;
+    text.extend_from_slice(label.as_bytes())?;
     put_form(alloc, text, Form::Number, number)
+}
+
+fn labels_of(layout: Layout) -> Labels
+    ensures { AreLabels (labels_of layout) result }
+{
+    match layout {
+        Layout::Lines => Labels {
+            route: "route ",
+            face: " face ",
+            cost: " cost ",
+            choice: "strategy ",
+            strategy: " ",
+        },
+        Layout::Table => Labels {
+            route: "",
+            face: "\t",
+            cost: "\t",
+            choice: "",
+            strategy: "\t",
+        },
+    }
 }

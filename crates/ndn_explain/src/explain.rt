@@ -4,19 +4,21 @@ ghost use Rattle.std.specs.Prelude.{◌≡◌, ◌++◌, OnOk, Some, option_map,
 ghost use Rattle.std.specs.Fmt.{decimal};
 ghost use Rattle.ndn_packets.specs.Packet.{plain_signature, plain_locator};
 ghost use Rattle.ndn_packets.specs.View.{plain_frame, plain_data};
-ghost use Rattle.ndn_explain.specs.Show.{optional_line};
+ghost use Rattle.ndn_explain.specs.Show.{named_line, optional_line};
 ghost use Rattle.ndn_explain.specs.TagCheck.{MayBeChecked, check_words, check_lines};
-ghost use Rattle.ndn_explain.specs.Explain.{locator_text, info_lines, signer_lines, signature_of, content_lines, data_meaning, meaning, explanation};
+ghost use Rattle.ndn_explain.specs.Explain.{reason_word, named_frame_lines, text_lines, locator_text, info_lines, signer_lines, signature_of, content_lines, data_meaning, meaning, explanation};
 
-use crate::dataset::put_entries;
-use crate::meaning::{put_command, put_reply};
+use crate::dataset::{Layout, put_entries};
+use crate::meaning::{is_one_line, put_command, put_reply};
 use crate::segment::put_segment;
-use crate::show::{put_frame, put_label, put_name, put_number, put_value};
+use crate::show::{put_frame, put_interest, put_label, put_name, put_number, put_value};
 use crate::tag_check::{TagCheck, check_tag};
 use hmac_keys::KeyBook;
+use ndn_packets::types::{CONGESTION, DUPLICATE, NO_ROUTE};
 use ndn_packets::{Data, Frame, Locator, Signature};
 use ndn_tlv::Memory;
 use std::alloc::Global;
+use std::io::Write;
 
 /// Checks the signature of a packet, if it is signed and keys are given.
 pub fn check_of(frame: &Frame<'_>, keys: Option<&KeyBook>) -> Option<TagCheck>
@@ -40,10 +42,43 @@ pub fn put_explanation(
     ensures { OnOk result (text.new.items
         ≡ text.old.items ++ explanation (plain_frame frame.now) check) }
 {
-    put_frame(alloc, text, frame)?;
+    put_named_frame(alloc, text, frame)?;
     put_signer(alloc, text, signature_of(frame))?;
     put_check(text, check)?;
     put_meaning(alloc, text, frame)
+}
+
+/// Appends the lines of `show`, with the name of the reason of a Nack.
+fn put_named_frame(alloc: Global, text: &mut Vec<u8>, frame: &Frame<'_>) -> Result<(), Memory>
+    ensures { OnOk result (text.new.items
+        ≡ text.old.items ++ named_frame_lines (plain_frame frame.now)) }
+{
+    match frame {
+        Frame::Nack { reason, interest } => {
+            put_reason(text, *reason)?;
+            put_interest(alloc, text, interest)
+        }
+        _ => put_frame(alloc, text, frame),
+    }
+}
+
+fn put_reason(text: &mut Vec<u8>, reason: u64) -> Result<(), Memory>
+    ensures { OnOk result (text.new.items ≡ text.old.items
+        ++ named_line (codes "nack") (decimal reason ++ reason_word reason)) }
+{
+    writeln!(text, "nack {reason}{}", reason_word(reason)).map_err(|_| Memory)
+}
+
+/// The name of the reason of a Nack, after a space; nothing for a reason without a name.
+fn reason_word(reason: u64) -> &'static str
+    ensures { result.now ≡ reason_word reason }
+{
+    match reason {
+        CONGESTION => " Congestion",
+        DUPLICATE => " Duplicate",
+        NO_ROUTE => " NoRoute",
+        _ => "",
+    }
 }
 
 /// Appends the line of a check.
@@ -90,13 +125,24 @@ fn put_data_meaning(alloc: Global, text: &mut Vec<u8>, packet: &Data<'_>) -> Res
     }
 }
 
-/// Appends the lines of a reply, or of the entries of a list.
+/// Appends the lines of a reply, of the entries of a list, or of a text.
 pub fn put_content(alloc: Global, text: &mut Vec<u8>, content: &[u8]) -> Result<(), Memory>
     ensures { OnOk result (text.new.items
         ≡ text.old.items ++ content_lines (Some content.now)) }
 {
     put_reply(alloc, text, content)?;
-    put_entries(alloc, text, content)
+    put_entries(alloc, text, Layout::Lines, content)?;
+    put_text(text, content)
+}
+
+/// Appends a content that is a text of one line.
+fn put_text(text: &mut Vec<u8>, content: &[u8]) -> Result<(), Memory>
+    ensures { OnOk result (text.new.items ≡ text.old.items ++ text_lines content.now) }
+{
+    if content.is_empty() || !is_one_line(content) {
+        return Ok(());
+    }
+    put_value(text, "text", content)
 }
 
 /// Appends the lines of the SignatureInfo of a packet that is signed.

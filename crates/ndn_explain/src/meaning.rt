@@ -136,7 +136,7 @@ fn put_status_text(alloc: Global, text: &mut Vec<u8>, status: Option<&[u8]>) -> 
 }
 
 /// Whether all octets are printable ASCII.
-fn is_one_line(octets: &[u8]) -> bool
+pub fn is_one_line(octets: &[u8]) -> bool
     ensures { result ≡ list_all is_printable octets.now }
 {
     octets.iter().all(|&octet| 32 <= octet && octet <= 126)

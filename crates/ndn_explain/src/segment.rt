@@ -30,7 +30,7 @@ fn put_numbers(text: &mut Vec<u8>, segment: u64, last: u64) -> Result<(), Memory
 }
 
 /// The number of the last component, if it is a segment.
-fn segment_of(name: Name<'_>) -> Option<u64>
+pub fn segment_of(name: Name<'_>) -> Option<u64>
     ensures { result ≡ segment_of (components name.entry) }
 {
     let last = name.component(name.len().saturating_sub(1))?;
@@ -41,7 +41,7 @@ fn segment_of(name: Name<'_>) -> Option<u64>
 }
 
 /// The last segment, which the FinalBlockId of the MetaInfo gives as a component.
-fn last_segment(whole: &[u8]) -> Option<u64>
+pub fn last_segment(whole: &[u8]) -> Option<u64>
     ensures { result ≡ last_segment whole.now }
 {
     let fields = single_element(whole, DATA)?;

@@ -1,11 +1,11 @@
 //! What a packet holds, as lines of text.
-ghost use Rattle.std.specs.Prelude.{◌≡◌, ◌++◌, OnOk, option_map, codes};
+ghost use Rattle.std.specs.Prelude.{◌≡◌, ◌++◌, OnOk, IfOk, option_map, codes};
 ghost use Rattle.std.specs.Fmt.{decimal};
 ghost use Rattle.ndn_names.specs.View.{components};
 ghost use Rattle.ndn_names.specs.Uri.{uri_of};
 ghost use Rattle.ndn_packets.specs.Packet.{plain_signature};
 ghost use Rattle.ndn_packets.specs.View.{plain_frame, plain_interest};
-ghost use Rattle.ndn_explain.specs.Show.{line, named_line, flag_line, optional_line, hex_or_dash, signature_line, flag_lines, number_lines, parameter_lines, interest_lines, data_lines, frame_lines};
+ghost use Rattle.ndn_explain.specs.Show.{line, hex_line, named_line, flag_line, optional_line, hex_or_dash, signature_line, flag_lines, number_lines, parameter_lines, interest_lines, data_lines, frame_lines};
 
 use ndn_names::{Name, NameBuf};
 use ndn_packets::{Frame, Interest, Signature};
@@ -35,7 +35,11 @@ pub fn put_frame(alloc: Global, text: &mut Vec<u8>, frame: &Frame<'_>) -> Result
     }
 }
 
-fn put_interest(alloc: Global, text: &mut Vec<u8>, interest: &Interest<'_>) -> Result<(), Memory>
+pub fn put_interest(
+    alloc: Global,
+    text: &mut Vec<u8>,
+    interest: &Interest<'_>,
+) -> Result<(), Memory>
     ensures { OnOk result (text.new.items ≡ text.old.items
         ++ interest_lines (plain_interest interest.now)) }
 {
@@ -201,4 +205,13 @@ pub fn put_label(text: &mut Vec<u8>, label: &str) -> Result<(), Memory>
     text.extend_from_slice(label.as_bytes())?;
     text.push(b'\n')?;
     Ok(())
+}
+
+/// A line of hexadecimal.
+pub fn hex_line(alloc: Global, octets: &[u8]) -> Result<Vec<u8>, Memory>
+    ensures { IfOk result (λ text. text.items ≡ hex_line octets.now) }
+{
+    let mut text = hex::encode(alloc, octets)?;
+    text.push('\n')?;
+    Ok(text.into_bytes())
 }

@@ -6,13 +6,12 @@ ghost use Rattle.std.specs.Prelude.{◌≤◌, length, IfOk};
 
 use hmac_keys::KeyBook;
 use ndn_client::{
-    Failure, Fault, Job, Outcome, SendJob, Silence, ToolFault, command_packet, hex_line, judge,
-    keys_given, packet_in, parse_words, put_answer, put_input, put_said, read_book, silence_of,
+    Exchange, Fault, Job, Outcome, Plan, Progress, ToolFault, fault_of_silence, parse_words,
+    plan_of, read_book, reads_input,
 };
-use node_core::{ANSWER_SECONDS, send_from};
 use std::env::Env;
 use std::io::{Input, Write};
-use std::net::{Net, UdpSocket};
+use std::net::{Ipv4Addr, Net, UdpSocket};
 use std::process::ExitCode;
 use std::rt::Files;
 use std::time::{Clock, Duration, Instant, SystemTime};
@@ -20,6 +19,9 @@ use std::{env, fs, io};
 
 /// The greatest length of what a UDP datagram carries over IPv4, in octets.
 const MAX_DATAGRAM: usize = 65_507;
+
+/// How long an answer is waited for, in seconds.
+const ANSWER_SECONDS: u64 = 4;
 
 /// Why no datagram was received.
 #[derive(Clone, Copy)]
@@ -59,13 +61,47 @@ where
     R: Clock + AllocGlobal + Eprint + Files + Input + Net + Print,
 {
     let book = book_of(rt, job)?;
-    if let Job::Command(command) = job
-        && let Some(to) = command.stamp.to
-    {
-        let request = command_packet(rt.alloc(), command, &book)?;
-        return ask(rt, command.stamp.from, to, &request, &book);
+    let input = input_for(rt, job)?;
+    match plan_of(rt.alloc(), job, &book, &input)? {
+        Plan::Print(text) => print(rt, &text),
+        Plan::Exchange(exchange) => run_exchange(rt, exchange, &book),
     }
-    print(rt, &answer_to(rt, job, &book)?)
+}
+
+/// What stands on standard input, where the job is about that.
+fn input_for<R: AllocGlobal + Input>(rt: &R, job: &Job) -> Result<String, Fault> {
+    if reads_input(job) {
+        return input_of(rt);
+    }
+    Ok(String::new(rt.alloc()))
+}
+
+/// Sends a request and those that follow it, and prints what the answers say.
+fn run_exchange<R: Clock + AllocGlobal + Eprint + Net + Print>(
+    rt: &R,
+    exchange: Exchange,
+    book: &KeyBook,
+) -> Result<(), Fault> {
+    let socket = socket_of(rt, exchange.from, exchange.to)?;
+    exchange_on(rt, &socket, exchange, book)
+}
+
+/// The same on this socket.
+fn exchange_on<R: Clock + AllocGlobal + Eprint + Print>(
+    rt: &R,
+    socket: &UdpSocket,
+    exchange: Exchange,
+    book: &KeyBook,
+) -> Result<(), Fault> {
+    let mut exchange = exchange;
+    let mut buffer = vec![in rt.alloc(); 0; MAX_DATAGRAM]?;
+    for _ in 0..u64::MAX {
+        send(socket, &exchange.request)?;
+        if let Some(outcome) = next_answer(rt, socket, &mut exchange, &mut buffer, book)? {
+            return outcome.map_err(Fault::NotDone);
+        }
+    }
+    Err(fault_of_silence(&exchange, false))
 }
 
 fn print<R: Print>(rt: &R, text: &[u8]) -> Result<(), Fault> {
@@ -79,128 +115,61 @@ fn asked_job<R: Clock + Env + AllocGlobal>(rt: &R) -> Result<Job, Fault> {
     Ok(parse_words(rt.alloc(), now, arguments.as_slice())?)
 }
 
-/// The answer to a job, with the keys of its key file.
-fn answer_to<R: Clock + AllocGlobal + Input + Net>(
-    rt: &R,
-    job: &Job,
-    book: &KeyBook,
-) -> Result<Vec<u8>, Fault> {
-    if let Job::Send(send) = job {
-        return sent(rt, send);
-    }
-    let mut text = Vec::new(rt.alloc());
-    if let Job::Explain(explain) = job
-        && explain.packet.is_none()
-    {
-        let input = input_of(rt)?;
-        put_input(rt.alloc(), &mut text, &input, keys_given(explain, book))?;
-    } else {
-        put_answer(rt.alloc(), job, book, &mut text)?;
-    }
-    Ok(text)
-}
-
-/// The one answer to a packet that is sent as it is, as a line of hexadecimal.
-fn sent<R: Clock + AllocGlobal + Input + Net>(rt: &R, job: &SendJob) -> Result<Vec<u8>, Fault> {
-    match &job.packet {
-        Some(packet) => reply_to(rt, job, packet),
-        None => {
-            let input = input_of(rt)?;
-            reply_to(rt, job, &packet_in(rt.alloc(), input.as_bytes())?)
-        }
-    }
-}
-
-fn reply_to<R: Clock + AllocGlobal + Net>(
-    rt: &R,
-    job: &SendJob,
-    packet: &[u8],
-) -> Result<Vec<u8>, Fault> {
-    let mut reply = vec![in rt.alloc(); 0; MAX_DATAGRAM]?;
-    let socket = sent_between(rt, job.from, job.to, packet)?;
-    let start = Instant::now(rt).map_err(|_| Fault::Clock)?;
-    match receive(rt, &socket, start, &mut reply) {
-        Ok(len) => Ok(hex_line(rt.alloc(), &reply[..len])?),
-        Err(missed) => Err(Fault::Silent(silence_after(missed, packet, job.from)?)),
-    }
-}
-
-/// Sends a request, and waits for the answer to it.
-fn ask<R: Clock + AllocGlobal + Eprint + Net + Print>(
-    rt: &R,
-    from: Option<u16>,
-    to: u16,
-    request: &[u8],
-    book: &KeyBook,
-) -> Result<(), Fault> {
-    let socket = sent_between(rt, from, to, request)?;
-    wait_for_answer(rt, &socket, from, request, book)
-}
-
-/// Waits for the answer to a request that was sent on this socket, and prints what it says. Any other
+/// Waits for the answer to the request that was sent on this socket. Prints it where the exchange is
+/// over, and then gives what the request came to; `None` where the next request is to be sent. Any other
 /// datagram is reported on standard error.
-fn wait_for_answer<R: Clock + AllocGlobal + Eprint + Print>(
+fn next_answer<R: Clock + AllocGlobal + Eprint + Print>(
     rt: &R,
     socket: &UdpSocket,
-    from: Option<u16>,
-    request: &[u8],
+    exchange: &mut Exchange,
+    buffer: &mut [u8],
     book: &KeyBook,
-) -> Result<(), Fault> {
+) -> Result<Option<Outcome>, Fault> {
     let start = Instant::now(rt).map_err(|_| Fault::Clock)?;
-    let mut buffer = vec![in rt.alloc(); 0; MAX_DATAGRAM]?;
     for _ in 0..u64::MAX {
-        match receive(rt, socket, start, &mut buffer) {
-            Ok(len) => {
-                if let Some(outcome) = told(rt, request, &buffer[..len], book)? {
-                    return outcome.map_err(Fault::NotDone);
-                }
+        let len = match receive(rt, socket, start, buffer) {
+            Ok(len) => len,
+            Err(Missed::Clock) => return Err(Fault::Clock),
+            Err(Missed::Closed) => return Err(fault_of_silence(exchange, true)),
+            Err(Missed::Late) => return Err(fault_of_silence(exchange, false)),
+        };
+        match exchange.take(rt.alloc(), &buffer[..len], book)? {
+            Progress::Next => return Ok(None),
+            Progress::Done(text, outcome) => {
+                print(rt, &text)?;
+                return Ok(Some(outcome));
             }
-            Err(missed) => {
-                let silence = silence_after(missed, request, from)?;
-                return Err(Fault::NotDone(Failure::Silent(silence)));
+            Progress::Ignored => {
+                // If standard error cannot be written, the datagram is left out all the same.
+                let _printed = eprintln!(rt;
+                    "ignored: a datagram that is no answer to the request"
+                );
             }
         }
     }
-    Err(Fault::NotDone(Failure::Silent(Silence::Late)))
+    Err(fault_of_silence(exchange, false))
 }
 
-/// Why no answer came to a request from this port, or a new one.
-fn silence_after(missed: Missed, request: &[u8], from: Option<u16>) -> Result<Silence, Fault> {
-    match missed {
-        Missed::Clock => Err(Fault::Clock),
-        Missed::Closed => Ok(silence_of(request, from, true)),
-        Missed::Late => Ok(silence_of(request, from, false)),
+/// A socket between these ports of 127.0.0.1, from a new port if none is named.
+fn socket_of<R: Net>(rt: &R, from: Option<u16>, to: u16) -> Result<UdpSocket, Fault> {
+    let Ok(socket) = UdpSocket::bind(rt, (Ipv4Addr::LOCALHOST, from.unwrap_or(0))) else {
+        return Err(if from.is_some() {
+            Fault::From
+        } else {
+            Fault::Send
+        });
+    };
+    socket
+        .connect((Ipv4Addr::LOCALHOST, to))
+        .map_err(|_| Fault::Send)?;
+    Ok(socket)
+}
+
+fn send(socket: &UdpSocket, packet: &[u8]) -> Result<(), Fault> {
+    match socket.send(packet) {
+        Ok(sent) if sent == packet.len() => Ok(()),
+        _ => Err(Fault::Send),
     }
-}
-
-/// Prints what the answer to a request says, and gives what it comes to; of another datagram a line
-/// on standard error.
-fn told<R: AllocGlobal + Eprint + Print>(
-    rt: &R,
-    request: &[u8],
-    datagram: &[u8],
-    book: &KeyBook,
-) -> Result<Option<Outcome>, Fault> {
-    let outcome = judge(rt.alloc(), request, datagram, book)?;
-    if outcome.is_none() {
-        // If standard error cannot be written, the datagram is left out all the same.
-        let _printed = eprintln!(rt; "ignored: a datagram that is no answer to the request");
-        return Ok(None);
-    }
-    let mut text = Vec::new(rt.alloc());
-    put_said(rt.alloc(), &mut text, request, datagram)?;
-    print(rt, &text)?;
-    Ok(outcome)
-}
-
-/// Sends a packet between these ports of 127.0.0.1, from a new port if none is named.
-fn sent_between<R: Net>(
-    rt: &R,
-    from: Option<u16>,
-    to: u16,
-    packet: &[u8],
-) -> Result<UdpSocket, Fault> {
-    send_from(rt, from.unwrap_or(0), to, packet).map_err(|_| Fault::Send)
 }
 
 /// Receives one datagram before `ANSWER_SECONDS` from the start are over, and answers its length.

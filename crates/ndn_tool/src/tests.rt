@@ -1,6 +1,8 @@
 use super::*;
 use hmac_keys::KeyFault;
-use ndn_client::{Silence, Usage};
+use ndn_client::{
+    Failure, Silence, Usage, View, judge, packet_in, put_input, put_said, silence_of,
+};
 use ndn_packets::{Frame, PacketFault, WriteFault, put_reply, read_frame};
 use std::alloc::Global;
 use std::net::Ipv4Addr;
@@ -26,9 +28,10 @@ fn job_of(alloc: Global, command: &str) -> Result<Job, ToolFault> {
 fn answered(alloc: Global, command: &str, keys: &str) -> Result<String, ToolFault> {
     let job = job_of(alloc, command)?;
     let book = KeyBook::read(alloc, keys).map_err(|_| ToolFault::Memory)?;
-    let mut out = Vec::new(alloc);
-    put_answer(alloc, &job, &book, &mut out)?;
-    String::from_utf8(out).map_err(|_| ToolFault::NoKey)
+    match plan_of(alloc, &job, &book, "")? {
+        Plan::Print(text) => String::from_utf8(text).map_err(|_| ToolFault::NoKey),
+        Plan::Exchange(_) => Err(ToolFault::NoKey),
+    }
 }
 
 /// The status that a command ends with, and what it prints.
@@ -322,18 +325,22 @@ ndn_tool command /localhost/nfd/fib/add-nexthop --name /A --nonce 01020304 => --
 ndn_tool command /localhost/nfd/fib/add-nexthop --nonce 01020304 --time 1 => --name <URI>
 ndn_tool command /A --name /A --nonce 01020304 --time x => time: give a decimal number
 ndn_tool command /A --name /A --nonce 01020304 --time 1 --strategy multicast => strategy: give the URI
-ndn_tool route add /A => --face <N>
-ndn_tool route add --face 1 => <PREFIX>
-ndn_tool route set /A --face 1 => VERB: give
+ndn_tool route add /A => error: invalid value for face: give the face of the next hop by --face
+ndn_tool route add --face 1 => PREFIX: give a value
+ndn_tool route set /A --face 1 => VERB: give add, remove or list
+ndn_tool route list /A => list: give no name
+ndn_tool route list --face 1 => list: give no name
+ndn_tool strategy list --key /ops/KEY/1 => list: give no name
+ndn_tool route list --from 7001 => from: give the port to send to
 ndn_tool route remove /A --face 1 --cost 1 => cost: give no cost
 ndn_tool route add A --face 1 => PREFIX: give the URI
 ndn_tool route add /A --face x => face: give a decimal number
 ndn_tool route add /A multicast --face 1 => unexpected argument 'multicast'
-ndn_tool strategy set /A => STRATEGY: give a strategy
-ndn_tool strategy set /A worst-route => STRATEGY: give the URI
+ndn_tool strategy set /A => STRATEGY: give a strategy, best-route or multicast
+ndn_tool strategy set /A worst-route => STRATEGY: give best-route, multicast or
 ndn_tool strategy unset /A multicast => STRATEGY: give no strategy
-ndn_tool strategy erase /A => VERB: give
-ndn_tool cache set /A => VERB: give
+ndn_tool strategy erase /A => VERB: give set, unset or list
+ndn_tool cache set /A => VERB: give erase
 ndn_tool cache erase /A --time -1 => '-1'
 ndn_tool cache erase /A --nonce 0 => nonce: give 8
 ndn_tool repo insert /repo => <NAME>
@@ -463,6 +470,7 @@ freshness 0
 content 78
 signature 4 -
 key-locator /ops/KEY/1
+text x
 $ ndn_tool explain 0612070308014116091b01031c041d02aabb1700
 data /A
 freshness 0
@@ -474,7 +482,7 @@ freshness 0
 signature 0 -
 key-locator other
 $ ndn_tool explain 6418fd032005fd03210196500d050b07030801410a0401020304
-nack 150
+nack 150 NoRoute
 interest /A
 nonce 01020304
 lifetime 4000
@@ -584,6 +592,7 @@ content 78
 signature 4 9da68165d14c74abf0d3f4f40da0924777657490283d0bd394af1f64855c8b00
 key-locator /ops/KEY/1
 tag right
+text x
 $ ndn_tool explain 0640070308014115017916141b01041c0f070d08036f707308034b455908013117209da68165d14c74abf0d3f4f40da0924777657490283d0bd394af1f64855c8b00 --keys F
 data /A
 freshness 0
@@ -591,6 +600,7 @@ content 79
 signature 4 9da68165d14c74abf0d3f4f40da0924777657490283d0bd394af1f64855c8b00
 key-locator /ops/KEY/1
 tag wrong
+text y
 $ ndn_tool explain 0640070308014115017816141b01041c0f070d08036f707308034b45590801321720e2324d7a941228a8ec28b74d6eef02a49fcf18a2ecb5c9ac75a9292d93a32696 --keys F
 data /A
 freshness 0
@@ -598,18 +608,21 @@ content 78
 signature 4 e2324d7a941228a8ec28b74d6eef02a49fcf18a2ecb5c9ac75a9292d93a32696
 key-locator /ops/KEY/2
 key unknown
+text x
 $ ndn_tool explain 062f070308014115017816031b01001720e4f0b5aed03446e702356a360c7194c208b8b6a28ff30de430f1baa08ba29266 --keys F
 data /A
 freshness 0
 content 78
 signature 0 e4f0b5aed03446e702356a360c7194c208b8b6a28ff30de430f1baa08ba29266
 tag right
+text x
 $ ndn_tool explain 062f070308014115017816031b01031720b5897c07ef75a0977b8687418cdde580985644d189e019989b1f07f35d37d77b --keys F
 data /A
 freshness 0
 content 78
 signature 3 b5897c07ef75a0977b8687418cdde580985644d189e019989b1f07f35d37d77b
 tag not checked
+text x
 $ ndn_tool explain 056d07250801410220f7941a6b4d9f43a320f470097b2c6c701ad95cf361a450fb9a053a19956e0e7c0a040102030424002c1a1b01041c0f070d08036f707308034b45590801312804000f42402e20983c3321a438bf1c3afb280c205c6134cc50c7c6f85af82c7682460c83e5663f --keys F
 interest /A/params-sha256=f7941a6b4d9f43a320f470097b2c6c701ad95cf361a450fb9a053a19956e0e7c
 nonce 01020304
@@ -769,7 +782,7 @@ ndn_tool send 00 --to +1 => to: give a port
 ndn_tool send 00 --to 1 --from 0 => from: give a port
 ndn_tool route add /A --face 1 --send x => send: give a port
 ndn_tool route add /A --face 1 --send 1 --from x => from: give a port
-ndn_tool route add /A --face 1 --from 1 => from: give --send as well
+ndn_tool route add /A --face 1 --from 1 => from: give the port to send to as well
 ";
 
 /// A wrong command line ends with status 2, and with a text of which this is a part.
@@ -791,6 +804,8 @@ ndn_tool route --help => |  $ ndn_tool route remove /A --face 2
 ndn_tool strategy --help => |  $ ndn_tool strategy set /A multicast
 ndn_tool repo --help => |  $ ndn_tool repo insert /repo /A
 ndn_tool cache --help => |  $ ndn_tool cache erase /A --count 10
+ndn_tool peek --help => |  $ ndn_tool peek /A --to 6363 --raw
+ndn_tool --version => ndn_tool 0.1.0
 ";
 
 #[test]
@@ -877,6 +892,7 @@ fn statuses(rt: HostRuntime) {
     assert!(rt; ends_with(Fault::Write, 3));
     assert!(rt; ends_with(Fault::Input, 3));
     assert!(rt; ends_with(Fault::Send, 3));
+    assert!(rt; ends_with(Fault::From, 3));
     assert!(rt; ends_with(Fault::Silent(Silence::Late), 3));
     assert!(rt; ends_with(Fault::NotDone(Failure::Refused), 1));
     assert!(rt; ends_with(Fault::NotDone(Failure::NoStatus), 1));
@@ -1103,21 +1119,28 @@ fn long_replies(rt: HostRuntime) {
     assert!(rt; long_says(rt.alloc(), "data /localhost/nfd/fib/add-nexthop/", " \n") == Some(true));
 }
 
-/// How a client ends that sent the request, where a node sends these two datagrams.
+/// How a client ends that sends the request, where a node sends these two datagrams.
 fn hears(
     rt: &HostRuntime,
-    request: &[u8],
+    request: Vec<u8>,
     first: &[u8],
     second: &[u8],
 ) -> Option<Result<(), Fault>> {
     let book = KeyBook::new(rt.alloc());
     let node = UdpSocket::bind(rt, (Ipv4Addr::LOCALHOST, 0)).ok()?;
-    let port = node.local_addr().ok()?.port();
-    let client = sent_between(rt, None, port, request).ok()?;
-    let (_, address) = node.recv_from(&mut [0; 512]).ok()?;
+    let to = node.local_addr().ok()?.port();
+    let client = socket_of(rt, None, to).ok()?;
+    let address = client.local_addr().ok()?;
     node.send_to(first, address).ok()?;
     node.send_to(second, address).ok()?;
-    Some(wait_for_answer(rt, &client, None, request, &book))
+    let exchange = Exchange {
+        request,
+        to,
+        from: None,
+        view: View::Lines,
+        contents: Vec::new(rt.alloc()),
+    };
+    Some(exchange_on(rt, &client, exchange, &book))
 }
 
 /// The same where the second is a reply of more than 9,000 octets with this status.
@@ -1125,7 +1148,7 @@ fn hears_long(rt: &HostRuntime, status: u8) -> Option<Result<(), Fault>> {
     let (request, _) = ROUTE_ANSWERS.split_once('\n')?;
     let request = packet_in(rt.alloc(), request.as_bytes()).ok()?;
     let reply = long_reply(rt.alloc(), &request, status)?;
-    hears(rt, &request, b"forged", &reply)
+    hears(rt, request, b"forged", &reply)
 }
 
 /// A client waits for its answer, whatever else comes, and ends with what the answer says.

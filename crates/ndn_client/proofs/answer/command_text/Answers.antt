@@ -1,5 +1,5 @@
 use Rattle.std.proofs.Common.{ap, ◌∙◌}
-use Rattle.ndn_client.specs.Answer.{hex_line}
+use Rattle.ndn_explain.specs.Show.{hex_line}
 use Rattle.ndn_client.proofs.answer.command_text.Goals as goal
 
 pub returns : goal.returns

@@ -2,8 +2,10 @@ use Rattle.std.proofs.Common.{◌++◌, ℕ, List, refl, None, Ok, Err, ap, ◌�
 use Rattle.std.proofs.lemmas.Result.{err_from_is_err_and}
 use Rattle.ndn_packets.specs.declared.data_writer.DataWriter.{DataWriter}
 use Rattle.ndn_packets.specs.Writing.{data_text, data_refusal}
-use Rattle.ndn_client.specs.Answer.{AsksData, hex_line}
-use Rattle.ndn_client.proofs.Refusals.{answered_error, none_told, data_refused}
+use Rattle.ndn_client.specs.Answer.{AsksData}
+use Rattle.ndn_explain.specs.Show.{hex_line}
+use Rattle.ndn_requests.proofs.Refusals.{answered_error, none_told}
+use Rattle.ndn_client.proofs.Refusals.{data_refused}
 use Rattle.ndn_client.proofs.answer.data_text.Goals as goal
 use Rattle.ndn_client.proofs.answer.data_text.Goals.{After-octets_in}
 

@@ -3,7 +3,8 @@ use Rattle.std.proofs.lemmas.Result.{err_from_is_err_and}
 use Rattle.ndn_packets.specs.declared.interest_writer.InterestWriter.{InterestWriter}
 use Rattle.ndn_packets.specs.Writing.{interest_text, interest_refusal}
 use Rattle.ndn_client.specs.Answer.{AsksCommand}
-use Rattle.ndn_client.proofs.Refusals.{answered_error, none_told, command_refused}
+use Rattle.ndn_requests.proofs.Refusals.{answered_error, none_told}
+use Rattle.ndn_client.proofs.Refusals.{command_refused}
 use Rattle.ndn_client.proofs.answer.named_command.Goals as goal
 
 pub returns-in_err-write : goal.returns-in_err-write

@@ -1,7 +1,7 @@
 use Rattle.std.proofs.lemmas.Result.{err_from_is_err_and}
 use Rattle.ndn_client.specs.Options.{rows_in}
 use Rattle.ndn_client.proofs.Spelling.{refused_part}
-use Rattle.ndn_client.proofs.Jobs.{an_interest, a_data, a_command, a_short, a_repository, a_tag, a_show, an_explanation, a_send}
+use Rattle.ndn_client.proofs.Jobs.{an_interest, a_data, a_command, a_cache, a_peek, a_repository, a_tag, a_show, an_explanation, a_send}
 use Rattle.ndn_client.proofs.command.job_for.Goals as goal
 
 pub returns-in_err-read-in-Interest : goal.returns-in_err-read-in-Interest
@@ -19,10 +19,10 @@ returns-in_err-read-in-Command c =
     let p = err_from_is_err_and c.from_residual-in_err-read-in-Command.result c.from_residual-in_err-read-in-Command.ensures.1 in
     rw (p.1, p.2, c.in-Command.is) (refused_part _ _ (a_command c.args.now c.args.words.now c.args.name.now _) c.in_err-read-in-Command.field-0.0 c.in_err-read-in-Command.ensures)
 
-pub returns-in_err-read_short-in-Route : goal.returns-in_err-read_short-in-Route
-returns-in_err-read_short-in-Route c =
-    let p = err_from_is_err_and c.from_residual-in_err-read_short-in-Route.result c.from_residual-in_err-read_short-in-Route.ensures.1 in
-    rw (p.1, p.2) (refused_part _ _ (a_short c.args.now c.args.words.now c.args.name.now _ c.args.subcommand c.in-Route.is) c.in_err-read_short-in-Route.field-0.0 c.in_err-read_short-in-Route.ensures)
+pub returns-in_err-read_short-in-Cache : goal.returns-in_err-read_short-in-Cache
+returns-in_err-read_short-in-Cache c =
+    let p = err_from_is_err_and c.from_residual-in_err-read_short-in-Cache.result c.from_residual-in_err-read_short-in-Cache.ensures.1 in
+    rw (p.1, p.2, c.in-Cache.is) (refused_part _ _ (a_cache c.args.now c.args.words.now c.args.name.now (rows_in c.args.options.now)) c.in_err-read_short-in-Cache.field-0.0 c.in_err-read_short-in-Cache.ensures)
 
 pub returns-in_err-read_repository-in-Repository : goal.returns-in_err-read_repository-in-Repository
 returns-in_err-read_repository-in-Repository c =
@@ -48,3 +48,8 @@ pub returns-in_err-read-in-Send : goal.returns-in_err-read-in-Send
 returns-in_err-read-in-Send c =
     let p = err_from_is_err_and c.from_residual-in_err-read-in-Send.result c.from_residual-in_err-read-in-Send.ensures.1 in
     rw (p.1, p.2, c.in-Send.is) (refused_part _ _ (a_send c.args.now c.args.words.now c.args.name.now _) c.in_err-read-in-Send.field-0.0 c.in_err-read-in-Send.ensures)
+
+pub returns-in_err-read_peek-in-Peek : goal.returns-in_err-read_peek-in-Peek
+returns-in_err-read_peek-in-Peek c =
+    let p = err_from_is_err_and c.from_residual-in_err-read_peek-in-Peek.result c.from_residual-in_err-read_peek-in-Peek.ensures.1 in
+    rw (p.1, p.2, c.in-Peek.is) (refused_part _ _ (a_peek c.args.now c.args.words.now c.args.name.now _) c.in_err-read_peek-in-Peek.field-0.0 c.in_err-read_peek-in-Peek.ensures)

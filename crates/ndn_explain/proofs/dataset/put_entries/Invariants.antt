@@ -7,8 +7,8 @@ use Rattle.ndn_explain.proofs.dataset.put_entries.Given as goal
 -- what was appended, and the lines of what is left
 abbrev pub invariant-loop-rest : goal.invariant-loop-rest
 invariant-loop-rest l =
-    l.text.items ++ flat_map entry_lines (elements_of l.rest)
-    ≡ l.fn.text.items ++ flat_map entry_lines (elements_of l.content)
+    l.text.items ++ flat_map (entry_lines l.layout) (elements_of l.rest)
+    ≡ l.fn.text.items ++ flat_map (entry_lines l.layout) (elements_of l.content)
 
 abbrev pub decreases-loop-rest : goal.decreases-loop-rest
 decreases-loop-rest l = length l.rest

@@ -7,5 +7,5 @@ use Rattle.ndn_explain.proofs.dataset.put_hops.Goals as goal
 
 pub returns : goal.returns
 returns c =
-    let none = ap (flat_map (hop_line c.args.name.now)) (elements_of-empty c.loop-rest.rest.now (grind (arith, c.loop-rest-test.ensures))) in
+    let none = ap (flat_map (hop_line c.args.layout c.args.name.now)) (elements_of-empty c.loop-rest.rest.now (grind (arith, c.loop-rest-test.ensures))) in
     sym (ap (λ (t : List ℕ). c.loop-rest.text.items ++ t) none ∙ append-nil c.loop-rest.text.items) ∙ c.loop-rest.invariant

@@ -7,8 +7,8 @@ use Rattle.ndn_explain.proofs.dataset.put_hops.Given as goal
 -- what was appended, and the lines of what is left
 abbrev pub invariant-loop-rest : goal.invariant-loop-rest
 invariant-loop-rest l =
-    l.text.items ++ flat_map (hop_line l.name) (elements_of l.rest)
-    ≡ l.fn.text.items ++ flat_map (hop_line l.name) (elements_of l.entry)
+    l.text.items ++ flat_map (hop_line l.layout l.name) (elements_of l.rest)
+    ≡ l.fn.text.items ++ flat_map (hop_line l.layout l.name) (elements_of l.entry)
 
 abbrev pub decreases-loop-rest : goal.decreases-loop-rest
 decreases-loop-rest l = length l.rest

@@ -1,0 +1,112 @@
+-- What the program has to do for a job.
+use Rattle.std.specs.Prelude.{◌≡◌, ℕ, List, [], Option, None, Some, Bool, true, false, is_none, Vec, ⊤}
+use Rattle.std.specs.Option.{option_map}
+use Rattle.std.specs.Global.{Vec as Octets}
+use Rattle.hmac_keys.specs.KeyFile.{NamedKey}
+use Rattle.ndn_explain.specs.Input.{IsSaidInput}
+use Rattle.ndn_requests.specs.declared.exchange.View.{View}
+use Rattle.ndn_requests.specs.declared.exchange.View.TheVariants.{Hexadecimal, Lines, Content, Table}
+use Rattle.ndn_requests.specs.declared.exchange.Exchange.{Exchange}
+use Rattle.ndn_requests.specs.declared.fault.Silence.{Silence}
+use Rattle.ndn_requests.specs.declared.fault.Failure.TheVariants as failure
+use Rattle.ndn_requests.specs.Exchange.{silence_in}
+use Rattle.ndn_client.specs.declared.job.Job.{Job}
+use Rattle.ndn_client.specs.declared.job.Job.TheVariants as job
+use Rattle.ndn_client.specs.declared.job.Ports.{Ports}
+use Rattle.ndn_client.specs.declared.job.SendJob.{SendJob}
+use Rattle.ndn_client.specs.declared.job.ExplainJob.{ExplainJob}
+use Rattle.ndn_client.specs.declared.fault.ToolFault.{ToolFault}
+use Rattle.ndn_client.specs.declared.fault.ToolFault.TheVariants as tool
+use Rattle.ndn_client.specs.declared.fault.Fault.{Fault}
+use Rattle.ndn_client.specs.declared.fault.Fault.TheVariants as fault
+use Rattle.ndn_client.specs.declared.plan.Plan.{Plan}
+use Rattle.ndn_client.specs.declared.plan.Plan.TheVariants as plan
+use Rattle.ndn_client.specs.Value.{AreOctets, IsRefused}
+use Rattle.ndn_client.specs.Input.{without_lf}
+use Rattle.ndn_client.specs.Answer.{IsAnswer, IsRefusal, IsCommandPacket, IsCommandRefusal, IsInterestPacket, IsInterestRefusal, keys_given}
+
+-- ---- parts of a job
+
+abbrev pub reads_input : Job → Bool
+reads_input (job.Explain asked) = is_none asked.packet
+reads_input (job.Send asked) = is_none asked.packet
+reads_input asked = false
+
+-- the ports that it is sent to and from
+abbrev pub ports_of : Job → Ports
+ports_of (job.Command asked) = asked.stamp.ports
+ports_of (job.Ask asked) = asked.ports
+ports_of (job.Send asked) = record { to = Some asked.to; from = asked.from }
+ports_of asked = record { to = None; from = None }
+
+abbrev pub view_of : Job → View
+view_of (job.Ask asked) = asked.view
+view_of (job.Send asked) = Hexadecimal
+view_of asked = Lines
+
+-- ---- what is printed
+
+abbrev pub IsExplained : Bool → ExplainJob → List NamedKey → List ℕ → List ℕ → Type 0
+IsExplained true asked book input text = IsSaidInput (keys_given asked book) input text
+IsExplained false asked book input text = IsAnswer (job.Explain asked) book text
+
+-- of lines of standard input where there is no packet, and else the answer
+abbrev pub IsPrinted : Job → List NamedKey → List ℕ → List ℕ → Type 0
+IsPrinted (job.Explain asked) book input text =
+    IsExplained (is_none asked.packet) asked book input text
+IsPrinted asked book input text = IsAnswer asked book text
+
+-- ---- what is sent
+
+-- the octets of a packet, or those that the input spells
+abbrev pub IsSentBy : {Z : Type 0} → Option (List ℕ) → List ℕ → Vec ℕ Z → Type 0
+IsSentBy (Some octets) input packet = packet.items ≡ octets
+IsSentBy None input packet = AreOctets (without_lf input) packet
+
+abbrev pub IsSent : {Z : Type 0} → SendJob → List ℕ → Vec ℕ Z → Type 0
+IsSent asked input packet = IsSentBy (option_map (λ p. p.items) asked.packet) input packet
+
+abbrev pub IsRequest : {Z : Type 0} → Job → List NamedKey → List ℕ → Vec ℕ Z → Type 0
+IsRequest (job.Command asked) book input packet = IsCommandPacket asked book packet.items
+IsRequest (job.Ask asked) book input packet = IsInterestPacket asked.interest book packet.items
+IsRequest (job.Send asked) book input packet = IsSent asked input packet
+IsRequest asked book input packet = packet.items ≡ []
+
+-- ---- plans
+
+-- a job with a port to send to is sent there
+pub record IsExchange (asked : Job) (book : List NamedKey) (input : List ℕ) (x : Exchange) : Type 0
+  where
+    pub request : IsRequest asked book input x.request
+    pub to : (ports_of asked).to ≡ Some x.to
+    pub from : (ports_of asked).from ≡ x.from
+    pub view : x.view ≡ view_of asked
+    pub contents : x.contents.items ≡ []
+
+abbrev pub IsPlan : Job → List NamedKey → List ℕ → Plan → Type 0
+IsPlan asked book input (plan.Print text) =
+    ((ports_of asked).to ≡ None) × IsPrinted asked book input text.items
+IsPlan asked book input (plan.Exchange x) = IsExchange asked book input x
+
+-- ---- refusals: each but that for memory has its cause
+
+abbrev pub IsNotSentBy : Option (List ℕ) → List ℕ → ToolFault → Type 0
+IsNotSentBy (Some octets) input why = why ≡ tool.Memory
+IsNotSentBy None input why =
+    IsRefused (λ (octets : Octets ℕ). AreOctets (without_lf input) octets) why
+
+abbrev pub IsNotSent : SendJob → List ℕ → ToolFault → Type 0
+IsNotSent asked input why = IsNotSentBy (option_map (λ p. p.items) asked.packet) input why
+
+abbrev pub IsNoPlan : Job → List NamedKey → List ℕ → ToolFault → Type 0
+IsNoPlan (job.Send asked) book input why = IsNotSent asked input why
+IsNoPlan asked book input why = IsRefusal asked book why
+
+-- ---- no answer
+
+abbrev pub silent_fault : View → Silence → Fault
+silent_fault Hexadecimal why = fault.Silent why
+silent_fault view why = fault.NotDone (failure.Silent why)
+
+abbrev pub fault_of_silence : Exchange → Bool → Fault
+fault_of_silence x is_closed = silent_fault x.view (silence_in x is_closed)

@@ -1,0 +1,137 @@
+//! What the program has to do for a job: print a text, or exchange datagrams.
+
+ghost use Rattle.std.specs.Prelude.{◌≡◌, MatchResult};
+ghost use Rattle.ndn_client.specs.Answer.{IsRefusal};
+ghost use Rattle.ndn_client.specs.Plan.{IsPlan, IsNoPlan, IsRequest, IsSent, IsNotSent, IsPrinted, fault_of_silence, ports_of, reads_input, view_of};
+
+use crate::answer::{command_packet, interest_packet, keys_given, text_of};
+use crate::fault::{Fault, ToolFault};
+use crate::input::packet_in;
+use crate::job::{Job, Ports, SendJob};
+use hmac_keys::KeyBook;
+use ndn_explain::put_input;
+use ndn_requests::{Exchange, Failure, View};
+use std::alloc::Global;
+
+/// What the program has to do.
+#[derive(Drop)]
+pub enum Plan {
+    /// To print this text.
+    Print(Vec<u8>),
+    /// To send a request, and to go on by each datagram that is received.
+    Exchange(Exchange),
+}
+
+/// Whether the job is about what stands on standard input.
+pub fn reads_input(job: &Job) -> bool
+    ensures { result ≡ reads_input job.now }
+{
+    match job {
+        Job::Explain(job) => job.packet.is_none(),
+        Job::Send(job) => job.packet.is_none(),
+        _ => false,
+    }
+}
+
+/// What the program has to do for a job, with the keys of its key file, and with what stands on
+/// standard input where the job is about that.
+///
+/// Refuses a job by its cause or by `Memory`; by `Usage` only an input that is not one packet.
+pub fn plan_of(alloc: Global, job: &Job, book: &KeyBook, input: &str) -> Result<Plan, ToolFault>
+    ensures { MatchResult result (IsPlan job.now book.now input.now)
+        (IsNoPlan job.now book.now input.now) }
+{
+    match ports_of(job) {
+        Ports { to: None, .. } => Ok(Plan::Print(printed(alloc, job, book, input)?)),
+        Ports { to: Some(to), from } => {
+            let request = request_of(alloc, job, book, input)?;
+            Ok(Plan::Exchange(Exchange {
+                request,
+                to,
+                from,
+                view: view_of(job),
+                contents: Vec::new(alloc),
+            }))
+        }
+    }
+}
+
+/// The ports that the job is sent to and from.
+fn ports_of(job: &Job) -> Ports
+    ensures { result ≡ ports_of job.now }
+{
+    match job {
+        Job::Command(job) => job.stamp.ports,
+        Job::Ask(job) => job.ports,
+        Job::Send(job) => Ports {
+            to: Some(job.to),
+            from: job.from,
+        },
+        _ => Ports {
+            to: None,
+            from: None,
+        },
+    }
+}
+
+/// What is printed of the answer to the job's request.
+fn view_of(job: &Job) -> View
+    ensures { result ≡ view_of job.now }
+{
+    match job {
+        Job::Ask(job) => job.view,
+        Job::Send(_) => View::Hexadecimal,
+        _ => View::Lines,
+    }
+}
+
+/// What is printed for a job that is not sent.
+fn printed(alloc: Global, job: &Job, book: &KeyBook, input: &str) -> Result<Vec<u8>, ToolFault>
+    ensures { MatchResult result (λ text. IsPrinted job.now book.now input.now text.items)
+        (IsRefusal job.now book.now) }
+{
+    match job {
+        Job::Explain(explain) if explain.packet.is_none() => {
+            let mut text = Vec::new(alloc);
+            put_input(alloc, &mut text, input, keys_given(explain, book))?;
+            Ok(text)
+        }
+        _ => text_of(alloc, job, book),
+    }
+}
+
+/// The request of a job that is sent.
+fn request_of(alloc: Global, job: &Job, book: &KeyBook, input: &str) -> Result<Vec<u8>, ToolFault>
+    ensures { MatchResult result (IsRequest job.now book.now input.now)
+        (IsNoPlan job.now book.now input.now) }
+{
+    match job {
+        Job::Command(job) => command_packet(alloc, job, book),
+        Job::Ask(job) => interest_packet(alloc, &job.interest, book),
+        Job::Send(job) => sent_packet(alloc, job, input),
+        _ => Ok(Vec::new(alloc)),
+    }
+}
+
+/// The packet to send as it is.
+fn sent_packet(alloc: Global, job: &SendJob, input: &str) -> Result<Vec<u8>, ToolFault>
+    ensures { MatchResult result (IsSent job.now input.now)
+        (IsNotSent job.now input.now) }
+{
+    match &job.packet {
+        Some(packet) => Ok(Vec::from_slice(alloc, packet)?),
+        None => packet_in(alloc, input.as_bytes()),
+    }
+}
+
+/// Why the program fails where no answer came, where the system says whether a program listens. A
+/// packet that is sent as it is has the exit status of a failure to receive.
+pub fn fault_of_silence(exchange: &Exchange, is_closed: bool) -> Fault
+    ensures { result ≡ fault_of_silence exchange.now is_closed }
+{
+    let silence = exchange.silence(is_closed);
+    match exchange.view {
+        View::Hexadecimal => Fault::Silent(silence),
+        _ => Fault::NotDone(Failure::Silent(silence)),
+    }
+}

@@ -1,0 +1,161 @@
+-- What comes of each datagram that is received after a request was sent.
+use Rattle.std.specs.Prelude.{◌≡◌, ℕ, List, [], ◌++◌, nat_lt, Option, None, Some, Result, Ok, Err, Bool, true, false, unwrap_or, not, ◌&&◌, if◌then◌else◌, ⊤}
+use Rattle.ndn_tlv.specs.Element.{Field}
+use Rattle.ndn_names.specs.View.{components}
+use Rattle.hmac_keys.specs.KeyFile.{NamedKey}
+use Rattle.ndn_packets.specs.declared.fault.PacketFault.{PacketFault}
+use Rattle.ndn_packets.specs.declared.fault.WriteFault.{WriteFault}
+use Rattle.ndn_packets.specs.declared.fault.WriteFault.TheVariants.{BadName, TooLong, Memory}
+use Rattle.ndn_packets.specs.declared.interest_writer.InterestWriter.{InterestWriter}
+use Rattle.ndn_packets.specs.Packet.{PlainInterest, PlainData, PlainFrame, AnInterest, AData, ANack, Idle}
+use Rattle.ndn_packets.specs.FrameReading.{frame_at}
+use Rattle.ndn_packets.specs.Reading.{is_nil}
+use Rattle.ndn_packets.specs.Writing.{interest_text, interest_refusal}
+use Rattle.ndn_explain.specs.Show.{hex_line}
+use Rattle.ndn_requests.specs.declared.names.NodeList.{NodeList}
+use Rattle.ndn_requests.specs.declared.exchange.View.{View}
+use Rattle.ndn_requests.specs.declared.exchange.View.TheVariants.{Hexadecimal, Lines, Content, Table}
+use Rattle.ndn_requests.specs.declared.exchange.Exchange.{Exchange}
+use Rattle.ndn_requests.specs.declared.exchange.Progress.{Progress}
+use Rattle.ndn_requests.specs.declared.exchange.Progress.TheVariants.{Ignored, Next, Done}
+use Rattle.ndn_requests.specs.declared.exchange.Turn.{Turn}
+use Rattle.ndn_requests.specs.declared.fault.Silence.{Silence}
+use Rattle.ndn_requests.specs.declared.fault.Silence.TheVariants.{Changed}
+use Rattle.ndn_requests.specs.Reply.{Outcome, IsJudged, said_lines, silence_of}
+use Rattle.ndn_requests.specs.Lists.{place_of, next_name, table}
+
+-- ---- requests
+
+-- an Interest of this name and Nonce, and nothing else
+pub record AsksPlainly (asked : List Field) (own : List ℕ) (w : InterestWriter) : Type 0 where
+  pub name : components w.name ≡ asked
+  pub can_be_prefix : w.can_be_prefix ≡ false
+  pub must_be_fresh : w.must_be_fresh ≡ false
+  pub nonce : w.nonce ≡ own
+  pub lifetime : w.lifetime ≡ None
+  pub hop_limit : w.hop_limit ≡ None
+  pub parameters : w.parameters ≡ None
+  pub sign : w.sign ≡ None
+
+abbrev pub IsRequest : List Field → List ℕ → List ℕ → Type 0
+IsRequest name nonce packet =
+    (w : InterestWriter) × AsksPlainly name nonce w × (interest_refusal w ≡ None)
+    × (packet ≡ interest_text w)
+
+-- why it cannot be written
+abbrev pub IsNoRequest : List Field → List ℕ → WriteFault → Type 0
+IsNoRequest name nonce Memory = ⊤
+IsNoRequest name nonce why =
+    (w : InterestWriter) × AsksPlainly name nonce w × (interest_refusal w ≡ Some why)
+
+-- ---- what is printed
+
+abbrev pub content_in : Result PlainFrame PacketFault → List ℕ
+content_in (Ok (AData whole d)) = unwrap_or d.content []
+content_in (Ok (AnInterest whole i)) = []
+content_in (Ok (ANack reason whole i)) = []
+content_in (Ok Idle) = []
+content_in (Err why) = []
+
+abbrev pub printed : View → List ℕ → List ℕ → List ℕ
+printed Content request datagram = content_in (frame_at datagram)
+printed view request datagram = said_lines request datagram (frame_at datagram)
+
+-- the exchange is over, with this text and this outcome
+abbrev pub IsDone : List ℕ → Outcome → Progress → Type 0
+IsDone text outcome Ignored = ⊥
+IsDone text outcome Next = ⊥
+IsDone text outcome (Done said o) = (said.items ≡ text) × (o ≡ outcome)
+
+-- ---- one answer
+
+abbrev pub IsAnswered : View → List ℕ → List ℕ → Option Outcome → Progress → Type 0
+IsAnswered view request datagram None progress = progress ≡ Ignored
+IsAnswered view request datagram (Some outcome) progress =
+    IsDone (printed view request datagram) outcome progress
+
+-- ---- segments
+
+-- the next segment is asked for, or the table is whole
+abbrev pub IsStepped : Bool → Exchange → NodeList → ℕ → List ℕ → PlainData → Exchange → Progress
+    → Type 0
+IsStepped true old list segment nonce d new progress =
+    (progress ≡ Next) × IsRequest (next_name d.name segment) nonce new.request.items
+    × (new.contents.items ≡ old.contents.items ++ unwrap_or d.content [])
+    × (new.to ≡ old.to) × (new.from ≡ old.from) × (new.view ≡ old.view)
+IsStepped false old list segment nonce d new progress =
+    IsDone (table list (old.contents.items ++ unwrap_or d.content [])) (Ok tt) progress
+
+-- a Data that is this segment, or none
+abbrev pub IsPlaced : Option (ℕ × ℕ) → Exchange → NodeList → List ℕ → PlainData → Exchange
+    → Progress → Type 0
+IsPlaced None old list nonce d new progress = (new ≡ old) × (progress ≡ Ignored)
+IsPlaced (Some place) old list nonce d new progress =
+    IsStepped (nat_lt place.0 place.1) old list place.0 nonce d new progress
+
+-- a datagram that answers the Interest for a segment
+abbrev pub IsListed : Exchange → NodeList → Turn → Result PlainFrame PacketFault → Exchange
+    → Progress → Type 0
+IsListed old list turn (Ok (AData whole d)) new progress =
+    IsPlaced (place_of turn.is_first d.name whole) old list turn.nonce d new progress
+IsListed old list turn (Ok (AnInterest whole i)) new progress = (new ≡ old) × (progress ≡ Ignored)
+IsListed old list turn (Ok (ANack reason whole i)) new progress =
+    (new ≡ old) × (progress ≡ Ignored)
+IsListed old list turn (Ok Idle) new progress = (new ≡ old) × (progress ≡ Ignored)
+IsListed old list turn (Err why) new progress = (new ≡ old) × (progress ≡ Ignored)
+
+-- what the request for a segment asks for
+abbrev pub turn_of : Result PlainFrame PacketFault → Option Turn
+turn_of (Ok (AnInterest whole i)) = Some (record { is_first = i.can_be_prefix; nonce = i.nonce })
+turn_of (Ok (AData whole d)) = None
+turn_of (Ok (ANack reason whole i)) = None
+turn_of (Ok Idle) = None
+turn_of (Err why) = None
+
+abbrev pub IsTurned : Option Turn → Exchange → NodeList → List ℕ → Exchange → Progress → Type 0
+IsTurned None old list datagram new progress = (new ≡ old) × (progress ≡ Ignored)
+IsTurned (Some turn) old list datagram new progress =
+    IsListed old list turn (frame_at datagram) new progress
+
+-- a datagram by what it comes to as an answer
+abbrev pub IsSegment : Option Outcome → Exchange → NodeList → List ℕ → Exchange → Progress → Type 0
+IsSegment None old list datagram new progress = (new ≡ old) × (progress ≡ Ignored)
+IsSegment (Some (Err failure)) old list datagram new progress =
+    (new ≡ old)
+    × IsDone (said_lines old.request.items datagram (frame_at datagram)) (Err failure) progress
+IsSegment (Some (Ok done)) old list datagram new progress =
+    IsTurned (turn_of (frame_at old.request.items)) old list datagram new progress
+
+-- ---- all of it
+
+abbrev pub IsTakenBy : View → Exchange → List NamedKey → List ℕ → Exchange → Progress → Type 0
+IsTakenBy Hexadecimal old book datagram new progress =
+    (new ≡ old) × IsDone (hex_line datagram) (Ok tt) progress
+IsTakenBy (Table list) old book datagram new progress =
+    (outcome : Option Outcome) × IsJudged old.request.items book datagram outcome
+    × IsSegment outcome old list datagram new progress
+IsTakenBy view old book datagram new progress =
+    (new ≡ old) × (outcome : Option Outcome)
+    × IsJudged old.request.items book datagram outcome
+    × IsAnswered view old.request.items datagram outcome progress
+
+-- what the datagram comes to, and what the exchange is then
+abbrev pub IsTaken : Exchange → List NamedKey → List ℕ → Exchange → Progress → Type 0
+IsTaken old book datagram new progress = IsTakenBy old.view old book datagram new progress
+
+-- The request for the next segment cannot be written.
+abbrev pub IsNextRefusal : WriteFault → Result PlainFrame PacketFault → Type 0
+IsNextRefusal Memory frame = ⊤
+IsNextRefusal why (Ok (AData whole d)) =
+    (segment : ℕ) × (nonce : List ℕ) × IsNoRequest (next_name d.name segment) nonce why
+IsNextRefusal why frame = ⊥
+
+-- ---- silence
+
+-- A list has begun to come, and the node has no segment of its version any more.
+abbrev pub has_begun : Exchange → Bool
+has_begun x = not (is_nil x.contents.items)
+
+abbrev pub silence_in : Exchange → Bool → Silence
+silence_in x is_closed =
+    if not is_closed && has_begun x then Changed else silence_of x.request.items x.from is_closed

@@ -1,0 +1,40 @@
+-- The node's lists: their names, their segments, and the table that is printed of them (NFD
+-- Management, "FIB Dataset", "Strategy Choice Dataset"; NDN Naming Conventions, "Segment").
+use Rattle.std.specs.Prelude.{ℕ, ◌+◌, ◌-◌, List, [], ◌∷◌, ◌++◌, length, take, codes, Option, None, Some, Bool, not, ◌==◌, ◌&&◌, if◌then◌else◌}
+use Rattle.ndn_tlv.specs.Number.{shortest_nni}
+use Rattle.ndn_tlv.specs.Element.{Field}
+use Rattle.ndn_names.specs.declared.component_type.TheConstants.{SEGMENT}
+use Rattle.ndn_explain.specs.declared.dataset.Layout.TheVariants.{Table}
+use Rattle.ndn_explain.specs.Dataset.{dataset_lines}
+use Rattle.ndn_explain.specs.Segment.{segment_of, last_segment}
+use Rattle.ndn_requests.specs.declared.names.NodeList.{NodeList}
+use Rattle.ndn_requests.specs.declared.names.NodeList.TheVariants.{Routes, Strategies}
+use Rattle.ndn_requests.specs.Commands.{node_path}
+
+abbrev pub list_name : NodeList → List Field
+list_name Routes = node_path (codes "fib") (codes "list")
+list_name Strategies = node_path (codes "strategy-choice") (codes "list")
+
+-- The number of a segment and that of the last one. An Interest with CanBePrefix asks for the first
+-- segment, and no other answers it.
+abbrev pub in_turn : Bool → Option ℕ → Option ℕ → Option (ℕ × ℕ)
+in_turn is_first (Some segment) (Some last) =
+    if is_first && not (segment == 0) then None else Some (segment, last)
+in_turn is_first segment last = None
+
+-- of a Data of this name and these octets
+abbrev pub place_of : Bool → List Field → List ℕ → Option (ℕ × ℕ)
+place_of is_first name whole = in_turn is_first (segment_of name) (last_segment whole)
+
+-- the name of the segment after this one
+abbrev pub next_name : List Field → ℕ → List Field
+next_name name segment =
+    take (length name - 1) name ++ (SEGMENT, shortest_nni (segment + 1)) ∷ []
+
+abbrev pub heading : NodeList → List ℕ
+heading Routes = codes "name\tface\tcost\n"
+heading Strategies = codes "name\tstrategy\n"
+
+-- the table of all segments' contents, one after another
+abbrev pub table : NodeList → List ℕ → List ℕ
+table list contents = heading list ++ dataset_lines Table contents

@@ -1,0 +1,180 @@
+-- When a datagram is the answer to a request that was sent, and what it comes to.
+use Rattle.std.specs.Prelude.{◌≡◌, ℕ, List, [], ◌-◌, length, codes, bytes_eq, Option, None, Some, Result, Ok, Err, Bool, true, false, if◌then◌else◌, ◌==◌, ◌&&◌, ◌||◌, is_some, is_none, slice_get, option_and_then}
+use Rattle.std.specs.Result.{result_ok}
+use Rattle.sha2.specs.Sha256.{sha256}
+use Rattle.ndn_tlv.specs.Element.{Field}
+use Rattle.ndn_tlv.specs.Reading.{elements_of, nni_at}
+use Rattle.ndn_tlv.specs.Fields.{first_of, single}
+use Rattle.ndn_tlv.specs.Writing.{octets}
+use Rattle.ndn_names.specs.declared.component_type.TheConstants.{GENERIC}
+use Rattle.hmac_keys.specs.KeyFile.{NamedKey}
+use Rattle.ndn_packets.specs.declared.command_types.TheConstants.{CONTROL_RESPONSE, STATUS_CODE, REPO_COMMAND_PARAMETER, REPO_COMMAND_RESPONSE, REPO_STATUS_CODE}
+use Rattle.ndn_packets.specs.declared.fault.PacketFault.{PacketFault}
+use Rattle.ndn_packets.specs.Packet.{PlainInterest, PlainData, PlainFrame, AnInterest, AData, ANack, Idle}
+use Rattle.ndn_packets.specs.Answers.{answers}
+use Rattle.ndn_packets.specs.FrameReading.{frame_at}
+use Rattle.ndn_explain.specs.declared.tag_check.TagCheck.{TagCheck}
+use Rattle.ndn_explain.specs.declared.tag_check.TagCheck.TheVariants.{Right}
+use Rattle.ndn_explain.specs.TagCheck.{IsTagCheck}
+use Rattle.ndn_explain.specs.Meaning.{parameters_in}
+use Rattle.ndn_explain.specs.Explain.{explanation}
+use Rattle.ndn_explain.specs.Reply.{written_content, written_data}
+use Rattle.ndn_requests.specs.declared.fault.Silence.{Silence}
+use Rattle.ndn_requests.specs.declared.fault.Silence.TheVariants.{Closed, Far, Late}
+use Rattle.ndn_requests.specs.declared.fault.Failure.{Failure}
+use Rattle.ndn_requests.specs.declared.fault.Failure.TheVariants.{Refused, NoStatus, Nack}
+
+-- what a request came to: it was done, or why not
+abbrev pub Outcome : Type 0
+Outcome = Result Unit Failure
+
+-- ---- statuses
+
+-- the StatusCode of a Content that is one element of this type
+abbrev pub code_in : ℕ → ℕ → List ℕ → Option ℕ
+code_in response kind content =
+    option_and_then (λ value. result_ok (nni_at value))
+    (option_and_then (λ fields. first_of kind (elements_of fields))
+    (single response (elements_of content)))
+
+abbrev pub is_word : List ℕ → Option Field → Bool
+is_word word None = false
+is_word word (Some c) = c.0 == GENERIC && bytes_eq c.1 word
+
+-- the verb of a command stands before its parameters and their digest
+abbrev pub is_insert : List Field → Bool
+is_insert name = is_word (codes "insert") (slice_get name (length name - 3))
+
+abbrev pub has_repository_fields : Option Field → Bool
+has_repository_fields None = false
+has_repository_fields (Some c) = is_some (single REPO_COMMAND_PARAMETER (elements_of c.1))
+
+-- a command is a repository's by the type of its parameters, which stand before their digest
+abbrev pub is_of_repository : List Field → Bool
+is_of_repository name = has_repository_fields (slice_get name (length name - 2))
+
+abbrev pub done_if : Bool → Outcome
+done_if is_done = if is_done then Ok tt else Err Refused
+
+-- of a command on routes, strategies or the cache
+abbrev pub node_outcome : Option ℕ → Outcome
+node_outcome None = Err NoStatus
+node_outcome (Some code) = done_if (code == 200)
+
+-- of a repository's command: 100 of an insert is done too, as the Data is waited for then
+abbrev pub repository_outcome : List Field → Option ℕ → Outcome
+repository_outcome name None = Err NoStatus
+repository_outcome name (Some code) = done_if (code == 200 || (code == 100 && is_insert name))
+
+-- the reply has the type that replies to such commands have
+abbrev pub content_outcome : List Field → List ℕ → Outcome
+content_outcome name content =
+    if is_of_repository name
+    then repository_outcome name (code_in REPO_COMMAND_RESPONSE REPO_STATUS_CODE content)
+    else node_outcome (code_in CONTROL_RESPONSE STATUS_CODE content)
+
+abbrev pub reply_outcome : List Field → Option (List ℕ) → Outcome
+reply_outcome name None = Err NoStatus
+reply_outcome name (Some content) = content_outcome name content
+
+-- ---- answers
+
+abbrev pub is_command : List Field → Bool
+is_command name = is_some (parameters_in name)
+
+abbrev pub is_right : Option TagCheck → Bool
+is_right (Some Right) = true
+is_right check = false
+
+abbrev pub is_same_name : List Field → List Field → Bool
+is_same_name a b = bytes_eq (octets a) (octets b)
+
+-- A Data that answers the Interest is taken, and that is all that a plain Interest asks for. For a
+-- command it has to have the command's name and a right signature too.
+abbrev pub data_outcome : PlainInterest → PlainData → Option TagCheck → Option Outcome
+data_outcome asked d check =
+    if is_command asked.name
+    then (if is_same_name asked.name d.name && is_right check
+    then Some (reply_outcome asked.name d.content) else None)
+    else Some (Ok tt)
+
+-- a Nack of it has its name and its Nonce
+abbrev pub is_same : PlainInterest → PlainInterest → Bool
+is_same asked i = is_same_name asked.name i.name && bytes_eq asked.nonce i.nonce
+
+abbrev pub frame_outcome : PlainInterest → PlainFrame → Option TagCheck → Option Outcome
+frame_outcome asked (AData whole d) check =
+    if answers d.name (sha256 whole) asked.name asked.can_be_prefix
+    then data_outcome asked d check else None
+frame_outcome asked (ANack reason whole i) check =
+    if is_same asked i then Some (Err Nack) else None
+frame_outcome asked (AnInterest whole i) check = None
+frame_outcome asked Idle check = None
+
+-- a reply of more than 8,800 octets is taken where it is what a node writes, octet for octet
+abbrev pub written_outcome : List Field → Option (List ℕ) → Option Outcome
+written_outcome name None = None
+written_outcome name (Some content) =
+    if is_command name then Some (content_outcome name content) else None
+
+-- with the keys of a book
+abbrev pub IsFrameJudged : PlainInterest → List NamedKey → PlainFrame → Option Outcome → Type 0
+IsFrameJudged asked book frame outcome =
+    (check : Option TagCheck) × IsTagCheck frame book check
+    × (outcome ≡ frame_outcome asked frame check)
+
+abbrev pub IsDatagramJudged : PlainInterest → List NamedKey → List ℕ
+    → Result PlainFrame PacketFault → Option Outcome → Type 0
+IsDatagramJudged asked book datagram (Ok frame) outcome = IsFrameJudged asked book frame outcome
+IsDatagramJudged asked book datagram (Err why) outcome =
+    outcome ≡ written_outcome asked.name (written_content asked.name datagram)
+
+abbrev pub IsRequestJudged : Result PlainFrame PacketFault → List NamedKey → List ℕ
+    → Option Outcome → Type 0
+IsRequestJudged (Ok (AnInterest whole asked)) book datagram outcome =
+    IsDatagramJudged asked book datagram (frame_at datagram) outcome
+IsRequestJudged (Ok (AData whole d)) book datagram outcome = outcome ≡ None
+IsRequestJudged (Ok (ANack reason whole i)) book datagram outcome = outcome ≡ None
+IsRequestJudged (Ok Idle) book datagram outcome = outcome ≡ None
+IsRequestJudged (Err why) book datagram outcome = outcome ≡ None
+
+-- What the datagram comes to as the answer to the request, which is an Interest; nothing where it
+-- is no answer to it.
+abbrev pub IsJudged : List ℕ → List NamedKey → List ℕ → Option Outcome → Type 0
+IsJudged request book datagram outcome = IsRequestJudged (frame_at request) book datagram outcome
+
+-- ---- its lines
+
+abbrev pub written_lines : List Field → List ℕ → Option (List ℕ) → List ℕ
+written_lines name datagram None = []
+written_lines name datagram (Some content) =
+    explanation (AData datagram (written_data name content datagram)) None
+
+abbrev pub long_lines : Result PlainFrame PacketFault → List ℕ → List ℕ
+long_lines (Ok (AnInterest whole asked)) datagram =
+    written_lines asked.name datagram (written_content asked.name datagram)
+long_lines (Ok (AData whole d)) datagram = []
+long_lines (Ok (ANack reason whole i)) datagram = []
+long_lines (Ok Idle) datagram = []
+long_lines (Err why) datagram = []
+
+-- those of `explain`, also of a reply that is longer than packets are
+abbrev pub said_lines : List ℕ → List ℕ → Result PlainFrame PacketFault → List ℕ
+said_lines request datagram (Ok frame) = explanation frame None
+said_lines request datagram (Err why) = long_lines (frame_at request) datagram
+
+-- ---- silence
+
+-- the name of an Interest is under `/localhost`
+abbrev pub is_local : Result PlainFrame PacketFault → Bool
+is_local (Ok (AnInterest whole asked)) = is_word (codes "localhost") (slice_get asked.name 0)
+is_local (Ok (AData whole d)) = false
+is_local (Ok (ANack reason whole i)) = false
+is_local (Ok Idle) = false
+is_local (Err why) = false
+
+-- of a request from this port, or from a new one
+abbrev pub silence_of : List ℕ → Option ℕ → Bool → Silence
+silence_of request from is_closed =
+    if is_closed then Closed else (
+    if is_none from && is_local (frame_at request) then Far else Late)

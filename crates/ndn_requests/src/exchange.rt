@@ -1,0 +1,332 @@
+//! An exchange of datagrams: what is sent, and what comes of each datagram that is received.
+
+ghost use Rattle.std.specs.Prelude.{◌≡◌, ◌+◌, ◌<◌, ◌++◌, ◌^◌, [], IfOk, OnOk, MatchResult, option_map, unwrap_or};
+ghost use Rattle.ndn_names.specs.View.{components};
+ghost use Rattle.ndn_packets.specs.View.{plain_data};
+ghost use Rattle.ndn_packets.specs.FrameReading.{frame_at};
+ghost use Rattle.ndn_requests.specs.Lists.{in_turn, next_name, place_of, heading, table};
+ghost use Rattle.ndn_requests.specs.Exchange.{IsRequest, IsNoRequest, content_in, turn_of};
+
+use crate::fault::Silence;
+use crate::names::NodeList;
+use crate::reply::{Outcome, judge, put_said, silence_of};
+use hmac_keys::KeyBook;
+use ndn_explain::{Layout, hex_line, last_segment, put_entries, segment_of};
+use ndn_names::component_type::SEGMENT;
+use ndn_names::{Name, NameBuf};
+use ndn_packets::{Data, Frame, InterestWriter, WriteFault, read_frame};
+use ndn_tlv::{Memory, put_nni};
+use std::alloc::Global;
+
+/// What is printed of the answer to a request.
+#[derive(Clone, Copy, Debug, PartialEq, Eq)]
+pub enum View {
+    /// The first datagram, whatever it says, as a line of hexadecimal.
+    Hexadecimal,
+    /// The lines of `explain`.
+    Lines,
+    /// The Content alone, as it is; nothing of a Nack.
+    Content,
+    /// All segments of a list, as a table.
+    Table(NodeList),
+}
+
+/// A request that is to be sent, and what has come of it so far.
+#[derive(Drop)]
+pub struct Exchange {
+    /// The packet to send.
+    pub request: Vec<u8>,
+    /// The port of 127.0.0.1 that it is sent to.
+    pub to: u16,
+    /// The port that it is sent from; without one it is a new one.
+    pub from: Option<u16>,
+    /// What is printed of the answer.
+    pub view: View,
+    /// The contents of the segments that have come, one after another.
+    pub contents: Vec<u8>,
+}
+
+/// What came of a datagram.
+#[derive(Drop)]
+pub enum Progress {
+    /// It is no answer to the request.
+    Ignored,
+    /// It is a segment, and the request for the next one is to be sent.
+    Next,
+    /// The exchange is over: what is to be printed, and what the request came to.
+    Done(Vec<u8>, Outcome),
+}
+
+/// What the request for a segment asks for.
+#[derive(Clone, Copy)]
+struct Turn {
+    /// Whether it asks for the first segment, whatever the version.
+    is_first: bool,
+    nonce: [u8; 4],
+}
+
+impl Exchange {
+    ghost use Rattle.std.specs.Prelude.{◌≡◌, ◌<◌, ◌++◌, IfOk, MatchResult, Option, Some, None, unwrap_or};
+    ghost use Rattle.hmac_keys.specs.KeyFile.{NamedKey};
+    ghost use Rattle.ndn_names.specs.View.{components};
+    ghost use Rattle.ndn_packets.specs.View.{plain_data};
+    ghost use Rattle.ndn_packets.specs.Packet.{AData};
+    ghost use Rattle.ndn_packets.specs.FrameReading.{frame_at};
+    ghost use Rattle.ndn_requests.specs.Reply.{Outcome, IsJudged};
+    ghost use Rattle.ndn_requests.specs.Lists.{next_name, place_of};
+    ghost use Rattle.ndn_requests.specs.Exchange.{IsTaken, IsNextRefusal, IsSegment, IsListed, IsTurned, IsPlaced, IsAnswered, printed, silence_in, turn_of};
+
+    /// What comes of a datagram that was received. Where the request for the next segment of a list
+    /// is to be sent, it is the one that stands in `request` then.
+    ///
+    /// Refuses by `BadName` or `TooLong` where that request cannot be written, and any other by
+    /// `Memory` alone.
+    pub fn take(
+        &mut self,
+        alloc: Global,
+        datagram: &[u8],
+        book: &KeyBook,
+    ) -> Result<Progress, WriteFault>
+        ensures { MatchResult result
+            (IsTaken self.old book.now datagram.now self.new)
+            (λ why. IsNextRefusal why (frame_at datagram.now)) }
+    {
+        match self.view {
+            View::Hexadecimal => Ok(Progress::Done(hex_line(alloc, datagram)?, Ok(()))),
+            View::Table(list) => self.take_segment(alloc, list, datagram, book),
+            View::Lines | View::Content => Ok(self.answered(alloc, datagram, book)?),
+        }
+    }
+
+    /// What comes of a datagram where one answer is waited for.
+    fn answered(&self, alloc: Global, datagram: &[u8], book: &KeyBook) -> Result<Progress, Memory>
+        ensures { IfOk result (λ progress. (outcome : Option Outcome)
+            × IsJudged self.now.request.items book.now datagram.now outcome
+            × IsAnswered self.now.view self.now.request.items datagram.now outcome progress) }
+    {
+        match judge(alloc, &self.request, datagram, book)? {
+            None => Ok(Progress::Ignored),
+            Some(outcome) => Ok(Progress::Done(self.printed(alloc, datagram)?, outcome)),
+        }
+    }
+
+    /// What is printed of the answer.
+    fn printed(&self, alloc: Global, datagram: &[u8]) -> Result<Vec<u8>, Memory>
+        ensures { IfOk result (λ text. text.items
+            ≡ printed self.now.view self.now.request.items datagram.now) }
+    {
+        let mut text = Vec::new(alloc);
+        match self.view {
+            View::Content => text.extend_from_slice(content_in(datagram))?,
+            _ => put_said(alloc, &mut text, &self.request, datagram)?,
+        }
+        Ok(text)
+    }
+
+    /// What comes of a datagram where a segment of a list is waited for.
+    fn take_segment(
+        &mut self,
+        alloc: Global,
+        list: NodeList,
+        datagram: &[u8],
+        book: &KeyBook,
+    ) -> Result<Progress, WriteFault>
+        requires { self.old.view ≡ View.Table list }
+        ensures { MatchResult result
+            (λ progress. (outcome : Option Outcome)
+            × IsJudged self.old.request.items book.now datagram.now outcome
+            × IsSegment outcome self.old list datagram.now self.new progress)
+            (λ why. IsNextRefusal why (frame_at datagram.now)) }
+    {
+        match judge(alloc, &self.request, datagram, book)? {
+            None => Ok(Progress::Ignored),
+            Some(Err(failure)) => {
+                let text = self.printed(alloc, datagram)?;
+                Ok(Progress::Done(text, Err(failure)))
+            }
+            Some(Ok(())) => self.take_answer(alloc, list, datagram),
+        }
+    }
+
+    /// What comes of a datagram that answers the Interest for a segment.
+    fn take_answer(
+        &mut self,
+        alloc: Global,
+        list: NodeList,
+        datagram: &[u8],
+    ) -> Result<Progress, WriteFault>
+        ensures { MatchResult result
+            (IsTurned (turn_of (frame_at self.old.request.items)) self.old list datagram.now
+            self.new)
+            (λ why. IsNextRefusal why (frame_at datagram.now)) }
+    {
+        let Some(turn) = turn_of(&self.request) else {
+            return Ok(Progress::Ignored);
+        };
+        match read_frame(datagram) {
+            Ok(Frame::Data(packet)) => self.take_data(alloc, list, turn, &packet),
+            _ => Ok(Progress::Ignored),
+        }
+    }
+
+    fn take_data(
+        &mut self,
+        alloc: Global,
+        list: NodeList,
+        turn: Turn,
+        packet: &Data<'_>,
+    ) -> Result<Progress, WriteFault>
+        ensures { MatchResult result
+            (IsPlaced
+            (place_of turn.is_first (components packet.now.name) packet.now.whole.now)
+            self.old list turn.nonce (plain_data packet.now) self.new)
+            (λ why. IsNextRefusal why
+            (Ok (AData packet.now.whole.now (plain_data packet.now)))) }
+    {
+        match place_of(turn.is_first, packet) {
+            None => Ok(Progress::Ignored),
+            Some((segment, last)) => {
+                self.take_place(alloc, list, turn.nonce, packet, segment, last)
+            }
+        }
+    }
+
+    /// The next request, or the table of all segments.
+    fn take_place(
+        &mut self,
+        alloc: Global,
+        list: NodeList,
+        nonce: [u8; 4],
+        packet: &Data<'_>,
+        segment: u64,
+        last: u64,
+    ) -> Result<Progress, WriteFault>
+        ensures { MatchResult result
+            (IsPlaced (Some (segment, last)) self.old list nonce (plain_data packet.now)
+            self.new)
+            (λ why. IsNextRefusal why
+            (Ok (AData packet.now.whole.now (plain_data packet.now)))) }
+    {
+        put_content(&mut self.contents, packet.content)?;
+        if segment >= last {
+            return Ok(Progress::Done(table(alloc, list, &self.contents)?, Ok(())));
+        }
+        let name = next_name(alloc, packet.name, segment)?;
+        self.request = request_for(alloc, name.view(), nonce)?;
+        Ok(Progress::Next)
+    }
+
+    /// Why no answer came, where the system says whether a program listens.
+    pub fn silence(&self, is_closed: bool) -> Silence
+        ensures { result ≡ silence_in self.now is_closed }
+    {
+        if !is_closed && !self.contents.is_empty() {
+            return Silence::Changed;
+        }
+        silence_of(&self.request, self.from, is_closed)
+    }
+}
+
+fn put_content(contents: &mut Vec<u8>, content: Option<&[u8]>) -> Result<(), Memory>
+    ensures { OnOk result (contents.new.items ≡ contents.old.items
+        ++ unwrap_or (option_map (λ c. c.now) content.entry) []) }
+{
+    if let Some(content) = content {
+        contents.extend_from_slice(content)?;
+    }
+    Ok(())
+}
+
+/// The Content of the Data that the datagram is; nothing of another one.
+fn content_in(datagram: &[u8]) -> &[u8]
+    ensures { result.now ≡ content_in (frame_at datagram.now) }
+{
+    match read_frame(datagram) {
+        Ok(Frame::Data(packet)) => packet.content.unwrap_or(&[]),
+        _ => &[],
+    }
+}
+
+/// What the Interest for a segment asks for.
+fn turn_of(request: &[u8]) -> Option<Turn>
+    ensures { result ≡ turn_of (frame_at request.now) }
+{
+    match read_frame(request) {
+        Ok(Frame::Interest(asked)) => Some(Turn {
+            is_first: asked.can_be_prefix,
+            nonce: asked.nonce,
+        }),
+        _ => None,
+    }
+}
+
+/// The number of the segment that a Data is, and that of the last one; `None` where it is another
+/// segment than the one that was asked for.
+fn place_of(is_first: bool, packet: &Data<'_>) -> Option<(u64, u64)>
+    ensures { result
+        ≡ place_of is_first (components packet.now.name) packet.now.whole.now }
+{
+    let segment = segment_of(packet.name)?;
+    let last = last_segment(packet.whole)?;
+    if is_first && segment != 0 {
+        return None;
+    }
+    Some((segment, last))
+}
+
+/// The name of the segment after this one.
+fn next_name(alloc: Global, name: Name<'_>, segment: u64) -> Result<NameBuf, Memory>
+    requires { segment + 1 < 2 ^ 64 }
+    ensures { IfOk result (λ next. next ≡ next_name (components name.entry) segment) }
+{
+    let mut number = Vec::new(alloc);
+    put_nni(&mut number, segment + 1)?;
+    let front = name.prefix(name.len().saturating_sub(1));
+    let mut next = NameBuf::from_name(alloc, front)?;
+    match next.append(SEGMENT, &number) {
+        Ok(()) => Ok(next),
+        Err(_) => Err(Memory),
+    }
+}
+
+/// The Interest of this name and Nonce.
+fn request_for(alloc: Global, name: Name<'_>, nonce: [u8; 4]) -> Result<Vec<u8>, WriteFault>
+    ensures { MatchResult result
+        (λ packet. IsRequest (components name.entry) nonce packet.items)
+        (IsNoRequest (components name.entry) nonce) }
+{
+    let writer = InterestWriter {
+        name,
+        can_be_prefix: false,
+        must_be_fresh: false,
+        nonce,
+        lifetime: None,
+        hop_limit: None,
+        parameters: None,
+        sign: None,
+        time: None,
+        seq: None,
+    };
+    let mut packet = Vec::new(alloc);
+    writer.write(&mut packet)?;
+    Ok(packet)
+}
+
+/// The table of a list, of the contents of all its segments.
+fn table(alloc: Global, list: NodeList, contents: &[u8]) -> Result<Vec<u8>, Memory>
+    ensures { IfOk result (λ text. text.items ≡ table list contents.now) }
+{
+    let mut text = Vec::new(alloc);
+    text.extend_from_slice(heading(list).as_bytes())?;
+    put_entries(alloc, &mut text, Layout::Table, contents)?;
+    Ok(text)
+}
+
+fn heading(list: NodeList) -> &'static str
+    ensures { result.now ≡ heading list }
+{
+    match list {
+        NodeList::Routes => "name\tface\tcost\n",
+        NodeList::Strategies => "name\tstrategy\n",
+    }
+}

@@ -1,0 +1,20 @@
+//! Requests to a node and their answers: the names of commands, and what a datagram comes to as the
+//! answer to a request.
+#![tactic(auto)]
+
+mod exchange;
+mod fault;
+mod law;
+mod names;
+mod parameters;
+mod reply;
+
+pub use exchange::{Exchange, Progress, View};
+pub use fault::{Failure, Silence};
+pub use law::{
+    commands_tell_whose_they_are, nodes_read_what_is_asked, replies_are_explained,
+    repositories_read_what_is_asked, statuses_decide,
+};
+pub use names::{NodeList, action_name, list_name};
+pub use parameters::{Parameters, command_name};
+pub use reply::{Outcome, judge, put_said, silence_of};

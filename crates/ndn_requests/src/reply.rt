@@ -1,0 +1,292 @@
+//! The answer to a request that was sent: which datagram is it, and what it comes to.
+
+ghost use Rattle.std.specs.Prelude.{◌≡◌, ◌++◌, IfOk, OnOk, option_map};
+ghost use Rattle.ndn_names.specs.View.{components, field_of};
+ghost use Rattle.ndn_packets.specs.View.{plain_frame, plain_interest, plain_data};
+ghost use Rattle.ndn_packets.specs.FrameReading.{frame_at};
+ghost use Rattle.ndn_explain.specs.Reply.{written_content};
+ghost use Rattle.ndn_requests.specs.Reply.{Outcome, code_in, is_insert, is_word, said_lines, long_lines, written_lines, silence_of, is_local, done_if, node_outcome, repository_outcome, is_of_repository, content_outcome, reply_outcome, is_command, is_right, data_outcome, is_same, is_same_name, frame_outcome, written_outcome, IsFrameJudged, IsDatagramJudged, IsJudged};
+
+use crate::fault::{Failure, Silence};
+use hmac_keys::KeyBook;
+use ndn_explain::{
+    TagCheck, check_of, parameters_in, put_explanation, put_written, written_content,
+};
+use ndn_names::component_type::GENERIC;
+use ndn_names::{Component, Name};
+use ndn_packets::command_types::{
+    CONTROL_RESPONSE, REPO_COMMAND_PARAMETER, REPO_COMMAND_RESPONSE, REPO_STATUS_CODE, STATUS_CODE,
+};
+use ndn_packets::{Data, Frame, Interest, read_frame};
+use ndn_tlv::{Memory, first_field, nni_of, single_element};
+use std::alloc::Global;
+
+/// What a request came to that was sent.
+pub type Outcome = Result<(), Failure>;
+
+/// What a datagram comes to as the answer to a request; `None` where it is no answer to it.
+///
+/// A Nack of the Interest is an answer. So is a Data that answers it, and then it is done; but for
+/// a command the Data has to have the command's name and a right signature, by DigestSha256 or by a
+/// key of the book, or to be what a node writes as its reply, of any length. A command is done where
+/// the status is 200, or 100 of a repository's insert.
+pub fn judge(
+    alloc: Global,
+    request: &[u8],
+    datagram: &[u8],
+    book: &KeyBook,
+) -> Result<Option<Outcome>, Memory>
+    ensures { IfOk result (IsJudged request.now book.now datagram.now) }
+{
+    match read_frame(request) {
+        Ok(Frame::Interest(asked)) => judge_datagram(alloc, &asked, datagram, book),
+        _ => Ok(None),
+    }
+}
+
+fn judge_datagram(
+    alloc: Global,
+    asked: &Interest<'_>,
+    datagram: &[u8],
+    book: &KeyBook,
+) -> Result<Option<Outcome>, Memory>
+    ensures { IfOk result (IsDatagramJudged (plain_interest asked.now) book.now datagram.now
+        (frame_at datagram.now)) }
+{
+    match read_frame(datagram) {
+        Ok(frame) => Ok(judge_frame(asked, &frame, book)),
+        Err(_) => judge_written(alloc, asked.name, datagram),
+    }
+}
+
+fn judge_frame(asked: &Interest<'_>, frame: &Frame<'_>, book: &KeyBook) -> Option<Outcome>
+    ensures { IsFrameJudged (plain_interest asked.now) book.now (plain_frame frame.now) result }
+{
+    let check = check_of(frame, Some(book));
+    frame_outcome(asked, frame, check)
+}
+
+/// What a Data comes to that is longer than packets are.
+fn judge_written(alloc: Global, name: Name<'_>, datagram: &[u8]) -> Result<Option<Outcome>, Memory>
+    ensures { IfOk result (λ outcome. outcome
+        ≡ written_outcome (components name.entry)
+        (written_content (components name.entry) datagram.now)) }
+{
+    match written_content(alloc, name, datagram)? {
+        Some(content) if is_command(name) => Ok(Some(content_outcome(name, content))),
+        _ => Ok(None),
+    }
+}
+
+fn frame_outcome(
+    asked: &Interest<'_>,
+    frame: &Frame<'_>,
+    check: Option<TagCheck>,
+) -> Option<Outcome>
+    ensures { result ≡ frame_outcome (plain_interest asked.now) (plain_frame frame.now) check }
+{
+    match frame {
+        Frame::Data(packet) if packet.answers(asked.name, asked.can_be_prefix) => {
+            data_outcome(asked, packet, check)
+        }
+        Frame::Nack { interest, .. } if is_same(asked, interest) => Some(Err(Failure::Nack)),
+        _ => None,
+    }
+}
+
+/// What a Data comes to that answers the Interest.
+fn data_outcome(asked: &Interest<'_>, packet: &Data<'_>, check: Option<TagCheck>) -> Option<Outcome>
+    ensures { result ≡ data_outcome (plain_interest asked.now) (plain_data packet.now) check }
+{
+    if !is_command(asked.name) {
+        return Some(Ok(()));
+    }
+    if is_same_name(asked.name, packet.name) && is_right(check) {
+        return Some(reply_outcome(asked.name, packet.content));
+    }
+    None
+}
+
+fn is_same_name(a: Name<'_>, b: Name<'_>) -> bool
+    ensures { result ≡ is_same_name (components a.entry) (components b.entry) }
+{
+    a.as_octets() == b.as_octets()
+}
+
+fn is_right(check: Option<TagCheck>) -> bool
+    ensures { result ≡ is_right check }
+{
+    matches!(&check, Some(TagCheck::Right))
+}
+
+fn is_command(name: Name<'_>) -> bool
+    ensures { result ≡ is_command (components name.entry) }
+{
+    parameters_in(name).is_some()
+}
+
+fn is_same(asked: &Interest<'_>, other: &Interest<'_>) -> bool
+    ensures { result ≡ is_same (plain_interest asked.now) (plain_interest other.now) }
+{
+    is_same_name(asked.name, other.name) && asked.nonce == other.nonce
+}
+
+fn reply_outcome(name: Name<'_>, content: Option<&[u8]>) -> Outcome
+    ensures { result ≡ reply_outcome (components name.entry)
+        (option_map (λ c. c.now) content.entry) }
+{
+    match content {
+        None => Err(Failure::NoStatus),
+        Some(content) => content_outcome(name, content),
+    }
+}
+
+/// What a command of this name comes to, by the Content of its reply.
+fn content_outcome(name: Name<'_>, content: &[u8]) -> Outcome
+    ensures { result ≡ content_outcome (components name.entry) content.now }
+{
+    if is_of_repository(name) {
+        repository_outcome(
+            name,
+            code_in(content, REPO_COMMAND_RESPONSE, REPO_STATUS_CODE),
+        )
+    } else {
+        node_outcome(code_in(content, CONTROL_RESPONSE, STATUS_CODE))
+    }
+}
+
+/// What a command on routes, strategies or the cache comes to by the status of its reply.
+fn node_outcome(code: Option<u64>) -> Outcome
+    ensures { result ≡ node_outcome code }
+{
+    match code {
+        None => Err(Failure::NoStatus),
+        Some(code) => done_if(code == 200),
+    }
+}
+
+/// What a repository's command of this name comes to by the status of its reply.
+fn repository_outcome(name: Name<'_>, code: Option<u64>) -> Outcome
+    ensures { result ≡ repository_outcome (components name.entry) code }
+{
+    match code {
+        None => Err(Failure::NoStatus),
+        Some(code) => done_if(code == 200 || (code == 100 && is_insert(name))),
+    }
+}
+
+/// Whether a command of this name is a repository's, by the type of its parameters.
+fn is_of_repository(name: Name<'_>) -> bool
+    ensures { result ≡ is_of_repository (components name.entry) }
+{
+    match name.component(name.len().saturating_sub(2)) {
+        None => false,
+        Some(component) => single_element(component.value, REPO_COMMAND_PARAMETER).is_some(),
+    }
+}
+
+fn done_if(is_done: bool) -> Outcome
+    ensures { result ≡ done_if is_done }
+{
+    if is_done {
+        Ok(())
+    } else {
+        Err(Failure::Refused)
+    }
+}
+
+/// The StatusCode of a Content that is one element of the type `response`.
+fn code_in(content: &[u8], response: u32, kind: u32) -> Option<u64>
+    ensures { result ≡ code_in response kind content.now }
+{
+    let value = first_field(single_element(content, response)?, kind)?;
+    nni_of(value).ok()
+}
+
+/// Whether the verb of a command is that of a repository's insert.
+fn is_insert(name: Name<'_>) -> bool
+    ensures { result ≡ is_insert (components name.entry) }
+{
+    is_word(name.component(name.len().saturating_sub(3)), "insert")
+}
+
+/// Whether a component is this text.
+fn is_word(component: Option<Component<'_>>, word: &str) -> bool
+    ensures { result ≡ is_word word.now (option_map field_of component.entry) }
+{
+    match component {
+        None => false,
+        Some(component) => component.kind == GENERIC && component.value == word.as_bytes(),
+    }
+}
+
+/// Appends the lines of `explain` of the answer to a request, also of a reply that is longer than
+/// packets are. After `Memory` some of them may have been appended.
+pub fn put_said(
+    alloc: Global,
+    text: &mut Vec<u8>,
+    request: &[u8],
+    datagram: &[u8],
+) -> Result<(), Memory>
+    ensures { OnOk result (text.new.items ≡ text.old.items
+        ++ said_lines request.now datagram.now (frame_at datagram.now)) }
+{
+    match read_frame(datagram) {
+        Ok(frame) => put_explanation(alloc, text, &frame, None),
+        Err(_) => put_long(alloc, text, request, datagram),
+    }
+}
+
+fn put_long(
+    alloc: Global,
+    text: &mut Vec<u8>,
+    request: &[u8],
+    datagram: &[u8],
+) -> Result<(), Memory>
+    ensures { OnOk result (text.new.items ≡ text.old.items
+        ++ long_lines (frame_at request.now) datagram.now) }
+{
+    match read_frame(request) {
+        Ok(Frame::Interest(asked)) => put_reply(alloc, text, asked.name, datagram),
+        _ => Ok(()),
+    }
+}
+
+fn put_reply(
+    alloc: Global,
+    text: &mut Vec<u8>,
+    name: Name<'_>,
+    datagram: &[u8],
+) -> Result<(), Memory>
+    ensures { OnOk result (text.new.items ≡ text.old.items
+        ++ written_lines (components name.entry) datagram.now
+        (written_content (components name.entry) datagram.now)) }
+{
+    match written_content(alloc, name, datagram)? {
+        None => Ok(()),
+        Some(content) => put_written(alloc, text, name, content, datagram),
+    }
+}
+
+/// Why no answer came to a request, which went out from this port or a new one, where the system
+/// says whether a program listens.
+pub fn silence_of(request: &[u8], from: Option<u16>, is_closed: bool) -> Silence
+    ensures { result ≡ silence_of request.now from is_closed }
+{
+    if is_closed {
+        return Silence::Closed;
+    }
+    if from.is_none() && is_local(request) {
+        return Silence::Far;
+    }
+    Silence::Late
+}
+
+fn is_local(request: &[u8]) -> bool
+    ensures { result ≡ is_local (frame_at request.now) }
+{
+    match read_frame(request) {
+        Ok(Frame::Interest(asked)) => is_word(asked.name.component(0), "localhost"),
+        _ => false,
+    }
+}
