@@ -55,6 +55,21 @@ StopsTurns old new before after turns held holds (Script Memory) =
     × AppendsFront held holds text
 StopsTurns old new before after turns held holds why = ⊥
 
+-- a front of the text that was gathered was written, and this is left of it
+abbrev pub Writes : Option (List ℕ) → Option (List ℕ) → List ℕ → List ℕ → Type 0
+Writes held holds gathered left =
+    (front : List ℕ) × (gathered ≡ front ++ left) × Appends held holds front
+
+-- No turn was taken. Unreceived: what was gathered was written, and then the call for the next
+-- arrival failed. Write: a front of it was written.
+abbrev pub StopsTurn : NodeState → NodeState → Shown → Shown → Option (List ℕ) → Option (List ℕ)
+    → List ℕ → Fault → Type 0
+StopsTurn old new before after held holds gathered Unreceived =
+    (new ≡ old) × FailsNext before after × Appends held holds gathered
+StopsTurn old new before after held holds gathered (Script Write) =
+    (new ≡ old) × (after ≡ before) × AppendsFront held holds gathered
+StopsTurn old new before after held holds gathered why = ⊥
+
 -- the same turns with nothing printed
 abbrev pub TakesQuietTurns : NodeState → NodeState → Shown → Shown → ℕ → Type 0
 TakesQuietTurns old new before after turns =

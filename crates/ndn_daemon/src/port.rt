@@ -1,9 +1,11 @@
 //! A node on a UDP port of this machine.
-ghost use Rattle.std.specs.Prelude.{◌≡◌, ◌↔◌, ◌≤◌, ◌+◌, ◌++◌, Err, None, length, true, vec_len, IsOk, IsTrue, IfErr, MatchOption, OnErr, OnOk};
+ghost use Rattle.std.specs.Prelude.{◌≡◌, ◌↔◌, ◌≤◌, ◌+◌, ◌++◌, [], Err, None, length, true, vec_len, IsOk, IsTrue, IfErr, IfOk, IfSome, MatchOption, OnErr, OnOk};
 ghost use Rattle.std.specs.Vec.{vec_capacity};
+ghost use Rattle.std.specs.Io.KnownBytes.{Appends};
 ghost use Rattle.forwarder.specs.Parts.{parts_fault};
-ghost use Rattle.node_core.specs.Ports.Serving.{shown};
-ghost use Rattle.ndn_daemon.specs.Turn.{EndsTurns, HasNoTurns, StopsAt, StopsQuietTurns, StopsTurns, TakesQuietTurns, TakesTurns, turn_text};
+ghost use Rattle.node_core.specs.Ports.Serving.{IsTurn, shown};
+ghost use Rattle.node_core.specs.Script.Ending.{AppendsFront};
+ghost use Rattle.ndn_daemon.specs.Turn.{EndsTurns, HasNoTurns, StopsAt, StopsQuietTurns, StopsTurn, StopsTurns, TakesQuietTurns, TakesTurns, Writes, turn_text};
 
 use crate::fault::Fault;
 use crate::udp_options::UdpOptions;
@@ -11,13 +13,16 @@ use crate::watched_ports::{RuleSource, WatchedPorts};
 use info_rules::Rules;
 use node_core::{
     FRAME_ROOM, MAX_FACES, Moments, Node, NodeParts, Outbox, Ports, RunFault, Turn, UdpPorts,
-    put_all, put_refused, put_sends, put_verdict, serve, serve_turn_in,
+    put_all, put_refused, put_sends, put_verdict, serve, serve_turn_in, serve_turn_soon,
 };
 use std::alloc::Global;
 use std::io;
 use std::io::Write;
 use std::net::Net;
 use std::time::{Clock, SystemTime};
+
+/// How much text is gathered at most before it is written, in octets, besides that of one turn.
+const MOST_GATHERED: usize = 65_536;
 
 /// The machine's clock.
 #[derive(Drop)]
@@ -124,7 +129,7 @@ fn take_quiet_turns<P: Ports>(
 }
 
 /// Lets a node take so many turns at a port, or as many as something comes for, and writes what is
-/// printed of each before the next.
+/// printed of them: where nothing more comes soon, before it waits, and at the end.
 fn take_turns<P: Ports, W: Write>(
     alloc: Global,
     node: &mut Node,
@@ -147,19 +152,98 @@ fn take_turns<P: Ports, W: Write>(
     let mut text = Vec::new(alloc);
     let mut buffer = [0; FRAME_ROOM];
     for number in 0..turns {
-        let Ok(turn) = serve_turn_in(node, ports, &mut buffer, &mut outbox) else {
-            return Err(Fault::Unreceived);
-        };
+        let turn = take_turn(node, ports, writer, &mut buffer, &mut outbox, &mut text)?;
         if is_end(&turn) {
-            return Ok(());
+            return write_out(writer, &mut text);
         }
-        text.clear();
-        put_turn(&mut text, number + 1, &turn, node.rules(), &outbox)?;
-        let Ok(()) = put_all(writer, text.as_slice()) else {
-            return Err(Fault::Script(RunFault::Write));
-        };
+        if let Err(fault) = put_turn(&mut text, number + 1, &turn, node.rules(), &outbox) {
+            write_out(writer, &mut text)?;
+            return Err(fault);
+        }
+        write_long(writer, &mut text)?;
     }
+    write_out(writer, &mut text)
+}
+
+/// Lets a node take its next turn. Where nothing comes soon, the text that was gathered is written
+/// before anything is waited for.
+fn take_turn<P: Ports, W: Write>(
+    node: &mut Node,
+    ports: &mut P,
+    writer: &mut W,
+    buffer: &mut [u8; FRAME_ROOM],
+    outbox: &mut Outbox,
+    text: &mut Vec<u8>,
+) -> Result<Turn, Fault>
+    ensures turn { IfOk result (IsTurn node.old node.new
+        (shown (P.failures ports.old) (P.coming ports.old) (P.taken ports.old))
+        (shown (P.failures ports.new) (P.coming ports.new) (P.taken ports.new)) outbox.new) }
+    ensures text { IfOk result (λ _. Writes (W.contents writer.old) (W.contents writer.new)
+        text.old.items text.new.items) }
+    ensures stopped { IfErr result (StopsTurn node.old node.new
+        (shown (P.failures ports.old) (P.coming ports.old) (P.taken ports.old))
+        (shown (P.failures ports.new) (P.coming ports.new) (P.taken ports.new))
+        (W.contents writer.old) (W.contents writer.new) text.old.items) }
+{
+    if let Some(turn) = turn_soon(node, ports, buffer, outbox, text.as_slice()) {
+        return Ok(turn);
+    }
+    write_out(writer, text)?;
+    match serve_turn_in(node, ports, buffer, outbox) {
+        Ok(turn) => Ok(turn),
+        Err(_) => Err(Fault::Unreceived),
+    }
+}
+
+/// The next turn, where text was gathered and something comes soon.
+fn turn_soon<P: Ports>(
+    node: &mut Node,
+    ports: &mut P,
+    buffer: &mut [u8; FRAME_ROOM],
+    outbox: &mut Outbox,
+    text: &[u8],
+) -> Option<Turn>
+    ensures turn { IfSome result (IsTurn node.old node.new
+        (shown (P.failures ports.old) (P.coming ports.old) (P.taken ports.old))
+        (shown (P.failures ports.new) (P.coming ports.new) (P.taken ports.new)) outbox.new) }
+    ensures none { result ≡ None → (node.new ≡ node.old)
+        × (shown (P.failures ports.new) (P.coming ports.new) (P.taken ports.new)
+        ≡ shown (P.failures ports.old) (P.coming ports.old) (P.taken ports.old)) }
+{
+    if text.is_empty() {
+        return None;
+    }
+    serve_turn_soon(node, ports, buffer, outbox)
+}
+
+/// Writes the text that was gathered.
+fn write_out<W: Write>(writer: &mut W, text: &mut Vec<u8>) -> Result<(), Fault>
+    ensures done { OnOk result
+        (Appends (W.contents writer.old) (W.contents writer.new) text.old.items) }
+    ensures empty { OnOk result (text.new.items ≡ []) }
+    ensures cut { OnErr result
+        (AppendsFront (W.contents writer.old) (W.contents writer.new) text.old.items) }
+    ensures fault { IfErr result (λ fault. fault ≡ Fault.Script RunFault.Write) }
+{
+    let Ok(()) = put_all(writer, text.as_slice()) else {
+        return Err(Fault::Script(RunFault::Write));
+    };
+    text.clear();
     Ok(())
+}
+
+/// Writes the text that was gathered, where it is long.
+fn write_long<W: Write>(writer: &mut W, text: &mut Vec<u8>) -> Result<(), Fault>
+    ensures done { OnOk result (Writes (W.contents writer.old) (W.contents writer.new)
+        text.old.items text.new.items) }
+    ensures cut { OnErr result
+        (AppendsFront (W.contents writer.old) (W.contents writer.new) text.old.items) }
+    ensures fault { IfErr result (λ fault. fault ≡ Fault.Script RunFault.Write) }
+{
+    if text.len() < MOST_GATHERED {
+        return Ok(());
+    }
+    write_out(writer, text)
 }
 
 /// Whether nothing more came.

@@ -63,6 +63,23 @@ impl<P: Ports + Drop, S: RuleSource> WatchedPorts<P, S> {
         self.held = Some(arrival);
     }
 
+    /// Rules and keys that are new at the moment of what arrived, which is then kept for the next
+    /// turn; or what arrived.
+    fn renewed_first(&mut self, arrival: Arrival, buffer: &[u8]) -> Arrival
+        requires { LiesWithin (length buffer.now) arrival }
+        ensures ports { self.new.ports ≡ self.old.ports }
+        ensures fits { LiesWithin (length buffer.now) result }
+    {
+        let Some(now) = moment_of(&arrival) else {
+            return arrival;
+        };
+        let Some((rules, keys)) = self.renewed(now) else {
+            return arrival;
+        };
+        self.hold(arrival, buffer);
+        Arrival::NewRules { rules, keys, now }
+    }
+
     /// Gives what was kept, with the octets of a packet at the front of the buffer. What does not
     /// fit is cut off.
     fn give_held(&self, arrival: Arrival, buffer: &mut [u8]) -> Arrival
@@ -92,14 +109,15 @@ impl<P: Ports + Drop, S: RuleSource> Ports for WatchedPorts<P, S> {
             return Ok(self.give_held(arrival, buffer));
         }
         let arrival = self.ports.next(buffer)?;
-        let Some(now) = moment_of(&arrival) else {
-            return Ok(arrival);
-        };
-        let Some((rules, keys)) = self.renewed(now) else {
-            return Ok(arrival);
-        };
-        self.hold(arrival, buffer);
-        Ok(Arrival::NewRules { rules, keys, now })
+        Ok(self.renewed_first(arrival, buffer))
+    }
+
+    fn next_soon(&mut self, buffer: &mut [u8]) -> Option<Arrival> {
+        if let Some(arrival) = self.held.take() {
+            return Some(self.give_held(arrival, buffer));
+        }
+        let arrival = self.ports.next_soon(buffer)?;
+        Some(self.renewed_first(arrival, buffer))
     }
 
     fn send(&mut self, face: u64, octets: &[u8]) -> Result<(), PortFault> {

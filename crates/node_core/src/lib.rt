@@ -20,6 +20,6 @@ pub use forwarder::{
 pub use ports::{
     ANSWER_SECONDS, Arrival, FRAME_ROOM, MemoryPorts, Moments, PortFault, Ports, ServeFault,
     Served, Turn, UdpPorts, frame_room_is_as_promised, receive_one, send_from, send_one, serve,
-    serve_turn, serve_turn_in,
+    serve_turn, serve_turn_in, serve_turn_soon,
 };
 pub use script::{RunFault, put_all, run_script, scripts_have_one_reading};

@@ -1,4 +1,4 @@
-ghost use Rattle.std.specs.Prelude.{◌≡◌, ℕ, List, [], ◌∷◌, Option, length, min, take, IfOk, OnOk, OnErr};
+ghost use Rattle.std.specs.Prelude.{◌≡◌, ℕ, List, [], ◌∷◌, Option, None, length, min, take, IfOk, IfSome, OnOk, OnErr};
 ghost use Rattle.forwarder.specs.Event.{PlainEvent, Send};
 ghost use Rattle.node_core.specs.Ports.{Gives, LiesWithin, Takes, arrived, one_more};
 
@@ -14,7 +14,7 @@ use hmac_keys::KeyBook;
 use info_rules::Rules;
 pub use memory::MemoryPorts;
 use ndn_packets::MAX_FRAME;
-pub use serving::{ServeFault, Served, Turn, serve, serve_turn, serve_turn_in};
+pub use serving::{ServeFault, Served, Turn, serve, serve_turn, serve_turn_in, serve_turn_soon};
 use thiserror::Error;
 pub use udp::{Moments, UdpPorts};
 
@@ -91,6 +91,19 @@ pub trait Ports {
         // What failed gave nothing, and is counted.
         ensures failed { OnErr result ((coming self.new ≡ coming self.old)
             × (failures self.new ≡ one_more (failures self.old))) };
+
+    /// As `next`, where something comes at once or within some milliseconds. Else nothing changes.
+    /// A port that cannot wait for so short a time may say that nothing came.
+    fn next_soon(&mut self, _buffer: &mut [u8]) -> Option<Arrival>
+        ensures fits { IfSome result (LiesWithin (length _buffer.new)) }
+        ensures gives { IfSome result (λ arrival. Gives (coming self.old) (coming self.new)
+            (length _buffer.new) (arrived arrival _buffer.new)) }
+        ensures none { result ≡ None → coming self.new ≡ coming self.old }
+        ensures takes_none { taken self.new ≡ taken self.old }
+        ensures works { failures self.new ≡ failures self.old }
+    {
+        None
+    }
 
     /// Sends octets to a face.
     fn send(&mut self, face: u64, octets: &[u8]) -> Result<(), PortFault>

@@ -1,7 +1,7 @@
-ghost use Rattle.std.specs.Prelude.{◌≡◌, ◌≤◌, [], ℕ, List, length, IfOk, IfErr, OnErr};
+ghost use Rattle.std.specs.Prelude.{◌≡◌, ◌≤◌, [], ℕ, List, Option, None, length, IfOk, IfErr, IfSome, OnErr};
 ghost use Rattle.std.specs.Option.{option_map};
-ghost use Rattle.forwarder.specs.Event.{Send, plain};
-ghost use Rattle.node_core.specs.Ports.{LiesWithin, Takes, arrived, count_of};
+ghost use Rattle.forwarder.specs.Event.{PlainEvent, Send, plain};
+ghost use Rattle.node_core.specs.Ports.{Gives, LiesWithin, Takes, arrived, count_of};
 ghost use Rattle.node_core.specs.Ports.Serving.{AreTakenOf, EndsAfter, FailsNext, IsTurn, Serves, StopsServing, many_more, shown};
 
 use crate::ports::{Arrival, FRAME_ROOM, Ports};
@@ -137,15 +137,54 @@ pub fn serve_turn_in<P: Ports>(
     let Ok(arrival) = ports.next(buffer) else {
         return Err(ServeFault::Next { after: 0 });
     };
+    Ok(handle(node, ports, arrival, buffer, outbox))
+}
+
+/// As `serve_turn_in`, where the port gives something soon. Else nothing happens.
+pub fn serve_turn_soon<P: Ports>(
+    node: &mut Node,
+    ports: &mut P,
+    buffer: &mut [u8; FRAME_ROOM],
+    outbox: &mut Outbox,
+) -> Option<Turn>
+    ensures turn { IfSome result (IsTurn node.old node.new
+        (shown (P.failures ports.old) (P.coming ports.old) (P.taken ports.old))
+        (shown (P.failures ports.new) (P.coming ports.new) (P.taken ports.new)) outbox.new) }
+    ensures none { result ≡ None
+        → (shown (P.failures ports.new) (P.coming ports.new) (P.taken ports.new)
+        ≡ shown (P.failures ports.old) (P.coming ports.old) (P.taken ports.old))
+        × (node.new ≡ node.old) × (outbox.new ≡ []) }
+{
+    outbox.clear();
+    let arrival = ports.next_soon(buffer)?;
+    Some(handle(node, ports, arrival, buffer, outbox))
+}
+
+// Lets a node handle what a port gave.
+fn handle<P: Ports>(
+    node: &mut Node,
+    ports: &mut P,
+    arrival: Arrival,
+    buffer: &[u8; FRAME_ROOM],
+    outbox: &mut Outbox,
+) -> Turn
+    requires fits { LiesWithin FRAME_ROOM arrival }
+    requires empty { outbox.old ≡ [] }
+    ensures { (before : Option (List PlainEvent))
+        → Gives before (P.coming ports.old) FRAME_ROOM (arrived arrival buffer.now)
+        → IsTurn node.old node.new
+        (shown (P.failures ports.old) before (P.taken ports.old))
+        (shown (P.failures ports.new) (P.coming ports.new) (P.taken ports.new)) outbox.new result }
+{
     let Some(event) = event_of(arrival, buffer) else {
-        return Ok(Turn::End);
+        return Turn::End;
     };
     match node.step(event, outbox) {
         Ok(verdict) => {
             let failed = send_all(ports, outbox);
-            Ok(Turn::Done { verdict, failed })
+            Turn::Done { verdict, failed }
         }
-        Err(_) => Ok(Turn::Refused),
+        Err(_) => Turn::Refused,
     }
 }
 

@@ -1,5 +1,5 @@
 //! Ports by UDP, for programs on this machine.
-ghost use Rattle.std.specs.Prelude.{◌≡◌, ◌<◌, ◌≤◌, ℕ, List, None, Some, length, take, IfOk, OnOk, OnErr};
+ghost use Rattle.std.specs.Prelude.{◌≡◌, ◌<◌, ◌≤◌, ℕ, List, None, Some, length, take, IfOk, IfSome, OnOk, OnErr};
 ghost use Rattle.node_core.specs.Ports.{LiesWithin, one_more};
 ghost use Rattle.node_core.specs.Udp.{Listens, OpensPeer, Receives, UdpGives, bound_to, port_at};
 
@@ -8,6 +8,10 @@ use crate::ports::{Arrival, FRAME_ROOM, PortFault, Ports, put_front};
 use forwarder::{MAX_FACES, Scope};
 use std::marker::Model;
 use std::net::{Ipv4Addr, Net, UdpSocket};
+use std::time::Duration;
+
+/// How long `UdpPorts::next_soon` waits for a datagram, in milliseconds.
+pub const SOON_MILLISECONDS: u64 = 1;
 
 /// Where moments come from.
 pub trait Moments: Drop {
@@ -38,6 +42,8 @@ pub struct UdpPorts<M: Moments> {
     octets: [u8; FRAME_ROOM],
     len: usize,
     waiting: Option<u64>,
+    // Whether receiving ends after a short time, in place of waiting as long as nothing comes.
+    is_brief: bool,
     failures: u64,
 }
 
@@ -87,6 +93,7 @@ impl<M: Moments> UdpPorts<M> {
             octets: [0; FRAME_ROOM],
             len: 0,
             waiting: None,
+            is_brief: false,
             failures: 0,
         })
     }
@@ -179,18 +186,54 @@ impl<M: Moments> UdpPorts<M> {
         }
     }
 
-    /// Receives a datagram, while none waits.
-    fn receive(&mut self, buffer: &mut [u8]) -> Result<Arrival, PortFault>
-        requires { Listens self.old }
-        ensures fits { IfOk result (LiesWithin (length buffer.new)) }
-        ensures gives { IfOk result (UdpGives self.old self.new buffer.new) }
-        ensures failed { OnErr result
-            (self.new ≡ record self.old { failures = one_more self.old.failures }) }
+    /// Says whether receiving ends after `SOON_MILLISECONDS`. The system may refuse it.
+    fn set_brief(&mut self, is_brief: bool) -> bool
+        ensures { self.new ≡ self.old }
     {
-        let Ok((len, from)) = self.socket.recv_from(buffer) else {
-            return Err(self.fail());
+        if self.is_brief == is_brief {
+            return true;
+        }
+        let wait = if is_brief {
+            Some(Duration::from_millis(SOON_MILLISECONDS))
+        } else {
+            None
         };
-        Ok(self.arrive(&buffer[..len], from.port()))
+        if self.socket.set_read_timeout(wait).is_err() {
+            return false;
+        }
+        self.is_brief = is_brief;
+        true
+    }
+
+    /// Receives a datagram, while none waits. None is given where the socket gives none.
+    fn receive(&mut self, buffer: &mut [u8], is_brief: bool) -> Option<Arrival>
+        requires { Listens self.old }
+        ensures fits { IfSome result (LiesWithin (length buffer.new)) }
+        ensures gives { IfSome result (UdpGives self.old self.new buffer.new) }
+        ensures none { result ≡ None → self.new ≡ self.old }
+        ensures works { self.new.failures ≡ self.old.failures }
+    {
+        if !self.set_brief(is_brief) {
+            return None;
+        }
+        let (len, from) = self.socket.recv_from(buffer).ok()?;
+        Some(self.arrive(&buffer[..len], from.port()))
+    }
+
+    /// What is there without receiving, and otherwise a datagram.
+    fn take(&mut self, buffer: &mut [u8], is_brief: bool) -> Option<Arrival>
+        ensures fits { IfSome result (LiesWithin (length buffer.new)) }
+        ensures gives { IfSome result (UdpGives self.old self.new buffer.new) }
+        ensures none { result ≡ None → self.new ≡ self.old }
+        ensures works { self.new.failures ≡ self.old.failures }
+    {
+        if self.opened < self.known.len() {
+            return Some(self.open());
+        }
+        match self.waiting {
+            Some(face) => Some(self.give_waiting(face, buffer)),
+            None => self.receive(buffer, is_brief),
+        }
     }
 
     /// The port of a face.
@@ -217,13 +260,19 @@ impl<M: Moments> Ports for UdpPorts<M> {
         ensures failed { OnErr result
             (self.new ≡ record self.old { failures = one_more self.old.failures }) }
     {
-        if self.opened < self.known.len() {
-            return Ok(self.open());
+        match self.take(buffer, false) {
+            Some(arrival) => Ok(arrival),
+            None => Err(self.fail()),
         }
-        match self.waiting {
-            Some(face) => Ok(self.give_waiting(face, buffer)),
-            None => self.receive(buffer),
-        }
+    }
+
+    fn next_soon(&mut self, buffer: &mut [u8]) -> Option<Arrival>
+        ensures fits { IfSome result (LiesWithin (length buffer.new)) }
+        ensures works { self.new.failures ≡ self.old.failures }
+        ensures gives { IfSome result (UdpGives self.old self.new buffer.new) }
+        ensures none { result ≡ None → self.new ≡ self.old }
+    {
+        self.take(buffer, true)
     }
 
     fn send(&mut self, face: u64, octets: &[u8]) -> Result<(), PortFault>

@@ -1,7 +1,7 @@
 use Rattle.std.proofs.Common.{ℕ, take, ap, sym, ◌∙◌}
 use Rattle.std.specs.Option.{option_map}
 use Rattle.node_core.specs.Udp.{UdpState}
-use Rattle.node_core.proofs.ports.udp.UdpPortsPorts.next.Goals as goal
+use Rattle.node_core.proofs.ports.udp.UdpPorts.take.Goals as goal
 
 pub give_waiting-requires-clause-waiting : goal.give_waiting-requires-clause-waiting
 give_waiting-requires-clause-waiting g c =

@@ -1,0 +1,59 @@
+-- Text that was gathered and is written later.
+use Rattle.std.proofs.Common.{◌≡◌, ℕ, ◌+◌, ◌<◌, ◌≤◌, List, [], ◌++◌, refl, sym, ap, subst, ◌∙◌, arith, append_assoc, append-nil}
+use Rattle.std.specs.Prelude.{Option}
+use Rattle.std.specs.Io.KnownBytes.{Appends}
+use Rattle.forwarder.specs.Node.{NodeState}
+use Rattle.node_core.specs.Ports.Serving.{Shown}
+use Rattle.node_core.specs.Script.Ending.{AppendsFront}
+use Rattle.node_core.specs.declared.script.RunFault.TheVariants.{Write}
+use Rattle.node_core.proofs.Known.{Appends-start, Appends-then, AppendsFront-after}
+use Rattle.ndn_daemon.specs.declared.fault.Fault.{Fault}
+use Rattle.ndn_daemon.specs.declared.fault.Fault.TheVariants.{Script, Unreceived}
+use Rattle.ndn_daemon.specs.Turn.{StopsTurn, StopsTurns, Tells, Writes}
+
+pub Writes-none : (known : Option (List ℕ)) (gathered : List ℕ) → Writes known known gathered gathered
+Writes-none known gathered = ([], refl, Appends-start known)
+
+pub Writes-all : (a b : Option (List ℕ)) (gathered left : List ℕ) → Appends a b gathered → left ≡ [] → Writes a b gathered left
+Writes-all a b gathered left h none = (gathered, sym (append-nil gathered) ∙ ap (λ (l : List ℕ). gathered ++ l) (sym none), h)
+
+pub Writes-then : (a b c : Option (List ℕ)) (text gathered left : List ℕ) → Writes a b text gathered → Writes b c gathered left → Writes a c text left
+Writes-then a b c text gathered left h k = (
+  h.0 ++ k.0,
+  h.1 ∙ ap (λ (l : List ℕ). h.0 ++ l) k.1 ∙ sym (append_assoc h.0 k.0 left),
+  Appends-then a b c h.0 k.0 h.2 k.2,
+)
+
+pub Writes-more : (a b : Option (List ℕ)) (text gathered more : List ℕ) → Writes a b text gathered → Writes a b (text ++ more) (gathered ++ more)
+Writes-more a b text gathered more h = (h.0, ap (λ (l : List ℕ). l ++ more) h.1 ∙ append_assoc h.0 gathered more, h.2)
+
+pub Writes-done : (a b c : Option (List ℕ)) (text gathered : List ℕ) → Writes a b text gathered → Appends b c gathered → Appends a c text
+Writes-done a b c text gathered h k = subst (Appends a c) (sym h.1) (Appends-then a b c h.0 gathered h.2 k)
+
+pub Writes-cut : (a b c : Option (List ℕ)) (text gathered : List ℕ) → Writes a b text gathered → AppendsFront b c gathered → AppendsFront a c text
+Writes-cut a b c text gathered h k = subst (AppendsFront a c) (sym h.1) (AppendsFront-after a b c h.0 gathered h.2 k)
+
+-- a front of a text is one of a longer text
+pub AppendsFront-longer : (a b : Option (List ℕ)) (text more : List ℕ) → AppendsFront a b text → AppendsFront a b (text ++ more)
+AppendsFront-longer a b text more h = (h.0, h.1 ++ more, ap (λ (l : List ℕ). l ++ more) h.2 ∙ append_assoc h.0 h.1 more, h.3)
+
+-- where the next turn is not taken, the turns stop
+pub stops_turns : (old mid new : NodeState) (before between after : Shown) (turns number : ℕ) (a b c : Option (List ℕ)) (text gathered : List ℕ) (why : Fault)
+    → Tells old mid before between number text → Writes a b text gathered → number < turns → StopsTurn mid new between after b c gathered why → StopsTurns old new before after turns a c why
+stops_turns old mid new before between after turns number a b c text gathered Unreceived told writes less h = (
+  between,
+  number,
+  text,
+  subst (λ (n : NodeState). Tells old n before between number text) (sym h.0) told,
+  h.1,
+  less,
+  Writes-done a b c text gathered writes h.2,
+)
+stops_turns old mid new before between after turns number a b c text gathered (Script Write) told writes less h = (
+  number,
+  text,
+  subst (λ (n : NodeState). Tells old n before after number text) (sym h.0) (subst (λ (s : Shown). Tells old mid before s number text) (sym h.1) told),
+  omega (arith, less),
+  Writes-cut a b c text gathered writes h.2,
+)
+stops_turns old mid new before between after turns number a b c text gathered why told writes less h = absurd h
