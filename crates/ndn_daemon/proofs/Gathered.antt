@@ -1,6 +1,6 @@
 -- Text that was gathered and is written later.
-use Rattle.std.proofs.Common.{◌≡◌, ℕ, ◌+◌, ◌<◌, ◌≤◌, List, [], ◌++◌, refl, sym, ap, subst, ◌∙◌, arith, append_assoc, append-nil}
-use Rattle.std.specs.Prelude.{Option}
+use Rattle.std.proofs.Common.{◌≡◌, ℕ, ◌<◌, List, [], ◌++◌, refl, sym, ap, subst, ◌∙◌, arith, append_assoc, append-nil}
+use Rattle.std.specs.Prelude.{Option, Result, Ok, Err, IfErr, OnErr, OnOk}
 use Rattle.std.specs.Io.KnownBytes.{Appends}
 use Rattle.forwarder.specs.Node.{NodeState}
 use Rattle.node_core.specs.Ports.Serving.{Shown}
@@ -13,6 +13,9 @@ use Rattle.ndn_daemon.specs.Turn.{StopsTurn, StopsTurns, Tells, Writes}
 
 pub Writes-none : (known : Option (List ℕ)) (gathered : List ℕ) → Writes known known gathered gathered
 Writes-none known gathered = ([], refl, Appends-start known)
+
+pub Writes-start : (known : Option (List ℕ)) (gathered : List ℕ) → gathered ≡ [] → Writes known known [] gathered
+Writes-start known gathered none = ([], sym none, Appends-start known)
 
 pub Writes-all : (a b : Option (List ℕ)) (gathered left : List ℕ) → Appends a b gathered → left ≡ [] → Writes a b gathered left
 Writes-all a b gathered left h none = (gathered, sym (append-nil gathered) ∙ ap (λ (l : List ℕ). gathered ++ l) (sym none), h)
@@ -57,3 +60,12 @@ stops_turns old mid new before between after turns number a b c text gathered (S
   Writes-cut a b c text gathered writes h.2,
 )
 stops_turns old mid new before between after turns number a b c text gathered why told writes less h = absurd h
+
+-- what follows from a writing that is done, and from one that stopped
+pub done_then : {A B : Type 0} (r : Result (Unit {0}) Fault) → OnOk r A → (A → B) → OnOk r B
+done_then (Ok done) h then = then h
+done_then (Err why) h then = tt
+
+pub cut_then : {A : Type 0} (P : Fault → Type 0) (r : Result (Unit {0}) Fault) → OnErr r A → IfErr r (λ why. why ≡ Script Write) → (A → P (Script Write)) → IfErr r P
+cut_then P (Ok done) h is then = tt
+cut_then P (Err why) h is then = subst P (sym is) (then h)

@@ -14,7 +14,7 @@ pub use command::{Request, request_of};
 pub use fault::Fault;
 pub use files::{read_keys, read_rules};
 pub use options::Options;
-pub use port::run_on_port;
+pub use port::{MachineClock, run_on_port};
 pub use rule_files::RuleFiles;
 pub use udp_options::UdpOptions;
 pub use watched_ports::{RuleSource, WatchedPorts};

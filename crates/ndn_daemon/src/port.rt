@@ -26,9 +26,16 @@ const MOST_GATHERED: usize = 65_536;
 
 /// The machine's clock.
 #[derive(Drop)]
-struct MachineClock<'a, R> {
+pub struct MachineClock<'a, R> {
     rt: &'a R,
     last: u64,
+}
+
+impl<'a, R: Clock> MachineClock<'a, R> {
+    /// The clock, which was not read yet.
+    pub fn new(rt: &'a R) -> MachineClock<'a, R> {
+        MachineClock { rt, last: 0 }
+    }
 }
 
 impl<'a, R: Clock> Moments for MachineClock<'a, R> {
@@ -53,9 +60,10 @@ fn milliseconds<R: Clock>(rt: &R) -> Option<u64> {
 /// Runs a node on its port for its turns, and writes each answer to standard output as it comes, or
 /// none where it is quiet. Its rules and keys are replaced where their source has new ones. Parts
 /// that are wrong are reported before the port is bound.
-pub fn run_on_port<R: AllocGlobal + Clock + Net + Print, S: RuleSource>(
+pub fn run_on_port<R: AllocGlobal + Net + Print, M: Moments, S: RuleSource>(
     rt: &R,
     parts: NodeParts,
+    moments: M,
     source: S,
     options: &UdpOptions,
 ) -> Result<(), Fault>
@@ -72,8 +80,7 @@ pub fn run_on_port<R: AllocGlobal + Clock + Net + Print, S: RuleSource>(
         Err(fault) => return Err(Fault::Script(RunFault::Node(fault))),
     };
     let port = options.listen;
-    let clock = MachineClock { rt, last: 0 };
-    let bound = UdpPorts::bind(rt, port, options.peers.as_slice(), options.local, clock);
+    let bound = UdpPorts::bind(rt, port, options.peers.as_slice(), options.local, moments);
     let Ok(ports) = bound else {
         return Err(Fault::Unbound { port });
     };
@@ -221,10 +228,14 @@ fn write_out<W: Write>(writer: &mut W, text: &mut Vec<u8>) -> Result<(), Fault>
     ensures done { OnOk result
         (Appends (W.contents writer.old) (W.contents writer.new) text.old.items) }
     ensures empty { OnOk result (text.new.items ≡ []) }
+    ensures none { text.old.items ≡ [] → IsOk result }
     ensures cut { OnErr result
         (AppendsFront (W.contents writer.old) (W.contents writer.new) text.old.items) }
     ensures fault { IfErr result (λ fault. fault ≡ Fault.Script RunFault.Write) }
 {
+    if text.is_empty() {
+        return Ok(());
+    }
     let Ok(()) = put_all(writer, text.as_slice()) else {
         return Err(Fault::Script(RunFault::Write));
     };

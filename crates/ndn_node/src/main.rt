@@ -3,7 +3,9 @@
 
 ghost use Rattle.std.specs.Prelude.{◌≤◌, length};
 
-use ndn_daemon::{Fault, Options, Request, RuleFiles, UdpOptions, request_of, run_on_port};
+use ndn_daemon::{
+    Fault, MachineClock, Options, Request, RuleFiles, UdpOptions, request_of, run_on_port,
+};
 use node_core::{NodeParts, RunFault, run_script};
 use std::env::Env;
 use std::io::Input;
@@ -63,7 +65,7 @@ fn udp<R: AllocGlobal + Clock + Eprint + Files + Net + Print>(
     requires { length options.now.peers.items ≤ 64 }
 {
     let (parts, files) = parts_of(rt, node)?;
-    run_on_port(rt, parts, files, options)
+    run_on_port(rt, parts, MachineClock::new(rt), files, options)
 }
 
 /// The parts of a node, with the rules and the keys of the files that are named, and these files.
