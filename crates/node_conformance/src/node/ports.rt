@@ -1,8 +1,8 @@
 use super::{parts, replies, script_of, spelled};
 use hmac_keys::KeyBook;
 use node_core::{
-    MemoryPorts, Node, NodeParts, Outbox, OwnedEvent, Ports, Scope, ServeFault, Served, Turn, put_refused,
-    put_sends, put_verdict, read_rules, serve, serve_turn,
+    MemoryPorts, Node, NodeParts, Outbox, OwnedEvent, Ports, Scope, ServeFault, Served, Turn,
+    put_refused, put_sends, put_verdict, read_rules, serve, serve_turn,
 };
 use std::alloc::Global;
 

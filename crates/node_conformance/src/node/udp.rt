@@ -4,8 +4,8 @@ use super::octets::octets_of;
 use super::ports::node_of;
 use ndn_packets::PacketFault;
 use node_core::{
-    Arrival, DropReason, Moments, Node, Outbox, Ports, Scope, Served, Turn, UdpPorts, Verdict,
-    receive_one, send_one, serve, serve_turn,
+    Arrival, DropReason, FRAME_ROOM, Moments, Node, Outbox, Ports, Scope, Served, Turn, UdpPorts,
+    Verdict, receive_one, send_one, serve, serve_turn, serve_turn_soon,
 };
 use std::alloc::Global;
 use std::net::{Ipv4Addr, Net, UdpSocket};
@@ -139,6 +139,37 @@ fn is_relay(rt: &(impl AllocGlobal + Net)) -> Option<bool> {
 #[test]
 fn udp_route_and_back(rt: HostRuntime) {
     assert!(rt; is_relay(&rt) == Some(true));
+}
+
+/// Whether a turn is taken where something comes soon.
+fn takes_soon(alloc: Global, node: &mut Node, ports: &mut UdpPorts<Still>) -> bool {
+    let mut outbox = Outbox::new(alloc);
+    serve_turn_soon(node, ports, &mut [0; FRAME_ROOM], &mut outbox).is_some()
+}
+
+/// Whether turns are taken soon while a datagram waits, and none before and after it.
+fn are_taken_soon(alloc: Global, node: &mut Node, ports: &mut UdpPorts<Still>) -> bool {
+    let opened = takes_soon(alloc, node, ports);
+    let answered = takes_soon(alloc, node, ports);
+    opened && answered && !takes_soon(alloc, node, ports)
+}
+
+/// Whether a port that is looked at for a short time goes on, and then waits as before.
+fn waits_for_a_short_time(rt: &(impl AllocGlobal + Net)) -> Option<bool> {
+    let alloc = rt.alloc();
+    let listen = free_port(rt)?;
+    let mut ports = UdpPorts::bind(rt, listen, &[], 0, Still).ok()?;
+    let mut node = node_of(alloc)?;
+    let too_early = takes_soon(alloc, &mut node, &mut ports);
+    let client = send_one(rt, listen, octets_of(alloc, "INTEREST").as_slice()).ok()?;
+    let soon = !too_early && are_taken_soon(alloc, &mut node, &mut ports);
+    let _second = send_one(rt, listen, octets_of(alloc, "AGAIN").as_slice()).ok()?;
+    Some(soon && hears(alloc, &client, "NO_ROUTE") && passes(alloc, &mut node, &mut ports, 2))
+}
+
+#[test]
+fn udp_soon(rt: HostRuntime) {
+    assert!(rt; waits_for_a_short_time(&rt) == Some(true));
 }
 
 /// The ports 1 to 64.
