@@ -13,4 +13,5 @@ pub mod Flat
 pub mod Least
 pub mod Totals
 pub mod Along
+pub mod Seen
 pub mod Heads

@@ -9,7 +9,7 @@ use Rattle.ndn_names.specs.Key.{component_cmp-total, component_cmp-antisymmetric
 use Rattle.name_trie.specs.declared.node.Node.{Node}
 use Rattle.name_trie.specs.ByName.{revise}
 use Rattle.name_trie.specs.Links.{Links, unless_is}
-use Rattle.name_trie.specs.Trie.{Heap, child, value}
+use Rattle.name_trie.specs.Trie.{Heap, child}
 use Rattle.name_trie.specs.Changes.{Joins, Cuts, Sets, IsBare}
 use Rattle.name_trie.proofs.Changed.{same_or, some_along, child_joined}
 
@@ -30,12 +30,6 @@ module _ {V : Type 0} (h h' : Heap V) where
 
   pub bare_set : (k : ℕ) (v : Option V) → Sets k v h h' → (j : ℕ) → j ≢ k → IsBare h' j → IsBare h j
   bare_set k v sets j ne bare = bare_same j (sets.others j ne) bare
-
-  -- a node with a value holds something
-  pub valued : (k : ℕ) (v : V) → Sets k (Some v) h h' → (j : ℕ) → IsBare h' j → (j ≢ k) × IsBare h j
-  valued k v sets j bare =
-      let ne : j ≢ k = λ is. (let had : value h' k ≡ Some v = ap (option_and_then (λ n. n.value)) sets.here in let none : value h' k ≡ None = ap (value h') (sym is) ∙ bare.bare in cc) in
-      (ne, bare_set k (Some v) sets j ne bare)
 
   module _ (k : ℕ) (o : Option ℕ) (cuts : Cuts k o h h') where
     parent_of : (a : ℕ) (P : Type 0) → (o ≡ Some a → P) → (o ≢ Some a → P) → P

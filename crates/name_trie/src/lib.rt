@@ -1,6 +1,7 @@
 //! Values by name, in a trie: look-ups, changes and the longest prefix in the time of one walk.
 #![tactic(auto)]
 
+mod becomes;
 mod change;
 mod children;
 mod component_buf;
@@ -9,13 +10,16 @@ mod listing;
 mod name_map;
 mod node;
 mod rows;
+mod see;
 mod take;
 mod timed;
 mod timed_map;
 mod trie;
 
+pub use becomes::Becomes;
 pub use change::Change;
 pub use name_map::NameMap;
+pub use see::See;
 pub use take::Take;
-pub use timed::{Becomes, Timed};
+pub use timed::Timed;
 pub use timed_map::TimedMap;

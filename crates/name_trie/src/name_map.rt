@@ -1,10 +1,13 @@
-ghost use Rattle.std.specs.Prelude.{option_and_then, ◌≡◌, ◌<◌, ◌≤◌, ◌+◌, ◌^◌, ◌⊎◌, None, Some, length, map as list_map, IsOk, IfOk, IsSome, OnOk, OnErr};
+ghost use Rattle.std.specs.Prelude.{option_and_then, fold, [], ◌≡◌, ◌<◌, ◌≤◌, ◌+◌, ◌^◌, ◌⊎◌, None, Some, length, map as list_map, IsOk, IfOk, IsSome, OnOk, OnErr};
 ghost use Rattle.std.specs.FinMap as map;
 ghost use Rattle.std.specs.Option.{option_map};
 ghost use Rattle.ndn_names.specs.View.{components};
 ghost use Rattle.name_trie.specs.ByName.{longest as longest_in, revise, with_value};
+ghost use Rattle.name_trie.specs.Taken.{taken_along};
 
+use crate::becomes::Becomes;
 use crate::change::Change;
+use crate::see::See;
 use crate::trie::NameTrie;
 use ndn_names::{Name, NameBuf};
 use ndn_tlv::Memory;
@@ -75,22 +78,13 @@ impl<V: Drop> NameMap<V> {
         Ok(())
     }
 
-    /// Prepares one `put` of this name, which is then not refused memory.
+    /// Prepares one `put` or `put_with` of this name, which is then not refused memory.
     pub fn prepare(&mut self, name: Name<'_>) -> Result<(), Memory>
         ensures table { self.new.table ≡ self.old.table }
         ensures ok { OnOk result (self.new.prepared ≡ Some (components name.entry)) }
         ensures err { OnErr result (self.new.prepared ≡ None) }
     {
         self.trie.prepare(name)
-    }
-
-    /// Sets the value of a name that has one. What is prepared stays so.
-    pub fn replace(&mut self, name: Name<'_>, value: V)
-        requires { IsSome (map.get self.old.table (components name)) }
-        ensures table { self.new.table ≡ map.insert self.old.table (components name.entry) value }
-        ensures prepared { self.new.prepared ≡ self.old.prepared }
-    {
-        self.trie.replace(name, value);
     }
 
     /// Ends what is prepared.
@@ -126,17 +120,6 @@ impl<V: Drop> NameMap<V> {
     {
         self.trie.longest(name)
     }
-
-    /// As `longest`. Adds one to `steps` for each search among the children of a node.
-    pub fn longest_counted(&self, name: Name<'_>, steps: &mut u64) -> Option<&V>
-        requires { steps.old + 64 < 2 ^ 64 }
-        ensures exact { option_map (λ v. v.now) result
-            ≡ longest_in self.now.table (components name.entry) }
-        ensures counted { steps.old ≤ steps.new }
-        ensures cost { steps.new ≤ steps.old + length (components name.entry) }
-    {
-        self.trie.longest_counted(name, steps)
-    }
 }
 
 impl<V: Drop> NameMap<V> {
@@ -155,5 +138,44 @@ impl<V: Drop> NameMap<V> {
         ensures prepared { self.new.prepared ≡ self.old.prepared }
     {
         self.len -= self.trie.change_all(how);
+    }
+
+    /// Puts what a name's value, or none, becomes in its place.
+    pub fn put_with<B: Becomes<V> + Drop>(&mut self, name: Name<'_>, how: B) -> Result<(), Memory>
+        requires { IsSome (map.get self.old.table (components name))
+            ⊎ (map.len self.old.table + 1 < 2 ^ 64) }
+        ensures ok { OnOk result (self.new.table ≡ map.insert self.old.table
+            (components name.entry)
+            (B.becomes how (map.get self.old.table (components name.entry)))) }
+        ensures err { OnErr result (self.new.table ≡ self.old.table) }
+        ensures ended { self.new.prepared ≡ None }
+        ensures known { IsSome (map.get self.old.table (components name.entry)) → IsOk result }
+        ensures promised { self.old.prepared ≡ Some (components name.entry) → IsOk result }
+    {
+        if self.trie.put_with(name, how)? {
+            self.len += 1;
+        }
+        Ok(())
+    }
+}
+
+impl<V: Drop> NameMap<V> {
+    /// Sees the values of a name's proper prefixes, the shortest first, and of the name. Adds one
+    /// to `steps` for each search among the children of a node.
+    pub fn see_along<S: See<V>>(&self, name: Name<'_>, steps: &mut u64, see: &mut S)
+        requires { steps.old + 64 < 2 ^ 64 }
+        ensures seen { see.new ≡ taken_along S.seen S.seen see.old
+            (map.get self.now.table) [] (components name.entry) }
+        ensures counted { steps.old ≤ steps.new }
+        ensures cost { steps.new ≤ steps.old + length (components name.entry) }
+    {
+        self.trie.see_along(name, steps, see);
+    }
+
+    /// Sees all values, in the canonical order of their names.
+    pub fn see_all<S: See<V>>(&self, see: &mut S)
+        ensures { see.new ≡ fold S.seen see.old (map.values self.now.table) }
+    {
+        self.trie.see_all(see);
     }
 }

@@ -1,4 +1,4 @@
-ghost use Rattle.std.specs.Prelude.{◌≡◌, ◌≢◌, ◌⊎◌, None, Some, Ok, option_copied, IfOk, IsSome, IsOk, OnErr, IfSome, ℕ, List, ◌+◌, ◌<◌, ◌≤◌, ◌^◌, ◌↔◌, IsTrue, false, length};
+ghost use Rattle.std.specs.Prelude.{◌≡◌, ◌≢◌, ◌⊎◌, None, Some, Ok, option_copied, IfOk, IsSome, IsOk, OnErr, IfSome, ℕ, List, ◌<◌, ◌≤◌, ◌↔◌, IsTrue, false};
 ghost use Rattle.std.specs.Option.{option_map};
 ghost use Rattle.std.specs.FinMap as map;
 ghost use Rattle.slab.specs.Slab.{get, slab_len, ContainsKey, SameValues};
@@ -260,19 +260,14 @@ pub fn make_path<V: Drop>(
     Ok(at)
 }
 
-/// The value of the longest prefix of a name that has one. Adds one to `steps` for each search
-/// among the children of a node.
+/// The value of the longest prefix of a name that has one.
 pub fn longest<'a, V>(
     nodes: &'a Slab<Node<V>>,
     root: Option<usize>,
     name: Name<'_>,
-    steps: &mut u64,
 ) -> Option<&'a V>
-    requires { steps.old + 64 < 2 ^ 64 }
-    ensures exact { option_map (λ v. v.now) result
+    ensures { option_map (λ v. v.now) result
         ≡ last_on (get nodes.now) root (components name.entry) None }
-    ensures counted { steps.old ≤ steps.new }
-    ensures cost { steps.new ≤ steps.old + length (components name.entry) }
 {
     let mut best = None;
     let mut next = root;
@@ -284,7 +279,6 @@ pub fn longest<'a, V>(
         let Some(component) = rest.next() else {
             return best;
         };
-        *steps += 1;
         next = child_of(nodes, k, component);
     }
     best

@@ -1,4 +1,4 @@
-ghost use Rattle.std.specs.Prelude.{◌≡◌, ◌+◌, ◌<◌, ◌≤◌, ℕ, List, Option, None, Some, IsSome, IsOk, OnOk, OnErr, cond, true};
+ghost use Rattle.std.specs.Prelude.{◌≡◌, ◌+◌, ◌<◌, ◌≤◌, ℕ, List, None, Some, IsSome, IsOk, OnOk, OnErr, cond, true};
 ghost use Rattle.std.specs.Option.{option_map, option_and_then};
 ghost use Rattle.std.specs.FinSet as set;
 ghost use Rattle.slab.specs.Slab.{get};
@@ -7,6 +7,7 @@ ghost use Rattle.name_trie.specs.Trie.{value as value_in, walk, lookup, table_of
 ghost use Rattle.name_trie.specs.Changes.{Turns, Sets, SameLookups, IsBare, IsTidy};
 ghost use Rattle.name_trie.specs.Timed.{timer_at as timer_in, timer_for, stopped, started, IsTimed, size_at as size_in, Recounts, IsCounted};
 
+use crate::becomes::Becomes;
 use crate::change::{Change, change_at, prune_all, take_value};
 use crate::node::{Node, prune, set_value, value_of};
 use slab::Slab;
@@ -184,14 +185,6 @@ fn put_timed<V: Timed + Drop>(nodes: &mut Slab<Node<V>>, timers: &mut Timers, k:
     let new = Some(value.timer());
     set_value(nodes, k, Some(value));
     start(timers, k, new);
-}
-
-/// What a value, or none, becomes.
-pub trait Becomes<V> {
-    ghost becomes: { Self → Option V → V };
-
-    fn apply(self, old: Option<V>) -> V
-        ensures { result ≡ becomes self old };
 }
 
 /// Puts what a node's value, or none, becomes in its place, its timer and its count. Where it has

@@ -7,11 +7,12 @@ ghost use Rattle.name_trie.specs.ByName.{revise, with_value};
 ghost use Rattle.name_trie.specs.Flat.{total};
 ghost use Rattle.name_trie.specs.Taken.{taken, taken_along, changed_along};
 
+use crate::becomes::Becomes;
 use crate::change::Change;
 use crate::held::{held_node, hold, node_held, node_of, place_for, release, release_other};
 use crate::node::{Node, child_of, find, has_child_up_to, prune, value_of};
 use crate::take::{Take, take_along, take_at};
-use crate::timed::{Becomes, Timed, change_all_timed, change_timed, expire, replace_at};
+use crate::timed::{Timed, change_all_timed, change_timed, expire, replace_at};
 use ndn_names::{Component, Name, NameBuf};
 use ndn_tlv::Memory;
 use slab::Slab;

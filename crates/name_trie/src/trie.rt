@@ -1,4 +1,4 @@
-ghost use Rattle.std.specs.Prelude.{◌≡◌, ◌+◌, ◌<◌, ◌≤◌, ◌^◌, ℕ, cond, List, None, Some, length, IsSome, IsOk, map as list_map, IfOk, OnOk, OnErr, is_none, is_some, option_and_then};
+ghost use Rattle.std.specs.Prelude.{◌≡◌, ◌+◌, ◌<◌, ◌≤◌, ◌^◌, ℕ, cond, fold, List, [], None, Some, length, IsSome, IsOk, map as list_map, IfOk, OnOk, OnErr, is_none, is_some, option_and_then};
 ghost use Rattle.std.specs.Option.{option_map};
 ghost use Rattle.std.specs.Ordering.{eq_by_cmp};
 ghost use Rattle.std.specs.FinMap as map;
@@ -9,11 +9,14 @@ ghost use Rattle.ndn_names.specs.View.{components};
 ghost use Rattle.name_trie.specs.ByName.{longest as longest_in, revise, with_value};
 ghost use Rattle.name_trie.specs.Trie.{value as value_in, walk, lookup, Sound};
 ghost use Rattle.name_trie.specs.Changes.{SameLookups, IsBare, IsTidy};
+ghost use Rattle.name_trie.specs.Taken.{taken_along};
 
+use crate::becomes::{Becomes, put_at};
 use crate::change::{Change, change_all, change_at};
 use crate::held::{held_node, release};
 use crate::listing::list;
 use crate::node::{Node, find, longest, make_path, prune, set_value, value_of};
+use crate::see::{See, see_all, see_along};
 use ndn_names::{Name, NameBuf};
 use ndn_tlv::Memory;
 use slab::Slab;
@@ -75,6 +78,30 @@ fn put_value<V: Drop>(
     Ok(is_new)
 }
 
+/// Puts what the value of a name, or none, becomes in its place.
+fn put_value_with<V: Drop, B: Becomes<V> + Drop>(
+    alloc: Global,
+    nodes: &mut Slab<Node<V>>,
+    root: &mut Option<usize>,
+    name: Name<'_>,
+    how: B,
+) -> Result<bool, Memory>
+    requires { Sound (get nodes.old) root.old }
+    ensures sound { Sound (get nodes.new) root.new }
+    ensures added { IfOk result (λ is_new. is_new
+        ≡ is_none (lookup (get nodes.old) root.old (components name.entry))) }
+    ensures ok { OnOk result ((q : List Field) → lookup (get nodes.new) root.new q
+        ≡ cond (eq_by_cmp name_cmp q (components name.entry))
+        (Some (B.becomes how (lookup (get nodes.old) root.old (components name.entry))))
+        (lookup (get nodes.old) root.old q)) }
+    ensures err { OnErr result (SameLookups (get nodes.old) root.old (get nodes.new) root.new) }
+    ensures tidy { (j : ℕ) → IsBare (get nodes.new) j → IsBare (get nodes.old) j }
+    ensures known { IsSome (walk (get nodes.old) root.old (components name.entry)) → IsOk result }
+{
+    let k = make_path(alloc, nodes, root, name)?;
+    Ok(put_at(nodes, k, how))
+}
+
 impl<V: Drop> NameTrie<V> {
     pub fn new(alloc: Global) -> NameTrie<V>
         ensures table { result.table ≡ map.empty }
@@ -109,19 +136,7 @@ impl<V: Drop> NameTrie<V> {
         ensures { option_map (λ v. v.now) result
             ≡ longest_in self.now.table (components name.entry) }
     {
-        let mut steps = 0;
-        longest(&self.nodes, self.root, name, &mut steps)
-    }
-
-    /// As `longest`. Adds one to `steps` for each search among the children of a node.
-    pub fn longest_counted(&self, name: Name<'_>, steps: &mut u64) -> Option<&V>
-        requires { steps.old + 64 < 2 ^ 64 }
-        ensures exact { option_map (λ v. v.now) result
-            ≡ longest_in self.now.table (components name.entry) }
-        ensures counted { steps.old ≤ steps.new }
-        ensures cost { steps.new ≤ steps.old + length (components name.entry) }
-    {
-        longest(&self.nodes, self.root, name, steps)
+        longest(&self.nodes, self.root, name)
     }
 
     /// Sets the value of a name. `Memory` comes only for a name that has none, and changes nothing
@@ -142,7 +157,7 @@ impl<V: Drop> NameTrie<V> {
         result
     }
 
-    /// Prepares one `put` of this name, which is then not refused memory.
+    /// Prepares one `put` or `put_with` of this name, which is then not refused memory.
     pub fn prepare(&mut self, name: Name<'_>) -> Result<(), Memory>
         ensures table { self.new.table ≡ self.old.table }
         ensures ok { OnOk result (self.new.prepared ≡ Some (components name.entry)) }
@@ -153,17 +168,6 @@ impl<V: Drop> NameTrie<V> {
         let k = make_path(self.alloc, &mut self.nodes, &mut self.root, name)?;
         self.held = Some((key, k));
         Ok(())
-    }
-
-    /// Sets the value of a name that has one. What is prepared stays so.
-    pub fn replace(&mut self, name: Name<'_>, value: V)
-        requires { IsSome (map.get self.old.table (components name)) }
-        ensures table { self.new.table ≡ map.insert self.old.table (components name.entry) value }
-        ensures prepared { self.new.prepared ≡ self.old.prepared }
-    {
-        if let Some(k) = find(&self.nodes, self.root, name) {
-            set_value(&mut self.nodes, k, Some(value));
-        }
     }
 
     /// Ends what is prepared.
@@ -218,5 +222,44 @@ impl<V: Drop> NameTrie<V> {
     {
         let kept = held_node(&self.held);
         change_all(&mut self.nodes, &mut self.root, kept, how)
+    }
+
+    /// Puts what a name's value, or none, becomes in its place. Answers whether the name had none.
+    pub fn put_with<B: Becomes<V> + Drop>(&mut self, name: Name<'_>, how: B) -> Result<bool, Memory>
+        ensures added { IfOk result (λ is_new. is_new
+            ≡ is_none (map.get self.old.table (components name.entry))) }
+        ensures ok { OnOk result (self.new.table ≡ map.insert self.old.table
+            (components name.entry)
+            (B.becomes how (map.get self.old.table (components name.entry)))) }
+        ensures err { OnErr result (self.new.table ≡ self.old.table) }
+        ensures ended { self.new.prepared ≡ None }
+        ensures known { IsSome (map.get self.old.table (components name.entry)) → IsOk result }
+        ensures promised { self.old.prepared ≡ Some (components name.entry) → IsOk result }
+    {
+        let held = self.held.take();
+        let result = put_value_with(self.alloc, &mut self.nodes, &mut self.root, name, how);
+        release(&mut self.nodes, &mut self.root, held, None);
+        result
+    }
+}
+
+impl<V: Drop> NameTrie<V> {
+    /// Sees the values of a name's proper prefixes, the shortest first, and of the name. Adds one
+    /// to `steps` for each search among the children of a node.
+    pub fn see_along<S: See<V>>(&self, name: Name<'_>, steps: &mut u64, see: &mut S)
+        requires { steps.old + 64 < 2 ^ 64 }
+        ensures seen { see.new ≡ taken_along S.seen S.seen see.old
+            (map.get self.now.table) [] (components name.entry) }
+        ensures counted { steps.old ≤ steps.new }
+        ensures cost { steps.new ≤ steps.old + length (components name.entry) }
+    {
+        see_along(&self.nodes, self.root, name, steps, see);
+    }
+
+    /// Sees all values, in the canonical order of their names.
+    pub fn see_all<S: See<V>>(&self, see: &mut S)
+        ensures { see.new ≡ fold S.seen see.old (map.values self.now.table) }
+    {
+        see_all(&self.nodes, self.root, see);
     }
 }

@@ -1,4 +1,4 @@
-use Rattle.std.proofs.Common.{◌≡◌, ◌+◌, ◌≤◌, length}
+use Rattle.std.proofs.Common.{◌≡◌, length}
 use Rattle.std.specs.Prelude.{None}
 use Rattle.std.specs.Option.{option_map}
 use Rattle.slab.specs.Slab.{get}
@@ -8,12 +8,7 @@ use Rattle.name_trie.proofs.node.longest.Given as goal
 
 abbrev pub invariant-loop-next : goal.invariant-loop-next
 invariant-loop-next g l =
-    record {
-      left : last_on (get l.nodes) l.next (components_left l.rest) (option_map (λ v. v.now) l.best) ≡ last_on (get l.nodes) l.fn.root (components l.fn.name) None;
-      counted : l.fn.steps ≤ l.steps;
-      cost : l.steps + length (components_left l.rest) ≤ l.fn.steps + length (components l.fn.name);
-      small : length (components l.fn.name) ≤ 64;
-    }
+    last_on (get l.nodes) l.next (components_left l.rest) (option_map (λ v. v.now) l.best) ≡ last_on (get l.nodes) l.fn.root (components l.fn.name) None
 
 abbrev pub decreases-loop-next : goal.decreases-loop-next
 decreases-loop-next g l = length (components_left l.rest)

@@ -8,4 +8,4 @@ use Rattle.name_trie.proofs.trie.NameTrie.longest.Goals as goal
 pub returns : goal.returns
 returns g c =
     let name = components c.args.name in
-    c.longest.ensures.exact ∙ longest_is (get c.self.inside.nodes) c.self.inside.root name c.args.name.spelled.1.0 ∙ ap (λ t. longest t.table name) c.self.view_is
+    c.longest.ensures ∙ longest_is (get c.self.inside.nodes) c.self.inside.root name c.args.name.spelled.1.0 ∙ ap (λ t. longest t.table name) c.self.view_is
