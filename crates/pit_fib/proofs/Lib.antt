@@ -23,3 +23,12 @@ pub mod Expiry
 pub mod Arrivals
 pub mod Answered
 pub mod SatisfiedTables
+pub mod Routes
+pub mod Within
+pub mod FibTables
+pub mod FibEntries
+pub mod FibRoutes
+pub mod FibTally
+pub mod FibLists
+pub mod Inheritance
+pub mod Effective

@@ -15,10 +15,10 @@ use Rattle.ndn_packets.specs.Key.{PlainKey}
 use Rattle.name_trie.specs.ByName.{with_value}
 use Rattle.name_trie.specs.Taken.{changed_along, taken as take_if, taken_along}
 use Rattle.name_trie.proofs.Revised.{equal}
-use Rattle.pit_fib.specs.Faces.{IsRising, has_face}
+use Rattle.pit_fib.specs.Faces.{AtMost64, IsRising, has_face}
 use Rattle.pit_fib.specs.Flags.{flags_of, key_at}
 use Rattle.pit_fib.specs.Kept.{Kept, Row, Rows, changed_row, kept_at, kept_in, living, pending_of, unanswered, with_answered}
-use Rattle.pit_fib.specs.Pit.{AtMost64, HasRecord, WaitsFor}
+use Rattle.pit_fib.specs.Pit.{HasRecord, WaitsFor}
 use Rattle.pit_fib.specs.Prepared.{AreAlive}
 use Rattle.pit_fib.specs.Records.{InRecord, Records, is_alive, no_records, records_at}
 use Rattle.pit_fib.specs.Cause.{Satisfied}

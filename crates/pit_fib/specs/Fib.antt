@@ -1,52 +1,140 @@
--- Routes, as a map from names to costs by face (NFD Developer's Guide, "Forwarding Information
--- Base").
-use Rattle.std.specs.Prelude.{ℕ, ◌<◌, ◌⊎◌, List, Option, None, Some, IsSome, map, unwrap_or, ◌==◌, if◌then◌else◌}
+-- Routes by name: next hops, and registered routes (NFD Developer's Guide, "Forwarding Information
+-- Base", "Routing Information Base").
+use Rattle.std.specs.Prelude.{◌≡◌, ℕ, ◌⊎◌, ◌-◌, List, Bool, not, Option, None, Some, IsSome, refl, unwrap_or, length, nat_lt, nat_le, ◌==◌, ◌&&◌, ◌||◌, if◌then◌else◌}
+use Rattle.std.specs.Coded.{Coded, code_by, coded×, coded_ℕ}
 use Rattle.std.specs.FinMap as map
 use Rattle.ndn_tlv.specs.Element.{Field}
-use Rattle.pit_fib.specs.declared.faces.TheConstants.{MAX_FACES}
-use Rattle.pit_fib.specs.declared.hops.Hop.{Hop}
+use Rattle.name_trie.specs.ByName.{ByName, revise, with_value}
+use Rattle.name_trie.specs.Flat.{total}
+use Rattle.pit_fib.specs.declared.fault.TableFault.{TableFault}
+use Rattle.pit_fib.specs.declared.fault.TableFault.TheVariants.{TooDeep, TableFull}
+use Rattle.pit_fib.specs.declared.fib.TheConstants.{MAX_DEPTH, MAX_ENTRIES, MAX_ROUTES}
+use Rattle.pit_fib.specs.declared.route.Route.{Route}
+use Rattle.pit_fib.specs.declared.route.RouteKey.{RouteKey}
+use Rattle.pit_fib.specs.Faces.{AtMost64}
+use Rattle.pit_fib.specs.Route.{Registered, registered_code, until_due}
 use Rattle.pit_fib.specs.Tables.{ByFace}
-use Rattle.name_trie.specs.ByName.{ByName, longest, revise, with_value}
-use Rattle.pit_fib.specs.Hops.{hops_of}
+
+pub record Entry : Type 0 where
+  -- the costs of the next hops, by face
+  pub hops : ByFace
+  -- the registered routes, by face and origin
+  pub registered : Registered
+
+abbrev pub entry_code : Coded Entry
+entry_code =
+    code_by (ByFace × Registered) (coded× (map.code coded_ℕ coded_ℕ) registered_code)
+    (λ e. (e.hops, e.registered)) (λ p. record { hops = p.0; registered = p.1 }) (λ _. refl)
 
 abbrev pub Routes : Type 0
-Routes = ByName ByFace
+Routes = ByName Entry
 
--- the costs of a name's hops
+-- neither next hops nor routes
+abbrev pub no_entry : Entry
+no_entry = record { hops = map.empty; registered = map.empty }
+
+abbrev pub entry_at : Routes → List Field → Entry
+entry_at routes name = unwrap_or (map.get routes name) no_entry
+
+-- the costs of a name's next hops
 abbrev pub costs_at : Routes → List Field → ByFace
-costs_at routes name = unwrap_or (map.get routes name) map.empty
+costs_at routes name = (entry_at routes name).hops
 
--- an entry has this face, or fewer than 64
-abbrev pub HasRoomFor : ByFace → ℕ → Type 0
-HasRoomFor costs face = IsSome (map.get costs face) ⊎ (map.len costs < MAX_FACES)
+-- the registered routes of a name
+abbrev pub registered_at : Routes → List Field → Registered
+registered_at routes name = (entry_at routes name).registered
 
--- with the hop of this face, of this cost
-abbrev pub with_route : Routes → List Field → ℕ → ℕ → Routes
-with_route routes name face cost =
-    map.insert routes name (map.insert (costs_at routes name) face cost)
+-- how many routes are registered
+abbrev pub route_count : Routes → ℕ
+route_count routes = total (λ e. map.len e.registered) (map.entries routes)
 
--- an entry's costs without that of one face; None where none is left
-abbrev pub without_hop : ℕ → ByFace → Option ByFace
-without_hop face costs =
-    let rest = map.remove costs face in
-    if map.len rest == 0 then None else Some rest
+-- a name has a next hop or a route on this face
+abbrev pub LeadsTo : Routes → ℕ → Type 0
+LeadsTo routes face =
+    (name : List Field) × (IsSome (map.get (costs_at routes name) face)
+    ⊎ ((origin : ℕ) × IsSome (map.get (registered_at routes name)
+    (record { face = face; origin = origin }))))
 
--- without the hop of this face
-abbrev pub without_route : Routes → List Field → ℕ → Routes
-without_route routes name face =
-    with_value routes name (without_hop face (costs_at routes name))
+-- the faces of all next hops and routes, and this one, are at most 64
+abbrev pub HasRoomFor : Routes → ℕ → Type 0
+HasRoomFor routes face = AtMost64 (λ f. LeadsTo routes f ⊎ (f ≡ face))
 
--- without the hops of a face that closed
+-- ---- what changes
+
+-- an entry without next hops and routes goes
+abbrev pub is_vacant : Entry → Bool
+is_vacant e = (map.len e.hops == 0) && (map.len e.registered == 0)
+
+abbrev pub unless_vacant : Entry → Option Entry
+unless_vacant e = if is_vacant e then None else Some e
+
+-- with the next hop of this face, of this cost
+abbrev pub entry_with_hop : ℕ → ℕ → Entry → Entry
+entry_with_hop face cost e = record e { hops = map.insert e.hops face cost }
+
+abbrev pub with_next_hop : Routes → List Field → ℕ → ℕ → Routes
+with_next_hop routes name face cost =
+    map.insert routes name (entry_with_hop face cost (entry_at routes name))
+
+-- without the next hop of this face
+abbrev pub entry_without_hop : ℕ → Entry → Option Entry
+entry_without_hop face e = unless_vacant (record e { hops = map.remove e.hops face })
+
+abbrev pub without_next_hop : Routes → List Field → ℕ → Routes
+without_next_hop routes name face =
+    with_value routes name (entry_without_hop face (entry_at routes name))
+
+-- with a registered route; of one face and origin a name has one route
+abbrev pub entry_with_route : RouteKey → Route → Entry → Entry
+entry_with_route key route e = record e { registered = map.insert e.registered key route }
+
+abbrev pub with_route : Routes → List Field → RouteKey → Route → Routes
+with_route routes name key route =
+    map.insert routes name (entry_with_route key route (entry_at routes name))
+
+-- without a registered route
+abbrev pub entry_without_route : RouteKey → Entry → Option Entry
+entry_without_route key e = unless_vacant (record e { registered = map.remove e.registered key })
+
+abbrev pub without_route : Routes → List Field → RouteKey → Routes
+without_route routes name key =
+    with_value routes name (entry_without_route key (entry_at routes name))
+
+-- without the next hops and routes of a face that closed
+abbrev pub entry_without_face : ℕ → Entry → Option Entry
+entry_without_face face e =
+    unless_vacant (record {
+      hops = map.remove e.hops face;
+      registered = map.retain_keys e.registered (λ k. not (k.face == face));
+    })
+
 abbrev pub without_face : Routes → ℕ → Routes
-without_face routes face = revise (without_hop face) routes
+without_face routes face = revise (entry_without_face face) routes
 
--- the hops of the longest prefix that has an entry
-abbrev pub longest_hops : Routes → List Field → List Hop
-longest_hops routes name = hops_of (unwrap_or (longest routes name) map.empty)
+-- what is left at a moment: routes end at their deadlines
+abbrev pub entry_left_at : ℕ → Entry → Option Entry
+entry_left_at now e =
+    unless_vacant (record e { registered = revise (until_due now) e.registered })
 
-abbrev pub entry_listed : List Field × ByFace → List Field × List Hop
-entry_listed entry = (entry.0, hops_of entry.1)
+abbrev pub left_at : ℕ → Routes → Routes
+left_at now routes = revise (entry_left_at now) routes
 
--- all entries in canonical order
-abbrev pub listed : Routes → List (List Field × List Hop)
-listed routes = map entry_listed (map.entries routes)
+-- how many routes end by a moment
+abbrev pub due_count : ℕ → Routes → ℕ
+due_count now routes = route_count routes - route_count (left_at now routes)
+
+-- ---- what is refused
+
+-- Why the table takes no route of the name: more than 32 components; a new name while 4,096 stand, or
+-- a new route while 16,384 stand.
+abbrev pub is_full_for_route : Routes → List Field → RouteKey → Bool
+is_full_for_route routes name key =
+    (not (map.contains_key routes name) && nat_le MAX_ENTRIES (map.len routes))
+    || (not (map.contains_key (registered_at routes name) key)
+    && nat_le MAX_ROUTES (route_count routes))
+
+abbrev pub route_refusal : Routes → List Field → RouteKey → Option TableFault
+route_refusal routes name key =
+    if nat_lt MAX_DEPTH (length name) then Some TooDeep else (
+    if is_full_for_route routes name key then Some TableFull else
+    None)

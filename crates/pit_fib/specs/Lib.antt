@@ -2,8 +2,13 @@ pub mod Faces
 pub mod Tables
 pub mod Hops
 pub mod Refusal
-pub mod Limits
+pub mod Route
 pub mod Fib
+pub mod Effective
+pub mod Limits
+pub mod Within
+pub mod Inheriting
+pub mod Tally
 pub mod StrategyTable
 pub mod Records
 pub mod Cause

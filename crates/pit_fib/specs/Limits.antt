@@ -1,11 +1,14 @@
 -- The limits of tables by name.
-use Rattle.std.specs.Prelude.{◌≡◌, ◌<◌, ◌≤◌, List, Some, IsSome, length}
+use Rattle.std.specs.Prelude.{◌≡◌, ℕ, ◌<◌, ◌≤◌, List, false, Option, None, Some, IsSome, length}
 use Rattle.std.specs.FinMap as map
 use Rattle.ndn_tlv.specs.Element.{Field}
 use Rattle.name_trie.specs.ByName.{ByName}
-use Rattle.pit_fib.specs.declared.faces.TheConstants.{MAX_FACES}
-use Rattle.pit_fib.specs.declared.fib.TheConstants.{MAX_DEPTH, MAX_ENTRIES}
-use Rattle.pit_fib.specs.Tables.{ByFace}
+use Rattle.name_trie.specs.NameTable.{NameTable}
+use Rattle.pit_fib.specs.declared.fib.TheConstants.{MAX_DEPTH, MAX_ENTRIES, MAX_ROUTES}
+use Rattle.pit_fib.specs.declared.route.Route.{Route}
+use Rattle.pit_fib.specs.declared.route.RouteKey.{RouteKey}
+use Rattle.pit_fib.specs.Faces.{AtMost64}
+use Rattle.pit_fib.specs.Fib.{Entry, LeadsTo, Routes, is_vacant, registered_at, route_count}
 
 -- each name has at most 32 components
 abbrev pub AreShallow : {X : Type 0} → ByName X → Type 0
@@ -17,11 +20,34 @@ pub record IsWithinLimits {X : Type 0} (table : ByName X) : Type 0 where
   pub bounded : map.len table ≤ MAX_ENTRIES
   pub shallow : AreShallow table
 
--- some hops, of at most 64 faces
-abbrev pub AreFew : ByFace → Type 0
-AreFew costs = (0 < map.len costs) × (map.len costs ≤ MAX_FACES)
+-- each name has next hops or routes
+abbrev pub HaveSome : Routes → Type 0
+HaveSome routes =
+    (name : List Field) (e : Entry) → map.get routes name ≡ Some e → is_vacant e ≡ false
 
--- each name has 1 to 64 hops
-abbrev pub HaveFewHops : ByName ByFace → Type 0
-HaveFewHops routes =
-    (name : List Field) (costs : ByFace) → map.get routes name ≡ Some costs → AreFew costs
+-- the limits of a table of routes
+pub record IsWithinFib (routes : Routes) : Type 0 where
+  pub names : IsWithinLimits routes
+  pub some : HaveSome routes
+  pub registered : route_count routes ≤ MAX_ROUTES
+  pub faces : AtMost64 (LeadsTo routes)
+
+-- no route ends before a moment
+abbrev pub NoneEndsBefore : ℕ → Routes → Type 0
+NoneEndsBefore moment routes =
+    (name : List Field) (e : Entry) → map.get routes name ≡ Some e
+    → (key : RouteKey) (r : Route) → map.get e.registered key ≡ Some r
+    → (deadline : ℕ) → r.deadline ≡ Some deadline → moment ≤ deadline
+
+-- there are so many routes, and none ends before a moment
+pub record IsTallied (routes : Routes) (count next_due : ℕ) : Type 0 where
+  pub counted : count ≡ route_count routes
+  pub later : NoneEndsBefore next_due routes
+
+-- there is memory for the routes of the name that is prepared, and one more
+abbrev pub IsRoomFor : Routes → ℕ → Option (List Field) → Type 0
+IsRoomFor routes room None = Unit {0}
+IsRoomFor routes room (Some name) = map.len (registered_at routes name) < room
+
+abbrev pub HasRouteRoom : NameTable Entry → ℕ → Type 0
+HasRouteRoom t room = IsRoomFor t.table room t.prepared

@@ -1,17 +1,16 @@
 -- The pending Interest table: what it answers, what it can take, and the call that may be prepared
 -- (NFD Developer's Guide, "Pending Interest Table", "Incoming Interest Pipeline", "Incoming Nack
 -- Pipeline").
-use Rattle.std.specs.Prelude.{◌≡◌, ◌⊎◌, ℕ, ◌≤◌, List, [], ◌∷◌, length, min, Bool, Option, None, Some, IsSome, IsTrue, false, option_and_then, ◌==◌, ◌&&◌, ◌||◌, not, refl, if◌then◌else◌}
+use Rattle.std.specs.Prelude.{◌≡◌, ◌⊎◌, ℕ, ◌≤◌, List, [], ◌∷◌, min, Bool, Option, None, Some, IsSome, IsTrue, false, option_and_then, ◌==◌, ◌&&◌, ◌||◌, not, refl, if◌then◌else◌}
 use Rattle.std.specs.Coded.{Coded, code_by, coded×, coded_option, coded_ℕ}
-use Rattle.std.specs.List.{AllByRecursion, list_any}
+use Rattle.std.specs.List.{list_any}
 use Rattle.std.specs.FinMap as map
 use Rattle.ndn_tlv.specs.Element.{Field}
 use Rattle.ndn_packets.specs.Answers.{answers}
 use Rattle.ndn_packets.specs.Key.{PlainKey, key_code}
-use Rattle.pit_fib.specs.declared.faces.TheConstants.{MAX_FACES}
 use Rattle.pit_fib.specs.declared.nacked.Nacked.{Nacked}
 use Rattle.pit_fib.specs.declared.nacked.Nacked.TheVariants.{NoPending, Waiting, All}
-use Rattle.pit_fib.specs.Faces.{IsRising}
+use Rattle.pit_fib.specs.Faces.{AtMost64}
 use Rattle.pit_fib.specs.Tables.{ByFace}
 use Rattle.name_trie.specs.ByName.{revise}
 use Rattle.pit_fib.specs.Records.{InRecord, OutRecord, OutRecords, Records, Pending, records_at, records_code, same_nonce}
@@ -37,10 +36,6 @@ abbrev pub HasRecord : Pending → ℕ → Type 0
 HasRecord pending face =
     (key : PlainKey) × (IsSome (map.get (records_at pending key).in_records face)
     ⊎ IsSome (map.get (records_at pending key).out_records face))
-
--- of the faces with this, no more than 64 are different
-abbrev pub AtMost64 : (ℕ → Type 0) → Type 0
-AtMost64 P = (faces : List ℕ) → IsRising faces → AllByRecursion P faces → length faces ≤ MAX_FACES
 
 -- the faces that have a record, and this one, are at most 64
 abbrev pub HasRoomFor : Pending → ℕ → Type 0

@@ -5,13 +5,14 @@ use Rattle.std.specs.Vec.{vec_capacity}
 use Rattle.std.specs.FinMap as map
 use Rattle.ndn_packets.specs.Key.{PlainKey}
 use Rattle.name_trie.specs.NameTable.{NameTable}
+use Rattle.pit_fib.specs.Faces.{AtMost64}
 use Rattle.pit_fib.specs.declared.faces.TheConstants.{MAX_FACES}
 use Rattle.pit_fib.specs.declared.pit.TheConstants.{MAX_PENDING}
 use Rattle.pit_fib.specs.declared.prepared.Ready.{Ready}
 use Rattle.pit_fib.specs.declared.prepared.Prepared.{Prepared}
 use Rattle.pit_fib.specs.Records.{is_alive}
 use Rattle.pit_fib.specs.Kept.{Kept, Row, Rows, kept_at, pending_of}
-use Rattle.pit_fib.specs.Pit.{AtMost64, HasRecord}
+use Rattle.pit_fib.specs.Pit.{HasRecord}
 
 -- the octets for which there is room
 abbrev pub room_of : Option Ready → Option ℕ

@@ -1,4 +1,4 @@
-ghost use Rattle.std.specs.Prelude.{◌≡◌, ◌+◌, ◌<◌, ◌≤◌, true, false, ℕ, Some, length, insert, slice_set, slice_get, slice_index_or, IfOk, IfErr, IsTrue, None, take, filter, not};
+ghost use Rattle.std.specs.Prelude.{◌≡◌, ◌+◌, ◌<◌, ◌≤◌, true, false, ℕ, Some, length, insert, slice_set, slice_get, slice_index_or, IfOk, IfErr, IsTrue, None, take, filter, not, nat_lt, ◌||◌};
 ghost use lib.Dec.{T};
 ghost use Rattle.std.specs.Ordering.{nat_cmp, eq_by_cmp};
 ghost use Rattle.std.specs.FinMap as map;
@@ -87,6 +87,8 @@ impl Used {
         ensures ok { IsTrue result → self.new ≡ map.insert self.old face number }
         ensures full { result ≡ false → (self.new ≡ self.old) × (map.get self.old face ≡ None)
             × (MAX_FACES ≤ map.len self.old) }
+        ensures taken { result
+            ≡ (map.contains_key self.old face || nat_lt (map.len self.old) MAX_FACES) }
     {
         match place_of(&self.places[..self.len], face) {
             Ok(at) => self.places[at] = (face, number),

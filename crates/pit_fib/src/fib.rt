@@ -1,22 +1,30 @@
-ghost use Rattle.std.specs.Prelude.{◌≡◌, ◌≢◌, ◌+◌, ◌^◌, ◌<◌, ◌≤◌, length, None, Some, Err, IsSome, IfOk, IfErr, OnOk, OnErr, MatchOption};
+ghost use Rattle.std.specs.Prelude.{◌≡◌, ◌≢◌, ◌+◌, ◌-◌, ◌^◌, ◌<◌, ◌≤◌, [], length, vec_len, None, Some, Err, IsSome, IsOk, IfOk, IfErr, OnOk, OnErr, MatchOption};
 ghost use Rattle.std.specs.FinMap as map;
+ghost use Rattle.std.specs.Vec.{vec_capacity};
 ghost use Rattle.ndn_names.specs.View.{components};
 ghost use Rattle.pit_fib.specs.declared.faces.TheConstants.{MAX_FACES};
 ghost use Rattle.pit_fib.specs.declared.fault.TableFault.TheVariants as faults;
-ghost use Rattle.pit_fib.specs.declared.fib.TheConstants.{MAX_ENTRIES};
-ghost use Rattle.pit_fib.specs.Hops.{in_order};
-ghost use Rattle.pit_fib.specs.Limits.{AreShallow, HaveFewHops};
+ghost use Rattle.pit_fib.specs.Effective.{effective, listed, longest_hops};
+ghost use Rattle.pit_fib.specs.Faces.{AtMost64};
+ghost use Rattle.pit_fib.specs.Fib.{HasRoomFor, LeadsTo, due_count, is_full_for_route, left_at, registered_at, route_count, route_refusal, with_next_hop, with_route, without_face, without_next_hop, without_route};
+ghost use Rattle.pit_fib.specs.Hops.{hops_of, in_order};
+ghost use Rattle.pit_fib.specs.Limits.{AreShallow, HaveSome, IsTallied};
 ghost use Rattle.pit_fib.specs.Refusal.{refusal};
-ghost use Rattle.pit_fib.specs.Fib.{costs_at, HasRoomFor, with_route, without_route, without_face, longest_hops, listed};
 
-use crate::by_face::Used;
 use crate::fault::TableFault;
+use crate::fib_entry::{
+    Entry, WithHop, WithRoute, WithoutDue, WithoutFace, WithoutHop, WithoutRoute,
+};
 use crate::hops::{Hop, Hops};
-use name_trie::{Change, NameMap};
+use crate::inheriting::Inheriting;
+use crate::route::{Route, RouteKey};
+use crate::tally::{Left, Tally, sooner};
+use name_trie::NameMap;
 use ndn_names::{Name, NameBuf};
 use ndn_tlv::Memory;
 use std::alloc::Global;
 use std::marker::Model;
+use std::mem;
 
 /// The greatest number of names of a table.
 pub const MAX_ENTRIES: usize = 4096;
@@ -24,27 +32,38 @@ pub const MAX_ENTRIES: usize = 4096;
 /// The greatest number of components of a name in a table.
 pub const MAX_DEPTH: usize = 32;
 
-/// Where Interests go: next hops by name (NFD Developer's Guide, "Forwarding Information Base").
-/// It has at most 4,096 names of at most 32 components, each with 1 to 64 next hops.
+/// The greatest number of registered routes.
+pub const MAX_ROUTES: usize = 16384;
+
+/// Where Interests go: next hops and registered routes by name (NFD Developer's Guide, "Forwarding
+/// Information Base", "Routing Information Base"). It has at most 4,096 names of at most 32
+/// components, each with next hops or routes, at most 16,384 routes, and at most 64 faces.
 #[derive(Drop)]
 pub struct Fib {
-    costs: NameMap<Used>,
+    alloc: Global,
+    entries: NameMap<Entry>,
+    // While a call is prepared, memory for the routes of its name and one more.
+    room: Vec<(RouteKey, Route)>,
+    // How many routes are registered.
+    count: usize,
+    // No route ends before this moment.
+    next_due: u64,
 }
 
 impl Model for Fib {
-    ghost use Rattle.std.specs.FinMap as map;
-    ghost use Rattle.std.specs.Coded.{coded_ℕ};
-    ghost use Rattle.pit_fib.specs.Tables.{ByFace};
+    ghost use Rattle.std.specs.Vec.{vec_capacity};
     ghost use Rattle.name_trie.specs.NameTable.{NameTable, name_table_code};
-    ghost use Rattle.pit_fib.specs.Limits.{IsWithinLimits, HaveFewHops};
+    ghost use Rattle.pit_fib.specs.Fib.{Entry as PlainEntry, entry_code};
+    ghost use Rattle.pit_fib.specs.Limits.{HasRouteRoom, IsTallied, IsWithinFib};
 
-    ghost Value = { NameTable ByFace };
+    ghost Value = { NameTable PlainEntry };
 
-    ghost coded = { name_table_code (map.code coded_ℕ coded_ℕ) };
+    ghost coded = { name_table_code entry_code };
 
-    ghost view = { λ f. f.costs };
+    ghost view = { λ f. f.entries };
 
-    ghost invariant = { λ f. IsWithinLimits f.costs.table × HaveFewHops f.costs.table };
+    ghost invariant = { λ f. IsWithinFib f.entries.table × IsTallied f.entries.table f.count f.next_due
+        × HasRouteRoom f.entries (vec_capacity f.room) };
 }
 
 impl Fib {
@@ -54,7 +73,11 @@ impl Fib {
         ensures prepared { result.prepared ≡ None }
     {
         Fib {
-            costs: NameMap::new(alloc),
+            alloc,
+            entries: NameMap::new(alloc),
+            room: Vec::new(alloc),
+            count: 0,
+            next_due: u64::MAX,
         }
     }
 
@@ -63,29 +86,22 @@ impl Fib {
         ensures exact { result ≡ map.len self.now.table }
         ensures bounded { map.len self.now.table ≤ MAX_ENTRIES }
         ensures shallow { AreShallow self.now.table }
-        ensures hops { HaveFewHops self.now.table }
+        ensures some { HaveSome self.now.table }
+        ensures routes { route_count self.now.table ≤ MAX_ROUTES }
+        ensures faces { AtMost64 (LeadsTo self.now.table) }
     {
-        self.costs.len()
+        self.entries.len()
     }
 
-    /// The costs of a name's hops.
-    fn costs_of(&self, name: Name<'_>) -> Used
-        ensures { result ≡ costs_at self.now.table (components name.entry) }
-    {
-        match self.costs.get(name) {
-            Some(costs) => costs.copied(),
-            None => Used::new(),
-        }
-    }
-
-    /// Adds a hop, or sets its cost. The entry has this face, or fewer than 64.
+    /// Adds a next hop, or sets its cost. The faces of all next hops and routes, and this one, are at
+    /// most 64.
     ///
     /// Refuses it by the first fault in the order of `TableFault`, and then changes nothing but
-    /// that no call is prepared any more. `Memory` never comes for a name that has hops.
+    /// that no call is prepared any more. `Memory` never comes for a name that has an entry.
     pub fn add(&mut self, name: Name<'_>, face: u64, cost: u64) -> Result<(), TableFault>
-        requires { HasRoomFor (costs_at self.old.table (components name)) face }
+        requires { HasRoomFor self.old.table face }
         ensures ok { OnOk result
-            (self.new.table ≡ with_route self.old.table (components name.entry) face cost) }
+            (self.new.table ≡ with_next_hop self.old.table (components name.entry) face cost) }
         ensures err { OnErr result (self.new.table ≡ self.old.table) }
         ensures ended { self.new.prepared ≡ None }
         ensures fault { MatchOption (refusal self.old.table (components name.entry))
@@ -96,38 +112,96 @@ impl Fib {
             → IfErr result (λ fault. fault ≢ faults.Memory) }
     {
         if let Some(fault) = self.refusal_of(name) {
-            self.costs.forget_prepared();
+            self.forget_prepared();
             return Err(fault);
         }
-        let mut costs = self.costs_of(name);
-        costs.insert(face, cost);
-        self.costs.put(name, costs)?;
+        let alloc = self.alloc;
+        self.entries.put_with(name, WithHop { alloc, face, cost })?;
         Ok(())
     }
 
-    /// Why the table takes no hop of the name, if it does not.
+    /// Why the table takes no next hop of the name, if it does not.
     pub fn refusal_of(&self, name: Name<'_>) -> Option<TableFault>
         ensures { result ≡ refusal self.now.table (components name.entry) }
     {
         if name.len() > MAX_DEPTH {
             return Some(TableFault::TooDeep);
         }
-        if self.costs.len() < MAX_ENTRIES {
+        if self.entries.len() < MAX_ENTRIES {
             return None;
         }
-        if self.costs.get(name).is_some() {
+        if self.entries.get(name).is_some() {
             return None;
         }
         Some(TableFault::TableFull)
     }
 
-    /// Prepares one `add` of this name, which is then not refused memory.
+    /// Registers a route, which ends at the deadline, if there is one: in milliseconds since 1970.
+    /// Of the flags, 1 is child-inherit and 2 is capture. It takes the place of the name's route of
+    /// this face and origin. The faces of all next hops and routes, and this one, are at most 64.
+    ///
+    /// Refuses it by the first fault in the order of `TableFault`, and then changes nothing but
+    /// that no call is prepared any more. The table is full for a new name while 4,096 stand, and for
+    /// a new route while 16,384 stand.
+    pub fn register(
+        &mut self,
+        name: Name<'_>,
+        face: u64,
+        origin: u64,
+        cost: u64,
+        flags: u64,
+        deadline: Option<u64>,
+    ) -> Result<(), TableFault>
+        requires { HasRoomFor self.old.table face }
+        ensures ok { OnOk result (self.new.table ≡ with_route self.old.table
+            (components name.entry) (record { face = face; origin = origin })
+            (record { cost = cost; flags = flags; deadline = deadline })) }
+        ensures err { OnErr result (self.new.table ≡ self.old.table) }
+        ensures ended { self.new.prepared ≡ None }
+        ensures fault { MatchOption (route_refusal self.old.table (components name.entry)
+            (record { face = face; origin = origin }))
+            (IfErr result (λ fault. fault ≡ faults.Memory)) (λ fault. result ≡ Err fault) }
+        ensures promised { self.old.prepared ≡ Some (components name.entry)
+            → IfErr result (λ fault. fault ≢ faults.Memory) }
+    {
+        if let Some(fault) = self.route_refusal_of(name, face, origin) {
+            self.forget_prepared();
+            return Err(fault);
+        }
+        let route = Route {
+            cost,
+            flags,
+            deadline,
+        };
+        self.put_route(name, RouteKey { face, origin }, route)?;
+        Ok(())
+    }
+
+    /// Why the table takes no route of the name, of this face and origin, if it does not.
+    pub fn route_refusal_of(&self, name: Name<'_>, face: u64, origin: u64) -> Option<TableFault>
+        ensures { result ≡ route_refusal self.now.table (components name.entry)
+            (record { face = face; origin = origin }) }
+    {
+        if name.len() > MAX_DEPTH {
+            return Some(TableFault::TooDeep);
+        }
+        if self.is_full_for_route(name, RouteKey { face, origin }) {
+            return Some(TableFault::TableFull);
+        }
+        None
+    }
+
+    /// Prepares one `add` or one `register` of this name, which is then not refused memory.
     pub fn prepare(&mut self, name: Name<'_>) -> Result<(), Memory>
         ensures table { self.new.table ≡ self.old.table }
         ensures ok { OnOk result (self.new.prepared ≡ Some (components name.entry)) }
         ensures err { OnErr result (self.new.prepared ≡ None) }
     {
-        self.costs.prepare(name)
+        self.entries.forget_prepared();
+        let len = self.routes_of(name);
+        let room = mem::replace(&mut self.room, Vec::new(self.alloc));
+        self.room = enough_room(self.alloc, room, len)?;
+        self.entries.prepare(name)
     }
 
     /// Ends what is prepared.
@@ -135,83 +209,212 @@ impl Fib {
         ensures table { self.new.table ≡ self.old.table }
         ensures prepared { self.new.prepared ≡ None }
     {
-        self.costs.forget_prepared();
+        self.entries.forget_prepared();
     }
 
-    /// Removes the hop of a face, if it is there. An entry without hops goes.
+    /// Removes the next hop of a face, if it is there. An entry without next hops and routes goes.
     pub fn remove(&mut self, name: Name<'_>, face: u64)
-        ensures table { self.new.table ≡ without_route self.old.table (components name.entry) face }
+        ensures table { self.new.table
+            ≡ without_next_hop self.old.table (components name.entry) face }
         ensures prepared { self.new.prepared ≡ self.old.prepared }
     {
-        let mut costs = self.costs_of(name);
-        costs.remove(face);
-        if costs.len() == 0 {
-            self.costs.remove(name);
-        } else {
-            self.costs.replace(name, costs);
-        }
+        self.entries.change(name, &WithoutHop { face });
     }
 
-    /// Removes all hops of a face. Entries without hops go.
+    /// Removes the route of a face and an origin, if it is there. An entry without next hops and
+    /// routes goes.
+    pub fn unregister(&mut self, name: Name<'_>, face: u64, origin: u64)
+        ensures table { self.new.table ≡ without_route self.old.table (components name.entry)
+            (record { face = face; origin = origin }) }
+        ensures prepared { self.new.prepared ≡ self.old.prepared }
+    {
+        let key = RouteKey { face, origin };
+        if self.has_route(name, key) {
+            self.count -= 1;
+        }
+        self.entries.change(name, &WithoutRoute { key });
+    }
+
+    /// Removes the next hops and the routes of a face. Entries without any go.
     pub fn close_face(&mut self, face: u64)
         ensures table { self.new.table ≡ without_face self.old.table face }
         ensures prepared { self.new.prepared ≡ self.old.prepared }
     {
-        self.costs.change_all(&WithoutFace { face });
+        self.entries.change_all(&WithoutFace { face });
+        let tally = tally(&self.entries);
+        self.count = tally.count;
+        self.next_due = tally.next_due;
     }
 
-    /// The next hops of the longest prefix of a name that has an entry. `local` is false in each of
-    /// them until `Hops::mark` sets it.
+    /// Removes the routes that end by a moment, in milliseconds since 1970, and gives their number.
+    pub fn expire(&mut self, now: u64) -> u64
+        ensures table { self.new.table ≡ left_at now self.old.table }
+        ensures prepared { self.new.prepared ≡ self.old.prepared }
+        ensures gone { result ≡ due_count now self.old.table }
+    {
+        if now < self.next_due {
+            return 0;
+        }
+        let before = self.count;
+        self.entries.change_all(&WithoutDue { now });
+        let tally = tally(&self.entries);
+        self.count = tally.count;
+        self.next_due = tally.next_due;
+        (before - tally.count) as u64
+    }
+
+    /// How many routes `expire` at this moment would remove.
+    pub fn due(&self, now: u64) -> u64
+        ensures { result ≡ due_count now self.now.table }
+    {
+        if now < self.next_due {
+            return 0;
+        }
+        let mut left = Left { now, count: 0 };
+        self.entries.see_all(&mut left);
+        (self.count - left.count) as u64
+    }
+
+    /// The effective next hops of the longest prefix of a name that has an entry. `local` is false in
+    /// each of them until `Hops::mark` sets it.
     pub fn longest(&self, name: Name<'_>) -> Hops
         ensures { result ≡ longest_hops self.now.table (components name.entry) }
     {
-        match self.costs.longest(name) {
-            Some(costs) => hops_in_order(costs.as_slice()),
-            None => Hops::new(),
-        }
+        let mut steps = 0;
+        self.longest_counted(name, &mut steps)
     }
 
-    /// As `longest`. Adds one to the steps for each search among the children of a node: at most
-    /// one for each component of the name.
+    /// As `longest`. Adds one to the steps for each search among the children of a node. The clauses
+    /// say that it is at most one for each component of the name.
     pub fn longest_counted(&self, name: Name<'_>, steps: &mut u64) -> Hops
         requires { steps.old + 64 < 2 ^ 64 }
         ensures exact { result ≡ longest_hops self.now.table (components name.entry) }
         ensures counted { steps.old ≤ steps.new }
         ensures cost { steps.new ≤ steps.old + length (components name.entry) }
     {
-        match self.costs.longest_counted(name, steps) {
-            Some(costs) => hops_in_order(costs.as_slice()),
-            None => Hops::new(),
-        }
+        let mut way = Inheriting::new(None);
+        self.entries.see_along(name, steps, &mut way);
+        hops_in_order(way.costs.as_slice())
     }
 
-    /// All names in canonical order, each with its hops.
-    pub fn list(&self, alloc: Global) -> Result<Vec<(NameBuf, Hops)>, Memory>
-        ensures { IfOk result (λ list. list.items ≡ listed self.now.table) }
+    /// All names in canonical order, each with its effective next hops, as they are once the routes
+    /// that end by this moment are gone.
+    pub fn list(&self, alloc: Global, now: u64) -> Result<Vec<(NameBuf, Hops)>, Memory>
+        ensures { IfOk result (λ list. list.items ≡ listed (left_at now self.now.table)) }
     {
         let mut list = Vec::new(alloc);
-        for (name, costs) in self.costs.list(alloc)? {
-            list.push((name, hops_in_order(costs.as_slice())))?;
+        for (name, entry) in self.entries.list(alloc)? {
+            if entry.is_left_at(now) {
+                let hops = self.hops_left_at(name.view(), now);
+                list.push((name, hops))?;
+            }
         }
         Ok(list)
     }
 }
 
-/// Removes the hop of a face. An entry without hops goes.
-#[derive(Drop)]
-struct WithoutFace {
-    face: u64,
+impl Fib {
+    /// How many routes a name has.
+    fn routes_of(&self, name: Name<'_>) -> usize
+        ensures exact { result ≡ map.len (registered_at self.now.table (components name.entry)) }
+        ensures few { result ≤ MAX_ROUTES }
+    {
+        match self.entries.get(name) {
+            Some(entry) => entry.registered.len(),
+            None => 0,
+        }
+    }
+
+    /// Whether a name has a route of this face and origin.
+    fn has_route(&self, name: Name<'_>, key: RouteKey) -> bool
+        ensures exact { result
+            ≡ map.contains_key (registered_at self.now.table (components name.entry)) key }
+    {
+        match self.entries.get(name) {
+            Some(entry) => entry.registered.contains(key),
+            None => false,
+        }
+    }
+
+    /// Whether the table is full for a route of this name, face and origin.
+    fn is_full_for_route(&self, name: Name<'_>, key: RouteKey) -> bool
+        ensures { result ≡ is_full_for_route self.now.table (components name.entry) key }
+    {
+        (self.entries.len() >= MAX_ENTRIES && self.entries.get(name).is_none())
+            || (self.count >= MAX_ROUTES && !self.has_route(name, key))
+    }
+
+    /// Sets a route that nothing refuses.
+    fn put_route(&mut self, name: Name<'_>, key: RouteKey, route: Route) -> Result<(), Memory>
+        requires room { HasRoomFor self.old.table key.face }
+        requires taken { route_refusal self.old.table (components name) key ≡ None }
+        ensures ok { OnOk result
+            (self.new.table ≡ with_route self.old.table (components name.entry) key route) }
+        ensures err { OnErr result (self.new.table ≡ self.old.table) }
+        ensures ended { self.new.prepared ≡ None }
+        ensures promised { self.old.prepared ≡ Some (components name.entry) → IsOk result }
+    {
+        let alloc = self.alloc;
+        let len = self.routes_of(name);
+        let is_new = !self.has_route(name, key);
+        let room = mem::replace(&mut self.room, Vec::new(alloc));
+        let Ok(room) = enough_room(alloc, room, len) else {
+            self.entries.forget_prepared();
+            return Err(Memory);
+        };
+        let how = WithRoute {
+            alloc,
+            key,
+            route,
+            room,
+        };
+        self.entries.put_with(name, how)?;
+        self.count += usize::from(is_new);
+        self.next_due = sooner(self.next_due, route.deadline);
+        Ok(())
+    }
+
+    /// The effective next hops of a name that has an entry, once the routes that end by this moment
+    /// are gone.
+    fn hops_left_at(&self, name: Name<'_>, now: u64) -> Hops
+        requires { IsSome (map.get (left_at now self.now.table) (components name)) }
+        ensures { result
+            ≡ hops_of (effective (left_at now self.now.table) (components name.entry)) }
+    {
+        let mut steps = 0;
+        let mut way = Inheriting::new(Some(now));
+        self.entries.see_along(name, &mut steps, &mut way);
+        hops_in_order(way.costs.as_slice())
+    }
 }
 
-impl Change<Used> for WithoutFace {
-    ghost use Rattle.pit_fib.specs.Fib.{without_hop};
-
-    ghost change = { λ how. without_hop how.face };
-
-    fn apply(&self, mut costs: Used) -> Option<Used> {
-        costs.remove(self.face);
-        if costs.len() == 0 { None } else { Some(costs) }
+/// This memory, where it has room for one route more than so many, or other that has.
+fn enough_room(
+    alloc: Global,
+    room: Vec<(RouteKey, Route)>,
+    len: usize,
+) -> Result<Vec<(RouteKey, Route)>, Memory>
+    requires { len ≤ MAX_ROUTES }
+    ensures ok { IfOk result (λ room. len < vec_capacity room) }
+    ensures promised { len < vec_capacity room → IsOk result }
+{
+    if len < room.capacity() {
+        return Ok(room);
     }
+    Ok(Vec::with_capacity(alloc, len + 1)?)
+}
+
+/// The tally of all entries.
+fn tally(entries: &NameMap<Entry>) -> Tally
+    requires { route_count entries.now.table ≤ MAX_ROUTES }
+    ensures { IsTallied entries.now.table result.count result.next_due }
+{
+    let mut tally = Tally {
+        count: 0,
+        next_due: u64::MAX,
+    };
+    entries.see_all(&mut tally);
+    tally
 }
 
 /// Costs by face, as hops.

@@ -1,4 +1,4 @@
-ghost use Rattle.std.specs.Prelude.{◌≡◌, ◌≤◌, ◌↔◌, ℕ, List, Option, None, IsSome, IsTrue, true, false, length, option_and_then, take};
+ghost use Rattle.std.specs.Prelude.{◌≡◌, ◌≤◌, ◌↔◌, ℕ, List, Option, None, Some, IsSome, IsTrue, true, false, length, option_and_then, take};
 ghost use Rattle.std.specs.Ordering.{nat_cmp};
 ghost use Rattle.std.specs.FinMap as map;
 ghost use Rattle.ndn_tlv.specs.Element.{Field};
@@ -6,6 +6,8 @@ ghost use Rattle.ndn_packets.specs.Key.{PlainKey};
 ghost use Rattle.name_trie.specs.ByName.{ByName, IsLongest, longest, revise};
 ghost use Rattle.pit_fib.specs.Tables.{ByFace};
 ghost use Rattle.pit_fib.specs.declared.hops.Hop.{Hop};
+ghost use Rattle.pit_fib.specs.Effective.{effective, IsEffective};
+ghost use Rattle.pit_fib.specs.Fib.{Routes};
 ghost use Rattle.pit_fib.specs.Hops.{AreInOrder, AreHopsOf, hops_of};
 ghost use Rattle.pit_fib.specs.Records.{Records, Pending, HoldsTheLiving, is_alive, records_at};
 ghost use Rattle.pit_fib.specs.Cause.{Cause, Expires, records_after, with_reason};
@@ -14,7 +16,7 @@ ghost use Rattle.pit_fib.specs.declared.nacked.Nacked.TheVariants as answers;
 ghost use Rattle.pit_fib.specs.Past.{records_of, in_record_of, out_record_of};
 
 use crate::faces::MAX_FACES;
-use crate::fib::{MAX_DEPTH, MAX_ENTRIES};
+use crate::fib::{MAX_DEPTH, MAX_ENTRIES, MAX_ROUTES};
 use crate::pit::MAX_PENDING;
 
 /// Law: of values by name, `longest` gives that of the longest prefix of a name that has one, and
@@ -34,6 +36,14 @@ pub fn hops_are_in_order()
     ensures same { (costs : ByFace) → AreHopsOf costs (hops_of costs) }
     ensures only { (costs : ByFace) (hops : List Hop) → AreInOrder hops → AreHopsOf costs hops
         → hops ≡ hops_of costs }
+{}
+
+/// Law: a face has a cost among the effective next hops of a name exactly where the name has a next
+/// hop of that cost there; or else a route there whose cost is the least of its routes there; or
+/// else, if it has routes and none is a capture route, where it inherits that cost.
+pub fn effective_hops_are_as_defined()
+    ensures { (routes : Routes) (name : List Field) (face cost : ℕ)
+        → (map.get (effective routes name) face ≡ Some cost) ↔ IsEffective routes name face cost }
 {}
 
 /// Law: of a map by face whose values are changed, each face has its own value changed, or none.
@@ -80,8 +90,9 @@ pub fn expiry_may_come_twice()
         ≡ records_after (Expires n) key r }
 {}
 
-/// Law: a table has at most 4,096 names or keys, a route or strategy at most 32 components, and a
-/// key or name at most 64 faces.
+/// Law: a table has at most 4,096 names or keys, a route or strategy at most 32 components, a key or
+/// the table of routes at most 64 faces, and there are at most 16,384 registered routes.
 pub fn table_limits_are_as_promised()
-    ensures { (MAX_FACES ≡ 64) × (MAX_ENTRIES ≡ 4096) × (MAX_DEPTH ≡ 32) × (MAX_PENDING ≡ 4096) }
+    ensures { (MAX_FACES ≡ 64) × (MAX_ENTRIES ≡ 4096) × (MAX_DEPTH ≡ 32) × (MAX_ROUTES ≡ 16384)
+        × (MAX_PENDING ≡ 4096) }
 {}

@@ -10,28 +10,33 @@ mod face_map;
 mod faces;
 mod fault;
 mod fib;
+mod fib_entry;
 mod flags;
 mod hops;
+mod inheriting;
 mod key_buf;
 mod law;
 mod nacked;
 mod pit;
 mod prepared;
+mod registered;
 mod revisions;
 mod room;
+mod route;
 mod row;
 mod slots;
 mod strategy_table;
+mod tally;
 
 pub use by_face::Used;
 pub use faces::{Faces, MAX_FACES};
 pub use fault::{PitFault, TableFault};
-pub use fib::{Fib, MAX_DEPTH, MAX_ENTRIES};
+pub use fib::{Fib, MAX_DEPTH, MAX_ENTRIES, MAX_ROUTES};
 pub use hops::{Hop, Hops};
 pub use law::{
-    expiry_may_come_twice, hops_are_in_order, longest_is_the_longest_prefix,
-    nacks_tell_the_least_reason, records_are_the_past, records_tell_the_table,
-    revising_changes_each_value, table_limits_are_as_promised,
+    effective_hops_are_as_defined, expiry_may_come_twice, hops_are_in_order,
+    longest_is_the_longest_prefix, nacks_tell_the_least_reason, records_are_the_past,
+    records_tell_the_table, revising_changes_each_value, table_limits_are_as_promised,
 };
 pub use nacked::Nacked;
 pub use pit::{MAX_PENDING, Pit};

@@ -6,11 +6,11 @@ ghost use Rattle.ndn_names.specs.View.{components};
 ghost use Rattle.ndn_packets.specs.Key.{plain_key};
 ghost use Rattle.pit_fib.specs.declared.fault.PitFault.TheVariants as faults;
 ghost use Rattle.pit_fib.specs.declared.faces.TheConstants.{MAX_FACES};
-ghost use Rattle.pit_fib.specs.Faces.{IsRising, has_face};
+ghost use Rattle.pit_fib.specs.Faces.{AtMost64, IsRising, has_face};
 ghost use Rattle.pit_fib.specs.Records.{HoldsTheLiving, is_alive, records_at};
 ghost use Rattle.pit_fib.specs.Cause.{Expires, Arrives, SentTo, Satisfied, NackCame, Withdrawn, Removed, Closed, Follows};
 ghost use Rattle.pit_fib.specs.Kept.{answer_in, has_place_in, kept_at, was_sent_in};
-ghost use Rattle.pit_fib.specs.Pit.{AtMost64, HasRecord, HasRoomFor, WaitsFor, loops as loops_in, moments, nacked_answer};
+ghost use Rattle.pit_fib.specs.Pit.{HasRecord, HasRoomFor, WaitsFor, loops as loops_in, moments, nacked_answer};
 
 use crate::arrival::{Arrival, Departure};
 use crate::by_face::Used;

@@ -43,7 +43,8 @@ fn number_at(text: &str) -> Option<(u64, u64)> {
 /// The hops of routes of the name `/`. Face 2 is Local.
 fn hops_in(alloc: Global, routes: &str) -> Option<Hops> {
     let root = NameBuf::new(alloc);
-    let mut hops = routes_in(alloc, routes)?.longest(root.view());
+    let routes = routes_in(alloc, routes)?;
+    let mut hops = routes.read().longest(root.view());
     let mut locals = Faces::new();
     locals.insert(2);
     hops.mark(&locals);

@@ -1,50 +1,40 @@
-//! Routes and strategies by name.
+//! Next hops and strategies by name.
 
-ghost use Rattle.std.specs.Prelude.{List, IfSome, ◌≤◌};
-ghost use Rattle.std.specs.FinMap as map;
-ghost use Rattle.ndn_tlv.specs.Element.{Field};
-ghost use Rattle.pit_fib.specs.Fib.{costs_at};
-
+use crate::route_table::RouteTable;
 use crate::rows::check_rows;
 use ndn_names::NameBuf;
 use pit_fib::*;
 use std::alloc::Global;
 
-/// A table of routes, each a name, a face and a cost, as `/A 3 5`: at most 8 of them.
-pub fn routes_in(alloc: Global, text: &str) -> Option<Fib>
-    ensures { IfSome result (λ fib. (name : List Field) → map.len (costs_at fib.table name) ≤ 8) }
-{
-    let mut fib = Fib::new(alloc);
-    let mut added: usize = 0;
+/// A table of next hops, each a name, a face and a cost, as `/A 3 5`.
+pub fn routes_in(alloc: Global, text: &str) -> Option<RouteTable> {
+    let mut routes = RouteTable::new(alloc);
     for route in text.split_terminator(", ") {
         let (name, hop) = route.split_once(' ')?;
         let (face, cost) = hop.split_once(' ')?;
         let name = NameBuf::from_uri(alloc, name).ok()?;
-        if added == 8 {
-            return None;
-        }
-        fib.add(name.view(), face.parse().ok()?, cost.parse().ok()?)
+        routes
+            .add(name.view(), face.parse().ok()?, cost.parse().ok()?)
             .ok()?;
-        added += 1;
     }
-    Some(fib)
+    Some(routes)
 }
 
 /// Removes what `close` and a face, or `remove`, a name and a face tell.
-fn remove(alloc: Global, fib: &mut Fib, text: &str) -> Option<()> {
+fn remove(alloc: Global, routes: &mut RouteTable, text: &str) -> Option<()> {
     let (call, rest) = text.split_once(' ')?;
     if call == "close" {
-        fib.close_face(rest.parse().ok()?);
+        routes.close_face(rest.parse().ok()?);
         return Some(());
     }
     let (name, face) = rest.split_once(' ')?;
     let name = NameBuf::from_uri(alloc, name).ok()?;
-    fib.remove(name.view(), face.parse().ok()?);
+    routes.remove(name.view(), face.parse().ok()?);
     Some(())
 }
 
 /// Each hop as ` 3@5`.
-fn hops_shown(alloc: Global, hops: &Hops) -> Option<String> {
+pub fn hops_shown(alloc: Global, hops: &Hops) -> Option<String> {
     let mut text = String::new(alloc);
     for i in 0..hops.len() {
         let Hop { face, cost, .. } = hops.get(i)?;
@@ -56,7 +46,7 @@ fn hops_shown(alloc: Global, hops: &Hops) -> Option<String> {
 
 fn list_shown(alloc: Global, fib: &Fib) -> Option<String> {
     let mut text = String::new(alloc);
-    for row in &fib.list(alloc).ok()? {
+    for row in &fib.list(alloc, 0).ok()? {
         let name = row.0.to_uri(alloc).ok()?;
         let hops = hops_shown(alloc, &row.1)?;
         text.push_str(&format!(in alloc; "{name}{hops}, ").ok()?)
@@ -69,15 +59,15 @@ fn list_shown(alloc: Global, fib: &Fib) -> Option<String> {
 fn next_hops(alloc: Global, row: &str) -> Option<String> {
     let (routes, rest) = row.split_once("; ")?;
     let (removal, question) = rest.split_once("; ")?;
-    let mut fib = routes_in(alloc, routes)?;
+    let mut routes = routes_in(alloc, routes)?;
     if removal != "-" {
-        remove(alloc, &mut fib, removal)?;
+        remove(alloc, &mut routes, removal)?;
     }
     if question == "list" {
-        return list_shown(alloc, &fib);
+        return list_shown(alloc, routes.read());
     }
     let name = NameBuf::from_uri(alloc, question).ok()?;
-    hops_shown(alloc, &fib.longest(name.view()))
+    hops_shown(alloc, &routes.read().longest(name.view()))
 }
 
 /// The longest prefix that has hops.
@@ -253,7 +243,7 @@ fn strategies_in_canonical_order(rt: HostRuntime) {
 }
 
 /// A name of so many components `A`.
-fn deep_name(alloc: Global, depth: usize) -> Option<NameBuf> {
+pub fn deep_name(alloc: Global, depth: usize) -> Option<NameBuf> {
     let mut name = NameBuf::new(alloc);
     for _ in 0..depth {
         name.append(8, b"A").ok()?;
@@ -264,9 +254,9 @@ fn deep_name(alloc: Global, depth: usize) -> Option<NameBuf> {
 /// Whether both tables give this answer to a name of so many components.
 fn both_answer(alloc: Global, depth: usize, answer: Result<(), TableFault>) -> Option<bool> {
     let name = deep_name(alloc, depth)?;
-    let mut fib = Fib::new(alloc);
+    let mut routes = RouteTable::new(alloc);
     let mut strategies = StrategyTable::new(alloc);
-    let added = fib.add(name.view(), 1, 0);
+    let added = routes.add(name.view(), 1, 0);
     let set = strategies.set(name.view(), StrategyId::Multicast);
     Some(added == answer && set == answer)
 }
@@ -283,13 +273,13 @@ fn deep_names(rt: HostRuntime) {
 /// The first hop for 64 components `B` where `/` leads to 2 and `/A` to 3, and the searches that it
 /// takes.
 fn deep_hop(alloc: Global) -> Option<(u64, u64, u64)> {
-    let fib = routes_in(alloc, "/ 2 0, /A 3 0")?;
+    let routes = routes_in(alloc, "/ 2 0, /A 3 0")?;
     let mut name = NameBuf::new(alloc);
     for _ in 0..64 {
         name.append(8, b"B").ok()?;
     }
     let mut steps = 0;
-    let hops = fib.longest_counted(name.view(), &mut steps);
+    let hops = routes.read().longest_counted(name.view(), &mut steps);
     let hop = hops.get(0)?;
     Some((hop.face, hop.cost, steps))
 }
@@ -302,21 +292,22 @@ fn deep_lookup(rt: HostRuntime) {
 }
 
 /// A name of one component, of two octets.
-fn numbered(alloc: Global, number: u16) -> Option<NameBuf> {
+pub fn numbered(alloc: Global, number: u16) -> Option<NameBuf> {
     let mut name = NameBuf::new(alloc);
     name.append(8, &number.to_be_bytes()).ok()?;
     Some(name)
 }
 
-/// Whether 4,096 routes find room, the greatest name first, and no further name, but a further hop.
+/// Whether 4,096 names with next hops find room, the greatest name first, and no further name, but
+/// a further hop.
 fn holds_4096_routes(alloc: Global) -> Option<bool> {
-    let mut fib = Fib::new(alloc);
+    let mut routes = RouteTable::new(alloc);
     for number in (0..4096).rev() {
-        fib.add(numbered(alloc, number)?.view(), 1, 0).ok()?;
+        routes.add(numbered(alloc, number)?.view(), 1, 0).ok()?;
     }
-    let further = fib.add(numbered(alloc, 4096)?.view(), 1, 0);
-    let deep = fib.add(deep_name(alloc, 33)?.view(), 1, 0);
-    let known = fib.add(numbered(alloc, 7)?.view(), 1, 9);
+    let further = routes.add(numbered(alloc, 4096)?.view(), 1, 0);
+    let deep = routes.add(deep_name(alloc, 33)?.view(), 1, 0);
+    let known = routes.add(numbered(alloc, 7)?.view(), 1, 9);
     Some(further == Err(TableFault::TableFull) && deep == Err(TableFault::TooDeep) && known.is_ok())
 }
 
@@ -378,12 +369,12 @@ fn sixty_four_faces(rt: HostRuntime) {
 /// Whether a prepared `add` is not refused memory, and a refused preparation leaves the routes.
 fn adds_what_is_prepared(alloc: Global) -> Option<bool> {
     let name = numbered(alloc, 1)?;
-    let mut fib = routes_in(alloc, "/A 3 5")?;
-    if fib.prepare(name.view()).is_err() {
-        return Some(list_shown(alloc, &fib)?.as_str() == "/A 3@5, ");
+    let mut routes = routes_in(alloc, "/A 3 5")?;
+    if routes.prepare(name.view()).is_err() {
+        return Some(list_shown(alloc, routes.read())?.as_str() == "/A 3@5, ");
     }
-    let added = fib.add(name.view(), 1, 0).is_ok();
-    Some(added && list_shown(alloc, &fib)?.as_str() == "/A 3@5, /%00%01 1@0, ")
+    let added = routes.add(name.view(), 1, 0).is_ok();
+    Some(added && list_shown(alloc, routes.read())?.as_str() == "/A 3@5, /%00%01 1@0, ")
 }
 
 /// The same of `set`.

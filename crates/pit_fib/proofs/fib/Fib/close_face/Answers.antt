@@ -1,11 +1,24 @@
 use Rattle.std.proofs.Common.{sym, subst}
-use Rattle.pit_fib.specs.Fib.{Routes, without_hop}
-use Rattle.pit_fib.specs.Limits.{IsWithinLimits, HaveFewHops}
-use Rattle.pit_fib.proofs.Limits.{limits_revise, hops_revise}
+use Rattle.std.specs.Vec.{vec_capacity}
+use Rattle.pit_fib.specs.Fib.{entry_without_face}
+use Rattle.pit_fib.specs.Limits.{IsRoomFor, IsWithinFib}
+use Rattle.pit_fib.proofs.FibEntries.{part_without_face}
+use Rattle.pit_fib.proofs.FibTables.{IsShrunk, shrunk_all, shrunk_room, within_all}
 use Rattle.pit_fib.proofs.fib.Fib.close_face.Goals as goal
+
+pub tally-tally-requires : goal.tally-tally-requires
+tally-tally-requires c =
+    let t = c.self.inside.entries.table in
+    (subst (λ n. IsWithinFib n) (sym c.change_all.ensures.table) (within_all t c.self.invariant.0 (entry_without_face c.args.face) (part_without_face c.args.face))).registered
 
 pub invariant_of-self : goal.invariant_of-self
 invariant_of-self c =
-    let t = c.self.inside.costs.table in
-    subst (λ (t : Routes). IsWithinLimits t × HaveFewHops t) (sym c.change_all.ensures.table)
-    (limits_revise t c.self.invariant.0 (without_hop c.args.face), hops_revise t c.self.invariant.1 c.args.face)
+    let t = c.self.inside.entries.table in
+    let new = c.change_all.new.self.table in
+    let is = c.change_all.ensures.table in
+    let shrunk : IsShrunk t new = subst (λ n. IsShrunk t n) (sym is) (shrunk_all t (entry_without_face c.args.face) (part_without_face c.args.face)) in (
+      subst (λ n. IsWithinFib n) (sym is) (within_all t c.self.invariant.0 (entry_without_face c.args.face) (part_without_face c.args.face)),
+      c.tally-tally.ensures,
+      subst (λ p. IsRoomFor new (vec_capacity c.self.inside.room) p) (sym c.change_all.ensures.prepared)
+          (shrunk_room t new (vec_capacity c.self.inside.room) c.self.inside.entries.prepared shrunk c.self.invariant.2),
+    )

@@ -1,8 +1,13 @@
 use Rattle.std.proofs.Common.{sym, subst}
-use Rattle.pit_fib.specs.Fib.{Routes}
-use Rattle.pit_fib.specs.Limits.{IsWithinLimits, HaveFewHops}
-use Rattle.pit_fib.proofs.Limits.{limits_empty, hops_empty}
+use Rattle.std.specs.Vec.{vec_capacity}
+use Rattle.pit_fib.specs.Limits.{IsRoomFor, IsTallied, IsWithinFib}
+use Rattle.pit_fib.proofs.FibTables.{count_empty, later_empty, within_empty}
 use Rattle.pit_fib.proofs.fib.Fib.new.Goals as goal
 
 pub invariant_of-result : goal.invariant_of-result
-invariant_of-result c = subst (λ (t : Routes). IsWithinLimits t × HaveFewHops t) (sym c.new.ensures.table) (limits_empty, hops_empty)
+invariant_of-result c =
+    let is = c.new.ensures.table in (
+      subst (λ t. IsWithinFib t) (sym is) within_empty,
+      subst (λ t. IsTallied t 0 18446744073709551615) (sym is) (record { counted = sym count_empty; later = later_empty 18446744073709551615 }),
+      subst (λ p. IsRoomFor c.new.result.table (vec_capacity c.new-2.result) p) (sym c.new.ensures.prepared) tt,
+    )

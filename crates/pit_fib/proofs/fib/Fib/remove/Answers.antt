@@ -1,48 +1,35 @@
-use Rattle.std.proofs.Common.{◌≡◌, inl, ℕ, ◌-◌, Bool, true, false, cond, nat_cmp, refl, sym, ap, subst, arith, ◌∙◌, rules}
-use Rattle.std.specs.Prelude.{Option, None, Some, IsSome, unwrap_or}
-use Rattle.std.specs.Cmp.{nat_cmp_total}
-use Rattle.std.specs.FinMap.{get, len, remove, contains_key, empty, len-remove, len-empty}
+use Rattle.std.proofs.Common.{◌≡◌, sym, ap, subst, ◌∙◌, arith}
+use Rattle.std.specs.FinMap.{remove}
+use Rattle.std.specs.Vec.{vec_capacity}
 use Rattle.ndn_names.specs.View.{components}
-use Rattle.pit_fib.specs.Tables.{ByFace}
-use Rattle.pit_fib.specs.Fib.{Routes}
-use Rattle.pit_fib.specs.Limits.{IsWithinLimits, AreFew, HaveFewHops}
-use Rattle.pit_fib.proofs.Limits.{limits_insert, limits_remove, hops_insert, hops_remove}
+use Rattle.name_trie.specs.ByName.{with_value}
+use Rattle.pit_fib.specs.Fib.{costs_at, entry_without_hop, registered_at, route_count, without_next_hop}
+use Rattle.pit_fib.specs.Limits.{IsRoomFor, IsWithinFib}
+use Rattle.pit_fib.proofs.FibEntries.{change_is, count_changed, no_hop, part_without_hop}
+use Rattle.pit_fib.proofs.FibTables.{IsShrunk, shrunk_later, shrunk_one, shrunk_room, within_one}
 use Rattle.pit_fib.proofs.fib.Fib.remove.Goals as goal
 
-less_than_none : (b : Bool) (n : ℕ) → n ≡ 0 → cond b (n - 1) n ≡ 0
-less_than_none true n zero = omega arith
-less_than_none false n zero = zero
-
--- an entry of which costs outlive the removal of a face
-stands : (o : Option ByFace) (face : ℕ) → (len (remove (unwrap_or o empty) face) ≡ 0 → ⊥) → IsSome o
-stands None face some =
-    absurd (some (len-remove nat_cmp_total (empty {X = ℕ}) face ∙ less_than_none (contains_key (empty {X = ℕ} {R = nat_cmp}) face) _ (len-empty nat_cmp ℕ)))
-stands (Some costs) face some = refl
-
-pub replace-requires : goal.replace-requires
-replace-requires c =
+pub returns-clause-table : goal.returns-clause-table
+returns-clause-table c =
+    let t = c.self.inside.entries.table in
     let name = components c.args.name in
-    subst (λ t. IsSome (get t.table name)) (sym c.self.view_is) (stands (get c.args.self.now.table name) c.args.face (λ none.
-    c.if-len-eq0.false (c.len.ensures.exact ∙ ap (λ (m : ByFace). len m) (c.remove.ensures ∙ ap (λ (m : ByFace). remove m c.args.face) c.costs_of-costs.ensures) ∙ none)))
-
-pub returns-then-len-eq0-clause-table : goal.returns-then-len-eq0-clause-table
-returns-then-len-eq0-clause-table c = search rules
-
-pub returns-then-len-eq0-clause-prepared : goal.returns-then-len-eq0-clause-prepared
-returns-then-len-eq0-clause-prepared c = search rules
+    c.change.ensures.table ∙ ap (with_value t name) (change_is (entry_without_hop c.args.face) t name (no_hop c.args.face))
+    ∙ ap (λ s. without_next_hop s.table name c.args.face) c.self.view_is
 
 pub invariant_of-self : goal.invariant_of-self
 invariant_of-self c =
-    let t = c.self.inside.costs.table in
+    let t = c.self.inside.entries.table in
+    let new = c.change.new.self.table in
     let name = components c.args.name in
-    subst (λ (r : Routes). IsWithinLimits r × HaveFewHops r) (sym c.remove-then-len-eq0.ensures.table) (limits_remove t c.self.invariant.0 name, hops_remove t c.self.invariant.1 name)
-
-pub invariant_of-self-else-len-eq0 : goal.invariant_of-self-else-len-eq0
-invariant_of-self-else-len-eq0 c =
-    let t = c.self.inside.costs.table in
-    let name = components c.args.name in
-    let some = subst (λ t. IsSome (get t.table name)) (sym c.self.view_is) (stands (get c.args.self.now.table name) c.args.face (λ none.
-    c.if-len-eq0.false (c.len.ensures.exact ∙ ap (λ (m : ByFace). len m) (c.remove.ensures ∙ ap (λ (m : ByFace). remove m c.args.face) c.costs_of-costs.ensures) ∙ none))) in
-    let few : AreFew c.remove.new.self = (let count = c.len.ensures.exact in let most = c.len.ensures.small in let ne = c.if-len-eq0.false in (omega (arith, count, ne), omega (arith, count, most))) in
-    subst (λ (r : Routes). IsWithinLimits r × HaveFewHops r) (sym c.replace.ensures.table)
-    (limits_insert t c.self.invariant.0 name c.remove.new.self (c.self.invariant.0.shallow name some) (inl some), hops_insert t c.self.invariant.1 name c.remove.new.self few)
+    let g = entry_without_hop c.args.face in
+    let inside = c.self.invariant in
+    let is = c.change.ensures.table in
+    let shrunk : IsShrunk t new = subst (λ n. IsShrunk t n) (sym is) (shrunk_one t inside.0 name g (part_without_hop c.args.face)) in
+    let left : new ≡ without_next_hop t name c.args.face = is ∙ ap (with_value t name) (change_is g t name (no_hop c.args.face)) in
+    let count = count_changed t name (record { hops = remove (costs_at t name) c.args.face; registered = registered_at t name }) in
+    let same : route_count new ≡ route_count t = (let now = ap (λ r. route_count r) left in omega (arith, now, count)) in (
+      subst (λ n. IsWithinFib n) (sym is) (within_one t inside.0 name g (part_without_hop c.args.face)),
+      record { counted = inside.1.counted ∙ sym same; later = shrunk_later t new c.self.inside.next_due shrunk inside.1.later },
+      subst (λ p. IsRoomFor new (vec_capacity c.self.inside.room) p) (sym c.change.ensures.prepared)
+          (shrunk_room t new (vec_capacity c.self.inside.room) c.self.inside.entries.prepared shrunk inside.2),
+    )

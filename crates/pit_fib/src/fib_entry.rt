@@ -1,0 +1,193 @@
+ghost use Rattle.std.specs.Prelude.{◌≡◌, is_some, unwrap_or};
+ghost use Rattle.std.specs.Vec.{vec_capacity};
+ghost use Rattle.pit_fib.specs.Fib.{entry_left_at, no_entry, unless_vacant};
+ghost use Rattle.pit_fib.specs.Within.{entry_with_hop_within, entry_with_route_within};
+
+use crate::by_face::Used;
+use crate::registered::Registered;
+use crate::route::{Route, RouteKey};
+use crate::tally::left_of;
+use name_trie::{Becomes, Change};
+use std::alloc::Global;
+use std::marker::Model;
+
+/// What a name of the table of routes has: next hops, and registered routes.
+#[derive(Drop)]
+pub struct Entry {
+    pub hops: Used,
+    pub registered: Registered,
+}
+
+impl Model for Entry {
+    ghost use Rattle.pit_fib.specs.Fib.{Entry as PlainEntry, entry_code};
+
+    ghost Value = { PlainEntry };
+
+    ghost coded = { entry_code };
+
+    ghost view = { λ e. record { hops = e.hops; registered = e.registered } };
+}
+
+impl Entry {
+    /// Neither next hops nor routes.
+    fn new(alloc: Global) -> Entry
+        ensures { result ≡ no_entry }
+    {
+        Entry {
+            hops: Used::new(),
+            registered: Registered::new(alloc),
+        }
+    }
+
+    /// The entry, if there is one, or an empty one.
+    fn or_new(alloc: Global, entry: Option<Entry>) -> Entry
+        ensures { result ≡ unwrap_or entry no_entry }
+    {
+        match entry {
+            Some(entry) => entry,
+            None => Entry::new(alloc),
+        }
+    }
+
+    /// Whether it has next hops, or routes that do not end by this moment.
+    pub fn is_left_at(&self, now: u64) -> bool
+        ensures { result ≡ is_some (entry_left_at now self.now) }
+    {
+        self.hops.len() > 0 || left_of(self.registered.rows(), now) > 0
+    }
+
+    /// The entry, unless it has neither next hops nor routes.
+    fn unless_vacant(self) -> Option<Entry>
+        ensures { result ≡ unless_vacant self }
+    {
+        if self.hops.len() == 0 && self.registered.len() == 0 {
+            None
+        } else {
+            Some(self)
+        }
+    }
+}
+
+/// Sets the next hop of a face.
+#[derive(Drop)]
+pub struct WithHop {
+    pub alloc: Global,
+    pub face: u64,
+    pub cost: u64,
+}
+
+impl Becomes<Entry> for WithHop {
+    ghost use Rattle.std.specs.Prelude.{unwrap_or};
+    ghost use Rattle.pit_fib.specs.Fib.{no_entry};
+    ghost use Rattle.pit_fib.specs.Within.{entry_with_hop_within};
+
+    ghost becomes = { λ how old. entry_with_hop_within how.face how.cost (unwrap_or old no_entry) };
+
+    fn apply(self, old: Option<Entry>) -> Entry
+        ensures { result
+            ≡ entry_with_hop_within self.face self.cost (unwrap_or old no_entry) }
+    {
+        let mut entry = Entry::or_new(self.alloc, old);
+        entry.hops.insert(self.face, self.cost);
+        entry
+    }
+}
+
+/// Sets the registered route of a face and an origin, in this memory.
+#[derive(Drop)]
+pub struct WithRoute {
+    pub alloc: Global,
+    pub key: RouteKey,
+    pub route: Route,
+    pub room: Vec<(RouteKey, Route)>,
+}
+
+impl Becomes<Entry> for WithRoute {
+    ghost use Rattle.std.specs.Prelude.{unwrap_or};
+    ghost use Rattle.std.specs.Vec.{vec_capacity};
+    ghost use Rattle.pit_fib.specs.Fib.{no_entry};
+    ghost use Rattle.pit_fib.specs.Within.{entry_with_route_within};
+
+    ghost becomes = { λ how old. entry_with_route_within (vec_capacity how.room)
+        how.key how.route (unwrap_or old no_entry) };
+
+    fn apply(self, old: Option<Entry>) -> Entry
+        ensures { result ≡ entry_with_route_within (vec_capacity self.room)
+            self.key self.route (unwrap_or old no_entry) }
+    {
+        let entry = Entry::or_new(self.alloc, old);
+        Entry {
+            hops: entry.hops,
+            registered: entry.registered.with(self.key, self.route, self.room),
+        }
+    }
+}
+
+/// Removes the next hop of a face.
+#[derive(Drop)]
+pub struct WithoutHop {
+    pub face: u64,
+}
+
+impl Change<Entry> for WithoutHop {
+    ghost use Rattle.pit_fib.specs.Fib.{entry_without_hop};
+
+    ghost change = { λ how. entry_without_hop how.face };
+
+    fn apply(&self, mut entry: Entry) -> Option<Entry> {
+        entry.hops.remove(self.face);
+        entry.unless_vacant()
+    }
+}
+
+/// Removes the registered route of a face and an origin.
+#[derive(Drop)]
+pub struct WithoutRoute {
+    pub key: RouteKey,
+}
+
+impl Change<Entry> for WithoutRoute {
+    ghost use Rattle.pit_fib.specs.Fib.{entry_without_route};
+
+    ghost change = { λ how. entry_without_route how.key };
+
+    fn apply(&self, mut entry: Entry) -> Option<Entry> {
+        entry.registered.remove(self.key);
+        entry.unless_vacant()
+    }
+}
+
+/// Removes the next hop and the registered routes of a face.
+#[derive(Drop)]
+pub struct WithoutFace {
+    pub face: u64,
+}
+
+impl Change<Entry> for WithoutFace {
+    ghost use Rattle.pit_fib.specs.Fib.{entry_without_face};
+
+    ghost change = { λ how. entry_without_face how.face };
+
+    fn apply(&self, mut entry: Entry) -> Option<Entry> {
+        entry.hops.remove(self.face);
+        entry.registered.remove_face(self.face);
+        entry.unless_vacant()
+    }
+}
+
+/// Removes the registered routes that end by a moment.
+#[derive(Drop)]
+pub struct WithoutDue {
+    pub now: u64,
+}
+
+impl Change<Entry> for WithoutDue {
+    ghost use Rattle.pit_fib.specs.Fib.{entry_left_at};
+
+    ghost change = { λ how. entry_left_at how.now };
+
+    fn apply(&self, mut entry: Entry) -> Option<Entry> {
+        entry.registered.expire(self.now);
+        entry.unless_vacant()
+    }
+}

@@ -1,0 +1,132 @@
+ghost use Rattle.std.specs.Prelude.{◌≡◌, true, false};
+ghost use Rattle.std.specs.FinMap as map;
+ghost use Rattle.pit_fib.specs.Effective.{lesser};
+ghost use Rattle.pit_fib.specs.Inheriting.{counts_at, counts_for, has_capture_at, has_route_at, laid_over, least_within};
+ghost use Rattle.pit_fib.specs.Within.{set_within};
+
+use crate::by_face::Used;
+use crate::fib_entry::Entry;
+use crate::route::{Route, RouteKey};
+use name_trie::See;
+
+/// What is known on the way along a name, at the last entry that was seen: its effective next hops,
+/// and what the names below it inherit (NFD Developer's Guide, "Routing Information Base").
+#[derive(Drop)]
+pub struct Inheriting {
+    /// Where there is a moment, routes that end by then do not count.
+    pub at: Option<u64>,
+    pub inherited: Used,
+    pub costs: Used,
+}
+
+impl Inheriting {
+    /// Before the first entry.
+    pub fn new(at: Option<u64>) -> Inheriting
+        ensures { result ≡ record { at = at; inherited = map.empty; costs = map.empty } }
+    {
+        Inheriting {
+            at,
+            inherited: Used::new(),
+            costs: Used::new(),
+        }
+    }
+}
+
+impl See<Entry> for Inheriting {
+    ghost use Rattle.pit_fib.specs.Inheriting.{past_entry};
+
+    ghost seen = { past_entry };
+
+    fn see(&mut self, entry: &Entry) {
+        if entry.registered.len() == 0 {
+            self.costs = entry.hops.copied();
+            return;
+        }
+        let rows = entry.registered.rows();
+        let is_open = !has_capture_at(rows, self.at);
+        let above = if is_open {
+            self.inherited.copied()
+        } else {
+            Used::new()
+        };
+        let own = if is_open && has_route_at(rows, self.at) {
+            self.inherited.copied()
+        } else {
+            Used::new()
+        };
+        self.inherited = laid_over(&least_within(rows, self.at, true), above);
+        self.costs = laid_over(
+            &entry.hops,
+            laid_over(&least_within(rows, self.at, false), own),
+        );
+    }
+}
+
+/// Whether a route counts, where those that end by a moment do not.
+fn counts_at(route: Route, at: Option<u64>) -> bool
+    ensures { result ≡ counts_at at route }
+{
+    match at {
+        None => true,
+        Some(now) => !route.is_due(now),
+    }
+}
+
+/// Whether some route counts.
+fn has_route_at(rows: &[(RouteKey, Route)], at: Option<u64>) -> bool
+    ensures { result ≡ has_route_at at rows.now }
+{
+    for row in rows {
+        if counts_at(row.1, at) {
+            return true;
+        }
+    }
+    false
+}
+
+/// Whether some route counts that is a capture route.
+fn has_capture_at(rows: &[(RouteKey, Route)], at: Option<u64>) -> bool
+    ensures { result ≡ has_capture_at at rows.now }
+{
+    for row in rows {
+        if counts_at(row.1, at) && row.1.is_capture() {
+            return true;
+        }
+    }
+    false
+}
+
+/// Of each face the least cost of the routes that count, for the name or for those below it.
+fn least_within(rows: &[(RouteKey, Route)], at: Option<u64>, below: bool) -> Used
+    ensures { result ≡ least_within at below rows.now }
+{
+    let mut costs = Used::new();
+    for row in rows {
+        if counts_at(row.1, at) && (!below || row.1.is_child_inherit()) {
+            set_lesser(&mut costs, row.0.face, row.1.cost);
+        }
+    }
+    costs
+}
+
+/// Sets the cost of a face, where it has none or a greater one.
+fn set_lesser(costs: &mut Used, face: u64, cost: u64)
+    ensures { costs.new ≡ set_within costs.old face (lesser cost (map.get costs.old face)) }
+{
+    let lesser = match costs.get(face) {
+        None => cost,
+        Some(other) => cost.min(other),
+    };
+    costs.insert(face, lesser);
+}
+
+/// The first costs, and of faces that have none there the second.
+fn laid_over(first: &Used, second: Used) -> Used
+    ensures { result ≡ laid_over first.now second }
+{
+    let mut costs = second;
+    for row in first.as_slice() {
+        costs.insert(row.0, row.1);
+    }
+    costs
+}

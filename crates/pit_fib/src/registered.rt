@@ -1,0 +1,138 @@
+ghost use Rattle.std.specs.Prelude.{◌≡◌, ◌+◌, ◌<◌, ◌≤◌, ℕ, length, insert, slice_set, slice_index_or, IfOk, IfErr, Some, None, not, ◌==◌, vec_len};
+ghost use lib.Dec.{T};
+ghost use Rattle.std.specs.FinMap as map;
+ghost use Rattle.std.specs.Vec.{vec_capacity};
+ghost use Rattle.name_trie.specs.ByName.{revise};
+ghost use Rattle.pit_fib.specs.Within.{with_route_within};
+ghost use Rattle.pit_fib.specs.Route.{route_cmp, until_due};
+
+use crate::route::{Route, RouteKey};
+use std::alloc::Global;
+use std::cmp::Ordering;
+use std::marker::Model;
+
+/// The registered routes of a name, by face and then by origin.
+#[derive(Drop)]
+pub struct Registered {
+    rows: Vec<(RouteKey, Route)>,
+}
+
+impl Model for Registered {
+    ghost use lib.Dec.{T};
+    ghost use Rattle.std.specs.FinMap as map;
+    ghost use Rattle.pit_fib.specs.Route.{Registered as PlainRegistered, registered_code, route_cmp};
+
+    ghost Value = { PlainRegistered };
+
+    ghost coded = { registered_code };
+
+    ghost view = { λ r. map.from_sorted r.rows.items };
+
+    ghost invariant = { λ r. T (map.is_sorted route_cmp r.rows.items) };
+}
+
+impl Registered {
+    /// No routes.
+    pub fn new(alloc: Global) -> Registered
+        ensures { result ≡ map.empty }
+    {
+        Registered {
+            rows: Vec::new(alloc),
+        }
+    }
+
+    /// The routes in their order.
+    pub fn rows(&self) -> &[(RouteKey, Route)]
+        ensures rows { result.now ≡ map.entries self.now }
+        ensures sorted { T (map.is_sorted route_cmp result.now) }
+    {
+        &self.rows
+    }
+
+    /// The number of routes.
+    pub fn len(&self) -> usize
+        ensures { result ≡ map.len self.now }
+    {
+        self.rows().len()
+    }
+
+    /// Whether there is a route of this face and origin.
+    pub fn contains(&self, key: RouteKey) -> bool
+        ensures { result ≡ map.contains_key self.now key }
+    {
+        place_of(self.rows(), key).is_ok()
+    }
+
+    /// These routes with this one, in this memory. Where it has no room for one route more than
+    /// these, they stay as they are.
+    pub fn with(self, key: RouteKey, route: Route, room: Vec<(RouteKey, Route)>) -> Registered
+        ensures { result ≡ with_route_within (vec_capacity room) key route self }
+    {
+        if room.capacity() <= self.rows.len() {
+            return self;
+        }
+        let mut old = self.rows;
+        let mut rows = room;
+        rows.clear();
+        rows.append(&mut old).unwrap_or(());
+        put(&mut rows, key, route);
+        Registered { rows }
+    }
+
+    /// Removes the route of this face and origin.
+    pub fn remove(&mut self, key: RouteKey)
+        ensures { self.new ≡ map.remove self.old key }
+    {
+        self.rows
+            .retain(|row| row.0.compare(key) != Ordering::Equal);
+    }
+
+    /// Removes the routes of a face.
+    pub fn remove_face(&mut self, face: u64)
+        ensures { self.new ≡ map.retain_keys self.old (λ k. not (k.face == face)) }
+    {
+        self.rows.retain(|row| row.0.face != face);
+    }
+
+    /// Removes the routes that end by this moment.
+    pub fn expire(&mut self, now: u64)
+        ensures { self.new ≡ revise (until_due now) self.old }
+    {
+        self.rows.retain(|row| !row.1.is_due(now));
+    }
+}
+
+/// Puts a route in its place, for which there is room.
+fn put(rows: &mut Vec<(RouteKey, Route)>, key: RouteKey, route: Route)
+    requires sorted { T (map.is_sorted route_cmp rows.old.items) }
+    requires room { vec_len rows.old < vec_capacity rows.old }
+    ensures { rows.new.items ≡ map.put route_cmp key route rows.old.items }
+{
+    match place_of(rows, key) {
+        Ok(at) => rows[at] = (key, route),
+        Err(at) => rows.insert(at, (key, route)).unwrap_or(()),
+    }
+}
+
+/// Where the route of this face and origin is, or where it would go.
+fn place_of(rows: &[(RouteKey, Route)], key: RouteKey) -> Result<usize, usize>
+    requires { T (map.is_sorted route_cmp rows.now) }
+    ensures found { IfOk result (λ at. (at < length rows.now)
+        × ((route : Route) → map.put route_cmp key route rows.now
+        ≡ slice_set rows.now at (key, route))
+        × ((row : RouteKey × Route) → row ≡ slice_index_or rows.now at row
+        → map.find route_cmp key rows.now ≡ Some row.1)) }
+    ensures absent { IfErr result (λ at. (at ≤ length rows.now)
+        × ((route : Route) → map.put route_cmp key route rows.now
+        ≡ insert rows.now at (key, route))
+        × (map.find route_cmp key rows.now ≡ None)) }
+{
+    for (at, row) in rows.iter().enumerate() {
+        match key.compare(row.0) {
+            Ordering::Greater => {}
+            Ordering::Equal => return Ok(at),
+            Ordering::Less => return Err(at),
+        }
+    }
+    Err(rows.len())
+}

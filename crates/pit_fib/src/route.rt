@@ -1,0 +1,63 @@
+//! Registered routes.
+
+ghost use Rattle.std.specs.Prelude.{◌≡◌};
+ghost use Rattle.pit_fib.specs.Route.{is_capture, is_child_inherit, is_due, route_cmp};
+
+use std::cmp::Ordering;
+
+/// The face and the origin of a registered route: a name has one route of each pair at most (NFD
+/// Management, "RIB Management").
+#[derive(Clone, Copy, Debug, PartialEq, Eq)]
+pub struct RouteKey {
+    pub face: u64,
+    /// Who asked for it, as a number.
+    pub origin: u64,
+}
+
+impl RouteKey {
+    /// By face, then by origin.
+    pub fn compare(self, other: RouteKey) -> Ordering
+        ensures { result ≡ route_cmp self other }
+    {
+        match self.face.cmp(&other.face) {
+            Ordering::Equal => self.origin.cmp(&other.origin),
+            unequal => unequal,
+        }
+    }
+}
+
+/// What a registered route says (NFD Management, "RIB Management").
+#[derive(Clone, Copy, Debug, PartialEq, Eq)]
+pub struct Route {
+    pub cost: u64,
+    /// 1 is child-inherit and 2 is capture; other bits have no effect.
+    pub flags: u64,
+    /// When it ends, in milliseconds since 1970, if it does.
+    pub deadline: Option<u64>,
+}
+
+impl Route {
+    /// Whether longer names inherit it.
+    pub fn is_child_inherit(self) -> bool
+        ensures { result ≡ is_child_inherit self }
+    {
+        self.flags % 2 == 1
+    }
+
+    /// Whether its name inherits nothing, and longer names nothing of shorter ones than this.
+    pub fn is_capture(self) -> bool
+        ensures { result ≡ is_capture self }
+    {
+        self.flags / 2 % 2 == 1
+    }
+
+    /// Whether it ends by this moment.
+    pub fn is_due(self, now: u64) -> bool
+        ensures { result ≡ is_due now self }
+    {
+        match self.deadline {
+            None => false,
+            Some(deadline) => deadline <= now,
+        }
+    }
+}

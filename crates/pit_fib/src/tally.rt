@@ -1,0 +1,78 @@
+ghost use Rattle.std.specs.Prelude.{◌≡◌};
+ghost use Rattle.pit_fib.specs.Tally.{earliest, left_of, sooner};
+
+use crate::fib_entry::Entry;
+use crate::route::{Route, RouteKey};
+use name_trie::See;
+
+/// How many routes are registered, and the first moment at which one of them ends.
+#[derive(Drop)]
+pub struct Tally {
+    pub count: usize,
+    /// The greatest moment, where none ends before it.
+    pub next_due: u64,
+}
+
+impl See<Entry> for Tally {
+    ghost use Rattle.pit_fib.specs.Tally.{tallied};
+
+    ghost seen = { tallied };
+
+    fn see(&mut self, entry: &Entry) {
+        let rows = entry.registered.rows();
+        self.count = self.count.saturating_add(rows.len());
+        self.next_due = earliest(rows, self.next_due);
+    }
+}
+
+/// How many routes do not end by a moment.
+#[derive(Drop)]
+pub struct Left {
+    pub now: u64,
+    pub count: usize,
+}
+
+impl See<Entry> for Left {
+    ghost use Rattle.pit_fib.specs.Tally.{left_after};
+
+    ghost seen = { left_after };
+
+    fn see(&mut self, entry: &Entry) {
+        let left = left_of(entry.registered.rows(), self.now);
+        self.count = self.count.saturating_add(left);
+    }
+}
+
+/// The least of this moment and those at which the routes end.
+fn earliest(rows: &[(RouteKey, Route)], moment: u64) -> u64
+    ensures { result ≡ earliest moment rows.now }
+{
+    let mut least = moment;
+    for row in rows {
+        least = sooner(least, row.1.deadline);
+    }
+    least
+}
+
+/// The lesser of a moment and a deadline, if there is one.
+pub fn sooner(moment: u64, deadline: Option<u64>) -> u64
+    ensures { result ≡ sooner moment deadline }
+{
+    match deadline {
+        None => moment,
+        Some(deadline) => moment.min(deadline),
+    }
+}
+
+/// How many of the routes do not end by this moment.
+pub fn left_of(rows: &[(RouteKey, Route)], now: u64) -> usize
+    ensures { result ≡ left_of now rows.now }
+{
+    let mut left = 0;
+    for row in rows {
+        if !row.1.is_due(now) {
+            left += 1;
+        }
+    }
+    left
+}

@@ -1,0 +1,233 @@
+//! Registered routes: what names inherit, when routes end, and how many there may be.
+
+mod effective_hops;
+mod random_sequences;
+mod route_limits;
+
+use crate::route_table::{Route, RouteTable};
+use crate::rows::check_rows;
+use crate::tables::hops_shown;
+use ndn_names::{Name, NameBuf};
+use pit_fib::*;
+use std::alloc::Global;
+
+/// A face and settings, as `2 cost=5 origin=1 flags=2 until=1000`. Without them the cost and the
+/// origin are 0, the flags 1, and the route never ends.
+fn route_in(words: &str) -> Option<Route> {
+    let (face, settings) = words.split_once(' ').unwrap_or((words, ""));
+    let mut route = Route::new(face.parse().ok()?, 0);
+    for setting in settings.split_ascii_whitespace() {
+        let (field, value) = setting.split_once('=')?;
+        let value = value.parse().ok()?;
+        match field {
+            "cost" => route.cost = value,
+            "origin" => route.origin = value,
+            "flags" => route.flags = value,
+            "until" => route.deadline = Some(value),
+            _ => return None,
+        }
+    }
+    Some(route)
+}
+
+/// `add`, `register`, `remove` or `unregister` of a name, with a face and its settings.
+fn change(routes: &mut RouteTable, call: &str, name: Name<'_>, route: Route) -> Option<()> {
+    match call {
+        "add" => routes.add(name, route.face, route.cost).ok()?,
+        "register" => routes.register(name, route).ok()?,
+        "remove" => routes.remove(name, route.face),
+        "unregister" => routes.unregister(name, route.face, route.origin),
+        _ => return None,
+    }
+    Some(())
+}
+
+/// Next hops as `3@0 2@5`, or `none`.
+fn hops_or_none(alloc: Global, hops: &Hops) -> Option<String> {
+    let text = hops_shown(alloc, hops)?;
+    String::from_str(alloc, text.strip_prefix(' ').unwrap_or("none")).ok()
+}
+
+/// Each name with its hops, as `/A 3@0 2@5 | /B 2@5`, or `none`.
+fn list_or_none(alloc: Global, fib: &Fib, now: u64) -> Option<String> {
+    let mut text = String::new(alloc);
+    for row in &fib.list(alloc, now).ok()? {
+        let name = row.0.to_uri(alloc).ok()?;
+        let hops = hops_or_none(alloc, &row.1)?;
+        text.push_str(&format!(in alloc; " | {name} {hops}").ok()?)
+            .ok()?;
+    }
+    String::from_str(alloc, text.strip_prefix(" | ").unwrap_or("none")).ok()
+}
+
+/// The answer to `due`, `expire` or `list` of a moment, if it is such a call.
+fn told(alloc: Global, routes: &mut RouteTable, call: &str, now: u64) -> Option<String> {
+    let number = match call {
+        "due" => routes.read().due(now),
+        "expire" => routes.expire(now),
+        "list" => return list_or_none(alloc, routes.read(), now),
+        _ => return None,
+    };
+    format!(in alloc; "{number}").ok()
+}
+
+/// The hops of a name, or nothing of a change that is done.
+fn named(
+    alloc: Global,
+    routes: &mut RouteTable,
+    call: &str,
+    words: &str,
+) -> Option<Option<String>> {
+    let (name, words) = words.split_once(' ').unwrap_or((words, "0"));
+    let name = NameBuf::from_uri(alloc, name).ok()?;
+    if call == "of" {
+        let hops = routes.read().longest(name.view());
+        return Some(Some(hops_or_none(alloc, &hops)?));
+    }
+    change(routes, call, name.view(), route_in(words)?)?;
+    Some(None)
+}
+
+/// What a call answers, if that is shown.
+fn answer(alloc: Global, routes: &mut RouteTable, call: &str) -> Option<Option<String>> {
+    let (call, words) = call.split_once(' ')?;
+    match call {
+        "close" => {
+            routes.close_face(words.parse().ok()?);
+            Some(None)
+        }
+        "due" | "expire" | "list" => { Some(Some(told(alloc, routes, call, words.parse().ok()?)?)) }
+        _ => named(alloc, routes, call, words),
+    }
+}
+
+/// The answers to calls that `, ` parts.
+fn answers(alloc: Global, row: &str) -> Option<String> {
+    let mut routes = RouteTable::new(alloc);
+    let mut text = String::new(alloc);
+    for call in row.split(", ") {
+        if let Some(shown) = answer(alloc, &mut routes, call)? {
+            text.push_str("; ").ok()?;
+            text.push_str(&shown).ok()?;
+        }
+    }
+    String::from_str(alloc, text.strip_prefix("; ")?).ok()
+}
+
+const ROUTES_END_AT_THEIR_DEADLINES: &str = "\
+register /A 2 cost=5 until=1000, due 999, list 999, expire 999, of /A -> 0; /A 2@5; 0; 2@5
+register /A 2 cost=5 until=1000, due 1000, list 1000, list 999, of /A -> 1; none; /A 2@5; 2@5
+register /A 2 cost=5 until=1000, expire 1000, of /A, list 0, due 1000, expire 1000 -> 1; none; none; 0; 0
+register /A 2 until=1000, expire 1001, list 0 -> 1; none
+# without a deadline, and with the least and the greatest one
+register /A 2 cost=5, due 18446744073709551615, list 18446744073709551615, expire 18446744073709551615, of /A -> 0; /A 2@5; 0; 2@5
+register /A 2 until=0, of /A, due 0, expire 0, of /A -> 2@0; 1; 1; none
+register /A 2 until=18446744073709551615, due 18446744073709551614, expire 18446744073709551614, of /A -> 0; 0; 2@0
+register /A 2 until=18446744073709551615, due 18446744073709551615, list 18446744073709551615, expire 18446744073709551615, of /A -> 1; none; 1; none
+# several routes: each is counted
+register /A 2 until=9, register /A 2 origin=1 cost=4 until=10, register /A 3 until=9, register /B 2 until=9, due 8, due 9, list 9, expire 9, list 0, expire 10, list 0 -> 0; 3; /A 2@4; 3; /A 2@4; 1; none
+register /A 2 until=9, register /B 2 until=5, expire 5, expire 8, expire 9 -> 1; 0; 1
+# an empty table
+due 18446744073709551615, expire 18446744073709551615, list 18446744073709551615 -> 0; 0; none
+";
+
+/// A route is there before its deadline, and not at it.
+#[test]
+fn routes_end_at_their_deadlines(rt: HostRuntime) {
+    check_rows(&rt, rt.alloc(), ROUTES_END_AT_THEIR_DEADLINES, answers);
+}
+
+const WHAT_ENDS_WITH_A_ROUTE: &str = "\
+# a next hop never ends
+add /A 2 cost=1, register /A 3 until=5, list 5, expire 5, list 0 -> /A 2@1; 1; /A 2@1
+add /A 2 cost=9, register /A 2 cost=1 until=5, expire 5, of /A -> 1; 2@9
+# a route that longer names inherit, and the route for which they inherit it
+register /A 2 until=5, register /A/B 3, of /A/B, list 5, expire 5, of /A/B -> 2@0 3@0; /A/B 3@0; 1; 3@0
+register /A 2, register /A/B 3 until=5, of /A/B, list 5, expire 5, of /A/B -> 2@0 3@0; /A 2@0; 1; 2@0
+add /A/B 4, register /A 2, register /A/B 3 until=5, of /A/B, list 5, expire 5, of /A/B -> 2@0 3@0 4@0; /A 2@0 | /A/B 4@0; 1; 4@0
+# a capture route of the name, and of a name between
+register /A 2, register /A/B 3, register /A/B 4 flags=2 until=5, of /A/B, list 4, list 5, expire 5, of /A/B -> 3@0 4@0; /A 2@0 | /A/B 3@0 4@0; /A 2@0 | /A/B 2@0 3@0; 1; 2@0 3@0
+register / 2, register /A 4 flags=2 until=5, register /A/B 3, of /A/B, list 5, expire 5, of /A/B -> 3@0; / 2@0 | /A/B 2@0 3@0; 1; 2@0 3@0
+# the nearest of two child-inherit routes, and the lesser of two origins
+register / 2 cost=1, register /A 2 cost=9 until=5, register /A/B 3, of /A/B, list 5, expire 5, of /A/B -> 3@0 2@9; / 2@1 | /A/B 3@0 2@1; 1; 3@0 2@1
+register /A 2 cost=1 until=5, register /A 2 cost=9 origin=1, of /A, list 5, expire 5, of /A -> 2@1; /A 2@9; 1; 2@9
+";
+
+/// What a route that ends leaves.
+#[test]
+fn what_ends_with_a_route(rt: HostRuntime) {
+    check_rows(&rt, rt.alloc(), WHAT_ENDS_WITH_A_ROUTE, answers);
+}
+
+const THE_LAST_REGISTRATION_COUNTS: &str = "\
+# the deadline
+register /A 2 until=5, register /A 2, due 18446744073709551615, expire 5, of /A -> 0; 0; 2@0
+register /A 2, register /A 2 until=5, due 5, expire 5, of /A -> 1; 1; none
+register /A 2 until=5, register /A 2 until=9, due 8, expire 8, due 9, expire 9 -> 0; 0; 1; 1
+register /A 2 until=9, register /A 2 until=5, due 5, expire 5, of /A -> 1; 1; none
+# the cost and the flags
+register /A 2 cost=4, register /A 2 cost=9, of /A -> 2@9
+register /A 2 cost=9, register /A 2, of /A -> 2@0
+register /A 2, register /A 2 flags=0, register /A/B 3, of /A/B -> 3@0
+register /A 2 flags=0, register /A 2, register /A/B 3, of /A/B -> 2@0 3@0
+register /A 2, register /A/B 3 flags=2, register /A/B 3, of /A/B -> 2@0 3@0
+# another origin is another route
+register /A 2 cost=4, register /A 2 cost=9 origin=1, of /A, due 9 -> 2@4; 0
+";
+
+/// Nothing of a route is kept when it is registered again.
+#[test]
+fn the_last_registration_counts(rt: HostRuntime) {
+    check_rows(&rt, rt.alloc(), THE_LAST_REGISTRATION_COUNTS, answers);
+}
+
+const WHAT_REMOVALS_LEAVE: &str = "\
+# a route goes by its name, face and origin
+register /A 2 cost=4, unregister /A 2, of /A, list 0 -> none; none
+register /A 2 cost=4, unregister /A 2 origin=1, of /A -> 2@4
+register /A 2 cost=4, unregister /A 3, unregister /B 2, unregister /A/B 2, of /A -> 2@4
+register /A 2 cost=4, register /A 2 cost=1 origin=1, unregister /A 2 origin=1, of /A -> 2@4
+register /A 2 until=5, unregister /A 2, due 5, expire 5 -> 0; 0
+unregister /A 2, remove /A 2, close 2, list 0 -> none
+# next hops and routes of one name and face
+add /A 2 cost=3, register /A 2 cost=1, unregister /A 2, of /A -> 2@3
+add /A 2 cost=3, register /A 2 cost=1, remove /A 2, of /A -> 2@1
+add /A 2, register /A 3, remove /A 2, list 0, unregister /A 3, list 0 -> /A 3@0; none
+add /A 2, register /A 3, unregister /A 3, list 0, remove /A 2, list 0 -> /A 2@0; none
+register /A 2, remove /A 2, of /A -> 2@0
+add /A 2, unregister /A 2, of /A -> 2@0
+";
+
+/// A removal takes the next hop or the route that it names, and an entry without any goes.
+#[test]
+fn what_removals_leave(rt: HostRuntime) {
+    check_rows(&rt, rt.alloc(), WHAT_REMOVALS_LEAVE, answers);
+}
+
+const A_FACE_CLOSES_WITH_ITS_ROUTES: &str = "\
+add /A 2, register /A 2, register /A 2 origin=1, register /A 3, register /B 2, close 2, list 0 -> /A 3@0
+add /A 2 cost=4, register /A 3, register /B 3, add /B 3, close 3, list 0 -> /A 2@4
+register / 2, register /A 3, of /A, close 2, of /A -> 2@0 3@0; 3@0
+register / 2, register /A 3, register /A 4 flags=2, of /A, close 4, of /A -> 3@0 4@0; 2@0 3@0
+register /A 2 until=5, register /A 3 until=5, close 2, due 5, expire 5, list 0 -> 1; 1; none
+register /A 2 until=5, register /A 3 until=9, close 2, expire 8, expire 9 -> 0; 1
+register /A 18446744073709551615, register /A 2, close 18446744073709551615, list 0 -> /A 2@0
+register /A 2, close 3, list 0 -> /A 2@0
+";
+
+/// The next hops and the routes of a face that closes go.
+#[test]
+fn a_face_closes_with_its_routes(rt: HostRuntime) {
+    check_rows(&rt, rt.alloc(), A_FACE_CLOSES_WITH_ITS_ROUTES, answers);
+}
+
+const ENDS_OF_ROUTES: &str = "\
+register /A 18446744073709551615 cost=18446744073709551615 origin=18446744073709551615 flags=18446744073709551615 until=18446744073709551615, of /A, due 18446744073709551614, due 18446744073709551615 -> 18446744073709551615@18446744073709551615; 0; 1
+register /A 0 cost=18446744073709551615, register /A 0 cost=18446744073709551614 origin=18446744073709551615, of /A, unregister /A 0 origin=18446744073709551615, of /A -> 0@18446744073709551614; 0@18446744073709551615
+";
+
+/// The ends of faces, costs, origins, flags and deadlines.
+#[test]
+fn ends_of_routes(rt: HostRuntime) {
+    check_rows(&rt, rt.alloc(), ENDS_OF_ROUTES, answers);
+}

@@ -1,0 +1,458 @@
+//! Random calls of a table, beside plain lists of next hops and routes, in which the effective next
+//! hops of a name are looked for face by face.
+
+use crate::route_table::{Route, RouteTable};
+use ndn_names::NameBuf;
+use pit_fib::*;
+use std::alloc::Global;
+use test_support::random;
+
+/// Names in canonical order: of two that begin one name the later one is longer.
+const NAMES: [&str; 8] = ["/", "/A", "/A/B", "/A/B/C", "/A/B/C/D", "/A/C", "/B", "/AA"];
+
+/// The faces are 0, 1 and 2.
+const FACES: u64 = 3;
+
+#[derive(Clone, Copy)]
+struct NextHop {
+    name: usize,
+    face: u64,
+    cost: u64,
+}
+
+#[derive(Clone, Copy)]
+struct Registered {
+    name: usize,
+    route: Route,
+}
+
+/// Next hops and routes, in no order.
+#[derive(Drop)]
+struct Plain {
+    hops: Vec<NextHop>,
+    routes: Vec<Registered>,
+}
+
+/// Whether a name begins another that is longer.
+fn is_above(prefix: usize, name: usize) -> bool {
+    let (Some(prefix), Some(name)) = (NAMES.get(prefix), NAMES.get(name)) else {
+        return false;
+    };
+    match name.strip_prefix(*prefix) {
+        Some(rest) => (*prefix == "/" && !rest.is_empty()) || rest.starts_with('/'),
+        None => false,
+    }
+}
+
+fn is_inherited(route: Route) -> bool {
+    route.flags % 2 == 1
+}
+
+fn captures(route: Route) -> bool {
+    route.flags % 4 >= 2
+}
+
+fn ends_by(route: Route, now: u64) -> bool {
+    route.deadline.is_some_and(|deadline| deadline <= now)
+}
+
+/// The lesser of a cost and another, if there is one.
+fn lesser(cost: u64, other: Option<u64>) -> Option<u64> {
+    Some(other.map_or(cost, |other| cost.min(other)))
+}
+
+impl Plain {
+    fn new(alloc: Global) -> Plain {
+        Plain {
+            hops: Vec::new(alloc),
+            routes: Vec::new(alloc),
+        }
+    }
+
+    fn add(&mut self, one: NextHop) -> Option<()> {
+        self.hops
+            .retain(|hop| hop.name != one.name || hop.face != one.face);
+        self.hops.push(one).ok()
+    }
+
+    fn unregister(&mut self, one: Registered) {
+        self.routes.retain(|other| other.name != one.name
+            || other.route.face != one.route.face
+            || other.route.origin != one.route.origin);
+    }
+
+    fn register(&mut self, one: Registered) -> Option<()> {
+        self.unregister(one);
+        self.routes.push(one).ok()
+    }
+
+    /// Without the routes that end by a moment.
+    fn left_at(&self, alloc: Global, now: u64) -> Option<Plain> {
+        let mut left = Plain::new(alloc);
+        for hop in &self.hops {
+            left.hops.push(*hop).ok()?;
+        }
+        for one in &self.routes {
+            if !ends_by(one.route, now) {
+                left.routes.push(*one).ok()?;
+            }
+        }
+        Some(left)
+    }
+
+    fn has_routes(&self, name: usize) -> bool {
+        self.routes.iter().any(|one| one.name == name)
+    }
+
+    /// Whether a name has a next hop or a route.
+    fn has_entry(&self, name: usize) -> bool {
+        self.has_routes(name) || self.hops.iter().any(|hop| hop.name == name)
+    }
+
+    fn has_capture(&self, name: usize) -> bool {
+        self.routes
+            .iter()
+            .any(|one| one.name == name && captures(one.route))
+    }
+
+    /// The cost of the next hop of a name on a face.
+    fn hop_cost(&self, name: usize, face: u64) -> Option<u64> {
+        let hop = self
+            .hops
+            .iter()
+            .find(|hop| hop.name == name && hop.face == face)?;
+        Some(hop.cost)
+    }
+
+    /// The least cost of the routes of a name on a face, of all or of the inherited ones.
+    fn least_cost(&self, name: usize, face: u64, inherited_alone: bool) -> Option<u64> {
+        let mut least = None;
+        for one in &self.routes {
+            let counts = is_inherited(one.route) || !inherited_alone;
+            if one.name == name && one.route.face == face && counts {
+                least = lesser(one.route.cost, least);
+            }
+        }
+        least
+    }
+
+    /// The nearest shorter name that has a child-inherit route on a face.
+    fn nearest(&self, name: usize, face: u64) -> Option<usize> {
+        let mut nearest = None;
+        for above in 0..8 {
+            if is_above(above, name) && self.least_cost(above, face, true).is_some() {
+                nearest = Some(above);
+            }
+        }
+        nearest
+    }
+
+    /// Whether a name between these two has a capture route.
+    fn is_captured(&self, name: usize, above: usize) -> bool {
+        for between in 0..8 {
+            if is_above(above, between) && is_above(between, name) && self.has_capture(between) {
+                return true;
+            }
+        }
+        false
+    }
+
+    /// The number of names that have a next hop or a route.
+    fn len(&self) -> usize {
+        let mut len: usize = 0;
+        for name in 0..8 {
+            len = len.saturating_add(usize::from(self.has_entry(name)));
+        }
+        len
+    }
+
+    /// What a name inherits for a face, where it has routes, and none of them captures.
+    fn inherited_cost(&self, seen: &mut Seen, name: usize, face: u64) -> Option<u64> {
+        if !self.has_routes(name) || self.has_capture(name) {
+            return None;
+        }
+        let above = self.nearest(name, face)?;
+        if self.is_captured(name, above) {
+            seen.captured = seen.captured.saturating_add(1);
+            return None;
+        }
+        seen.inherited = seen.inherited.saturating_add(1);
+        self.least_cost(above, face, true)
+    }
+
+    /// The cost of a face among the effective next hops of a name.
+    fn cost(&self, seen: &mut Seen, name: usize, face: u64) -> Option<u64> {
+        if let Some(cost) = self.hop_cost(name, face) {
+            return Some(cost);
+        }
+        if let Some(cost) = self.least_cost(name, face, false) {
+            return Some(cost);
+        }
+        self.inherited_cost(seen, name, face)
+    }
+
+    /// The longest prefix of a name that has a next hop or a route.
+    fn longest(&self, name: usize) -> Option<usize> {
+        let mut longest = None;
+        for prefix in 0..8 {
+            if (prefix == name || is_above(prefix, name)) && self.has_entry(prefix) {
+                longest = Some(prefix);
+            }
+        }
+        longest
+    }
+}
+
+/// How often a name inherited a cost, a capture route kept one away, and routes ended.
+#[derive(Clone, Copy)]
+struct Seen {
+    inherited: u64,
+    captured: u64,
+    ended: u64,
+}
+
+/// The cost of a face among hops.
+fn cost_in(hops: &Hops, face: u64) -> Option<u64> {
+    let mut cost = None;
+    for i in 0..hops.len() {
+        let hop = hops.get(i)?;
+        if hop.face == face {
+            cost = Some(hop.cost);
+        }
+    }
+    cost
+}
+
+/// Whether hops are in order: by cost, and by face at one cost.
+fn are_in_order(hops: &Hops) -> Option<bool> {
+    for i in 1..hops.len() {
+        let (hop, next) = (hops.get(i.checked_sub(1)?)?, hops.get(i)?);
+        if (next.cost, next.face) <= (hop.cost, hop.face) {
+            return Some(false);
+        }
+    }
+    Some(true)
+}
+
+/// Whether hops are the effective next hops of a name, or none where there is no name.
+fn hops_agree(plain: &Plain, seen: &mut Seen, name: Option<usize>, hops: &Hops) -> Option<bool> {
+    let mut len: usize = 0;
+    for face in 0..FACES {
+        let cost = match name {
+            Some(name) => plain.cost(seen, name, face),
+            None => None,
+        };
+        if cost_in(hops, face) != cost {
+            return Some(false);
+        }
+        len = len.saturating_add(usize::from(cost.is_some()));
+    }
+    Some(hops.len() == len && are_in_order(hops)?)
+}
+
+/// Whether a name goes by the next hops that the lists have.
+fn longest_agrees(
+    routes: &RouteTable,
+    plain: &Plain,
+    names: &[NameBuf],
+    seen: &mut Seen,
+    name: usize,
+) -> Option<bool> {
+    let mut steps = 0;
+    let view = names.get(name)?.view();
+    let hops = routes.read().longest_counted(view, &mut steps);
+    Some(hops_agree(plain, seen, plain.longest(name), &hops)? && steps <= 4)
+}
+
+/// Whether rows are all names that have an entry, in order, with their next hops.
+fn rows_agree(
+    rows: &[(NameBuf, Hops)],
+    plain: &Plain,
+    names: &[NameBuf],
+    seen: &mut Seen,
+) -> Option<bool> {
+    let mut at: usize = 0;
+    for (name, uri) in names.iter().enumerate() {
+        if plain.has_entry(name) {
+            let row = rows.get(at)?;
+            if row.0 != *uri || !hops_agree(plain, seen, Some(name), &row.1)? {
+                return Some(false);
+            }
+            at = at.saturating_add(1);
+        }
+    }
+    Some(rows.len() == at)
+}
+
+/// Whether the list at a moment, and the number of routes that end by then, are those of the lists.
+fn list_agrees(
+    alloc: Global,
+    routes: &RouteTable,
+    plain: &Plain,
+    names: &[NameBuf],
+    seen: &mut Seen,
+    now: u64,
+) -> Option<bool> {
+    let left = plain.left_at(alloc, now)?;
+    let rows = routes.read().list(alloc, now).ok()?;
+    let due = plain.routes.len().checked_sub(left.routes.len())?;
+    Some(rows_agree(&rows, &left, names, seen)? && routes.read().due(now) == due as u64)
+}
+
+/// Whether as many routes end by a moment as in the lists.
+fn expire_agrees(
+    routes: &mut RouteTable,
+    plain: &mut Plain,
+    seen: &mut Seen,
+    now: u64,
+) -> Option<bool> {
+    let before = plain.routes.len();
+    plain.routes.retain(|one| !ends_by(one.route, now));
+    let gone = before.checked_sub(plain.routes.len())? as u64;
+    seen.ended = seen.ended.saturating_add(gone);
+    Some(routes.expire(now) == gone)
+}
+
+/// Sets a next hop or a route in both, which is not refused with ample memory.
+fn set(
+    routes: &mut RouteTable,
+    plain: &mut Plain,
+    names: &[NameBuf],
+    is_hop: bool,
+    one: Registered,
+) -> Option<()> {
+    let (name, route) = (names.get(one.name)?.view(), one.route);
+    if is_hop {
+        routes.add(name, route.face, route.cost).ok()?;
+        plain.add(NextHop {
+            name: one.name,
+            face: route.face,
+            cost: route.cost,
+        })
+    } else {
+        routes.register(name, route).ok()?;
+        plain.register(one)
+    }
+}
+
+/// Takes out of both what a random removal takes.
+fn remove(
+    routes: &mut RouteTable,
+    plain: &mut Plain,
+    names: &[NameBuf],
+    removal: u64,
+    one: Registered,
+) -> Option<()> {
+    let (name, face) = (names.get(one.name)?.view(), one.route.face);
+    match removal {
+        0 => {
+            routes.remove(name, face);
+            plain
+                .hops
+                .retain(|hop| hop.name != one.name || hop.face != face);
+        }
+        1 => {
+            routes.close_face(face);
+            plain.hops.retain(|hop| hop.face != face);
+            plain.routes.retain(|other| other.route.face != face);
+        }
+        _ => {
+            routes.unregister(name, face, one.route.origin);
+            plain.unregister(one);
+        }
+    }
+    Some(())
+}
+
+/// A random route of a random name. One in three ends, at a moment below 24.
+fn random_route(state: &mut u64) -> Registered {
+    let name = random(state, 8) as usize;
+    let (face, origin) = (random(state, FACES), random(state, 2));
+    let (cost, flags) = (random(state, 4), random(state, 8));
+    let ends = random(state, 3) == 0;
+    let moment = random(state, 24);
+    Registered {
+        name,
+        route: Route {
+            face,
+            origin,
+            cost,
+            flags,
+            deadline: ends.then_some(moment),
+        },
+    }
+}
+
+/// Whether a random call agrees with the lists, and what a random name goes by then.
+fn call_agrees(
+    alloc: Global,
+    routes: &mut RouteTable,
+    plain: &mut Plain,
+    names: &[NameBuf],
+    seen: &mut Seen,
+    state: &mut u64,
+) -> Option<bool> {
+    let one = random_route(state);
+    let now = random(state, 24);
+    let agrees = match random(state, 16) {
+        0 => expire_agrees(routes, plain, seen, now)?,
+        1..=3 => list_agrees(alloc, routes, plain, names, seen, now)?,
+        4..=7 => {
+            remove(routes, plain, names, random(state, 8), one)?;
+            true
+        }
+        call => {
+            set(routes, plain, names, call <= 9, one)?;
+            true
+        }
+    };
+    let asked = random(state, 8) as usize;
+    Some(agrees && longest_agrees(routes, plain, names, seen, asked)?)
+}
+
+/// Whether 40 random calls do, and leave what the lists have.
+fn sequence_agrees(
+    alloc: Global,
+    names: &[NameBuf],
+    seen: &mut Seen,
+    state: &mut u64,
+) -> Option<bool> {
+    let (mut routes, mut plain) = (RouteTable::new(alloc), Plain::new(alloc));
+    for _ in 0..40 {
+        if !call_agrees(alloc, &mut routes, &mut plain, names, seen, state)? {
+            return Some(false);
+        }
+    }
+    let agrees = list_agrees(alloc, &routes, &plain, names, seen, 0)?;
+    Some(agrees && routes.read().len() == plain.len())
+}
+
+fn all_names(alloc: Global) -> Option<Vec<NameBuf>> {
+    let mut names = Vec::new(alloc);
+    for uri in NAMES {
+        names.push(NameBuf::from_uri(alloc, uri).ok()?).ok()?;
+    }
+    Some(names)
+}
+
+/// Whether 400 sequences do, in which costs were inherited and captured, and routes ended.
+fn all_agree(alloc: Global) -> Option<bool> {
+    let names = all_names(alloc)?;
+    let mut state = 0x2545_f491_4f6c_dd1d;
+    let mut seen = Seen {
+        inherited: 0,
+        captured: 0,
+        ended: 0,
+    };
+    for _ in 0..400 {
+        if !sequence_agrees(alloc, &names, &mut seen, &mut state)? {
+            return Some(false);
+        }
+    }
+    Some(seen.inherited > 100 && seen.captured > 100 && seen.ended > 100)
+}
+
+#[test]
+fn random_sequences(rt: HostRuntime) {
+    assert!(rt; all_agree(rt.alloc()) == Some(true));
+}
