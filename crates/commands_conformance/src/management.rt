@@ -1,6 +1,7 @@
 //! Management commands, their effects, replies and lists.
 
 mod effects;
+mod registered_routes;
 mod segments_and_unknown_commands;
 
 use crate::rows::check_rows;
@@ -14,6 +15,8 @@ fn action_shown(action: Action) -> &'static str {
     match action {
         Action::AddNexthop => "add",
         Action::RemoveNexthop => "remove",
+        Action::Register => "register",
+        Action::Unregister => "unregister",
         Action::SetStrategy => "set",
         Action::UnsetStrategy => "unset",
         Action::EraseCache => "erase",

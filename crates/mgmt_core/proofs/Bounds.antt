@@ -11,8 +11,8 @@ use Rattle.ndn_names.specs.Name.{octets_of}
 use Rattle.pit_fib.specs.declared.strategy_table.StrategyId.{StrategyId}
 use Rattle.pit_fib.specs.declared.strategy_table.StrategyId.TheVariants.{BestRoute, Multicast}
 use Rattle.mgmt_core.specs.declared.action.Action.{Action}
-use Rattle.mgmt_core.specs.declared.action.Action.TheVariants.{AddNexthop, RemoveNexthop, SetStrategy, UnsetStrategy, EraseCache}
-use Rattle.ndn_packets.specs.declared.command_types.TheConstants.{COST, COUNT, FACE_ID, STRATEGY}
+use Rattle.mgmt_core.specs.declared.action.Action.TheVariants.{AddNexthop, RemoveNexthop, Register, Unregister, SetStrategy, UnsetStrategy, EraseCache}
+use Rattle.ndn_packets.specs.declared.command_types.TheConstants.{COST, COUNT, EXPIRATION_PERIOD, FACE_ID, FLAGS, ORIGIN, STRATEGY}
 use Rattle.ndn_packets.specs.declared.types.TheConstants.{NAME}
 use Rattle.mgmt_core.specs.Commands.{row_of, takes, text_of, texts}
 use Rattle.mgmt_core.specs.Reading.{PlainCommand}
@@ -21,21 +21,30 @@ use Rattle.ndn_tlv.specs.Writing.{number, octets, optional}
 use Rattle.mgmt_core.specs.Writing.{body_after, reply_body, response, strategy_value}
 use Rattle.ndn_tlv.proofs.Lengths.{length-element, element_fits, number_fits}
 
-one_field : (kind n : ℕ) → kind < 253 → length (octets (number kind (Some n))) ≤ 10
-one_field kind n lt = omega (arith, number_fits kind n lt, length-append (element (kind, shortest_nni n)) [])
+-- a number that is there, before other fields
+and_one : (kind n : ℕ) (rest : List Field) → kind < 253 → length (octets ((kind, shortest_nni n) ∷ rest)) ≤ 10 + length (octets rest)
+and_one kind n rest lt = omega (arith, number_fits kind n lt, length-append (element (kind, shortest_nni n)) (octets rest))
+
+-- a last number that may be there
+last_one : (kind : ℕ) (o : Option ℕ) → kind < 253 → length (octets (number kind o ++ [])) ≤ 10
+last_one kind None lt = omega arith
+last_one kind (Some n) lt = let le = and_one kind n [] lt in omega (arith, le)
 
 strategy_len : (s : StrategyId) → length (strategy_value s) ≤ 40
 unfolding spelling
 strategy_len BestRoute = omega arith
 strategy_len Multicast = omega arith
 
--- the fields after the name
-abbrev other_fields : Action → ℕ → ℕ → Option ℕ → Option StrategyId → List Field
-other_fields a face cost count strategy =
-    number FACE_ID (cond (takes FACE_ID (row_of a)) (Some face) None)
-    ++ (number COST (cond (takes COST (row_of a)) (Some cost) None)
-    ++ (number COUNT (cond (takes COUNT (row_of a)) count None)
-    ++ optional STRATEGY (option_map strategy_value (cond (takes STRATEGY (row_of a)) strategy None))))
+-- the fields after the name, of a command that has this action
+abbrev other_fields : Action → PlainCommand → ℕ → List Field
+other_fields a c face =
+    number FACE_ID (cond (takes FACE_ID (row_of a)) (Some (face_of c face)) None)
+    ++ (number ORIGIN (cond (takes ORIGIN (row_of a)) (Some c.origin) None)
+    ++ (number COST (cond (takes COST (row_of a)) (Some c.cost) None)
+    ++ (number FLAGS (cond (takes FLAGS (row_of a)) (Some c.flags) None)
+    ++ (number EXPIRATION_PERIOD (cond (takes EXPIRATION_PERIOD (row_of a)) c.expires None)
+    ++ (number COUNT (cond (takes COUNT (row_of a)) c.count None)
+    ++ optional STRATEGY (option_map strategy_value (cond (takes STRATEGY (row_of a)) (strategy_asked c) None)))))))
 
 strategy_fits : (o : Option StrategyId) → length (octets (optional 107 (option_map strategy_value o))) ≤ 42
 strategy_fits None = omega arith
@@ -45,38 +54,47 @@ strategy_fits (Some s) =
     let one = length-spelling_one (length value) (omega (arith, few)) in
     omega (arith, few, one, length-element 107 value, length-spelling_one 107 (omega arith), length-append (element (107, value)) [])
 
-count_fits : (o : Option ℕ) → length (octets (number 132 o)) ≤ 10
-count_fits None = omega arith
-count_fits (Some n) = one_field 132 n (omega arith)
+others_fit : (a : Action) (c : PlainCommand) (face : ℕ) → length (octets (other_fields a c face)) ≤ 50
+others_fit AddNexthop c face =
+    let cost : List Field = (106, shortest_nni c.cost) ∷ [] in
+    omega (arith, and_one 105 (face_of c face) cost (omega arith), and_one 106 c.cost [] (omega arith))
+others_fit RemoveNexthop c face = let le = and_one 105 (face_of c face) [] (omega arith) in omega (arith, le)
+others_fit Register c face =
+    let expires = number 109 c.expires ++ [] in
+    let flags = (108, shortest_nni c.flags) ∷ expires in
+    let cost = (106, shortest_nni c.cost) ∷ flags in
+    let origin = (111, shortest_nni c.origin) ∷ cost in
+    omega (
+      arith,
+      and_one 105 (face_of c face) origin (omega arith),
+      and_one 111 c.origin cost (omega arith),
+      and_one 106 c.cost flags (omega arith),
+      and_one 108 c.flags expires (omega arith),
+      last_one 109 c.expires (omega arith),
+    )
+others_fit Unregister c face =
+    let origin : List Field = (111, shortest_nni c.origin) ∷ [] in
+    omega (arith, and_one 105 (face_of c face) origin (omega arith), and_one 111 c.origin [] (omega arith))
+others_fit SetStrategy c face = let le = strategy_fits (strategy_asked c) in omega (arith, le)
+others_fit UnsetStrategy c face = omega arith
+others_fit EraseCache c face = let le = last_one 132 c.count (omega arith) in omega (arith, le)
 
-others_fit : (a : Action) (face cost : ℕ) (count : Option ℕ) (strategy : Option StrategyId) → length (octets (other_fields a face cost count strategy)) ≤ 42
-others_fit AddNexthop face cost count strategy =
-    omega (arith, length-append (element (105, shortest_nni face)) (octets (number 106 (Some cost))), number_fits 105 face (omega arith), one_field 106 cost (omega arith))
-others_fit RemoveNexthop face cost count strategy = let le = one_field 105 face (omega arith) in omega (arith, le)
-others_fit SetStrategy face cost count strategy = strategy_fits strategy
-others_fit UnsetStrategy face cost count strategy = omega arith
-others_fit EraseCache face cost count strategy = let le = others_of_erase count in omega (arith, le)
-  where
-    others_of_erase : (o : Option ℕ) → length (octets (number 132 o ++ [])) ≤ 10
-    others_of_erase None = omega arith
-    others_of_erase (Some n) = one_field 132 n (omega arith)
-
-body_fits : (c : PlainCommand) (face : ℕ) → length (reply_body c face) ≤ length (octets_of c.name) + 62
+body_fits : (c : PlainCommand) (face : ℕ) → length (reply_body c face) ≤ length (octets_of c.name) + 70
 body_fits c face =
-    let others = other_fields c.action (face_of c face) c.cost c.count (strategy_asked c) in
+    let others = other_fields c.action c face in
     let value = element (NAME, octets_of c.name) ++ octets others in
     omega (
       arith,
       element_fits 104 value (omega arith),
       length-append (element (NAME, octets_of c.name)) (octets others),
       element_fits 7 (octets_of c.name) (omega arith),
-      others_fit c.action (face_of c face) c.cost c.count (strategy_asked c),
+      others_fit c.action c face,
     )
 
-pub body_is_bounded : (c : PlainCommand) (face status : ℕ) → length (body_after c face status) ≤ length (octets_of c.name) + 62
+pub body_is_bounded : (c : PlainCommand) (face status : ℕ) → length (body_after c face status) ≤ length (octets_of c.name) + 70
 body_is_bounded c face status = by (eqb status 200)
   where
-    by : (b : Bool) → length (cond b (reply_body c face) []) ≤ length (octets_of c.name) + 62
+    by : (b : Bool) → length (cond b (reply_body c face) []) ≤ length (octets_of c.name) + 70
     by true = body_fits c face
     by false = omega arith
 
@@ -108,6 +126,6 @@ text_fits : (status : ℕ) (text : List ℕ) → text_of status ≡ Some text �
 text_fits status text e =
     found_fits status text texts (omega arith, (omega arith, (omega arith, (omega arith, (omega arith, (omega arith, (omega arith, tt))))))) e
 
-pub reply_is_bounded : (c : PlainCommand) (face status : ℕ) (text : List ℕ) → text_of status ≡ Some text → length (response status text (body_after c face status)) ≤ length (octets_of c.name) + 108
+pub reply_is_bounded : (c : PlainCommand) (face status : ℕ) (text : List ℕ) → text_of status ≡ Some text → length (response status text (body_after c face status)) ≤ length (octets_of c.name) + 116
 reply_is_bounded c face status text e =
     omega (arith, text_fits status text e, body_is_bounded c face status, response_is_bounded status text (body_after c face status))

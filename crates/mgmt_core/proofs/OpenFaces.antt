@@ -1,13 +1,11 @@
 -- A rising list of faces within another is no longer.
 use Rattle.std.proofs.Common.{◌≡◌, ℕ, ◌<◌, ◌≤◌, true, List, [], ◌∷◌, length, sym, subst, inl, inr, arith}
-use Rattle.std.specs.Prelude.{IsSome, ◌⊎◌}
+use Rattle.std.specs.Prelude.{◌⊎◌}
 use Rattle.std.specs.List.{AllByRecursion}
-use Rattle.std.specs.FinMap.{get}
 use Rattle.std.proofs.lemmas.Bool.{cases_lt}
 use Rattle.pit_fib.specs.Faces.{IsRising, has_face}
-use Rattle.pit_fib.specs.Fib.{HasRoomFor}
-use Rattle.pit_fib.specs.Tables.{ByFace}
-use Rattle.pit_fib.proofs.PendingFaces.{room_in}
+use Rattle.pit_fib.specs.Fib.{HasRoomFor, LeadsTo, Routes}
+use Rattle.mgmt_core.specs.Tables.{AllAreUp}
 
 -- each face of the first list is in the second
 abbrev pub AreIn : List ℕ → List ℕ → Type 0
@@ -64,16 +62,16 @@ no_longer (x ∷ xs) (y ∷ ys) rx ry h =
           omega (arith, le)
     ]
 
--- an entry whose faces are up has room for one that is up
-pub has_room : (costs : ByFace) (face : ℕ) (up : List ℕ) → length up ≤ 64 → IsRising up → has_face face up ≡ true
-    → ((f : ℕ) → IsSome (get costs f) → has_face f up ≡ true) → HasRoomFor costs face
-has_room costs face up small rising there all =
-    room_in costs face (λ faces rises each. let le = no_longer faces up rises rising (are_in faces each) in omega (arith, le, small))
+-- where each face that has a next hop or a route is up, there is room for one that is up
+pub has_room : (routes : Routes) (face : ℕ) (up : List ℕ) → length up ≤ 64 → IsRising up → has_face face up ≡ true → AllAreUp routes up → HasRoomFor routes face
+has_room routes face up small rising there all faces rises each =
+    let le = no_longer faces up rises rising (are_in faces each) in
+    omega (arith, le, small)
   where
-    is_in : (f : ℕ) → IsSome (get costs f) ⊎ (f ≡ face) → has_face f up ≡ true
-    is_in f (inl some) = all f some
+    is_in : (f : ℕ) → LeadsTo routes f ⊎ (f ≡ face) → has_face f up ≡ true
+    is_in f (inl leads) = all f leads
     is_in f (inr same) = subst (λ (g : ℕ). has_face g up ≡ true) (sym same) there
 
-    are_in : (faces : List ℕ) → AllByRecursion (λ f. IsSome (get costs f) ⊎ (f ≡ face)) faces → AreIn faces up
+    are_in : (faces : List ℕ) → AllByRecursion (λ f. LeadsTo routes f ⊎ (f ≡ face)) faces → AreIn faces up
     are_in [] h = tt
     are_in (f ∷ faces) h = (is_in f h.0, are_in faces h.1)

@@ -1,7 +1,6 @@
 -- The reply from the face of the greatest number is the longest.
-use Rattle.std.proofs.Common.{◌≡◌, ℕ, ◌+◌, ◌-◌, ◌<◌, ◌≤◌, ◌^◌, Bool, true, false, List, [], ◌++◌, length, refl, ap, arith}
+use Rattle.std.proofs.Common.{◌≡◌, ℕ, ◌+◌, ◌-◌, ◌<◌, ◌≤◌, ◌^◌, Bool, true, false, List, [], ◌∷◌, ◌++◌, length, refl, sym, ap, ◌∙◌, append_assoc, arith}
 use Rattle.std.specs.Prelude.{Some, None, nat_eq, if◌then◌else◌}
-use Rattle.std.specs.Option.{option_map}
 use Rattle.std.proofs.lemmas.List.{length-append}
 use Rattle.std.proofs.lemmas.List.Concat.{flat_map-append}
 use Rattle.ndn_tlv.specs.Number.{shortest_nni}
@@ -9,13 +8,14 @@ use Rattle.ndn_tlv.specs.Element.{Field, element}
 use Rattle.ndn_tlv.proofs.Numbers.{length-spelling_one, length-spelling_nine}
 use Rattle.ndn_tlv.proofs.Integers.{length-shortest_eight}
 use Rattle.ndn_names.specs.Name.{octets_of}
-use Rattle.ndn_packets.specs.declared.command_types.TheConstants.{FACE_ID, COST, COUNT, STRATEGY}
+use Rattle.ndn_packets.specs.declared.command_types.TheConstants.{FACE_ID, ORIGIN}
 use Rattle.ndn_packets.specs.declared.types.TheConstants.{NAME}
 use Rattle.mgmt_core.specs.Commands.{row_of, takes}
 use Rattle.mgmt_core.specs.Reading.{PlainCommand}
-use Rattle.mgmt_core.specs.Tables.{face_of, strategy_asked}
-use Rattle.ndn_tlv.specs.Writing.{octets, number, optional}
-use Rattle.mgmt_core.specs.Writing.{given, strategy_value, reply_fields, reply_body}
+use Rattle.mgmt_core.specs.Steps.{about_fields, said_fields}
+use Rattle.mgmt_core.specs.Tables.{face_of}
+use Rattle.ndn_tlv.specs.Writing.{octets, number}
+use Rattle.mgmt_core.specs.Writing.{given, reply_fields, reply_body}
 use Rattle.ndn_tlv.proofs.Lengths.{length-element}
 
 abbrev greatest : ℕ
@@ -44,10 +44,16 @@ number_fits true asked face = by_face (nat_eq asked 0)
 
 -- what does not depend on the face
 abbrev other_fields : PlainCommand → List Field
-other_fields c =
-    number COST (given c COST (Some c.cost))
-    ++ (number COUNT (given c COUNT c.count)
-    ++ optional STRATEGY (option_map strategy_value (given c STRATEGY (strategy_asked c))))
+other_fields c = number ORIGIN (given c ORIGIN (Some c.origin)) ++ said_fields c
+
+-- the fields in two parts
+pub in_two_parts : (c : PlainCommand) (face : ℕ) → octets (reply_fields c face) ≡ octets (about_fields c face) ++ octets (said_fields c)
+in_two_parts c face =
+    let name : List Field = (NAME, octets_of c.name) ∷ [] in
+    let faces = number FACE_ID (given c FACE_ID (Some (face_of c face))) in
+    let origins = number ORIGIN (given c ORIGIN (Some c.origin)) in
+    ap (λ (fields : List Field). octets (name ++ fields)) (sym (append_assoc faces origins (said_fields c)))
+    ∙ flat_map-append element (about_fields c face) (said_fields c)
 
 parts : (c : PlainCommand) (face : ℕ) → length (octets (reply_fields c face))
     ≡ length (element (NAME, octets_of c.name)) + (length (octets (number FACE_ID (given c FACE_ID (Some (face_of c face))))) + length (octets (other_fields c)))

@@ -1,10 +1,10 @@
--- The commands, one row for each (NFD Management, "FIB Management", "Strategy Choice Management",
--- "Content Store Management"). Statuses and texts are this profile's.
+-- The commands, one row for each (NFD Management, "FIB Management", "RIB Management", "Strategy
+-- Choice Management", "Content Store Management"). Statuses and texts are this profile's.
 use Rattle.std.specs.Prelude.{ℕ, List, [], ◌∷◌, Bool, true, false, ◌==◌, ◌&&◌, ◌||◌, Option, codes, find, bytes_eq}
 use Rattle.std.specs.Option.{option_map}
 use Rattle.std.specs.List.{list_any}
 use Rattle.mgmt_core.specs.declared.action.Action.{Action}
-use Rattle.mgmt_core.specs.declared.action.Action.TheVariants.{AddNexthop, RemoveNexthop, SetStrategy, UnsetStrategy, EraseCache}
+use Rattle.mgmt_core.specs.declared.action.Action.TheVariants.{AddNexthop, RemoveNexthop, Register, Unregister, SetStrategy, UnsetStrategy, EraseCache}
 use Rattle.ndn_packets.specs.declared.command_types.TheConstants.{FACE_ID, COST, STRATEGY, FLAGS, EXPIRATION_PERIOD, ORIGIN, COUNT}
 use Rattle.ndn_packets.specs.declared.types.TheConstants.{NAME}
 use Rattle.mgmt_core.specs.declared.types.TheConstants.{OK, BAD_PARAMETERS, UNKNOWN_STRATEGY, FACE_NOT_OPEN, PREFIX_TOO_LONG, UNKNOWN_COMMAND, TABLE_FULL}
@@ -44,6 +44,22 @@ row_of RemoveNexthop = record {
   takes_root = true;
   refusals = [];
 }
+row_of Register = record {
+  part = codes "rib";
+  verb = codes "register";
+  needs = NAME ∷ [];
+  uses = FACE_ID ∷ ORIGIN ∷ COST ∷ FLAGS ∷ EXPIRATION_PERIOD ∷ [];
+  takes_root = true;
+  refusals = PrefixTooLong ∷ FaceNotOpen ∷ TableFull ∷ [];
+}
+row_of Unregister = record {
+  part = codes "rib";
+  verb = codes "unregister";
+  needs = NAME ∷ [];
+  uses = FACE_ID ∷ ORIGIN ∷ [];
+  takes_root = true;
+  refusals = [];
+}
 row_of SetStrategy = record {
   part = codes "strategy-choice";
   verb = codes "set";
@@ -70,7 +86,9 @@ row_of EraseCache = record {
 }
 
 abbrev pub actions : List Action
-actions = AddNexthop ∷ RemoveNexthop ∷ SetStrategy ∷ UnsetStrategy ∷ EraseCache ∷ []
+actions =
+    AddNexthop ∷ RemoveNexthop ∷ Register ∷ Unregister ∷ SetStrategy ∷ UnsetStrategy
+    ∷ EraseCache ∷ []
 
 abbrev pub is_named : List ℕ → List ℕ → Action → Bool
 is_named part verb action =

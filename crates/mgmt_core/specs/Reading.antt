@@ -14,7 +14,7 @@ use Rattle.ndn_names.specs.Reading.{name_of}
 use Rattle.ndn_names.specs.View.{components}
 use Rattle.mgmt_core.specs.declared.action.Action.{Action}
 use Rattle.mgmt_core.specs.declared.command.Command.{Command}
-use Rattle.ndn_packets.specs.declared.command_types.TheConstants.{COST, COUNT, FACE_ID, CONTROL_PARAMETERS, STRATEGY}
+use Rattle.ndn_packets.specs.declared.command_types.TheConstants.{COST, COUNT, EXPIRATION_PERIOD, FACE_ID, FLAGS, CONTROL_PARAMETERS, ORIGIN, STRATEGY}
 use Rattle.ndn_packets.specs.declared.types.TheConstants.{NAME}
 use Rattle.mgmt_core.specs.declared.types.TheConstants.{BAD_PARAMETERS, UNKNOWN_COMMAND}
 use Rattle.mgmt_core.specs.Commands.{Row, row_of, action_named, has, parameter_fields, takes}
@@ -24,7 +24,11 @@ pub record PlainCommand : Type 0 where
   pub action : Action
   pub name : List Field
   pub face : ℕ
+  pub origin : ℕ
   pub cost : ℕ
+  pub flags : ℕ
+  -- for how long a route is registered, in milliseconds
+  pub expires : Option ℕ
   pub strategy : Option (List Field)
   pub count : Option ℕ
 
@@ -34,7 +38,10 @@ asked c = record {
   action = c.action;
   name = components c.name;
   face = c.face;
+  origin = c.origin;
   cost = c.cost;
+  flags = c.flags;
+  expires = c.expires;
   strategy = option_map components c.strategy;
   count = c.count;
 }
@@ -67,6 +74,10 @@ strategy_in es =
 
 -- ---- commands
 
+-- the flags of a route where none are given
+abbrev pub child_inherit : ℕ
+child_inherit = 1
+
 abbrev pub is_root : List Field → Bool
 is_root [] = true
 is_root (c ∷ cs) = false
@@ -79,14 +90,20 @@ command_of action es =
     then None else (do
       name ← name_in es
       face ← number_in FACE_ID es
+      origin ← number_in ORIGIN es
       cost ← number_in COST es
+      flags ← number_in FLAGS es
+      expires ← number_in EXPIRATION_PERIOD es
       strategy ← strategy_in es
       count ← number_in COUNT es
       if is_root name && not row.takes_root then None else Some (record {
         action = action;
         name = name;
         face = unwrap_or face 0;
+        origin = unwrap_or origin 0;
         cost = unwrap_or cost 0;
+        flags = unwrap_or flags child_inherit;
+        expires = expires;
         strategy = strategy;
         count = count;
       }))

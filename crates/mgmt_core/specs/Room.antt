@@ -1,6 +1,6 @@
 -- What is prepared for a command.
 use Rattle.std.specs.Prelude.{◌≡◌, ℕ, ◌<◌, ◌≤◌, ◌^◌, ◌⊎◌, Option, None, Some, length, vec_capacity}
-use Rattle.mgmt_core.specs.declared.action.Action.TheVariants.{AddNexthop, SetStrategy}
+use Rattle.mgmt_core.specs.declared.action.Action.TheVariants.{AddNexthop, Register, SetStrategy}
 use Rattle.mgmt_core.specs.declared.reply.ReplyRoom.{ReplyRoom}
 use Rattle.mgmt_core.specs.declared.tables.Tables.{Tables}
 use Rattle.mgmt_core.specs.Reading.{PlainCommand}
@@ -19,6 +19,7 @@ abbrev pub IsCallPrepared : Tables → PlainCommand → Type 0
 IsCallPrepared t c =
     elim c.action [
       | AddNexthop ↦ t.fib.prepared ≡ Some c.name
+      | Register ↦ t.fib.prepared ≡ Some c.name
       | SetStrategy ↦ t.strategies.prepared ≡ Some c.name
       | _ ↦ Unit {0}
     ]

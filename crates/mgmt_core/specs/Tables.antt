@@ -1,7 +1,8 @@
--- What commands do to the tables, and which are refused (NFD Management, "FIB Management",
--- "Strategy Choice Management", "Content Store Management").
-use Rattle.std.specs.Prelude.{◌≡◌, ℕ, List, [], ◌∷◌, length, Bool, true, not, is_none, nat_lt, nat_le, ◌==◌, ◌&&◌, Option, None, Some, IsSome, find, codes, if◌then◌else◌}
+-- What commands do to the tables, and which are refused (NFD Management, "FIB Management", "RIB
+-- Management", "Strategy Choice Management", "Content Store Management").
+use Rattle.std.specs.Prelude.{◌≡◌, ℕ, ◌+◌, ◌-◌, ◌^◌, min, List, [], ◌∷◌, length, Bool, true, not, is_none, nat_lt, nat_le, ◌==◌, ◌&&◌, Option, None, Some, find, codes, if◌then◌else◌}
 use Rattle.std.specs.FinMap as map
+use Rattle.std.specs.Option.{option_map}
 use Rattle.std.specs.Ordering.{eq_by_cmp}
 use Rattle.ndn_tlv.specs.Element.{Field}
 use Rattle.ndn_names.specs.declared.component_type.TheConstants.{GENERIC, VERSION}
@@ -10,12 +11,13 @@ use Rattle.pit_fib.specs.declared.fib.TheConstants.{MAX_DEPTH, MAX_ENTRIES}
 use Rattle.pit_fib.specs.declared.strategy_table.StrategyId.{StrategyId}
 use Rattle.pit_fib.specs.declared.strategy_table.StrategyId.TheVariants.{BestRoute, Multicast}
 use Rattle.pit_fib.specs.Faces.{has_face}
-use Rattle.pit_fib.specs.Fib.{Routes, costs_at, with_route, without_route}
+use Rattle.pit_fib.specs.declared.route.Route.{Route}
+use Rattle.pit_fib.specs.declared.route.RouteKey.{RouteKey}
+use Rattle.pit_fib.specs.Fib.{LeadsTo, Routes, is_full_for_route, with_next_hop, with_route, without_next_hop, without_route}
 use Rattle.pit_fib.specs.StrategyTable.{Choices, without_choice}
 use Rattle.pit_fib.specs.ByName.{ByName}
 use Rattle.content_store.specs.Store.{CachedData, Erases}
-use Rattle.mgmt_core.specs.declared.action.Action.{Action}
-use Rattle.mgmt_core.specs.declared.action.Action.TheVariants.{AddNexthop, RemoveNexthop, SetStrategy, UnsetStrategy, EraseCache}
+use Rattle.mgmt_core.specs.declared.action.Action.TheVariants.{AddNexthop, RemoveNexthop, Register, Unregister, SetStrategy, UnsetStrategy, EraseCache}
 use Rattle.mgmt_core.specs.declared.types.TheConstants.{FACE_NOT_OPEN, OK, PREFIX_TOO_LONG, TABLE_FULL, UNKNOWN_STRATEGY}
 use Rattle.mgmt_core.specs.Commands.{Refusal, PrefixTooLong, FaceNotOpen, UnknownStrategy, TableFull, row_of}
 use Rattle.ndn_tlv.specs.Options.{◌>>=◌}
@@ -45,26 +47,48 @@ strategy_named name = find (is_strategy (without_last VERSION name)) (BestRoute 
 abbrev pub strategy_asked : PlainCommand → Option StrategyId
 strategy_asked c = c.strategy >>= strategy_named
 
--- ---- what refuses a command
+-- ---- routes
 
 -- the face that a command from this face stands for
 abbrev pub face_of : PlainCommand → ℕ → ℕ
 face_of c face = if c.face == 0 then face else c.face
 
+-- the face and the origin of the route that it is about
+abbrev pub key_of : PlainCommand → ℕ → RouteKey
+key_of c face = record { face = face_of c face; origin = c.origin }
+
+-- when a route of this period ends, if it has one; the greatest number is the last moment
+abbrev pub deadline_of : ℕ → Option ℕ → Option ℕ
+deadline_of now expires = option_map (λ period. min (now + period) (2 ^ 64 - 1)) expires
+
+-- the route that it registers at a moment
+abbrev pub route_asked : PlainCommand → ℕ → Route
+route_asked c now = record {
+  cost = c.cost;
+  flags = c.flags;
+  deadline = deadline_of now c.expires;
+}
+
+-- ---- what refuses a command
+
 -- the name is new, and 4,096 stand
 abbrev pub is_full : {X : Type 0} → ByName X → List Field → Bool
 is_full table name = not (map.contains_key table name) && nat_le MAX_ENTRIES (map.len table)
 
--- the table that a command changes
-abbrev pub is_full_for : Action → Routes → Choices → List Field → Bool
-is_full_for SetStrategy routes choices name = is_full choices name
-is_full_for _ routes choices name = is_full routes name
+-- the table that a command enlarges, from this face, has no room for what it adds
+abbrev pub is_full_for : PlainCommand → ℕ → Routes → Choices → Bool
+is_full_for c face routes choices =
+    elim c.action [
+      | Register ↦ is_full_for_route routes c.name (key_of c face)
+      | SetStrategy ↦ is_full choices c.name
+      | _ ↦ is_full routes c.name
+    ]
 
 abbrev pub refuses : PlainCommand → ℕ → List ℕ → Routes → Choices → Refusal → Bool
 refuses c face up routes choices PrefixTooLong = nat_lt MAX_DEPTH (length c.name)
 refuses c face up routes choices FaceNotOpen = not (has_face (face_of c face) up)
 refuses c face up routes choices UnknownStrategy = is_none (strategy_asked c)
-refuses c face up routes choices TableFull = is_full_for c.action routes choices c.name
+refuses c face up routes choices TableFull = is_full_for c face routes choices
 
 abbrev pub code_of : Refusal → ℕ
 code_of PrefixTooLong = PREFIX_TOO_LONG
@@ -82,19 +106,20 @@ abbrev pub status_of : PlainCommand → ℕ → List ℕ → Routes → Choices 
 status_of c face up routes choices =
     first_status (refuses c face up routes choices) (row_of c.action).refusals
 
--- each face that has a route is up
+-- each face that has a next hop or a route is up
 abbrev pub AllAreUp : Routes → List ℕ → Type 0
-AllAreUp routes up =
-    (name : List Field) (face : ℕ) → IsSome (map.get (costs_at routes name) face)
-    → has_face face up ≡ true
+AllAreUp routes up = (face : ℕ) → LeadsTo routes face → has_face face up ≡ true
 
 -- ---- what a command does
 
-abbrev pub routes_after : PlainCommand → ℕ → Routes → Routes
-routes_after c face routes =
+-- what a command from a face does at a moment
+abbrev pub routes_after : PlainCommand → ℕ → ℕ → Routes → Routes
+routes_after c face now routes =
     elim c.action [
-      | AddNexthop ↦ with_route routes c.name (face_of c face) c.cost
-      | RemoveNexthop ↦ without_route routes c.name (face_of c face)
+      | AddNexthop ↦ with_next_hop routes c.name (face_of c face) c.cost
+      | RemoveNexthop ↦ without_next_hop routes c.name (face_of c face)
+      | Register ↦ with_route routes c.name (key_of c face) (route_asked c now)
+      | Unregister ↦ without_route routes c.name (key_of c face)
       | _ ↦ routes
     ]
 

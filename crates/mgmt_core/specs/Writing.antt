@@ -9,9 +9,10 @@ use Rattle.ndn_tlv.specs.Writing.{octets, optional, number}
 use Rattle.ndn_names.specs.Name.{octets_of}
 use Rattle.pit_fib.specs.declared.hops.Hop.{Hop}
 use Rattle.pit_fib.specs.declared.strategy_table.StrategyId.{StrategyId}
-use Rattle.pit_fib.specs.Fib.{Routes, listed}
+use Rattle.pit_fib.specs.Effective.{listed}
+use Rattle.pit_fib.specs.Fib.{Routes, left_at}
 use Rattle.pit_fib.specs.StrategyTable.{Choices}
-use Rattle.ndn_packets.specs.declared.command_types.TheConstants.{COST, COUNT, ENTRY, FACE_ID, NEXT_HOP, CONTROL_PARAMETERS, CONTROL_RESPONSE, STATUS_CODE, STATUS_TEXT, STRATEGY}
+use Rattle.ndn_packets.specs.declared.command_types.TheConstants.{COST, COUNT, ENTRY, EXPIRATION_PERIOD, FACE_ID, FLAGS, NEXT_HOP, CONTROL_PARAMETERS, CONTROL_RESPONSE, ORIGIN, STATUS_CODE, STATUS_TEXT, STRATEGY}
 use Rattle.ndn_packets.specs.declared.types.TheConstants.{NAME}
 use Rattle.mgmt_core.specs.declared.types.TheConstants.{OK}
 use Rattle.mgmt_core.specs.declared.dataset.TheConstants.{SEGMENT_LEN}
@@ -34,9 +35,12 @@ abbrev pub reply_fields : PlainCommand → ℕ → List Field
 reply_fields c face =
     (NAME, octets_of c.name)
     ∷ (number FACE_ID (given c FACE_ID (Some (face_of c face)))
+    ++ (number ORIGIN (given c ORIGIN (Some c.origin))
     ++ (number COST (given c COST (Some c.cost))
+    ++ (number FLAGS (given c FLAGS (Some c.flags))
+    ++ (number EXPIRATION_PERIOD (given c EXPIRATION_PERIOD c.expires)
     ++ (number COUNT (given c COUNT c.count)
-    ++ optional STRATEGY (option_map strategy_value (given c STRATEGY (strategy_asked c))))))
+    ++ optional STRATEGY (option_map strategy_value (given c STRATEGY (strategy_asked c)))))))))
 
 -- the body of a reply
 abbrev pub reply_body : PlainCommand → ℕ → List ℕ
@@ -68,7 +72,7 @@ hop_text hop =
     let fields = (FACE_ID, shortest_nni hop.face) ∷ (COST, shortest_nni hop.cost) ∷ [] in
     element (NEXT_HOP, octets fields)
 
--- an entry of the list of routes: its name and its next hops
+-- an entry of the list of routes: its name and its effective next hops
 abbrev pub route_text : List Field × List Hop → List ℕ
 route_text entry = element (ENTRY, element (NAME, octets_of entry.0) ++ flat_map hop_text entry.1)
 
@@ -77,9 +81,9 @@ abbrev pub choice_text : List Field × StrategyId → List ℕ
 choice_text entry =
     element (ENTRY, octets ((NAME, octets_of entry.0) ∷ (STRATEGY, strategy_value entry.1) ∷ []))
 
--- the list of routes, and that of strategies
-abbrev pub fib_text : Routes → List ℕ
-fib_text routes = flat_map route_text (listed routes)
+-- the list of routes at a moment, and that of strategies
+abbrev pub fib_text : ℕ → Routes → List ℕ
+fib_text now routes = flat_map route_text (listed (left_at now routes))
 
 abbrev pub strategy_text : Choices → List ℕ
 strategy_text choices = flat_map choice_text (entries choices)

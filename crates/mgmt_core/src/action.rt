@@ -1,17 +1,23 @@
 ghost use Rattle.std.specs.Prelude.{◌≡◌};
 ghost use Rattle.mgmt_core.specs.Commands.{row_of, is_named, takes, action_named};
 
-use ndn_packets::command_types::{COST, COUNT, FACE_ID, STRATEGY};
+use ndn_packets::command_types::{
+    COST, COUNT, EXPIRATION_PERIOD, FACE_ID, FLAGS, ORIGIN, STRATEGY,
+};
 use ndn_packets::types::NAME;
 
-/// What a command does (NFD Management, "FIB Management", "Strategy Choice Management", "Content
-/// Store Management").
+/// What a command does (NFD Management, "FIB Management", "RIB Management", "Strategy Choice
+/// Management", "Content Store Management").
 #[derive(Clone, Copy, Debug, PartialEq, Eq)]
 pub enum Action {
     /// `fib/add-nexthop`: adds the next hop of a face, or sets its cost.
     AddNexthop,
     /// `fib/remove-nexthop`: removes the next hop of a face.
     RemoveNexthop,
+    /// `rib/register`: registers the route of a face and an origin, or replaces it.
+    Register,
+    /// `rib/unregister`: removes the route of a face and an origin.
+    Unregister,
     /// `strategy-choice/set`: sets the strategy of a name.
     SetStrategy,
     /// `strategy-choice/unset`: removes the strategy of a name.
@@ -32,6 +38,8 @@ impl Action {
             Action::RemoveNexthop => {
                 module == b"fib".as_slice() && verb == b"remove-nexthop".as_slice()
             }
+            Action::Register => module == b"rib".as_slice() && verb == b"register".as_slice(),
+            Action::Unregister => module == b"rib".as_slice() && verb == b"unregister".as_slice(),
             Action::SetStrategy => {
                 module == b"strategy-choice".as_slice() && verb == b"set".as_slice()
             }
@@ -52,6 +60,12 @@ impl Action {
         if Action::RemoveNexthop.is_named(module, verb) {
             return Some(Action::RemoveNexthop);
         }
+        if Action::Register.is_named(module, verb) {
+            return Some(Action::Register);
+        }
+        if Action::Unregister.is_named(module, verb) {
+            return Some(Action::Unregister);
+        }
         if Action::SetStrategy.is_named(module, verb) {
             return Some(Action::SetStrategy);
         }
@@ -71,6 +85,11 @@ impl Action {
         match self {
             Action::AddNexthop => kind == NAME || kind == FACE_ID || kind == COST,
             Action::RemoveNexthop => kind == NAME || kind == FACE_ID,
+            Action::Register => matches!(
+                kind,
+                NAME | FACE_ID | ORIGIN | COST | FLAGS | EXPIRATION_PERIOD
+            ),
+            Action::Unregister => kind == NAME || kind == FACE_ID || kind == ORIGIN,
             Action::SetStrategy => kind == NAME || kind == STRATEGY,
             Action::UnsetStrategy => kind == NAME,
             Action::EraseCache => kind == NAME || kind == COUNT,

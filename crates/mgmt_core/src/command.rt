@@ -9,8 +9,13 @@ use crate::fields::{are_fields, has_needed, name_field, number_field, strategy_f
 use crate::types::{BAD_PARAMETERS, UNKNOWN_COMMAND};
 use ndn_names::Name;
 use ndn_names::component_type::{GENERIC, PARAMETERS_SHA256_DIGEST};
-use ndn_packets::command_types::{CONTROL_PARAMETERS, COST, COUNT, FACE_ID};
+use ndn_packets::command_types::{
+    CONTROL_PARAMETERS, COST, COUNT, EXPIRATION_PERIOD, FACE_ID, FLAGS, ORIGIN,
+};
 use ndn_tlv::single_element;
+
+/// The flags of a route where none are given: longer names inherit it.
+const CHILD_INHERIT: u64 = 1;
 
 /// A command that is well formed (NFD Management, "Control Command").
 #[derive(Clone, Copy, Debug)]
@@ -19,10 +24,16 @@ pub struct Command<'a> {
     pub action: Action,
     /// The name whose routes, strategy or Data it is about.
     pub name: Name<'a>,
-    /// The face of the next hop: 0 for the one that the command came from.
+    /// The face of the next hop or route: 0 for the one that the command came from.
     pub face: u64,
-    /// The cost of the next hop, 0 where it is not given.
+    /// The origin of the route, 0 where it is not given.
+    pub origin: u64,
+    /// The cost of the next hop or route, 0 where it is not given.
     pub cost: u64,
+    /// The flags of the route: 1 is child-inherit and 2 is capture. 1 where they are not given.
+    pub flags: u64,
+    /// For how long the route is registered, in milliseconds; without an end where it is not given.
+    pub expires: Option<u64>,
     /// The name of the strategy.
     pub strategy: Option<Name<'a>>,
     /// The greatest number of Data to erase.
@@ -110,7 +121,10 @@ fn command_of(action: Action, fields: &[u8]) -> Option<Command<'_>>
     }
     let name = name_field(fields)?;
     let face = number_field(fields, FACE_ID)?;
+    let origin = number_field(fields, ORIGIN)?;
     let cost = number_field(fields, COST)?;
+    let flags = number_field(fields, FLAGS)?;
+    let expires = number_field(fields, EXPIRATION_PERIOD)?;
     let strategy = strategy_field(fields)?;
     let count = number_field(fields, COUNT)?;
     if action == Action::UnsetStrategy && name.is_empty() {
@@ -120,7 +134,10 @@ fn command_of(action: Action, fields: &[u8]) -> Option<Command<'_>>
         action,
         name,
         face: face.unwrap_or(0),
+        origin: origin.unwrap_or(0),
         cost: cost.unwrap_or(0),
+        flags: flags.unwrap_or(CHILD_INHERIT),
+        expires,
         strategy,
         count,
     })

@@ -18,13 +18,14 @@ pub fn segment_limit_is_as_promised()
     ensures { SEGMENT_LEN ≡ 4096 }
 {}
 
-/// The list of routes (NFD Management, "FIB Dataset"): by name in canonical order, the hops of a
-/// name by cost and then by face.
-pub fn fib_dataset(alloc: Global, fib: &Fib) -> Result<Vec<u8>, Memory>
-    ensures { IfOk result (λ text. text.items ≡ fib_text fib.now.table) }
+/// The list of routes (NFD Management, "FIB Dataset"), as they are once those that end by this
+/// moment are gone: by name in canonical order, the effective next hops of a name by cost and then
+/// by face.
+pub fn fib_dataset(alloc: Global, fib: &Fib, now: u64) -> Result<Vec<u8>, Memory>
+    ensures { IfOk result (λ text. text.items ≡ fib_text now fib.now.table) }
 {
     let mut text = Vec::new(alloc);
-    for entry in &fib.list(alloc)? {
+    for entry in &fib.list(alloc, now)? {
         put_route(alloc, &mut text, &entry.0, &entry.1)?;
     }
     Ok(text)

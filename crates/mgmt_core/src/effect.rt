@@ -4,11 +4,11 @@ ghost use Rattle.pit_fib.specs.Faces.{IsRising, has_face};
 ghost use Rattle.mgmt_core.specs.Reading.{asked};
 ghost use Rattle.mgmt_core.specs.Room.{IsKeptOrEnded, IsPrepared};
 ghost use Rattle.mgmt_core.specs.declared.action.Action.TheVariants as actions;
-ghost use Rattle.mgmt_core.specs.Tables.{AllAreUp, CachedAfter, choices_after, face_of, if_done, routes_after, status_of, strategy_asked, with_choice};
-ghost use Rattle.mgmt_core.specs.Steps.{add_status, set_status};
+ghost use Rattle.mgmt_core.specs.Tables.{AllAreUp, CachedAfter, choices_after, face_of, if_done, key_of, route_asked, routes_after, status_of, strategy_asked, with_choice};
+ghost use Rattle.mgmt_core.specs.Steps.{add_status, register_status, set_status};
 ghost use Rattle.mgmt_core.specs.Writing.{body_after};
 ghost use Rattle.ndn_names.specs.View.{components};
-ghost use Rattle.pit_fib.specs.Fib.{HasRoomFor, costs_at, with_route};
+ghost use Rattle.pit_fib.specs.Fib.{HasRoomFor, route_refusal, with_next_hop, with_route};
 ghost use Rattle.pit_fib.specs.Refusal.{refusal};
 
 use crate::action::Action;
@@ -19,26 +19,32 @@ use crate::types::{FACE_NOT_OPEN, OK, PREFIX_TOO_LONG, TABLE_FULL, UNKNOWN_STRAT
 use ndn_tlv::Memory;
 use pit_fib::{Faces, Fib, MAX_DEPTH, StrategyTable};
 
-/// Gives a command, from this face and while these faces are up, its effect on the tables. Each
-/// face that has a route is up.
+/// Gives a command, from this face and while these faces are up, its effect on the tables at this
+/// moment, in milliseconds since 1970. Each face that has a next hop or a route is up.
 ///
-/// The status is the first of these that applies. Of `fib/add-nexthop` and `strategy-choice/set`:
-/// 414 where the name has more than 32 components. Of the first: 410 where the face is not up. Of
-/// the second: 404 where there is no such strategy. Of both: 503 where the name is new to the table
-/// and 4,096 stand there. Otherwise 200. Only 200 changes a table. `Memory` comes only in place of
-/// 200, where the command was not prepared, and changes no table.
+/// The status is the first of these that applies. Of `fib/add-nexthop`, `rib/register` and
+/// `strategy-choice/set`: 414 where the name has more than 32 components. Of the first two: 410
+/// where the face is not up. Of the last: 404 where there is no such strategy. Of all three: 503
+/// where the name is new to the table and 4,096 stand there; of `rib/register` also where the route
+/// is new and 16,384 stand. Otherwise 200, as always of the other commands, `rib/unregister` among
+/// them. Only 200 changes a table. `Memory` comes only in place of 200, where the command was not
+/// prepared, and changes no table.
+///
+/// A route that is registered ends after the period that is given, if one is, but at `u64::MAX` at
+/// the latest. It takes the place of the name's route of this face and origin.
 pub fn apply(
     tables: &mut Tables,
     command: &Command<'_>,
     face: u64,
     up: &Faces,
+    now: u64,
 ) -> Result<Applied, Memory>
     requires { AllAreUp tables.old.fib.table up.now }
     ensures status { IfOk result (λ a. a.status ≡ status_of (asked command.now) face up.now
         tables.old.fib.table tables.old.strategies.table) }
     ensures body { IfOk result (λ a. a.body ≡ body_after (asked command.now) face a.status) }
     ensures routes { IfOk result (λ a. tables.new.fib.table ≡ if_done a.status
-        (routes_after (asked command.now) face tables.old.fib.table) tables.old.fib.table) }
+        (routes_after (asked command.now) face now tables.old.fib.table) tables.old.fib.table) }
     ensures choices { IfOk result (λ a. tables.new.strategies.table ≡ if_done a.status
         (choices_after (asked command.now) tables.old.strategies.table)
         tables.old.strategies.table) }
@@ -67,6 +73,8 @@ pub fn apply(
     match command.action {
         Action::AddNexthop => add_nexthop(&mut tables.fib, command, face)?,
         Action::RemoveNexthop => tables.fib.remove(command.name, face),
+        Action::Register => register(&mut tables.fib, command, face, now)?,
+        Action::Unregister => tables.fib.unregister(command.name, face, command.origin),
         Action::SetStrategy => set_strategy(&mut tables.strategies, command)?,
         Action::UnsetStrategy => tables.strategies.unset(command.name),
         Action::EraseCache => {
@@ -81,14 +89,17 @@ fn status_in(tables: &Tables, command: &Command<'_>, face: u64, up: &Faces) -> u
     requires { AllAreUp tables.now.fib.table up.now }
     ensures exact { result ≡ status_of (asked command.now) face up.now
         tables.now.fib.table tables.now.strategies.table }
-    ensures room { command.now.action ≡ actions.AddNexthop → result ≡ OK → HasRoomFor
-        (costs_at tables.now.fib.table (components command.now.name))
-        (face_of (asked command.now) face) }
+    ensures room_to_add { command.now.action ≡ actions.AddNexthop → result ≡ OK
+        → HasRoomFor tables.now.fib.table (face_of (asked command.now) face) }
+    ensures room_to_register { command.now.action ≡ actions.Register → result ≡ OK
+        → HasRoomFor tables.now.fib.table (face_of (asked command.now) face) }
 {
     match command.action {
         Action::AddNexthop => add_status(&tables.fib, command, command.face_from(face), up),
+        Action::Register => register_status(&tables.fib, command, command.face_from(face), up),
         Action::SetStrategy => set_status(&tables.strategies, command),
-        Action::RemoveNexthop | Action::UnsetStrategy | Action::EraseCache => OK,
+        Action::RemoveNexthop | Action::Unregister | Action::UnsetStrategy | Action::EraseCache =>
+            OK,
     }
 }
 
@@ -96,8 +107,7 @@ fn status_in(tables: &Tables, command: &Command<'_>, face: u64, up: &Faces) -> u
 fn add_status(fib: &Fib, command: &Command<'_>, face: u64, up: &Faces) -> u16
     requires { AllAreUp fib.now.table up.now }
     ensures exact { result ≡ add_status (components command.now.name) face up.now fib.now.table }
-    ensures room { result ≡ OK
-        → HasRoomFor (costs_at fib.now.table (components command.now.name)) face }
+    ensures room { result ≡ OK → HasRoomFor fib.now.table face }
 {
     if command.name.len() > MAX_DEPTH {
         return PREFIX_TOO_LONG;
@@ -106,6 +116,28 @@ fn add_status(fib: &Fib, command: &Command<'_>, face: u64, up: &Faces) -> u16
         return FACE_NOT_OPEN;
     }
     if fib.refusal_of(command.name).is_some() {
+        return TABLE_FULL;
+    }
+    OK
+}
+
+/// The status of a command that registers a route of this face.
+fn register_status(fib: &Fib, command: &Command<'_>, face: u64, up: &Faces) -> u16
+    requires { AllAreUp fib.now.table up.now }
+    ensures exact { result ≡ register_status (components command.now.name)
+        (record { face = face; origin = command.now.origin }) up.now fib.now.table }
+    ensures room { result ≡ OK → HasRoomFor fib.now.table face }
+{
+    if command.name.len() > MAX_DEPTH {
+        return PREFIX_TOO_LONG;
+    }
+    if !is_up(face, up) {
+        return FACE_NOT_OPEN;
+    }
+    if fib
+        .route_refusal_of(command.name, face, command.origin)
+        .is_some()
+    {
         return TABLE_FULL;
     }
     OK
@@ -130,15 +162,41 @@ fn set_status(choices: &StrategyTable, command: &Command<'_>) -> u16
 
 /// Adds a hop of this face, or sets its cost, where nothing refuses it.
 fn add_nexthop(fib: &mut Fib, command: &Command<'_>, face: u64) -> Result<(), Memory>
-    requires room { HasRoomFor (costs_at fib.old.table (components command.now.name)) face }
+    requires room { HasRoomFor fib.old.table face }
     requires taken { refusal fib.old.table (components command.now.name) ≡ None }
     ensures ok { OnOk result (fib.new.table
-        ≡ with_route fib.old.table (components command.now.name) face command.now.cost) }
+        ≡ with_next_hop fib.old.table (components command.now.name) face command.now.cost) }
     ensures err { OnErr result (fib.new.table ≡ fib.old.table) }
     ensures ended { fib.new.prepared ≡ None }
     ensures promised { fib.old.prepared ≡ Some (components command.now.name) → IsOk result }
 {
     match fib.add(command.name, face, command.cost) {
+        Ok(()) => Ok(()),
+        Err(_) => Err(Memory),
+    }
+}
+
+/// Registers a route of this face at a moment, where nothing refuses it.
+fn register(fib: &mut Fib, command: &Command<'_>, face: u64, now: u64) -> Result<(), Memory>
+    requires room { HasRoomFor fib.old.table face }
+    requires taken { route_refusal fib.old.table (components command.now.name)
+        (record { face = face; origin = command.now.origin }) ≡ None }
+    ensures ok { OnOk result (fib.new.table ≡ with_route fib.old.table
+        (components command.now.name) (record { face = face; origin = command.now.origin })
+        (route_asked (asked command.now) now)) }
+    ensures err { OnErr result (fib.new.table ≡ fib.old.table) }
+    ensures ended { fib.new.prepared ≡ None }
+    ensures promised { fib.old.prepared ≡ Some (components command.now.name) → IsOk result }
+{
+    let deadline = command.deadline_from(now);
+    match fib.register(
+        command.name,
+        face,
+        command.origin,
+        command.cost,
+        command.flags,
+        deadline,
+    ) {
         Ok(()) => Ok(()),
         Err(_) => Err(Memory),
     }

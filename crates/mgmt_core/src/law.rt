@@ -1,32 +1,42 @@
 ghost use Rattle.std.specs.Prelude.{◌≡◌, ◌≢◌, ◌+◌, ◌≤◌, ℕ, List, Some, IfErr, IsSome, length, true};
 ghost use Rattle.ndn_tlv.specs.Element.{Field};
 ghost use Rattle.pit_fib.specs.Faces.{adding, has_face};
-ghost use Rattle.pit_fib.specs.Fib.{Routes, without_face};
+ghost use Rattle.pit_fib.specs.Fib.{Routes, left_at, without_face};
 ghost use Rattle.pit_fib.specs.StrategyTable.{Choices};
 ghost use Rattle.mgmt_core.specs.Commands.{text_of};
 ghost use Rattle.mgmt_core.specs.Reading.{PlainCommand, command_at};
 ghost use Rattle.mgmt_core.specs.Tables.{AllAreUp, if_done, routes_after, status_of};
 ghost use Rattle.mgmt_core.specs.Writing.{body_after, body_limit, reply_limit, response};
 
-/// Law: where each face that has a route is up, so it is after a command, whatever its status.
+/// Law: where each face that has a next hop or a route is up, so it is after a command, whatever
+/// its status and the moment.
 pub fn commands_leave_faces_up()
-    ensures { (c : PlainCommand) (face : ℕ) (up : List ℕ) (routes : Routes) (choices : Choices)
-        → AllAreUp routes up
-        → AllAreUp (if_done (status_of c face up routes choices) (routes_after c face routes) routes) up }
+    ensures { (c : PlainCommand) (face now : ℕ) (up : List ℕ) (routes : Routes)
+        (choices : Choices) → AllAreUp routes up
+        → AllAreUp (if_done (status_of c face up routes choices)
+        (routes_after c face now routes) routes) up }
 {}
 
-/// Law: where each face that has a route is up, and a face closes, each face that then has a route
-/// is among those that stay up.
+/// Law: where each face that has a next hop or a route is up, and a face closes, each face that
+/// then has one is among those that stay up.
 pub fn closings_leave_faces_up()
     ensures { (up rest : List ℕ) (face : ℕ) (routes : Routes)
         → ((f : ℕ) → has_face f up ≡ true → f ≢ face → has_face f rest ≡ true)
         → AllAreUp routes up → AllAreUp (without_face routes face) rest }
 {}
 
-/// Law: where each face that has a route is up, so it is after a face opens, or is refused.
+/// Law: where each face that has a next hop or a route is up, so it is after a face opens, or is
+/// refused.
 pub fn openings_leave_faces_up()
     ensures { (face : ℕ) (up : List ℕ) (routes : Routes)
         → AllAreUp routes up → AllAreUp routes (adding face up).1 }
+{}
+
+/// Law: where each face that has a next hop or a route is up, so it is after the routes that end by
+/// a moment are gone.
+pub fn expiry_leaves_faces_up()
+    ensures { (now : ℕ) (up : List ℕ) (routes : Routes)
+        → AllAreUp routes up → AllAreUp (left_at now routes) up }
 {}
 
 /// Law: each status that a command may have has a text.

@@ -23,8 +23,8 @@ pub use dataset::{
 };
 pub use effect::apply;
 pub use law::{
-    closings_leave_faces_up, commands_leave_faces_up, openings_leave_faces_up, replies_are_bounded,
-    statuses_have_texts,
+    closings_leave_faces_up, commands_leave_faces_up, expiry_leaves_faces_up,
+    openings_leave_faces_up, replies_are_bounded, statuses_have_texts,
 };
 pub use reply::{BODY_EXTRA, REPLY_EXTRA};
 pub use response::{put_response, status_text};

@@ -1,7 +1,8 @@
 ghost use Rattle.std.specs.Prelude.{◌≡◌, ◌<◌, ◌≤◌, ◌+◌, ◌^◌, ◌++◌, length, vec_len, IsOk, IfOk, OnOk};
 ghost use Rattle.std.specs.Vec.{vec_capacity};
 ghost use Rattle.mgmt_core.specs.Reading.{asked};
-ghost use Rattle.mgmt_core.specs.Tables.{face_of, strategy_asked};
+ghost use Rattle.mgmt_core.specs.Steps.{about_fields, said_fields};
+ghost use Rattle.mgmt_core.specs.Tables.{deadline_of, face_of, strategy_asked};
 ghost use Rattle.ndn_tlv.specs.Writing.{octets, optional};
 ghost use Rattle.mgmt_core.specs.Writing.{given, reply_body, reply_fields, reply_limit};
 ghost use Rattle.mgmt_core.specs.Writing.{strategy_value};
@@ -11,7 +12,9 @@ ghost use Rattle.mgmt_core.specs.Room.{HasRoomForReply};
 use crate::applied::Octets;
 use crate::command::Command;
 use crate::strategy_name::{strategy_named, strategy_value};
-use ndn_packets::command_types::{CONTROL_PARAMETERS, COST, COUNT, FACE_ID, STRATEGY};
+use ndn_packets::command_types::{
+    CONTROL_PARAMETERS, COST, COUNT, EXPIRATION_PERIOD, FACE_ID, FLAGS, ORIGIN, STRATEGY,
+};
 use ndn_packets::types::NAME;
 use ndn_tlv::{Memory, put_element, put_number_field};
 use pit_fib::StrategyId;
@@ -19,11 +22,11 @@ use std::alloc::Global;
 use std::mem;
 
 /// The body of a reply has at most so many octets beyond those of the name that the command is
-/// about: the headers, and the longest fields after the name, which are those of a strategy.
-pub const BODY_EXTRA: usize = 62;
+/// about: the headers, and the longest fields after the name, which are the numbers of a route.
+pub const BODY_EXTRA: usize = 70;
 
 /// A whole reply has at most so many octets beyond those of that name.
-pub const REPLY_EXTRA: usize = 108;
+pub const REPLY_EXTRA: usize = 116;
 
 /// The greatest number of octets before an element's value, where its type has one octet.
 const HEADER_LEN: usize = 10;
@@ -42,6 +45,13 @@ impl Command<'_> {
         ensures { result ≡ face_of (asked self.now) face }
     {
         if self.face == 0 { face } else { self.face }
+    }
+
+    /// When the route that it registers at this moment ends, if it does.
+    pub(crate) fn deadline_from(&self, now: u64) -> Option<u64>
+        ensures { result ≡ deadline_of now self.now.expires }
+    {
+        Some(now.saturating_add(self.expires?))
     }
 
     /// The strategy that it asks for.
@@ -80,12 +90,40 @@ impl Command<'_> {
         ensures room { vec_len out.old + length (octets (reply_fields (asked self.now) face))
             ≤ vec_capacity out.old → IsOk result }
     {
+        self.put_about(out, face)?;
+        self.put_said(out)
+    }
+
+    /// Appends the fields that say what it is about, the name, the face and the origin, or some octets
+    /// of them.
+    fn put_about(&self, out: &mut Vec<u8>, face: u64) -> Result<(), Memory>
+        ensures ok { OnOk result
+            (out.new.items ≡ out.old.items ++ octets (about_fields (asked self.now) face)) }
+        ensures room { vec_len out.old + length (octets (about_fields (asked self.now) face))
+            ≤ vec_capacity out.old → IsOk result }
+        ensures capacity { vec_capacity out.old ≤ vec_capacity out.new }
+    {
         let face = self.given_number(FACE_ID, Some(self.face_from(face)));
-        let cost = self.given_number(COST, Some(self.cost));
-        let count = self.given_number(COUNT, self.count);
+        let origin = self.given_number(ORIGIN, Some(self.origin));
         put_element(out, NAME, self.name.as_octets())?;
         put_number_field(out, FACE_ID, face)?;
+        put_number_field(out, ORIGIN, origin)
+    }
+
+    /// Appends the other fields, or some octets of them.
+    fn put_said(&self, out: &mut Vec<u8>) -> Result<(), Memory>
+        ensures ok { OnOk result
+            (out.new.items ≡ out.old.items ++ octets (said_fields (asked self.now))) }
+        ensures room { vec_len out.old + length (octets (said_fields (asked self.now)))
+            ≤ vec_capacity out.old → IsOk result }
+    {
+        let cost = self.given_number(COST, Some(self.cost));
+        let flags = self.given_number(FLAGS, Some(self.flags));
+        let expires = self.given_number(EXPIRATION_PERIOD, self.expires);
+        let count = self.given_number(COUNT, self.count);
         put_number_field(out, COST, cost)?;
+        put_number_field(out, FLAGS, flags)?;
+        put_number_field(out, EXPIRATION_PERIOD, expires)?;
         put_number_field(out, COUNT, count)?;
         put_strategy(out, self.given_strategy())
     }

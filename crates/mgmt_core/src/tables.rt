@@ -52,7 +52,7 @@ impl Tables {
         self.strategies.forget_prepared();
         self.room.prepare(command)?;
         match command.action {
-            Action::AddNexthop => self.fib.prepare(command.name),
+            Action::AddNexthop | Action::Register => self.fib.prepare(command.name),
             Action::SetStrategy => self.strategies.prepare(command.name),
             _ => Ok(()),
         }

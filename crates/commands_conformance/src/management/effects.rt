@@ -13,23 +13,23 @@ use std::alloc::Global;
 use std::marker::Model;
 use test_support::octets;
 
-/// Tables, and the faces that are up, among them each face that has a route.
+/// Tables, the faces that are up, among them each face that has a next hop or a route, and the
+/// moment.
 #[derive(Drop)]
 pub struct Station {
     tables: Tables,
     up: Faces,
+    now: u64,
 }
 
 impl Model for Station {
-    ghost use Rattle.std.specs.FinMap as map;
-    ghost use Rattle.std.specs.Coded.{coded_ℕ};
-    ghost use Rattle.pit_fib.specs.Tables.{ByFace};
+    ghost use Rattle.pit_fib.specs.Fib.{Entry, entry_code};
     ghost use Rattle.pit_fib.specs.NameTable.{NameTable, name_table_code};
     ghost use Rattle.mgmt_core.specs.Tables.{AllAreUp};
 
-    ghost Value = { NameTable ByFace };
+    ghost Value = { NameTable Entry };
 
-    ghost coded = { name_table_code (map.code coded_ℕ coded_ℕ) };
+    ghost coded = { name_table_code entry_code };
 
     ghost view = { λ s. s.tables.fib };
 
@@ -37,7 +37,7 @@ impl Model for Station {
 }
 
 impl Station {
-    /// Without routes and Data. The faces 2 and 9 are up.
+    /// Without routes and Data. The faces 2 and 9 are up, and the moment is 1000000.
     pub fn new(alloc: Global) -> Option<Station> {
         Station::of_faces(alloc, 2, 9)
     }
@@ -51,12 +51,13 @@ impl Station {
         Some(Station {
             tables: Tables::new(alloc, Fib::new(alloc), StrategyTable::new(alloc), store),
             up,
+            now: 1_000_000,
         })
     }
 
     /// What becomes of a command from face 9.
     fn apply(&mut self, command: &Command<'_>) -> Option<Applied> {
-        apply(&mut self.tables, command, 9, &self.up).ok()
+        apply(&mut self.tables, command, 9, &self.up, self.now).ok()
     }
 
     /// The status of a command from face 9, 0 where it is refused memory.
@@ -78,12 +79,17 @@ impl Station {
         self.apply(command)
     }
 
+    /// Goes to a moment. No route is removed.
+    fn go_to(&mut self, now: u64) {
+        self.now = now;
+    }
+
     /// The list of strategies, or that of routes.
     pub fn list(&self, alloc: Global, of_strategies: bool) -> Option<Vec<u8>> {
         if of_strategies {
             strategy_dataset(alloc, &self.tables.strategies).ok()
         } else {
-            fib_dataset(alloc, &self.tables.fib).ok()
+            fib_dataset(alloc, &self.tables.fib, self.now).ok()
         }
     }
 
@@ -114,6 +120,8 @@ fn verb_of(call: &str) -> Option<&'static str> {
     match call {
         "add" => Some("/localhost/nfd/fib/add-nexthop "),
         "remove" => Some("/localhost/nfd/fib/remove-nexthop "),
+        "register" => Some("/localhost/nfd/rib/register "),
+        "unregister" => Some("/localhost/nfd/rib/unregister "),
         "set" => Some("/localhost/nfd/strategy-choice/set "),
         "unset" => Some("/localhost/nfd/strategy-choice/unset "),
         "erase" => Some("/localhost/nfd/cs/erase "),
@@ -150,12 +158,16 @@ fn put_data(alloc: Global, station: &mut Station, uri: &str) -> Option<&'static 
     Some(if is_kept { "kept" } else { "lost" })
 }
 
-/// `data` and `find` with a URI, `routes`, `strategies`, or a command.
+/// `data` and `find` with a URI, `at` with a moment, `routes`, `strategies`, or a command.
 fn answer(alloc: Global, station: &mut Station, call: &str) -> Option<String> {
     let (call, rest) = call.split_once(' ').unwrap_or((call, "/"));
     match call {
         "routes" => hex_shown(alloc, &station.list(alloc, false)?),
         "strategies" => hex_shown(alloc, &station.list(alloc, true)?),
+        "at" => {
+            station.go_to(rest.parse().ok()?);
+            String::from_str(alloc, rest).ok()
+        }
         "data" => String::from_str(alloc, put_data(alloc, station, rest)?).ok(),
         "find" => {
             let name = NameBuf::from_uri(alloc, rest).ok()?;
@@ -171,7 +183,7 @@ fn answer(alloc: Global, station: &mut Station, call: &str) -> Option<String> {
 }
 
 /// The answers to calls that `, ` parts.
-fn answers(alloc: Global, row: &str) -> Option<String> {
+pub fn answers(alloc: Global, row: &str) -> Option<String> {
     let mut station = Station::new(alloc)?;
     answers_of(alloc, &mut station, row)
 }
@@ -264,7 +276,10 @@ fn adds(name: Name<'_>, face: u64) -> Command<'_> {
         action: Action::AddNexthop,
         name,
         face,
+        origin: 0,
         cost: 0,
+        flags: 1,
+        expires: None,
         strategy: None,
         count: None,
     }
@@ -387,7 +402,10 @@ fn set(station: &mut Station, name: &NameBuf, strategy: &NameBuf) -> u16 {
         action: Action::SetStrategy,
         name: name.view(),
         face: 0,
+        origin: 0,
         cost: 0,
+        flags: 1,
+        expires: None,
         strategy: Some(strategy.view()),
         count: None,
     };

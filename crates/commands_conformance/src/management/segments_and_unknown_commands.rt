@@ -21,8 +21,10 @@ fn names_without_a_verb(rt: HostRuntime) {
 #[test]
 fn commands_that_do_not_exist(rt: HostRuntime) {
     let rows = "
-/localhost/nfd/rib/register 680507030801416a0100 -> 501
-/localhost/nfd/rib/register -> 501
+/localhost/nfd/rib/list 680507030801416a0100 -> 501
+/localhost/nfd/rib/list -> 501
+/localhost/nfd/rib/add-nexthop 68050703080141 -> 501
+/localhost/nfd/fib/register 68050703080141 -> 501
 /localhost/nfd/fib/list digest -> 501
 /localhost/nfd/fib/add -> 501
 /localhost/nfd/cs/add-nexthop -> 501
@@ -46,6 +48,9 @@ fn names_of_another_shape(rt: HostRuntime) {
 /localhost/nfd/fib/add-nexthop 6805070308014100 -> 400
 /localhost/nfd/fib/add-nexthop 69050703080141 -> 400
 /localhost/nfd/fib/add-nexthop 6805070308 -> 400
+/localhost/nfd/rib/register 680507030801416a0100 -> 400
+/localhost/nfd/rib/register -> 400
+/localhost/nfd/rib/unregister digest -> 400
 ";
     check_rows(&rt, rt.alloc(), rows, command_shown);
 }

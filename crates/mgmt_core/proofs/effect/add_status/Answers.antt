@@ -1,11 +1,8 @@
 use Rattle.std.proofs.Common.{sym, ◌∙◌}
-use Rattle.ndn_names.specs.View.{components}
-use Rattle.pit_fib.specs.Fib.{costs_at}
 use Rattle.mgmt_core.proofs.OpenFaces.{has_room}
 use Rattle.mgmt_core.proofs.effect.add_status.Goals as goal
 
 pub returns-clause-room : goal.returns-clause-room
 returns-clause-room c = λ done.
-    let name = components c.args.command.now.name in
     let is_up = c.if-not-is_up.false in
-    has_room (costs_at c.args.fib.now.table name) c.args.face c.args.up.now (c.is_up.ensures.small is_up) (c.is_up.ensures.rising is_up) (sym c.is_up.ensures.exact ∙ is_up) (c.requires name)
+    has_room c.args.fib.now.table c.args.face c.args.up.now (c.is_up.ensures.small is_up) (c.is_up.ensures.rising is_up) (sym c.is_up.ensures.exact ∙ is_up) c.requires

@@ -1,0 +1,158 @@
+//! Routes that are registered, and that end.
+
+use super::effects::{Station, answers};
+use super::{action_shown, name_in};
+use crate::rows::check_rows;
+use mgmt_core::*;
+use std::alloc::Global;
+
+/// What a command on a registered route asks for: its action, name, face, origin, cost, flags and
+/// period, or the status that refuses it.
+fn route_shown(alloc: Global, row: &str) -> Option<String> {
+    let name = name_in(alloc, row)?;
+    match Command::read(name.view()) {
+        Ok(command) => fields_shown(alloc, &command),
+        Err(status) => format!(in alloc; "{status}").ok(),
+    }
+}
+
+fn fields_shown(alloc: Global, command: &Command<'_>) -> Option<String> {
+    let (action, name) = (action_shown(command.action), command.name);
+    let (face, origin, cost) = (command.face, command.origin, command.cost);
+    let flags = command.flags;
+    let mut text = format!(in alloc; "{action} {name} {face} {origin} {cost} {flags}").ok()?;
+    match command.expires {
+        None => text.push_str(" -").ok()?,
+        Some(period) => write!(text, " {period}").ok()?,
+    }
+    Some(text)
+}
+
+/// All fields; absent ones are face 0, origin 0, cost 0, flags 1 and no period.
+#[test]
+fn fields_of_routes(rt: HostRuntime) {
+    let rows = "
+/localhost/nfd/rib/register 681507030801416901026f01036a01056c01026d0203e8 -> register /A 2 3 5 2 1000
+/localhost/nfd/rib/register 68050703080141 -> register /A 0 0 0 1 -
+/localhost/nfd/rib/register 68050703080141 digest -> register /A 0 0 0 1 -
+/localhost/nfd/rib/register 68020700 -> register / 0 0 0 1 -
+/localhost/nfd/rib/register 680807030801416c0100 -> register /A 0 0 0 0 -
+/localhost/nfd/rib/register 680807030801416d0100 -> register /A 0 0 0 1 0
+/localhost/nfd/rib/register 680e6d01096f01ff6f01030703080141 -> register /A 0 255 0 1 9
+/localhost/nfd/rib/register 680f07030801416d08ffffffffffffffff -> register /A 0 0 0 1 18446744073709551615
+/localhost/nfd/rib/unregister 680b07030801416901026f0103 -> unregister /A 2 3 0 1 -
+/localhost/nfd/rib/unregister 68050703080141 -> unregister /A 0 0 0 1 -
+";
+    check_rows(&rt, rt.alloc(), rows, route_shown);
+}
+
+/// A field of wrong form, one that is needed, one that the command does not take.
+#[test]
+fn fields_that_routes_need_and_take(rt: HostRuntime) {
+    let rows = "
+/localhost/nfd/rib/register 6803690102 -> 400
+/localhost/nfd/rib/register 6800 -> 400
+/localhost/nfd/rib/register 680707030801416f00 -> 400
+/localhost/nfd/rib/register 680a07030801416c03000002 -> 400
+/localhost/nfd/rib/register 680707030801416d00 -> 400
+/localhost/nfd/rib/register 680c07030801416b050703080142 -> 400
+/localhost/nfd/rib/register 68080703080141840105 -> 400
+/localhost/nfd/rib/unregister 68036f0103 -> 400
+/localhost/nfd/rib/unregister 680807030801416a0100 -> 400
+/localhost/nfd/rib/unregister 680807030801416c0101 -> 400
+/localhost/nfd/rib/unregister 680807030801416d0109 -> 400
+/localhost/nfd/rib/unregister 680c07030801416b050703080142 -> 400
+/localhost/nfd/rib/unregister 68080703080141840105 -> 400
+/localhost/nfd/rib/list 68050703080141 -> 501
+";
+    check_rows(&rt, rt.alloc(), rows, route_shown);
+}
+
+/// The whole reply to a command from face 9, while the faces 2 and 9 are up.
+fn reply_shown(alloc: Global, row: &str) -> Option<String> {
+    let name = name_in(alloc, row)?;
+    let mut station = Station::new(alloc)?;
+    let applied = station.apply_prepared(&Command::read(name.view()).ok()?)?;
+    response_shown(alloc, &applied)
+}
+
+fn response_shown(alloc: Global, applied: &Applied) -> Option<String> {
+    let text = status_text(applied.status)?;
+    let mut out = Vec::new(alloc);
+    put_response(&mut out, applied.status, text, applied.body.as_slice()).ok()?;
+    hex::encode(alloc, &out).ok()
+}
+
+/// The fields come in the order Name, FaceId, Origin, Cost, Flags, ExpirationPeriod.
+#[test]
+fn replies_of_routes(rt: HostRuntime) {
+    let rows = "
+/localhost/nfd/rib/register 680b07030801416901026a0105 -> 651a6601c867024f4b681107030801416901026f01006a01056c0101
+/localhost/nfd/rib/register 68126d0203e86c01026f01036a01050703080141 -> 651e6601c867024f4b681507030801416901096f01036a01056c01026d0203e8
+/localhost/nfd/rib/unregister 68080703080141690102 -> 65146601c867024f4b680b07030801416901026f0100
+/localhost/nfd/rib/unregister 680807030801416f0103 -> 65146601c867024f4b680b07030801416901096f0103
+/localhost/nfd/rib/register 68080703080141690107 -> 65136602019a670d66616365206e6f74206f70656e
+";
+    check_rows(&rt, rt.alloc(), rows, reply_shown);
+}
+
+/// A name of 33 components comes before a face that is not up. Neither matters to what is removed.
+#[test]
+fn routes_that_are_refused(rt: HostRuntime) {
+    let rows = "
+register 68680763080141080141080141080141080141080141080141080141080141080141080141080141080141080141080141080141080141080141080141080141080141080141080141080141080141080141080141080141080141080141080141080141080141690107 -> 414 -
+register 68080703080141690107, routes -> 410 -, -
+unregister 68680763080141080141080141080141080141080141080141080141080141080141080141080141080141080141080141080141080141080141080141080141080141080141080141080141080141080141080141080141080141080141080141080141080141690107 -> 200 686b07630801410801410801410801410801410801410801410801410801410801410801410801410801410801410801410801410801410801410801410801410801410801410801410801410801410801410801410801410801410801410801410801410801416901076f0100
+";
+    check_rows(&rt, rt.alloc(), rows, answers);
+}
+
+/// `/A/B` inherits the route of `/A`, until its own is a capture route.
+#[test]
+fn longer_names_inherit_routes(rt: HostRuntime) {
+    let rows = "
+register 680b07030801416901026a0105, register 680e07060801410801426901096c0100, routes, register 680e07060801410801426901096c0102, routes, unregister 680b0706080141080142690109, routes -> 200 681107030801416901026f01006a01056c0101, 200 681407060801410801426901096f01006a01006c0100, 800d070308014181066901026a01058018070608014108014281066901096a010081066901026a0105, 200 681407060801410801426901096f01006a01006c0102, 800d070308014181066901026a01058010070608014108014281066901096a0100, 200 680e07060801410801426901096f0100, 800d070308014181066901026a0105
+";
+    check_rows(&rt, rt.alloc(), rows, answers);
+}
+
+/// A route of 1000 milliseconds, of none, of the greatest number, and without a period.
+#[test]
+fn routes_end(rt: HostRuntime) {
+    let rows = "
+register 680c07030801416901026d0203e8, at 1000999, routes, at 1001000, routes -> 200 681507030801416901026f01006a01006c01016d0203e8, 1000999, 800d070308014181066901026a0100, 1001000, -
+register 680b07030801416901026d0100, routes -> 200 681407030801416901026f01006a01006c01016d0100, -
+register 681207030801416901026d08ffffffffffffffff, at 18446744073709551614, routes, at 18446744073709551615, routes -> 200 681b07030801416901026f01006a01006c01016d08ffffffffffffffff, 18446744073709551614, 800d070308014181066901026a0100, 18446744073709551615, -
+register 68080703080141690102, at 18446744073709551615, routes -> 200 681107030801416901026f01006a01006c0101, 18446744073709551615, 800d070308014181066901026a0100
+";
+    check_rows(&rt, rt.alloc(), rows, answers);
+}
+
+/// A route that is registered again has the new cost, and the new period or none.
+#[test]
+fn a_second_route_replaces_the_first(rt: HostRuntime) {
+    let rows = "
+register 680f07030801416901026a01076d0203e8, register 680b07030801416901026a0103, at 1001000, routes -> 200 681507030801416901026f01006a01076c01016d0203e8, 200 681107030801416901026f01006a01036c0101, 1001000, 800d070308014181066901026a0103
+register 680b07030801416901026a0103, register 680f07030801416901026a01036d0203e8, at 1001000, routes -> 200 681107030801416901026f01006a01036c0101, 200 681507030801416901026f01006a01036c01016d0203e8, 1001000, -
+";
+    check_rows(&rt, rt.alloc(), rows, answers);
+}
+
+/// Routes of one face and two origins: the least cost counts, and each is removed by its origin.
+#[test]
+fn routes_of_two_origins(rt: HostRuntime) {
+    let rows = "
+register 680e07030801416901026f01016a0107, register 680e07030801416901026f01026a0103, routes, unregister 680b07030801416901026f0102, routes, unregister 68080703080141690102, routes, unregister 680b07030801416901026f0101, routes -> 200 681107030801416901026f01016a01076c0101, 200 681107030801416901026f01026a01036c0101, 800d070308014181066901026a0103, 200 680b07030801416901026f0102, 800d070308014181066901026a0107, 200 680b07030801416901026f0100, 800d070308014181066901026a0107, 200 680b07030801416901026f0101, -
+";
+    check_rows(&rt, rt.alloc(), rows, answers);
+}
+
+/// A next hop hides the route of its face, and neither goes with the other.
+#[test]
+fn next_hops_beside_routes(rt: HostRuntime) {
+    let rows = "
+add 680b07030801416901026a0109, register 680b07030801416901026a0103, routes, remove 68080703080141690102, routes, remove 68080703080141690102, routes -> 200 680b07030801416901026a0109, 200 681107030801416901026f01006a01036c0101, 800d070308014181066901026a0109, 200 68080703080141690102, 800d070308014181066901026a0103, 200 68080703080141690102, 800d070308014181066901026a0103
+register 680b07030801416901026a0103, add 680b07030801416901026a0109, unregister 68080703080141690102, routes -> 200 681107030801416901026f01006a01036c0101, 200 680b07030801416901026a0109, 200 680b07030801416901026f0100, 800d070308014181066901026a0109
+";
+    check_rows(&rt, rt.alloc(), rows, answers);
+}
