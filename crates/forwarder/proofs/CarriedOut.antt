@@ -13,10 +13,12 @@ use Rattle.ndn_packets.specs.Writing.{interest_name, interest_refusal, interest_
 use Rattle.pit_fib.specs.Fib.{Routes}
 use Rattle.pit_fib.specs.StrategyTable.{Choices}
 use Rattle.mgmt_core.specs.Commands.{row_of, text_of}
+use Rattle.mgmt_core.specs.Room.{IsCallPrepared, IsPrepared}
+use Rattle.mgmt_core.specs.declared.tables.Tables.{Tables}
 use Rattle.mgmt_core.specs.Reading.{PlainCommand, command_at}
 use Rattle.content_store.specs.Store.{StoreState}
 use Rattle.mgmt_core.specs.declared.action.Action.{Action}
-use Rattle.mgmt_core.specs.declared.action.Action.TheVariants.{AddNexthop, RemoveNexthop, SetStrategy, UnsetStrategy, EraseCache}
+use Rattle.mgmt_core.specs.declared.action.Action.TheVariants.{AddNexthop, RemoveNexthop, Register, Unregister, SetStrategy, UnsetStrategy, EraseCache}
 use Rattle.mgmt_core.specs.declared.types.TheConstants.{OK}
 use Rattle.mgmt_core.specs.Tables.{CachedAfter, choices_after, first_status, if_done, refuses, routes_after, status_of}
 use Rattle.mgmt_core.specs.Writing.{body_after, reply_limit, response}
@@ -83,14 +85,28 @@ has_room len n limit cap none few most = omega arith
 pub at_most : (n limit cap : ℕ) → n ≤ limit → limit ≤ cap → n ≤ cap
 at_most n limit cap few most = omega arith
 
+-- what is prepared for a command stays so while routes end
+pub still_ready : (old new : Tables) (c : PlainCommand) → new ≡ record old { fib = new.fib } → new.fib.prepared ≡ old.fib.prepared → IsPrepared old c → IsPrepared new c
+still_ready old new c same prepared ready =
+    subst (λ (t : Tables). IsPrepared t c) (sym same) (ready.0, by_action c.action ready.1)
+  where
+    by_action : (a : Action) → IsCallPrepared old (record c { action = a }) → IsCallPrepared (record old { fib = new.fib }) (record c { action = a })
+    by_action AddNexthop h = prepared ∙ h
+    by_action RemoveNexthop h = tt
+    by_action Register h = prepared ∙ h
+    by_action Unregister h = tt
+    by_action SetStrategy h = h
+    by_action UnsetStrategy h = tt
+    by_action EraseCache h = tt
+
 -- the tables after a command, by its status
 pub after_applied : (p : Policy) (c : PlainCommand) (face status : ℕ) (routes : Routes) (choices : Choices)
     → status ≡ tables_status p face (Ok c)
-    → routes ≡ if_done status (routes_after c face p.routes) p.routes
+    → routes ≡ if_done status (routes_after c face p.now p.routes) p.routes
     → choices ≡ if_done status (choices_after c p.choices) p.choices
     → with_next_version (record p { routes = routes; choices = choices }) ≡ after_tables p face (Ok c)
 after_applied p c face status routes choices is to_routes to_choices =
-    let r = to_routes ∙ ap (λ (s : ℕ). if_done s (routes_after c face p.routes) p.routes) is in
+    let r = to_routes ∙ ap (λ (s : ℕ). if_done s (routes_after c face p.now p.routes) p.routes) is in
     let k = to_choices ∙ ap (λ (s : ℕ). if_done s (choices_after c p.choices) p.choices) is in
     λ j. with_next_version (record p { routes = r j; choices = k j })
 
@@ -108,6 +124,8 @@ cache_applied now waiting c face status up routes choices old new is cached capa
         → CachedAfter (record c { action = a }) old.cached new.cached → CacheAfter now waiting (command_use (Ok (record c { action = a })) status) old new
     by_action AddNexthop s h = same_store old new h capacity
     by_action RemoveNexthop s h = same_store old new h capacity
+    by_action Register s h = same_store old new h capacity
+    by_action Unregister s h = same_store old new h capacity
     by_action SetStrategy s h = same_store old new h capacity
     by_action UnsetStrategy s h = same_store old new h capacity
     by_action EraseCache s h =

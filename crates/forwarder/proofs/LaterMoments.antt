@@ -1,7 +1,10 @@
 -- The moment of a policy is the greatest one so far, its rules and keys are the last that came, and
--- its prefix stays.
-use Rattle.std.proofs.Common.{◌≡◌, ◌⊎◌, inl, inr, ℕ, Bool, true, false, List, [], ◌∷◌, ◌++◌, refl, sym, ap, subst, ◌∙◌, Result, Ok, Err}
-use Rattle.std.specs.Prelude.{Option, Some, None, max, if◌then◌else◌}
+-- its prefix stays. Two moments in a row are as the later one.
+use Rattle.std.proofs.Common.{◌≡◌, ◌⊎◌, inl, inr, ℕ, ◌+◌, ◌-◌, ◌^◌, ◌≤◌, Bool, true, false, cond, arith, List, [], ◌∷◌, ◌++◌, refl, sym, ap, subst, ◌∙◌, Result, Ok, Err}
+use Rattle.std.proofs.lemmas.Bool.Decides.{nat_tests}
+use Rattle.std.specs.Prelude.{Option, Some, None, max, min, nat_lt, if◌then◌else◌}
+use Rattle.std.specs.FinMap as map
+use Rattle.std.specs.FinMap.{same_map}
 use Rattle.std.specs.List.{All}
 use Rattle.std.proofs.lemmas.List.Elements.{All-cons, All-head, All-nil, All-tail}
 use Rattle.ndn_tlv.specs.Element.{Field}
@@ -12,7 +15,10 @@ use Rattle.info_rules.specs.declared.decision.Decision.{Decision}
 use Rattle.info_rules.specs.declared.decision.Decision.TheVariants.{Allowed, Denied, NoRule}
 use Rattle.replay_guard.specs.Freshness.{Recorded}
 use Rattle.mgmt_core.specs.Reading.{PlainCommand, command_at}
-use Rattle.pit_fib.specs.Fib.{without_face}
+use Rattle.pit_fib.specs.Fib.{due_count, left_at, without_face}
+use Rattle.repo_core.specs.Objects.{if_kept}
+use Rattle.repo_core.specs.Wants.{WantKey, Wants, want_cmp-antisymmetric, want_cmp-total, wants_after}
+use Rattle.repo_core.proofs.Kept.{get-kept}
 use Rattle.forwarder.specs.declared.event.Scope.{Scope}
 use Rattle.forwarder.specs.Event.{PlainEvent, Packet, FaceUp, FaceDown, Tick, NewRules}
 use Rattle.forwarder.specs.Faces.{is_open}
@@ -25,6 +31,7 @@ use Rattle.forwarder.specs.Said.{recorded_of}
 use Rattle.forwarder.specs.Commands.{after_request, after_tables, with_record}
 use Rattle.forwarder.specs.Effects.{IsEffect, IsAfter, after_packet, after_said, can_open, decided_packet, with_closed, with_open}
 use Rattle.forwarder.specs.Runs.{Run, Start, Then, AreLastRules, BringsKeysApart, BringsNoRules, HasNoNewRules, IsPolicyOf, KeysAreApart, events_back, now_of}
+use Rattle.forwarder.proofs.LeftRoutes.{due_twice, left_twice}
 
 -- what an event's effect leaves as it was once its moment has come
 abbrev Lasting : Type 0
@@ -203,3 +210,50 @@ none_or_last (Then before (NewRules rules keys now) answer) = inr (
   keys,
   record { later = []; now = now; earlier = events_back before; are_events = refl; are_last = All-nil BringsNoRules },
 )
+
+-- ---- two moments in a row
+
+later_lt : (m n x : ℕ) → m ≤ n → nat_lt m x ≡ false → nat_lt n x ≡ false
+later_lt m n x le is = grind (arith, nat_tests, le, is)
+
+still_wanted : (m n : ℕ) → m ≤ n → (k : WantKey) (o : Option ℕ)
+    → if_kept (λ w. nat_lt n w.1) k (if_kept (λ w. nat_lt m w.1) k o) ≡ if_kept (λ (w : WantKey × ℕ). nat_lt n w.1) k o
+still_wanted m n le k None = refl
+still_wanted m n le k (Some deadline) =
+    elim (nat_lt m deadline) as (λ b. nat_lt m deadline ≡ b
+    → if_kept (λ w. nat_lt n w.1) k (cond b (Some deadline) None) ≡ cond (nat_lt n deadline) (Some deadline) None) [
+      | true ↦ λ is. refl
+      | false ↦ λ is. sym (ap (λ b. cond b (Some deadline) None) (later_lt m n deadline le is))
+    ] refl
+
+wants_twice : (m n : ℕ) (wants : Wants) → m ≤ n → wants_after n (wants_after m wants) ≡ wants_after n wants
+wants_twice m n wants le =
+    same_map want_cmp-total want_cmp-antisymmetric _ _ (λ (k : WantKey).
+    get-kept want_cmp-antisymmetric (λ w. nat_lt n w.1) k (wants_after m wants)
+    ∙ ap (if_kept (λ w. nat_lt n w.1) k) (get-kept want_cmp-antisymmetric (λ w. nat_lt m w.1) k wants)
+    ∙ still_wanted m n le k (map.get wants k)
+    ∙ sym (get-kept want_cmp-antisymmetric (λ w. nat_lt n w.1) k wants))
+
+counted_on : (number first second both : ℕ) → first + second ≡ both
+    → min (min (number + first) (2 ^ 64 - 1) + second) (2 ^ 64 - 1) ≡ min (number + both) (2 ^ 64 - 1)
+counted_on number first second both sum = omega arith
+
+-- what is due at two moments goes and is counted as at the later one
+pub moments_in_a_row : (p : Policy) (m n : ℕ) → at_moment (at_moment p m) n ≡ at_moment p (max m n)
+moments_in_a_row p m n =
+    let first = max p.now m in
+    let second = max first n in
+    let le : first ≤ second = omega arith in
+    let same : second ≡ max p.now (max m n) = omega arith in
+    (λ i. record p {
+      now = second;
+      table_number = counted_on p.table_number (due_count first p.routes) (due_count second (left_at first p.routes)) (due_count second p.routes) (due_twice first second p.routes le) i;
+      routes = left_twice first second p.routes le i;
+      held = record p.held { wants = wants_twice first second p.held.wants le i };
+    })
+    ∙ ap (λ (now : ℕ). record p {
+      now = now;
+      table_number = min (p.table_number + due_count now p.routes) (2 ^ 64 - 1);
+      routes = left_at now p.routes;
+      held = record p.held { wants = wants_after now p.held.wants };
+    }) same

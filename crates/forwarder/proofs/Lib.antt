@@ -1,4 +1,5 @@
 pub mod Outboxes
+pub mod EffectiveFaces
 pub mod Chosen
 pub mod Soundness
 pub mod Handled
@@ -21,6 +22,9 @@ pub mod Once
 pub mod Stored
 pub mod StoredData
 pub mod CachedRuns
+pub mod RouteChanges
+pub mod LeftRoutes
+pub mod RoutesRead
 pub mod RunHops
 pub mod KeptInterests
 pub mod Named

@@ -1,6 +1,6 @@
 -- An Interest for a list is answered by a segment, or dropped.
-use Rattle.std.proofs.Common.{◌≡◌, ℕ, Bool, true, false, cond, List, [], ◌∷◌, Option, None, Some, refl, sym, ap, subst, ◌∙◌}
-use Rattle.std.specs.Prelude.{map, ◌||◌, ◌==◌}
+use Rattle.std.proofs.Common.{◌≡◌, ℕ, ◌+◌, ◌-◌, ◌^◌, Bool, true, false, cond, List, [], ◌∷◌, Option, None, Some, refl, sym, ap, subst, ◌∙◌}
+use Rattle.std.specs.Prelude.{map, max, min, ◌||◌, ◌==◌}
 use Rattle.std.proofs.lemmas.Bool.{eq-eqb}
 use Rattle.ndn_tlv.specs.Element.{Field}
 use Rattle.ndn_tlv.specs.Number.{spelling}
@@ -10,7 +10,8 @@ use Rattle.mgmt_core.specs.Writing.{segment_at}
 use Rattle.pit_fib.specs.Cause.{Cause, Arrives, SentTo, Withdrawn}
 use Rattle.forwarder.specs.Event.{Send}
 use Rattle.forwarder.specs.Verdict.{Answer, NoSegment, Verdict, dropped}
-use Rattle.forwarder.specs.Policy.{Policy}
+use Rattle.pit_fib.specs.Fib.{due_count, left_at}
+use Rattle.forwarder.specs.Policy.{Policy, at_moment}
 use Rattle.forwarder.specs.Request.{ForList, ListAsked, Request, is_command, list_asked, request_of}
 use Rattle.forwarder.specs.Datasets.{dataset_text, is_present, list_answer, segment_answer, segment_data, segment_name}
 use Rattle.forwarder.specs.Causes.{in_record_for, interest_causes, is_nack}
@@ -79,6 +80,18 @@ list_answered old was moment face whole i asked later is =
       alive = later.living;
       cache = list_cached was face whole i asked (for_list was.policy face i asked request);
     }
+
+-- what a list is made of before its moment comes is what the policy then has
+pub then_listed : (old p : Policy) (moment now due number : ℕ) → p ≡ at_moment old moment → now ≡ max old.now moment → due ≡ due_count now old.routes
+    → number ≡ min (old.table_number + due) (2 ^ 64 - 1)
+    → (p.now ≡ now) × (p.routes ≡ left_at now old.routes) × (p.choices ≡ old.choices) × (p.table_number ≡ number)
+then_listed old p moment now due number is at ends counted = (
+  ap (λ (q : Policy). q.now) is ∙ sym at,
+  ap (λ (q : Policy). q.routes) is ∙ ap (λ (n : ℕ). left_at n old.routes) (sym at),
+  ap (λ (q : Policy). q.choices) is,
+  ap (λ (q : Policy). q.table_number) is ∙ ap (λ (n : ℕ). min (old.table_number + due_count n old.routes) (2 ^ 64 - 1)) (sym at)
+      ∙ sym (counted ∙ ap (λ (n : ℕ). min (old.table_number + n) (2 ^ 64 - 1)) ends),
+)
 
 -- what was given for a list is the answer
 pub list_handled : (old was : NodeState) (moment face : ℕ) (whole : List ℕ) (i : PlainInterest) (asked : ListAsked) (answer : Answer) → IsLater old moment was

@@ -4,18 +4,17 @@ use Rattle.std.specs.Prelude.{IsSome, length}
 use Rattle.std.specs.Ordering.{nat_cmp}
 use Rattle.std.specs.FinMap as fin
 use Rattle.std.specs.FinMap.{get-empty}
-use Rattle.ndn_tlv.specs.Element.{Field}
-use Rattle.ndn_names.specs.Order.{name_cmp}
 use Rattle.ndn_packets.specs.Key.{key_cmp}
 use Rattle.pit_fib.specs.Faces.{IsRising}
-use Rattle.pit_fib.specs.Fib.{Routes, costs_at}
+use Rattle.pit_fib.specs.declared.route.RouteKey.{RouteKey}
+use Rattle.pit_fib.specs.Fib.{LeadsTo, Routes}
 use Rattle.pit_fib.specs.Pit.{HasRecord}
 use Rattle.pit_fib.specs.Records.{Pending, Records, no_records}
-use Rattle.pit_fib.specs.Tables.{ByFace}
 use Rattle.pit_fib.specs.declared.faces.TheConstants.{MAX_FACES}
 use Rattle.forwarder.specs.Faces.{FaceEntry, numbers}
 use Rattle.forwarder.specs.Node.{NodeState}
 use Rattle.forwarder.specs.State.{IsSound}
+use Rattle.forwarder.proofs.RouteChanges.{cost_in, cost_nowhere, route_in, route_nowhere}
 
 none_there : {A : Type 0} {X : Type 0} (o : Option X) → o ≡ None → IsSome o → A
 none_there {A} {X} o none some = absurd (never (subst (λ (p : Option X). IsSome p) none some))
@@ -30,10 +29,11 @@ no_record r f is (inr asked) = none_there (fin.get r.out_records f) (ap (λ (r :
 abbrev no_routes : Routes
 no_routes = fin.empty
 
-no_route : {A : Type 0} (name : List Field) (face : ℕ) → IsSome (fin.get (costs_at no_routes name) face) → A
-no_route name face some =
-    none_there (fin.get (costs_at no_routes name) face)
-    (ap (λ (o : Option ByFace). fin.get (unwrap_or o fin.empty) face) (get-empty name_cmp name) ∙ get-empty nat_cmp face) some
+no_route : {A : Type 0} (face : ℕ) → LeadsTo no_routes face → A
+no_route face (name, inl some) = none_there (cost_in no_routes name face) (cost_nowhere name face) some
+no_route face (name, inr (origin, some)) =
+    let key : RouteKey = record { face = face; origin = origin } in
+    none_there (route_in no_routes name key) (route_nowhere name key) some
 
 pub new_sound : (s : NodeState) → s.policy.faces ≡ [] → s.pending ≡ fin.empty → s.policy.routes ≡ fin.empty → IsSound s
 new_sound s faces pending routes = record {
@@ -41,5 +41,5 @@ new_sound s faces pending routes = record {
   rising = subst (λ (fs : List FaceEntry). IsRising (numbers fs)) (sym faces) tt;
   records = λ f has. let there = subst (λ (t : Pending). HasRecord t f) pending has in
       no_record (unwrap_or (fin.get {R = key_cmp} fin.empty there.0) no_records) f (ap (λ (o : Option Records). unwrap_or o no_records) (get-empty key_cmp there.0)) there.1;
-  routes = λ name face some. no_route name face (subst (λ (r : Routes). IsSome (fin.get (costs_at r name) face)) routes some);
+  routes = λ face leads. no_route face (subst (λ (r : Routes). LeadsTo r face) routes leads);
 }

@@ -1,6 +1,6 @@
 -- A step leaves a sound node sound.
 use Rattle.std.proofs.Common.{◌≡◌, ◌≢◌, ◌⊎◌, inl, inr, ℕ, suc, ◌<◌, ◌≤◌, Bool, true, false, cond, not, eqb, leb, ltb, List, [], ◌∷◌, length, Option, None, Some, Result, Ok, Err, refl, sym, ap, subst, ◌∙◌, arith}
-use Rattle.std.specs.Prelude.{map as map_list, ◌&&◌, ◌||◌, ◌==◌}
+use Rattle.std.specs.Prelude.{map as map_list, max, ◌&&◌, ◌||◌, ◌==◌}
 use Rattle.std.proofs.lemmas.Bool.{eqb-true, eq-eqb, ne_eqb, leb-false}
 use Rattle.ndn_packets.specs.FrameReading.{frame_at}
 use Rattle.ndn_packets.specs.Key.{PlainKey, key_of}
@@ -25,7 +25,7 @@ use Rattle.strategies.specs.declared.strategy.Choice.{Choice}
 use Rattle.strategies.specs.declared.strategy.Choice.TheVariants as choices
 use Rattle.mgmt_core.specs.Reading.{PlainCommand, command_at}
 use Rattle.mgmt_core.specs.Tables.{AllAreUp}
-use Rattle.mgmt_core.proofs.OpenRoutes.{closing_leaves_up, command_leaves_up}
+use Rattle.mgmt_core.proofs.OpenRoutes.{closing_leaves_up, command_leaves_up, expiry_leaves_up}
 use Rattle.pit_fib.specs.declared.faces.TheConstants.{MAX_FACES}
 use Rattle.forwarder.specs.declared.event.Scope.{Scope}
 use Rattle.forwarder.specs.Event.{PlainEvent, Packet, FaceUp, FaceDown, Tick, NewRules, Send, to_each}
@@ -43,7 +43,7 @@ use Rattle.forwarder.specs.NextHops.{ask_from, choice_for, sent_on}
 use Rattle.forwarder.specs.Datasets.{dataset_text, is_present, list_answer, segment_answer, segment_name}
 use Rattle.forwarder.specs.Replies.{Seen, RepliesToPacket, RepliesToRequest, by_content_store, by_strategy, by_repository}
 use Rattle.forwarder.specs.Node.{NodeState, FollowAll, IsStep, seen_in}
-use Rattle.forwarder.specs.State.{IsSound}
+use Rattle.forwarder.specs.State.{IsLater, IsSound}
 use Rattle.forwarder.proofs.Chosen.{chosen_up}
 use Rattle.forwarder.proofs.Members.{IsRising-with_face, IsRising-without_entry, length-with_face}
 
@@ -256,9 +256,15 @@ KeepsOpen p q = (q.faces ≡ p.faces) × (AllAreUp p.routes (open_faces p) → A
 keeps_itself : (p : Policy) → KeepsOpen p p
 keeps_itself p = (refl, λ all. all)
 
+keeps_both : (p q r : Policy) → KeepsOpen p q → KeepsOpen q r → KeepsOpen p r
+keeps_both p q r first second = (second.0 ∙ first.0, λ all. second.1 (first.1 all))
+
+moment_keeps : (p : Policy) (moment : ℕ) → KeepsOpen p (at_moment p moment)
+moment_keeps p moment = (refl, λ all. expiry_leaves_up (max p.now moment) (open_faces p) p.routes all)
+
 tables_keep : (p : Policy) (face : ℕ) (c : Result PlainCommand ℕ) → KeepsOpen p (after_tables p face c)
 tables_keep p face (Err status) = (refl, λ all. all)
-tables_keep p face (Ok c) = (refl, λ all. command_leaves_up (open_faces p) c face p.routes p.choices all)
+tables_keep p face (Ok c) = (refl, λ all. command_leaves_up (open_faces p) c face p.now p.routes p.choices all)
 
 request_keeps : (p : Policy) (face : ℕ) (i : PlainInterest) (r : Request) → KeepsOpen p (after_request p face i r)
 request_keeps p face i (Refused reason) = keeps_itself p
@@ -285,6 +291,11 @@ said_keeps p face packet decided.NoRule = keeps_itself p
 effect_keeps : (p : Policy) (face now : ℕ) (octets : List ℕ) (new : Policy) (o : Option PlainFrame) → IsEffect p (Packet face now octets) new o → KeepsOpen p new
 effect_keeps p face now octets new None is = subst (KeepsOpen p) (sym is) (keeps_itself p)
 effect_keeps p face now octets new (Some packet) (said, is_said, is) = subst (KeepsOpen p) (sym is) (said_keeps p face packet said)
+
+-- once a moment has come
+pub later_up : (old new : NodeState) (moment : ℕ) → IsSound old → IsLater old moment new → AllAreUp new.policy.routes (open_faces new.policy)
+later_up old new moment sound later =
+    subst (λ (p : Policy). AllAreUp p.routes (open_faces p)) (sym later.policy) ((moment_keeps old.policy moment).1 sound.routes)
 
 -- ---- faces that open and close
 
@@ -365,7 +376,9 @@ module _ (old new : NodeState) (sound : IsSound old) where
     p = at_moment old.policy now
 
     keeps : KeepsOpen old.policy new.policy
-    keeps = effect_keeps p face now octets new.policy (decided_packet p (Packet face now octets)) step.policy
+    keeps =
+        keeps_both old.policy p new.policy (moment_keeps old.policy now)
+        (effect_keeps p face now octets new.policy (decided_packet p (Packet face now octets)) step.policy)
 
     abbrev Open : ℕ → Type 0
     Open f = is_open f old.policy.faces ≡ true
@@ -374,7 +387,7 @@ module _ (old new : NodeState) (sound : IsSound old) where
         → choice_for p i.name (moments (records_at step.waiting (key_of i)).out_records) (ask_from p face i) ≡ choices.Send faces → has_face f faces ≡ true → Open f
     chosen_open i faces f chosen has =
         sym (has_numbers f old.policy.faces)
-        ∙ chosen_up p (open_faces p) i.name (moments (records_at step.waiting (key_of i)).out_records) (ask_from p face i) faces f sound.routes chosen has
+        ∙ chosen_up p (open_faces p) i.name (moments (records_at step.waiting (key_of i)).out_records) (ask_from p face i) faces f ((moment_keeps old.policy now).1 sound.routes) chosen has
 
     frame_adds : (read : Result PlainFrame PacketFault) → Open face → RepliesToPacket (seen_in p step.waiting old.cache) face read answer
         → AddOnly Open (causes_by p.now answer.sends (read_outcome face read answer.verdict))
@@ -407,13 +420,13 @@ module _ (old new : NodeState) (sound : IsSound old) where
   tick_sound : (now : ℕ) (answer : Answer) → IsStep old (Tick now) answer new → IsSound new
   tick_sound now answer step =
       let p = at_moment old.policy now in
-      same_faces (subst (KeepsOpen old.policy) (sym step.policy) (refl, λ all. all))
+      same_faces (subst (KeepsOpen old.policy) (sym step.policy) (moment_keeps old.policy now))
       (follows_within (λ f. is_open f old.policy.faces ≡ true) [] step.waiting new.pending tt step.pending (waits_open p.now step.waiting step.expiry))
 
   rules_sound : (rules : List PlainRule) (keys : List NamedKey) (now : ℕ) (answer : Answer) → IsStep old (NewRules rules keys now) answer new → IsSound new
   rules_sound rules keys now answer step =
       let p = at_moment old.policy now in
-      same_faces (subst (KeepsOpen old.policy) (sym step.policy) (refl, λ all. all))
+      same_faces (subst (KeepsOpen old.policy) (sym step.policy) (moment_keeps old.policy now))
       (follows_within (λ f. is_open f old.policy.faces ≡ true) [] step.waiting new.pending tt step.pending (waits_open p.now step.waiting step.expiry))
 
   module _ (face : ℕ) (scope : Scope) (now : ℕ) (answer : Answer) (step : IsStep old (FaceUp face scope now) answer new) where
@@ -434,8 +447,8 @@ module _ (old new : NodeState) (sound : IsSound old) where
               (IsRising-with_face face scope old.policy.faces (none_open face old.policy.faces free.0) sound.rising);
           records = λ f has. subst (λ (fs : List FaceEntry). is_open f fs ≡ true) (sym faces) (is_open-with face f scope old.policy.faces (had f has));
           routes = subst (λ (q : Policy). AllAreUp q.routes (open_faces q)) (sym is)
-              (λ name f some. has_numbers f (with_face face scope old.policy.faces)
-              ∙ is_open-with face f scope old.policy.faces (sym (has_numbers f old.policy.faces) ∙ sound.routes name f some));
+              (λ f leads. has_numbers f (with_face face scope old.policy.faces)
+              ∙ is_open-with face f scope old.policy.faces (sym (has_numbers f old.policy.faces) ∙ (moment_keeps old.policy now).1 sound.routes f leads));
         }
 
     up_sound : IsSound new
@@ -443,7 +456,7 @@ module _ (old new : NodeState) (sound : IsSound old) where
         elim (can_open at_opening face) as (λ b. can_open at_opening face ≡ b
         → new.policy ≡ cond b (record at_opening { faces = with_face face scope old.policy.faces }) at_opening → IsSound new) [
           | true ↦ opened
-          | false ↦ λ can is. same_faces (subst (KeepsOpen old.policy) (sym is) (refl, λ all. all)) had
+          | false ↦ λ can is. same_faces (subst (KeepsOpen old.policy) (sym is) (moment_keeps old.policy now)) had
         ] refl step.policy
 
   module _ (face now : ℕ) (answer : Answer) (step : IsStep old (FaceDown face now) answer new) where
@@ -451,7 +464,7 @@ module _ (old new : NodeState) (sound : IsSound old) where
     at_closing = at_moment old.policy now
 
     closed : Follows (Closed face) step.waiting new.pending
-        → new.policy ≡ with_next_version (record at_closing { faces = without_entry face old.policy.faces; routes = without_face old.policy.routes face }) → IsSound new
+        → new.policy ≡ with_next_version (record at_closing { faces = without_entry face old.policy.faces; routes = without_face at_closing.routes face }) → IsSound new
     closed follows is =
         let faces : new.policy.faces ≡ without_entry face old.policy.faces = ap (λ (q : Policy). q.faces) is in
         record {
@@ -465,19 +478,19 @@ module _ (old new : NodeState) (sound : IsSound old) where
           routes = subst (λ (q : Policy). AllAreUp q.routes (open_faces q)) (sym is)
               (closing_leaves_up (open_faces old.policy) (numbers (without_entry face old.policy.faces)) face
               (λ f up other. has_numbers f (without_entry face old.policy.faces) ∙ is_open-without face f old.policy.faces other ∙ sym (has_numbers f old.policy.faces) ∙ up)
-              old.policy.routes sound.routes);
+              at_closing.routes ((moment_keeps old.policy now).1 sound.routes));
         }
 
     not_open : FollowAll [] step.waiting new.pending → new.policy ≡ at_closing → IsSound new
     not_open follows is =
-        same_faces (subst (KeepsOpen old.policy) (sym is) (refl, λ all. all))
+        same_faces (subst (KeepsOpen old.policy) (sym is) (moment_keeps old.policy now))
         (follows_within (λ f. is_open f old.policy.faces ≡ true) [] step.waiting new.pending tt follows (waits_open at_closing.now step.waiting step.expiry))
 
     down_sound : IsSound new
     down_sound =
         elim (is_open face old.policy.faces) as (λ b. answer ≡ cond b (passed []) (dropped NoFace)
         → FollowAll (causes_by at_closing.now answer.sends (closing_outcome face answer.verdict)) step.waiting new.pending
-        → new.policy ≡ cond b (with_next_version (record at_closing { faces = without_entry face old.policy.faces; routes = without_face old.policy.routes face })) at_closing
+        → new.policy ≡ cond b (with_next_version (record at_closing { faces = without_entry face old.policy.faces; routes = without_face at_closing.routes face })) at_closing
         → IsSound new) [
           | true ↦ λ is follows policy. closed (subst (λ (v : Verdict). FollowAll (causes_by at_closing.now answer.sends (closing_outcome face v)) step.waiting new.pending) (ap (λ (a : Answer). a.verdict) is) follows) policy
           | false ↦ λ is follows policy. not_open (subst (λ (v : Verdict). FollowAll (causes_by at_closing.now answer.sends (closing_outcome face v)) step.waiting new.pending) (ap (λ (a : Answer). a.verdict) is) follows) policy

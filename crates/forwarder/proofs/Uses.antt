@@ -8,7 +8,7 @@ use Rattle.ndn_packets.specs.Packet.{PlainInterest, PlainData, PlainFrame, AnInt
 use Rattle.ndn_packets.specs.declared.fault.PacketFault.{PacketFault}
 use Rattle.content_store.specs.Store.{CachedData}
 use Rattle.mgmt_core.specs.declared.action.Action.{Action}
-use Rattle.mgmt_core.specs.declared.action.Action.TheVariants.{AddNexthop, RemoveNexthop, SetStrategy, UnsetStrategy, EraseCache}
+use Rattle.mgmt_core.specs.declared.action.Action.TheVariants.{AddNexthop, RemoveNexthop, Register, Unregister, SetStrategy, UnsetStrategy, EraseCache}
 use Rattle.mgmt_core.specs.declared.types.TheConstants.{OK}
 use Rattle.mgmt_core.specs.Reading.{PlainCommand, command_at}
 use Rattle.forwarder.specs.Event.{PlainEvent, Packet, FaceUp, FaceDown, Tick, NewRules}
@@ -107,6 +107,8 @@ inserts_by now (CommandAllowed face i status) c e = by_read (command_at i.name) 
     by_action : (command : PlainCommand) (a : Action) → command_use (Ok (record command { action = a })) status ≡ Inserts c → ⊥
     by_action command AddNexthop e = cc e
     by_action command RemoveNexthop e = cc e
+    by_action command Register e = cc e
+    by_action command Unregister e = cc e
     by_action command SetStrategy e = cc e
     by_action command UnsetStrategy e = cc e
     by_action command EraseCache e = by_done command (status == OK) e

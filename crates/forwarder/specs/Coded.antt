@@ -1,15 +1,15 @@
 -- The codes of a node's maps, by which its state is plain data.
-use Rattle.std.specs.Coded.{Coded, coded_ℕ}
+use Rattle.std.specs.Coded.{Coded}
 use Rattle.std.specs.FinMap as map
 use Rattle.ndn_packets.specs.Key.{key_code}
-use Rattle.pit_fib.specs.Fib.{Routes}
+use Rattle.pit_fib.specs.Fib.{Routes, entry_code}
 use Rattle.ndn_names.specs.Key.{name_code}
 use Rattle.pit_fib.specs.Records.{Pending, records_code}
 use Rattle.pit_fib.specs.StrategyTable.{Choices, strategy_code}
 use Rattle.replay_guard.specs.Guard.{Table, signer_code, latest_code}
 
 abbrev pub routes_code : Coded Routes
-routes_code = map.code name_code (map.code coded_ℕ coded_ℕ)
+routes_code = map.code name_code entry_code
 
 abbrev pub choices_code : Coded Choices
 choices_code = map.code name_code strategy_code

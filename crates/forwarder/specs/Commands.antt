@@ -65,7 +65,7 @@ after_tables p face (Err status) = with_next_version p
 after_tables p face (Ok c) =
     let status = tables_status p face (Ok c) in
     with_next_version (record p {
-      routes = if_done status (routes_after c face p.routes) p.routes;
+      routes = if_done status (routes_after c face p.now p.routes) p.routes;
       choices = if_done status (choices_after c p.choices) p.choices;
     })
 

@@ -11,7 +11,7 @@ use Rattle.forwarder.specs.Request.{ListKind, RouteList, StrategyList, ListAsked
 use Rattle.forwarder.specs.Verdict.{Answer, NoSegment, dropped, passed}
 
 abbrev pub dataset_text : Policy → ListKind → List ℕ
-dataset_text p RouteList = fib_text p.routes
+dataset_text p RouteList = fib_text p.now p.routes
 dataset_text p StrategyList = strategy_text p.choices
 
 -- the name of a segment: the list, its version and the segment's number

@@ -31,7 +31,7 @@ abbrev pub with_open : Policy → ℕ → Scope → Policy
 with_open p face scope =
     if can_open p face then record p { faces = with_face face scope p.faces } else p
 
--- a face closes: its routes go, and the lists have another version
+-- a face closes: its next hops and routes go, and the lists have another version
 abbrev pub with_closed : Policy → ℕ → Policy
 with_closed p face =
     if is_open face p.faces then with_next_version (record p {

@@ -1,4 +1,4 @@
--- The hops of routes as a reading of a run, for one name and one face (NFD Management, "FIB
+-- The next hops as a reading of a run, for one name and one face (NFD Management, "FIB
 -- Management").
 use Rattle.std.specs.Prelude.{ℕ, List, Bool, Option, None, Some, Result, Ok, Err, ◌==◌, ◌&&◌, if◌then◌else◌}
 use Rattle.std.specs.Ordering.{eq_by_cmp}

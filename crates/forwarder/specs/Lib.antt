@@ -20,6 +20,7 @@ pub mod Sends
 pub mod Allowed
 pub mod AskedFor
 pub mod Hops
+pub mod RouteReading
 pub mod Kept
 pub mod State
 pub mod Coded

@@ -7,7 +7,7 @@ use Rattle.ndn_packets.specs.Packet.{PlainInterest}
 use Rattle.pit_fib.specs.declared.hops.Hop.{Hop}
 use Rattle.pit_fib.specs.declared.strategy_table.StrategyId.{StrategyId}
 use Rattle.pit_fib.specs.declared.strategy_table.StrategyId.TheVariants.{BestRoute, Multicast}
-use Rattle.pit_fib.specs.Fib.{longest_hops}
+use Rattle.pit_fib.specs.Effective.{longest_hops}
 use Rattle.pit_fib.specs.Hops.{marked}
 use Rattle.pit_fib.specs.Tables.{ByFace}
 use Rattle.pit_fib.specs.ByName.{longest}
@@ -26,7 +26,7 @@ selection_of Multicast = multicast
 abbrev pub strategy_for : Policy → List Field → StrategyId
 strategy_for p name = unwrap_or (longest p.choices name) BestRoute
 
--- the next hops of the longest prefix that has some
+-- the effective next hops of the longest prefix that has next hops or routes
 abbrev pub hops_for : Policy → List Field → List Hop
 hops_for p name = marked (local_faces p) (longest_hops p.routes name)
 

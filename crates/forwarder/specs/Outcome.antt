@@ -1,6 +1,6 @@
 -- What an event comes to, read once off the event and its verdict. From this follow the records that
--- change, what the cache is asked for, and which hops a command sets (NFD Developer's Guide,
--- "Forwarding").
+-- change, what the cache is asked for, and which hops and routes a command sets (NFD Developer's
+-- Guide, "Forwarding").
 use Rattle.std.specs.Prelude.{ℕ, List, Result, Ok, Err}
 use Rattle.ndn_packets.specs.FrameReading.{frame_at}
 use Rattle.ndn_packets.specs.Packet.{PlainInterest, PlainData, PlainFrame, AnInterest, AData, ANack, Idle}
@@ -9,8 +9,8 @@ use Rattle.forwarder.specs.Event.{PlainEvent, Packet, FaceUp, FaceDown, Tick, Ne
 use Rattle.forwarder.specs.Verdict.{Verdict, Passed, Allowed, DataAllowed, Denied, NoRule, Dropped}
 
 pub data Outcome : Type 0 where
-  -- no record, cached Data or hop changes but by its moment: a moment, a face that opens, rules that
-  -- are replaced, and all that is dropped or denied
+  -- no record, cached Data, hop or route changes but by its moment: a moment, a face that opens,
+  -- rules that are replaced, and all that is dropped or denied
   Nothing : Outcome
   -- an Interest for Data, or for a segment of a list, was passed
   InterestPassed : (face : ℕ) (whole : List ℕ) (i : PlainInterest) → Outcome

@@ -6,7 +6,7 @@ use Rattle.ndn_tlv.specs.Element.{Field}
 use Rattle.hmac_keys.specs.KeyFile.{NamedKey}
 use Rattle.info_rules.specs.Rule.{PlainRule}
 use Rattle.replay_guard.specs.Guard.{Table}
-use Rattle.pit_fib.specs.Fib.{Routes}
+use Rattle.pit_fib.specs.Fib.{Routes, due_count, left_at}
 use Rattle.pit_fib.specs.StrategyTable.{Choices, only_best_route}
 use Rattle.repo_core.specs.Repo.{Held}
 use Rattle.repo_core.specs.Wants.{wants_after}
@@ -17,8 +17,8 @@ use Rattle.forwarder.specs.Faces.{FaceEntry, find_scope, numbers}
 pub record Policy : Type 0 where
   -- the greatest moment so far, in milliseconds since 1970
   pub now : ℕ
-  -- the version of the lists: how many commands under /localhost/nfd were allowed, and how many
-  -- faces were closed, so far; it stops at the greatest u64
+  -- the version of the lists: how many commands under /localhost/nfd were allowed, how many faces
+  -- were closed, and how many routes came to their deadlines, so far; it stops at the greatest u64
   pub table_number : ℕ
   pub rules : List PlainRule
   pub keys : List NamedKey
@@ -48,11 +48,17 @@ first_policy rules keys repo = record {
   held = record { objects = map.empty; wants = map.empty };
 }
 
--- a moment comes: time rises, and the wants that are due go
+-- A moment comes: time rises, and the routes and the wants that are due go. The lists have another
+-- version for each of these routes.
 abbrev pub at_moment : Policy → ℕ → Policy
 at_moment p moment =
     let now = max p.now moment in
-    record p { now = now; held = record p.held { wants = wants_after now p.held.wants } }
+    record p {
+      now = now;
+      table_number = min (p.table_number + due_count now p.routes) (2 ^ 64 - 1);
+      routes = left_at now p.routes;
+      held = record p.held { wants = wants_after now p.held.wants };
+    }
 
 -- these rules and keys are in force; all else stays, the times of signers without a key included
 abbrev pub with_rules : Policy → List PlainRule → List NamedKey → Policy

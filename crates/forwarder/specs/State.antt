@@ -32,7 +32,7 @@ state_of s = record {
   cache = s.tables.store;
 }
 
--- Whoever has a record or a route is an open face, and of those there are at most 64.
+-- Whoever has a record, a next hop or a route is an open face, and of those there are at most 64.
 pub record IsSound (s : NodeState) : Type 0 where
   pub few : length s.policy.faces ≤ MAX_FACES
   pub rising : IsRising (numbers s.policy.faces)

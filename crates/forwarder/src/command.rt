@@ -168,6 +168,7 @@ impl State {
             command,
             arrived.face,
             self.faces.numbers(),
+            self.now,
         )?;
         put_status(&mut content, applied.status, applied.body.as_slice())?;
         out.push_reply(arrived.face, arrived.packet.name, &content)?;

@@ -4,6 +4,7 @@ ghost use Rattle.ndn_tlv.specs.Number.{shortest_nni};
 ghost use Rattle.ndn_names.specs.Name.{octets_of};
 ghost use Rattle.ndn_names.specs.View.{components};
 ghost use Rattle.ndn_packets.specs.View.{plain_interest};
+ghost use Rattle.pit_fib.specs.Fib.{left_at};
 ghost use Rattle.forwarder.specs.Datasets.{answered_with, dataset_text, is_present, list_answer, segment_data, segment_name};
 ghost use Rattle.forwarder.specs.Handling.{HandlesPacket, interest_packet};
 ghost use Rattle.forwarder.specs.Policy.{Policy};
@@ -26,16 +27,18 @@ use std::alloc::Global;
 const FRESHNESS: u64 = 1000;
 
 /// The Data of a segment that is asked for (NFD Management, "Status Dataset"), where the lists have
-/// this version. `None` where another version is asked for, or the list has no such segment.
+/// this version once the routes that end by this moment are gone. `None` where another version is
+/// asked for, or the list has no such segment.
 pub(crate) fn list_segment(
     alloc: Global,
     tables: &Tables,
     table_number: u64,
+    now: u64,
     asked: ListAsked,
 ) -> Result<Option<Vec<u8>>, Memory>
     ensures answer { IfOk result (λ octets. (p : Policy) (face : ℕ)
-        → p.routes ≡ tables.now.fib.table → p.choices ≡ tables.now.strategies.table
-        → p.table_number ≡ table_number
+        → p.now ≡ now → p.routes ≡ left_at now tables.now.fib.table
+        → p.choices ≡ tables.now.strategies.table → p.table_number ≡ table_number
         → list_answer p face asked ≡ answered_with face (option_map (λ o. o.items) octets)) }
     // It is no longer than a packet may be.
     ensures short { IfOk result (λ octets. IfSome octets (λ o. length o.items ≤ 8800)) }
@@ -43,7 +46,7 @@ pub(crate) fn list_segment(
     if !is_present(asked.version, table_number) {
         return Ok(None);
     }
-    let text = list_text(alloc, tables, asked.kind)?;
+    let text = list_text(alloc, tables, now, asked.kind)?;
     let Some((content, last)) = segment_of(&text, asked.segment) else {
         return Ok(None);
     };
@@ -62,13 +65,14 @@ fn is_present(asked: Option<u64>, table_number: u64) -> bool
     }
 }
 
-/// The octets of a list.
-fn list_text(alloc: Global, tables: &Tables, kind: ListKind) -> Result<Vec<u8>, Memory>
-    ensures { IfOk result (λ text. (p : Policy) → p.routes ≡ tables.now.fib.table
+/// The octets of a list at a moment.
+fn list_text(alloc: Global, tables: &Tables, now: u64, kind: ListKind) -> Result<Vec<u8>, Memory>
+    ensures { IfOk result (λ text. (p : Policy) → p.now ≡ now
+        → p.routes ≡ left_at now tables.now.fib.table
         → p.choices ≡ tables.now.strategies.table → text.items ≡ dataset_text p kind) }
 {
     match kind {
-        ListKind::RouteList => fib_dataset(alloc, &tables.fib),
+        ListKind::RouteList => fib_dataset(alloc, &tables.fib, now),
         ListKind::StrategyList => strategy_dataset(alloc, &tables.strategies),
     }
 }
@@ -135,7 +139,8 @@ fn segment_data<'a>(
 }
 
 impl State {
-    /// Sends a segment of a list to the face that asks for it.
+    /// Sends a segment of a list, as it is at the moment, to the face that asks for it. The list is
+    /// made before time passes, as there may be no memory for it.
     pub fn send_list(
         &mut self,
         arrived: &Arrived<'_, Interest<'_>>,
@@ -147,7 +152,9 @@ impl State {
         ensures { HandlesPacket self.old self.new out.old.sends out.new.sends
             arrived.now.face arrived.now.moment (interest_packet arrived.now.packet.now) result }
     {
-        let Some(octets) = list_segment(self.alloc, &self.tables, self.table_number, asked)? else {
+        let now = self.now.max(arrived.moment);
+        let number = self.table_number.saturating_add(self.tables.fib.due(now));
+        let Some(octets) = list_segment(self.alloc, &self.tables, number, now, asked)? else {
             return Ok(self.drop_packet(arrived.moment, DropReason::NoSegment));
         };
         out.push(arrived.face, &octets)?;

@@ -35,7 +35,7 @@ impl State {
         Verdict::Passed
     }
 
-    /// Closes a face: its routes, its in-records and its out-records go.
+    /// Closes a face: its next hops and routes, its in-records and its out-records go.
     pub fn close(&mut self, face: u64, now: u64) -> Verdict
         requires { IsSound (state_of self.old) }
         ensures { IsStep (state_of self.old) (FaceDown face now)

@@ -24,7 +24,7 @@ ghost use Rattle.content_store.specs.Store.{CachedData};
 ghost use Rattle.ndn_packets.specs.Key.{PlainKey, key_of};
 ghost use Rattle.ndn_tlv.specs.Element.{Field};
 ghost use Rattle.pit_fib.specs.Cause.{Arrives};
-ghost use Rattle.pit_fib.specs.Fib.{costs_at};
+ghost use Rattle.pit_fib.specs.Fib.{costs_at, registered_at};
 ghost use Rattle.pit_fib.specs.Past.{in_record_of, out_record_of};
 ghost use Rattle.pit_fib.specs.Records.{InRecord};
 ghost use Rattle.sha2.specs.Sha256.{sha256};
@@ -34,6 +34,7 @@ ghost use Rattle.forwarder.specs.State.{IsSound};
 ghost use Rattle.forwarder.specs.Node.{NodeState, IsStep, Unharmed};
 ghost use Rattle.forwarder.specs.Causes.{in_record_for, causes_of};
 ghost use Rattle.forwarder.specs.Hops.{cost_of};
+ghost use Rattle.forwarder.specs.RouteReading.{route_of};
 ghost use Rattle.forwarder.specs.Kept.{IsAnswered, IsKept, IsPassed, IsSentOn};
 ghost use Rattle.forwarder.specs.Runs.{Run, Start, Then, AreLastRules, BringsData, BringsKeysApart, BringsRequest, HasNoNewRules, HasTicksFor, HaveOneHistory, IsPolicyOf, IsRun, KeysAreApart, MayHold, MayReply, Stands, now_of, past_causes, events_back, records_of, seen_after};
 
@@ -52,8 +53,14 @@ pub fn steps_have_one_effect()
         → new.policy ≡ other.policy }
 {}
 
-/// Law: a step leaves a sound node sound: whoever has a record or a route is an open face, and of
-/// those there are at most 64.
+/// Law: two moments in a row are as the later one: what is due goes, and each route that ends is
+/// counted once.
+pub fn moments_in_a_row_are_as_the_later()
+    ensures { (p : Policy) (m n : ℕ) → at_moment (at_moment p m) n ≡ at_moment p (max m n) }
+{}
+
+/// Law: a step leaves a sound node sound: whoever has a record, a next hop or a route is an open
+/// face, and of those there are at most 64.
 pub fn steps_keep_nodes_sound()
     ensures { (old new : NodeState) (event : PlainEvent) (answer : Answer) → IsSound old
         → IsStep old event answer new → IsSound new }
@@ -257,6 +264,19 @@ pub fn routes_are_read_off_the_run()
         → KeysAreApart first past
         → first.routes ≡ map.empty → IsRun first past → IsPolicyOf first past p
         → map.get (costs_at p.routes name) face ≡ cost_of past name face }
+{}
+
+/// Law: a registered route after a run that began at the moment 0 is the one that the last register of
+/// its name, face and origin gave that was answered with status 200: its cost and flags, and as its
+/// deadline, where it had a period, the time then and that period together, which stops at the
+/// greatest u64. Since then no unregister of the three was so answered, the face was not closed, and
+/// no later event came at which the time was the deadline or more; and else there is no such route.
+pub fn registered_routes_are_read_off_the_run()
+    ensures { (first p : Policy) (past : Run) (name : List Field) (face origin : ℕ)
+        → KeysAreApart first past → first.now ≡ 0
+        → first.routes ≡ map.empty → IsRun first past → IsPolicyOf first past p
+        → map.get (registered_at p.routes name) (record { face = face; origin = origin })
+        ≡ route_of past name face origin }
 {}
 
 /// Law: a denial that the past allows is what is said of the event's packet, by the rule that it

@@ -35,12 +35,15 @@ impl State {
     pub fn pass_time(&mut self, moment: u64)
         ensures later { IsLater (state_of self.old) moment (state_of self.new) }
         ensures pit { self.new.pit.prepared ≡ self.old.pit.prepared }
-        ensures tables { self.new.tables ≡ self.old.tables }
+        ensures tables { self.new.tables ≡ record self.old.tables { fib = self.new.tables.fib } }
+        ensures fib { self.new.tables.fib.prepared ≡ self.old.tables.fib.prepared }
         ensures guard { self.new.guard ≡ self.old.guard }
         ensures want { self.new.repo.prepared_want ≡ self.old.repo.prepared_want }
         ensures object { self.new.repo.prepared_object ≡ self.old.repo.prepared_object }
     {
         self.now = self.now.max(moment);
+        let gone = self.tables.fib.expire(self.now);
+        self.table_number = self.table_number.saturating_add(gone);
         self.pit.expire(self.now);
         self.repo.expire(self.now);
     }

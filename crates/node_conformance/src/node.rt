@@ -11,6 +11,7 @@ mod packets;
 mod pending;
 mod ports;
 mod refused_memory;
+mod registered_routes;
 mod repository_life;
 mod routes;
 mod scripts;

@@ -3,7 +3,7 @@ use Rattle.std.specs.Prelude.{unwrap_or}
 use Rattle.std.proofs.lemmas.Bool.{false≢true}
 use Rattle.mgmt_core.specs.Commands.{text_of}
 use Rattle.mgmt_core.specs.Reading.{asked}
-use Rattle.mgmt_core.specs.Tables.{status_of}
+use Rattle.mgmt_core.specs.Tables.{AllAreUp, status_of}
 use Rattle.mgmt_core.specs.Writing.{body_after, response}
 use Rattle.content_store.specs.Store.{StoreState}
 use Rattle.ndn_packets.specs.View.{plain_interest}
@@ -14,8 +14,25 @@ use Rattle.forwarder.specs.Node.{NodeState}
 use Rattle.forwarder.specs.Policy.{Policy, with_next_version}
 use Rattle.forwarder.specs.Said.{recorded_of}
 use Rattle.forwarder.specs.State.{IsLater, policy_of, state_of}
-use Rattle.forwarder.proofs.CarriedOut.{after_applied, at_most, cache_applied, has_room, response_within, tables_done, with_tables}
+use Rattle.forwarder.proofs.CarriedOut.{after_applied, at_most, cache_applied, has_room, response_within, still_ready, tables_done, with_tables}
+use Rattle.forwarder.proofs.Soundness.{later_up}
 use Rattle.forwarder.proofs.state.State.command_read.Goals as goal
+
+pub apply-requires : goal.apply-requires
+apply-requires c =
+    let old = state_of c.args.self.now in
+    let was = state_of c.pass_time.new.self in
+    let prepared = with_tables old c.prepare.new.self.fib.table c.prepare.new.self.strategies.table c.prepare.new.self.store
+    c.prepare.ensures.routes c.prepare.ensures.choices c.prepare.ensures.store in
+    let later = subst (λ (n : NodeState). IsLater n c.args.arrived.now.moment was) prepared c.pass_time.ensures.later in
+    subst (λ (up : List ℕ). AllAreUp c.pass_time.new.self.tables.fib.table up) (sym c.numbers.ensures)
+    (later_up old was c.args.arrived.now.moment c.requires.sound later)
+
+pub returns-in_err-applied-clause-memory : goal.returns-in_err-applied-clause-memory
+returns-in_err-applied-clause-memory c =
+    let ready = still_ready c.prepare.new.self c.pass_time.new.self.tables (asked c.args.command.now) c.pass_time.ensures.tables c.pass_time.ensures.fib c.in_ok-prepare.ensures.ok in
+    let done = c.in_err-applied.ensures.promised ready in
+    cc done
 
 pub returns-in_err-put_status-clause-memory : goal.returns-in_err-put_status-clause-memory
 returns-in_err-put_status-clause-memory c =

@@ -6,12 +6,11 @@ use Rattle.ndn_packets.specs.View.{plain_interest}
 use Rattle.forwarder.specs.Datasets.{answered_with}
 use Rattle.forwarder.specs.Event.{Send}
 use Rattle.forwarder.specs.Handling.{IsAnswered}
-use Rattle.forwarder.specs.Policy.{Policy}
 use Rattle.forwarder.specs.State.{state_of}
 use Rattle.forwarder.specs.Verdict.{dropped, NoSegment, passed, verdict_of}
 use Rattle.forwarder.specs.declared.verdict.Verdict as code
 use Rattle.forwarder.proofs.Answered.{refused_packet, unharmed}
-use Rattle.forwarder.proofs.ListSteps.{list_handled}
+use Rattle.forwarder.proofs.ListSteps.{list_handled, then_listed}
 use Rattle.forwarder.proofs.state.State.send_list.Goals as goal
 
 pub returns-in_err-octets : goal.returns-in_err-octets
@@ -26,8 +25,9 @@ returns-in_default c = record {
       let face = c.args.arrived.now.face in
       let whole = c.args.arrived.now.packet.now.whole.now in
       let i = plain_interest c.args.arrived.now.packet.now in
-      let none = c.in_ok-octets.ensures.answer was.policy face (ap (λ (p : Policy). p.routes) later.policy)
-      (ap (λ (p : Policy). p.choices) later.policy) (ap (λ (p : Policy). p.table_number) later.policy) in (
+      let now = then_listed old.policy was.policy c.args.arrived.now.moment c.max-now.result c.due.result c.saturating_add-number.result later.policy
+      c.max-now.ensures c.due.ensures c.saturating_add-number.ensures in
+      let none = c.in_ok-octets.ensures.answer was.policy face now.0 now.1 now.2 now.3 in (
         was,
         [],
         sym (append-nil {A = Send} c.args.out.now.sends),
@@ -51,8 +51,9 @@ returns c = record {
       let whole = c.args.arrived.now.packet.now.whole.now in
       let i = plain_interest c.args.arrived.now.packet.now in
       let octets = c.in-Some.octets.items in
-      let some = c.in_ok-octets.ensures.answer was.policy face (ap (λ (p : Policy). p.routes) later.policy)
-      (ap (λ (p : Policy). p.choices) later.policy) (ap (λ (p : Policy). p.table_number) later.policy) in (
+      let now = then_listed old.policy was.policy c.args.arrived.now.moment c.max-now.result c.due.result c.saturating_add-number.result later.policy
+      c.max-now.ensures c.due.ensures c.saturating_add-number.ensures in
+      let some = c.in_ok-octets.ensures.answer was.policy face now.0 now.1 now.2 now.3 in (
         was,
         (face, octets) ∷ [],
         c.in_ok-push.ensures.ok ∙ ap (λ (o : List ℕ). c.args.out.now.sends ++ (face, o) ∷ []) c.deref.ensures.value,

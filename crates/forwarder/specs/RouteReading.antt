@@ -1,0 +1,58 @@
+-- Registered routes as a reading of a run, for one name, one face and one origin (NFD Management,
+-- "RIB Management").
+use Rattle.std.specs.Prelude.{ℕ, List, Bool, Option, None, Some, Result, Ok, Err, max, option_and_then, ◌==◌, ◌&&◌, if◌then◌else◌}
+use Rattle.std.specs.Option.{option_map}
+use Rattle.ndn_tlv.specs.Element.{Field}
+use Rattle.pit_fib.specs.Route.{until_due}
+use Rattle.pit_fib.specs.declared.route.Route.{Route}
+use Rattle.mgmt_core.specs.declared.action.Action.TheVariants.{Register, Unregister}
+use Rattle.mgmt_core.specs.declared.types.TheConstants.{OK}
+use Rattle.mgmt_core.specs.Reading.{PlainCommand, command_at}
+use Rattle.forwarder.specs.Causes.{deadline}
+use Rattle.forwarder.specs.Event.{moment}
+use Rattle.forwarder.specs.Hops.{names_hop}
+use Rattle.forwarder.specs.Outcome.{Outcome, Nothing, InterestPassed, CommandAllowed, DataCame, NackPassed, FaceClosed, outcome_of}
+use Rattle.forwarder.specs.Runs.{Run, Start, Then, now_of}
+
+-- a command that came from a face names this route
+abbrev pub names_route : PlainCommand → ℕ → List Field → ℕ → ℕ → Bool
+names_route c from name face origin = names_hop c from name face && (origin == c.origin)
+
+-- A command that was done now: register gives the route that it names its cost and flags, and where
+-- it has a period, now and that period together as its deadline, which stops at the greatest u64;
+-- unregister ends that route.
+abbrev pub route_after_command : Result PlainCommand ℕ → ℕ → ℕ → List Field → ℕ → ℕ
+    → Option Route → Option Route
+route_after_command (Err status) now from name face origin was = was
+route_after_command (Ok c) now from name face origin was =
+    elim c.action [
+      | Register ↦ if names_route c from name face origin then Some (record {
+        cost = c.cost;
+        flags = c.flags;
+        deadline = option_map (deadline now) c.expires;
+      }) else was
+      | Unregister ↦ if names_route c from name face origin then None else was
+      | _ ↦ was
+    ]
+
+-- What an outcome now does to a route; None: there is no such route. An allowed command changes it
+-- where its status is 200. Where a face closes, its routes end.
+abbrev pub route_after : Outcome → ℕ → List Field → ℕ → ℕ → Option Route → Option Route
+route_after Nothing now name face origin was = was
+route_after (InterestPassed from whole i) now name face origin was = was
+route_after (CommandAllowed from i status) now name face origin was =
+    if status == OK then route_after_command (command_at i.name) now from name face origin was
+    else was
+route_after (DataCame whole d) now name face origin was = was
+route_after (NackPassed from reason i) now name face origin was = was
+route_after (FaceClosed closed) now name face origin was = if face == closed then None else was
+
+-- The route that the last register of its name, face and origin gave, where nothing has ended it
+-- since: no unregister, no closing of its face, and no later event, whatever it brings, at which
+-- the time was its deadline or more.
+abbrev pub route_of : Run → List Field → ℕ → ℕ → Option Route
+route_of Start name face origin = None
+route_of (Then before event answer) name face origin =
+    let now = max (now_of before) (moment event) in
+    route_after (outcome_of event answer.verdict) now name face origin
+    (option_and_then (until_due now) (route_of before name face origin))

@@ -1,0 +1,140 @@
+//! Routes that are registered, and how they end. The packets of these dialogues, and the answers,
+//! were computed by a generator of test packets, from the formats.
+
+use super::replies;
+
+const REGISTERED_ROUTES: &str = "
+up 1 local 1000000
+1 passed
+up 2 far 1000000
+2 passed
+up 3 far 1000000
+3 passed
+in 1 1000000 REGISTER_5
+4 allowed 200 ops
+> 1 REGISTERED_5
+in 1 1000000 REGISTER_AB
+5 allowed 200 ops
+> 1 REGISTERED_AB
+in 1 1000000 LIST
+6 passed
+> 1 ROUTES_AB
+in 1 1000999 AB_AGAIN
+7 passed
+> 3 AB_AGAIN
+in 1 1001000 ABC
+8 passed
+> 2 ABC
+in 1 1001000 LIST
+9 passed
+> 1 ROUTES_A
+in 1 1001000 UNREGISTER
+10 allowed 200 ops
+> 1 UNREGISTERED
+in 1 1001000 FOURTH
+11 passed
+> 1 NO_ROUTE_FOURTH
+";
+
+/// The example of the manual of management: what is inherited, and what ends.
+#[test]
+fn registered_routes(rt: HostRuntime) {
+    replies(&rt, REGISTERED_ROUTES);
+}
+
+const ROUTE_EXPIRY: &str = "
+up 1 local 1000000
+1 passed
+up 2 far 1000000
+2 passed
+up 3 far 1000000
+3 passed
+in 1 1000000 REGISTER_1000
+4 allowed 200 ops
+> 1 REGISTERED_1000
+in 1 1000999 INTEREST
+5 passed
+> 2 INTEREST
+in 3 1001000 AGAIN
+6 passed
+> 3 NO_ROUTE_AGAIN
+in 1 1001000 LIST
+7 passed
+> 1 NO_ROUTES
+";
+
+/// A route is used until its deadline, and gone for the event that comes at it.
+#[test]
+fn route_expiry(rt: HostRuntime) {
+    replies(&rt, ROUTE_EXPIRY);
+}
+
+const CLOSED_AT_THE_DEADLINE: &str = "
+up 1 local 1000000
+1 passed
+up 2 far 1000000
+2 passed
+in 1 1000000 REGISTER_1000
+3 allowed 200 ops
+> 1 REGISTERED_1000
+down 2 1001000
+4 passed
+in 1 1001000 LIST
+5 passed
+> 1 ROUTES_3
+";
+
+const CLOSED_BEFORE_THE_DEADLINE: &str = "
+up 1 local 1000000
+1 passed
+up 2 far 1000000
+2 passed
+in 1 1000000 REGISTER_1000
+3 allowed 200 ops
+> 1 REGISTERED_1000
+down 2 1000999
+4 passed
+in 1 1001000 LIST
+5 passed
+> 1 NO_ROUTES
+";
+
+/// A route that has ended is gone before its face closes, and the list counts both. One that goes
+/// with its face counts no more than the closing.
+#[test]
+fn routes_end_before_the_event(rt: HostRuntime) {
+    replies(&rt, CLOSED_AT_THE_DEADLINE);
+    replies(&rt, CLOSED_BEFORE_THE_DEADLINE);
+}
+
+const REFUSED_COMMANDS: &str = "
+up 1 local 1000000
+1 passed
+up 2 far 1000000
+2 passed
+in 1 1000000 REGISTER_1000
+3 allowed 200 ops
+> 1 REGISTERED_1000
+in 1 1000500 REGISTER_1000
+4 denied interest Replay ops
+> 1 REPLAY_1000
+in 1 1000500 REGISTER_WRONG_TAG
+5 denied interest Tag ops
+> 1 REGISTER_TAG
+in 1 1001000 RIB_LIST
+6 allowed 501 ops
+> 1 UNKNOWN_COMMAND
+in 1 1001000 INTEREST
+7 passed
+> 1 NO_ROUTE
+in 1 1001000 LIST
+8 passed
+> 1 ROUTES_3
+";
+
+/// A replay, or a register with a wrong tag, makes no route last longer, and does not count for the
+/// list's version. `rib/list` is unknown, but it is allowed, so that it counts.
+#[test]
+fn denied_registers_change_nothing(rt: HostRuntime) {
+    replies(&rt, REFUSED_COMMANDS);
+}
