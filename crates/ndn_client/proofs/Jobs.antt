@@ -10,7 +10,6 @@ use Rattle.ndn_client.specs.declared.job.SendJob.{SendJob}
 use Rattle.ndn_client.specs.declared.job.AskJob.{AskJob}
 use Rattle.ndn_client.specs.declared.job.Job.{Job}
 use Rattle.ndn_client.specs.declared.job.Job.TheVariants.{Help, Interest, Data, Command, Tag, Show, Explain, Send, Ask}
-use Rattle.ndn_client.specs.declared.subcommand.Subcommand.{Subcommand}
 use Rattle.ndn_client.specs.declared.subcommand.Subcommand.TheVariants as sub
 use Rattle.ndn_client.specs.Options.{IsInterestJob, IsDataJob, IsCommandJob, IsTagJob, IsShowJob, IsExplainJob, IsSendJob}
 use Rattle.ndn_client.specs.ShortForm.{IsShortJob}

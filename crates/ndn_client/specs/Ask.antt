@@ -42,6 +42,7 @@ lacks rows id = is_none (value_at rows id)
 abbrev pub is_alone : List Row → Bool
 is_alone rows =
     lacks rows (codes "PREFIX") && lacks rows (codes "face") && lacks rows (codes "cost")
+    && lacks rows (codes "origin") && lacks rows (codes "flags") && lacks rows (codes "expires")
     && lacks rows (codes "STRATEGY") && lacks rows (codes "time") && lacks rows (codes "seq")
     && lacks rows (codes "keys") && lacks rows (codes "key")
 

@@ -1,5 +1,5 @@
 -- What the arguments of a command line ask for, and what is refused.
-use Rattle.std.specs.Prelude.{◌≡◌, ◌⊎◌, ℕ, true, false, List, [], drop, Option, None, Some, Result, Ok, Err, codes, ⊤}
+use Rattle.std.specs.Prelude.{◌≡◌, ◌⊎◌, ℕ, true, false, List, [], drop, Option, None, Some, Result, Ok, Err, ⊤}
 use Rattle.clap.specs.Walk.{Row}
 use Rattle.clap.specs.Words.{kind_of}
 use Rattle.clap.specs.Simple.{subcommand_of}

@@ -90,6 +90,9 @@ command_app = a_subcommand (codes "command") (
     ∷ an_option (codes "face")
     ∷ an_option (codes "cost")
     ∷ an_option (codes "strategy")
+    ∷ an_option (codes "flags")
+    ∷ an_option (codes "expires")
+    ∷ an_option (codes "origin")
     ∷ an_option (codes "count")
     ∷ an_option (codes "lifetime")
     ∷ a_flag (codes "can-be-prefix")
@@ -116,6 +119,9 @@ route_app = stamped (a_subcommand (codes "route") (
     ∷ an_optional_positional (codes "PREFIX")
     ∷ an_option (codes "face")
     ∷ an_option (codes "cost")
+    ∷ an_option (codes "flags")
+    ∷ an_option (codes "expires")
+    ∷ an_option (codes "origin")
     ∷ []))
 
 unfoldable pub strategy_app : App

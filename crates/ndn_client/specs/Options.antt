@@ -98,7 +98,10 @@ pub record IsDataJob (rows : List Row) (job : DataJob) : Type 0 where
 pub record AreParameters (rows : List Row) (p : Parameters) : Type 0 where
   pub name : Has (value_at rows (codes "name")) ReadsAs p.name
   pub face : MayHave (value_at rows (codes "face")) IsNumber p.face
+  pub origin : MayHave (value_at rows (codes "origin")) IsNumber p.origin
   pub cost : MayHave (value_at rows (codes "cost")) IsNumber p.cost
+  pub flags : MayHave (value_at rows (codes "flags")) IsNumber p.flags
+  pub expires : MayHave (value_at rows (codes "expires")) IsNumber p.expires
   pub strategy : MayHave (value_at rows (codes "strategy")) ReadsAs p.strategy
   pub count : MayHave (value_at rows (codes "count")) IsNumber p.count
   pub can_be_prefix : IsFlag (flag_at rows (codes "can-be-prefix")) p.can_be_prefix

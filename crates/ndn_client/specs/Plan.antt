@@ -1,11 +1,11 @@
 -- What the program has to do for a job.
-use Rattle.std.specs.Prelude.{◌≡◌, ℕ, List, [], Option, None, Some, Bool, true, false, is_none, Vec, ⊤}
+use Rattle.std.specs.Prelude.{◌≡◌, ℕ, List, [], Option, None, Some, Bool, true, false, is_none, Vec}
 use Rattle.std.specs.Option.{option_map}
 use Rattle.std.specs.Global.{Vec as Octets}
 use Rattle.hmac_keys.specs.KeyFile.{NamedKey}
 use Rattle.ndn_explain.specs.Input.{IsSaidInput}
 use Rattle.ndn_requests.specs.declared.exchange.View.{View}
-use Rattle.ndn_requests.specs.declared.exchange.View.TheVariants.{Hexadecimal, Lines, Content, Table}
+use Rattle.ndn_requests.specs.declared.exchange.View.TheVariants.{Hexadecimal, Lines}
 use Rattle.ndn_requests.specs.declared.exchange.Exchange.{Exchange}
 use Rattle.ndn_requests.specs.declared.fault.Silence.{Silence}
 use Rattle.ndn_requests.specs.declared.fault.Failure.TheVariants as failure
@@ -23,7 +23,7 @@ use Rattle.ndn_client.specs.declared.plan.Plan.{Plan}
 use Rattle.ndn_client.specs.declared.plan.Plan.TheVariants as plan
 use Rattle.ndn_client.specs.Value.{AreOctets, IsRefused}
 use Rattle.ndn_client.specs.Input.{without_lf}
-use Rattle.ndn_client.specs.Answer.{IsAnswer, IsRefusal, IsCommandPacket, IsCommandRefusal, IsInterestPacket, IsInterestRefusal, keys_given}
+use Rattle.ndn_client.specs.Answer.{IsAnswer, IsRefusal, IsCommandPacket, IsInterestPacket, keys_given}
 
 -- ---- parts of a job
 

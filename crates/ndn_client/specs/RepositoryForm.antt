@@ -31,7 +31,10 @@ pub record IsRepositoryName (rows : List Row) (name : List Field) : Type 0 where
 pub record AreRepositoryParameters (rows : List Row) (p : Parameters) : Type 0 where
   pub name : Has (value_at rows (codes "NAME")) ReadsAs p.name
   pub face : p.face ≡ None
+  pub origin : p.origin ≡ None
   pub cost : p.cost ≡ None
+  pub flags : p.flags ≡ None
+  pub expires : p.expires ≡ None
   pub strategy : p.strategy ≡ None
   pub count : p.count ≡ None
   pub can_be_prefix : IsFlag (flag_at rows (codes "can-be-prefix")) p.can_be_prefix

@@ -1,10 +1,11 @@
 -- The short forms of commands: the action that each stands for, and what its options spell.
-use Rattle.std.specs.Prelude.{◌≡◌, ℕ, List, [], ◌∷◌, Option, None, Some, Bool, true, false, is_some, is_none, ◌&&◌, codes, find, bytes_eq}
+use Rattle.std.specs.Prelude.{◌≡◌, ℕ, List, Option, None, Some, Bool, true, false, is_some, is_none, ◌&&◌, ◌||◌, codes, find, bytes_eq}
 use Rattle.clap.specs.Walk.{Row}
 use Rattle.ndn_names.specs.ReadsAs.{ReadsAs}
+use Rattle.ndn_packets.specs.declared.command_types.TheConstants.{COST, ORIGIN, FLAGS, EXPIRATION_PERIOD}
 use Rattle.mgmt_core.specs.declared.action.Action.{Action}
-use Rattle.mgmt_core.specs.declared.action.Action.TheVariants.{AddNexthop, RemoveNexthop, SetStrategy, UnsetStrategy, EraseCache}
-use Rattle.mgmt_core.specs.Commands.{actions}
+use Rattle.mgmt_core.specs.declared.action.Action.TheVariants.{AddNexthop, RemoveNexthop, Register, Unregister, SetStrategy, UnsetStrategy, EraseCache}
+use Rattle.mgmt_core.specs.Commands.{actions, row_of, takes}
 use Rattle.ndn_requests.specs.declared.parameters.Parameters.{Parameters}
 use Rattle.ndn_requests.specs.Commands.{node_name}
 use Rattle.ndn_client.specs.declared.job.Stamp.{Stamp}
@@ -23,6 +24,9 @@ words_are subcommand verb first second = bytes_eq subcommand first && bytes_eq v
 abbrev pub is_named : List ℕ → List ℕ → Action → Bool
 is_named subcommand verb AddNexthop = words_are subcommand verb (codes "route") (codes "add")
 is_named subcommand verb RemoveNexthop = words_are subcommand verb (codes "route") (codes "remove")
+is_named subcommand verb Register = words_are subcommand verb (codes "route") (codes "register")
+is_named subcommand verb Unregister =
+    words_are subcommand verb (codes "route") (codes "unregister")
 is_named subcommand verb SetStrategy = words_are subcommand verb (codes "strategy") (codes "set")
 is_named subcommand verb UnsetStrategy =
     words_are subcommand verb (codes "strategy") (codes "unset")
@@ -35,11 +39,25 @@ action_of subcommand verb = find (is_named subcommand verb) actions
 abbrev pub IsVerb : List ℕ → List ℕ → Action → Type 0
 IsVerb subcommand verb action = action_of subcommand verb ≡ Some action
 
+-- an option is given only where the command takes the field of this type
+abbrev pub may_give : Action → ℕ → Option (List ℕ) → Bool
+may_give action kind value = takes kind (row_of action) || is_none value
+
+-- a command on routes names the face
+abbrev pub fits_route : Action → List Row → Bool
+fits_route action rows =
+    is_some (value_at rows (codes "face"))
+    && may_give action COST (value_at rows (codes "cost"))
+    && may_give action ORIGIN (value_at rows (codes "origin"))
+    && may_give action FLAGS (value_at rows (codes "flags"))
+    && may_give action EXPIRATION_PERIOD (value_at rows (codes "expires"))
+
 -- what a verb takes and needs of what its subcommand offers
 abbrev pub fits : Action → List Row → Bool
-fits AddNexthop rows = is_some (value_at rows (codes "face"))
-fits RemoveNexthop rows =
-    is_some (value_at rows (codes "face")) && is_none (value_at rows (codes "cost"))
+fits AddNexthop rows = fits_route AddNexthop rows
+fits RemoveNexthop rows = fits_route RemoveNexthop rows
+fits Register rows = fits_route Register rows
+fits Unregister rows = fits_route Unregister rows
 fits SetStrategy rows = is_some (value_at rows (codes "STRATEGY"))
 fits UnsetStrategy rows = is_none (value_at rows (codes "STRATEGY"))
 fits EraseCache rows = true
@@ -49,7 +67,10 @@ fits EraseCache rows = true
 pub record AreShortParameters (rows : List Row) (p : Parameters) : Type 0 where
   pub name : Has (value_at rows (codes "PREFIX")) ReadsAs p.name
   pub face : MayHave (value_at rows (codes "face")) IsNumber p.face
+  pub origin : MayHave (value_at rows (codes "origin")) IsNumber p.origin
   pub cost : MayHave (value_at rows (codes "cost")) IsNumber p.cost
+  pub flags : MayHave (value_at rows (codes "flags")) IsNumber p.flags
+  pub expires : MayHave (value_at rows (codes "expires")) IsNumber p.expires
   pub strategy : MayHave (value_at rows (codes "STRATEGY")) SpellsStrategy p.strategy
   pub count : MayHave (value_at rows (codes "count")) IsNumber p.count
   pub can_be_prefix : p.can_be_prefix ≡ false

@@ -40,8 +40,7 @@ Example: a Data named /A whose content is the letter x.
 pub const COMMAND: &str =
     "URI is the name of the command, which ends with its verb. Under /localhost/nfd the parameters are
 those of the node, which have no --lifetime and --can-be-prefix; elsewhere they are those of a
-repository, which have no --face, --cost, --strategy and --count. Without --key the signature is
-DigestSha256.
+repository, which have these two alone beside --name. Without --key the signature is DigestSha256.
 
 Example: a next hop for /A, signed with a key.
   $ echo '/ops/KEY/1 6b6579' > ops.keys
@@ -49,14 +48,20 @@ Example: a next hop for /A, signed with a key.
       --nonce 01020304 --time 1000000 --keys ops.keys --key /ops/KEY/1";
 
 pub const ROUTE: &str =
-    "VERB is add, remove or list. add and remove need PREFIX and --face; remove has no --cost. Without
---time the command has the time of the clock, and without --nonce a Nonce made of its time and its
-words. Without --key the signature is DigestSha256. list takes --nonce, --send and --from alone; with
---send it fetches all segments and prints a table with tabs between its columns.
+    "VERB is add, remove, register, unregister or list. All but list need PREFIX and --face. add may
+have --cost; register may have --cost, --flags, --expires and --origin, and unregister --origin.
+register replaces the route of this face and origin. Without --time the command has the time of the
+clock, and without --nonce a Nonce made of its time and its words. Without --key the signature is
+DigestSha256. list takes --nonce, --send and --from alone; with --send it fetches all segments and
+prints a table with tabs between its columns.
 
 Example: a next hop for /A through face 2, and none.
   $ ndn_tool route add /A --face 2 --keys ops.keys --key /ops/KEY/1
   $ ndn_tool route remove /A --face 2 --keys ops.keys --key /ops/KEY/1
+
+Example: a route for /A through face 2 for an hour, which longer names inherit, and none.
+  $ ndn_tool route register /A --face 2 --flags 1 --expires 3600000 --keys ops.keys --key /ops/KEY/1
+  $ ndn_tool route unregister /A --face 2 --keys ops.keys --key /ops/KEY/1
 
 Example: the routes of the node at port 6363, asked from the port of its first Local peer.
   $ ndn_tool route list --send 6363 --from 7001";
@@ -138,9 +143,18 @@ pub const TIME: &str = "The time of the signature, in milliseconds since 1970";
 
 pub const SEQ: &str = "The sequence number of the signature";
 
-pub const FACE: &str = "The face of the next hop";
+pub const FACE: &str =
+    "The face of the next hop or route; 0 is the one that the command comes from";
 
-pub const COST: &str = "The cost of the next hop; 0 if absent";
+pub const COST: &str = "The cost of the next hop or route; 0 if absent";
+
+pub const FLAGS: &str =
+    "The flags of the route: 1 child-inherit, 2 capture, 3 both, 0 none; 1 if absent";
+
+pub const EXPIRES: &str =
+    "For how long the route is registered, in milliseconds; without an end if absent";
+
+pub const ORIGIN: &str = "The origin of the route; 0 if absent";
 
 pub const COUNT: &str = "The greatest number of Data to erase";
 

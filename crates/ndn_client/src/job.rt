@@ -289,7 +289,10 @@ fn parameters(alloc: Global, options: &ArgMatches<'_>) -> Result<Parameters, Too
     Ok(Parameters {
         name: options::required_name(alloc, options, "name")?,
         face: options::number(options, "face")?,
+        origin: options::number(options, "origin")?,
         cost: options::number(options, "cost")?,
+        flags: options::number(options, "flags")?,
+        expires: options::number(options, "expires")?,
         strategy: options::name(alloc, options, "strategy")?,
         count: options::number(options, "count")?,
         can_be_prefix: options::flag(options, "can-be-prefix"),
@@ -304,7 +307,10 @@ fn short_parameters(alloc: Global, options: &ArgMatches<'_>) -> Result<Parameter
     Ok(Parameters {
         name: options::required_name(alloc, options, "PREFIX")?,
         face: options::number(options, "face")?,
+        origin: options::number(options, "origin")?,
         cost: options::number(options, "cost")?,
+        flags: options::number(options, "flags")?,
+        expires: options::number(options, "expires")?,
         strategy: options::strategy(alloc, options, "STRATEGY")?,
         count: options::number(options, "count")?,
         can_be_prefix: false,
@@ -319,7 +325,10 @@ fn repository_parameters(alloc: Global, options: &ArgMatches<'_>) -> Result<Para
     Ok(Parameters {
         name: options::required_name(alloc, options, "NAME")?,
         face: None,
+        origin: None,
         cost: None,
+        flags: None,
+        expires: None,
         strategy: None,
         count: None,
         can_be_prefix: options::flag(options, "can-be-prefix"),
@@ -505,6 +514,9 @@ fn is_alone(options: &ArgMatches<'_>) -> bool
     lacks(options, "PREFIX")
         && lacks(options, "face")
         && lacks(options, "cost")
+        && lacks(options, "origin")
+        && lacks(options, "flags")
+        && lacks(options, "expires")
         && lacks(options, "STRATEGY")
         && lacks(options, "time")
         && lacks(options, "seq")

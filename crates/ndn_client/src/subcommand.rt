@@ -156,6 +156,9 @@ fn command_command<'a>(alloc: Global) -> Result<Command<'a>, AllocError>
         Argument::Optional("face", "N", help::FACE),
         Argument::Optional("cost", "N", help::COST),
         Argument::Optional("strategy", "URI", "The name of a strategy"),
+        Argument::Optional("flags", "N", help::FLAGS),
+        Argument::Optional("expires", "MILLISECONDS", help::EXPIRES),
+        Argument::Optional("origin", "N", help::ORIGIN),
         Argument::Optional("count", "N", help::COUNT),
         Argument::Optional("lifetime", "N", help::LIFETIME),
         Argument::Flag("can-be-prefix", help::CAN_BE_PREFIX),
@@ -170,12 +173,15 @@ fn route_command<'a>(alloc: Global) -> Result<Command<'a>, AllocError>
     ensures { IfOk result (HasApp route_app) }
 {
     let arguments = [
-        Argument::Positional("VERB", "add, remove or list"),
+        Argument::Positional("VERB", "add, remove, list, register or unregister"),
         Argument::MaybePositional("PREFIX", "The name of the route"),
         Argument::Optional("face", "N", help::FACE),
         Argument::Optional("cost", "N", help::COST),
+        Argument::Optional("flags", "N", help::FLAGS),
+        Argument::Optional("expires", "MILLISECONDS", help::EXPIRES),
+        Argument::Optional("origin", "N", help::ORIGIN),
     ];
-    let about = "Adds or removes a next hop, or lists the routes";
+    let about = "Adds or removes a next hop, registers or unregisters a route, or lists the routes";
     let command = described(alloc, "route", about, help::ROUTE, &arguments)?;
     with_stamp(alloc, command)
 }

@@ -6,7 +6,6 @@ use Rattle.hmac_keys.specs.KeyFile.{NamedKey, lines_of}
 use Rattle.ndn_tlv.specs.Options.{on_option}
 use Rattle.hmac_keys.specs.KeyReading.{at_last_space}
 use Rattle.ndn_packets.specs.declared.fault.PacketFault.{PacketFault}
-use Rattle.ndn_packets.specs.declared.fault.PacketFault.TheVariants as packet
 use Rattle.ndn_packets.specs.Packet.{PlainFrame}
 use Rattle.ndn_packets.specs.Link.{IsFrame}
 use Rattle.ndn_packets.specs.FrameFaults.{FaultOf}

@@ -1,6 +1,6 @@
 -- What a command asks for and what a reply answers, as lines of text (NFD Management, "Control
 -- Command"; the elements of a repository are this profile's).
-use Rattle.std.specs.Prelude.{ℕ, ◌-◌, List, [], ◌++◌, length, take, Bool, false, is_some, nat_le, ◌==◌, ◌&&◌, codes, Option, None, Some, slice_get, if◌then◌else◌}
+use Rattle.std.specs.Prelude.{ℕ, ◌-◌, ◌/◌, ◌%◌, List, [], ◌++◌, length, take, Bool, true, false, is_some, nat_le, ◌==◌, ◌&&◌, codes, Option, None, Some, slice_get, if◌then◌else◌}
 use Rattle.std.specs.Option.{option_map}
 use Rattle.std.specs.List.{list_all}
 use Rattle.std.specs.Fmt.{decimal}
@@ -9,10 +9,10 @@ use Rattle.ndn_tlv.specs.Reading.{elements_of, nni_at, on_result}
 use Rattle.ndn_names.specs.declared.component_type.TheConstants.{GENERIC, PARAMETERS_SHA256_DIGEST}
 use Rattle.ndn_names.specs.Reading.{name_at}
 use Rattle.ndn_names.specs.Uri.{uri_of}
-use Rattle.ndn_packets.specs.declared.command_types.TheConstants.{CONTROL_PARAMETERS, REPO_COMMAND_PARAMETER, FACE_ID, COST, STRATEGY, COUNT}
+use Rattle.ndn_packets.specs.declared.command_types.TheConstants.{CONTROL_PARAMETERS, REPO_COMMAND_PARAMETER, FACE_ID, COST, STRATEGY, FLAGS, EXPIRATION_PERIOD, ORIGIN, COUNT}
 use Rattle.ndn_packets.specs.declared.types.TheConstants.{NAME, INTEREST_LIFETIME, CAN_BE_PREFIX}
 use Rattle.ndn_explain.specs.declared.meaning.Form.{Form}
-use Rattle.ndn_explain.specs.declared.meaning.Form.TheVariants.{Number, Name, Strategy}
+use Rattle.ndn_explain.specs.declared.meaning.Form.TheVariants.{Number, Name, Strategy, Flags, Period}
 use Rattle.ndn_packets.specs.declared.command_types.TheConstants.{CONTROL_RESPONSE, STATUS_CODE, STATUS_TEXT, REPO_COMMAND_RESPONSE, REPO_STATUS_CODE}
 use Rattle.ndn_tlv.specs.Fields.{Elements, first_of, single}
 use Rattle.ndn_explain.specs.Show.{named_line, flag_line, optional_line, hex_or_dash}
@@ -37,10 +37,33 @@ held_name value (Some name) = name_text name
 abbrev pub strategy_text : List ℕ → List ℕ
 strategy_text value = held_name value (single NAME (elements_of value))
 
+-- the flags of a route (NFD Management, "RIB Management")
+abbrev pub words_of_flags : Bool → Bool → List ℕ
+words_of_flags false false = codes "none"
+words_of_flags true false = codes "child-inherit"
+words_of_flags false true = codes "capture"
+words_of_flags true true = codes "child-inherit capture"
+
+-- child-inherit is 1 and capture is 2; other bits have no effect
+abbrev pub flags_word : ℕ → List ℕ
+flags_word flags = words_of_flags (flags % 2 == 1) (flags / 2 % 2 == 1)
+
+abbrev pub flags_text : List ℕ → List ℕ
+flags_text value = on_result flags_word (λ _. bad_text value) (nni_at value)
+
+-- in milliseconds
+abbrev pub period_word : ℕ → List ℕ
+period_word period = codes "in " ++ (decimal period ++ codes " ms")
+
+abbrev pub period_text : List ℕ → List ℕ
+period_text value = on_result period_word (λ _. bad_text value) (nni_at value)
+
 abbrev pub form_text : Form → List ℕ → List ℕ
 form_text Number value = number_text value
 form_text Name value = name_text value
 form_text Strategy value = strategy_text value
+form_text Flags value = flags_text value
+form_text Period value = period_text value
 
 -- a field that is there, by its form
 abbrev pub field_line : List ℕ → Form → ℕ → Elements → List ℕ
@@ -51,6 +74,13 @@ hop_lines es =
     field_line (codes "face") Number FACE_ID es
     ++ field_line (codes "cost") Number COST es
 
+-- of a route that is registered
+abbrev pub route_lines : Elements → List ℕ
+route_lines es =
+    field_line (codes "origin") Number ORIGIN es
+    ++ (field_line (codes "flags") Flags FLAGS es
+    ++ field_line (codes "expires") Period EXPIRATION_PERIOD es)
+
 abbrev pub wanted_lines : Elements → List ℕ
 wanted_lines es =
     flag_line (codes "can-be-prefix") (is_some (first_of CAN_BE_PREFIX es))
@@ -60,9 +90,10 @@ abbrev pub field_lines : Elements → List ℕ
 field_lines es =
     field_line (codes "name") Name NAME es
     ++ (hop_lines es
+    ++ (route_lines es
     ++ (field_line (codes "strategy") Strategy STRATEGY es
     ++ (field_line (codes "count") Number COUNT es
-    ++ wanted_lines es)))
+    ++ wanted_lines es))))
 
 -- ---- commands
 

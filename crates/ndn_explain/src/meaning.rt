@@ -7,14 +7,15 @@ ghost use Rattle.ndn_tlv.specs.Reading.{elements_of};
 ghost use Rattle.ndn_names.specs.View.{components};
 ghost use Rattle.ndn_tlv.specs.Fields.{first_of};
 ghost use Rattle.ndn_explain.specs.Show.{named_line, optional_line};
-ghost use Rattle.ndn_explain.specs.Meaning.{bad_text, number_text, name_text, form_text, field_line, hop_lines, wanted_lines, field_lines, parameters_of, parameters_in, command_lines, is_printable, status_text, status_line, body_lines, node_reply_lines, repository_reply_lines, reply_lines};
+ghost use Rattle.ndn_explain.specs.Meaning.{bad_text, number_text, name_text, flags_word, flags_text, period_text, form_text, field_line, hop_lines, route_lines, wanted_lines, field_lines, parameters_of, parameters_in, command_lines, is_printable, status_text, status_line, body_lines, node_reply_lines, repository_reply_lines, reply_lines};
 
 use crate::show::{put_flag, put_hex, put_name};
 use ndn_names::component_type::{GENERIC, PARAMETERS_SHA256_DIGEST};
 use ndn_names::{Name, NameBuf};
 use ndn_packets::command_types::{
-    CONTROL_PARAMETERS, CONTROL_RESPONSE, COST, COUNT, FACE_ID, REPO_COMMAND_PARAMETER,
-    REPO_COMMAND_RESPONSE, REPO_STATUS_CODE, STATUS_CODE, STATUS_TEXT, STRATEGY,
+    CONTROL_PARAMETERS, CONTROL_RESPONSE, COST, COUNT, EXPIRATION_PERIOD, FACE_ID, FLAGS, ORIGIN,
+    REPO_COMMAND_PARAMETER, REPO_COMMAND_RESPONSE, REPO_STATUS_CODE, STATUS_CODE, STATUS_TEXT,
+    STRATEGY,
 };
 use ndn_packets::types::{CAN_BE_PREFIX, INTEREST_LIFETIME, NAME};
 use ndn_tlv::{Memory, first_field, nni_of, single_element};
@@ -30,6 +31,10 @@ pub enum Form {
     Name,
     /// One Name, as a Strategy holds it.
     Strategy,
+    /// A NonNegativeInteger whose bits are the flags of a route.
+    Flags,
+    /// A NonNegativeInteger of milliseconds.
+    Period,
 }
 
 /// Appends the lines of a command of this name; nothing for the name of another Interest.
@@ -149,6 +154,7 @@ fn put_fields(alloc: Global, text: &mut Vec<u8>, fields: &[u8]) -> Result<(), Me
 {
     put_field(alloc, text, "name", Form::Name, fields, NAME)?;
     put_hop(alloc, text, fields)?;
+    put_route(alloc, text, fields)?;
     put_field(alloc, text, "strategy", Form::Strategy, fields, STRATEGY)?;
     put_field(alloc, text, "count", Form::Number, fields, COUNT)?;
     put_wanted(alloc, text, fields)
@@ -160,6 +166,23 @@ fn put_hop(alloc: Global, text: &mut Vec<u8>, fields: &[u8]) -> Result<(), Memor
 {
     put_field(alloc, text, "face", Form::Number, fields, FACE_ID)?;
     put_field(alloc, text, "cost", Form::Number, fields, COST)
+}
+
+/// Appends the lines of a route that is registered.
+fn put_route(alloc: Global, text: &mut Vec<u8>, fields: &[u8]) -> Result<(), Memory>
+    ensures { OnOk result (text.new.items
+        ≡ text.old.items ++ route_lines (elements_of fields.now)) }
+{
+    put_field(alloc, text, "origin", Form::Number, fields, ORIGIN)?;
+    put_field(alloc, text, "flags", Form::Flags, fields, FLAGS)?;
+    put_field(
+        alloc,
+        text,
+        "expires",
+        Form::Period,
+        fields,
+        EXPIRATION_PERIOD,
+    )
 }
 
 /// Appends the lines of what a repository is asked for.
@@ -215,6 +238,8 @@ pub fn put_form(alloc: Global, text: &mut Vec<u8>, form: Form, value: &[u8]) -> 
             Some(name) => put_name_text(alloc, text, name),
             None => put_bad(alloc, text, value),
         },
+        Form::Flags => put_flags_text(alloc, text, value),
+        Form::Period => put_period_text(alloc, text, value),
     }
 }
 
@@ -223,6 +248,38 @@ fn put_number_text(alloc: Global, text: &mut Vec<u8>, value: &[u8]) -> Result<()
 {
     match nni_of(value) {
         Ok(number) => write!(text, "{number}").map_err(|_| Memory),
+        Err(_) => put_bad(alloc, text, value),
+    }
+}
+
+fn put_flags_text(alloc: Global, text: &mut Vec<u8>, value: &[u8]) -> Result<(), Memory>
+    ensures { OnOk result (text.new.items ≡ text.old.items ++ flags_text value.now) }
+{
+    match nni_of(value) {
+        Ok(flags) => Ok(text.extend_from_slice(flags_word(flags).as_bytes())?),
+        Err(_) => put_bad(alloc, text, value),
+    }
+}
+
+/// The flags of a route in words.
+fn flags_word(flags: u64) -> &'static str
+    ensures { result.now ≡ flags_word flags }
+{
+    let is_child_inherit = flags % 2 == 1;
+    let is_capture = flags / 2 % 2 == 1;
+    match (is_child_inherit, is_capture) {
+        (false, false) => "none",
+        (true, false) => "child-inherit",
+        (false, true) => "capture",
+        (true, true) => "child-inherit capture",
+    }
+}
+
+fn put_period_text(alloc: Global, text: &mut Vec<u8>, value: &[u8]) -> Result<(), Memory>
+    ensures { OnOk result (text.new.items ≡ text.old.items ++ period_text value.now) }
+{
+    match nni_of(value) {
+        Ok(period) => write!(text, "in {period} ms").map_err(|_| Memory),
         Err(_) => put_bad(alloc, text, value),
     }
 }

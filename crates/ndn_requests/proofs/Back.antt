@@ -1,24 +1,20 @@
 -- What is read of elements, fields, names and numbers that were written.
-use Rattle.std.proofs.Common.{◌≡◌, ℕ, zero, suc, ◌+◌, ◌-◌, ◌^◌, ◌<◌, ◌≤◌, Bool, true, false, cond, eqb, List, [], ◌∷◌, ◌++◌, length, map, Option, None, Some, Result, Ok, Err, refl, sym, ap, subst, ◌∙◌, append-nil, append_assoc, arith, length-append, zero-add}
-use Rattle.std.specs.Prelude.{slice_get, is_some, IfSome, if◌then◌else◌, ◌==◌}
-use Rattle.std.specs.Option.{option_map}
-use Rattle.std.specs.List.{flat_map, AllByRecursion, list_all, list_any}
-use Rattle.std.proofs.lemmas.Bool.{cases_lt}
-use Rattle.std.proofs.lemmas.Bool.Decides.{eqb_tells}
+use Rattle.std.proofs.Common.{◌≡◌, ℕ, zero, suc, ◌+◌, ◌^◌, ◌<◌, ◌≤◌, true, false, List, [], ◌∷◌, ◌++◌, length, Option, None, Some, Ok, refl, sym, ap, ◌∙◌, append-nil, arith, length-append, zero-add}
+use Rattle.std.specs.Prelude.{slice_get, IfSome, ◌==◌}
+use Rattle.std.specs.List.{AllByRecursion}
 use Rattle.std.proofs.lemmas.List.Concat.{flat_map-cons}
-use Rattle.ndn_tlv.specs.declared.fault.TlvFault.{TlvFault}
-use Rattle.ndn_tlv.specs.Number.{spelling, shortest_nni}
+use Rattle.ndn_tlv.specs.Number.{shortest_nni}
 use Rattle.ndn_tlv.specs.Element.{Field, IsField, element}
-use Rattle.ndn_tlv.specs.Fields.{Elements, first_of, single}
-use Rattle.ndn_tlv.specs.Reading.{elements_of, nni_at, on_result}
+use Rattle.ndn_tlv.specs.Fields.{first_of}
+use Rattle.ndn_tlv.specs.Reading.{elements_of, nni_at}
 use Rattle.ndn_tlv.specs.Writing.{octets, optional}
 use Rattle.ndn_tlv.proofs.Fields.{element_again, elements_of-ok, elements_again}
 use Rattle.ndn_tlv.proofs.Integers.{shortest_again}
 use Rattle.ndn_tlv.proofs.Lengths.{length-element}
 use Rattle.ndn_names.specs.Name.{octets_of}
-use Rattle.ndn_names.specs.Reading.{name_of, name_at}
+use Rattle.ndn_names.specs.Reading.{name_at}
 use Rattle.ndn_names.proofs.Names.{name_again}
-use Rattle.ndn_requests.specs.Commands.{IsWhole, Fits64, as_read, fields_read}
+use Rattle.ndn_requests.specs.Commands.{IsWhole, as_read, fields_read}
 
 -- ---- elements
 

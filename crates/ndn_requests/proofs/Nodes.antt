@@ -1,25 +1,25 @@
 -- The node's reading of a command that was written.
-use Rattle.std.proofs.Common.{◌≡◌, ℕ, ◌+◌, ◌^◌, ◌<◌, ◌≤◌, Bool, true, false, eqb, List, [], ◌∷◌, ◌++◌, length, map, Option, None, Some, Result, Ok, Err, refl, sym, ap, ap₂, ◌∙◌, arith, inl, inr, eq-eqb, ne_eqb, lit<, lit≤}
-use Rattle.std.specs.Prelude.{is_some, unwrap_or, IfSome, if◌then◌else◌, not, ◌&&◌, ◌==◌}
+use Rattle.std.proofs.Common.{◌≡◌, ℕ, ◌^◌, ◌<◌, Bool, true, false, eqb, List, [], ◌∷◌, ◌++◌, length, map, Option, None, Some, Ok, Err, refl, sym, ap, ap₂, ◌∙◌, inl, inr, eq-eqb, ne_eqb, lit<, lit≤}
+use Rattle.std.specs.Prelude.{is_some, unwrap_or, IfSome, if◌then◌else◌, not, ◌&&◌}
 use Rattle.std.specs.Option.{option_map}
-use Rattle.std.specs.List.{AllByRecursion, list_all, list_any}
+use Rattle.std.specs.List.{AllByRecursion, list_all}
 use Rattle.std.proofs.lemmas.Bool.Decides.{eqb_tells}
 use Rattle.ndn_tlv.specs.Number.{shortest_nni}
 use Rattle.ndn_tlv.specs.Element.{Field, IsField, element}
 use Rattle.ndn_tlv.specs.Fields.{Elements, first_of, single}
 use Rattle.ndn_tlv.specs.Options.{◌>>=◌}
 use Rattle.ndn_tlv.specs.Reading.{elements_of, on_result}
-use Rattle.ndn_tlv.specs.Writing.{octets, optional, number}
+use Rattle.ndn_tlv.specs.Writing.{octets, optional}
 use Rattle.ndn_names.specs.Name.{octets_of}
 use Rattle.ndn_names.specs.Reading.{name_of}
 use Rattle.mgmt_core.specs.declared.action.Action.{Action}
-use Rattle.mgmt_core.specs.declared.action.Action.TheVariants.{AddNexthop, RemoveNexthop, SetStrategy, UnsetStrategy, EraseCache}
+use Rattle.mgmt_core.specs.declared.action.Action.TheVariants.{AddNexthop, RemoveNexthop, Register, Unregister, SetStrategy, UnsetStrategy, EraseCache}
 use Rattle.mgmt_core.specs.Commands.{Row, row_of, has, takes, parameter_fields}
 use Rattle.mgmt_core.specs.Reading.{PlainCommand, command_of, command_at, command_before_digest, action_at, parameters_at, fits, is_root, name_in, number_in, number_of, optional_of, strategy_in, or_status}
 use Rattle.ndn_requests.specs.declared.parameters.Parameters.{Parameters}
-use Rattle.ndn_requests.specs.Parameters.{command_name, parameters_element, node_fields, strategy_value, name_field}
-use Rattle.ndn_requests.specs.Commands.{AreValues, Fits64, IsWhole, as_read, fields_read, kinds, node_name, signed_name, suits, asked_of}
-use Rattle.ndn_requests.proofs.Back.{IsType, all_read, first_here, first_other, fields_fit, is_type, last_fits, last_here, last_other, name_read, number_read, one_read, optional_all, optional_of_all, part_right, value_fits}
+use Rattle.ndn_requests.specs.Parameters.{command_name, parameters_element, node_fields, strategy_value}
+use Rattle.ndn_requests.specs.Commands.{AreValues, Fits64, IsWhole, fields_read, kinds, node_name, signed_name, suits, asked_of}
+use Rattle.ndn_requests.proofs.Back.{IsType, all_read, first_here, first_other, fields_fit, last_fits, last_here, last_other, name_read, number_read, one_read, optional_all, optional_of_all, part_right, value_fits}
 
 -- ---- which fields there are
 
@@ -61,15 +61,25 @@ optional_strategy (Some name) whole fit =
 
 -- ---- the parameters
 
-abbrev asked_from : Action → List Field → Option ℕ → Option ℕ → Option (List Field) → Option ℕ → PlainCommand
-asked_from action n f c s k = record { action = action; name = n; face = unwrap_or f 0; cost = unwrap_or c 0; strategy = s; count = k }
+abbrev asked_from : Action → List Field → Option ℕ → Option ℕ → Option ℕ → Option ℕ → Option ℕ → Option (List Field) → Option ℕ → PlainCommand
+asked_from action n f o c g e s k = record {
+  action = action;
+  name = n;
+  face = unwrap_or f 0;
+  origin = unwrap_or o 0;
+  cost = unwrap_or c 0;
+  flags = unwrap_or g 1;
+  expires = e;
+  strategy = s;
+  count = k;
+}
 
-abbrev answer : Action → Bool → Option (List Field) → Option (Option ℕ) → Option (Option ℕ) → Option (Option (List Field)) → Option (Option ℕ) → Option PlainCommand
-answer action ok name face cost strategy count =
-    if not ok then None else (name >>= (λ n. face >>= (λ f. cost >>= (λ c. strategy >>= (λ s. count >>= (λ k.
-    if is_root n && not (row_of action).takes_root then None else Some (asked_from action n f c s k)))))))
+abbrev answer : Action → Bool → Option (List Field) → Option (Option ℕ) → Option (Option ℕ) → Option (Option ℕ) → Option (Option ℕ) → Option (Option ℕ) → Option (Option (List Field)) → Option (Option ℕ) → Option PlainCommand
+answer action ok name face origin cost flags expires strategy count =
+    if not ok then None else (name >>= (λ n. face >>= (λ f. origin >>= (λ o. cost >>= (λ c. flags >>= (λ g. expires >>= (λ e. strategy >>= (λ s. count >>= (λ k.
+    if is_root n && not (row_of action).takes_root then None else Some (asked_from action n f o c g e s k))))))))))
 
-answer_is : (action : Action) (es : Elements) → command_of action es ≡ answer action (list_all (fits (row_of action)) es && list_all (λ kind. is_some (first_of kind es)) (row_of action).needs) (name_in es) (number_in 105 es) (number_in 106 es) (strategy_in es) (number_in 132 es)
+answer_is : (action : Action) (es : Elements) → command_of action es ≡ answer action (list_all (fits (row_of action)) es && list_all (λ kind. is_some (first_of kind es)) (row_of action).needs) (name_in es) (number_in 105 es) (number_in 111 es) (number_in 106 es) (number_in 108 es) (number_in 109 es) (strategy_in es) (number_in 132 es)
 unfolding command_of
 answer_is action es = refl
 
@@ -97,6 +107,15 @@ module _ (action : Action) (p : Parameters) where
   abbrev cost : Option (List ℕ)
   cost = option_map shortest_nni p.cost
 
+  abbrev flags : Option (List ℕ)
+  flags = option_map shortest_nni p.flags
+
+  abbrev expires : Option (List ℕ)
+  expires = option_map shortest_nni p.expires
+
+  abbrev origin : Option (List ℕ)
+  origin = option_map shortest_nni p.origin
+
   abbrev count : Option (List ℕ)
   count = option_map shortest_nni p.count
 
@@ -106,38 +125,54 @@ module _ (action : Action) (p : Parameters) where
   abbrev last : List Field
   last = optional 132 count
 
+  abbrev after_expires : List Field
+  after_expires = optional 111 origin ++ last
+
+  abbrev after_flags : List Field
+  after_flags = optional 109 expires ++ after_expires
+
+  abbrev after_strategy : List Field
+  after_strategy = optional 108 flags ++ after_flags
+
   abbrev after_cost : List Field
-  after_cost = optional 107 strategy ++ last
+  after_cost = optional 107 strategy ++ after_strategy
 
   abbrev after_face : List Field
   after_face = optional 106 cost ++ after_cost
 
   face_is : first_of 105 (fields_read (node_fields p)) ≡ face
-  face_is = first_here 105 face after_face refl (first_other 105 106 cost after_cost refl ∙ (first_other 105 107 strategy last refl ∙ last_other 105 132 count refl))
+  face_is = first_here 105 face after_face refl (first_other 105 106 cost after_cost refl ∙ (first_other 105 107 strategy after_strategy refl ∙ (first_other 105 108 flags after_flags refl ∙ (first_other 105 109 expires after_expires refl ∙ (first_other 105 111 origin last refl ∙ last_other 105 132 count refl)))))
 
   cost_is : first_of 106 (fields_read (node_fields p)) ≡ cost
-  cost_is = first_other 106 105 face after_face refl ∙ first_here 106 cost after_cost refl (first_other 106 107 strategy last refl ∙ last_other 106 132 count refl)
+  cost_is = first_other 106 105 face after_face refl ∙ first_here 106 cost after_cost refl (first_other 106 107 strategy after_strategy refl ∙ (first_other 106 108 flags after_flags refl ∙ (first_other 106 109 expires after_expires refl ∙ (first_other 106 111 origin last refl ∙ last_other 106 132 count refl))))
 
   strategy_is : first_of 107 (fields_read (node_fields p)) ≡ strategy
-  strategy_is = first_other 107 105 face after_face refl ∙ (first_other 107 106 cost after_cost refl ∙ first_here 107 strategy last refl (last_other 107 132 count refl))
+  strategy_is = first_other 107 105 face after_face refl ∙ (first_other 107 106 cost after_cost refl ∙ first_here 107 strategy after_strategy refl (first_other 107 108 flags after_flags refl ∙ (first_other 107 109 expires after_expires refl ∙ (first_other 107 111 origin last refl ∙ last_other 107 132 count refl))))
+
+  flags_is : first_of 108 (fields_read (node_fields p)) ≡ flags
+  flags_is = first_other 108 105 face after_face refl ∙ (first_other 108 106 cost after_cost refl ∙ (first_other 108 107 strategy after_strategy refl ∙ first_here 108 flags after_flags refl (first_other 108 109 expires after_expires refl ∙ (first_other 108 111 origin last refl ∙ last_other 108 132 count refl))))
+
+  expires_is : first_of 109 (fields_read (node_fields p)) ≡ expires
+  expires_is = first_other 109 105 face after_face refl ∙ (first_other 109 106 cost after_cost refl ∙ (first_other 109 107 strategy after_strategy refl ∙ (first_other 109 108 flags after_flags refl ∙ first_here 109 expires after_expires refl (first_other 109 111 origin last refl ∙ last_other 109 132 count refl))))
+
+  origin_is : first_of 111 (fields_read (node_fields p)) ≡ origin
+  origin_is = first_other 111 105 face after_face refl ∙ (first_other 111 106 cost after_cost refl ∙ (first_other 111 107 strategy after_strategy refl ∙ (first_other 111 108 flags after_flags refl ∙ (first_other 111 109 expires after_expires refl ∙ first_here 111 origin last refl (last_other 111 132 count refl)))))
 
   count_is : first_of 132 (fields_read (node_fields p)) ≡ count
-  count_is = first_other 132 105 face after_face refl ∙ (first_other 132 106 cost after_cost refl ∙ (first_other 132 107 strategy last refl ∙ last_here 132 count refl))
+  count_is = first_other 132 105 face after_face refl ∙ (first_other 132 106 cost after_cost refl ∙ (first_other 132 107 strategy after_strategy refl ∙ (first_other 132 108 flags after_flags refl ∙ (first_other 132 109 expires after_expires refl ∙ (first_other 132 111 origin last refl ∙ last_here 132 count refl)))))
 
   node_types : AllByRecursion IsType (node_fields p)
-  node_types =
-      ((lit≤ tt, lit< tt), optional_all IsType 105 face after_face (λ v. (lit≤ tt, lit< tt)) (optional_all IsType 106 cost after_cost (λ v. (lit≤ tt, lit< tt)) (optional_all IsType 107 strategy last (λ v. (lit≤ tt, lit< tt)) (last_all IsType 132 count (λ v. (lit≤ tt, lit< tt))))))
+  node_types = ((lit≤ tt, lit< tt), optional_all IsType 105 face after_face (λ v. (lit≤ tt, lit< tt)) (optional_all IsType 106 cost after_cost (λ v. (lit≤ tt, lit< tt)) (optional_all IsType 107 strategy after_strategy (λ v. (lit≤ tt, lit< tt)) (optional_all IsType 108 flags after_flags (λ v. (lit≤ tt, lit< tt)) (optional_all IsType 109 expires after_expires (λ v. (lit≤ tt, lit< tt)) (optional_all IsType 111 origin last (λ v. (lit≤ tt, lit< tt)) (last_all IsType 132 count (λ v. (lit≤ tt, lit< tt)))))))))
 
   abbrev IsKnown : Field → Type 0
   IsKnown f = has f.0 parameter_fields ≡ true
 
   node_known : AllByRecursion IsKnown (node_fields p)
-  node_known =
-      (refl, optional_all IsKnown 105 face after_face (λ v. refl) (optional_all IsKnown 106 cost after_cost (λ v. refl) (optional_all IsKnown 107 strategy last (λ v. refl) (last_all IsKnown 132 count (λ v. refl)))))
+  node_known = (refl, optional_all IsKnown 105 face after_face (λ v. refl) (optional_all IsKnown 106 cost after_cost (λ v. refl) (optional_all IsKnown 107 strategy after_strategy (λ v. refl) (optional_all IsKnown 108 flags after_flags (λ v. refl) (optional_all IsKnown 109 expires after_expires (λ v. refl) (optional_all IsKnown 111 origin last (λ v. refl) (last_all IsKnown 132 count (λ v. refl))))))))
 
   strategy_fits : AllByRecursion IsField (node_fields p) → IfSome strategy (λ v. length v < 2 ^ 64)
   strategy_fits all =
-      some_fits strategy (optional_of_all IsField 107 strategy last (part_right IsField (optional 106 cost) after_cost (part_right IsField (optional 105 face) after_face all.1)))
+      some_fits strategy (optional_of_all IsField 107 strategy after_strategy (part_right IsField (optional 106 cost) after_cost (part_right IsField (optional 105 face) after_face all.1)))
 
   held : AreValues p → AllByRecursion IsField (node_fields p) → command_of action (fields_read (node_fields p)) ≡ (if suits action p then Some (asked_of action p) else None)
   held values all =
@@ -148,10 +183,13 @@ module _ (action : Action) (p : Parameters) where
       let faces : number_in 105 es ≡ Some p.face = ap (optional_of number_of) face_is ∙ optional_number p.face values.face in
       let costs : number_in 106 es ≡ Some p.cost = ap (optional_of number_of) cost_is ∙ optional_number p.cost values.cost in
       let strategies : strategy_in es ≡ Some p.strategy = ap (optional_of held_name) strategy_is ∙ optional_strategy p.strategy values.strategy (strategy_fits all) in
+      let flagged : number_in 108 es ≡ Some p.flags = ap (optional_of number_of) flags_is ∙ optional_number p.flags values.flags in
+      let periods : number_in 109 es ≡ Some p.expires = ap (optional_of number_of) expires_is ∙ optional_number p.expires values.expires in
+      let origins : number_in 111 es ≡ Some p.origin = ap (optional_of number_of) origin_is ∙ optional_number p.origin values.origin in
       let counts : number_in 132 es ≡ Some p.count = ap (optional_of number_of) count_is ∙ optional_number p.count values.count in
       answer_is action es
-      ∙ ap (λ (ok : Bool). answer action ok (name_in es) (number_in 105 es) (number_in 106 es) (strategy_in es) (number_in 132 es)) (ap₂ (λ (a b : Bool). a && b) first second)
-      ∙ rw (name, faces, costs, strategies, counts) (chosen (list_all (λ kind. takes kind row) (kinds p)) (list_all (λ kind. has kind (kinds p)) row.needs) (is_root p.name && not row.takes_root) (asked_of action p))
+      ∙ ap (λ (ok : Bool). answer action ok (name_in es) (number_in 105 es) (number_in 111 es) (number_in 106 es) (number_in 108 es) (number_in 109 es) (strategy_in es) (number_in 132 es)) (ap₂ (λ (a b : Bool). a && b) first second)
+      ∙ rw (name, faces, origins, costs, flagged, periods, strategies, counts) (chosen (list_all (λ kind. takes kind row) (kinds p)) (list_all (λ kind. has kind (kinds p)) row.needs) (is_root p.name && not row.takes_root) (asked_of action p))
 
 -- ---- the name
 
@@ -159,6 +197,8 @@ place : (action : Action) (p : Parameters) (digest : List ℕ) → command_at (s
 unfolding command_before_digest action_at parameters_at
 place AddNexthop p digest = refl
 place RemoveNexthop p digest = refl
+place Register p digest = refl
+place Unregister p digest = refl
 place SetStrategy p digest = refl
 place UnsetStrategy p digest = refl
 place EraseCache p digest = refl

@@ -1,11 +1,9 @@
 -- A repository's reading of a command that was written.
-use Rattle.std.proofs.Common.{◌≡◌, ℕ, ◌+◌, ◌^◌, ◌<◌, ◌≤◌, Bool, true, false, eqb, List, [], ◌∷◌, ◌++◌, length, map, Option, None, Some, refl, sym, ap, subst, ◌∙◌, append_assoc, arith, eq-eqb, length-append, lit<, lit≤}
-use Rattle.std.specs.Prelude.{slice_get, not, ◌-◌, IfSome, IsTrue, if◌then◌else◌, ◌==◌, is_some, unwrap_or}
-use Rattle.std.specs.Option.{option_map}
+use Rattle.std.proofs.Common.{◌≡◌, ℕ, ◌+◌, ◌^◌, ◌<◌, Bool, true, false, eqb, List, [], ◌∷◌, ◌++◌, length, Option, None, Some, refl, ap, subst, ◌∙◌, append_assoc, arith, eq-eqb, length-append, lit<, lit≤}
+use Rattle.std.specs.Prelude.{slice_get, not, ◌-◌, IsTrue, if◌then◌else◌, is_some, unwrap_or}
 use Rattle.std.specs.List.{AllByRecursion, list_all}
-use Rattle.ndn_tlv.specs.Number.{shortest_nni}
 use Rattle.ndn_tlv.specs.Element.{Field, IsField, element}
-use Rattle.ndn_tlv.specs.Fields.{first_of, single}
+use Rattle.ndn_tlv.specs.Fields.{single}
 use Rattle.ndn_tlv.specs.Options.{◌>>=◌}
 use Rattle.ndn_tlv.specs.Reading.{elements_of}
 use Rattle.ndn_tlv.specs.Writing.{octets, number, flag}
@@ -15,10 +13,10 @@ use Rattle.ndn_packets.proofs.Answering.{prefix_is}
 use Rattle.repo_core.specs.declared.verb.Verb.{Verb}
 use Rattle.repo_core.specs.declared.verb.Verb.TheVariants.{Insert, Delete, Check}
 use Rattle.repo_core.specs.Commands.{verb_named, verb_row}
-use Rattle.repo_core.specs.Reading.{RepoCommand, can_be_read, command_of, repo_command_at, value_after, verb_at}
+use Rattle.repo_core.specs.Reading.{RepoCommand, can_be_read, command_of, repo_command_at, verb_at}
 use Rattle.ndn_requests.specs.declared.parameters.Parameters.{Parameters}
 use Rattle.ndn_requests.specs.Parameters.{command_name, is_of_node, node_fields, parameters_element, repository_fields}
-use Rattle.ndn_requests.specs.Commands.{AreValues, Fits64, IsWhole, as_read, fields_read, repository_name, signed_name, wanted_of}
+use Rattle.ndn_requests.specs.Commands.{AreValues, Fits64, IsWhole, fields_read, repository_name, signed_name, wanted_of}
 use Rattle.ndn_requests.specs.Reply.{is_of_repository, has_repository_fields}
 use Rattle.ndn_requests.proofs.Back.{IsType, all_read, at_right, fields_fit, last_fits, name_read, number_read, one_read, value_fits}
 

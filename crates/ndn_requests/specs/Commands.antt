@@ -1,6 +1,6 @@
 -- What the node and a repository read of the commands that are written here (NFD Management,
 -- "Control Command").
-use Rattle.std.specs.Prelude.{◌≡◌, ℕ, ◌<◌, ◌^◌, List, [], ◌∷◌, ◌++◌, map, Bool, not, ◌&&◌, Option, Some, None, IfSome, Result, Ok, codes, unwrap_or}
+use Rattle.std.specs.Prelude.{ℕ, ◌<◌, ◌^◌, List, [], ◌∷◌, ◌++◌, map, Bool, not, ◌&&◌, Option, IfSome, Result, Ok, codes, unwrap_or}
 use Rattle.std.specs.List.{list_all}
 use Rattle.ndn_tlv.specs.declared.fault.TlvFault.{TlvFault}
 use Rattle.ndn_tlv.specs.Element.{Field}
@@ -9,7 +9,7 @@ use Rattle.ndn_names.specs.declared.component_type.TheConstants.{GENERIC, PARAME
 use Rattle.ndn_names.specs.Name.{IsNameValue, octets_of}
 use Rattle.mgmt_core.specs.declared.action.Action.{Action}
 use Rattle.mgmt_core.specs.Commands.{row_of, has, takes}
-use Rattle.mgmt_core.specs.Reading.{PlainCommand, is_root}
+use Rattle.mgmt_core.specs.Reading.{PlainCommand, child_inherit, is_root}
 use Rattle.repo_core.specs.declared.verb.Verb.{Verb}
 use Rattle.repo_core.specs.declared.types.TheConstants.{DEFAULT_LIFETIME}
 use Rattle.repo_core.specs.Commands.{verb_row}
@@ -30,7 +30,10 @@ Fits64 n = IfSome n (λ n. n < 2 ^ 64)
 pub record AreValues (p : Parameters) : Type 0 where
   pub name : IsWhole p.name
   pub face : Fits64 p.face
+  pub origin : Fits64 p.origin
   pub cost : Fits64 p.cost
+  pub flags : Fits64 p.flags
+  pub expires : Fits64 p.expires
   pub strategy : IfSome p.strategy IsWhole
   pub count : Fits64 p.count
   pub lifetime : Fits64 p.lifetime
@@ -70,7 +73,10 @@ asked_of action p = record {
   action = action;
   name = p.name;
   face = unwrap_or p.face 0;
+  origin = unwrap_or p.origin 0;
   cost = unwrap_or p.cost 0;
+  flags = unwrap_or p.flags child_inherit;
+  expires = p.expires;
   strategy = p.strategy;
   count = p.count;
 }

@@ -5,16 +5,16 @@ use Rattle.ndn_names.specs.View.{components}
 use Rattle.hmac_keys.specs.KeyFile.{NamedKey}
 use Rattle.ndn_packets.specs.declared.fault.PacketFault.{PacketFault}
 use Rattle.ndn_packets.specs.declared.fault.WriteFault.{WriteFault}
-use Rattle.ndn_packets.specs.declared.fault.WriteFault.TheVariants.{BadName, TooLong, Memory}
+use Rattle.ndn_packets.specs.declared.fault.WriteFault.TheVariants.{Memory}
 use Rattle.ndn_packets.specs.declared.interest_writer.InterestWriter.{InterestWriter}
-use Rattle.ndn_packets.specs.Packet.{PlainInterest, PlainData, PlainFrame, AnInterest, AData, ANack, Idle}
+use Rattle.ndn_packets.specs.Packet.{PlainData, PlainFrame, AnInterest, AData, ANack, Idle}
 use Rattle.ndn_packets.specs.FrameReading.{frame_at}
 use Rattle.ndn_packets.specs.Reading.{is_nil}
 use Rattle.ndn_packets.specs.Writing.{interest_text, interest_refusal}
 use Rattle.ndn_explain.specs.Show.{hex_line}
 use Rattle.ndn_requests.specs.declared.names.NodeList.{NodeList}
 use Rattle.ndn_requests.specs.declared.exchange.View.{View}
-use Rattle.ndn_requests.specs.declared.exchange.View.TheVariants.{Hexadecimal, Lines, Content, Table}
+use Rattle.ndn_requests.specs.declared.exchange.View.TheVariants.{Hexadecimal, Content, Table}
 use Rattle.ndn_requests.specs.declared.exchange.Exchange.{Exchange}
 use Rattle.ndn_requests.specs.declared.exchange.Progress.{Progress}
 use Rattle.ndn_requests.specs.declared.exchange.Progress.TheVariants.{Ignored, Next, Done}

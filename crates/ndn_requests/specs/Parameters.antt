@@ -8,7 +8,7 @@ use Rattle.ndn_names.specs.Name.{octets_of}
 use Rattle.ndn_tlv.specs.Writing.{octets, number, optional, flag}
 use Rattle.ndn_packets.specs.declared.fault.WriteFault.{WriteFault}
 use Rattle.ndn_packets.specs.declared.fault.WriteFault.TheVariants.{BadName, TooLong, Memory}
-use Rattle.ndn_packets.specs.declared.command_types.TheConstants.{CONTROL_PARAMETERS, REPO_COMMAND_PARAMETER, FACE_ID, COST, STRATEGY, COUNT}
+use Rattle.ndn_packets.specs.declared.command_types.TheConstants.{CONTROL_PARAMETERS, REPO_COMMAND_PARAMETER, FACE_ID, COST, STRATEGY, FLAGS, EXPIRATION_PERIOD, ORIGIN, COUNT}
 use Rattle.ndn_packets.specs.declared.types.TheConstants.{NAME, INTEREST_LIFETIME, CAN_BE_PREFIX}
 use Rattle.ndn_requests.specs.declared.parameters.Parameters.{Parameters}
 
@@ -31,6 +31,13 @@ name_field name = (NAME, octets_of name)
 abbrev pub strategy_value : Option (List Field) → Option (List ℕ)
 strategy_value strategy = option_map (λ name. element (name_field name)) strategy
 
+abbrev pub fields_after_strategy : Parameters → List Field
+fields_after_strategy p =
+    number FLAGS p.flags
+    ++ (number EXPIRATION_PERIOD p.expires
+    ++ (number ORIGIN p.origin
+    ++ number COUNT p.count))
+
 -- the fields of a command of the node
 abbrev pub node_fields : Parameters → List Field
 node_fields p =
@@ -38,7 +45,7 @@ node_fields p =
     ∷ (number FACE_ID p.face
     ++ (number COST p.cost
     ++ (optional STRATEGY (strategy_value p.strategy)
-    ++ number COUNT p.count)))
+    ++ fields_after_strategy p)))
 
 -- the fields of a command of a repository
 abbrev pub repository_fields : Parameters → List Field

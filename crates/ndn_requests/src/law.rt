@@ -39,7 +39,8 @@ pub fn repositories_read_what_is_asked()
 /// Law: of a reply that the node or a repository writes, exactly what it holds is printed.
 pub fn replies_are_explained()
     ensures node { (c : PlainCommand) (face status : ℕ) (text : List ℕ) → IsWhole c.name
-        → face < 2 ^ 64 → c.face < 2 ^ 64 → c.cost < 2 ^ 64 → Fits64 c.count → status < 2 ^ 64
+        → face < 2 ^ 64 → c.face < 2 ^ 64 → c.origin < 2 ^ 64 → c.cost < 2 ^ 64
+        → c.flags < 2 ^ 64 → Fits64 c.expires → Fits64 c.count → status < 2 ^ 64
         → length (response status text (body_after c face status)) < 2 ^ 64
         → reply_lines (response status text (body_after c face status))
         ≡ node_shown c face status text }

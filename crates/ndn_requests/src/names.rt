@@ -33,6 +33,7 @@ fn module_of(action: Action) -> &'static str
 {
     match action {
         Action::AddNexthop | Action::RemoveNexthop => "fib",
+        Action::Register | Action::Unregister => "rib",
         Action::SetStrategy | Action::UnsetStrategy => "strategy-choice",
         Action::EraseCache => "cs",
     }
@@ -44,6 +45,8 @@ fn verb_of(action: Action) -> &'static str
     match action {
         Action::AddNexthop => "add-nexthop",
         Action::RemoveNexthop => "remove-nexthop",
+        Action::Register => "register",
+        Action::Unregister => "unregister",
         Action::SetStrategy => "set",
         Action::UnsetStrategy => "unset",
         Action::EraseCache => "erase",

@@ -5,13 +5,14 @@ ghost use Rattle.std.specs.Prelude.{◌≡◌, ◌++◌, ◌≤◌, [], ◌∷�
 ghost use Rattle.ndn_tlv.specs.Element.{element};
 ghost use Rattle.ndn_names.specs.View.{components};
 ghost use Rattle.ndn_tlv.specs.Writing.{octets, number, optional, flag};
-ghost use Rattle.ndn_requests.specs.Parameters.{is_generic_at, is_of_node, name_field, strategy_value, node_fields, repository_fields, parameters_element, command_name, IsNameRefusal};
+ghost use Rattle.ndn_requests.specs.Parameters.{is_generic_at, is_of_node, name_field, strategy_value, fields_after_strategy, node_fields, repository_fields, parameters_element, command_name, IsNameRefusal};
 
 use ndn_names::component_type::GENERIC;
 use ndn_names::{Name, NameBuf, NameFault};
 use ndn_packets::WriteFault;
 use ndn_packets::command_types::{
-    CONTROL_PARAMETERS, COST, COUNT, FACE_ID, REPO_COMMAND_PARAMETER, STRATEGY,
+    CONTROL_PARAMETERS, COST, COUNT, EXPIRATION_PERIOD, FACE_ID, FLAGS, ORIGIN,
+    REPO_COMMAND_PARAMETER, STRATEGY,
 };
 use ndn_packets::types::{CAN_BE_PREFIX, INTEREST_LIFETIME, NAME};
 use ndn_tlv::{Memory, put_element, put_flag, put_number_field};
@@ -22,10 +23,16 @@ use std::alloc::Global;
 pub struct Parameters {
     /// The name that the command is about.
     pub name: NameBuf,
-    /// The face of a next hop; 0 is the one that the command comes from.
+    /// The face of a next hop or route; 0 is the one that the command comes from.
     pub face: Option<u64>,
-    /// The cost of a next hop.
+    /// The origin of a route.
+    pub origin: Option<u64>,
+    /// The cost of a next hop or route.
     pub cost: Option<u64>,
+    /// The flags of a route: 1 is child-inherit and 2 is capture.
+    pub flags: Option<u64>,
+    /// For how long a route is registered, in milliseconds.
+    pub expires: Option<u64>,
     /// The name of a strategy.
     pub strategy: Option<NameBuf>,
     /// The greatest number of Data to erase.
@@ -108,6 +115,17 @@ fn put_node_fields(alloc: Global, out: &mut Vec<u8>, parameters: &Parameters) ->
     put_number_field(out, FACE_ID, parameters.face)?;
     put_number_field(out, COST, parameters.cost)?;
     put_strategy(alloc, out, &parameters.strategy)?;
+    put_fields_after_strategy(out, parameters)
+}
+
+/// Appends those of them that stand after the strategy.
+fn put_fields_after_strategy(out: &mut Vec<u8>, parameters: &Parameters) -> Result<(), Memory>
+    ensures { OnOk result (out.new.items
+        ≡ out.old.items ++ octets (fields_after_strategy parameters.now)) }
+{
+    put_number_field(out, FLAGS, parameters.flags)?;
+    put_number_field(out, EXPIRATION_PERIOD, parameters.expires)?;
+    put_number_field(out, ORIGIN, parameters.origin)?;
     put_number_field(out, COUNT, parameters.count)
 }
 

@@ -239,7 +239,7 @@ fn signed_interests(rt: HostRuntime) {
 const COMMANDS: &str = "
 $ ndn_tool command /localhost/nfd/fib/add-nexthop --name /A --face 2 --nonce 01020304 --time 1000000 --keys F --key /ops/KEY/1
 0598075008096c6f63616c686f737408036e66640803666962080b6164642d6e657874686f70080a680807030801416901020220b3efe71974da9dc26e88d0c074c8f0ff34ea85c38b109d9e9c6400b87694f2f20a040102030424002c1a1b01041c0f070d08036f707308034b45590801312804000f42402e20d113cf38056af9bbbec876471f4b51934978ef69345464b05cb762148eaa5dbb
-$ ndn_tool command /repo/insert --name /A --can-be-prefix --lifetime 4000 --nonce 01020304 --time 1000005 --keys F --key /ops/KEY/1 --face 2 --cost 1 --count 1 --strategy /A
+$ ndn_tool command /repo/insert --name /A --can-be-prefix --lifetime 4000 --nonce 01020304 --time 1000005 --keys F --key /ops/KEY/1 --face 2 --cost 1 --count 1 --strategy /A --flags 1 --expires 1 --origin 1
 0587073f08047265706f0806696e73657274080dc90b070308014121000c020fa00220e8caee836a8e2cf69f8dfcbb05ba1a369d6b263722630743353e6a5c6261683c0a040102030424002c1a1b01041c0f070d08036f707308034b45590801312804000f42452e2025c2c61b7016cd5fb9825c90f813e02dd6c62c3d4a2d4357b6da5cbbdeafede7
 $ ndn_tool command /localhost/nfd/fib/add-nexthop --name /A --face 256 --cost 18446744073709551615 --strategy /localhost/nfd/strategy/multicast --count 0 --nonce 01020304 --time 0 --seq 18446744073709551615 --lifetime 1 --can-be-prefix
 05c5078708096c6f63616c686f737408036e66640803666962080b6164642d6e657874686f700841683f0703080141690201006a08ffffffffffffffff6b27072508096c6f63616c686f737408036e66640808737472617465677908096d756c7469636173748401000220537e6246c98bb844eb1cbc982f2e3efe4b5b176808d04ec5b44ea984277ad2850a040102030424002c101b01002801002a08ffffffffffffffff2e20682bb2cba3c2367cb040a0256086fa27e5c6e0b58b89c6bb53cf671ad336c057
@@ -302,6 +302,40 @@ fn short_forms(rt: HostRuntime) {
     check_session(&rt, OPS, SHORT_FORMS);
 }
 
+const ROUTES: &str = "
+$ ndn_tool route register /A --face 2 --cost 5 --nonce 01020304 --time 1000000 --keys F --key /ops/KEY/1
+0598075008096c6f63616c686f737408036e6664080372696208087265676973746572080d680b07030801416901026a0105022064f7ac5a1fbdefe37c75386d69dab4c08b5ffbca495aa0ff47ef2b284326ba8e0a040102030424002c1a1b01041c0f070d08036f707308034b45590801312804000f42402e20bcf4dc6326699511a0eba91b5dc40c2eae01758c4433d6aaf70dc2bc5560d2a0
+$ ndn_tool command /localhost/nfd/rib/register --name /A --face 2 --cost 5 --nonce 01020304 --time 1000000 --keys F --key /ops/KEY/1
+0598075008096c6f63616c686f737408036e6664080372696208087265676973746572080d680b07030801416901026a0105022064f7ac5a1fbdefe37c75386d69dab4c08b5ffbca495aa0ff47ef2b284326ba8e0a040102030424002c1a1b01041c0f070d08036f707308034b45590801312804000f42402e20bcf4dc6326699511a0eba91b5dc40c2eae01758c4433d6aaf70dc2bc5560d2a0
+$ ndn_tool route register /A --face 2 --flags 2 --expires 1000 --origin 65 --nonce 01020304 --time 1000000 --keys F --key /ops/KEY/1
+059f075708096c6f63616c686f737408036e66640803726962080872656769737465720814681207030801416901026c01026d0203e86f014102200821cef7d700292463f5ffb4ecce84e8104a0660b27eacff4ac9bd13f01a7ba20a040102030424002c1a1b01041c0f070d08036f707308034b45590801312804000f42402e2004536b3098837edc84803cea49304f4e228f74c4b5733f5f5ff313ab75e4cab5
+$ ndn_tool command /localhost/nfd/rib/register --name /A --origin 65 --expires 1000 --flags 2 --face 2 --nonce 01020304 --time 1000000 --keys F --key /ops/KEY/1
+059f075708096c6f63616c686f737408036e66640803726962080872656769737465720814681207030801416901026c01026d0203e86f014102200821cef7d700292463f5ffb4ecce84e8104a0660b27eacff4ac9bd13f01a7ba20a040102030424002c1a1b01041c0f070d08036f707308034b45590801312804000f42402e2004536b3098837edc84803cea49304f4e228f74c4b5733f5f5ff313ab75e4cab5
+$ ndn_tool route register /A/B --face 3 --cost 0 --flags 0 --expires 0 --origin 0 --nonce 01020304 --time 1000000 --keys F --key /ops/KEY/1
+05a4075c08096c6f63616c686f737408036e66640803726962080872656769737465720819681707060801410801426901036a01006c01006d01006f010002208392731bb60fe2e72d6f9e48650028e7d955abe1c39a35806d040ca2dd0709a90a040102030424002c1a1b01041c0f070d08036f707308034b45590801312804000f42402e20cec4a67e31eb39bc42dcfd6c406cab97319199fc77ab47b7baf97f54843a132c
+$ ndn_tool route register / --face 0 --expires 18446744073709551615 --seq 7 --nonce 01020304 --time 1000000 --keys F --key /ops/KEY/1
+059f075408096c6f63616c686f737408036e66640803726962080872656769737465720811680f07006901006d08ffffffffffffffff0220c28de5847dc5793a42edaf721e9fedbd0954038841ad451fc322c4f86d8e75580a040102030424002c1d1b01041c0f070d08036f707308034b45590801312804000f42402a01072e20da521658e4072cff05f71240f78832b99792d5644923e749863226638a91ab41
+$ ndn_tool route unregister /A --face 2 --nonce 01020304 --time 1000000 --keys F --key /ops/KEY/1
+0597074f08096c6f63616c686f737408036e66640803726962080a756e7265676973746572080a680807030801416901020220051d25f993734fc273e93013e0749d54eccc562c46f17cdc76f7de6a0eedd2610a040102030424002c1a1b01041c0f070d08036f707308034b45590801312804000f42402e20e4d62203e1b23c037b1e1d129c3c0111de961370057a3a473d9ae3070c65a9cb
+$ ndn_tool route unregister /A --face 2 --origin 65 --nonce 01020304 --time 1000000 --keys F --key /ops/KEY/1
+059a075208096c6f63616c686f737408036e66640803726962080a756e7265676973746572080d680b07030801416901026f0141022032d77640b51978bd942b94cca1a361d37d7d3026e41d95b7bc7e16d99a8bea6e0a040102030424002c1a1b01041c0f070d08036f707308034b45590801312804000f42402e200d24c63b16ee929893718fad64ca90d8c0ab818f97a03fe75db5dab49d6af219
+$ ndn_tool command /localhost/nfd/rib/unregister --name /A --face 2 --origin 65 --nonce 01020304 --time 1000000 --keys F --key /ops/KEY/1
+059a075208096c6f63616c686f737408036e66640803726962080a756e7265676973746572080d680b07030801416901026f0141022032d77640b51978bd942b94cca1a361d37d7d3026e41d95b7bc7e16d99a8bea6e0a040102030424002c1a1b01041c0f070d08036f707308034b45590801312804000f42402e200d24c63b16ee929893718fad64ca90d8c0ab818f97a03fe75db5dab49d6af219
+$ ndn_tool command /localhost/nfd/rib/unregister --name /A --nonce 01020304 --time 1000000
+0583074c08096c6f63616c686f737408036e66640803726962080a756e72656769737465720807680507030801410220c06cfda93cede3759b08ba8822f5edbb8cb40fee5be06bf436f4e629730e78d00a040102030424002c091b01002804000f42402e204e522bd9be3cb7d79851d3ae5499f7cd78e81ee4047b1f3ab64f9ea62a90fba3
+$ ndn_tool route register /A --face 2 --cost 5
+0587075008096c6f63616c686f737408036e6664080372696208087265676973746572080d680b07030801416901026a01050220a4c107966001640e67c6ce8ec097267f75508bb6af44b7184985508557c3f6ba0a04b76a66e724002c091b01002804000f42402e20429aacf3f6244d1caa056c7fcb21daacfc2418a41ce55cc12adf3860575db715
+$ ndn_tool command /localhost/nfd/rib/register --name /A --face 1 --cost 2 --strategy /localhost/nfd/strategy/multicast --flags 3 --expires 4 --origin 5 --count 6 --nonce 01020304 --time 1000000 --keys F --key /ops/KEY/1
+05cd078508096c6f63616c686f737408036e66640803726962080872656769737465720842684007030801416901016a01026b27072508096c6f63616c686f737408036e66640808737472617465677908096d756c7469636173746c01036d01046f01058401060220e81fe4a9c31a791ce2e0a662cf5918ee7259642c519760e37705302f0508fa090a040102030424002c1a1b01041c0f070d08036f707308034b45590801312804000f42402e2084eb55d73ad50d435aa887e0566bf99d86058dcef2a5a89ec5c86825d673df7d
+";
+
+/// Commands for registered routes, with each of their options, in short and with every field by name;
+/// the packets were made by a program of its own.
+#[test]
+fn registered_routes(rt: HostRuntime) {
+    check_session(&rt, OPS, ROUTES);
+}
+
 const REPOSITORY_FORMS: &str = "
 $ ndn_tool repo insert /repo /A --nonce 01020304 --time 1000000 --keys F --key /ops/KEY/1
 0581073908047265706f0806696e736572740807c90507030801410220856ad41dcba9cd04d16e32da8c22468001abf94c4a2d4d42b7c3a6e26de9f5910a040102030424002c1a1b01041c0f070d08036f707308034b45590801312804000f42402e2067118d1ececd0d1c18fc45b8ae9abc3778200f148c277b58cdf8f39b8cc0c96d
@@ -327,7 +361,29 @@ ndn_tool command /A --name /A --nonce 01020304 --time x => time: give a decimal 
 ndn_tool command /A --name /A --nonce 01020304 --time 1 --strategy multicast => strategy: give the URI
 ndn_tool route add /A => error: invalid value for face: give the face of the next hop by --face
 ndn_tool route add --face 1 => PREFIX: give a value
-ndn_tool route set /A --face 1 => VERB: give add, remove or list
+ndn_tool route set /A --face 1 => VERB: give add, remove, list, register or unregister
+ndn_tool route register /A => error: invalid value for face: give the face of the next hop by --face
+ndn_tool route unregister /A => error: invalid value for face: give the face of the next hop by --face
+ndn_tool route register --face 1 => PREFIX: give a value
+ndn_tool route add /A --face 1 --origin 0 => origin: give no origin with add and remove
+ndn_tool route remove /A --face 1 --origin 0 => origin: give no origin with add and remove
+ndn_tool route add /A --face 1 --flags 1 => flags: give flags with register alone
+ndn_tool route remove /A --face 1 --flags 1 => flags: give flags with register alone
+ndn_tool route unregister /A --face 1 --flags 1 => flags: give flags with register alone
+ndn_tool route add /A --face 1 --expires 1 => expires: give a period with register alone
+ndn_tool route remove /A --face 1 --expires 1 => expires: give a period with register alone
+ndn_tool route unregister /A --face 1 --expires 1 => expires: give a period with register alone
+ndn_tool route unregister /A --face 1 --cost 1 => cost: give no cost with remove and unregister
+ndn_tool route register /A --face 1 --flags capture => flags: give a decimal number
+ndn_tool route register /A --face 1 --origin '' => origin: give a decimal number
+ndn_tool route register /A --face 1 --expires 18446744073709551616 => expires: give a decimal number below 2^64
+ndn_tool route list --origin 0 => list: give no name
+ndn_tool route list --flags 1 => list: give no name
+ndn_tool route list --expires 1 => list: give no name
+ndn_tool strategy set /A multicast --flags 1 => unexpected argument '--flags'
+ndn_tool command /A --name /A --nonce 01020304 --time 1 --origin x => origin: give a decimal number
+ndn_tool command /A --name /A --nonce 01020304 --time 1 --flags x => flags: give a decimal number
+ndn_tool command /A --name /A --nonce 01020304 --time 1 --expires x => expires: give a decimal number
 ndn_tool route list /A => list: give no name
 ndn_tool route list --face 1 => list: give no name
 ndn_tool strategy list --key /ops/KEY/1 => list: give no name
@@ -584,6 +640,115 @@ NoNonce
 status 1
 ";
 
+const EXPLAINED_ROUTES: &str = "
+$ ndn_tool explain 062a0703080141151c651a6601c867024f4b681107030801416901026f01006a01056c010116031b01001700
+data /A
+freshness 0
+content 651a6601c867024f4b681107030801416901026f01006a01056c0101
+signature 0 -
+status 200 OK
+name /A
+face 2
+cost 5
+origin 0
+flags child-inherit
+$ ndn_tool explain 062e07030801411520651e6601c867024f4b681507030801416901026f01416a01006c01026d0203e816031b01001700
+data /A
+freshness 0
+content 651e6601c867024f4b681507030801416901026f01416a01006c01026d0203e8
+signature 0 -
+status 200 OK
+name /A
+face 2
+cost 0
+origin 65
+flags capture
+expires in 1000 ms
+$ ndn_tool explain 06240703080141151665146601c867024f4b680b07030801416901026f010016031b01001700
+data /A
+freshness 0
+content 65146601c867024f4b680b07030801416901026f0100
+signature 0 -
+status 200 OK
+name /A
+face 2
+origin 0
+$ ndn_tool explain 06210703080141151365116601c867024f4b680807030801416c010316031b01001700
+data /A
+freshness 0
+content 65116601c867024f4b680807030801416c0103
+signature 0 -
+status 200 OK
+name /A
+flags child-inherit capture
+$ ndn_tool explain 06210703080141151365116601c867024f4b680807030801416c010016031b01001700
+data /A
+freshness 0
+content 65116601c867024f4b680807030801416c0100
+signature 0 -
+status 200 OK
+name /A
+flags none
+$ ndn_tool explain 06210703080141151365116601c867024f4b680807030801416c010416031b01001700
+data /A
+freshness 0
+content 65116601c867024f4b680807030801416c0104
+signature 0 -
+status 200 OK
+name /A
+flags none
+$ ndn_tool explain 06210703080141151365116601c867024f4b680807030801416c01ff16031b01001700
+data /A
+freshness 0
+content 65116601c867024f4b680807030801416c01ff
+signature 0 -
+status 200 OK
+name /A
+flags child-inherit capture
+$ ndn_tool explain 062b0703080141151d651b6601c867024f4b681207030801416c08ffffffffffffffff6d010016031b01001700
+data /A
+freshness 0
+content 651b6601c867024f4b681207030801416c08ffffffffffffffff6d0100
+signature 0 -
+status 200 OK
+name /A
+flags child-inherit capture
+expires in 0 ms
+$ ndn_tool explain 062b0703080141151d651b6601c867024f4b681207030801416d08ffffffffffffffff6f01ff16031b01001700
+data /A
+freshness 0
+content 651b6601c867024f4b681207030801416d08ffffffffffffffff6f01ff
+signature 0 -
+status 200 OK
+name /A
+origin 255
+expires in 18446744073709551615 ms
+$ ndn_tool explain 062a0703080141151c651a6601c867024f4b681107030801416c030000006d006f0300004116031b01001700
+data /A
+freshness 0
+content 651a6601c867024f4b681107030801416c030000006d006f03000041
+signature 0 -
+status 200 OK
+name /A
+origin bad 000041
+flags bad 000000
+expires bad -
+$ ndn_tool explain 059f075708096c6f63616c686f737408036e66640803726962080872656769737465720814681207030801416901026c01026d0203e86f014102200821cef7d700292463f5ffb4ecce84e8104a0660b27eacff4ac9bd13f01a7ba20a040102030424002c1a1b01041c0f070d08036f707308034b45590801312804000f42402e2004536b3098837edc84803cea49304f4e228f74c4b5733f5f5ff313ab75e4cab5
+interest /localhost/nfd/rib/register/h%12%07%03%08%01Ai%01%02l%01%02m%02%03%E8o%01A/params-sha256=0821cef7d700292463f5ffb4ecce84e8104a0660b27eacff4ac9bd13f01a7ba2
+nonce 01020304
+lifetime 4000
+parameters -
+signature 4 04536b3098837edc84803cea49304f4e228f74c4b5733f5f5ff313ab75e4cab5
+key-locator /ops/KEY/1
+time 1000000
+command /localhost/nfd/rib/register
+name /A
+face 2
+origin 65
+flags capture
+expires in 1000 ms
+";
+
 const CHECKED_PACKETS: &str = "
 $ ndn_tool explain 0640070308014115017816141b01041c0f070d08036f707308034b455908013117209da68165d14c74abf0d3f4f40da0924777657490283d0bd394af1f64855c8b00 --keys F
 data /A
@@ -656,6 +821,7 @@ $ ndn_tool explain - --keys F
 #[test]
 fn explained_packets(rt: HostRuntime) {
     check_session(&rt, "", EXPLAINED_PACKETS);
+    check_session(&rt, "", EXPLAINED_ROUTES);
     check_session(&rt, OPS, CHECKED_PACKETS);
 }
 
@@ -801,6 +967,9 @@ ndn_tool explain --help => |  key-locator /ops/KEY/1
 ndn_tool send --help => |  $ ndn_tool interest /A --nonce 01020304 
 ndn_tool command --help => |      --nonce 01020304 --time 1000000 --keys ops.keys --key /ops/KEY/1|
 ndn_tool route --help => |  $ ndn_tool route remove /A --face 2
+ndn_tool route --help => |  $ ndn_tool route register /A --face 2 --flags 1 --expires 3600000
+ndn_tool route --help => |  $ ndn_tool route unregister /A --face 2
+ndn_tool route --help => --expires <MILLISECONDS>
 ndn_tool strategy --help => |  $ ndn_tool strategy set /A multicast
 ndn_tool repo --help => |  $ ndn_tool repo insert /repo /A
 ndn_tool cache --help => |  $ ndn_tool cache erase /A --count 10

@@ -1,4 +1,4 @@
-use Rattle.std.proofs.Common.{◌≡◌, map, take}
+use Rattle.std.proofs.Common.{map, take}
 use Rattle.clap.specs.Simple.{App}
 use Rattle.ndn_client.specs.CommandLine.{HasApp, rule_for, with_rules}
 use Rattle.ndn_client.proofs.argument.with_arguments.Given as goal

@@ -1,5 +1,5 @@
-use Rattle.std.proofs.Common.{List, ℕ, sym, subst}
-use Rattle.std.specs.Prelude.{Option, None, Some}
+use Rattle.std.proofs.Common.{subst}
+use Rattle.std.specs.Prelude.{Option}
 use Rattle.ndn_client.specs.Command.{IsFoundJob}
 use Rattle.ndn_client.specs.Options.{rows_in}
 use Rattle.ndn_client.specs.Value.{IsRefused, ReadsInMemory}

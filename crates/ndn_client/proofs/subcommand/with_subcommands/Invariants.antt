@@ -1,4 +1,4 @@
-use Rattle.std.proofs.Common.{◌≡◌, map, take}
+use Rattle.std.proofs.Common.{map, take}
 use Rattle.clap.specs.Simple.{App}
 use Rattle.ndn_client.specs.CommandLine.{HasApp, app_for, with_subcommands}
 use Rattle.ndn_client.proofs.subcommand.with_subcommands.Given as goal

@@ -1,4 +1,4 @@
-use Rattle.std.proofs.Common.{◌≡◌, [], ◌++◌, ℕ, List, sym, ap, ◌∙◌, arith, rules}
+use Rattle.std.proofs.Common.{[], ◌++◌, ℕ, List, sym, ap, ◌∙◌, arith, rules}
 use Rattle.std.proofs.lemmas.List.{append_assoc, append-nil}
 use Rattle.ndn_explain.proofs.Inputs.{said_at_end, line_said}
 use Rattle.ndn_explain.proofs.input.put_input.Goals as goal

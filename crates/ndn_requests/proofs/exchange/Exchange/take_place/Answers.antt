@@ -1,4 +1,4 @@
-use Rattle.std.proofs.Common.{◌≡◌, ℕ, List, refl, subst, ◌∙◌, lt-ltb}
+use Rattle.std.proofs.Common.{◌≡◌, List, refl, subst, ◌∙◌, lt-ltb}
 use Rattle.std.proofs.lemmas.Result.{err_from_is_err_and}
 use Rattle.std.specs.Prelude.{nat_lt, true}
 use Rattle.ndn_tlv.specs.Element.{Field}
