@@ -1,5 +1,5 @@
 -- Words that spell no rules, and no keys.
-use Rattle.std.proofs.Common.{◌≡◌, ℕ, List, sym, ap, subst, inl, inr, Ok, Err}
+use Rattle.std.proofs.Common.{◌≡◌, ℕ, List, ap, subst, inl, inr}
 use Rattle.hmac_keys.specs.KeyFile.{NamedKey}
 use Rattle.hmac_keys.specs.KeyReading.{AreKeys, IsFaultOfOctets}
 use Rattle.hmac_keys.specs.declared.fault.KeyFault.{KeyFault}
