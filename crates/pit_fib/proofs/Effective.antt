@@ -8,7 +8,7 @@ use Rattle.std.specs.Option.{option_or}
 use Rattle.std.specs.declared.cmp.Ordering.{Ordering}
 use Rattle.std.specs.Ordering.{eq_by_cmp, is_eq}
 use Rattle.std.specs.Cmp.{nat_cmp_total, tied_itself}
-use Rattle.std.specs.FinMap.{empty, entries, entries_sorted, find, get, get-empty, get-entries, get-from_entries, get-insert, is_sorted, nat_cmp-IsAntisymmetric}
+use Rattle.std.specs.FinMap.{empty, entries, entries_sorted, find, get, get-empty, get-entries, get-insert, is_sorted, nat_cmp-IsAntisymmetric}
 use Rattle.std.specs.FinMap.Entries.{below_all}
 use Rattle.ndn_tlv.specs.Element.{Field}
 use Rattle.ndn_names.proofs.Rows.{first_of, second_of, no_entries}
@@ -20,18 +20,9 @@ use Rattle.pit_fib.specs.Effective.IsEffective.{OwnHop, OwnRoute, InheritedRoute
 use Rattle.pit_fib.specs.Fib.{Entry, Routes, costs_at, no_entry, registered_at}
 use Rattle.pit_fib.specs.Route.{Registered, is_capture, is_child_inherit, route_cmp, route_cmp-antisymmetric, route_cmp-total}
 use Rattle.pit_fib.specs.Tables.{ByFace}
+use Rattle.pit_fib.proofs.Inheritance.{get-prefer}
 
--- ---- costs over others
-
-find_over : {K X : Type 0} (R : K → K → Ordering) (xs ys : List (K × X)) (q : K) → find R q (xs ++ ys) ≡ option_or (find R q xs) (find R q ys)
-find_over R [] ys q = refl
-find_over R (e ∷ xs) ys q =
-    elim (eq_by_cmp R q e.0) as (λ b. cond b (Some e.1) (find R q (xs ++ ys)) ≡ option_or (cond b (Some e.1) (find R q xs)) (find R q ys)) [ true ↦ refl | false ↦ find_over R xs ys q ]
-
-get_over : (a b : ByFace) (f : ℕ) → get (prefer a b) f ≡ option_or (get a f) (get b f)
-get_over a b f =
-    get-from_entries nat_cmp_total (entries a ++ entries b) f ∙ find_over nat_cmp (entries a) (entries b) f
-    ∙ (λ i. option_or (sym (get-entries a f) i) (sym (get-entries b f) i))
+-- ---- one map or none
 
 get_if : (b : Bool) (m : ByFace) (f : ℕ) → get (cond b m empty) f ≡ cond b (get m f) None
 get_if true m f = refl
@@ -237,7 +228,7 @@ module _ (above : ByFace) (f : ℕ) where
       sym (ap (λ (rows : List Row). option_or (get (least_costs is_child_inherit rows) f) (cond (list_any (λ e. is_capture e.1) rows) None (get above f))) (no_entries route_cmp)
       ∙ ap (λ o. option_or o (get above f)) (get-empty nat_cmp f))
   get_passed (Some e) =
-      get_over (least_costs is_child_inherit (entries e.registered)) (cond (has_capture e.registered) empty above) f
+      get-prefer (least_costs is_child_inherit (entries e.registered)) (cond (has_capture e.registered) empty above) f
       ∙ ap (option_or (get (least_costs is_child_inherit (entries e.registered)) f)) (get_unless (has_capture e.registered) above f)
 
 module _ (routes : Routes) (name : List Field) (f c : ℕ) where
@@ -321,9 +312,9 @@ module _ (routes : Routes) (name : List Field) (f c : ℕ) where
 
   get_effective : get (effective routes name) f ≡ option_or (get (costs_at routes name) f) (option_or (get (least_costs any (entries own)) f) (cond (does_inherit own) (get above f) None))
   get_effective =
-      get_over (costs_at routes name) (prefer (least_costs any (entries own)) (cond (does_inherit own) above empty)) f
+      get-prefer (costs_at routes name) (prefer (least_costs any (entries own)) (cond (does_inherit own) above empty)) f
       ∙ ap (option_or (get (costs_at routes name) f))
-      (get_over (least_costs any (entries own)) (cond (does_inherit own) above empty) f
+      (get-prefer (least_costs any (entries own)) (cond (does_inherit own) above empty) f
       ∙ ap (option_or (get (least_costs any (entries own)) f)) (get_if (does_inherit own) above f))
 
   why : (hop least : Option ℕ) (b : Bool) → get (costs_at routes name) f ≡ hop → Tells any f own least → does_inherit own ≡ b

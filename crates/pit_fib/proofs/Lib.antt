@@ -32,3 +32,4 @@ pub mod FibTally
 pub mod FibLists
 pub mod Inheritance
 pub mod Effective
+pub mod LongestRoutes

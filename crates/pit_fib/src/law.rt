@@ -1,4 +1,4 @@
-ghost use Rattle.std.specs.Prelude.{◌≡◌, ◌≤◌, ◌↔◌, ℕ, List, Option, None, Some, IsSome, IsTrue, true, false, length, option_and_then, take};
+ghost use Rattle.std.specs.Prelude.{◌≡◌, ◌≤◌, ◌↔◌, ℕ, List, Option, None, Some, IsSome, IsTrue, true, false, filter, length, option_and_then, take};
 ghost use Rattle.std.specs.Ordering.{nat_cmp};
 ghost use Rattle.std.specs.FinMap as map;
 ghost use Rattle.ndn_tlv.specs.Element.{Field};
@@ -6,8 +6,10 @@ ghost use Rattle.ndn_packets.specs.Key.{PlainKey};
 ghost use Rattle.name_trie.specs.ByName.{ByName, IsLongest, longest, revise};
 ghost use Rattle.pit_fib.specs.Tables.{ByFace};
 ghost use Rattle.pit_fib.specs.declared.hops.Hop.{Hop};
-ghost use Rattle.pit_fib.specs.Effective.{effective, IsEffective};
-ghost use Rattle.pit_fib.specs.Fib.{Routes};
+ghost use Rattle.pit_fib.specs.Effective.{effective, IsEffective, longest_hops};
+ghost use Rattle.pit_fib.specs.Fib.{Entry, Routes, due_count};
+ghost use Rattle.pit_fib.specs.Route.{is_due};
+ghost use Rattle.name_trie.specs.Flat.{total};
 ghost use Rattle.pit_fib.specs.Hops.{AreInOrder, AreHopsOf, hops_of};
 ghost use Rattle.pit_fib.specs.Records.{Records, Pending, HoldsTheLiving, is_alive, records_at};
 ghost use Rattle.pit_fib.specs.Cause.{Cause, Expires, records_after, with_reason};
@@ -44,6 +46,23 @@ pub fn hops_are_in_order()
 pub fn effective_hops_are_as_defined()
     ensures { (routes : Routes) (name : List Field) (face cost : ℕ)
         → (map.get (effective routes name) face ≡ Some cost) ↔ IsEffective routes name face cost }
+{}
+
+/// Law: an Interest goes by the effective next hops of the longest prefix of its name that has an
+/// entry, and by none where no prefix has one.
+pub fn routes_are_those_of_the_longest_prefix()
+    ensures found { (routes : Routes) (name : List Field) (n : ℕ) → IsLongest routes name n
+        → longest_hops routes name ≡ hops_of (effective routes (take n name)) }
+    ensures none { (routes : Routes) (name : List Field)
+        → ((n : ℕ) → n ≤ length name → map.get routes (take n name) ≡ None)
+        → longest_hops routes name ≡ hops_of map.empty }
+{}
+
+/// Law: the routes that end by a moment are counted: those whose deadline is at most this moment.
+pub fn routes_that_end_are_counted()
+    ensures { (now : ℕ) (routes : Routes) → due_count now routes ≡ total
+        (λ (e : Entry). length (filter (λ r. is_due now r.1) (map.entries e.registered)))
+        (map.entries routes) }
 {}
 
 /// Law: of a map by face whose values are changed, each face has its own value changed, or none.
