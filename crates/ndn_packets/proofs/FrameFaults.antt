@@ -8,23 +8,24 @@ use Rattle.std.proofs.lemmas.List.{append-nil}
 use Rattle.ndn_tlv.specs.declared.fault.TlvFault.{TlvFault}
 use Rattle.ndn_tlv.specs.Element.{Field, element, IsElement}
 use Rattle.ndn_tlv.specs.Reading.{◌>>=◌, on_result, element_at, elements_of, nni_at}
+use Rattle.ndn_tlv.specs.Writing.{optional}
 use Rattle.ndn_tlv.proofs.Numbers.{IsBytes, IsBytes-back}
 use Rattle.ndn_tlv.proofs.Fields.{element_found, elements_of-nil, elements_of-ok, elements_of-err}
 use Rattle.ndn_packets.specs.declared.fault.PacketFault.{PacketFault}
 use Rattle.ndn_packets.specs.declared.fault.PacketFault.TheVariants.{Tlv, BadField, Fragmented, LpField, TooLong}
-use Rattle.ndn_packets.specs.Packet.{PlainInterest, PlainData, PlainFrame, AnInterest, AData, ANack, Idle}
+use Rattle.ndn_packets.specs.Packet.{PlainInterest, PlainData, PlainFrame, PlainFramed, framed_with, AnInterest, AData, ANack, Idle}
 use Rattle.ndn_packets.specs.Fields.{is_even_high}
 use Rattle.ndn_packets.specs.Link.{is_ignored_header, nack_schema, IsHeader, headers_of}
 use Rattle.ndn_packets.specs.Reading.{is_nil, nni_value_at, interest_at, data_at}
 use Rattle.ndn_packets.specs.FirstFault.{FirstFault}
 use Rattle.ndn_packets.specs.PacketFaults.{InterestFault, DataFault}
-use Rattle.ndn_packets.specs.FrameReading.{only_element, interest_of, data_of, packet_of, nacked_of, take_nack_field, nack_at, LinkSoFar, no_headers_yet, is_token, is_refused_header, at_most, with_header, take_header, fragment_at, last_of, no_fragment, link_from, link_at, outer_of, frame_at}
+use Rattle.ndn_packets.specs.FrameReading.{only_element, interest_of, data_of, packet_of, nacked_of, take_nack_field, nack_at, LinkSoFar, no_headers_yet, is_token, is_refused_header, at_most, with_header, take_header, fragment_at, last_of, no_fragment, link_from, link_at, outer_of, framed_at, frame_at}
 use Rattle.ndn_packets.specs.FrameFaults.{OuterFault, IsAlone, LongOr, NoInterest, NoData, NoPacket, NoneInside, FragmentFault, IsKnown, IsRefused, IsAbove, HeaderValueFault, HeaderFault, FollowerFault, AfterHeaders, LinkFault, FaultOf}
 use Rattle.ndn_packets.proofs.Steps.{bind_ok, guard_ok, good, read, ok_is, both_tests, IsBytes-value, IsBytes-inside}
 use Rattle.ndn_packets.proofs.FieldLists.{AreBytes}
 use Rattle.ndn_packets.proofs.FirstFaults.{bad, err_is, ok_is_not_err, tells_first_fault}
 use Rattle.ndn_packets.proofs.PacketFaults.{bind_err, told, interest_tells, data_tells}
-use Rattle.ndn_packets.proofs.Links.{Room, no_more, nack_is, nack_of, nack_among, header_found, header_again}
+use Rattle.ndn_packets.proofs.Links.{Room, no_more, nack_is, nack_of, one_token, nack_among, header_found, header_again}
 use Rattle.ndn_packets.proofs.Packets.{only_found, one_element}
 
 -- ---- one element
@@ -172,18 +173,18 @@ record Met (s : LinkSoFar) (headers : List Field) : Type 0 where
   sequence : s.sequence ≡ has 81 headers
   frag_index : s.frag_index ≡ has 82 headers
   frag_count : s.frag_count ≡ has 83 headers
-  pit_token : s.pit_token ≡ has 98 headers
+  token : is_some s.token ≡ has 98 headers
   nack : is_some s.nack ≡ has 800 headers
 
 none_met : Met no_headers_yet []
-none_met = record { sequence = refl; frag_index = refl; frag_count = refl; pit_token = refl; nack = refl }
+none_met = record { sequence = refl; frag_index = refl; frag_count = refl; token = refl; nack = refl }
 
 -- the state after one more header field
 record Marks (s : LinkSoFar) (kind : ℕ) (t : LinkSoFar) : Type 0 where
   sequence : t.sequence ≡ (s.sequence || eqb kind 81)
   frag_index : t.frag_index ≡ (s.frag_index || eqb kind 82)
   frag_count : t.frag_count ≡ (s.frag_count || eqb kind 83)
-  pit_token : t.pit_token ≡ (s.pit_token || eqb kind 98)
+  token : is_some t.token ≡ (is_some s.token || eqb kind 98)
   nack : is_some t.nack ≡ (is_some s.nack || eqb kind 800)
 
 or_false : (b : Bool) → b ≡ (b || false)
@@ -198,7 +199,7 @@ same_marks s kind no81 no82 no83 no98 no800 = record {
   sequence = rw (ne_eqb kind 81 no81) (or_false s.sequence);
   frag_index = rw (ne_eqb kind 82 no82) (or_false s.frag_index);
   frag_count = rw (ne_eqb kind 83 no83) (or_false s.frag_count);
-  pit_token = rw (ne_eqb kind 98 no98) (or_false s.pit_token);
+  token = rw (ne_eqb kind 98 no98) (or_false (is_some s.token));
   nack = rw (ne_eqb kind 800 no800) (or_false (is_some s.nack));
 }
 
@@ -215,21 +216,21 @@ marked : (s t : LinkSoFar) (e : Field) → MarksAt s t e.1 e.0
 marked s t e =
     elim (cases_eq e.0 81) [
       | inl is ↦ subst (MarksAt s t e.1) (sym is) (λ made. subst (Marks s 81) (ok_is _ t made)
-          (record { sequence = or_true s.sequence; frag_index = or_false s.frag_index; frag_count = or_false s.frag_count; pit_token = or_false s.pit_token; nack = or_false (is_some s.nack) }))
+          (record { sequence = or_true s.sequence; frag_index = or_false s.frag_index; frag_count = or_false s.frag_count; token = or_false (is_some s.token); nack = or_false (is_some s.nack) }))
       | inr no81 ↦ elim (cases_eq e.0 82) [
         | inl is ↦ subst (MarksAt s t e.1) (sym is) (λ made. subst (Marks s 82) (at_most_made 0 e.1 _ t made)
-            (record { sequence = or_false s.sequence; frag_index = or_true s.frag_index; frag_count = or_false s.frag_count; pit_token = or_false s.pit_token; nack = or_false (is_some s.nack) }))
+            (record { sequence = or_false s.sequence; frag_index = or_true s.frag_index; frag_count = or_false s.frag_count; token = or_false (is_some s.token); nack = or_false (is_some s.nack) }))
         | inr no82 ↦ elim (cases_eq e.0 83) [
           | inl is ↦ subst (MarksAt s t e.1) (sym is) (λ made. subst (Marks s 83) (at_most_made 1 e.1 _ t made)
-              (record { sequence = or_false s.sequence; frag_index = or_false s.frag_index; frag_count = or_true s.frag_count; pit_token = or_false s.pit_token; nack = or_false (is_some s.nack) }))
+              (record { sequence = or_false s.sequence; frag_index = or_false s.frag_index; frag_count = or_true s.frag_count; token = or_false (is_some s.token); nack = or_false (is_some s.nack) }))
           | inr no83 ↦ elim (cases_eq e.0 98) [
             | inl is ↦ subst (MarksAt s t e.1) (sym is) (λ made. subst (Marks s 98) (ok_is _ t made)
-                (record { sequence = or_false s.sequence; frag_index = or_false s.frag_index; frag_count = or_false s.frag_count; pit_token = or_true s.pit_token; nack = or_false (is_some s.nack) }))
+                (record { sequence = or_false s.sequence; frag_index = or_false s.frag_index; frag_count = or_false s.frag_count; token = or_true (is_some s.token); nack = or_false (is_some s.nack) }))
             | inr no98 ↦ elim (cases_eq e.0 800) [
               | inl is ↦ subst (MarksAt s t e.1) (sym is) (λ made.
-                  let n = bind_ok (nack_at e.1) (λ reason. good (record { sequence = s.sequence; frag_index = s.frag_index; frag_count = s.frag_count; pit_token = s.pit_token; nack = Some reason })) t made in
+                  let n = bind_ok (nack_at e.1) (λ reason. good (record { sequence = s.sequence; frag_index = s.frag_index; frag_count = s.frag_count; token = s.token; nack = Some reason })) t made in
                   subst (Marks s 800) (ok_is _ t n.2)
-                  (record { sequence = or_false s.sequence; frag_index = or_false s.frag_index; frag_count = or_false s.frag_count; pit_token = or_false s.pit_token; nack = or_true (is_some s.nack) }))
+                  (record { sequence = or_false s.sequence; frag_index = or_false s.frag_index; frag_count = or_false s.frag_count; token = or_false (is_some s.token); nack = or_true (is_some s.nack) }))
               | inr no800 ↦ rw (ne_eqb e.0 81 no81, ne_eqb e.0 82 no82, ne_eqb e.0 83 no83, ne_eqb e.0 98 no98, ne_eqb e.0 800 no800)
                   (λ made. subst (Marks s e.0) (ok_is s t made) (same_marks s e.0 no81 no82 no83 no98 no800))
             ]
@@ -248,7 +249,7 @@ one_more_met s t headers e met taken =
       sequence = flag_met s.sequence t.sequence 81 headers e m.sequence met.sequence;
       frag_index = flag_met s.frag_index t.frag_index 82 headers e m.frag_index met.frag_index;
       frag_count = flag_met s.frag_count t.frag_count 83 headers e m.frag_count met.frag_count;
-      pit_token = flag_met s.pit_token t.pit_token 98 headers e m.pit_token met.pit_token;
+      token = flag_met (is_some s.token) (is_some t.token) 98 headers e m.token met.token;
       nack = flag_met (is_some s.nack) (is_some t.nack) 800 headers e m.nack met.nack;
     }
 
@@ -276,10 +277,10 @@ either : (a b : Bool) → (a || b) ≡ true → (a ≡ true) ⊎ (b ≡ true)
 either true b e = inl refl
 either false b e = inr e
 
-refused_token : (s : LinkSoFar) (headers : List Field) (v : List ℕ) → Met s headers → (s.pit_token || not (is_token v)) ≡ true → IsRefused headers (98, v)
+refused_token : (s : LinkSoFar) (headers : List Field) (v : List ℕ) → Met s headers → (is_some s.token || not (is_token v)) ≡ true → IsRefused headers (98, v)
 refused_token s headers v met e =
-    elim (either s.pit_token (not (is_token v)) e) [
-      | inl met_one ↦ inl (inr (inr (inr (inl refl))), some_there 98 headers (sym met.pit_token ∙ met_one))
+    elim (either (is_some s.token) (not (is_token v)) e) [
+      | inl met_one ↦ inl (inr (inr (inr (inl refl))), some_there 98 headers (sym met.token ∙ met_one))
       | inr sizes ↦ inr (inl (refl, token_sizes v sizes))
     ]
 
@@ -329,10 +330,10 @@ refused_again s headers e met (inl (known, some)) = twice known some
     twice (inl is) = subst (RefusedAgainAt s headers e.1) (sym is) (λ some. met.sequence ∙ there_again 81 headers some)
     twice (inr (inl is)) = subst (RefusedAgainAt s headers e.1) (sym is) (λ some. met.frag_index ∙ there_again 82 headers some)
     twice (inr (inr (inl is))) = subst (RefusedAgainAt s headers e.1) (sym is) (λ some. met.frag_count ∙ there_again 83 headers some)
-    twice (inr (inr (inr (inl is)))) = subst (RefusedAgainAt s headers e.1) (sym is) (λ some. rw (met.pit_token ∙ there_again 98 headers some) refl)
+    twice (inr (inr (inr (inl is)))) = subst (RefusedAgainAt s headers e.1) (sym is) (λ some. rw (met.token ∙ there_again 98 headers some) refl)
     twice (inr (inr (inr (inr is)))) = subst (RefusedAgainAt s headers e.1) (sym is) (λ some. met.nack ∙ there_again 800 headers some)
 refused_again s headers e met (inr (inl (is, sizes))) =
-    subst (λ (kind : ℕ). is_refused_header s (kind, e.1) ≡ true) (sym is) (rw (token_sizes_again e.1 sizes) (or-true s.pit_token))
+    subst (λ (kind : ℕ). is_refused_header s (kind, e.1) ≡ true) (sym is) (rw (token_sizes_again e.1 sizes) (or-true (is_some s.token)))
 refused_again s headers e met (inr (inr (unknown, kept))) =
     rw (ne_eqb e.0 81 (λ is. unknown (inl is)), ne_eqb e.0 82 (λ is. unknown (inr (inl is))), ne_eqb e.0 83 (λ is. unknown (inr (inr (inl is)))), ne_eqb e.0 98 (λ is. unknown (inr (inr (inr (inl is))))), ne_eqb e.0 800 (λ is. unknown (inr (inr (inr (inr is))))), kept) refl
 
@@ -364,7 +365,7 @@ marked_fault (Ok x) made fault e = absurd (ok_is_not_err (made x) fault e)
 marked_fault {A} (Err f) made fault e = ap (bad A) (sym (err_is LinkSoFar f fault e))
 
 abbrev nack_made : LinkSoFar → ℕ → LinkSoFar
-nack_made s reason = record { sequence = s.sequence; frag_index = s.frag_index; frag_count = s.frag_count; pit_token = s.pit_token; nack = Some reason }
+nack_made s reason = record { sequence = s.sequence; frag_index = s.frag_index; frag_count = s.frag_count; token = s.token; nack = Some reason }
 
 abbrev ValueAt : LinkSoFar → PacketFault → List ℕ → ℕ → Type 0
 ValueAt s fault v kind = with_header s (kind, v) ≡ Err fault → HeaderValueFault (kind, v) fault
@@ -421,27 +422,41 @@ record Stops (s : LinkSoFar) (elements : List (Result Field TlvFault)) (fault : 
   rest : List (Result Field TlvFault)
   last : LinkSoFar
   all : elements ≡ map read headers ++ rest
-  allowed : AreBytes headers → AllByRecursion IsHeader headers × Room s headers last.nack
+  allowed : AreBytes headers → AllByRecursion IsHeader headers × Room s headers last.token last.nack
   met : (before : List Field) → Met s before → Met last (before ++ headers)
   here : (before : List Field) → Met last before → AfterHeaders before last.nack rest fault
 
-follower_fault : (nack : Option ℕ) (text : List ℕ) (frame : PlainFrame) (after : List (Result Field TlvFault)) (fault : PacketFault) → last_of frame after ≡ Err fault → FollowerFault after fault
-follower_fault nack text frame [] fault e = absurd (ok_is_not_err frame fault e)
-follower_fault nack text frame (Err f ∷ after) fault e = err_is PlainFrame (Tlv f) fault e
-follower_fault nack text frame (Ok x ∷ after) fault e = err_is PlainFrame LpField fault e
+follower_fault : (framed : PlainFramed) (after : List (Result Field TlvFault)) (fault : PacketFault) → last_of framed after ≡ Err fault → FollowerFault after fault
+follower_fault framed [] fault e = absurd (ok_is_not_err framed fault e)
+follower_fault framed (Err f ∷ after) fault e = err_is PlainFramed (Tlv f) fault e
+follower_fault framed (Ok x ∷ after) fault e = err_is PlainFramed LpField fault e
 
-follower_fault_again : (frame : PlainFrame) (after : List (Result Field TlvFault)) (fault : PacketFault) → FollowerFault after fault → last_of frame after ≡ Err fault
-follower_fault_again frame [] fault h = absurd h
-follower_fault_again frame (Err f ∷ after) fault h = told PlainFrame (Tlv f) fault h
-follower_fault_again frame (Ok x ∷ after) fault h = told PlainFrame LpField fault h
+follower_fault_again : (framed : PlainFramed) (after : List (Result Field TlvFault)) (fault : PacketFault) → FollowerFault after fault → last_of framed after ≡ Err fault
+follower_fault_again framed [] fault h = absurd h
+follower_fault_again framed (Err f ∷ after) fault h = told PlainFramed (Tlv f) fault h
+follower_fault_again framed (Ok x ∷ after) fault h = told PlainFramed LpField fault h
 
-no_fragment_fault : (nack : Option ℕ) (fault : PacketFault) → no_fragment nack ≡ Err fault → IsSome nack × (fault ≡ BadField)
-no_fragment_fault None fault e = absurd (ok_is_not_err Idle fault e)
-no_fragment_fault (Some reason) fault e = (refl, err_is PlainFrame BadField fault e)
+no_fragment_fault : (token : Option (List ℕ)) (nack : Option ℕ) (fault : PacketFault) → no_fragment token nack ≡ Err fault → IsSome nack × (fault ≡ BadField)
+no_fragment_fault token None fault e = absurd (ok_is_not_err (framed_with token Idle) fault e)
+no_fragment_fault token (Some reason) fault e = (refl, err_is PlainFramed BadField fault e)
 
-no_fragment_again : (nack : Option ℕ) (fault : PacketFault) → IsSome nack → fault ≡ BadField → no_fragment nack ≡ Err fault
-no_fragment_again None fault some e = absurd cc
-no_fragment_again (Some reason) fault some e = told PlainFrame BadField fault e
+no_fragment_again : (token : Option (List ℕ)) (nack : Option ℕ) (fault : PacketFault) → IsSome nack → fault ≡ BadField → no_fragment token nack ≡ Err fault
+no_fragment_again token None fault some e = absurd cc
+no_fragment_again token (Some reason) fault some e = told PlainFramed BadField fault e
+
+-- header fields of which one at most is a token have this one or none
+token_among : (headers : List Field) → length (headers_of 98 headers) ≤ 1 → (token : Option (List ℕ)) × (headers_of 98 headers ≡ optional 98 token)
+token_among [] few = (None, refl)
+token_among (h ∷ headers) few =
+    elim (eqb h.0 98) as (λ b. eqb h.0 98 ≡ b → length (cond b (h ∷ headers_of 98 headers) (headers_of 98 headers)) ≤ 1
+    → (token : Option (List ℕ)) × (cond b (h ∷ headers_of 98 headers) (headers_of 98 headers) ≡ optional 98 token)) [
+      | true ↦ λ is few. (Some h.1, (λ k. (eqb-true h.0 98 is k, h.1) ∷ none_more (headers_of 98 headers) (omega arith) k))
+      | false ↦ λ _ few. token_among headers few
+    ] refl few
+  where
+    none_more : (hs : List Field) → length hs ≤ 0 → hs ≡ []
+    none_more [] few = refl
+    none_more (f ∷ hs) few = absurd (omega arith)
 
 -- where the reading stops at these elements
 stops_here : (s : LinkSoFar) (elements : List (Result Field TlvFault)) (fault : PacketFault) → ((before : List Field) → Met s before → AfterHeaders before s.nack elements fault) → Stops s elements fault
@@ -449,17 +464,17 @@ stops_here s elements fault h =
     record { headers = []; rest = elements; last = s; all = refl; allowed = λ fits. (tt, no_more s); met = λ before m. subst (Met s) (sym (append-nil before)) m; here = h }
 
 stops : (s : LinkSoFar) (elements : List (Result Field TlvFault)) (fault : PacketFault) → link_from s elements ≡ Err fault → Stops s elements fault
-stops s [] fault e = stops_here s [] fault (λ before m. no_fragment_fault s.nack fault e)
-stops s (Err f ∷ elements) fault e = stops_here s (Err f ∷ elements) fault (λ before m. err_is PlainFrame (Tlv f) fault e)
+stops s [] fault e = stops_here s [] fault (λ before m. no_fragment_fault s.token s.nack fault e)
+stops s (Err f ∷ elements) fault e = stops_here s (Err f ∷ elements) fault (λ before m. err_is PlainFramed (Tlv f) fault e)
 stops s (Ok x ∷ elements) fault e =
-    elim (eqb x.0 80) as (λ b. eqb x.0 80 ≡ b → cond b (fragment_at s.nack x.1 >>= λ f. last_of f elements) (take_header s x >>= λ t. link_from t elements) ≡ Err fault → Stops s (Ok x ∷ elements) fault) [
-      | true ↦ λ is e. elim (bind_err (fragment_at s.nack x.1) (λ f. last_of f elements) fault e) [
+    elim (eqb x.0 80) as (λ b. eqb x.0 80 ≡ b → cond b (fragment_at s.nack x.1 >>= λ f. last_of (framed_with s.token f) elements) (take_header s x >>= λ t. link_from t elements) ≡ Err fault → Stops s (Ok x ∷ elements) fault) [
+      | true ↦ λ is e. elim (bind_err (fragment_at s.nack x.1) (λ f. last_of (framed_with s.token f) elements) fault e) [
         | inl f ↦ stops_here s (Ok x ∷ elements) fault (λ before m. inr (eqb-true x.0 80 is, inl (fragment_fault s.nack x.1 fault f)))
         | inr f ↦ stops_here s (Ok x ∷ elements) fault (λ before m. inr (
           eqb-true x.0 80 is,
           inr (
             (λ other h. ok_is_not_err f.0 other (sym f.1 ∙ fragment_fault_again s.nack x.1 other h)),
-            follower_fault s.nack x.1 f.0 elements fault f.2,
+            follower_fault (framed_with s.token f.0) elements fault f.2,
           ),
         ))
       ]
@@ -476,7 +491,7 @@ stops s (Ok x ∷ elements) fault e =
               allowed = λ fits.
                   let first = header_found s t.0 x fits.0 g.0 g.1 in
                   let others = p.allowed fits.1 in
-                  ((first.is_header, others.0), first.leaves p.headers p.last.nack others.1);
+                  ((first.is_header, others.0), first.leaves p.headers p.last.token p.last.nack others.1);
               met = λ before m. subst (Met p.last) (append_assoc before (x ∷ []) p.headers) (p.met (before ++ x ∷ []) (one_more_met s t.0 before x m t.1));
               here = p.here;
             }
@@ -485,26 +500,26 @@ stops s (Ok x ∷ elements) fault e =
 
 -- header fields in the grammar are read, up to the elements at which the reading stops
 after_again : (s : LinkSoFar) (headers : List Field) (rest : List (Result Field TlvFault)) (fault : PacketFault) → Met s headers → AfterHeaders headers s.nack rest fault → link_from s rest ≡ Err fault
-after_again s headers [] fault met h = no_fragment_again s.nack fault h.0 h.1
-after_again s headers (Err f ∷ after) fault met h = told PlainFrame (Tlv f) fault h
+after_again s headers [] fault met h = no_fragment_again s.token s.nack fault h.0 h.1
+after_again s headers (Err f ∷ after) fault met h = told PlainFramed (Tlv f) fault h
 after_again s headers (Ok x ∷ after) fault met (inl h) =
     rw (ne_eqb x.0 80 h.0) (ap (λ (r : Result LinkSoFar PacketFault). r >>= λ t. link_from t after) (header_fault_again s headers x fault met h.1))
 after_again s headers (Ok x ∷ after) fault met (inr (is, inl f)) =
-    rw (eq-eqb x.0 80 is) (ap (λ (r : Result PlainFrame PacketFault). r >>= λ frame. last_of frame after) (fragment_fault_again s.nack x.1 fault f))
+    rw (eq-eqb x.0 80 is) (ap (λ (r : Result PlainFrame PacketFault). r >>= λ frame. last_of (framed_with s.token frame) after) (fragment_fault_again s.nack x.1 fault f))
 after_again s headers (Ok x ∷ after) fault met (inr (is, inr f)) =
     rw (eq-eqb x.0 80 is) (held_first (fragment_at s.nack x.1) refl)
   where
-    held_first : (r : Result PlainFrame PacketFault) → fragment_at s.nack x.1 ≡ r → (r >>= λ frame. last_of frame after) ≡ Err fault
-    held_first (Ok frame) e = follower_fault_again frame after fault f.1
+    held_first : (r : Result PlainFrame PacketFault) → fragment_at s.nack x.1 ≡ r → (r >>= λ frame. last_of (framed_with s.token frame) after) ≡ Err fault
+    held_first (Ok frame) e = follower_fault_again (framed_with s.token frame) after fault f.1
     held_first (Err other) e = absurd (f.0 other (fragment_fault s.nack x.1 other e))
 
-link_again_to : (s : LinkSoFar) (before headers : List Field) (rest : List (Result Field TlvFault)) (nack : Option ℕ) (fault : PacketFault) → Met s before → AllByRecursion IsHeader headers → Room s headers nack
+link_again_to : (s : LinkSoFar) (before headers : List Field) (rest : List (Result Field TlvFault)) (token : Option (List ℕ)) (nack : Option ℕ) (fault : PacketFault) → Met s before → AllByRecursion IsHeader headers → Room s headers token nack
     → AfterHeaders (before ++ headers) nack rest fault → link_from s (map read headers ++ rest) ≡ Err fault
-link_again_to s before [] rest nack fault met allowed r h =
+link_again_to s before [] rest token nack fault met allowed r h =
     after_again s before rest fault met (subst (λ (n : Option ℕ). AfterHeaders before n rest fault) (sym (nack_is s.nack nack r.nacks)) (subst (λ (hs : List Field). AfterHeaders hs nack rest fault) (append-nil before) h))
-link_again_to s before (e ∷ headers) rest nack fault met allowed r h =
-    let a = header_again s e headers nack allowed.0 r in
-    rw (a.no_fragment, a.taken) (link_again_to a.after (before ++ e ∷ []) headers rest nack fault (one_more_met s a.after before e met a.taken) allowed.1 a.left
+link_again_to s before (e ∷ headers) rest token nack fault met allowed r h =
+    let a = header_again s e headers token nack allowed.0 r in
+    rw (a.no_fragment, a.taken) (link_again_to a.after (before ++ e ∷ []) headers rest token nack fault (one_more_met s a.after before e met a.taken) allowed.1 a.left
     (subst (λ (hs : List Field). AfterHeaders hs nack rest fault) (sym (append_assoc before (e ∷ []) headers)) h))
 
 -- the octets of the elements that can be read
@@ -549,24 +564,25 @@ link_tells value fault fits = (
         rest = p.rest;
         elements_are = p.all;
         allowed = allowed.0;
-        once = (r.sequence, (r.frag_index, (r.frag_count, (r.pit_token, (n.1, tt)))));
+        once = (r.sequence, (r.frag_index, (r.frag_count, (one_token p.headers p.last.token r.tokens, (n.1, tt)))));
         nacked = n.0;
         faulty = p.here p.headers (p.met [] none_met);
       },
   λ h.
       let o = h.once in
+      let t = token_among h.headers o.1.1.1.0 in
       ap (link_from no_headers_yet) h.elements_are
-      ∙ link_again_to no_headers_yet [] h.headers h.rest h.nack fault none_met h.allowed
-      (record { sequence = o.0; frag_index = o.1.0; frag_count = o.1.1.0; pit_token = o.1.1.1.0; nacks = nack_among h.headers h.nack h.nacked }) h.faulty,
+      ∙ link_again_to no_headers_yet [] h.headers h.rest t.0 h.nack fault none_met h.allowed
+      (record { sequence = o.0; frag_index = o.1.0; frag_count = o.1.1.0; tokens = t.1; nacks = nack_among h.headers h.nack h.nacked }) h.faulty,
 )
 
 -- ---- frames
 
-pub frame_tells : (text : List ℕ) (fault : PacketFault) → IsBytes text → (frame_at text ≡ Err fault) ↔ FaultOf text fault
-unfolding frame_at
-frame_tells text fault fits = (
+pub framed_tells : (text : List ℕ) (fault : PacketFault) → IsBytes text → (framed_at text ≡ Err fault) ↔ FaultOf text fault
+unfolding framed_at
+framed_tells text fault fits = (
   λ e. elim (cases_lt 9000 (length text)) [
-    | inl long ↦ inl (long, err_is PlainFrame TooLong fault (rw (lt-ltb 9000 (length text) long) at e))
+    | inl long ↦ inl (long, err_is PlainFramed TooLong fault (rw (lt-ltb 9000 (length text) long) at e))
     | inr short ↦ inr (
       short,
       elim (bind_err (only_element text) (outer_of text) fault (rw (le-ltb 9000 (length text) short) at e)) [
@@ -576,7 +592,7 @@ frame_tells text fault fits = (
     )
   ],
   λ h. elim h [
-    | inl long ↦ rw (lt-ltb 9000 (length text) long.0) (told PlainFrame TooLong fault long.1)
+    | inl long ↦ rw (lt-ltb 9000 (length text) long.0) (told PlainFramed TooLong fault long.1)
     | inr short ↦ rw (le-ltb 9000 (length text) short.0) (elim short.1 [
       | inl o ↦ ap (λ (r : Result Field PacketFault). r >>= outer_of text) (outer_fault_again text fault o)
       | inr o ↦ ap (λ (r : Result Field PacketFault). r >>= outer_of text) (alone_again text o.0 o.1) ∙ held_fault_again o.0 (only_found text o.0 fits (alone_again text o.0 o.1)) o.2
@@ -584,17 +600,36 @@ frame_tells text fault fits = (
   ],
 )
   where
+    shown : (r : Result PlainFrame PacketFault) (fault : PacketFault) → (r >>= λ frame. good (framed_with None frame)) ≡ Err fault → r ≡ Err fault
+    shown (Ok f) fault e = absurd (ok_is_not_err (framed_with None f) fault e)
+    shown (Err f) fault e = ap (bad PlainFrame) (sym (err_is PlainFramed f fault e))
+
     held_fault : (e : Field) → IsElement text e.0 e.1 → outer_of text e ≡ Err fault → ((e.0 ≡ 100) × LinkFault (elements_of e.1) fault) ⊎ ((e.0 ≢ 100) × NoPacket text e fault)
     held_fault e own is =
         elim (cases_eq e.0 100) [
           | inl link ↦ inl (link, (link_tells e.1 fault (IsBytes-inside text e.1 e.0 fits own)).0 (rw (eq-eqb e.0 100 link) at is))
-          | inr other ↦ inr (other, packet_fault text e fault (rw (ne_eqb e.0 100 other) at is))
+          | inr other ↦ inr (other, packet_fault text e fault (shown (packet_of text e) fault (rw (ne_eqb e.0 100 other) at is)))
         ]
 
     held_fault_again : (e : Field) → IsElement text e.0 e.1 → ((e.0 ≡ 100) × LinkFault (elements_of e.1) fault) ⊎ ((e.0 ≢ 100) × NoPacket text e fault) → outer_of text e ≡ Err fault
     held_fault_again e own (inl h) = rw (eq-eqb e.0 100 h.0) ((link_tells e.1 fault (IsBytes-inside text e.1 e.0 fits own)).1 h.1)
-    held_fault_again e own (inr h) = rw (ne_eqb e.0 100 h.0) (packet_fault_again text e fault h.1)
+    held_fault_again e own (inr h) = rw (ne_eqb e.0 100 h.0) (ap (λ (r : Result PlainFrame PacketFault). r >>= λ frame. good (framed_with None frame)) (packet_fault_again text e fault h.1))
+
+pub frame_tells : (text : List ℕ) (fault : PacketFault) → IsBytes text → (frame_at text ≡ Err fault) ↔ FaultOf text fault
+unfolding frame_at
+frame_tells text fault fits = (
+  λ e. (framed_tells text fault fits).0 (of_framed (framed_at text) e),
+  λ h. ap (λ (r : Result PlainFramed PacketFault). r >>= λ framed. good framed.frame) ((framed_tells text fault fits).1 h),
+)
+  where
+    of_framed : (r : Result PlainFramed PacketFault) → (r >>= λ framed. good framed.frame) ≡ Err fault → r ≡ Err fault
+    of_framed (Ok f) e = absurd (ok_is_not_err f.frame fault e)
+    of_framed (Err f) e = ap (bad PlainFramed) (sym (err_is PlainFrame f fault e))
 
 pub fault_from : {X : Type 0} (view : X → PlainFrame) (text : List ℕ) (r : Result X PacketFault) → IsBytes text → on_result (λ x. good (view x)) (λ f. Err f) r ≡ frame_at text → IfErr r (FaultOf text)
 fault_from view text (Ok x) fits e = tt
 fault_from view text (Err fault) fits e = (frame_tells text fault fits).0 (sym e)
+
+pub framed_fault_from : {X : Type 0} (view : X → PlainFramed) (text : List ℕ) (r : Result X PacketFault) → IsBytes text → on_result (λ x. good (view x)) (λ f. Err f) r ≡ framed_at text → IfErr r (FaultOf text)
+framed_fault_from view text (Ok x) fits e = tt
+framed_fault_from view text (Err fault) fits e = (framed_tells text fault fits).0 (sym e)

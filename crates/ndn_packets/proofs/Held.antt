@@ -31,14 +31,14 @@ octets-prop a b = hlevel props
 pub interest_held : (text : List ℕ) (i : PlainInterest) → ∥ IsInterest text i ∥₁ → IsInterest text i
 interest_held text i held =
     let fits : IsBytes text = ∥∥₁_elim held (IsBytes-prop text) (λ h. h.fields.octets) in
-    let read : frame_at text ≡ Ok (AnInterest text i) = ∥∥₁_elim held (reads-prop text (AnInterest text i)) (λ h. frame_again text (AnInterest text i) (h, inl refl)) in
-    (frame_found text (AnInterest text i) fits read).0
+    let read : frame_at text ≡ Ok (AnInterest text i) = ∥∥₁_elim held (reads-prop text (AnInterest text i)) (λ h. frame_again text (AnInterest text i) (None, (h, inl (refl, refl)))) in
+    (frame_found text (AnInterest text i) fits read).1.0
 
 pub data_held : (text : List ℕ) (d : PlainData) → ∥ IsData text d ∥₁ → IsData text d
 data_held text d held =
     let fits : IsBytes text = ∥∥₁_elim held (IsBytes-prop text) (λ h. h.fields.octets) in
-    let read : frame_at text ≡ Ok (AData text d) = ∥∥₁_elim held (reads-prop text (AData text d)) (λ h. frame_again text (AData text d) (h, inl refl)) in
-    (frame_found text (AData text d) fits read).0
+    let read : frame_at text ≡ Ok (AData text d) = ∥∥₁_elim held (reads-prop text (AData text d)) (λ h. frame_again text (AData text d) (None, (h, inl (refl, refl)))) in
+    (frame_found text (AData text d) fits read).1.0
 
 pub interest_read : (i : Interest) → IsReadInterest i
 interest_read i = interest_held i.whole.now (plain_interest i) i.spelled

@@ -212,8 +212,8 @@ hop_still text i old limit small h there =
     subst (λ (t : List ℕ). IsInterest t (with_limit i limit)) (sym set) (s.again limit small)
 
 -- a packet inside a link packet is shorter than that
-inside_shorter : (text whole : List ℕ) → IsLinkPacket text None (Some whole) → length whole < length text
-inside_shorter text whole link =
+inside_shorter : (text whole : List ℕ) (token : Option (List ℕ)) → IsLinkPacket text token None (Some whole) → length whole < length text
+inside_shorter text whole token link =
     let around = flat_map element link.headers in
     let inner : link.value ≡ around ++ (element (80, whole) ++ []) = link.inner.1 ∙ flat_map-append element link.headers ((80, whole) ∷ []) in
     omega (
@@ -230,8 +230,8 @@ inside_shorter text whole link =
     )
 
 is_whole : (text whole : List ℕ) (i : PlainInterest) → IsFrame text (AnInterest whole i) → length whole ≡ length text → IsInterest text i
-is_whole text whole i (h, inl same) len = subst (λ (t : List ℕ). IsInterest t i) (sym same) h
-is_whole text whole i (h, inr link) len = let shorter = inside_shorter text whole link in absurd (omega arith)
+is_whole text whole i (token, (h, inl same)) len = subst (λ (t : List ℕ). IsInterest t i) (sym same.0) h
+is_whole text whole i (token, (h, inr link)) len = let shorter = inside_shorter text whole token link in absurd (omega arith)
 
 limit_there : (limit : Option ℕ) → is_some limit ≡ true → (n : ℕ) × (limit ≡ Some n)
 limit_there None e = absurd cc

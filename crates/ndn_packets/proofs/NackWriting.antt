@@ -1,10 +1,30 @@
--- The parts of a Nack that is written.
-use Rattle.std.proofs.Common.{◌≡◌, ℕ, ◌+◌, List, ◌++◌, length, sym, ap, ◌∙◌, append_assoc, append-nil, arith}
+-- The parts of a link packet that is written.
+use Rattle.std.proofs.Common.{◌≡◌, ℕ, ◌+◌, List, ◌++◌, length, ap, ◌∙◌, append_assoc, append-nil, arith}
 use Rattle.std.proofs.lemmas.List.{length-append}
 use Rattle.ndn_tlv.specs.Number.{spelling}
 use Rattle.ndn_tlv.specs.Element.{element}
 use Rattle.ndn_packets.specs.Writing.{nack_field, nack_text}
 use Rattle.ndn_tlv.proofs.Lengths.{length-element, element_put}
+
+pub link_put : (old headers : List ℕ) (packet : List ℕ) (value_len : ℕ) → value_len ≡ length (headers ++ element (80, packet))
+    → ((old ++ (spelling 100 ++ spelling value_len)) ++ headers) ++ element (80, packet) ≡ old ++ element (100, headers ++ element (80, packet))
+link_put old headers packet value_len is =
+    append_assoc (old ++ (spelling 100 ++ spelling value_len)) headers (element (80, packet))
+    ∙ element_put old 100 value_len (headers ++ element (80, packet)) is
+
+-- its parts fill its length
+pub link_parts : (headers packet : List ℕ) (value_len : ℕ) → value_len ≡ length (headers ++ element (80, packet))
+    → length (element (100, headers ++ element (80, packet))) ≡ length (spelling 100 ++ spelling value_len) + (length headers + length (element (80, packet)))
+link_parts headers packet value_len is =
+    let value = headers ++ element (80, packet) in
+    rw is (omega (
+      arith,
+      length-element 100 value,
+      length-append headers (element (80, packet)),
+      length-append (spelling 100) (spelling (length value)),
+    ))
+
+-- ---- a Nack
 
 -- the value of its link packet
 abbrev pub nack_value : ℕ → List ℕ → List ℕ
@@ -13,22 +33,7 @@ nack_value reason interest = nack_field reason ++ element (80, interest)
 nack_text_is : (reason : ℕ) (interest : List ℕ) → nack_text reason interest ≡ element (100, nack_value reason interest)
 nack_text_is reason interest = simp append-nil
 
-pub nack_put : (old : List ℕ) (reason : ℕ) (interest : List ℕ) (value_len : ℕ) → value_len ≡ length (nack_value reason interest)
-    → ((old ++ (spelling 100 ++ spelling value_len)) ++ nack_field reason) ++ element (80, interest) ≡ old ++ nack_text reason interest
-nack_put old reason interest value_len is =
-    append_assoc (old ++ (spelling 100 ++ spelling value_len)) (nack_field reason) (element (80, interest))
-    ∙ (element_put old 100 value_len (nack_value reason interest) is
-    ∙ ap (λ (x : List ℕ). old ++ x) (sym (nack_text_is reason interest)))
-
 -- its parts fill its length
 pub nack_parts : (reason : ℕ) (interest : List ℕ) (value_len : ℕ) → value_len ≡ length (nack_value reason interest)
     → length (nack_text reason interest) ≡ length (spelling 100 ++ spelling value_len) + (length (nack_field reason) + length (element (80, interest)))
-nack_parts reason interest value_len is =
-    let value = nack_value reason interest in
-    rw is (omega (
-      arith,
-      ap length (nack_text_is reason interest),
-      length-element 100 value,
-      length-append (nack_field reason) (element (80, interest)),
-      length-append (spelling 100) (spelling (length value)),
-    ))
+nack_parts reason interest value_len is = ap length (nack_text_is reason interest) ∙ link_parts (nack_field reason) interest value_len is

@@ -10,11 +10,11 @@ use Rattle.ndn_tlv.proofs.Numbers.{IsBytes}
 use Rattle.ndn_tlv.proofs.Fields.{element_found, seen}
 use Rattle.ndn_packets.specs.declared.fault.PacketFault.{PacketFault}
 use Rattle.ndn_packets.specs.declared.fault.PacketFault.TheVariants.{Tlv, BadField, TooLong}
-use Rattle.ndn_packets.specs.Packet.{PlainInterest, PlainData, PlainFrame, AnInterest, AData, ANack, Idle}
+use Rattle.ndn_packets.specs.Packet.{PlainInterest, PlainData, PlainFrame, PlainFramed, framed_with, AnInterest, AData, ANack, Idle}
 use Rattle.ndn_packets.specs.Grammar.{IsInterest, IsData}
-use Rattle.ndn_packets.specs.Link.{IsLinkPacket, IsFrame}
+use Rattle.ndn_packets.specs.Link.{IsLinkPacket, IsFrameWith, IsFramed, IsFrame}
 use Rattle.ndn_packets.specs.Reading.{is_nil, interest_at, data_at}
-use Rattle.ndn_packets.specs.FrameReading.{only_element, interest_of, data_of, packet_of, nacked_of, outer_of, frame_at}
+use Rattle.ndn_packets.specs.FrameReading.{only_element, interest_of, data_of, packet_of, nacked_of, outer_of, framed_at, frame_at, token_at}
 use Rattle.ndn_packets.proofs.Steps.{bind_ok, guard_ok, good, err_is_not_ok, ok_is, IsBytes-inside}
 use Rattle.ndn_packets.proofs.FieldLists.{MayBeBytes}
 use Rattle.ndn_packets.proofs.Locators.{element_alone}
@@ -88,30 +88,32 @@ data_of_again text d h = rw (le-ltb 8800 (length text) h.fields.short) (data_aga
 
 -- ---- frames
 
-is_link : (text value : List ℕ) (f : PlainFrame) (h : LinkValue value f) → IsElement text 100 value → length text ≤ 9000 → IsBytes text → IsLinkPacket text h.nack h.fragment
-is_link text value f h outer short fits = record { value = value; headers = h.headers; outer = outer; inner = h.inner; allowed = h.allowed; once = h.once; nacked = h.nacked; short = short; octets = fits }
+is_link : (text value : List ℕ) (f : PlainFramed) (h : LinkValue value f) → IsElement text 100 value → length text ≤ 9000 → IsBytes text → IsLinkPacket text h.token h.nack h.fragment
+is_link text value f h outer short fits = record { value = value; headers = h.headers; outer = outer; inner = h.inner; allowed = h.allowed; once = h.once; tokened = h.tokened; nacked = h.nacked; short = short; octets = fits }
 
-alone_is : (text : List ℕ) (f : PlainFrame) → IsPacketOf text f → IsFrame text f
-alone_is text f (inl i) = subst (IsFrame text) i.2 (i.1, inl refl)
-alone_is text f (inr d) = subst (IsFrame text) d.2 (d.1, inl refl)
+alone_is : (text : List ℕ) (f : PlainFrame) → IsPacketOf text f → IsFrameWith text None f
+alone_is text f (inl i) = subst (IsFrameWith text None) i.2 (i.1, inl (refl, refl))
+alone_is text f (inr d) = subst (IsFrameWith text None) d.2 (d.1, inl (refl, refl))
 
-linked_is : (text : List ℕ) (nack : Option ℕ) (fragment : Option (List ℕ)) (f : PlainFrame) → MayBeBytes fragment → held nack fragment ≡ Ok f → IsLinkPacket text nack fragment → IsFrame text f
-linked_is text None None f fits e link = subst (IsFrame text) (ok_is Idle f e) link
-linked_is text (Some reason) None f fits e link = absurd (err_is_not_ok _ f e)
-linked_is text None (Some whole) f fits e link =
-    let o = bind_ok (only_element whole) (packet_of whole) f e in
-    elim (packet_found whole o.0 f fits (only_found whole o.0 fits o.1) o.2) [
-      | inl i ↦ subst (IsFrame text) i.2 (i.1, inr link)
-      | inr d ↦ subst (IsFrame text) d.2 (d.1, inr link)
-    ]
-linked_is text (Some reason) (Some whole) f fits e link =
-    let o = bind_ok (only_element whole) (nacked_of reason whole) f e in
-    let i = nacked_found reason whole o.0 f fits (only_found whole o.0 fits o.1) o.2 in
-    subst (IsFrame text) i.2 (i.1, link)
+linked_is : (text : List ℕ) (token : Option (List ℕ)) (nack : Option ℕ) (fragment : Option (List ℕ)) (f : PlainFramed) → MayBeBytes fragment → held token nack fragment ≡ Ok f → IsLinkPacket text token nack fragment → IsFramed text f
+linked_is text token None None f fits e link = subst (IsFramed text) (ok_is (framed_with token Idle) f e) link
+linked_is text token (Some reason) None f fits e link = absurd (err_is_not_ok _ f e)
+linked_is text token None (Some whole) f fits e link =
+    let b = bind_ok (only_element whole >>= packet_of whole) (λ frame. good (framed_with token frame)) f e in
+    let o = bind_ok (only_element whole) (packet_of whole) b.0 b.1 in
+    subst (IsFramed text) (ok_is (framed_with token b.0) f b.2) (elim (packet_found whole o.0 b.0 fits (only_found whole o.0 fits o.1) o.2) [
+      | inl i ↦ subst (IsFrameWith text token) i.2 (i.1, inr link)
+      | inr d ↦ subst (IsFrameWith text token) d.2 (d.1, inr link)
+    ])
+linked_is text token (Some reason) (Some whole) f fits e link =
+    let b = bind_ok (only_element whole >>= nacked_of reason whole) (λ frame. good (framed_with token frame)) f e in
+    let o = bind_ok (only_element whole) (nacked_of reason whole) b.0 b.1 in
+    let i = nacked_found reason whole o.0 b.0 fits (only_found whole o.0 fits o.1) o.2 in
+    subst (IsFramed text) (ok_is (framed_with token b.0) f b.2) (subst (IsFrameWith text token) i.2 (i.1, link))
 
-pub frame_found : (text : List ℕ) (f : PlainFrame) → IsBytes text → frame_at text ≡ Ok f → IsFrame text f
-unfolding frame_at
-frame_found text f fits e =
+pub framed_found : (text : List ℕ) (f : PlainFramed) → IsBytes text → framed_at text ≡ Ok f → IsFramed text f
+unfolding framed_at
+framed_found text f fits e =
     let a = guard_ok (ltb 9000 (length text)) TooLong (only_element text >>= outer_of text) f e in
     let o = bind_ok (only_element text) (outer_of text) f a.1 in
     let own = only_found text o.0 fits o.1 in
@@ -119,29 +121,69 @@ frame_found text f fits e =
       | inl is ↦
           let outer = subst (λ (k : ℕ). IsElement text k o.0.1) is own in
           let h = link_found o.0.1 f (IsBytes-inside text o.0.1 100 fits outer) (subst (λ (k : ℕ). outer_of text (k, o.0.1) ≡ Ok f) is o.2) in
-          linked_is text h.nack h.fragment f h.fits h.holds (is_link text o.0.1 f h outer (ltb-false _ _ a.0) fits)
-      | inr other ↦ alone_is text f (packet_found text o.0 f fits own (rw (ne_eqb o.0.0 100 other) at o.2))
+          linked_is text h.token h.nack h.fragment f h.fits h.holds (is_link text o.0.1 f h outer (ltb-false _ _ a.0) fits)
+      | inr other ↦
+          let b = bind_ok (packet_of text o.0) (λ frame. good (framed_with None frame)) f (rw (ne_eqb o.0.0 100 other) at o.2) in
+          subst (IsFramed text) (ok_is (framed_with None b.0) f b.2) (alone_is text b.0 (packet_found text o.0 b.0 fits own b.1))
     ]
 
-link_again_in : (text : List ℕ) (nack : Option ℕ) (fragment : Option (List ℕ)) (f : PlainFrame) → IsLinkPacket text nack fragment → held nack fragment ≡ Ok f → frame_at text ≡ Ok f
+link_again_in : (text : List ℕ) (token : Option (List ℕ)) (nack : Option ℕ) (fragment : Option (List ℕ)) (f : PlainFramed) → IsLinkPacket text token nack fragment → held token nack fragment ≡ Ok f → framed_at text ≡ Ok f
+unfolding framed_at
+link_again_in text token nack fragment f h holds =
+    rw (le-ltb 9000 (length text) h.short, only_again text h.value 100 h.outer) (link_again text token nack fragment f h holds)
+
+interest_alone_again : (whole : List ℕ) (i : PlainInterest) → IsInterest whole i → framed_at whole ≡ Ok (framed_with None (AnInterest whole i))
+unfolding framed_at
+interest_alone_again whole i h = rw (le-ltb 9000 (length whole) (omega (arith, h.fields.short)), only_again whole h.fields.value 5 h.fields.outer, interest_of_again whole i h) refl
+
+data_alone_again : (whole : List ℕ) (d : PlainData) → IsData whole d → framed_at whole ≡ Ok (framed_with None (AData whole d))
+unfolding framed_at
+data_alone_again whole d h = rw (le-ltb 9000 (length whole) (omega (arith, h.fields.short)), only_again whole h.fields.value 6 h.fields.outer, data_of_again whole d h) refl
+
+again_with : (text : List ℕ) (token : Option (List ℕ)) (f : PlainFrame) → IsFrameWith text token f → framed_at text ≡ Ok (framed_with token f)
+again_with text token (AnInterest whole i) (h, inl same) =
+    ap framed_at same.0 ∙ (interest_alone_again whole i h ∙ ap (λ (t : Option (List ℕ)). good (framed_with t (AnInterest whole i))) (sym same.1))
+again_with text token (AnInterest whole i) (h, inr link) =
+    link_again_in text token None (Some whole) (framed_with token (AnInterest whole i)) link (rw (only_again whole h.fields.value 5 h.fields.outer, interest_of_again whole i h) refl)
+again_with text token (AData whole d) (h, inl same) =
+    ap framed_at same.0 ∙ (data_alone_again whole d h ∙ ap (λ (t : Option (List ℕ)). good (framed_with t (AData whole d))) (sym same.1))
+again_with text token (AData whole d) (h, inr link) =
+    link_again_in text token None (Some whole) (framed_with token (AData whole d)) link (rw (only_again whole h.fields.value 6 h.fields.outer, data_of_again whole d h) refl)
+again_with text token (ANack reason whole i) h =
+    link_again_in text token (Some reason) (Some whole) (framed_with token (ANack reason whole i)) h.1 (rw (only_again whole h.0.fields.value 5 h.0.fields.outer, interest_of_again whole i h.0) refl)
+again_with text token Idle h = link_again_in text token None None (framed_with token Idle) h refl
+
+pub framed_again : (text : List ℕ) (f : PlainFramed) → IsFramed text f → framed_at text ≡ Ok f
+framed_again text f h = again_with text f.token f.frame h
+
+-- the frame of it
+
+pub frame_of_framed : (text : List ℕ) (f : PlainFramed) → framed_at text ≡ Ok f → frame_at text ≡ Ok f.frame
 unfolding frame_at
-link_again_in text nack fragment f h holds =
-    rw (le-ltb 9000 (length text) h.short, only_again text h.value 100 h.outer) (link_again text nack fragment f h holds)
+frame_of_framed text f e = rw e refl
+
+pub token_of_framed : (text : List ℕ) (f : PlainFramed) → framed_at text ≡ Ok f → token_at text ≡ f.token
+unfolding token_at
+token_of_framed text f e = rw e refl
+
+pub framed_of_frame : (text : List ℕ) (f : PlainFrame) → frame_at text ≡ Ok f → (token : Option (List ℕ)) × (framed_at text ≡ Ok (framed_with token f))
+unfolding frame_at
+framed_of_frame text f e =
+    let b = bind_ok (framed_at text) (λ framed. good framed.frame) f e in
+    (b.0.token, b.1 ∙ ap (λ (g : PlainFrame). good (framed_with b.0.token g)) (ok_is b.0.frame f b.2))
+
+pub frame_found : (text : List ℕ) (f : PlainFrame) → IsBytes text → frame_at text ≡ Ok f → IsFrame text f
+frame_found text f fits e =
+    let t = framed_of_frame text f e in
+    (t.0, framed_found text (framed_with t.0 f) fits t.1)
 
 pub frame_again : (text : List ℕ) (f : PlainFrame) → IsFrame text f → frame_at text ≡ Ok f
-unfolding frame_at
-frame_again text (AnInterest whole i) (h, inl same) =
-    rw (same, le-ltb 9000 (length whole) (omega (arith, h.fields.short)), only_again whole h.fields.value 5 h.fields.outer, interest_of_again whole i h) refl
-frame_again text (AnInterest whole i) (h, inr link) =
-    link_again_in text None (Some whole) (AnInterest whole i) link (rw (only_again whole h.fields.value 5 h.fields.outer, interest_of_again whole i h) refl)
-frame_again text (AData whole d) (h, inl same) =
-    rw (same, le-ltb 9000 (length whole) (omega (arith, h.fields.short)), only_again whole h.fields.value 6 h.fields.outer, data_of_again whole d h) refl
-frame_again text (AData whole d) (h, inr link) =
-    link_again_in text None (Some whole) (AData whole d) link (rw (only_again whole h.fields.value 6 h.fields.outer, data_of_again whole d h) refl)
-frame_again text (ANack reason whole i) h =
-    link_again_in text (Some reason) (Some whole) (ANack reason whole i) h.1 (rw (only_again whole h.0.fields.value 5 h.0.fields.outer, interest_of_again whole i h.0) refl)
-frame_again text Idle h = link_again_in text None None Idle h refl
+frame_again text f h = frame_of_framed text (framed_with h.0 f) (again_with text h.0 f h.1)
 
 pub found_from : {X : Type 0} (view : X → PlainFrame) (text : List ℕ) (r : Result X PacketFault) → IsBytes text → on_result (λ x. good (view x)) (λ f. Err f) r ≡ frame_at text → IfOk r (λ x. IsFrame text (view x))
 found_from view text (Ok x) fits e = frame_found text (view x) fits (sym e)
 found_from view text (Err f) fits e = tt
+
+pub framed_from : {X : Type 0} (view : X → PlainFramed) (text : List ℕ) (r : Result X PacketFault) → IsBytes text → on_result (λ x. good (view x)) (λ f. Err f) r ≡ framed_at text → IfOk r (λ x. IsFramed text (view x))
+framed_from view text (Ok x) fits e = framed_found text (view x) fits (sym e)
+framed_from view text (Err f) fits e = tt

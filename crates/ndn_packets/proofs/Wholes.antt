@@ -5,9 +5,10 @@ use Rattle.ndn_tlv.specs.declared.fault.TlvFault.{TlvFault}
 use Rattle.ndn_tlv.specs.Element.{Field}
 use Rattle.ndn_tlv.specs.Reading.{◌>>=◌, elements_of}
 use Rattle.ndn_packets.specs.declared.fault.PacketFault.TheVariants.{BadField, TooLong}
-use Rattle.ndn_packets.specs.Packet.{PlainInterest, PlainData, PlainFrame, AnInterest, AData, ANack, Idle}
+use Rattle.ndn_packets.specs.Packet.{PlainInterest, PlainData, PlainFrame, PlainFramed, framed_with, AnInterest, AData, ANack, Idle}
 use Rattle.ndn_packets.specs.Reading.{interest_at, data_at}
-use Rattle.ndn_packets.specs.FrameReading.{only_element, interest_of, data_of, packet_of, nacked_of, LinkSoFar, take_header, fragment_at, last_of, no_fragment, link_from, link_at, no_headers_yet, outer_of, frame_at}
+use Rattle.ndn_packets.specs.FrameReading.{only_element, interest_of, data_of, packet_of, nacked_of, LinkSoFar, take_header, fragment_at, last_of, no_fragment, link_from, link_at, no_headers_yet, outer_of, framed_at, frame_at}
+use Rattle.ndn_packets.proofs.Packets.{framed_of_frame}
 use Rattle.ndn_packets.proofs.Steps.{bind_ok, guard_ok, err_is_not_ok, ok_is}
 
 -- the frame is an Interest or a Data with these received octets
@@ -44,11 +45,11 @@ packet_holds text x f e =
     ] refl e
 
 packet_alone : (text : List ℕ) (f : PlainFrame) → (only_element text >>= packet_of text) ≡ Ok f → Holds f text × (frame_at text ≡ Ok f)
-unfolding frame_at
+unfolding frame_at framed_at
 packet_alone text f e =
     let b = bind_ok (only_element text) (packet_of text) f e in
     let h = packet_holds text b.0 f b.2 in
-    (h.0, rw (le-ltb 9000 (length text) (omega (arith, h.1)), b.1, h.2) b.2)
+    (h.0, rw (le-ltb 9000 (length text) (omega (arith, h.1)), b.1, h.2, b.2) refl)
 
 -- ---- a link packet
 
@@ -66,23 +67,23 @@ fragment_alone None text own f e h =
     subst (λ (t : List ℕ). frame_at t ≡ Ok f) (holds_one f text own p.0 h) p.1
 fragment_alone (Some reason) text own f e h = absurd (nack_holds reason text own f e h)
 
-last_is : (frame f : PlainFrame) (elements : List (Result Field TlvFault)) → last_of frame elements ≡ Ok f → frame ≡ f
-last_is frame f [] e = ok_is frame f e
-last_is frame f (Err t ∷ elements) e = absurd (err_is_not_ok _ f e)
-last_is frame f (Ok x ∷ elements) e = absurd (err_is_not_ok _ f e)
+last_is : (framed f : PlainFramed) (elements : List (Result Field TlvFault)) → last_of framed elements ≡ Ok f → framed ≡ f
+last_is framed f [] e = ok_is framed f e
+last_is framed f (Err t ∷ elements) e = absurd (err_is_not_ok _ f e)
+last_is framed f (Ok x ∷ elements) e = absurd (err_is_not_ok _ f e)
 
-nothing_held : (nack : Option ℕ) (own : List ℕ) (f : PlainFrame) → no_fragment nack ≡ Ok f → Holds f own → ⊥
-nothing_held None own f e h = subst (λ (g : PlainFrame). Holds g own) (sym (ok_is Idle f e)) h
-nothing_held (Some reason) own f e h = err_is_not_ok _ f e
+nothing_held : (token : Option (List ℕ)) (nack : Option ℕ) (own : List ℕ) (f : PlainFramed) → no_fragment token nack ≡ Ok f → Holds f.frame own → ⊥
+nothing_held token None own f e h = subst (λ (g : PlainFramed). Holds g.frame own) (sym (ok_is (framed_with token Idle) f e)) h
+nothing_held token (Some reason) own f e h = err_is_not_ok _ f e
 
-link_alone : (s : LinkSoFar) (elements : List (Result Field TlvFault)) (own : List ℕ) (f : PlainFrame) → link_from s elements ≡ Ok f → Holds f own → frame_at own ≡ Ok f
-link_alone s [] own f e h = absurd (nothing_held s.nack own f e h)
+link_alone : (s : LinkSoFar) (elements : List (Result Field TlvFault)) (own : List ℕ) (f : PlainFramed) → link_from s elements ≡ Ok f → Holds f.frame own → frame_at own ≡ Ok f.frame
+link_alone s [] own f e h = absurd (nothing_held s.token s.nack own f e h)
 link_alone s (Err t ∷ elements) own f e h = absurd (err_is_not_ok _ f e)
 link_alone s (Ok x ∷ elements) own f e h =
-    elim (eqb x.0 80) as (λ b. cond b (fragment_at s.nack x.1 >>= λ frame. last_of frame elements) (take_header s x >>= λ t. link_from t elements) ≡ Ok f → frame_at own ≡ Ok f) [
+    elim (eqb x.0 80) as (λ b. cond b (fragment_at s.nack x.1 >>= λ frame. last_of (framed_with s.token frame) elements) (take_header s x >>= λ t. link_from t elements) ≡ Ok f → frame_at own ≡ Ok f.frame) [
       | true ↦ λ e.
-          let b = bind_ok (fragment_at s.nack x.1) (λ frame. last_of frame elements) f e in
-          let same = last_is b.0 f elements b.2 in
+          let b = bind_ok (fragment_at s.nack x.1) (λ frame. last_of (framed_with s.token frame) elements) f e in
+          let same : b.0 ≡ f.frame = ap (λ (g : PlainFramed). g.frame) (last_is (framed_with s.token b.0) f elements b.2) in
           subst (λ (g : PlainFrame). frame_at own ≡ Ok g) same (fragment_alone s.nack x.1 own b.0 b.1 (subst (λ (g : PlainFrame). Holds g own) (sym same) h))
       | false ↦ λ e.
           let b = bind_ok (take_header s x) (λ t. link_from t elements) f e in
@@ -91,17 +92,24 @@ link_alone s (Ok x ∷ elements) own f e h =
 
 -- ---- a frame
 
-frame_alone : (text own : List ℕ) (f : PlainFrame) → frame_at text ≡ Ok f → Holds f own → frame_at own ≡ Ok f
-unfolding frame_at link_at
-frame_alone text own f e h =
+framed_alone : (text own : List ℕ) (f : PlainFramed) → framed_at text ≡ Ok f → Holds f.frame own → frame_at own ≡ Ok f.frame
+unfolding framed_at link_at
+framed_alone text own f e h =
     let g = guard_ok (ltb 9000 (length text)) TooLong (only_element text >>= outer_of text) f e in
     let b = bind_ok (only_element text) (outer_of text) f g.1 in
-    elim (eqb b.0.0 100) as (λ t. cond t (link_at b.0.1) (packet_of text b.0) ≡ Ok f → frame_at own ≡ Ok f) [
+    elim (eqb b.0.0 100) as (λ t. cond t (link_at b.0.1) (packet_of text b.0 >>= λ frame. Ok (framed_with None frame)) ≡ Ok f → frame_at own ≡ Ok f.frame) [
       | true ↦ λ e. link_alone no_headers_yet (elements_of b.0.1) own f e h
       | false ↦ λ e.
-          let p = packet_alone text f (rw (b.1) e) in
-          subst (λ (t : List ℕ). frame_at t ≡ Ok f) (holds_one f text own p.0 h) p.1
+          let q = bind_ok (packet_of text b.0) (λ frame. Ok (framed_with None frame)) f e in
+          let same : q.0 ≡ f.frame = ap (λ (g : PlainFramed). g.frame) (ok_is (framed_with None q.0) f q.2) in
+          let p = packet_alone text f.frame (rw (b.1) (q.1 ∙ ap (λ (g : PlainFrame). Ok g) same)) in
+          subst (λ (t : List ℕ). frame_at t ≡ Ok f.frame) (holds_one f.frame text own p.0 h) p.1
     ] b.2
+
+frame_alone : (text own : List ℕ) (f : PlainFrame) → frame_at text ≡ Ok f → Holds f own → frame_at own ≡ Ok f
+frame_alone text own f e h =
+    let t = framed_of_frame text f e in
+    framed_alone text own (framed_with t.0 f) t.1 h
 
 pub interest_alone : (text whole : List ℕ) (i : PlainInterest) → frame_at text ≡ Ok (AnInterest whole i) → frame_at whole ≡ Ok (AnInterest whole i)
 interest_alone text whole i e = frame_alone text whole (AnInterest whole i) e refl

@@ -6,7 +6,7 @@ use Rattle.ndn_tlv.specs.Element.{Field}
 use Rattle.ndn_tlv.specs.Reading.{◌>>=◌, on_result, element_at, elements_of}
 use Rattle.ndn_packets.specs.declared.fault.PacketFault.{PacketFault}
 use Rattle.ndn_packets.specs.declared.fault.PacketFault.TheVariants.{Tlv, BadField, Fragmented, LpField, TooLong}
-use Rattle.ndn_packets.specs.Packet.{PlainInterest, PlainData, PlainFrame, AnInterest, AData, ANack, Idle}
+use Rattle.ndn_packets.specs.Packet.{PlainInterest, PlainData, PlainFrame, PlainFramed, framed_with, AnInterest, AData, ANack, Idle}
 use Rattle.ndn_packets.specs.Link.{is_ignored_header, nack_schema}
 use Rattle.ndn_packets.specs.Fields.{is_even_high}
 use Rattle.ndn_packets.specs.Reading.{fields_from, read_fields, is_nil, nni_value_at, interest_at, data_at}
@@ -50,12 +50,12 @@ unfoldable pub nack_at : List ℕ → Result ℕ PacketFault
 nack_at value =
     read_fields take_nack_field 0 (fields_from is_even_high nack_schema (elements_of value))
 
--- of header fields: which ones have been met, and the Nack's reason
+-- of header fields: which ones have been met, the token, and the Nack's reason
 pub record LinkSoFar : Type 0 where
   pub sequence : Bool
   pub frag_index : Bool
   pub frag_count : Bool
-  pub pit_token : Bool
+  pub token : Option (List ℕ)
   pub nack : Option ℕ
 
 abbrev pub no_headers_yet : LinkSoFar
@@ -63,7 +63,7 @@ no_headers_yet = record {
   sequence = false;
   frag_index = false;
   frag_count = false;
-  pit_token = false;
+  token = None;
   nack = None;
 }
 
@@ -77,7 +77,7 @@ is_refused_header s h =
     if h.0 == SEQUENCE then s.sequence else (
     if h.0 == FRAG_INDEX then s.frag_index else (
     if h.0 == FRAG_COUNT then s.frag_count else (
-    if h.0 == PIT_TOKEN then (s.pit_token || not (is_token h.1)) else (
+    if h.0 == PIT_TOKEN then (is_some s.token || not (is_token h.1)) else (
     if h.0 == NACK then is_some s.nack else
     not (is_ignored_header h.0)))))
 
@@ -91,7 +91,7 @@ with_header s h =
     if h.0 == SEQUENCE then Ok (record s { sequence = true }) else (
     if h.0 == FRAG_INDEX then at_most 0 h.1 (record s { frag_index = true }) else (
     if h.0 == FRAG_COUNT then at_most 1 h.1 (record s { frag_count = true }) else (
-    if h.0 == PIT_TOKEN then Ok (record s { pit_token = true }) else (
+    if h.0 == PIT_TOKEN then Ok (record s { token = Some h.1 }) else (
     if h.0 == NACK then (nack_at h.1 >>= λ reason. Ok (record s { nack = Some reason })) else
     Ok s))))
 
@@ -104,33 +104,59 @@ fragment_at None text = only_element text >>= packet_of text
 fragment_at (Some reason) text = only_element text >>= nacked_of reason text
 
 -- nothing may follow a Fragment
-abbrev pub last_of : PlainFrame → List (Result Field TlvFault) → Result PlainFrame PacketFault
-last_of frame [] = Ok frame
-last_of frame (Err f ∷ elements) = Err (Tlv f)
-last_of frame (Ok e ∷ elements) = Err LpField
+abbrev pub last_of : PlainFramed → List (Result Field TlvFault) → Result PlainFramed PacketFault
+last_of framed [] = Ok framed
+last_of framed (Err f ∷ elements) = Err (Tlv f)
+last_of framed (Ok e ∷ elements) = Err LpField
 
 -- a link packet without a Fragment
-abbrev pub no_fragment : Option ℕ → Result PlainFrame PacketFault
-no_fragment None = Ok Idle
-no_fragment (Some reason) = Err BadField
+abbrev pub no_fragment : Option (List ℕ) → Option ℕ → Result PlainFramed PacketFault
+no_fragment token None = Ok (framed_with token Idle)
+no_fragment token (Some reason) = Err BadField
 
 -- what a link packet holds, after these header fields
-abbrev pub link_from : LinkSoFar → List (Result Field TlvFault) → Result PlainFrame PacketFault
-link_from s [] = no_fragment s.nack
+abbrev pub link_from : LinkSoFar → List (Result Field TlvFault) → Result PlainFramed PacketFault
+link_from s [] = no_fragment s.token s.nack
 link_from s (Err f ∷ elements) = Err (Tlv f)
 link_from s (Ok e ∷ elements) =
-    if e.0 == FRAGMENT then (fragment_at s.nack e.1 >>= λ frame. last_of frame elements) else
-    (take_header s e >>= λ t. link_from t elements)
+    if e.0 == FRAGMENT
+    then (fragment_at s.nack e.1 >>= λ frame. last_of (framed_with s.token frame) elements)
+    else (take_header s e >>= λ t. link_from t elements)
 
-unfoldable pub link_at : List ℕ → Result PlainFrame PacketFault
+unfoldable pub link_at : List ℕ → Result PlainFramed PacketFault
 link_at value = link_from no_headers_yet (elements_of value)
 
 -- ---- frames
 
 -- what these octets hold, which are this element
-abbrev pub outer_of : List ℕ → Field → Result PlainFrame PacketFault
-outer_of text outer = if outer.0 == LINK_PACKET then link_at outer.1 else packet_of text outer
+abbrev pub outer_of : List ℕ → Field → Result PlainFramed PacketFault
+outer_of text outer =
+    if outer.0 == LINK_PACKET then link_at outer.1
+    else (packet_of text outer >>= λ frame. Ok (framed_with None frame))
+
+unfoldable pub framed_at : List ℕ → Result PlainFramed PacketFault
+framed_at text =
+    if nat_lt 9000 (length text) then Err TooLong else (only_element text >>= outer_of text)
 
 unfoldable pub frame_at : List ℕ → Result PlainFrame PacketFault
-frame_at text =
-    if nat_lt 9000 (length text) then Err TooLong else (only_element text >>= outer_of text)
+frame_at text = framed_at text >>= λ framed. Ok framed.frame
+
+-- the token beside a frame, none where there is no frame
+unfoldable pub token_at : List ℕ → Option (List ℕ)
+token_at text = on_result (λ framed. framed.token) (λ _. None) (framed_at text)
+
+-- ---- the packet that octets of a link carry, read or not
+
+-- the value of the first Fragment among elements, else these octets
+abbrev pub first_fragment : List ℕ → List (Result Field TlvFault) → List ℕ
+first_fragment text [] = text
+first_fragment text (Err f ∷ elements) = text
+first_fragment text (Ok e ∷ elements) =
+    if e.0 == FRAGMENT then e.1 else first_fragment text elements
+
+-- that of a link packet, else the octets themselves
+unfoldable pub packet_in : List ℕ → List ℕ
+packet_in text =
+    on_result
+    (λ outer. if outer.0 == LINK_PACKET then first_fragment text (elements_of outer.1) else text)
+    (λ _. text) (only_element text)

@@ -4,7 +4,7 @@ use Rattle.std.specs.Prelude.{◌≡◌, ℕ, ◌<◌, ◌≤◌, ◌⊎◌, ◌
 use Rattle.std.specs.List.{AllByRecursion}
 use Rattle.ndn_tlv.specs.Number.{IsNni}
 use Rattle.ndn_tlv.specs.Element.{Field, IsElement, IsElements}
-use Rattle.ndn_packets.specs.Packet.{PlainFrame, AnInterest, AData, ANack, Idle}
+use Rattle.ndn_packets.specs.Packet.{PlainFrame, PlainFramed, AnInterest, AData, ANack, Idle}
 use Rattle.ndn_tlv.specs.Writing.{optional}
 use Rattle.ndn_packets.specs.Fields.{Fields, is_even_high}
 use Rattle.ndn_packets.specs.Grammar.{IsNumber, IsInterest, IsData}
@@ -29,14 +29,17 @@ pub record IsNack (text : List ℕ) (reason : ℕ) : Type 0 where
   pub recognised : Fields is_even_high nack_schema elements (optional NACK_REASON reason_value)
   pub number : (n : Option ℕ) × IsNumber reason_value n × (reason ≡ unwrap_or n 0)
 
--- What a header field may be. The packet is one fragment of one, and a token has from 1 to 32
--- octets.
+-- a PIT token has from 1 to 32 octets
+abbrev pub IsToken : List ℕ → Type 0
+IsToken token = (1 ≤ length token) × (length token ≤ 32)
+
+-- What a header field may be. The packet is one fragment of one.
 abbrev pub IsHeader : Field → Type 0
 IsHeader h =
     (h.0 ≡ SEQUENCE)
     ⊎ (((h.0 ≡ FRAG_INDEX) × IsNni h.1 0)
     ⊎ (((h.0 ≡ FRAG_COUNT) × ((n : ℕ) × IsNni h.1 n × (n ≤ 1)))
-    ⊎ (((h.0 ≡ PIT_TOKEN) × (1 ≤ length h.1) × (length h.1 ≤ 32))
+    ⊎ (((h.0 ≡ PIT_TOKEN) × IsToken h.1)
     ⊎ (((h.0 ≡ NACK) × ((reason : ℕ) × IsNack h.1 reason))
     ⊎ (is_ignored_header h.0 ≡ true)))))
 
@@ -50,8 +53,12 @@ IsNackOf headers None = headers_of NACK headers ≡ []
 IsNackOf headers (Some reason) =
     (value : List ℕ) × (headers_of NACK headers ≡ (NACK, value) ∷ []) × IsNack value reason
 
+-- the PIT token among header fields, if one is there
+abbrev pub IsTokenOf : List Field → Option (List ℕ) → Type 0
+IsTokenOf headers token = headers_of PIT_TOKEN headers ≡ optional PIT_TOKEN token
+
 -- LpPacket: header fields in any order, each known one once at most, and then at most one Fragment
-pub record IsLinkPacket (text : List ℕ) (nack : Option ℕ)
+pub record IsLinkPacket (text : List ℕ) (token : Option (List ℕ)) (nack : Option ℕ)
     (fragment : Option (List ℕ)) : Type 0 where
   pub value : List ℕ
   pub headers : List Field
@@ -59,17 +66,27 @@ pub record IsLinkPacket (text : List ℕ) (nack : Option ℕ)
   pub inner : IsElements value (headers ++ optional FRAGMENT fragment)
   pub allowed : AllByRecursion IsHeader headers
   pub once : AllByRecursion (λ kind. length (headers_of kind headers) ≤ 1) known_headers
+  pub tokened : IsTokenOf headers token
   pub nacked : IsNackOf headers nack
   pub short : length text ≤ 9000
   pub octets : (i : ℕ) → slice_index text i < 256
 
--- A frame is a packet, or a link packet around one; around an Interest, with a Nack or without; or
--- one with neither Fragment nor Nack.
+-- A frame with a token or without one is a packet, which has none; or a link packet around one;
+-- around an Interest, with a Nack or without; or one with neither Fragment nor Nack.
+abbrev pub IsFrameWith : List ℕ → Option (List ℕ) → PlainFrame → Type 0
+IsFrameWith text token (AnInterest whole i) =
+    IsInterest whole i
+    × (((text ≡ whole) × (token ≡ None)) ⊎ IsLinkPacket text token None (Some whole))
+IsFrameWith text token (AData whole d) =
+    IsData whole d
+    × (((text ≡ whole) × (token ≡ None)) ⊎ IsLinkPacket text token None (Some whole))
+IsFrameWith text token (ANack reason whole i) =
+    IsInterest whole i × IsLinkPacket text token (Some reason) (Some whole)
+IsFrameWith text token Idle = IsLinkPacket text token None None
+
+abbrev pub IsFramed : List ℕ → PlainFramed → Type 0
+IsFramed text framed = IsFrameWith text framed.token framed.frame
+
+-- with any token or none
 abbrev pub IsFrame : List ℕ → PlainFrame → Type 0
-IsFrame text (AnInterest whole i) =
-    IsInterest whole i × ((text ≡ whole) ⊎ IsLinkPacket text None (Some whole))
-IsFrame text (AData whole d) =
-    IsData whole d × ((text ≡ whole) ⊎ IsLinkPacket text None (Some whole))
-IsFrame text (ANack reason whole i) =
-    IsInterest whole i × IsLinkPacket text (Some reason) (Some whole)
-IsFrame text Idle = IsLinkPacket text None None
+IsFrame text frame = (token : Option (List ℕ)) × IsFrameWith text token frame

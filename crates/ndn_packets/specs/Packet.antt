@@ -1,5 +1,5 @@
 -- Packets as plain data, without where they lie in memory.
-use Rattle.std.specs.Prelude.{ℕ, List, Option, Bool, filter, ◌==◌}
+use Rattle.std.specs.Prelude.{ℕ, List, Option, None, Some, Bool, filter, ◌==◌}
 use Rattle.ndn_tlv.specs.Element.{Field}
 use Rattle.ndn_names.specs.declared.component_type.TheConstants.{PARAMETERS_SHA256_DIGEST}
 use Rattle.ndn_names.specs.View.{components}
@@ -49,6 +49,19 @@ pub data PlainFrame : Type 0 where
   AData : (whole : List ℕ) (packet : PlainData) → PlainFrame
   ANack : (reason : ℕ) (whole : List ℕ) (interest : PlainInterest) → PlainFrame
   Idle : PlainFrame
+
+-- a frame, and the PIT token beside it, if one is there
+pub record PlainFramed : Type 0 where
+  pub token : Option (List ℕ)
+  pub frame : PlainFrame
+
+abbrev pub framed_with : Option (List ℕ) → PlainFrame → PlainFramed
+framed_with token frame = record { token = token; frame = frame }
+
+-- an Interest, with a Nack of a reason or without one
+abbrev pub interest_frame : Option ℕ → List ℕ → PlainInterest → PlainFrame
+interest_frame None whole i = AnInterest whole i
+interest_frame (Some reason) whole i = ANack reason whole i
 
 -- the components of a name that are digests of parameters
 abbrev pub digests_in : List Field → List Field

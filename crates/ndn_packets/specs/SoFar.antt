@@ -14,7 +14,7 @@ link_so_far h = record {
   sequence = h.sequence;
   frag_index = h.frag_index;
   frag_count = h.frag_count;
-  pit_token = h.pit_token;
+  token = option_map (λ t. t.now) h.token;
   nack = h.nack;
 }
 

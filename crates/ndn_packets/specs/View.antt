@@ -5,7 +5,8 @@ use Rattle.ndn_packets.specs.declared.interest.Interest.{Interest}
 use Rattle.ndn_packets.specs.declared.data.Data.{Data}
 use Rattle.ndn_packets.specs.declared.frame.Frame.{Frame}
 use Rattle.ndn_packets.specs.declared.frame.Frame.TheVariants as frames
-use Rattle.ndn_packets.specs.Packet.{PlainInterest, PlainData, PlainFrame, AnInterest, AData, ANack, Idle, plain_signature}
+use Rattle.ndn_packets.specs.declared.frame.Framed.{Framed}
+use Rattle.ndn_packets.specs.Packet.{PlainInterest, PlainData, PlainFrame, PlainFramed, AnInterest, AData, ANack, Idle, plain_signature}
 use Rattle.ndn_packets.specs.Grammar.{IsInterest, IsData}
 
 abbrev pub plain_interest : Interest → PlainInterest
@@ -33,6 +34,9 @@ plain_frame (frames.Interest i) = AnInterest i.whole.now (plain_interest i)
 plain_frame (frames.Data d) = AData d.whole.now (plain_data d)
 plain_frame (frames.Nack reason i) = ANack reason i.whole.now (plain_interest i)
 plain_frame frames.Idle = Idle
+
+abbrev pub plain_framed : Framed → PlainFramed
+plain_framed f = record { token = option_map (λ t. t.now) f.token; frame = plain_frame f.frame }
 
 -- The received octets are this Interest, and this Data. Every one in hand is so: it was read.
 abbrev pub IsReadInterest : Interest → Type 0

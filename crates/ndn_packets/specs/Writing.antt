@@ -1,5 +1,6 @@
 -- What writers write (NDN Packet Format 0.3, "Interest Packet", "Data Packet", "Signature", "Signed
--- Interest"; NDNLPv2, "Network Nack"): the fields that are asked for, each in its shortest form.
+-- Interest"; NDNLPv2, "Network Nack", "PIT Token"): the fields that are asked for, each in its
+-- shortest form.
 use Rattle.std.specs.Prelude.{◌≡◌, ℕ, ◌<◌, List, [], ◌∷◌, ◌++◌, ◌-◌, ◌^◌, min, length, replicate, Option, None, Some, IfSome, OnSome, slice_index, Bool, nat_lt, unwrap_or, ⊤, ◌||◌, not, if◌then◌else◌}
 use Rattle.std.specs.Option.{option_map}
 use Rattle.std.specs.Borrow.{Bor}
@@ -21,7 +22,7 @@ use Rattle.ndn_packets.specs.declared.data_writer.DataWriter.{DataWriter}
 use Rattle.ndn_packets.specs.Packet.{digests_in, PlainLocator, Missing, KeyName, PlainSignatureInfo, PlainInterest, PlainData, AnInterest, AData}
 use Rattle.ndn_packets.specs.Covered.{Covered}
 use Rattle.ndn_packets.specs.Reading.{is_nil}
-use Rattle.ndn_packets.specs.declared.types.TheConstants.{DIGEST_SHA256, HMAC_WITH_SHA256, APPLICATION_PARAMETERS, CAN_BE_PREFIX, CONTENT, DATA, FINAL_BLOCK_ID, FRAGMENT, FRESHNESS_PERIOD, HOP_LIMIT, INTEREST, INTEREST_LIFETIME, INTEREST_SIGNATURE_INFO, INTEREST_SIGNATURE_VALUE, KEY_LOCATOR, LINK_PACKET, META_INFO, MUST_BE_FRESH, NACK, NACK_REASON, NAME, NONCE, SIGNATURE_INFO, SIGNATURE_SEQ_NUM, SIGNATURE_TIME, SIGNATURE_TYPE, SIGNATURE_VALUE}
+use Rattle.ndn_packets.specs.declared.types.TheConstants.{DIGEST_SHA256, HMAC_WITH_SHA256, APPLICATION_PARAMETERS, CAN_BE_PREFIX, CONTENT, DATA, FINAL_BLOCK_ID, FRAGMENT, FRESHNESS_PERIOD, HOP_LIMIT, INTEREST, INTEREST_LIFETIME, INTEREST_SIGNATURE_INFO, INTEREST_SIGNATURE_VALUE, KEY_LOCATOR, LINK_PACKET, META_INFO, MUST_BE_FRESH, NACK, NACK_REASON, NAME, NONCE, PIT_TOKEN, SIGNATURE_INFO, SIGNATURE_SEQ_NUM, SIGNATURE_TIME, SIGNATURE_TYPE, SIGNATURE_VALUE}
 
 -- ---- signatures
 
@@ -253,6 +254,35 @@ nack_text reason interest =
       LINK_PACKET,
       octets ((NACK, octets ((NACK_REASON, shortest_nni reason) ∷ [])) ∷ (FRAGMENT, interest) ∷ []),
     )
+
+-- ---- link packets
+
+-- the header field of a Nack of this reason, if one is asked for
+abbrev pub nack_headers : Option ℕ → List Field
+nack_headers None = []
+nack_headers (Some reason) = (NACK, octets ((NACK_REASON, shortest_nni reason) ∷ [])) ∷ []
+
+-- a PIT token and a Nack of a reason, those of both that are asked for
+abbrev pub lp_headers : Option (List ℕ) → Option ℕ → List Field
+lp_headers token nack = optional PIT_TOKEN token ++ nack_headers nack
+
+-- a packet, in a link packet where there are header fields
+abbrev pub in_link : List Field → List ℕ → List ℕ
+in_link [] packet = packet
+in_link (h ∷ headers) packet =
+    element (LINK_PACKET, octets ((h ∷ headers) ++ (FRAGMENT, packet) ∷ []))
+
+-- a packet with these
+abbrev pub lp_text : Option (List ℕ) → Option ℕ → List ℕ → List ℕ
+lp_text token nack packet = in_link (lp_headers token nack) packet
+
+-- the value of a link packet with them, and the link packet, also where there is neither
+abbrev pub link_value : Option (List ℕ) → Option ℕ → List ℕ → List ℕ
+link_value token nack packet =
+    (octets (optional PIT_TOKEN token) ++ octets (nack_headers nack)) ++ element (FRAGMENT, packet)
+
+abbrev pub link_text : Option (List ℕ) → Option ℕ → List ℕ → List ℕ
+link_text token nack packet = element (LINK_PACKET, link_value token nack packet)
 
 -- ---- lengths
 

@@ -1,11 +1,12 @@
-ghost use Rattle.std.specs.Prelude.{◌≡◌, ◌↔◌, ◌<◌, ℕ, List, length, nat_lt, slice_index, Ok, Err, IfOk, IfErr};
+ghost use Rattle.std.specs.Prelude.{◌≡◌, ◌↔◌, ◌<◌, ℕ, List, length, nat_lt, slice_index, Ok, Err, IfOk, IfErr, IfSome};
+ghost use Rattle.std.specs.Option.{option_map};
 ghost use Rattle.ndn_tlv.specs.Reading.{on_result};
-ghost use Rattle.ndn_packets.specs.Packet.{PlainFrame};
-ghost use Rattle.ndn_packets.specs.View.{plain_frame, IsReadInterest, IsReadData};
+ghost use Rattle.ndn_packets.specs.Packet.{PlainFrame, PlainFramed};
+ghost use Rattle.ndn_packets.specs.View.{plain_frame, plain_framed, IsReadInterest, IsReadData};
 ghost use Rattle.ndn_packets.specs.declared.interest.Interest.{Interest};
 ghost use Rattle.ndn_packets.specs.declared.data.Data.{Data};
-ghost use Rattle.ndn_packets.specs.Link.{IsFrame};
-ghost use Rattle.ndn_packets.specs.FrameReading.{only_element, packet_of, nacked_of, frame_at};
+ghost use Rattle.ndn_packets.specs.Link.{IsFrame, IsFramed, IsToken};
+ghost use Rattle.ndn_packets.specs.FrameReading.{only_element, packet_of, nacked_of, framed_at, frame_at, token_at};
 ghost use Rattle.ndn_packets.specs.FrameFaults.{FaultOf};
 ghost use Rattle.ndn_packets.specs.declared.fault.PacketFault.{PacketFault};
 
@@ -35,6 +36,15 @@ pub enum Frame<'a> {
     Idle,
 }
 
+/// A frame, and the PIT token beside it: a view of octets of a link, which takes no memory.
+#[derive(Clone, Copy, Debug, PartialEq, Eq)]
+pub struct Framed<'a> {
+    /// The PIT token that a link packet carries, of 1 to 32 octets (NDNLPv2, "PIT Token").
+    pub token: Option<&'a [u8]>,
+    /// What the octets hold.
+    pub frame: Frame<'a>,
+}
+
 /// The greatest length of the octets of a link, in octets.
 pub const MAX_FRAME: usize = 9000;
 
@@ -49,7 +59,7 @@ pub const MAX_PACKET: usize = 8800;
 /// without the link packet's.
 ///
 /// Refuses all else with the first fault from the left: see `PacketFault`. No signature is
-/// verified, and a PitToken is read and dropped.
+/// verified, and a PIT token is read and dropped: `read_lp` tells it.
 pub fn read_frame(octets: &[u8]) -> Result<Frame<'_>, PacketFault>
     // What is read is in the grammar.
     ensures found { IfOk result (λ frame. IsFrame octets.now (plain_frame frame)) }
@@ -60,13 +70,36 @@ pub fn read_frame(octets: &[u8]) -> Result<Frame<'_>, PacketFault>
     ensures fault { IfErr result (FaultOf octets.now) }
     ensures exact { on_result (λ f. Ok (plain_frame f)) Err result ≡ frame_at octets.now }
 {
-    frame_of(octets)
+    Ok(read_lp(octets)?.frame)
 }
 
-#[tactic(auto, unfolding(crate::specs::FrameReading::frame_at))]
+/// Reads octets of a link as `read_frame` does, and tells the PIT token beside what they hold
+/// (NDNLPv2, "PIT Token"): 1 to 32 octets, which a link packet carries once at most and in any place
+/// among its header fields. A packet that stands alone has none. The token is a view of the octets,
+/// and nothing takes memory.
+///
+/// Refuses all else with the first fault from the left: see `PacketFault`. A token of another length
+/// and a second token are an `LpField`.
+pub fn read_lp(octets: &[u8]) -> Result<Framed<'_>, PacketFault>
+    // What is read is in the grammar.
+    ensures found { IfOk result (λ framed. IsFramed octets.now (plain_framed framed)) }
+    // What is in the grammar is read.
+    ensures only { (framed : PlainFramed) → IsFramed octets.now framed
+        → on_result (λ f. Ok (plain_framed f)) Err result ≡ Ok framed }
+    // Which fault it is.
+    ensures fault { IfErr result (FaultOf octets.now) }
+    ensures exact { on_result (λ f. Ok (plain_framed f)) Err result ≡ framed_at octets.now }
+    ensures frame { on_result (λ f. Ok (plain_frame f.frame)) Err result ≡ frame_at octets.now }
+    ensures token { IfOk result (λ f. option_map (λ t. t.now) f.token ≡ token_at octets.now) }
+    ensures sizes { IfOk result (λ f. IfSome f.token (λ t. IsToken t.now)) }
+{
+    framed_of(octets)
+}
+
+#[tactic(auto, unfolding(crate::specs::FrameReading::framed_at))]
 #[inline(always)]
-fn frame_of(octets: &[u8]) -> Result<Frame<'_>, PacketFault>
-    ensures { on_result (λ f. Ok (plain_frame f)) Err result ≡ frame_at octets.now }
+fn framed_of(octets: &[u8]) -> Result<Framed<'_>, PacketFault>
+    ensures { on_result (λ f. Ok (plain_framed f)) Err result ≡ framed_at octets.now }
 {
     if octets.len() > MAX_FRAME {
         return Err(PacketFault::TooLong);
@@ -75,7 +108,10 @@ fn frame_of(octets: &[u8]) -> Result<Frame<'_>, PacketFault>
     if outer.kind == LINK_PACKET {
         return read_link(outer.value);
     }
-    packet_of(outer)
+    Ok(Framed {
+        token: None,
+        frame: packet_of(outer)?,
+    })
 }
 
 /// The one element that the octets are.
@@ -126,11 +162,17 @@ pub(crate) fn nacked_of(reason: u64, outer: Element<'_>) -> Result<Frame<'_>, Pa
     Ok(Frame::Nack { reason, interest })
 }
 
-/// Law: octets are one frame at most, which `frame_at` reads.
+/// Law: octets are one frame at most, which `frame_at` reads, with one token or none, which
+/// `framed_at` reads with it.
 pub fn frames_have_one_reading()
     ensures one { (text : List ℕ) (a b : PlainFrame) → IsFrame text a → IsFrame text b → a ≡ b }
     ensures exact { (text : List ℕ) (frame : PlainFrame) → ((i : ℕ) → slice_index text i < 256)
         → ((frame_at text ≡ Ok frame) ↔ IsFrame text frame) }
+    ensures one_framed { (text : List ℕ) (a b : PlainFramed) → IsFramed text a → IsFramed text b
+        → a ≡ b }
+    ensures exact_framed { (text : List ℕ) (framed : PlainFramed)
+        → ((i : ℕ) → slice_index text i < 256)
+        → ((framed_at text ≡ Ok framed) ↔ IsFramed text framed) }
 {}
 
 /// Law: of octets that are no frame the first fault is told: that they are too long, then that of
@@ -141,7 +183,7 @@ pub fn frames_tell_the_first_fault()
 {}
 
 /// Law: the received octets of every Interest and every Data in hand are that packet, also where it
-/// stood in a link packet: only `read_frame` makes them.
+/// stood in a link packet: only `read_frame` and `read_lp` make them.
 pub fn packets_in_hand_are_read()
     ensures interest { (i : Interest) → IsReadInterest i }
     ensures data { (d : Data) → IsReadData d }

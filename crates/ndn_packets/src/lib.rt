@@ -29,14 +29,14 @@ pub use data_writer::{DataWriter, put_reply};
 pub use fault::{PacketFault, WriteFault};
 pub use field_reader::{fields_tell_the_first_fault, packets_tell_the_first_fault};
 pub use frame::{
-    Frame, MAX_FRAME, MAX_PACKET, frames_have_one_reading, frames_tell_the_first_fault,
-    packets_in_hand_are_read, read_frame,
+    Frame, Framed, MAX_FRAME, MAX_PACKET, frames_have_one_reading, frames_tell_the_first_fault,
+    packets_in_hand_are_read, read_frame, read_lp,
 };
 pub use full_name::FullName;
 pub use hop_limit::hop_limit_mut;
 pub use interest::Interest;
 pub use interest_writer::InterestWriter;
 pub use key::{Key, interest_keys_can_be_keys};
-pub use link::put_nack;
+pub use link::{put_lp, put_nack};
 pub use signature::{Locator, Sign, Signature};
 pub use types::{CONGESTION, DIGEST_SHA256, DUPLICATE, HMAC_WITH_SHA256, NO_ROUTE};

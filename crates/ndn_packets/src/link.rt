@@ -1,25 +1,25 @@
 //! Link packets (NDNLPv2, "Packet Format", "Fragmentation", "Network Nack", "PIT Token").
 
-ghost use Rattle.std.specs.Prelude.{◌≡◌, ◌+◌, ◌≤◌, ◌++◌, length, take, vec_len, Ok, Err, OnOk, OnErr, IsOk};
+ghost use Rattle.std.specs.Prelude.{◌≡◌, ◌+◌, ◌≤◌, ◌++◌, length, take, vec_len, Option, None, IfSome, Ok, Err, OnOk, OnErr, IsOk};
+ghost use Rattle.std.specs.Option.{option_map};
 ghost use Rattle.std.specs.Vec.{vec_capacity};
-ghost use Rattle.ndn_tlv.specs.Element.{element};
 ghost use Rattle.ndn_tlv.specs.Reading.{on_result, elements_of};
-ghost use Rattle.ndn_packets.specs.Packet.{PlainInterest, PlainFrame, ANack};
-ghost use Rattle.ndn_packets.specs.View.{plain_frame};
-ghost use Rattle.ndn_packets.specs.Grammar.{IsInterest};
-ghost use Rattle.ndn_packets.specs.Link.{IsFrame, is_ignored_header};
+ghost use Rattle.ndn_packets.specs.Packet.{PlainInterest, PlainData, PlainFramed, ANack, AData, framed_with, interest_frame};
+ghost use Rattle.ndn_packets.specs.View.{plain_frame, plain_framed};
+ghost use Rattle.ndn_packets.specs.Grammar.{IsInterest, IsData};
+ghost use Rattle.ndn_packets.specs.Link.{IsFrame, IsFramed, IsToken, is_ignored_header};
 ghost use Rattle.ndn_packets.specs.FrameReading.{LinkSoFar, at_most, nack_at, fragment_at, last_of, link_at};
-ghost use Rattle.ndn_tlv.specs.Writing.{Puts};
-ghost use Rattle.ndn_packets.specs.Writing.{nack_field, nack_text, IsLength};
+ghost use Rattle.ndn_tlv.specs.Writing.{Puts, octets, optional};
+ghost use Rattle.ndn_packets.specs.Writing.{nack_field, nack_text, nack_headers, lp_text, link_value, link_text, IsLength, AreOctets, IsU64};
 
 use crate::fault::PacketFault;
 use crate::field_reader::{FieldReader, number};
-use crate::frame::{Frame, nacked_of, only_element, packet_of};
+use crate::frame::{Frame, Framed, nacked_of, only_element, packet_of};
 use crate::schema::Rules;
 use crate::types::{
     FRAG_COUNT, FRAG_INDEX, FRAGMENT, LINK_PACKET, NACK, NACK_REASON, PIT_TOKEN, SEQUENCE,
 };
-use crate::writing::element_len;
+use crate::writing::{element_len, optional_len, put_optional};
 use ndn_tlv::{
     Element, Memory, first_element, nni_element_len, put_element, put_header, put_nni_element,
 };
@@ -30,31 +30,31 @@ const MAX_IGNORED: u32 = 959;
 /// The greatest length of a PitToken, in octets.
 const MAX_TOKEN: usize = 32;
 
-/// The header fields that were read so far: which of those that may stand once, and the reason of a
-/// Nack.
+/// The header fields that were read so far: which of those that may stand once, the PIT token, and
+/// the reason of a Nack.
 #[derive(Clone, Copy)]
-struct Headers {
+struct Headers<'a> {
     sequence: bool,
     frag_index: bool,
     frag_count: bool,
-    pit_token: bool,
+    token: Option<&'a [u8]>,
     nack: Option<u64>,
 }
 
-impl Headers {
+impl<'a> Headers<'a> {
     ghost use Rattle.std.specs.Prelude.{◌≡◌, Ok, Err};
     ghost use Rattle.ndn_tlv.specs.Reading.{on_result};
     ghost use Rattle.ndn_packets.specs.FrameReading.{no_headers_yet, is_refused_header, with_header};
     ghost use Rattle.ndn_packets.specs.SoFar.{link_so_far};
 
-    fn none() -> Headers
+    fn none() -> Headers<'a>
         ensures { link_so_far result ≡ no_headers_yet }
     {
         Headers {
             sequence: false,
             frag_index: false,
             frag_count: false,
-            pit_token: false,
+            token: None,
             nack: None,
         }
     }
@@ -62,22 +62,22 @@ impl Headers {
     /// Whether a header field may not stand after these.
     fn refuse(self, field: Element<'_>) -> bool
         ensures { result
-            ≡ is_refused_header (link_so_far self) (field.entry.kind, field.entry.value.now) }
+            ≡ is_refused_header (link_so_far self.entry) (field.entry.kind, field.entry.value.now) }
     {
         match field.kind {
             SEQUENCE => self.sequence,
             FRAG_INDEX => self.frag_index,
             FRAG_COUNT => self.frag_count,
-            PIT_TOKEN => self.pit_token || !(1..=MAX_TOKEN).contains(&field.value.len()),
+            PIT_TOKEN => self.token.is_some() || !(1..=MAX_TOKEN).contains(&field.value.len()),
             NACK => self.nack.is_some(),
             kind => !is_ignored_header(kind),
         }
     }
 
     /// These header fields and a further one that may stand after them.
-    fn with(self, field: Element<'_>) -> Result<Headers, PacketFault>
+    fn with(self, field: Element<'a>) -> Result<Headers<'a>, PacketFault>
         ensures { on_result (λ h. Ok (link_so_far h)) Err result
-            ≡ with_header (link_so_far self) (field.entry.kind, field.entry.value.now) }
+            ≡ with_header (link_so_far self.entry) (field.entry.kind, field.entry.value.now) }
     {
         let mut headers = self;
         match field.kind {
@@ -90,7 +90,7 @@ impl Headers {
                 check_at_most(1, field.value)?;
                 headers.frag_count = true;
             }
-            PIT_TOKEN => headers.pit_token = true,
+            PIT_TOKEN => headers.token = Some(field.value),
             NACK => headers.nack = Some(nack_reason(field.value)?),
             _ => {}
         }
@@ -130,8 +130,8 @@ fn nack_reason(value: &[u8]) -> Result<u64, PacketFault>
 
 #[tactic(auto, using(crate::proofs::Rules::no_elements), unfolding(crate::specs::FrameReading::link_at))]
 /// Reads the value of a link packet.
-pub(crate) fn read_link(value: &[u8]) -> Result<Frame<'_>, PacketFault>
-    ensures { on_result (λ f. Ok (plain_frame f)) Err result ≡ link_at value.now }
+pub(crate) fn read_link(value: &[u8]) -> Result<Framed<'_>, PacketFault>
+    ensures { on_result (λ f. Ok (plain_framed f)) Err result ≡ link_at value.now }
 {
     let mut headers = Headers::none();
     let mut rest = value;
@@ -140,7 +140,10 @@ pub(crate) fn read_link(value: &[u8]) -> Result<Frame<'_>, PacketFault>
         if field.kind == FRAGMENT {
             let frame = fragment_of(headers.nack, field.value)?;
             check_last(after)?;
-            return Ok(frame);
+            return Ok(Framed {
+                token: headers.token,
+                frame,
+            });
         }
         if headers.refuse(field) {
             return Err(PacketFault::LpField);
@@ -149,7 +152,10 @@ pub(crate) fn read_link(value: &[u8]) -> Result<Frame<'_>, PacketFault>
         rest = after;
     }
     match headers.nack {
-        None => Ok(Frame::Idle),
+        None => Ok(Framed {
+            token: headers.token,
+            frame: Frame::Idle,
+        }),
         Some(_) => Err(PacketFault::BadField),
     }
 }
@@ -168,14 +174,50 @@ fn fragment_of(nack: Option<u64>, fragment: &[u8]) -> Result<Frame<'_>, PacketFa
 #[tactic(auto, using(crate::proofs::Rules::no_elements))]
 /// Refuses octets after a Fragment.
 fn check_last(after: &[u8]) -> Result<(), PacketFault>
-    ensures { (frame : PlainFrame)
-        → on_result (λ _. Ok frame) Err result ≡ last_of frame (elements_of after.now) }
+    ensures { (framed : PlainFramed)
+        → on_result (λ _. Ok framed) Err result ≡ last_of framed (elements_of after.now) }
 {
     if after.is_empty() {
         return Ok(());
     }
     first_element(after).map_err(PacketFault::Tlv)?;
     Err(PacketFault::LpField)
+}
+
+/// Appends a packet with a PIT token and with a Nack of a reason, those of both that are given: a link
+/// packet (NDNLPv2, "PIT Token", "Network Nack"), or the packet alone where neither is given. The
+/// token is 1 to 32 octets. The NackReason is always written, 0 too. Where memory is refused, nothing
+/// is appended.
+pub fn put_lp(
+    out: &mut Vec<u8>,
+    token: Option<&[u8]>,
+    nack: Option<u64>,
+    packet: &[u8],
+) -> Result<(), Memory>
+    requires { IfSome token (λ t. IsToken t.now) }
+    ensures ok { OnOk result (out.new.items
+        ≡ out.old.items ++ lp_text (option_map (λ t. t.now) token.entry) nack packet.now) }
+    ensures err { OnErr result (out.new.items ≡ out.old.items) }
+    // Where there is room, memory is not refused.
+    ensures room { vec_len out.old
+        + length (lp_text (option_map (λ t. t.now) token.entry) nack packet.now)
+        ≤ vec_capacity out.old → IsOk result }
+    ensures capacity { vec_capacity out.old ≤ vec_capacity out.new }
+    // Around octets that are one Interest it is that Interest with the token and the Nack.
+    ensures reads_back { (i : PlainInterest) → IsInterest packet.now i
+        → IsFramed (lp_text (option_map (λ t. t.now) token.entry) nack packet.now)
+        (framed_with (option_map (λ t. t.now) token.entry) (interest_frame nack packet.now i)) }
+    // Around octets that are one Data it is, without a Nack, that Data with the token.
+    ensures reads_back_data { (d : PlainData) → IsData packet.now d → nack ≡ None
+        → IsFramed (lp_text (option_map (λ t. t.now) token.entry) nack packet.now)
+        (framed_with (option_map (λ t. t.now) token.entry) (AData packet.now d)) }
+{
+    let len = out.len();
+    let done = put_lp_parts(out, token, nack, packet);
+    if done.is_err() {
+        out.truncate(len);
+    }
+    done
 }
 
 /// Appends a Nack of a reason around an Interest's octets: a link packet (NDNLPv2, "Network Nack").
@@ -191,38 +233,93 @@ pub fn put_nack(out: &mut Vec<u8>, reason: u64, interest: &[u8]) -> Result<(), M
     ensures reads_back { (i : PlainInterest) → IsInterest interest.now i
         → IsFrame (nack_text reason interest.now) (ANack reason interest.now i) }
 {
-    let len = out.len();
-    let done = put_nack_parts(out, reason, interest);
-    if done.is_err() {
-        out.truncate(len);
-    }
-    done
+    put_lp(out, None, Some(reason), interest)
 }
 
-#[tactic(auto, using(crate::proofs::NackWriting::nack_put, crate::proofs::NackWriting::nack_parts))]
-/// Appends a Nack, or some octets of it. Its length is reserved first: where it is greater than any
-/// memory has, that is refused.
-fn put_nack_parts(out: &mut Vec<u8>, reason: u64, interest: &[u8]) -> Result<(), Memory>
-    ensures ok { OnOk result (out.new.items ≡ out.old.items ++ nack_text reason interest.now) }
-    ensures begins { take (vec_len out.old) out.new.items ≡ out.old.items }
-    ensures room { vec_len out.old + length (nack_text reason interest.now) ≤ vec_capacity out.old
-        → IsOk result }
-    ensures capacity { vec_capacity out.old ≤ vec_capacity out.new }
+/// Appends a packet with a PIT token and a Nack, or some octets of it.
+fn put_lp_parts(
+    out: &mut Vec<u8>,
+    token: Option<&[u8]>,
+    nack: Option<u64>,
+    packet: &[u8],
+) -> Result<(), Memory>
+    ensures puts { Puts out.old out.new result
+        (lp_text (option_map (λ t. t.now) token.entry) nack packet.now) }
+    ensures token { IfSome token.entry (λ t. AreOctets t.now) }
+    ensures nack { IsU64 nack }
 {
-    let value_len = nack_value_len(reason, interest);
+    if token.is_none() && nack.is_none() {
+        out.extend_from_slice(packet)?;
+        return Ok(());
+    }
+    put_link(out, token, nack, packet)
+}
+
+#[tactic(auto, using(crate::proofs::NackWriting::link_put, crate::proofs::NackWriting::link_parts))]
+/// Appends a link packet, or some octets of it. Its length is reserved first: where it is greater
+/// than any memory has, that is refused.
+fn put_link(
+    out: &mut Vec<u8>,
+    token: Option<&[u8]>,
+    nack: Option<u64>,
+    packet: &[u8],
+) -> Result<(), Memory>
+    ensures ok { OnOk result (out.new.items
+        ≡ out.old.items ++ link_text (option_map (λ t. t.now) token.entry) nack packet.now) }
+    ensures begins { take (vec_len out.old) out.new.items ≡ out.old.items }
+    ensures room { vec_len out.old
+        + length (link_text (option_map (λ t. t.now) token.entry) nack packet.now)
+        ≤ vec_capacity out.old → IsOk result }
+    ensures capacity { vec_capacity out.old ≤ vec_capacity out.new }
+    ensures token { IfSome token.entry (λ t. AreOctets t.now) }
+    ensures nack { IsU64 nack }
+{
+    let value_len = link_value_len(token, nack, packet);
     out.reserve(element_len(LINK_PACKET, value_len))?;
     put_header(out, LINK_PACKET, value_len)?;
-    put_reason(out, reason)?;
-    put_element(out, FRAGMENT, interest)?;
+    put_headers(out, token, nack)?;
+    put_element(out, FRAGMENT, packet)?;
     Ok(())
 }
 
-/// The length of the value of a Nack's link packet. It stops at `usize::MAX`.
-fn nack_value_len(reason: u64, interest: &[u8]) -> usize
-    ensures { IsLength result (nack_field reason ++ element (FRAGMENT, interest.now)) }
+/// The length of the value of a link packet. It stops at `usize::MAX`.
+fn link_value_len(token: Option<&[u8]>, nack: Option<u64>, packet: &[u8]) -> usize
+    ensures len { IsLength result
+        (link_value (option_map (λ t. t.now) token.entry) nack packet.now) }
+    ensures token { IfSome token.entry (λ t. AreOctets t.now) }
+    ensures nack { IsU64 nack }
 {
-    let nack_len = element_len(NACK, nni_element_len(NACK_REASON, reason));
-    nack_len.saturating_add(element_len(FRAGMENT, interest.len()))
+    optional_len(PIT_TOKEN, token)
+        .saturating_add(nack_header_len(nack))
+        .saturating_add(element_len(FRAGMENT, packet.len()))
+}
+
+/// The length of the header field of a Nack, 0 where there is none, in octets.
+fn nack_header_len(nack: Option<u64>) -> usize
+    ensures len { IsLength result (octets (nack_headers nack)) }
+    ensures sound { IsU64 nack }
+{
+    match nack {
+        None => 0,
+        Some(reason) => element_len(NACK, nni_element_len(NACK_REASON, reason)),
+    }
+}
+
+/// Appends the header fields of a link packet, or some octets of them.
+fn put_headers(
+    out: &mut Vec<u8>,
+    token: Option<&[u8]>,
+    nack: Option<u64>,
+) -> Result<(), Memory>
+    ensures { Puts out.old out.new result
+        (octets (optional PIT_TOKEN (option_map (λ t. t.now) token.entry))
+        ++ octets (nack_headers nack)) }
+{
+    put_optional(out, PIT_TOKEN, token)?;
+    if let Some(reason) = nack {
+        put_reason(out, reason)?;
+    }
+    Ok(())
 }
 
 #[tactic(auto, using(ndn_tlv::proofs::Lengths::element_put))]
