@@ -1,5 +1,5 @@
 -- The reader of frames tells the first fault.
-use Rattle.std.proofs.Common.{◌≡◌, ◌≢◌, ℕ, ◌<◌, Bool, true, false, cond, not, eqb, ltb, leb, ◌&&◌, List, [], ◌∷◌, ◌++◌, length, map, Option, Some, None, Result, Ok, Err, refl, sym, ap, subst, ◌∙◌, ◌⊎◌, inl, inr, eq-eqb, append_assoc, arith}
+use Rattle.std.proofs.Common.{◌≡◌, ◌≢◌, ℕ, ◌<◌, ◌≤◌, Bool, true, false, cond, not, eqb, ltb, leb, ◌&&◌, List, [], ◌∷◌, ◌++◌, length, map, Option, Some, None, Result, Ok, Err, refl, sym, ap, subst, ◌∙◌, ◌⊎◌, inl, inr, eq-eqb, append_assoc, arith}
 use Rattle.std.specs.Prelude.{◌↔◌, ◌||◌, is_some, IsErr, IsSome, IfErr}
 use Rattle.std.specs.List.{AllByRecursion}
 use Rattle.std.proofs.Math.Bool.{or-true}
@@ -203,7 +203,7 @@ same_marks s kind no81 no82 no83 no98 no800 = record {
   nack = rw (ne_eqb kind 800 no800) (or_false (is_some s.nack));
 }
 
-at_most_made : (limit : ℕ) (v : List ℕ) (u t : LinkSoFar) → at_most limit v u ≡ Ok t → u ≡ t
+pub at_most_made : (limit : ℕ) (v : List ℕ) (u t : LinkSoFar) → at_most limit v u ≡ Ok t → u ≡ t
 at_most_made limit v u t e =
     let n = bind_ok (nni_value_at v) (λ n. cond (ltb limit n) (Err Fragmented) (good u)) t e in
     let g = guard_ok (ltb limit n.0) Fragmented (good u) t n.2 in

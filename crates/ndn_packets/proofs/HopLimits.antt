@@ -106,7 +106,7 @@ record HopStands (text : List ℕ) (i : PlainInterest) (limit : ℕ) : Type 0 wh
 
 place_is : (text : List ℕ) (i : PlainInterest) (limit : ℕ) (from : List ℕ) (h : IsInterest text i) → i.hop_limit ≡ Some limit → from_first 34 h.fields.value ≡ Some from → hop_place text ≡ (length text - length from) + 2
 place_is text i limit from h there read =
-    ap (place_in text) (frame_again text (AnInterest text i) (h, inl refl))
+    ap (place_in text) (frame_again text (AnInterest text i) (None, (h, inl (refl, refl))))
     ∙ rw (eq-eqb (length text) (length text) refl, there, element_alone text h.fields.value 5 h.fields.outer, read) refl
 
 -- all fields, with this HopLimit

@@ -29,6 +29,8 @@ pub mod NackWriting
 pub mod InterestWriting
 pub mod Written
 pub mod WrittenNacks
+pub mod WrittenLinks
+pub mod Carried
 pub mod WrittenInterests
 pub mod Answering
 pub mod FullNames

@@ -1,5 +1,5 @@
 -- A packet inside a link packet is a frame alone.
-use Rattle.std.proofs.Common.{◌≡◌, ℕ, ◌≤◌, true, false, cond, eqb, ltb, List, [], ◌∷◌, length, Option, None, Some, Result, Ok, Err, refl, sym, subst, ◌∙◌, arith}
+use Rattle.std.proofs.Common.{◌≡◌, ℕ, ◌≤◌, true, false, cond, eqb, ltb, List, [], ◌∷◌, length, Option, None, Some, Result, Ok, Err, refl, sym, ap, subst, ◌∙◌, arith}
 use Rattle.std.proofs.lemmas.Bool.{eqb-true, ltb-false, le-ltb}
 use Rattle.ndn_tlv.specs.declared.fault.TlvFault.{TlvFault}
 use Rattle.ndn_tlv.specs.Element.{Field}
@@ -67,7 +67,7 @@ fragment_alone None text own f e h =
     subst (λ (t : List ℕ). frame_at t ≡ Ok f) (holds_one f text own p.0 h) p.1
 fragment_alone (Some reason) text own f e h = absurd (nack_holds reason text own f e h)
 
-last_is : (framed f : PlainFramed) (elements : List (Result Field TlvFault)) → last_of framed elements ≡ Ok f → framed ≡ f
+pub last_is : (framed f : PlainFramed) (elements : List (Result Field TlvFault)) → last_of framed elements ≡ Ok f → framed ≡ f
 last_is framed f [] e = ok_is framed f e
 last_is framed f (Err t ∷ elements) e = absurd (err_is_not_ok _ f e)
 last_is framed f (Ok x ∷ elements) e = absurd (err_is_not_ok _ f e)

@@ -70,6 +70,13 @@ pub fn read_frame(octets: &[u8]) -> Result<Frame<'_>, PacketFault>
     ensures fault { IfErr result (FaultOf octets.now) }
     ensures exact { on_result (λ f. Ok (plain_frame f)) Err result ≡ frame_at octets.now }
 {
+    frame_of(octets)
+}
+
+#[inline(always)]
+fn frame_of(octets: &[u8]) -> Result<Frame<'_>, PacketFault>
+    ensures { on_result (λ f. Ok (plain_frame f)) Err result ≡ frame_at octets.now }
+{
     Ok(read_lp(octets)?.frame)
 }
 

@@ -44,20 +44,8 @@ struct Headers<'a> {
 impl<'a> Headers<'a> {
     ghost use Rattle.std.specs.Prelude.{◌≡◌, Ok, Err};
     ghost use Rattle.ndn_tlv.specs.Reading.{on_result};
-    ghost use Rattle.ndn_packets.specs.FrameReading.{no_headers_yet, is_refused_header, with_header};
+    ghost use Rattle.ndn_packets.specs.FrameReading.{is_refused_header, with_header};
     ghost use Rattle.ndn_packets.specs.SoFar.{link_so_far};
-
-    fn none() -> Headers<'a>
-        ensures { link_so_far result ≡ no_headers_yet }
-    {
-        Headers {
-            sequence: false,
-            frag_index: false,
-            frag_count: false,
-            token: None,
-            nack: None,
-        }
-    }
 
     /// Whether a header field may not stand after these.
     fn refuse(self, field: Element<'_>) -> bool
@@ -133,7 +121,13 @@ fn nack_reason(value: &[u8]) -> Result<u64, PacketFault>
 pub(crate) fn read_link(value: &[u8]) -> Result<Framed<'_>, PacketFault>
     ensures { on_result (λ f. Ok (plain_framed f)) Err result ≡ link_at value.now }
 {
-    let mut headers = Headers::none();
+    let mut headers = Headers {
+        sequence: false,
+        frag_index: false,
+        frag_count: false,
+        token: None,
+        nack: None,
+    };
     let mut rest = value;
     while !rest.is_empty() {
         let (field, after) = first_element(rest).map_err(PacketFault::Tlv)?;
