@@ -1,6 +1,6 @@
 -- What octets of a link carry: a packet, which is the first Fragment's value, and a token of 1 to 32 octets.
-use Rattle.std.proofs.Common.{◌≡◌, ℕ, ◌≤◌, Bool, true, false, cond, not, eqb, ltb, List, [], ◌∷◌, ◌++◌, length, Option, None, Some, Result, Ok, Err, refl, sym, ap, subst, ◌∙◌, inl, inr}
-use Rattle.std.specs.Prelude.{IfOk, IfSome, is_some, filter, ◌||◌}
+use Rattle.std.proofs.Common.{◌≡◌, ℕ, true, false, cond, not, eqb, ltb, List, [], ◌∷◌, ◌++◌, length, Option, None, Some, Result, Ok, Err, refl, sym, ap, subst, ◌∙◌, inl, inr}
+use Rattle.std.specs.Prelude.{IfOk, IfSome, is_some}
 use Rattle.std.specs.Option.{option_map}
 use Rattle.std.specs.Borrow.{Bor}
 use Rattle.std.proofs.lemmas.Bool.{leb-true, ne_eqb, not-false, and_parts, or_parts, cases_eq}
@@ -10,17 +10,17 @@ use Rattle.ndn_tlv.specs.Reading.{◌>>=◌, on_result, elements_of}
 use Rattle.ndn_tlv.specs.Writing.{optional}
 use Rattle.ndn_tlv.proofs.Numbers.{IsBytes}
 use Rattle.ndn_packets.specs.declared.fault.PacketFault.{PacketFault}
-use Rattle.ndn_packets.specs.declared.fault.PacketFault.TheVariants.{BadField, Fragmented, LpField, TooLong}
+use Rattle.ndn_packets.specs.declared.fault.PacketFault.TheVariants.{BadField, LpField, TooLong}
 use Rattle.ndn_packets.specs.declared.frame.Framed.{Framed}
 use Rattle.ndn_packets.specs.Packet.{PlainInterest, PlainData, PlainFrame, PlainFramed, framed_with, AnInterest, AData, ANack, Idle}
 use Rattle.ndn_packets.specs.View.{plain_frame, plain_framed}
 use Rattle.ndn_packets.specs.Writing.{AreOctets}
 use Rattle.ndn_packets.specs.Link.{IsToken, IsFrameWith, IsLinkPacket, headers_of}
 use Rattle.ndn_packets.specs.FrameReading.{only_element, interest_of, data_of, packet_of, nacked_of, LinkSoFar, no_headers_yet, nack_at, is_token, is_refused_header, with_header, take_header, fragment_at, last_of, no_fragment, link_from, link_at, outer_of, framed_at, frame_at, token_at, first_fragment, packet_in}
-use Rattle.ndn_packets.proofs.Steps.{bind_ok, guard_ok, good, err_is_not_ok, none_is_not_some, some_is, ok_is, IsBytes-fields, IsBytes-inside}
+use Rattle.ndn_packets.proofs.Steps.{bind_ok, guard_ok, good, err_is_not_ok, none_is_not_some, ok_is, IsBytes-fields, IsBytes-inside}
 use Rattle.ndn_packets.proofs.FieldLists.{AreBytes}
 use Rattle.ndn_packets.proofs.FrameFaults.{at_most_made}
-use Rattle.ndn_packets.proofs.Packets.{framed_found, frame_of_framed, token_of_framed}
+use Rattle.ndn_packets.proofs.Packets.{framed_found, token_of_framed}
 use Rattle.ndn_packets.proofs.Wholes.{last_is}
 
 -- ---- the packet

@@ -1,24 +1,24 @@
 -- A packet in a link packet that is written is in the grammar, and reading it gives its token back.
-use Rattle.std.proofs.Common.{rules, ◌≡◌, ℕ, ◌+◌, ◌^◌, ◌<◌, ◌≤◌, List, [], ◌∷◌, ◌++◌, length, Option, Some, None, Ok, refl, ap, arith, inl, inr}
+use Rattle.std.proofs.Common.{rules, ◌≡◌, ℕ, ◌+◌, ◌^◌, ◌<◌, ◌≤◌, List, [], ◌∷◌, ◌++◌, length, Option, Some, None, Ok, refl, arith, inl, inr}
 use Rattle.std.specs.Prelude.{IfSome}
 use Rattle.std.specs.Option.{option_map}
 use Rattle.std.specs.Borrow.{Bor}
 use Rattle.std.specs.List.{AllByRecursion}
 use Rattle.std.proofs.lemmas.Grind.{flat_map-append}
 use Rattle.std.proofs.lemmas.List.{length-append}
-use Rattle.ndn_tlv.specs.Number.{spelling, shortest_nni}
+use Rattle.ndn_tlv.specs.Number.{shortest_nni}
 use Rattle.ndn_tlv.specs.Element.{Field, IsField, element}
-use Rattle.ndn_tlv.specs.Writing.{octets, optional, number}
+use Rattle.ndn_tlv.specs.Writing.{octets, number}
 use Rattle.ndn_tlv.proofs.Numbers.{IsBytes, length-spelling_one, length-spelling_three}
 use Rattle.ndn_tlv.proofs.Integers.{nni_of_shortest, length-shortest_eight}
 use Rattle.ndn_tlv.proofs.Lengths.{element_fits}
 use Rattle.ndn_tlv.proofs.Lengths as exact
-use Rattle.ndn_packets.specs.Packet.{PlainInterest, PlainData, PlainFramed, framed_with, interest_frame, AnInterest, AData, ANack}
+use Rattle.ndn_packets.specs.Packet.{PlainInterest, PlainData, framed_with, interest_frame, AnInterest, AData, ANack}
 use Rattle.ndn_packets.specs.Fields.{is_even_high}
 use Rattle.ndn_packets.specs.Grammar.{IsInterest, IsData}
 use Rattle.ndn_packets.specs.Link.{nack_schema, IsNack, IsToken, IsHeader, IsTokenOf, IsNackOf, IsLinkPacket, IsFramed, headers_of, known_headers}
 use Rattle.ndn_packets.specs.FrameReading.{framed_at}
-use Rattle.ndn_packets.specs.Writing.{nack_headers, lp_headers, lp_text, nack_text, AreOctets, IsU64}
+use Rattle.ndn_packets.specs.Writing.{lp_text, nack_text, AreOctets, IsU64}
 use Rattle.ndn_packets.proofs.FieldLists.{AreBytes}
 use Rattle.ndn_packets.proofs.Packets.{framed_again}
 use Rattle.ndn_packets.proofs.Written.{length-element, IsBytes-element, IsBytes-octets, all_append, in_order, last, number_fits, bytes_of_number}

@@ -134,10 +134,12 @@ outer_of text outer =
     if outer.0 == LINK_PACKET then link_at outer.1
     else (packet_of text outer >>= λ frame. Ok (framed_with None frame))
 
+-- the frame that a text is, and the token beside it
 unfoldable pub framed_at : List ℕ → Result PlainFramed PacketFault
 framed_at text =
     if nat_lt 9000 (length text) then Err TooLong else (only_element text >>= outer_of text)
 
+-- the frame alone
 unfoldable pub frame_at : List ℕ → Result PlainFrame PacketFault
 frame_at text = framed_at text >>= λ framed. Ok framed.frame
 
@@ -145,7 +147,7 @@ frame_at text = framed_at text >>= λ framed. Ok framed.frame
 unfoldable pub token_at : List ℕ → Option (List ℕ)
 token_at text = on_result (λ framed. framed.token) (λ _. None) (framed_at text)
 
--- ---- the packet that octets of a link carry, read or not
+-- ---- the packet that octets of a link carry, also where they cannot be read
 
 -- the value of the first Fragment among elements, else these octets
 abbrev pub first_fragment : List ℕ → List (Result Field TlvFault) → List ℕ

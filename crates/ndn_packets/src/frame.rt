@@ -81,12 +81,12 @@ fn frame_of(octets: &[u8]) -> Result<Frame<'_>, PacketFault>
 }
 
 /// Reads octets of a link as `read_frame` does, and tells the PIT token beside what they hold
-/// (NDNLPv2, "PIT Token"): 1 to 32 octets, which a link packet carries once at most and in any place
+/// (NDNLPv2, "PIT Token"): 1 to 32 octets, which a link packet carries once at most, in any place
 /// among its header fields. A packet that stands alone has none. The token is a view of the octets,
 /// and nothing takes memory.
 ///
-/// Refuses all else with the first fault from the left: see `PacketFault`. A token of another length
-/// and a second token are an `LpField`.
+/// Refuses all else with the first fault from the left: see `PacketFault`. A token of another
+/// length is an `LpField`, and so is a second one.
 pub fn read_lp(octets: &[u8]) -> Result<Framed<'_>, PacketFault>
     // What is read is in the grammar.
     ensures found { IfOk result (λ framed. IsFramed octets.now (plain_framed framed)) }

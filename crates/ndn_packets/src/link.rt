@@ -178,10 +178,10 @@ fn check_last(after: &[u8]) -> Result<(), PacketFault>
     Err(PacketFault::LpField)
 }
 
-/// Appends a packet with a PIT token and with a Nack of a reason, those of both that are given: a link
-/// packet (NDNLPv2, "PIT Token", "Network Nack"), or the packet alone where neither is given. The
-/// token is 1 to 32 octets. The NackReason is always written, 0 too. Where memory is refused, nothing
-/// is appended.
+/// Appends a packet with a PIT token and with a Nack of a reason, those of both that are given: a
+/// link packet (NDNLPv2, "PIT Token", "Network Nack"), or the packet alone where neither is given.
+/// The token is 1 to 32 octets, and stands before the Nack. The NackReason is always written, 0 too.
+/// Where memory is refused, nothing is appended.
 pub fn put_lp(
     out: &mut Vec<u8>,
     token: Option<&[u8]>,
@@ -300,11 +300,7 @@ fn nack_header_len(nack: Option<u64>) -> usize
 }
 
 /// Appends the header fields of a link packet, or some octets of them.
-fn put_headers(
-    out: &mut Vec<u8>,
-    token: Option<&[u8]>,
-    nack: Option<u64>,
-) -> Result<(), Memory>
+fn put_headers(out: &mut Vec<u8>, token: Option<&[u8]>, nack: Option<u64>) -> Result<(), Memory>
     ensures { Puts out.old out.new result
         (octets (optional PIT_TOKEN (option_map (λ t. t.now) token.entry))
         ++ octets (nack_headers nack)) }
