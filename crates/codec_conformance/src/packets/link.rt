@@ -1,8 +1,23 @@
 //! Link packets (NDNLPv2, "Packet Format", "Fragmentation", "Network Nack", "PIT Token").
 
-use crate::packets::{carried, cut, fields, outcome};
+use crate::packets::{carried, cut, fields, outcome, packet, value_text};
 use crate::rows::check_rows;
+use ndn_packets::{put_lp, read_lp};
+use std::alloc::Global;
 use std::test::*;
+
+/// The token beside a frame.
+fn token(alloc: Global, input: &str) -> Option<String> {
+    value_text(alloc, read_lp(&packet(alloc, input)?).ok()?.token)
+}
+
+/// What is written around an Interest with a token and a Nack of this reason, or without one.
+fn with_token(alloc: Global, reason: &str) -> Option<String> {
+    let interest = b"\x05\x0b\x07\x03\x08\x01\x41\x0a\x04\x01\x02\x03\x04";
+    let mut out = Vec::new(alloc);
+    put_lp(&mut out, Some(b"\xa1\xb2"), reason.parse().ok(), interest).ok()?;
+    hex::encode(alloc, &out).ok()
+}
 
 #[test]
 fn link_packets(rt: HostRuntime) {
@@ -81,6 +96,26 @@ fn pit_tokens_of_1_to_32_octets(rt: HostRuntime) {
 100 | 6221 00x33 500d 050b07030801410a0401020304 -> LpField
 ";
     check_rows(&rt, rt.alloc(), rows, outcome);
+    let rows = "
+100 | 620107 500d 050b07030801410a0401020304 -> 07
+100 | 6220 00x31 ff 500d 050b07030801410a0401020304 -> 00000000000000000000000000000000000000000000000000000000000000ff
+# Without a Fragment, and beside a Nack in either order.
+100 | 6202a1b2 -> a1b2
+100 | 6202a1b2 fd032005fd03210196 500d 050b07030801410a0401020304 -> a1b2
+100 | fd032005fd03210196 6202a1b2 500d 050b07030801410a0401020304 -> a1b2
+100 | 510109 500d 050b07030801410a0401020304 -> none
+050b07030801410a0401020304 -> none
+";
+    check_rows(&rt, rt.alloc(), rows, token);
+}
+
+#[test]
+fn written_tokens(rt: HostRuntime) {
+    let rows = "
+150 -> 641c6202a1b2fd032005fd03210196500d050b07030801410a0401020304
+no Nack -> 64136202a1b2500d050b07030801410a0401020304
+";
+    check_rows(&rt, rt.alloc(), rows, with_token);
 }
 
 /// A known field twice.
@@ -175,6 +210,9 @@ fn nacks(rt: HostRuntime) {
 100 | fd032005fd03210100 500d 050b07030801410a0401020304 -> Nack 0 050b07030801410a0401020304
 100 | fd032006fd0321020100 500d 050b07030801410a0401020304 -> Nack 256 050b07030801410a0401020304
 100 | fd032003f00107 500d 050b07030801410a0401020304 -> Nack 0 050b07030801410a0401020304
+# Beside a token, in either order.
+100 | 6202a1b2 fd032005fd03210196 500d 050b07030801410a0401020304 -> Nack 150 050b07030801410a0401020304
+100 | fd032005fd03210196 6202a1b2 500d 050b07030801410a0401020304 -> Nack 150 050b07030801410a0401020304
 ";
     check_rows(&rt, rt.alloc(), rows, carried);
     let rows = "
