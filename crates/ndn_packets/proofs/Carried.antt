@@ -1,4 +1,4 @@
--- What octets of a link carry: a packet, which is the first Fragment's value, and a token of 1 to 32 octets.
+-- The token that octets of a link carry: 1 to 32 octets.
 use Rattle.std.proofs.Common.{◌≡◌, ℕ, true, false, cond, not, eqb, ltb, List, [], ◌∷◌, ◌++◌, length, Option, None, Some, Result, Ok, Err, refl, sym, ap, subst, ◌∙◌, inl, inr}
 use Rattle.std.specs.Prelude.{IfOk, IfSome, is_some}
 use Rattle.std.specs.Option.{option_map}
@@ -10,93 +10,18 @@ use Rattle.ndn_tlv.specs.Reading.{◌>>=◌, on_result, elements_of}
 use Rattle.ndn_tlv.specs.Writing.{optional}
 use Rattle.ndn_tlv.proofs.Numbers.{IsBytes}
 use Rattle.ndn_packets.specs.declared.fault.PacketFault.{PacketFault}
-use Rattle.ndn_packets.specs.declared.fault.PacketFault.TheVariants.{BadField, LpField, TooLong}
+use Rattle.ndn_packets.specs.declared.fault.PacketFault.TheVariants.{LpField, TooLong}
 use Rattle.ndn_packets.specs.declared.frame.Framed.{Framed}
-use Rattle.ndn_packets.specs.Packet.{PlainInterest, PlainData, PlainFrame, PlainFramed, framed_with, AnInterest, AData, ANack, Idle}
+use Rattle.ndn_packets.specs.Packet.{PlainFrame, PlainFramed, framed_with, AnInterest, AData, ANack, Idle}
 use Rattle.ndn_packets.specs.View.{plain_frame, plain_framed}
 use Rattle.ndn_packets.specs.Writing.{AreOctets}
 use Rattle.ndn_packets.specs.Link.{IsToken, IsFrameWith, IsLinkPacket, headers_of}
-use Rattle.ndn_packets.specs.FrameReading.{only_element, interest_of, data_of, packet_of, nacked_of, LinkSoFar, no_headers_yet, nack_at, is_token, is_refused_header, with_header, take_header, fragment_at, last_of, no_fragment, link_from, link_at, outer_of, framed_at, frame_at, token_at, first_fragment, packet_in}
+use Rattle.ndn_packets.specs.FrameReading.{only_element, packet_of, LinkSoFar, no_headers_yet, nack_at, is_token, is_refused_header, with_header, take_header, fragment_at, last_of, no_fragment, link_from, link_at, outer_of, framed_at, frame_at, token_at}
 use Rattle.ndn_packets.proofs.Steps.{bind_ok, guard_ok, good, err_is_not_ok, none_is_not_some, ok_is, IsBytes-fields, IsBytes-inside}
 use Rattle.ndn_packets.proofs.FieldLists.{AreBytes}
 use Rattle.ndn_packets.proofs.FrameFaults.{at_most_made}
 use Rattle.ndn_packets.proofs.Packets.{framed_found, token_of_framed}
 use Rattle.ndn_packets.proofs.Wholes.{last_is}
-
--- ---- the packet
-
--- the frame's packet has these octets
-abbrev Carries : PlainFrame → List ℕ → Type 0
-Carries (AnInterest whole i) text = text ≡ whole
-Carries (AData whole d) text = text ≡ whole
-Carries (ANack reason whole i) text = text ≡ whole
-Carries Idle text = Unit {0}
-
-shown_carries : {A : Type 0} (r : Result A PacketFault) (show : A → PlainFrame) (text : List ℕ) (f : PlainFrame) → ((x : A) → Carries (show x) text) → (r >>= λ x. good (show x)) ≡ Ok f → Carries f text
-shown_carries r show text f each e =
-    let b = bind_ok r (λ x. good (show x)) f e in
-    subst (λ (g : PlainFrame). Carries g text) (ok_is (show b.0) f b.2) (each b.0)
-
-packet_carries : (text : List ℕ) (x : Field) (f : PlainFrame) → packet_of text x ≡ Ok f → Carries f text
-packet_carries text x f e =
-    elim (eqb x.0 5) as (λ b. cond b (interest_of text x.1 >>= λ i. good (AnInterest text i)) (cond (eqb x.0 6) (data_of text x.1 >>= λ d. good (AData text d)) (Err BadField)) ≡ Ok f → Carries f text) [
-      | true ↦ λ e. shown_carries (interest_of text x.1) (AnInterest text) text f (λ i. refl) e
-      | false ↦ λ e. elim (eqb x.0 6) as (λ b. cond b (data_of text x.1 >>= λ d. good (AData text d)) (Err BadField) ≡ Ok f → Carries f text) [
-        | true ↦ λ e. shown_carries (data_of text x.1) (AData text) text f (λ d. refl) e
-        | false ↦ λ e. absurd (err_is_not_ok _ f e)
-      ] e
-    ] e
-
-nacked_carries : (reason : ℕ) (text : List ℕ) (x : Field) (f : PlainFrame) → nacked_of reason text x ≡ Ok f → Carries f text
-nacked_carries reason text x f e =
-    elim (eqb x.0 5) as (λ b. cond b (interest_of text x.1 >>= λ i. good (ANack reason text i)) (Err BadField) ≡ Ok f → Carries f text) [
-      | true ↦ λ e. shown_carries (interest_of text x.1) (ANack reason text) text f (λ i. refl) e
-      | false ↦ λ e. absurd (err_is_not_ok _ f e)
-    ] e
-
-fragment_carries : (nack : Option ℕ) (text : List ℕ) (f : PlainFrame) → fragment_at nack text ≡ Ok f → Carries f text
-fragment_carries None text f e = (let b = bind_ok (only_element text) (packet_of text) f e in packet_carries text b.0 f b.2)
-fragment_carries (Some reason) text f e = (let b = bind_ok (only_element text) (nacked_of reason text) f e in nacked_carries reason text b.0 f b.2)
-
-nothing_carries : (token : Option (List ℕ)) (nack : Option ℕ) (text : List ℕ) (f : PlainFramed) → no_fragment token nack ≡ Ok f → Carries f.frame text
-nothing_carries token None text f e = subst (λ (g : PlainFramed). Carries g.frame text) (ok_is (framed_with token Idle) f e) tt
-nothing_carries token (Some reason) text f e = absurd (err_is_not_ok _ f e)
-
-link_carries : (s : LinkSoFar) (text : List ℕ) (elements : List (Result Field TlvFault)) (f : PlainFramed) → link_from s elements ≡ Ok f → Carries f.frame (first_fragment text elements)
-link_carries s text [] f e = nothing_carries s.token s.nack text f e
-link_carries s text (Err t ∷ elements) f e = absurd (err_is_not_ok _ f e)
-link_carries s text (Ok x ∷ elements) f e =
-    elim (eqb x.0 80) as (λ b. cond b (fragment_at s.nack x.1 >>= λ frame. last_of (framed_with s.token frame) elements) (take_header s x >>= λ t. link_from t elements) ≡ Ok f → Carries f.frame (cond b x.1 (first_fragment text elements))) [
-      | true ↦ λ e.
-          let b = bind_ok (fragment_at s.nack x.1) (λ frame. last_of (framed_with s.token frame) elements) f e in
-          subst (λ (g : PlainFramed). Carries g.frame x.1) (last_is (framed_with s.token b.0) f elements b.2) (fragment_carries s.nack x.1 b.0 b.1)
-      | false ↦ λ e.
-          let b = bind_ok (take_header s x) (λ t. link_from t elements) f e in
-          link_carries b.0 text elements f b.2
-    ] e
-
-carried : (text : List ℕ) (f : PlainFramed) → framed_at text ≡ Ok f → Carries f.frame (packet_in text)
-unfolding framed_at link_at packet_in
-carried text f e =
-    let g = guard_ok (ltb 9000 (length text)) TooLong (only_element text >>= outer_of text) f e in
-    let b = bind_ok (only_element text) (outer_of text) f g.1 in
-    let inner : Carries f.frame (cond (eqb b.0.0 100) (first_fragment text (elements_of b.0.1)) text) =
-    elim (eqb b.0.0 100) as (λ t. cond t (link_from no_headers_yet (elements_of b.0.1)) (packet_of text b.0 >>= λ frame. good (framed_with None frame)) ≡ Ok f → Carries f.frame (cond t (first_fragment text (elements_of b.0.1)) text)) [
-      | true ↦ λ e. link_carries no_headers_yet text (elements_of b.0.1) f e
-      | false ↦ λ e.
-          let q = bind_ok (packet_of text b.0) (λ frame. good (framed_with None frame)) f e in
-          subst (λ (g : PlainFramed). Carries g.frame text) (ok_is (framed_with None q.0) f q.2) (packet_carries text b.0 q.0 q.1)
-    ] b.2 in
-    rw (b.1) inner
-
-pub packet_in_interest : (text : List ℕ) (token : Option (List ℕ)) (whole : List ℕ) (i : PlainInterest) → framed_at text ≡ Ok (framed_with token (AnInterest whole i)) → packet_in text ≡ whole
-packet_in_interest text token whole i e = carried text (framed_with token (AnInterest whole i)) e
-
-pub packet_in_data : (text : List ℕ) (token : Option (List ℕ)) (whole : List ℕ) (d : PlainData) → framed_at text ≡ Ok (framed_with token (AData whole d)) → packet_in text ≡ whole
-packet_in_data text token whole d e = carried text (framed_with token (AData whole d)) e
-
-pub packet_in_nack : (text : List ℕ) (token : Option (List ℕ)) (reason : ℕ) (whole : List ℕ) (i : PlainInterest) → framed_at text ≡ Ok (framed_with token (ANack reason whole i)) → packet_in text ≡ whole
-packet_in_nack text token reason whole i e = carried text (framed_with token (ANack reason whole i)) e
 
 -- ---- the size of the token
 

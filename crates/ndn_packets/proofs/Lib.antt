@@ -26,6 +26,7 @@ pub mod HopLimits
 pub mod Lengths
 pub mod DataWriting
 pub mod NackWriting
+pub mod Wrapping
 pub mod InterestWriting
 pub mod Written
 pub mod WrittenNacks

@@ -146,19 +146,3 @@ frame_at text = framed_at text >>= λ framed. Ok framed.frame
 -- the token beside a frame, none where there is no frame
 unfoldable pub token_at : List ℕ → Option (List ℕ)
 token_at text = on_result (λ framed. framed.token) (λ _. None) (framed_at text)
-
--- ---- the packet that octets of a link carry, also where they cannot be read
-
--- the value of the first Fragment among elements, else these octets
-abbrev pub first_fragment : List ℕ → List (Result Field TlvFault) → List ℕ
-first_fragment text [] = text
-first_fragment text (Err f ∷ elements) = text
-first_fragment text (Ok e ∷ elements) =
-    if e.0 == FRAGMENT then e.1 else first_fragment text elements
-
--- that of a link packet, else the octets themselves
-unfoldable pub packet_in : List ℕ → List ℕ
-packet_in text =
-    on_result
-    (λ outer. if outer.0 == LINK_PACKET then first_fragment text (elements_of outer.1) else text)
-    (λ _. text) (only_element text)

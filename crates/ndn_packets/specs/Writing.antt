@@ -1,11 +1,11 @@
 -- What writers write (NDN Packet Format 0.3, "Interest Packet", "Data Packet", "Signature", "Signed
 -- Interest"; NDNLPv2, "Network Nack", "PIT Token"): the fields that are asked for, each in its
 -- shortest form.
-use Rattle.std.specs.Prelude.{◌≡◌, ℕ, ◌<◌, List, [], ◌∷◌, ◌++◌, ◌-◌, ◌^◌, min, length, replicate, Option, None, Some, IfSome, OnSome, slice_index, Bool, nat_lt, unwrap_or, ⊤, ◌||◌, not, if◌then◌else◌}
+use Rattle.std.specs.Prelude.{◌≡◌, ℕ, ◌<◌, List, [], ◌∷◌, ◌++◌, ◌+◌, ◌-◌, ◌^◌, min, length, replicate, Option, None, Some, IfSome, OnSome, slice_index, Bool, nat_lt, unwrap_or, ⊤, ◌||◌, not, if◌then◌else◌}
 use Rattle.std.specs.Option.{option_map}
 use Rattle.std.specs.Borrow.{Bor}
 use Rattle.sha2.specs.Sha256.{sha256}
-use Rattle.ndn_tlv.specs.Number.{shortest_nni}
+use Rattle.ndn_tlv.specs.Number.{shortest_nni, spelling}
 use Rattle.ndn_tlv.specs.Element.{Field, element}
 use Rattle.ndn_tlv.specs.Writing.{octets, optional, flag, number}
 use Rattle.ndn_names.specs.declared.component_type.TheConstants.{SEGMENT}
@@ -283,6 +283,14 @@ link_value token nack packet =
 
 abbrev pub link_text : Option (List ℕ) → Option ℕ → List ℕ → List ℕ
 link_text token nack packet = element (LINK_PACKET, link_value token nack packet)
+
+-- what stands before a packet of this length in a link packet with this PIT token
+abbrev pub link_start : List ℕ → ℕ → List ℕ
+link_start token packet_len =
+    let token_field = element (PIT_TOKEN, token) in
+    let header = spelling FRAGMENT ++ spelling packet_len in
+    let value_len = length token_field + (length header + packet_len) in
+    ((spelling LINK_PACKET ++ spelling value_len) ++ token_field) ++ header
 
 -- ---- lengths
 

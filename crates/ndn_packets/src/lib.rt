@@ -37,6 +37,6 @@ pub use hop_limit::hop_limit_mut;
 pub use interest::Interest;
 pub use interest_writer::InterestWriter;
 pub use key::{Key, interest_keys_can_be_keys};
-pub use link::{put_lp, put_nack};
+pub use link::{put_lp, put_nack, wrap};
 pub use signature::{Locator, Sign, Signature};
 pub use types::{CONGESTION, DIGEST_SHA256, DUPLICATE, HMAC_WITH_SHA256, NO_ROUTE};

@@ -1,6 +1,6 @@
 //! Link packets (NDNLPv2, "Packet Format", "Fragmentation", "Network Nack", "PIT Token").
 
-ghost use Rattle.std.specs.Prelude.{◌≡◌, ◌+◌, ◌≤◌, ◌++◌, length, take, vec_len, Option, None, IfSome, Ok, Err, OnOk, OnErr, IsOk};
+ghost use Rattle.std.specs.Prelude.{◌≡◌, ◌+◌, ◌^◌, ◌<◌, ◌≤◌, ◌++◌, length, take, drop, vec_len, Option, None, Some, IfSome, Ok, Err, OnOk, OnErr, IsOk};
 ghost use Rattle.std.specs.Option.{option_map};
 ghost use Rattle.std.specs.Vec.{vec_capacity};
 ghost use Rattle.ndn_tlv.specs.Reading.{on_result, elements_of};
@@ -10,7 +10,7 @@ ghost use Rattle.ndn_packets.specs.Grammar.{IsInterest, IsData};
 ghost use Rattle.ndn_packets.specs.Link.{IsFrame, IsFramed, IsToken, is_ignored_header};
 ghost use Rattle.ndn_packets.specs.FrameReading.{LinkSoFar, at_most, nack_at, fragment_at, last_of, link_at};
 ghost use Rattle.ndn_tlv.specs.Writing.{Puts, octets, optional};
-ghost use Rattle.ndn_packets.specs.Writing.{nack_field, nack_text, nack_headers, lp_text, link_value, link_text, IsLength, AreOctets, IsU64};
+ghost use Rattle.ndn_packets.specs.Writing.{nack_field, nack_text, nack_headers, lp_text, link_value, link_text, link_start, IsLength, AreOctets, IsU64};
 
 use crate::fault::PacketFault;
 use crate::field_reader::{FieldReader, number};
@@ -21,7 +21,8 @@ use crate::types::{
 };
 use crate::writing::{element_len, optional_len, put_optional};
 use ndn_tlv::{
-    Element, Memory, first_element, nni_element_len, put_element, put_header, put_nni_element,
+    Element, Memory, element_len as tlv_len, first_element, nni_element_len, number_len,
+    put_element, put_header, put_nni_element,
 };
 
 /// The greatest type of a header field that is ignored.
@@ -212,6 +213,63 @@ pub fn put_lp(
         out.truncate(len);
     }
     done
+}
+
+/// Puts a link packet with this PIT token around the octets from a place on, which are a packet
+/// (NDNLPv2, "PIT Token"). The token is 1 to 32 octets. They stay bare where there is none. Where
+/// memory is refused, the octets stay as they were.
+pub fn wrap(out: &mut Vec<u8>, start: usize, token: Option<&[u8]>) -> Result<(), Memory>
+    requires start { start ≤ vec_len out.old }
+    requires is_token { IfSome token (λ t. IsToken t.now) }
+    ensures ok { OnOk result (out.new.items ≡ take start out.old.items
+        ++ lp_text (option_map (λ t. t.now) token.entry) None (drop start out.old.items)) }
+    ensures err { OnErr result (out.new.items ≡ out.old.items) }
+    // Where there is room, memory is not refused.
+    ensures room { start + length (lp_text (option_map (λ t. t.now) token.entry) None
+        (drop start out.old.items)) ≤ vec_capacity out.old → IsOk result }
+    ensures capacity { vec_capacity out.old ≤ vec_capacity out.new }
+{
+    match token {
+        None => Ok(()),
+        Some(token) => wrap_with(out, start, token),
+    }
+}
+
+#[tactic(auto, using(crate::proofs::Wrapping::wrapped, crate::proofs::Wrapping::wrapped_len))]
+/// Puts a link packet with a PIT token around the octets from a place on.
+fn wrap_with(out: &mut Vec<u8>, start: usize, token: &[u8]) -> Result<(), Memory>
+    requires start { start ≤ vec_len out.old }
+    requires is_token { IsToken token.now }
+    ensures ok { OnOk result (out.new.items ≡ take start out.old.items
+        ++ lp_text (Some token.now) None (drop start out.old.items)) }
+    ensures err { OnErr result (out.new.items ≡ out.old.items) }
+    ensures room { start + length (lp_text (Some token.now) None (drop start out.old.items))
+        ≤ vec_capacity out.old → IsOk result }
+    ensures capacity { vec_capacity out.old ≤ vec_capacity out.new }
+{
+    let len = out.len();
+    let done = put_link_start(out, token, len - start);
+    if done.is_err() {
+        out.truncate(len);
+        return done;
+    }
+    out[start..].rotate_left(len - start);
+    done
+}
+
+#[tactic(auto, using(crate::proofs::Wrapping::start_lengths))]
+/// Appends what stands before a packet of this length in a link packet with a PIT token, or some
+/// octets of it.
+fn put_link_start(out: &mut Vec<u8>, token: &[u8], packet_len: usize) -> Result<(), Memory>
+    requires is_token { IsToken token.now }
+    requires in_memory { packet_len < 2 ^ 63 }
+    ensures { Puts out.old out.new result (link_start token.now packet_len) }
+{
+    let fragment_len = number_len(u64::from(FRAGMENT)) + number_len(packet_len as u64) + packet_len;
+    put_header(out, LINK_PACKET, tlv_len(PIT_TOKEN, token) + fragment_len)?;
+    put_element(out, PIT_TOKEN, token)?;
+    put_header(out, FRAGMENT, packet_len)?;
+    Ok(())
 }
 
 /// Appends a Nack of a reason around an Interest's octets: a link packet (NDNLPv2, "Network Nack").

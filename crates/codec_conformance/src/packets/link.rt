@@ -2,7 +2,7 @@
 
 use crate::packets::{carried, cut, fields, outcome, packet, value_text};
 use crate::rows::check_rows;
-use ndn_packets::{put_lp, read_lp};
+use ndn_packets::{put_lp, read_lp, wrap};
 use std::alloc::Global;
 use std::test::*;
 
@@ -17,6 +17,16 @@ fn with_token(alloc: Global, reason: &str) -> Option<String> {
     let mut out = Vec::new(alloc);
     put_lp(&mut out, Some(b"\xa1\xb2"), reason.parse().ok(), interest).ok()?;
     hex::encode(alloc, &out).ok()
+}
+
+/// Whether two octets and an Interest are these octets, once the Interest is in a link packet with
+/// this token, or bare without one.
+fn wraps(alloc: Global, token: Option<&[u8]>, wanted: &[u8]) -> bool {
+    let before = b"\xfe\xff\x05\x0b\x07\x03\x08\x01\x41\x0a\x04\x01\x02\x03\x04";
+    let Ok(mut out) = before.to_vec(alloc) else {
+        return false;
+    };
+    wrap(&mut out, 2, token).is_ok() && out.as_slice() == wanted
 }
 
 #[test]
@@ -116,6 +126,16 @@ fn written_tokens(rt: HostRuntime) {
 no Nack -> 64136202a1b2500d050b07030801410a0401020304
 ";
     check_rows(&rt, rt.alloc(), rows, with_token);
+}
+
+/// What stands before the packet stays, and without a token all of it.
+#[test]
+fn octets_in_a_link_packet(rt: HostRuntime) {
+    let bare = b"\xfe\xff\x05\x0b\x07\x03\x08\x01\x41\x0a\x04\x01\x02\x03\x04";
+    assert!(rt; wraps(rt.alloc(), None, bare));
+    let wrapped =
+        b"\xfe\xff\x64\x13\x62\x02\xa1\xb2\x50\x0d\x05\x0b\x07\x03\x08\x01\x41\x0a\x04\x01\x02\x03\x04";
+    assert!(rt; wraps(rt.alloc(), Some(b"\xa1\xb2"), wrapped));
 }
 
 /// A known field twice.
