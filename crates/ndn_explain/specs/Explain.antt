@@ -7,8 +7,8 @@ use Rattle.std.specs.Option.{option_map}
 use Rattle.std.specs.Fmt.{decimal}
 use Rattle.ndn_names.specs.Uri.{uri_of}
 use Rattle.ndn_packets.specs.declared.types.TheConstants.{CONGESTION, DUPLICATE, NO_ROUTE}
-use Rattle.ndn_packets.specs.Packet.{PlainLocator, Missing, KeyName, Digest, Other, PlainSignature, PlainSignatureInfo, PlainData, PlainFrame, AnInterest, AData, ANack, Idle}
-use Rattle.ndn_explain.specs.Show.{named_line, optional_line, interest_lines, frame_lines}
+use Rattle.ndn_packets.specs.Packet.{PlainLocator, Missing, KeyName, Digest, Other, PlainSignature, PlainSignatureInfo, PlainData, PlainFrame, PlainFramed, AnInterest, AData, ANack, Idle}
+use Rattle.ndn_explain.specs.Show.{named_line, optional_line, hex_or_dash, interest_lines, frame_lines}
 use Rattle.ndn_explain.specs.Meaning.{command_lines, is_printable, reply_lines}
 use Rattle.ndn_explain.specs.declared.dataset.Layout.TheVariants.{Lines}
 use Rattle.ndn_explain.specs.Dataset.{dataset_lines}
@@ -80,3 +80,9 @@ abbrev pub explanation : PlainFrame → Option TagCheck → List ℕ
 explanation frame check =
     named_frame_lines frame
     ++ (signer_lines (signature_of frame) ++ (check_lines check ++ meaning frame))
+
+-- the PIT token beside a frame (NDNLPv2, "PIT Token"), and that of the frame
+abbrev pub framed_explanation : PlainFramed → Option TagCheck → List ℕ
+framed_explanation framed check =
+    optional_line (codes "token") (option_map hex_or_dash framed.token)
+    ++ explanation framed.frame check

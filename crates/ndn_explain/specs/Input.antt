@@ -6,14 +6,14 @@ use Rattle.hmac_keys.specs.KeyFile.{NamedKey, lines_of}
 use Rattle.ndn_tlv.specs.Options.{on_option}
 use Rattle.hmac_keys.specs.KeyReading.{at_last_space}
 use Rattle.ndn_packets.specs.declared.fault.PacketFault.{PacketFault}
-use Rattle.ndn_packets.specs.Packet.{PlainFrame}
-use Rattle.ndn_packets.specs.Link.{IsFrame}
+use Rattle.ndn_packets.specs.Packet.{PlainFramed}
+use Rattle.ndn_packets.specs.Link.{IsFramed}
 use Rattle.ndn_packets.specs.FrameFaults.{FaultOf}
 use Rattle.ndn_packets.specs.FaultName.{packet_name}
 use Rattle.ndn_explain.specs.declared.tag_check.TagCheck.{TagCheck}
 use Rattle.ndn_explain.specs.Show.{line, named_line}
 use Rattle.ndn_explain.specs.TagCheck.{MayBeChecked}
-use Rattle.ndn_explain.specs.Explain.{explanation}
+use Rattle.ndn_explain.specs.Explain.{framed_explanation}
 
 -- `>` begins the lines of a script's answers that are packets
 abbrev pub is_send : List ℕ → Bool
@@ -34,8 +34,8 @@ repeated (o ∷ text) = line (o ∷ text)
 -- octets in words, or why they are no packet
 abbrev pub IsSaidPacket : Option (List NamedKey) → List ℕ → List ℕ → Type 0
 IsSaidPacket keys octets said =
-    ((frame : PlainFrame) × (check : Option TagCheck) × IsFrame octets frame
-    × MayBeChecked frame keys check × (said ≡ explanation frame check))
+    ((framed : PlainFramed) × (check : Option TagCheck) × IsFramed octets framed
+    × MayBeChecked framed.frame keys check × (said ≡ framed_explanation framed check))
     ⊎ ((why : PacketFault) × FaultOf octets why
     × (said ≡ named_line (codes "malformed") (packet_name why)))
 

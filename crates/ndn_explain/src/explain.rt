@@ -3,19 +3,21 @@
 ghost use Rattle.std.specs.Prelude.{◌≡◌, ◌++◌, OnOk, Some, option_map, codes};
 ghost use Rattle.std.specs.Fmt.{decimal};
 ghost use Rattle.ndn_packets.specs.Packet.{plain_signature, plain_locator};
-ghost use Rattle.ndn_packets.specs.View.{plain_frame, plain_data};
+ghost use Rattle.ndn_packets.specs.View.{plain_frame, plain_framed, plain_data};
 ghost use Rattle.ndn_explain.specs.Show.{named_line, optional_line};
 ghost use Rattle.ndn_explain.specs.TagCheck.{MayBeChecked, check_words, check_lines};
-ghost use Rattle.ndn_explain.specs.Explain.{reason_word, named_frame_lines, text_lines, locator_text, info_lines, signer_lines, signature_of, content_lines, data_meaning, meaning, explanation};
+ghost use Rattle.ndn_explain.specs.Explain.{reason_word, named_frame_lines, text_lines, locator_text, info_lines, signer_lines, signature_of, content_lines, data_meaning, meaning, explanation, framed_explanation};
 
 use crate::dataset::{Layout, put_entries};
 use crate::meaning::{is_one_line, put_command, put_reply};
 use crate::segment::put_segment;
-use crate::show::{put_frame, put_interest, put_label, put_name, put_number, put_value};
+use crate::show::{
+    put_frame, put_interest, put_label, put_name, put_number, put_optional, put_value,
+};
 use crate::tag_check::{TagCheck, check_tag};
 use hmac_keys::KeyBook;
 use ndn_packets::types::{CONGESTION, DUPLICATE, NO_ROUTE};
-use ndn_packets::{Data, Frame, Locator, Signature};
+use ndn_packets::{Data, Frame, Framed, Locator, Signature};
 use ndn_tlv::Memory;
 use std::alloc::Global;
 use std::io::Write;
@@ -28,6 +30,21 @@ pub fn check_of(frame: &Frame<'_>, keys: Option<&KeyBook>) -> Option<TagCheck>
         None => None,
         Some(book) => check_tag(frame, book),
     }
+}
+
+/// Appends the line of the PIT token beside a frame, in hexadecimal, where there is one (NDNLPv2, "PIT
+/// Token"), and what `put_explanation` appends. After `Memory` some of it may have been appended.
+pub fn put_framed_explanation(
+    alloc: Global,
+    text: &mut Vec<u8>,
+    framed: &Framed<'_>,
+    check: Option<TagCheck>,
+) -> Result<(), Memory>
+    ensures { OnOk result (text.new.items
+        ≡ text.old.items ++ framed_explanation (plain_framed framed.now) check) }
+{
+    put_optional(alloc, text, "token", framed.token)?;
+    put_explanation(alloc, text, &framed.frame, check)
 }
 
 /// Appends the lines of `show`, those of the SignatureInfo and of the check of the signature, and

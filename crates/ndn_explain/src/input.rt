@@ -7,11 +7,11 @@ ghost use Rattle.hex.specs.Hex.{decode_of};
 ghost use Rattle.ndn_packets.specs.FaultName.{packet_name};
 ghost use Rattle.ndn_explain.specs.Show.{named_line};
 
-use crate::explain::{check_of, put_explanation};
+use crate::explain::{check_of, put_framed_explanation};
 use crate::show::{put_label, put_value};
 use hex::FromHexError;
 use hmac_keys::{KeyBook, first_line};
-use ndn_packets::{PacketFault, read_frame};
+use ndn_packets::{PacketFault, read_lp};
 use ndn_tlv::Memory;
 use std::alloc::Global;
 
@@ -135,8 +135,10 @@ fn put_packet(
         × IsSaidPacket (option_map (λ b. b.now) keys.entry) octets.now said
         × (text.new.items ≡ text.old.items ++ said)) }
 {
-    match read_frame(octets) {
-        Ok(frame) => put_explanation(alloc, text, &frame, check_of(&frame, keys)),
+    match read_lp(octets) {
+        Ok(framed) => {
+            put_framed_explanation(alloc, text, &framed, check_of(&framed.frame, keys))
+        }
         Err(fault) => put_malformed(text, fault),
     }
 }

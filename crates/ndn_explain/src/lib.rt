@@ -11,7 +11,7 @@ mod show;
 mod tag_check;
 
 pub use dataset::{Layout, put_entries};
-pub use explain::{check_of, put_explanation};
+pub use explain::{check_of, put_explanation, put_framed_explanation};
 pub use input::put_input;
 pub use meaning::parameters_in;
 pub use reply::{put_written, written_content};

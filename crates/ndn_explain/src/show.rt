@@ -150,7 +150,7 @@ pub fn put_flag(text: &mut Vec<u8>, label: &str, is_there: bool) -> Result<(), M
     }
 }
 
-fn put_optional(
+pub fn put_optional(
     alloc: Global,
     text: &mut Vec<u8>,
     label: &str,
