@@ -93,6 +93,28 @@ impl<V: Timed + Drop> TimedMap<V> {
         value_of(&self.nodes, k)
     }
 
+    /// The value of a name with one component more.
+    pub fn get_below(&self, name: Name<'_>, component: Component<'_>) -> Option<&V>
+        ensures { option_map (λ v. v.now) result ≡ map.get self.now.table
+            (components name.entry ++ field_of component.entry ∷ []) }
+    {
+        let at = find(&self.nodes, self.root, name)?;
+        let k = child_of(&self.nodes, at, component)?;
+        value_of(&self.nodes, k)
+    }
+
+    /// Whether a name may have values of names with one component more, of this type or a lesser
+    /// one.
+    pub fn has_below(&self, name: Name<'_>, kind: u16) -> bool
+        ensures { result ≡ false → (c : Field) → c.0 ≤ kind
+            → map.get self.now.table (components name.entry ++ c ∷ []) ≡ None }
+    {
+        match find(&self.nodes, self.root, name) {
+            Some(at) => has_child_up_to(&self.nodes, at, kind),
+            None => false,
+        }
+    }
+
     /// Puts what a name's value becomes in its place.
     pub fn put_with<B: Becomes<V> + Drop>(&mut self, name: Name<'_>, how: B) -> Result<(), Memory>
         ensures ok { OnOk result (self.new.table ≡ map.insert self.old.table

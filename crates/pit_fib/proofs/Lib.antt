@@ -22,6 +22,9 @@ pub mod Preparations
 pub mod Expiry
 pub mod Arrivals
 pub mod Answered
+pub mod LastAsks
+pub mod Tokenless
+pub mod AskedFaces
 pub mod SatisfiedTables
 pub mod Routes
 pub mod Within

@@ -1,7 +1,7 @@
 -- The entry of the longest prefix, and how many routes end by a moment.
-use Rattle.std.proofs.Common.{◌≡◌, ◌⊎◌, inl, inr, ℕ, zero, suc, ◌+◌, ◌-◌, ◌<◌, ◌≤◌, Bool, true, false, not, cond, List, [], ◌∷◌, length, take, refl, sym, ap, subst, ◌∙◌, arith, leb}
+use Rattle.std.proofs.Common.{◌≡◌, ◌⊎◌, inl, inr, ℕ, zero, suc, ◌+◌, ◌<◌, ◌≤◌, true, false, cond, List, [], ◌∷◌, length, take, refl, sym, ap, subst, ◌∙◌, arith, leb}
 use Rattle.std.proofs.lemmas.Bool.{leb-false, leb-true}
-use Rattle.std.specs.Prelude.{Option, None, Some, IsSome, filter, is_some}
+use Rattle.std.specs.Prelude.{None, Some, IsSome, filter, is_some}
 use Rattle.std.specs.FinMap.{empty, entries, get, len, len-entries}
 use Rattle.ndn_tlv.specs.Element.{Field}
 use Rattle.name_trie.specs.ByName.{IsLongest, revised, with_entry}
@@ -9,7 +9,7 @@ use Rattle.name_trie.specs.Flat.{total}
 use Rattle.pit_fib.specs.declared.route.Route.{Route}
 use Rattle.pit_fib.specs.declared.route.RouteKey.{RouteKey}
 use Rattle.pit_fib.specs.Effective.{effective, longest_costs, longest_hops}
-use Rattle.pit_fib.specs.Fib.{Entry, Routes, due_count, left_at, route_count}
+use Rattle.pit_fib.specs.Fib.{Entry, Routes, due_count}
 use Rattle.pit_fib.specs.Hops.{hops_of}
 use Rattle.pit_fib.specs.Route.{is_due, until_due}
 use Rattle.pit_fib.specs.Tables.{ByFace}

@@ -25,7 +25,7 @@ differ b p q = absurd cc
 dead_is_empty : {X : Type 0} (m : FinMap nat_cmp X) → ltb 0 (len m) ≡ false → m ≡ empty
 dead_is_empty m e = empty_of_len m (grind (arith, nat_tests))
 
-get-settled : (r : Records) (f : ℕ) → get (settled r).in_records f ≡ get r.in_records f
+pub get-settled : (r : Records) (f : ℕ) → get (settled r).in_records f ≡ get r.in_records f
 get-settled r f =
     elim (is_alive r) as (λ b. is_alive r ≡ b → get (cond b r no_records).in_records f ≡ get r.in_records f) [
       | true ↦ λ a. refl

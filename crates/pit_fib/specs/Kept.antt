@@ -1,5 +1,5 @@
 -- What is kept under a key, and what the calls of the table make of it, for private contracts.
-use Rattle.std.specs.Prelude.{ℕ, Bool, true, false, List, [], ◌∷◌, Option, None, Some, nat_lt, min, unwrap_or, refl, ◌||◌, if◌then◌else◌}
+use Rattle.std.specs.Prelude.{ℕ, ◌-◌, ◌==◌, Bool, true, false, List, [], ◌∷◌, length, take, drop, Option, None, Some, nat_lt, min, unwrap_or, refl, ◌||◌, if◌then◌else◌}
 use Rattle.std.specs.Coded.{Coded, code_by, coded×, coded_bool}
 use Rattle.std.specs.Option.{option_map, option_and_then}
 use Rattle.std.specs.FinMap as map
@@ -17,6 +17,15 @@ use Rattle.pit_fib.specs.declared.nacked.Nacked.TheVariants.{NoPending}
 use Rattle.pit_fib.specs.Pit.{all_nacked, least_reason, was_sent}
 use Rattle.pit_fib.specs.Records.{InRecord, OutRecord, Records, Pending, no_records, is_alive, records_code}
 use Rattle.pit_fib.specs.Cause.{Cause, changed, until_after, with_reason}
+
+-- the Interest in octets that end with its token, of so many octets
+abbrev pub interest_in : ℕ → List ℕ → List ℕ
+interest_in token_len octets = take (length octets - token_len) octets
+
+-- the token at the end of these octets, if it has any
+abbrev pub token_in : ℕ → List ℕ → Option (List ℕ)
+token_in token_len octets =
+    if token_len == 0 then None else Some (drop (length octets - token_len) octets)
 
 -- the records, and whether there is memory for out-records of all faces
 pub record Kept : Type 0 where

@@ -13,10 +13,12 @@ pub mod StrategyTable
 pub mod Records
 pub mod Cause
 pub mod Pit
+pub mod Tokens
 pub mod Past
 pub mod Flags
 pub mod Faced
 pub mod Kept
+pub mod Last
 pub mod Prepared
 pub use Rattle.name_trie.specs.ByName
 pub use Rattle.name_trie.specs.NameTable

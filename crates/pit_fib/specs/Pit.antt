@@ -1,7 +1,7 @@
 -- The pending Interest table: what it answers, what it can take, and the call that may be prepared
 -- (NFD Developer's Guide, "Pending Interest Table", "Incoming Interest Pipeline", "Incoming Nack
 -- Pipeline").
-use Rattle.std.specs.Prelude.{◌≡◌, ◌⊎◌, ℕ, ◌≤◌, List, [], ◌∷◌, min, Bool, Option, None, Some, IsSome, IsTrue, false, option_and_then, ◌==◌, ◌&&◌, ◌||◌, not, refl, if◌then◌else◌}
+use Rattle.std.specs.Prelude.{◌≡◌, ◌⊎◌, ℕ, ◌≤◌, List, [], ◌∷◌, length, min, Bool, Option, None, Some, IsSome, IsTrue, false, option_and_then, ◌==◌, ◌&&◌, ◌||◌, not, refl, if◌then◌else◌}
 use Rattle.std.specs.Coded.{Coded, code_by, coded×, coded_option, coded_ℕ}
 use Rattle.std.specs.List.{list_any}
 use Rattle.std.specs.FinMap as map
@@ -40,6 +40,17 @@ HasRecord pending face =
 -- the faces that have a record, and this one, are at most 64
 abbrev pub HasRoomFor : Pending → ℕ → Type 0
 HasRoomFor pending face = AtMost64 (λ f. HasRecord pending f ⊎ (f ≡ face))
+
+-- ---- PIT tokens
+
+-- the octets of a PIT token, and none where there is no token
+abbrev pub token_octets : Option (List ℕ) → List ℕ
+token_octets None = []
+token_octets (Some token) = token
+
+-- how many octets a PIT token has: 0 where there is no token
+abbrev pub token_len : Option (List ℕ) → ℕ
+token_len token = length (token_octets token)
 
 -- ---- answers
 

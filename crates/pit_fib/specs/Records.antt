@@ -7,11 +7,13 @@ use Rattle.std.specs.FinMap as map
 use lib.Pointwise.{pointwise}
 use Rattle.ndn_packets.specs.Key.{PlainKey, key_cmp}
 
--- the last Interest of a face as it came, and until when it waits, in milliseconds since 1970
+-- the last Interest of a face as it came, until when it waits, in milliseconds since 1970, and the
+-- PIT token that came with it, if any (NDNLPv2, "PIT Token")
 pub record InRecord : Type 0 where
   pub interest : List ℕ
   pub nonce : List ℕ
   pub deadline : ℕ
+  pub token : Option (List ℕ)
 
 -- the last sending to a face: its Nonce, its moment in milliseconds since 1970, and the reason of
 -- the last Nack of that Nonce that came back since, if any
@@ -56,9 +58,10 @@ HoldsTheLiving pending =
 
 abbrev pub in_record_code : Coded InRecord
 in_record_code =
-    code_by (List ℕ × (List ℕ × ℕ)) (coded× (coded_list coded_ℕ)
-    (coded× (coded_list coded_ℕ) coded_ℕ)) (λ a. (a.interest, (a.nonce, a.deadline)))
-    (λ p. record { interest = p.0; nonce = p.1.0; deadline = p.1.1 }) (λ _. refl)
+    code_by (List ℕ × (List ℕ × (ℕ × Option (List ℕ)))) (coded× (coded_list coded_ℕ)
+    (coded× (coded_list coded_ℕ) (coded× coded_ℕ (coded_option (coded_list coded_ℕ)))))
+    (λ a. (a.interest, (a.nonce, (a.deadline, a.token))))
+    (λ p. record { interest = p.0; nonce = p.1.0; deadline = p.1.1.0; token = p.1.1.1 }) (λ _. refl)
 
 abbrev pub out_record_code : Coded OutRecord
 out_record_code =

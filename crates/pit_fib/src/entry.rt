@@ -1,14 +1,15 @@
-ghost use Rattle.std.specs.Prelude.{◌≡◌, ◌≤◌, ◌||◌, ◌&&◌, ◌==◌, not, min};
+ghost use Rattle.std.specs.Prelude.{◌≡◌, ◌≤◌, ◌||◌, ◌&&◌, ◌==◌, IfSome, length, not, min};
 ghost use Rattle.std.specs.List.{list_any};
-ghost use Rattle.std.specs.Option.{option_map};
+ghost use Rattle.std.specs.Option.{option_map, option_and_then};
 ghost use Rattle.std.specs.FinMap as map;
 ghost use Rattle.pit_fib.specs.declared.faces.TheConstants.{MAX_FACES};
 ghost use Rattle.pit_fib.specs.declared.room.TheConstants.{FEW};
 ghost use Rattle.pit_fib.specs.Faced.{has_place};
 ghost use Rattle.pit_fib.specs.Records.{is_alive, same_nonce};
 ghost use Rattle.pit_fib.specs.Cause.{sent_at, nacked_with, with_reason};
-ghost use Rattle.pit_fib.specs.Kept.{with_in_record, deadline, expired, lesser, living, nacked, new_in, kept_out_records, sent_in, with_faces_of, with_asking, withdrawn, without_face};
+ghost use Rattle.pit_fib.specs.Kept.{with_in_record, deadline, expired, interest_in, lesser, living, nacked, new_in, kept_out_records, sent_in, token_in, with_faces_of, with_asking, withdrawn, without_face};
 ghost use Rattle.pit_fib.specs.Pit.{all_nacked, least_reason, loops as loops_in, moments as moments_of, was_sent};
+ghost use Rattle.pit_fib.specs.Last.{ask_in, later};
 ghost use Rattle.name_trie.specs.Least.{least};
 
 use crate::by_face::Used;
@@ -21,35 +22,68 @@ use std::marker::Model;
 /// The last Interest of a face, as it came.
 #[derive(Drop)]
 pub struct InRecord {
-    interest: Vec<u8>,
+    // Those of the Interest, then those of its PIT token.
+    octets: Vec<u8>,
     nonce: [u8; 4],
+    // How many of the octets are the token's: 0 where there is none.
+    token_len: u8,
     deadline: u64,
 }
 
 impl Model for InRecord {
+    ghost use Rattle.std.specs.Prelude.{◌≤◌, vec_len};
     ghost use Rattle.pit_fib.specs.Records.{InRecord as PlainInRecord, in_record_code};
+    ghost use Rattle.pit_fib.specs.Kept.{interest_in, token_in};
 
     ghost Value = { PlainInRecord };
 
     ghost coded = { in_record_code };
 
     ghost view = { λ a. record {
-      interest = a.interest.items;
+      interest = interest_in a.token_len a.octets.items;
       nonce = a.nonce;
       deadline = a.deadline;
+      token = token_in a.token_len a.octets.items;
     } };
+
+    ghost invariant = { λ a. (a.token_len ≤ vec_len a.octets) × (a.token_len ≤ 32) };
 }
 
 impl InRecord {
-    pub fn new(interest: Vec<u8>, nonce: [u8; 4], deadline: u64) -> InRecord
-        ensures { result
-            ≡ record { interest = interest.items; nonce = nonce; deadline = deadline } }
+    /// The Interest and the token in these octets, of which so many are the token's.
+    pub fn new(octets: Vec<u8>, token_len: u8, nonce: [u8; 4], deadline: u64) -> InRecord
+        requires { (token_len ≤ length octets.items) × (token_len ≤ 32) }
+        ensures { result ≡ record {
+          interest = interest_in token_len octets.items;
+          nonce = nonce;
+          deadline = deadline;
+          token = token_in token_len octets.items;
+        } }
     {
         InRecord {
-            interest,
+            octets,
             nonce,
+            token_len,
             deadline,
         }
+    }
+
+    /// The octets of the Interest.
+    fn interest(&self) -> &[u8]
+        ensures { result.now ≡ self.now.interest }
+    {
+        &self.octets[..self.octets.len() - usize::from(self.token_len)]
+    }
+
+    /// The token.
+    pub fn token(&self) -> Option<&[u8]>
+        ensures token { option_map (λ t. t.now) result ≡ self.now.token }
+        ensures sizes { IfSome result (λ t. (1 ≤ length t.now) × (length t.now ≤ 32)) }
+    {
+        if self.token_len == 0 {
+            return None;
+        }
+        Some(&self.octets[self.octets.len() - usize::from(self.token_len)..])
     }
 
     /// Until when it waits, in milliseconds since 1970.
@@ -293,7 +327,23 @@ impl Entry {
             ≡ option_map (λ r. r.interest) (map.get self.now.records.in_records face) }
     {
         let in_record = self.in_records.get(face)?;
-        Some(&in_record.interest)
+        Some(in_record.interest())
+    }
+
+    /// The token of the Interest of a face.
+    pub fn token_of(&self, face: u64) -> Option<&[u8]>
+        ensures token { option_map (λ t. t.now) result ≡ option_and_then (λ r. r.token)
+            (map.get self.now.records.in_records face) }
+        ensures sizes { IfSome result (λ t. (1 ≤ length t.now) × (length t.now ≤ 32)) }
+    {
+        self.in_records.get(face)?.token()
+    }
+
+    /// The Interest of a face.
+    fn in_record_of(&self, face: u64) -> Option<&InRecord>
+        ensures { option_map (λ r. r.now) result ≡ map.get self.now.records.in_records face }
+    {
+        self.in_records.get(face)
     }
 
     /// Whether the last sending to a face had this Nonce.
@@ -341,6 +391,35 @@ impl Entry {
     {
         self.in_records.remove(face);
         self.out_records.remove(face);
+    }
+}
+
+/// The later of two Interests, the second where their deadlines are the same, or the one that is
+/// there.
+pub fn later<'a>(a: Option<&'a InRecord>, b: Option<&'a InRecord>) -> Option<&'a InRecord>
+    ensures { option_map (λ r. r.now) result
+        ≡ later (option_map (λ r. r.now) a.entry) (option_map (λ r. r.now) b.entry) }
+{
+    match (a, b) {
+        (Some(a), Some(b)) => {
+            if b.deadline < a.deadline {
+                Some(a)
+            } else {
+                Some(b)
+            }
+        }
+        (Some(a), None) => Some(a),
+        (None, b) => b,
+    }
+}
+
+/// The Interest of a face, if something is kept.
+pub fn in_record_of(entry: &Option<Entry>, face: u64) -> Option<&InRecord>
+    ensures { option_map (λ r. r.now) result ≡ ask_in face entry.now }
+{
+    match entry {
+        Some(entry) => entry.in_record_of(face),
+        None => None,
     }
 }
 

@@ -15,6 +15,7 @@ ghost use Rattle.pit_fib.specs.Records.{Records, Pending, HoldsTheLiving, is_ali
 ghost use Rattle.pit_fib.specs.Cause.{Cause, Expires, records_after, with_reason};
 ghost use Rattle.pit_fib.specs.Pit.{IsLeastReason, was_sent, nacked_answer};
 ghost use Rattle.pit_fib.specs.declared.nacked.Nacked.TheVariants as answers;
+ghost use Rattle.pit_fib.specs.Tokens.{IsTokenFor};
 ghost use Rattle.pit_fib.specs.Past.{records_of, in_record_of, out_record_of};
 
 use crate::faces::MAX_FACES;
@@ -94,6 +95,13 @@ pub fn nacks_tell_the_least_reason()
         → (nacked_answer r face nonce reason ≡ answers.All least)
         ↔ IsLeastReason (with_reason face nonce reason r.out_records
         (map.get r.out_records face)) least }
+{}
+
+/// Law: at most one token goes to a face with a Data.
+pub fn tokens_for_data_are_one()
+    ensures { (records : PlainKey → Records) (name : List Field) (digest : List ℕ) (face : ℕ)
+        (a b : Option (List ℕ)) → IsTokenFor records name digest face a
+        → IsTokenFor records name digest face b → a ≡ b }
 {}
 
 /// Law: tables of the living that have the same records at each key are the same.

@@ -1,16 +1,19 @@
-ghost use Rattle.std.specs.Prelude.{◌≡◌, ◌≢◌, ◌↔◌, ◌<◌, ◌≤◌, ◌⊎◌, ℕ, true, false, None, Some, Err, IsOk, IsTrue, IfErr, IfOk, OnOk, OnErr, length};
-ghost use Rattle.std.specs.Option.{option_map};
+ghost use Rattle.std.specs.Prelude.{◌≡◌, ◌≢◌, ◌↔◌, ◌+◌, ◌<◌, ◌≤◌, ◌⊎◌, ℕ, true, false, None, Some, Err, IsOk, IsTrue, IfErr, IfOk, IfSome, OnOk, OnErr, [], length};
+ghost use Rattle.std.specs.Option.{option_map, option_and_then};
 ghost use Rattle.std.specs.FinMap as map;
 ghost use Rattle.sha2.specs.Sha256.{sha256};
 ghost use Rattle.ndn_names.specs.View.{components};
 ghost use Rattle.ndn_packets.specs.Key.{plain_key};
+ghost use Rattle.name_trie.specs.Taken.{taken, taken_along};
 ghost use Rattle.pit_fib.specs.declared.fault.PitFault.TheVariants as faults;
 ghost use Rattle.pit_fib.specs.declared.faces.TheConstants.{MAX_FACES};
 ghost use Rattle.pit_fib.specs.Faces.{AtMost64, IsRising, has_face};
 ghost use Rattle.pit_fib.specs.Records.{HoldsTheLiving, is_alive, records_at};
 ghost use Rattle.pit_fib.specs.Cause.{Expires, Arrives, SentTo, Satisfied, NackCame, Withdrawn, Removed, Closed, Follows};
-ghost use Rattle.pit_fib.specs.Kept.{answer_in, has_place_in, kept_at, was_sent_in};
-ghost use Rattle.pit_fib.specs.Pit.{HasRecord, HasRoomFor, WaitsFor, loops as loops_in, moments, nacked_answer};
+ghost use Rattle.pit_fib.specs.Kept.{answer_in, has_place_in, kept_at, was_sent_in, with_answered};
+ghost use Rattle.pit_fib.specs.Pit.{HasRecord, HasRoomFor, WaitsFor, loops as loops_in, moments, nacked_answer, token_len};
+ghost use Rattle.pit_fib.specs.Tokens.{HaveNoTokens, IsTokenFor};
+ghost use Rattle.pit_fib.specs.Last.{last_along, last_in_row, last_of};
 
 use crate::arrival::{Arrival, Departure};
 use crate::by_face::Used;
@@ -20,13 +23,13 @@ use crate::fault::PitFault;
 use crate::fib::MAX_ENTRIES;
 use crate::flags::Flags;
 use crate::nacked::Nacked;
-use crate::prepared::{Prepared, after_sending, arriving, octets_and_room};
+use crate::prepared::{Prepared, after_sending, arriving, in_record_and_room};
 use crate::revisions::{Closing, Expiry, NackOf, Removal, Withdrawal};
 use crate::room::Room;
 use crate::row::{Row, RowRevision};
 use name_trie::TimedMap;
-use ndn_names::Component;
 use ndn_names::component_type::IMPLICIT_SHA256_DIGEST;
+use ndn_names::{Component, Name};
 use ndn_packets::{Data, Key};
 use ndn_tlv::Memory;
 use std::alloc::Global;
@@ -48,12 +51,15 @@ pub struct Pit {
     prepared: Option<Prepared>,
     // Spare memory for the out-records of an entry whose own memory is full.
     spare: Room<OutRecord>,
+    // Whether an Interest may have a PIT token. While none has, no search looks for one.
+    has_tokens: bool,
 }
 
 impl Model for Pit {
     ghost use Rattle.pit_fib.specs.Kept.{pending_of};
     ghost use Rattle.pit_fib.specs.Pit.{PitState, pit_code};
     ghost use Rattle.pit_fib.specs.Prepared.{HasMemory, IsWithin, calls_of};
+    ghost use Rattle.pit_fib.specs.Last.{KnowsTokens};
 
     ghost Value = { PitState };
 
@@ -64,7 +70,8 @@ impl Model for Pit {
       prepared = calls_of p.prepared;
     } };
 
-    ghost invariant = { λ p. IsWithin p.rows.table × HasMemory p.rows p.spare p.prepared };
+    ghost invariant = { λ p. IsWithin p.rows.table × HasMemory p.rows p.spare p.prepared
+        × KnowsTokens p.has_tokens p.rows.table };
 }
 
 impl Pit {
@@ -78,6 +85,7 @@ impl Pit {
             rows: TimedMap::new(alloc),
             prepared: None,
             spare: Room::none(alloc),
+            has_tokens: false,
         }
     }
 
@@ -112,9 +120,10 @@ impl Pit {
         }
     }
 
-    /// Prepares one `arrive` of this key, of an Interest of at most so many octets, and the `sent`
-    /// calls of this key after it. They are then not refused memory while only removals stand
-    /// between. Refuses it for want of memory alone, and then no call is prepared any more.
+    /// Prepares one `arrive` of this key, of an Interest and a PIT token of at most so many octets
+    /// together, and the `sent` calls of this key after it. They are then not refused memory while
+    /// only removals stand between. Refuses it for want of memory alone, and then no call is prepared
+    /// any more.
     pub fn prepare(&mut self, key: Key<'_>, octets: usize) -> Result<(), Memory>
         ensures pending { self.new.pending ≡ self.old.pending }
         ensures ok { OnOk result (self.new.prepared
@@ -130,9 +139,10 @@ impl Pit {
         Ok(())
     }
 
-    /// Keeps the Interest of a face, in these octets, until a deadline in milliseconds since 1970.
-    /// It takes the place of the face's older one of this key. The faces that have records and this
-    /// one are at most 64.
+    /// Keeps the Interest of a face, in these octets, until a deadline in milliseconds since 1970,
+    /// with the PIT token that came with it, of 1 to 32 octets (NDNLPv2, "PIT Token"). It takes the
+    /// place of the face's older one of this key, and so does its token, or that it has none. The
+    /// faces that have records and this one are at most 64.
     ///
     /// Refuses it, and then changes nothing but that no call is prepared any more: `PitFull` for a
     /// new key while 4,096 stand, else `Memory`.
@@ -143,10 +153,17 @@ impl Pit {
         nonce: [u8; 4],
         interest: &[u8],
         deadline: u64,
+        token: Option<&[u8]>,
     ) -> Result<(), PitFault>
-        requires { HasRoomFor self.old.pending face }
+        requires room { HasRoomFor self.old.pending face }
+        requires token { IfSome token (λ t. (1 ≤ length t.now) × (length t.now ≤ 32)) }
         ensures ok { OnOk result (Follows (Arrives (plain_key key.entry) face
-            (record { interest = interest.now; nonce = nonce; deadline = deadline }))
+            (record {
+              interest = interest.now;
+              nonce = nonce;
+              deadline = deadline;
+              token = option_map (λ t. t.now) token.entry;
+            }))
             self.old.pending self.new.pending) }
         ensures err { OnErr result (self.new.pending ≡ self.old.pending) }
         ensures next { (octets : ℕ)
@@ -160,14 +177,15 @@ impl Pit {
             × (MAX_PENDING ≤ map.len self.old.pending)) }
         ensures promised { (octets : ℕ)
             → self.old.prepared ≡ Some (plain_key key.entry, Some octets)
-            → length interest.now ≤ octets → IfErr result (λ fault. fault ≢ faults.Memory) }
+            → length interest.now + token_len (option_map (λ t. t.now) token.entry) ≤ octets
+            → IfErr result (λ fault. fault ≢ faults.Memory) }
         ensures living { HoldsTheLiving self.new.pending }
     {
         if self.is_full_for(key) {
             self.prepared = None;
             return Err(PitFault::PitFull);
         }
-        self.keep(key, face, nonce, interest, deadline)?;
+        self.keep(key, face, nonce, interest, deadline, token)?;
         Ok(())
     }
 
@@ -188,12 +206,19 @@ impl Pit {
         nonce: [u8; 4],
         interest: &[u8],
         deadline: u64,
+        token: Option<&[u8]>,
     ) -> Result<(), Memory>
         requires room { HasRoomFor self.old.pending face }
+        requires token { IfSome token (λ t. (1 ≤ length t.now) × (length t.now ≤ 32)) }
         requires place { (is_alive (records_at self.old.pending (plain_key key)) ≡ true)
             ⊎ (map.len self.old.pending < MAX_PENDING) }
         ensures ok { OnOk result (Follows (Arrives (plain_key key.entry) face
-            (record { interest = interest.now; nonce = nonce; deadline = deadline }))
+            (record {
+              interest = interest.now;
+              nonce = nonce;
+              deadline = deadline;
+              token = option_map (λ t. t.now) token.entry;
+            }))
             self.old.pending self.new.pending) }
         ensures err { OnErr result (self.new.pending ≡ self.old.pending) }
         ensures next { (octets : ℕ)
@@ -204,18 +229,22 @@ impl Pit {
             → self.new.prepared ≡ None }
         ensures promised { (octets : ℕ)
             → self.old.prepared ≡ Some (plain_key key.entry, Some octets)
-            → length interest.now ≤ octets → IsOk result }
+            → length interest.now + token_len (option_map (λ t. t.now) token.entry) ≤ octets
+            → IsOk result }
         ensures living { HoldsTheLiving self.new.pending }
     {
         let (ready, after) = arriving(self.prepared.take(), key);
-        let (octets, room) = octets_and_room(self.alloc, ready, interest)?;
+        let (in_record, room) = in_record_and_room(
+            self.alloc, ready, interest, nonce, deadline, token,
+        )?;
         let arrival = Arrival {
             flags: Flags::of(key),
             face,
-            in_record: InRecord::new(octets, nonce, deadline),
+            in_record,
             room,
         };
         self.rows.put_with(key.name, arrival)?;
+        self.has_tokens |= token.is_some();
         self.prepared = after;
         Ok(())
     }
@@ -270,6 +299,39 @@ impl Pit {
         entry_of(&self.rows, key)?.interest_of(face)
     }
 
+    /// Whether some pending Interest may have a PIT token (NDNLPv2, "PIT Token"). Where it is false,
+    /// none has.
+    pub fn has_tokens(&self) -> bool
+        ensures { result ≡ false → HaveNoTokens self.now.pending }
+    {
+        self.has_tokens
+    }
+
+    /// The PIT token that came with the Interest of a face under this key (NDNLPv2, "PIT Token").
+    pub fn token_of(&self, key: Key<'_>, face: u64) -> Option<&[u8]>
+        ensures token { option_map (λ t. t.now) result ≡ option_and_then (λ r. r.token)
+            (map.get (records_at self.now.pending (plain_key key.entry)).in_records face) }
+        ensures sizes { IfSome result (λ t. (1 ≤ length t.now) × (length t.now ≤ 32)) }
+    {
+        entry_of(&self.rows, key)?.token_of(face)
+    }
+
+    /// The PIT token that goes to a face with a Data (NDNLPv2, "PIT Token"): of the Interests of the
+    /// face that the Data answers, whatever their MustBeFresh, that of the one with the latest
+    /// deadline and, among those of one deadline, of the one with the greatest key: by name in
+    /// canonical order, then by CanBePrefix, then by MustBeFresh. None where it came with no token,
+    /// and where the Data answers no Interest of the face.
+    pub fn token_for(&self, packet: &Data<'_>, face: u64) -> Option<&[u8]>
+        ensures token { IsTokenFor (records_at self.now.pending) (components packet.now.name)
+            (sha256 packet.now.whole.now) face (option_map (λ t. t.now) result) }
+        ensures sizes { IfSome result (λ t. (1 ≤ length t.now) × (length t.now ≤ 32)) }
+    {
+        if !self.has_tokens {
+            return None;
+        }
+        last_for(&self.rows, packet, face)?.token()
+    }
+
     /// Takes out all Interests that a Data answers, whatever their MustBeFresh, and gives the faces
     /// that asked.
     pub fn satisfy(&mut self, packet: &Data<'_>) -> Faces
@@ -280,6 +342,9 @@ impl Pit {
         ensures faces { (face : ℕ) → IsTrue (has_face face result)
             ↔ WaitsFor self.old.pending (components packet.now.name)
             (sha256 packet.now.whole.now) face }
+        ensures bare { HaveNoTokens self.old.pending → (face : ℕ)
+            → IsTokenFor (records_at self.old.pending) (components packet.now.name)
+            (sha256 packet.now.whole.now) face None }
         ensures living { HoldsTheLiving self.new.pending }
     {
         let mut faces = Faces::new();
@@ -294,6 +359,31 @@ impl Pit {
             };
             self.rows.take_below(packet.name, component, &mut faces);
         }
+        faces
+    }
+
+    /// The faces that wait for a Data: those that `satisfy` would give.
+    pub fn askers(&self, packet: &Data<'_>) -> Faces
+        ensures rising { IsRising result }
+        ensures faces { (face : ℕ) → IsTrue (has_face face result)
+            ↔ WaitsFor self.now.pending (components packet.now.name)
+            (sha256 packet.now.whole.now) face }
+    {
+        let mut faces = Faces::new();
+        add_along(&self.rows, packet.name, &mut faces);
+        if !self.rows.has_below(packet.name, IMPLICIT_SHA256_DIGEST) {
+            return faces;
+        }
+        let digest = packet.digest();
+        let component = Component {
+            kind: IMPLICIT_SHA256_DIGEST,
+            value: &digest,
+        };
+        add_of(
+            self.rows.get_below(packet.name, component),
+            true,
+            &mut faces,
+        );
         faces
     }
 
@@ -369,6 +459,81 @@ fn entry_of<'a>(rows: &'a TimedMap<Row>, key: Key<'_>) -> Option<&'a Entry>
     ensures { option_map (λ e. e.now) result ≡ kept_at rows.now.table (plain_key key.entry) }
 {
     rows.get(key.name)?.get(Flags::of(key))
+}
+
+/// The later of a face's in-records under a name's keys and this one. Those with CanBePrefix count
+/// or, if the name is a Data's own, all.
+fn last_at<'a>(
+    rows: &'a TimedMap<Row>,
+    name: Name<'_>,
+    is_own: bool,
+    face: u64,
+    last: Option<&'a InRecord>,
+) -> Option<&'a InRecord>
+    ensures { option_map (λ r. r.now) result ≡ last_in_row is_own face
+        (option_map (λ r. r.now) last.entry) (map.get rows.now.table (components name.entry)) }
+{
+    match rows.get(name) {
+        Some(row) => row.last_of(is_own, face, last),
+        None => last,
+    }
+}
+
+/// The last of a face's in-records under a name's keys, and those of its proper prefixes that have
+/// CanBePrefix.
+fn last_along<'a>(rows: &'a TimedMap<Row>, name: Name<'_>, face: u64) -> Option<&'a InRecord>
+    ensures { option_map (λ r. r.now) result
+        ≡ last_along rows.now.table face (components name.entry) }
+{
+    let mut last = None;
+    for n in 0..name.len() {
+        last = last_at(rows, name.prefix(n), false, face, last);
+    }
+    last_at(rows, name, true, face, last)
+}
+
+/// The last of a face's in-records that a Data answers. The Data's digest is computed only where a
+/// key asks for one.
+fn last_for<'a>(rows: &'a TimedMap<Row>, packet: &Data<'_>, face: u64) -> Option<&'a InRecord>
+    ensures { option_map (λ r. r.now) result ≡ last_of rows.now.table face
+        (components packet.now.name) (sha256 packet.now.whole.now) }
+{
+    let last = last_along(rows, packet.name, face);
+    if !rows.has_below(packet.name, IMPLICIT_SHA256_DIGEST) {
+        return last;
+    }
+    let digest = packet.digest();
+    let component = Component {
+        kind: IMPLICIT_SHA256_DIGEST,
+        value: &digest,
+    };
+    match rows.get_below(packet.name, component) {
+        Some(row) => row.last_of(true, face, last),
+        None => last,
+    }
+}
+
+/// Adds the faces that ask under a name's keys, if it has any. Those with CanBePrefix count or, if the
+/// name is a Data's own, all.
+fn add_of(row: Option<&Row>, is_own: bool, faces: &mut Faces)
+    ensures { faces.new
+        ≡ taken (with_answered is_own) faces.old (option_map (λ r. r.now) row.entry) }
+{
+    if let Some(row) = row {
+        row.add_answered(is_own, faces);
+    }
+}
+
+/// Adds the faces that ask under a name's keys, and under those of its proper prefixes that have
+/// CanBePrefix.
+fn add_along(rows: &TimedMap<Row>, name: Name<'_>, faces: &mut Faces)
+    ensures { faces.new ≡ taken_along (with_answered true) (with_answered false) faces.old
+        (map.get rows.now.table) [] (components name.entry) }
+{
+    for n in 0..name.len() {
+        add_of(rows.get(name.prefix(n)), false, faces);
+    }
+    add_of(rows.get(name), true, faces);
 }
 
 /// Whether the last sending to a face under this key had this Nonce.

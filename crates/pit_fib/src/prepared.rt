@@ -1,8 +1,11 @@
-ghost use Rattle.std.specs.Prelude.{◌≡◌, ◌≢◌, ◌≤◌, ◌⊎◌, ℕ, None, Some, IfOk, IfSome, IsOk, length};
+ghost use Rattle.std.specs.Prelude.{◌≡◌, ◌≢◌, ◌+◌, ◌≤◌, ◌⊎◌, ◌++◌, ℕ, None, Some, IfOk, IfSome, IsOk, length};
+ghost use Rattle.std.specs.Option.{option_map};
 ghost use Rattle.ndn_packets.specs.Key.{plain_key};
+ghost use Rattle.pit_fib.specs.Pit.{token_len, token_octets};
 ghost use Rattle.pit_fib.specs.Prepared.{HasNoArrival, IsReady, calls_of, room_of};
 
 use crate::arrival::RecordRoom;
+use crate::entry::InRecord;
 use crate::key_buf::KeyBuf;
 use ndn_packets::Key;
 use ndn_tlv::Memory;
@@ -89,20 +92,59 @@ fn ready_for(alloc: Global, ready: Option<Ready>, size: usize) -> Result<Ready, 
     }
 }
 
-/// An Interest's octets and memory for its records: in this memory, or in new.
-pub fn octets_and_room(
+/// The octets of a token, if there is one.
+fn octets_of(token: Option<&[u8]>) -> &[u8]
+    ensures { result.now ≡ token_octets (option_map (λ t. t.now) token.entry) }
+{
+    match token {
+        Some(token) => token,
+        None => &[],
+    }
+}
+
+/// The octets of an Interest and its token, and memory for its records: in this memory, or in new.
+fn octets_and_room(
     alloc: Global,
     ready: Option<Ready>,
     interest: &[u8],
+    token: &[u8],
 ) -> Result<(Vec<u8>, RecordRoom), Memory>
     requires { IfSome ready IsReady }
-    ensures ok { IfOk result (λ made. made.0.items ≡ interest.now) }
-    ensures promised { (room : ℕ) → room_of ready ≡ Some room → length interest.now ≤ room
+    ensures ok { IfOk result (λ made. made.0.items ≡ interest.now ++ token.now) }
+    ensures promised { (room : ℕ) → room_of ready ≡ Some room
+        → length interest.now + length token.now ≤ room → IsOk result }
+{
+    let mut ready = ready_for(alloc, ready, interest.len() + token.len())?;
+    ready.octets.extend_from_slice(interest)?;
+    ready.octets.extend_from_slice(token)?;
+    Ok((ready.octets, ready.records))
+}
+
+/// A face's Interest with its token, and memory for its records: in this memory, or in new.
+pub fn in_record_and_room(
+    alloc: Global,
+    ready: Option<Ready>,
+    interest: &[u8],
+    nonce: [u8; 4],
+    deadline: u64,
+    token: Option<&[u8]>,
+) -> Result<(InRecord, RecordRoom), Memory>
+    requires ready { IfSome ready IsReady }
+    requires token { IfSome token (λ t. (1 ≤ length t.now) × (length t.now ≤ 32)) }
+    ensures ok { IfOk result (λ made. made.0 ≡ record {
+      interest = interest.now;
+      nonce = nonce;
+      deadline = deadline;
+      token = option_map (λ t. t.now) token.entry;
+    }) }
+    ensures promised { (room : ℕ) → room_of ready ≡ Some room
+        → length interest.now + token_len (option_map (λ t. t.now) token.entry) ≤ room
         → IsOk result }
 {
-    let mut ready = ready_for(alloc, ready, interest.len())?;
-    ready.octets.extend_from_slice(interest)?;
-    Ok((ready.octets, ready.records))
+    let token = octets_of(token);
+    let (octets, room) = octets_and_room(alloc, ready, interest, token)?;
+    let in_record = InRecord::new(octets, token.len() as u8, nonce, deadline);
+    Ok((in_record, room))
 }
 
 /// What is prepared after a sending under this key.

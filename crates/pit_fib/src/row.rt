@@ -2,8 +2,9 @@ ghost use Rattle.std.specs.Prelude.{◌≡◌, None, Some, Option, IfOk, unwrap_
 ghost use Rattle.std.specs.Option.{option_map};
 ghost use Rattle.std.specs.FinMap as map;
 ghost use Rattle.pit_fib.specs.Kept.{changed_row, with_answered};
+ghost use Rattle.pit_fib.specs.Last.{last_in};
 
-use crate::entry::Entry;
+use crate::entry::{Entry, InRecord};
 use crate::faces::Faces;
 use crate::flags::Flags;
 use crate::slots::{Revision, Slots};
@@ -79,6 +80,23 @@ impl Row {
     {
         if let Some(slots) = &self.slots {
             slots.add_answered(is_own, faces);
+        }
+    }
+
+    /// The later of a face's Interests and this one: those under the keys with CanBePrefix or, if
+    /// the name is a Data's own, under all.
+    pub fn last_of<'a>(
+        &'a self,
+        is_own: bool,
+        face: u64,
+        last: Option<&'a InRecord>,
+    ) -> Option<&'a InRecord>
+        ensures { option_map (λ r. r.now) result
+            ≡ last_in is_own face (option_map (λ r. r.now) last.entry) self.now }
+    {
+        match &self.slots {
+            Some(slots) => slots.last_of(is_own, face, last),
+            None => last,
         }
     }
 }

@@ -3,8 +3,9 @@ ghost use Rattle.std.specs.Option.{option_map, option_and_then};
 ghost use Rattle.std.specs.FinMap as map;
 ghost use Rattle.name_trie.specs.Least.{least};
 ghost use Rattle.pit_fib.specs.Kept.{deadline, row_of, with_answered};
+ghost use Rattle.pit_fib.specs.Last.{last_exact, last_in, last_prefix};
 
-use crate::entry::{Entry, add_faces, lesser};
+use crate::entry::{Entry, InRecord, add_faces, in_record_of, later, lesser};
 use crate::faces::Faces;
 use crate::flags::Flags;
 use std::marker::Model;
@@ -142,6 +143,42 @@ impl Slots {
         }
         add_faces(&self.prefix, faces);
         add_faces(&self.prefix_fresh, faces);
+    }
+
+    /// The later of a face's Interests under the keys without CanBePrefix and this one.
+    fn last_exact<'a>(&'a self, face: u64, last: Option<&'a InRecord>) -> Option<&'a InRecord>
+        ensures { option_map (λ r. r.now) result
+            ≡ last_exact face (option_map (λ r. r.now) last.entry) self.now }
+    {
+        let last = later(last, in_record_of(&self.exact, face));
+        later(last, in_record_of(&self.exact_fresh, face))
+    }
+
+    /// The later of a face's Interests under the keys with CanBePrefix and this one.
+    fn last_prefix<'a>(&'a self, face: u64, last: Option<&'a InRecord>) -> Option<&'a InRecord>
+        ensures { option_map (λ r. r.now) result
+            ≡ last_prefix face (option_map (λ r. r.now) last.entry) self.now }
+    {
+        let last = later(last, in_record_of(&self.prefix, face));
+        later(last, in_record_of(&self.prefix_fresh, face))
+    }
+
+    /// The later of a face's Interests and this one: those under the keys with CanBePrefix or, if
+    /// the name is a Data's own, under all.
+    pub fn last_of<'a>(
+        &'a self,
+        is_own: bool,
+        face: u64,
+        last: Option<&'a InRecord>,
+    ) -> Option<&'a InRecord>
+        ensures { option_map (λ r. r.now) result
+            ≡ last_in is_own face (option_map (λ r. r.now) last.entry) self.now }
+    {
+        if is_own {
+            self.last_prefix(face, self.last_exact(face, last))
+        } else {
+            self.last_prefix(face, last)
+        }
     }
 }
 

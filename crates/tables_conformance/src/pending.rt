@@ -1,9 +1,11 @@
 //! Pending Interests: tables of faces below 64, of which each call so has room.
 
+mod askers;
 mod pending_records;
 mod random_sequences;
+mod tokens;
 
-ghost use Rattle.std.specs.Prelude.{◌≡◌, ℕ, IfSome, IsSome, length};
+ghost use Rattle.std.specs.Prelude.{◌≡◌, ◌≤◌, ℕ, IfSome, IsSome, length};
 
 use ndn_names::{Name, NameBuf};
 use ndn_packets::*;
@@ -68,7 +70,23 @@ impl Table {
     /// Keeps an Interest whose octets are its Nonce.
     fn ask(&mut self, key: Key<'_>, face: u64, nonce: [u8; 4], deadline: u64) -> Option<PitFault> {
         self.pit
-            .arrive(key, face % 64, nonce, &nonce, deadline)
+            .arrive(key, face % 64, nonce, &nonce, deadline, None)
+            .err()
+    }
+
+    /// Keeps an Interest whose octets are its Nonce, with a PIT token.
+    fn ask_with(
+        &mut self,
+        key: Key<'_>,
+        face: u64,
+        nonce: [u8; 4],
+        deadline: u64,
+        token: &[u8],
+    ) -> Option<PitFault>
+        requires { (1 ≤ length token.now) × (length token.now ≤ 32) }
+    {
+        self.pit
+            .arrive(key, face % 64, nonce, &nonce, deadline, Some(token))
             .err()
     }
 
@@ -153,6 +171,29 @@ fn satisfied(alloc: Global, table: &mut Table, uri: &str) -> Option<String> {
     faces_shown(alloc, &faces_answered(table, &packet)?)
 }
 
+/// The token that goes to a face with empty Data of a name.
+fn token_shown(alloc: Global, table: &Table, text: &str) -> Option<String> {
+    let (uri, face) = text.split_once(' ')?;
+    let name = NameBuf::from_uri(alloc, uri).ok()?;
+    let packet = empty_data(alloc, name.view())?;
+    match read_frame(&packet).ok()? {
+        Frame::Data(data) => {
+            interest_shown(alloc, table.pit.token_for(&data, face.parse().ok()?))
+        }
+        _ => None,
+    }
+}
+
+/// The faces that wait for empty Data of a name.
+fn askers_shown(alloc: Global, table: &Table, uri: &str) -> Option<String> {
+    let name = NameBuf::from_uri(alloc, uri).ok()?;
+    let packet = empty_data(alloc, name.view())?;
+    match read_frame(&packet).ok()? {
+        Frame::Data(data) => faces_shown(alloc, &table.pit.askers(&data)),
+        _ => None,
+    }
+}
+
 fn nacked_shown(alloc: Global, answer: Nacked) -> Option<String> {
     match answer {
         Nacked::NoPending => String::from_str(alloc, "no pending").ok(),
@@ -169,6 +210,7 @@ fn interest_shown(alloc: Global, interest: Option<&[u8]>) -> Option<String> {
 }
 
 /// A call that names a key and has one word for an answer: `ask KEY FACE NONCE DEADLINE`,
+/// `token KEY FACE TOKEN DEADLINE` for an Interest with a PIT token of one octet,
 /// `sent KEY ASKER FACE NONCE NOW`, `loops KEY FACE NONCE`, `prepare KEY OCTETS`,
 /// `withdraw KEY FACE`, `remove KEY`.
 fn word_of(
@@ -183,6 +225,12 @@ fn word_of(
         "ask" => table
             .ask(key, face, nonce_of(first)?, last.parse().ok()?)
             .is_none(),
+        "token" => {
+            let octet = first.parse().ok()?;
+            table
+                .ask_with(key, face, [octet; 4], last.parse().ok()?, &[octet])
+                .is_none()
+        }
         "sent" => {
             let (nonce, now) = last.split_once(' ')?;
             let nonce = nonce_of(nonce)?;
@@ -203,7 +251,8 @@ fn word_of(
     Some(if is_so { "yes" } else { "no" })
 }
 
-/// A call that names a key: those above, `nack KEY FACE NONCE REASON`, `of KEY FACE`, `used KEY`.
+/// A call that names a key: those above, `nack KEY FACE NONCE REASON`, `of KEY FACE`,
+/// `token_of KEY FACE`, `used KEY`.
 fn keyed(alloc: Global, table: &mut Table, call: &str, key: Key<'_>, rest: &str) -> Option<String> {
     let (face, rest) = rest.split_once(' ').unwrap_or((rest, "0"));
     let (first, last) = rest.split_once(' ').unwrap_or((rest, "0"));
@@ -214,16 +263,21 @@ fn keyed(alloc: Global, table: &mut Table, call: &str, key: Key<'_>, rest: &str)
             nacked_shown(alloc, answer)
         }
         "of" => interest_shown(alloc, table.pit.interest_of(key, face)),
+        "token_of" => interest_shown(alloc, table.pit.token_of(key, face)),
         "used" => used_shown(alloc, &table.pit.used(key)),
         _ => String::from_str(alloc, word_of(table, call, key, face, first, last)?).ok(),
     }
 }
 
-/// The answer to a call: those above, `data NAME`, `expire NOW`, `close FACE` or `len`.
+/// The answer to a call: those above, `data NAME`, `askers NAME`, `token_for NAME FACE`,
+/// `has_tokens`, `expire NOW`, `close FACE` or `len`.
 fn answer(alloc: Global, table: &mut Table, text: &str) -> Option<String> {
     let (call, rest) = text.split_once(' ').unwrap_or((text, ""));
     match call {
         "data" => satisfied(alloc, table, rest),
+        "askers" => askers_shown(alloc, table, rest),
+        "token_for" => token_shown(alloc, table, rest),
+        "has_tokens" => format!(in alloc; "{}", table.pit.has_tokens()).ok(),
         "expire" => {
             table.expire(rest.parse().ok()?);
             format!(in alloc; "-").ok()
@@ -423,14 +477,31 @@ fn leaves_the_older_one(
     Some(sent && kept && table.pit.len() == 1 && table.pit.used(key).get(2) == Some(3))
 }
 
+/// Whether a prepared Interest is kept with a PIT token of 32 octets.
+fn keeps_a_prepared_token(
+    _alloc: Global,
+    table: &mut Table,
+    key: Key<'_>,
+    _other: Key<'_>,
+) -> Option<bool> {
+    if !table.prepare(key, 36) {
+        return Some(table.pit.is_empty());
+    }
+    let is_kept = table.ask_with(key, 1, [2; 4], 9, &[7; 32]).is_none();
+    let has_token = table.pit.token_of(key, 1) == Some([7; 32].as_slice());
+    Some(is_kept && has_token && table.pit.interest_of(key, 1) == Some([2; 4].as_slice()))
+}
+
 #[test]
 fn prepared_records(rt: HostRuntime) {
+    assert!(rt; played(rt.alloc(), &keeps_a_prepared_token) == Some(true));
     assert!(rt; played(rt.alloc(), &keeps_what_is_prepared) == Some(true));
     assert!(rt; played(rt.alloc(), &leaves_the_older_one) == Some(true));
 }
 
 #[test]
 fn refused_memory_for_records(rt: HostRuntime) {
+    assert!(rt; played(rt.alloc(), &keeps_a_prepared_token) != Some(false));
     assert!(rt; played(rt.alloc(), &keeps_what_is_prepared) != Some(false));
     assert!(rt; played(rt.alloc(), &leaves_the_older_one) != Some(false));
 }

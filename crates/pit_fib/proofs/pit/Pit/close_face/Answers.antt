@@ -5,6 +5,7 @@ use Rattle.pit_fib.specs.Kept.{living, pending_of, without_face}
 use Rattle.pit_fib.specs.Pit.{PitState}
 use Rattle.pit_fib.proofs.KeptTables.{Steps, holds_the_living, step_alive, step_all, step_follows, step_memory, step_within}
 use Rattle.pit_fib.proofs.PendingTables.{dead_after_closing}
+use Rattle.pit_fib.proofs.Tokenless.{step_knows}
 use Rattle.pit_fib.proofs.pit.Pit.close_face.Goals as goal
 use Rattle.pit_fib.proofs.pit.Pit.close_face.Goals.{After-change_all}
 
@@ -15,6 +16,7 @@ pub invariant_of-self : goal.invariant_of-self
 invariant_of-self c = (
   step_within (Closed c.args.face) c.self.inside.rows.table c.change_all.new.self.table (dead_after_closing c.args.face) (λ f adds. adds) (steps c) c.self.invariant.0,
   step_memory (Closed c.args.face) c.self.inside.rows c.change_all.new.self c.self.inside.spare c.self.inside.prepared (steps c) c.change_all.ensures.prepared c.self.invariant.1,
+  step_knows (Closed c.args.face) c.self.inside.rows.table c.change_all.new.self.table c.self.inside.has_tokens tt (dead_after_closing c.args.face) (steps c) c.self.invariant.2,
 )
 
 pub returns-clause-pending : goal.returns-clause-pending

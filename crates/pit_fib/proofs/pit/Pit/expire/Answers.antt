@@ -6,6 +6,7 @@ use Rattle.pit_fib.specs.Pit.{PitState}
 use Rattle.pit_fib.proofs.KeptTables.{Steps, holds_the_living, step_alive, step_all, step_follows, step_memory, step_within}
 use Rattle.pit_fib.proofs.PendingTables.{dead_after_expiry}
 use Rattle.pit_fib.proofs.Expiry.{idle_row, later_row}
+use Rattle.pit_fib.proofs.Tokenless.{step_knows}
 use Rattle.pit_fib.proofs.pit.Pit.expire.Goals as goal
 use Rattle.pit_fib.proofs.pit.Pit.expire.Goals.{After-expire}
 
@@ -22,6 +23,7 @@ pub invariant_of-self : goal.invariant_of-self
 invariant_of-self c = (
   step_within (Expires c.args.now) c.self.inside.rows.table c.expire.new.self.table (dead_after_expiry c.args.now) (λ f adds. adds) (steps c) c.self.invariant.0,
   step_memory (Expires c.args.now) c.self.inside.rows c.expire.new.self c.self.inside.spare c.self.inside.prepared (steps c) c.expire.ensures.prepared c.self.invariant.1,
+  step_knows (Expires c.args.now) c.self.inside.rows.table c.expire.new.self.table c.self.inside.has_tokens tt (dead_after_expiry c.args.now) (steps c) c.self.invariant.2,
 )
 
 pub returns-clause-pending : goal.returns-clause-pending

@@ -1,26 +1,29 @@
-use Rattle.std.proofs.Common.{◌≡◌, ◌⊎◌, ◌<◌, inl, inr, true, cond, List, ℕ, refl, subst, sym, ap, ◌∙◌}
-use Rattle.std.specs.Prelude.{Some, is_some, unwrap_or}
+use Rattle.std.proofs.Common.{◌≡◌, ◌⊎◌, ◌<◌, inl, inr, true, cond, List, ℕ, refl, subst, sym, ap, ◌∙◌, Bor}
+use Rattle.std.specs.Prelude.{Some, is_some, unwrap_or, ◌||◌}
+use Rattle.std.specs.Option.{option_map}
 use Rattle.std.specs.FinMap.{len, get, insert}
 use Rattle.ndn_packets.specs.Key.{PlainKey, plain_key}
 use Rattle.pit_fib.specs.Flags.{flags_of}
 use Rattle.pit_fib.specs.Kept.{Kept, with_in_record, kept_at, new_in, pending_of, row_arrived, with_kept}
 use Rattle.pit_fib.specs.Records.{InRecord, Records, Pending, is_alive, records_at}
 use Rattle.pit_fib.specs.Cause.{Arrives, same_key, Follows}
+use Rattle.pit_fib.specs.Last.{KnowsTokens}
 use Rattle.pit_fib.specs.Pit.{PitState, HasRoomFor}
 use Rattle.pit_fib.specs.Prepared.{AreAlive, calls_of}
 use Rattle.pit_fib.proofs.Arrivals.{asked_is, kept_or_new, memory_arrived}
 use Rattle.pit_fib.proofs.KeptTables.{holds_the_living, kept_where_alive, put_alive, put_bounded, put_follows, records_kept, step_put}
 use Rattle.pit_fib.proofs.PendingFaces.{grows_few, room_for_ask}
 use Rattle.pit_fib.proofs.PendingPlaces.{alive_insert, arrives_elsewhere, arrives_here}
+use Rattle.pit_fib.proofs.Tokenless.{arrived_knows}
 use Rattle.pit_fib.proofs.pit.Pit.keep.Goals as goal
 use Rattle.pit_fib.proofs.pit.Pit.keep.Goals.{Joined-self-after}
 
 in_record : Joined-self-after → InRecord
-in_record c = record { interest = c.args.interest.now; nonce = c.args.nonce; deadline = c.args.deadline }
+in_record c = record { interest = c.args.interest.now; nonce = c.args.nonce; deadline = c.args.deadline; token = option_map (λ (t : Bor (List ℕ)). t.now) c.args.token }
 
 -- what is kept under the key before it has the Interest
 before : Joined-self-after → Kept
-before c = unwrap_or (kept_at c.self.inside.rows.table (plain_key c.args.key)) (new_in c.in_ok-octets.room.out_records)
+before c = unwrap_or (kept_at c.self.inside.rows.table (plain_key c.args.key)) (new_in c.in_ok-in_record.room.out_records)
 
 kept : Joined-self-after → Kept
 unfolding in_record before
@@ -37,7 +40,7 @@ unfolding before
 shown c =
     let rows = c.self.inside.rows.table in
     let key = plain_key c.args.key in
-    kept_or_new (kept_at rows key) c.in_ok-octets.room.out_records ∙ sym (records_kept rows key)
+    kept_or_new (kept_at rows key) c.in_ok-in_record.room.out_records ∙ sym (records_kept rows key)
 
 is_kept : (c : Joined-self-after) → with_in_record c.args.face (in_record c) (before c) ≡ kept c
 unfolding kept
@@ -50,15 +53,14 @@ unfolding in_record before
 puts c =
     let rows = c.self.inside.rows.table in
     let key = plain_key c.args.key in
-    let in_record : c.new.result ≡ in_record c =
-    c.new.ensures ∙ ap (λ (octets : List ℕ). record { interest = octets; nonce = c.args.nonce; deadline = c.args.deadline }) c.in_ok-octets.ensures.ok in
+    let in_record : c.in_ok-in_record.in_record ≡ in_record c = c.in_ok-in_record.ensures.ok in
     step_put key (kept c) rows c.put_with.new.self.table
     (c.in_ok-put_with.ensures.ok
-    ∙ (λ i. insert rows key.name (row_arrived (c.of.ensures i) c.args.face (in_record i) c.in_ok-octets.room.out_records (get rows key.name)))
+    ∙ (λ i. insert rows key.name (row_arrived (c.of.ensures i) c.args.face (in_record i) c.in_ok-in_record.room.out_records (get rows key.name)))
     ∙ ap (λ (s : Kept). insert rows key.name (with_kept (flags_of key) s (get rows key.name))) (is_kept c))
 
-pub returns-in_err-octets-clause-living : goal.returns-in_err-octets-clause-living
-returns-in_err-octets-clause-living c = holds_the_living c.self.inside.rows.table _ c.self.invariant.0.alive refl
+pub returns-in_err-in_record-clause-living : goal.returns-in_err-in_record-clause-living
+returns-in_err-in_record-clause-living c = holds_the_living c.self.inside.rows.table _ c.self.invariant.0.alive refl
 
 pub returns-in_err-put_with-clause-living : goal.returns-in_err-put_with-clause-living
 returns-in_err-put_with-clause-living c = holds_the_living c.put_with.new.self.table _ (subst AreAlive (sym c.in_err-put_with.ensures.err) c.self.invariant.0.alive) refl
@@ -86,6 +88,12 @@ living c =
     let key = plain_key c.args.key in
     put_alive (Arrives key c.args.face (in_record c)) key (kept c) c.self.inside.rows.table c.put_with.new.self.table c.self.invariant.0.alive (alive_kept c) (puts c)
 
+tokens : (c : Joined-self-after) → KnowsTokens (c.self.inside.has_tokens || c.is_some.result) c.put_with.new.self.table
+unfolding in_record
+tokens c =
+    subst (λ b. KnowsTokens (c.self.inside.has_tokens || b) c.put_with.new.self.table) (sym c.is_some.ensures)
+    (arrived_knows c.args.token (λ (t : Bor (List ℕ)). t.now) (plain_key c.args.key) c.args.face (in_record c) c.self.inside.rows.table c.put_with.new.self.table c.self.inside.has_tokens refl (follows c) c.self.invariant.2)
+
 pub invariant_of-self-2 : goal.invariant_of-self-2
 invariant_of-self-2 c =
     let key = plain_key c.args.key in
@@ -98,6 +106,7 @@ invariant_of-self-2 c =
       },
       memory_arrived c.self.inside.rows c.put_with.new.self c.self.inside.spare key c.self.inside.prepared c.arriving-ready.result.1 c.self.invariant.1 c.arriving-ready.ensures.left
           (λ h. c.arriving-ready.ensures.ended (λ size is. h size (sym (ap calls_of c.take.ensures.value) ∙ is))),
+      tokens c,
     )
 
 pub returns-clause-ok : goal.returns-clause-ok

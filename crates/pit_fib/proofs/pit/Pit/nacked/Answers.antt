@@ -12,6 +12,7 @@ use Rattle.pit_fib.specs.Pit.{PitState, nacked_answer, all_nacked, least_reason,
 use Rattle.pit_fib.proofs.KeptTables.{Steps, holds_the_living, one_steps, step_alive, step_follows, step_one, step_within, records_kept, was_sent_shown, nack_answers}
 use Rattle.pit_fib.proofs.PendingPlaces.{nacked_elsewhere}
 use Rattle.pit_fib.proofs.PendingTables.{dead_after_nack, same_self}
+use Rattle.pit_fib.proofs.Tokenless.{step_knows}
 use Rattle.pit_fib.proofs.pit.Pit.nacked.Goals as goal
 use Rattle.pit_fib.proofs.pit.Pit.nacked.Goals.{After-change}
 
@@ -48,8 +49,11 @@ follows c =
 pub invariant_of-self : goal.invariant_of-self
 invariant_of-self c =
     let d = (goal.at.invariant_of-self c).After-change in
-    let key = plain_key c.args.key in
-    (step_within (NackCame key c.args.face c.args.nonce c.args.reason) c.self.inside.rows.table c.change.new.self.table (dead_after_nack key c.args.face c.args.nonce c.args.reason) (λ f adds. adds) (steps d) c.self.invariant.0, tt)
+    let key = plain_key c.args.key in (
+      step_within (NackCame key c.args.face c.args.nonce c.args.reason) c.self.inside.rows.table c.change.new.self.table (dead_after_nack key c.args.face c.args.nonce c.args.reason) (λ f adds. adds) (steps d) c.self.invariant.0,
+      tt,
+      step_knows (NackCame key c.args.face c.args.nonce c.args.reason) c.self.inside.rows.table c.change.new.self.table c.self.inside.has_tokens tt (dead_after_nack key c.args.face c.args.nonce c.args.reason) (steps d) c.self.invariant.2,
+    )
 
 pub returns-then-not-was_sent-clause-answer : goal.returns-then-not-was_sent-clause-answer
 returns-then-not-was_sent-clause-answer c =
@@ -73,8 +77,11 @@ returns-then-not-was_sent-clause-living c =
 pub invariant_of-self-2 : goal.invariant_of-self-2
 invariant_of-self-2 c =
     let d = (goal.at.invariant_of-self-2 c).After-change in
-    let key = plain_key c.args.key in
-    (step_within (NackCame key c.args.face c.args.nonce c.args.reason) c.self.inside.rows.table c.change.new.self.table (dead_after_nack key c.args.face c.args.nonce c.args.reason) (λ f adds. adds) (steps d) c.self.invariant.0, tt)
+    let key = plain_key c.args.key in (
+      step_within (NackCame key c.args.face c.args.nonce c.args.reason) c.self.inside.rows.table c.change.new.self.table (dead_after_nack key c.args.face c.args.nonce c.args.reason) (λ f adds. adds) (steps d) c.self.invariant.0,
+      tt,
+      step_knows (NackCame key c.args.face c.args.nonce c.args.reason) c.self.inside.rows.table c.change.new.self.table c.self.inside.has_tokens tt (dead_after_nack key c.args.face c.args.nonce c.args.reason) (steps d) c.self.invariant.2,
+    )
 
 pub returns-clause-answer : goal.returns-clause-answer
 unfolding change

@@ -11,6 +11,7 @@ use Rattle.pit_fib.proofs.KeptTables.{Steps, holds_the_living, one_steps, step_a
 use Rattle.pit_fib.proofs.PendingTables.{dead_after_removal}
 use Rattle.std.specs.Prelude.{Option, None, Some}
 use Rattle.pit_fib.proofs.PendingTables.{dead_none}
+use Rattle.pit_fib.proofs.Tokenless.{step_knows}
 use Rattle.pit_fib.proofs.pit.Pit.remove.Goals as goal
 use Rattle.pit_fib.proofs.pit.Pit.remove.Goals.{After-change}
 
@@ -28,6 +29,7 @@ pub invariant_of-self : goal.invariant_of-self
 invariant_of-self c = (
   step_within (Removed (plain_key c.args.key)) c.self.inside.rows.table c.change.new.self.table (dead_after_removal (plain_key c.args.key)) (λ f adds. adds) (steps c) c.self.invariant.0,
   step_memory (Removed (plain_key c.args.key)) c.self.inside.rows c.change.new.self c.self.inside.spare c.self.inside.prepared (steps c) c.change.ensures.prepared c.self.invariant.1,
+  step_knows (Removed (plain_key c.args.key)) c.self.inside.rows.table c.change.new.self.table c.self.inside.has_tokens tt (dead_after_removal (plain_key c.args.key)) (steps c) c.self.invariant.2,
 )
 
 pub returns-clause-pending : goal.returns-clause-pending

@@ -18,6 +18,7 @@ use Rattle.pit_fib.proofs.KeptTables.{holds_the_living, kept_where_alive, put_al
 use Rattle.pit_fib.proofs.PendingFaces.{grows_few, room_for_sent}
 use Rattle.pit_fib.proofs.PendingPlaces.{sent_elsewhere, sent_here}
 use Rattle.pit_fib.proofs.PendingTables.{same_self}
+use Rattle.pit_fib.proofs.Tokenless.{tokenless_after}
 use Rattle.pit_fib.proofs.pit.Pit.sent.Goals as goal
 use Rattle.pit_fib.proofs.pit.Pit.sent.Goals.{Joined-self-after}
 
@@ -123,6 +124,7 @@ invariant_of-self-2 c =
       },
       memory_sent c.self.inside.rows c.put_with.new.self c.self.inside.spare c.room_for.new.spare key c.self.inside.prepared c.after_sending-after.result c.has_place_for-has_place.result (found c).0 (kept c)
           c.self.invariant.1 c.after_sending-after.ensures.left (either c) (found c).1 here c.room_for.ensures.same (wider c),
+      (λ none. tokenless_after (SentTo key c.args.face c.args.nonce c.args.now) (pending_of rows) (pending_of new) tt (follows c) (c.self.invariant.2 none)),
     )
 
 pub returns-clause-ok : goal.returns-clause-ok

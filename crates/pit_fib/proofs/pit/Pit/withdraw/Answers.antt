@@ -10,6 +10,7 @@ use Rattle.pit_fib.specs.Pit.{PitState}
 use Rattle.pit_fib.proofs.KeptTables.{Steps, holds_the_living, one_steps, step_alive, step_follows, step_memory, step_one, step_within}
 use Rattle.pit_fib.proofs.PendingTables.{dead_after_withdrawal}
 use Rattle.std.specs.Prelude.{Option}
+use Rattle.pit_fib.proofs.Tokenless.{step_knows}
 use Rattle.pit_fib.proofs.pit.Pit.withdraw.Goals as goal
 use Rattle.pit_fib.proofs.pit.Pit.withdraw.Goals.{After-change}
 
@@ -28,6 +29,7 @@ pub invariant_of-self : goal.invariant_of-self
 invariant_of-self c = (
   step_within (Withdrawn (plain_key c.args.key) c.args.face) c.self.inside.rows.table c.change.new.self.table (dead_after_withdrawal (plain_key c.args.key) c.args.face) (λ f adds. adds) (steps c) c.self.invariant.0,
   step_memory (Withdrawn (plain_key c.args.key) c.args.face) c.self.inside.rows c.change.new.self c.self.inside.spare c.self.inside.prepared (steps c) c.change.ensures.prepared c.self.invariant.1,
+  step_knows (Withdrawn (plain_key c.args.key) c.args.face) c.self.inside.rows.table c.change.new.self.table c.self.inside.has_tokens tt (dead_after_withdrawal (plain_key c.args.key) c.args.face) (steps c) c.self.invariant.2,
 )
 
 pub returns-clause-pending : goal.returns-clause-pending

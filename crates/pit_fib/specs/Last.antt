@@ -1,0 +1,61 @@
+-- Which of a face's in-records is the last: that of the latest deadline, and of one deadline that of
+-- the greatest key. And whether any in-record has a token. For private contracts.
+use Rattle.std.specs.Prelude.{◌≡◌, ℕ, zero, suc, Bool, true, false, List, Option, None, Some, length, nat_lt, if◌then◌else◌, take}
+use Rattle.std.specs.Option.{option_and_then}
+use Rattle.std.specs.FinMap as map
+use Rattle.ndn_tlv.specs.Element.{Field}
+use Rattle.ndn_packets.specs.Answers.{full_name}
+use Rattle.pit_fib.specs.Flags.{flags}
+use Rattle.pit_fib.specs.Kept.{Kept, Row, Rows, pending_of}
+use Rattle.pit_fib.specs.Records.{InRecord}
+use Rattle.pit_fib.specs.Tokens.{HaveNoTokens}
+
+-- the later of two in-records, the second where their deadlines are the same
+abbrev pub later : Option InRecord → Option InRecord → Option InRecord
+later None b = b
+later (Some a) None = Some a
+later (Some a) (Some b) = if nat_lt b.deadline a.deadline then Some a else Some b
+
+abbrev pub ask_in : ℕ → Option Kept → Option InRecord
+ask_in face kept = option_and_then (λ s. map.get s.records.in_records face) kept
+
+-- the later of this and the in-records of a face under the keys without CanBePrefix
+abbrev pub last_exact : ℕ → Option InRecord → Row → Option InRecord
+last_exact face last row =
+    later (later last (ask_in face (map.get row (flags false false))))
+    (ask_in face (map.get row (flags false true)))
+
+-- and under those with it
+abbrev pub last_prefix : ℕ → Option InRecord → Row → Option InRecord
+last_prefix face last row =
+    later (later last (ask_in face (map.get row (flags true false))))
+    (ask_in face (map.get row (flags true true)))
+
+-- under those with it and, if the name is a Data's own, the others
+abbrev pub last_in : Bool → ℕ → Option InRecord → Row → Option InRecord
+last_in is_own face last row =
+    last_prefix face (if is_own then last_exact face last row else last) row
+
+abbrev pub last_in_row : Bool → ℕ → Option InRecord → Option Row → Option InRecord
+last_in_row is_own face last None = last
+last_in_row is_own face last (Some row) = last_in is_own face last row
+
+-- under the names of fewer than n components that a name begins with
+abbrev pub last_above : Rows → ℕ → List Field → ℕ → Option InRecord
+last_above rows face name zero = None
+last_above rows face name (suc n) =
+    last_in_row false face (last_above rows face name n) (map.get rows (take n name))
+
+-- under a name and its proper prefixes
+abbrev pub last_along : Rows → ℕ → List Field → Option InRecord
+last_along rows face name =
+    last_in_row true face (last_above rows face name (length name)) (map.get rows name)
+
+-- under what Data of this name and implicit digest answers
+abbrev pub last_of : Rows → ℕ → List Field → List ℕ → Option InRecord
+last_of rows face name digest =
+    last_in_row true face (last_along rows face name) (map.get rows (full_name name digest))
+
+-- a table has tokens only where this is true
+abbrev pub KnowsTokens : Bool → Rows → Type 0
+KnowsTokens has_tokens rows = has_tokens ≡ false → HaveNoTokens (pending_of rows)

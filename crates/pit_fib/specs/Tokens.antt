@@ -1,0 +1,43 @@
+-- Which PIT token goes back to a face with a Data (NDNLPv2, "PIT Token").
+use Rattle.std.specs.Prelude.{◌≡◌, ◌≢◌, ◌⊎◌, ◌<◌, ℕ, List, Option, None, Some, IsTrue}
+use Rattle.std.specs.declared.cmp.Ordering.TheVariants.{Greater}
+use Rattle.std.specs.FinMap as map
+use Rattle.ndn_tlv.specs.Element.{Field}
+use Rattle.ndn_packets.specs.Answers.{answers}
+use Rattle.ndn_packets.specs.Key.{PlainKey, key_cmp}
+use Rattle.pit_fib.specs.Records.{InRecord, Pending, Records, records_at}
+
+-- a face has this in-record under a key that Data of this name and implicit digest answers
+abbrev pub IsAsker : (PlainKey → Records) → List Field → List ℕ → ℕ → PlainKey → InRecord → Type 0
+IsAsker records name digest face key in_record =
+    IsTrue (answers name digest key.name key.can_be_prefix)
+    × (map.get (records key).in_records face ≡ Some in_record)
+
+-- an in-record does not come after another: its deadline is earlier, or the same and its key is not
+-- greater, by name in canonical order, then by CanBePrefix, then by MustBeFresh
+abbrev pub IsNotAfter : PlainKey → InRecord → PlainKey → InRecord → Type 0
+IsNotAfter key in_record last_key last =
+    (in_record.deadline < last.deadline)
+    ⊎ ((in_record.deadline ≡ last.deadline) × (key_cmp key last_key ≢ Greater))
+
+-- the last of a face's in-records that the Data answers
+pub record IsLast (records : PlainKey → Records) (name : List Field) (digest : List ℕ) (face : ℕ)
+    (key : PlainKey) (in_record : InRecord) : Type 0 where
+  pub asks : IsAsker records name digest face key in_record
+  pub last : (other_key : PlainKey) (other : InRecord)
+      → IsAsker records name digest face other_key other → IsNotAfter other_key other key in_record
+
+-- the token that goes to a face with the Data: that of the last of its in-records that the Data
+-- answers, or none where there is no such in-record
+abbrev pub IsTokenFor : (PlainKey → Records) → List Field → List ℕ → ℕ → Option (List ℕ) → Type 0
+IsTokenFor records name digest face token =
+    (((key : PlainKey) (in_record : InRecord)
+    → ¬ (IsAsker records name digest face key in_record)) × (token ≡ None))
+    ⊎ ((key : PlainKey) × (in_record : InRecord)
+    × IsLast records name digest face key in_record × (token ≡ in_record.token))
+
+-- no pending Interest has a token
+abbrev pub HaveNoTokens : Pending → Type 0
+HaveNoTokens pending =
+    (key : PlainKey) (face : ℕ) (in_record : InRecord)
+    → map.get (records_at pending key).in_records face ≡ Some in_record → in_record.token ≡ None
