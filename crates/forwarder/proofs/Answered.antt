@@ -22,7 +22,7 @@ use Rattle.repo_core.proofs.Kept.{entries-kept}
 use Rattle.repo_core.proofs.Spares.{any_of_part}
 use Rattle.forwarder.specs.declared.state.State.{State}
 use Rattle.forwarder.specs.declared.verdict.Verdict as code
-use Rattle.forwarder.specs.Event.{Send}
+use Rattle.forwarder.specs.Event.{Send, Token}
 use Rattle.forwarder.specs.Verdict.{DataAllowed, Denied, NoRule, Scope, dropped}
 use Rattle.forwarder.specs.Policy.{Policy}
 use Rattle.forwarder.specs.Request.{is_out_of_scope}
@@ -37,14 +37,14 @@ use Rattle.forwarder.proofs.Handled.{where_true, where_false}
 -- ---- what stays
 
 -- a packet for which memory was refused
-pub refused_packet : {old new : State} {before after : List Send} {face moment : ℕ} {packet : PlainFrame} (r : Result code.Verdict Memory) → IsErr r
-    → Unharmed (state_of old) (state_of new) × (after ≡ before) → HandlesPacket old new before after face moment packet r
+pub refused_packet : {old new : State} {before after : List Send} {face : ℕ} {token : Token} {moment : ℕ} {packet : PlainFrame} (r : Result code.Verdict Memory) → IsErr r
+    → Unharmed (state_of old) (state_of new) × (after ≡ before) → HandlesPacket old new before after face token moment packet r
 refused_packet (Ok verdict) refused kept = absurd (false≢true refused)
 refused_packet (Err memory) refused kept = record { handled = tt; memory = kept }
 
 -- a packet for which it was not
-pub sure_packet : {old new : State} {before after : List Send} {face moment : ℕ} {packet : PlainFrame} (r : Result code.Verdict Memory) → IsOk r
-    → IfOk r (IsHandled old new before after face moment packet) → HandlesPacket old new before after face moment packet r
+pub sure_packet : {old new : State} {before after : List Send} {face : ℕ} {token : Token} {moment : ℕ} {packet : PlainFrame} (r : Result code.Verdict Memory) → IsOk r
+    → IfOk r (IsHandled old new before after face token moment packet) → HandlesPacket old new before after face token moment packet r
 sure_packet (Ok verdict) done handled = record { handled = handled; memory = tt }
 sure_packet (Err memory) done handled = absurd (false≢true done)
 
@@ -67,14 +67,14 @@ still_wanted now name digest wants some =
 
 -- ---- Data
 
-module _ (was new : NodeState) (face : ℕ) (whole : List ℕ) (d : PlainData) where
+module _ (was new : NodeState) (face : ℕ) (token : Token) (whole : List ℕ) (d : PlainData) where
   module _ (sends : List Send) (rule : RuleNo) (here : is_out_of_scope was.policy face d.name ≡ false)
       (said : IsSaid was.policy (AData whole d) (decided.Allowed rule)) where
     pub data_delivered : IsSentToAskers (seen_by was) face whole d sends
         → new.policy ≡ record was.policy { held = after_offer d.name (sha256 whole) whole was.policy.held }
         → Follows (Satisfied d.name (sha256 whole)) was.pending new.pending → HoldsTheLiving new.pending
         → CacheAfter was.policy.now was.pending (Inserts (held_from was.policy.now whole d)) was.cache new.cache
-        → IsAnswered was face (AData whole d) (record { verdict = DataAllowed rule.0; sends = sends }) new
+        → IsAnswered was face token (AData whole d) (record { verdict = DataAllowed rule.0; sends = sends }) new
     data_delivered sent policy pending living cache = record {
       replies = where_false _ _ (is_out_of_scope was.policy face d.name) here (decided.Allowed rule, said, (refl, sent));
       policy = subst (λ b. IsPacketEffect was.policy face (AData whole d) new.policy (not b)) (sym here) (decided.Allowed rule, said, policy);
@@ -83,8 +83,8 @@ module _ (was new : NodeState) (face : ℕ) (whole : List ℕ) (d : PlainData) w
       cache = cache;
     }
 
-module _ (was : NodeState) (face : ℕ) (whole : List ℕ) (d : PlainData) (living : HoldsTheLiving was.pending) where
-  pub data_out_of_scope : is_out_of_scope was.policy face d.name ≡ true → IsAnswered was face (AData whole d) (dropped Scope) was
+module _ (was : NodeState) (face : ℕ) (token : Token) (whole : List ℕ) (d : PlainData) (living : HoldsTheLiving was.pending) where
+  pub data_out_of_scope : is_out_of_scope was.policy face d.name ≡ true → IsAnswered was face token (AData whole d) (dropped Scope) was
   data_out_of_scope here = record {
     replies = where_true _ _ (is_out_of_scope was.policy face d.name) here refl;
     policy = subst (λ b. IsPacketEffect was.policy face (AData whole d) was.policy (not b)) (sym here) refl;
@@ -95,7 +95,7 @@ module _ (was : NodeState) (face : ℕ) (whole : List ℕ) (d : PlainData) (livi
 
   module _ (here : is_out_of_scope was.policy face d.name ≡ false) where
     pub data_denied : (rule : RuleNo) (reason : Reason) → IsSaid was.policy (AData whole d) (decided.Denied rule reason)
-        → IsAnswered was face (AData whole d) (record { verdict = Denied kinds.Data rule.0 reason; sends = [] }) was
+        → IsAnswered was face token (AData whole d) (record { verdict = Denied kinds.Data rule.0 reason; sends = [] }) was
     data_denied rule reason said = record {
       replies = where_false _ _ (is_out_of_scope was.policy face d.name) here (decided.Denied rule reason, said, refl);
       policy = subst (λ b. IsPacketEffect was.policy face (AData whole d) was.policy (not b)) (sym here) (decided.Denied rule reason, said, refl);
@@ -105,7 +105,7 @@ module _ (was : NodeState) (face : ℕ) (whole : List ℕ) (d : PlainData) (livi
     }
 
     pub data_by_no_rule : IsSaid was.policy (AData whole d) decided.NoRule
-        → IsAnswered was face (AData whole d) (record { verdict = NoRule kinds.Data; sends = [] }) was
+        → IsAnswered was face token (AData whole d) (record { verdict = NoRule kinds.Data; sends = [] }) was
     data_by_no_rule said = record {
       replies = where_false _ _ (is_out_of_scope was.policy face d.name) here (decided.NoRule, said, refl);
       policy = subst (λ b. IsPacketEffect was.policy face (AData whole d) was.policy (not b)) (sym here) (decided.NoRule, said, refl);

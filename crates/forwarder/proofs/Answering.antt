@@ -1,7 +1,7 @@
 -- An Interest for Data is answered: by a Nack where it loops, from the cache or the repository, or by
 -- sending it on.
 use Rattle.std.proofs.Common.{◌≡◌, ℕ, ◌≤◌, Bool, true, false, cond, List, [], ◌∷◌, length, Option, None, Some, Result, Ok, Err, inl, inr, refl, sym, ap, subst, ◌∙◌}
-use Rattle.std.specs.Prelude.{◌⊎◌, IfOk, max, not, ◌&&◌}
+use Rattle.std.specs.Prelude.{◌⊎◌, IfOk, max, not, ◌&&◌, IfSome}
 use Rattle.std.specs.List.{All}
 use Rattle.std.specs.FinMap.{entries, find, get-entries}
 use Rattle.std.specs.Ordering.{is_eq}
@@ -16,7 +16,7 @@ use Rattle.ndn_names.specs.Order.{name_cmp}
 use Rattle.ndn_packets.specs.Grammar.{IsData, IsInterest}
 use Rattle.ndn_packets.specs.Key.{PlainKey, key_of}
 use Rattle.ndn_packets.specs.Packet.{PlainData, PlainInterest, AnInterest}
-use Rattle.ndn_packets.specs.Writing.{nack_text}
+use Rattle.ndn_packets.specs.Link.{IsToken}
 use Rattle.ndn_packets.specs.declared.types.TheConstants.{DUPLICATE}
 use Rattle.pit_fib.specs.Pit.{loops}
 use Rattle.pit_fib.specs.Records.{HoldsTheLiving, is_alive, records_at}
@@ -29,7 +29,7 @@ use Rattle.forwarder.specs.declared.state.State.{State}
 use Rattle.forwarder.specs.declared.verdict.Verdict as code
 use Rattle.forwarder.specs.Causes.{is_nack}
 use Rattle.forwarder.specs.Cache.{CacheAfter, CacheUse}
-use Rattle.forwarder.specs.Event.{Send, to_each}
+use Rattle.forwarder.specs.Event.{Send, to_each, Token, nacked_back, sent_back}
 use Rattle.forwarder.specs.Verdict.{Answer, DropReason, Dropped, HopLimit, Loop, Passed, PitFull, Scope, Verdict, dropped, passed, verdict_of}
 use Rattle.forwarder.specs.Policy.{Policy}
 use Rattle.forwarder.specs.Request.{ForData, Refused, Request, has_no_hops, is_command, is_out_of_scope, list_asked, named_request, request_of}
@@ -83,10 +83,10 @@ interest_is_short whole i spelled = ∥∥₁_elim spelled le_prop (λ h. h.fiel
 
 -- ---- what a strategy chooses is passed, or dropped where the table is full
 
-strategy_passes : (seen : Seen) (key : PlainKey) (whole : List ℕ) (i : PlainInterest) (face : ℕ) (choice : Choice)
-    → ((by_strategy seen key whole i face choice).verdict ≡ Passed) ⊎ ((by_strategy seen key whole i face choice).verdict ≡ Dropped PitFull)
-strategy_passes seen key whole i face choices.NoRoute = inl refl
-strategy_passes seen key whole i face (choices.Send faces) = by_full (not (is_alive (seen.records key)) && seen.is_full)
+strategy_passes : (seen : Seen) (key : PlainKey) (whole : List ℕ) (i : PlainInterest) (face : ℕ) (token : Token) (choice : Choice)
+    → ((by_strategy seen key whole i face token choice).verdict ≡ Passed) ⊎ ((by_strategy seen key whole i face token choice).verdict ≡ Dropped PitFull)
+strategy_passes seen key whole i face token choices.NoRoute = inl refl
+strategy_passes seen key whole i face token (choices.Send faces) = by_full (not (is_alive (seen.records key)) && seen.is_full)
   where
     by_full : (b : Bool) → ((cond b (dropped PitFull) (passed (to_each faces (sent_on whole i.hop_limit)))).verdict ≡ Passed)
         ⊎ ((cond b (dropped PitFull) (passed (to_each faces (sent_on whole i.hop_limit)))).verdict ≡ Dropped PitFull)
@@ -141,15 +141,15 @@ module _ (p : Policy) (face : ℕ) (i : PlainInterest) (some : has_no_hops i.hop
   pub request_by_name : is_out_of_scope p face i.name ≡ false → request_of p face i ≡ named_request p i (list_asked i)
   request_by_name here = by_scope ∙ ap (λ (b : Bool). cond b (Refused Scope) (named_request p i (list_asked i))) here
 
-module _ (old was : NodeState) (moment face : ℕ) (whole : List ℕ) (i : PlainInterest) (later : IsLater old moment was) where
+module _ (old was : NodeState) (moment face : ℕ) (token : Token) (whole : List ℕ) (i : PlainInterest) (tok : IfSome token IsToken) (later : IsLater old moment was) where
   same_request : request_of was.policy face i ≡ request_of old.policy face i
   same_request = ap (λ (p : Policy). request_of p face i) later.policy
 
-  pub refused_answered : (reason : DropReason) → request_of old.policy face i ≡ Refused reason → IsAnswered was face (AnInterest whole i) (dropped reason) was
+  pub refused_answered : (reason : DropReason) → request_of old.policy face i ≡ Refused reason → IsAnswered was face token (AnInterest whole i) (dropped reason) was
   refused_answered reason is =
       let request : request_of was.policy face i ≡ Refused reason = same_request ∙ is in
       record {
-        replies = subst (λ (r : Request). RepliesToRequest (seen_by was) face whole i (dropped reason) r) (sym request) refl;
+        replies = subst (λ (r : Request). RepliesToRequest (seen_by was) face token whole i (dropped reason) r) (sym request) refl;
         policy = subst (λ (r : Request). IsPacketEffect was.policy face (AnInterest whole i) was.policy (is_command r)) (sym request) refl;
         pending = λ key. refl;
         alive = later.living;
@@ -159,14 +159,14 @@ module _ (old was : NodeState) (moment face : ℕ) (whole : List ℕ) (i : Plain
   -- ---- an Interest for Data
 
   module _ (is : request_of old.policy face i ≡ ForData) where
-    data_answered : (new : NodeState) (answer : Answer) → RepliesForData (seen_by was) face whole i answer → new.policy ≡ was.policy
-        → FollowAll (packet_causes was.policy.now face (AnInterest whole i) answer) was.pending new.pending → HoldsTheLiving new.pending
+    data_answered : (new : NodeState) (answer : Answer) → RepliesForData (seen_by was) face token whole i answer → new.policy ≡ was.policy
+        → FollowAll (packet_causes was.policy.now face token (AnInterest whole i) answer) was.pending new.pending → HoldsTheLiving new.pending
         → CacheAfter was.policy.now was.pending (packet_use was.policy.now face (AnInterest whole i) answer.verdict) was.cache new.cache
-        → IsAnswered was face (AnInterest whole i) answer new
+        → IsAnswered was face token (AnInterest whole i) answer new
     data_answered new answer replies policy pending living cache =
         let request : request_of was.policy face i ≡ ForData = same_request ∙ is in
         record {
-          replies = subst (λ (r : Request). RepliesToRequest (seen_by was) face whole i answer r) (sym request) replies;
+          replies = subst (λ (r : Request). RepliesToRequest (seen_by was) face token whole i answer r) (sym request) replies;
           policy = subst (λ (r : Request). IsPacketEffect was.policy face (AnInterest whole i) new.policy (is_command r)) (sym request) policy;
           pending = pending;
           alive = living;
@@ -176,7 +176,7 @@ module _ (old was : NodeState) (moment face : ℕ) (whole : List ℕ) (i : Plain
     abbrev is_loop : Bool
     is_loop = loops (records_at was.pending (key_of i)) face i.nonce
 
-    pub loop_answered : is_loop ≡ true → IsAnswered was face (AnInterest whole i) (record { verdict = Dropped Loop; sends = (face, nack_text DUPLICATE whole) ∷ [] }) was
+    pub loop_answered : is_loop ≡ true → IsAnswered was face token (AnInterest whole i) (record { verdict = Dropped Loop; sends = nacked_back face token DUPLICATE whole ∷ [] }) was
     loop_answered loop = data_answered was _ (where_true _ _ is_loop loop refl) refl (λ key. refl) later.living refl
 
     module _ (once : is_loop ≡ false) (after : StoreState) where
@@ -186,24 +186,24 @@ module _ (old was : NodeState) (moment face : ℕ) (whole : List ℕ) (i : Plain
       looked_up given found =
           subst (λ (used : CacheUse). CacheAfter was.policy.now was.pending used was.cache after) (sym (data_use was.policy.now face whole i (for_data old.policy face i is))) (given, found)
 
-      back_follows : (octets : List ℕ) → is_nack octets ≡ false
-          → FollowAll (packet_causes was.policy.now face (AnInterest whole i) (passed ((face, octets) ∷ []))) was.pending was.pending
-      back_follows octets other =
-          subst (λ (causes : List Cause). FollowAll causes was.pending was.pending) (sym (back_causes was.policy.now face whole i octets other)) (λ key. refl)
+      back_follows : (octets : List ℕ) → CanGoBack octets
+          → FollowAll (packet_causes was.policy.now face token (AnInterest whole i) (passed (sent_back face token octets ∷ []))) was.pending was.pending
+      back_follows octets fits =
+          subst (λ (causes : List Cause). FollowAll causes was.pending was.pending) (sym (back_causes was.policy.now face token whole i octets tok fits.0 fits.1)) (λ key. refl)
 
-      pub cache_answered : (octets : List ℕ) → is_nack octets ≡ false → Finds (key_of i) was.policy.now was.cache (Some octets) after
-          → IsAnswered was face (AnInterest whole i) (passed ((face, octets) ∷ [])) (record was { cache = after })
-      cache_answered octets other found =
-          data_answered (record was { cache = after }) (passed ((face, octets) ∷ []))
-          (where_false _ _ is_loop once (Some octets, (found.0, found.1, found.2), refl)) refl (back_follows octets other) later.living
+      pub cache_answered : (octets : List ℕ) → CanGoBack octets → Finds (key_of i) was.policy.now was.cache (Some octets) after
+          → IsAnswered was face token (AnInterest whole i) (passed (sent_back face token octets ∷ [])) (record was { cache = after })
+      cache_answered octets fits found =
+          data_answered (record was { cache = after }) (passed (sent_back face token octets ∷ []))
+          (where_false _ _ is_loop once (Some octets, (found.0, found.1, found.2), refl)) refl (back_follows octets fits) later.living
           (looked_up (Some octets) found)
 
       module _ (none : Finds (key_of i) was.policy.now was.cache None after) where
-        pub repository_answered : (octets : List ℕ) → is_nack octets ≡ false → served i.name i.can_be_prefix was.policy.held.objects ≡ Some octets
-            → IsAnswered was face (AnInterest whole i) (passed ((face, octets) ∷ [])) (record was { cache = after })
-        repository_answered octets other some =
-            data_answered (record was { cache = after }) (passed ((face, octets) ∷ []))
-            (where_false _ _ is_loop once (None, none.0, sym (ap (by_repository (seen_by was) face whole i) some))) refl (back_follows octets other) later.living
+        pub repository_answered : (octets : List ℕ) → CanGoBack octets → served i.name i.can_be_prefix was.policy.held.objects ≡ Some octets
+            → IsAnswered was face token (AnInterest whole i) (passed (sent_back face token octets ∷ [])) (record was { cache = after })
+        repository_answered octets fits some =
+            data_answered (record was { cache = after }) (passed (sent_back face token octets ∷ []))
+            (where_false _ _ is_loop once (None, none.0, sym (ap (by_repository (seen_by was) face token whole i) some))) refl (back_follows octets fits) later.living
             (looked_up None none)
 
         module _ (unheld : served i.name i.can_be_prefix was.policy.held.objects ≡ None) where
@@ -217,36 +217,36 @@ module _ (old was : NodeState) (moment face : ℕ) (whole : List ℕ) (i : Plain
               subst (λ (u : Verdict). CacheAfter was.policy.now was.pending (packet_use was.policy.now face (AnInterest whole i) u) was.cache new.cache) (sym e) (same ∙ none.1)
 
           missed : (answer : Answer) (new : NodeState)
-              → IsForwarded (record was { cache = after }) face whole i (choice_from (record was { cache = after }) face i) answer new
+              → IsForwarded (record was { cache = after }) face token whole i (choice_from (record was { cache = after }) face i) answer new
               → CacheAfter was.policy.now was.pending (packet_use was.policy.now face (AnInterest whole i) answer.verdict) was.cache new.cache
           missed answer new h =
               by_verdict new answer.verdict
               (subst (λ (a : Answer). (a.verdict ≡ Passed) ⊎ (a.verdict ≡ Dropped PitFull)) (sym h.replied)
-              (strategy_passes (seen_by (record was { cache = after })) (key_of i) whole i face (choice_from (record was { cache = after }) face i))) h.cache
+              (strategy_passes (seen_by (record was { cache = after })) (key_of i) whole i face token (choice_from (record was { cache = after }) face i))) h.cache
 
           forward_answered : (answer : Answer) (new : NodeState)
-              → IsForwarded (record was { cache = after }) face whole i (choice_from (record was { cache = after }) face i) answer new
-              → IsAnswered was face (AnInterest whole i) answer new
+              → IsForwarded (record was { cache = after }) face token whole i (choice_from (record was { cache = after }) face i) answer new
+              → IsAnswered was face token (AnInterest whole i) answer new
           forward_answered answer new h =
               data_answered new answer
-              (where_false _ _ is_loop once (None, none.0, h.replied ∙ sym (ap (by_repository (seen_by was) face whole i) unheld))) h.policy h.pending h.alive
+              (where_false _ _ is_loop once (None, none.0, h.replied ∙ sym (ap (by_repository (seen_by was) face token whole i) unheld))) h.policy h.pending h.alive
               (missed answer new h)
 
 -- what was sent on was handled
-pub forwards_handled : (old passed new : State) (was : NodeState) (before after : List Send) (moment face : ℕ) (whole : List ℕ) (i : PlainInterest)
-    → IsLater (state_of old) moment was → request_of (state_of old).policy face i ≡ ForData
+pub forwards_handled : (old passed new : State) (was : NodeState) (before after : List Send) (moment face : ℕ) (token : Token) (whole : List ℕ) (i : PlainInterest)
+    → IfSome token IsToken → IsLater (state_of old) moment was → request_of (state_of old).policy face i ≡ ForData
     → loops (records_at was.pending (key_of i)) face i.nonce ≡ false
     → state_of passed ≡ record was { cache = passed.tables.store }
     → Finds (key_of i) was.policy.now was.cache None passed.tables.store
     → served i.name i.can_be_prefix was.policy.held.objects ≡ None
-    → (r : Result code.Verdict Memory) → IfOk r (ForwardsBy passed new before after face whole i (choice_from (state_of passed) face i))
-    → IfOk r (IsHandled old new before after face moment (AnInterest whole i))
-forwards_handled old passed new was before after moment face whole i later is once same none unheld (Err memory) h = tt
-forwards_handled old passed new was before after moment face whole i later is once same none unheld (Ok verdict) (sends, sent, h) = (
+    → (r : Result code.Verdict Memory) → IfOk r (ForwardsBy passed new before after face token whole i (choice_from (state_of passed) face i))
+    → IfOk r (IsHandled old new before after face token moment (AnInterest whole i))
+forwards_handled old passed new was before after moment face token whole i tok later is once same none unheld (Err memory) h = tt
+forwards_handled old passed new was before after moment face token whole i tok later is once same none unheld (Ok verdict) (sends, sent, h) = (
   was,
   sends,
   sent,
   later,
-  forward_answered (state_of old) was moment face whole i later is once passed.tables.store none unheld (record { verdict = verdict_of verdict; sends = sends }) (state_of new)
-      (subst (λ (s : NodeState). IsForwarded s face whole i (choice_from s face i) (record { verdict = verdict_of verdict; sends = sends }) (state_of new)) same h),
+  forward_answered (state_of old) was moment face token whole i tok later is once passed.tables.store none unheld (record { verdict = verdict_of verdict; sends = sends }) (state_of new)
+      (subst (λ (s : NodeState). IsForwarded s face token whole i (choice_from s face i) (record { verdict = verdict_of verdict; sends = sends }) (state_of new)) same h),
 )

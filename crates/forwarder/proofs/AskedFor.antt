@@ -1,6 +1,6 @@
 -- Each Data that is sent was asked for.
 use Rattle.std.proofs.Common.{◌≡◌, ℕ, Bool, true, false, cond, List, [], ◌∷◌, refl, sym, ap, subst, ◌∙◌, Result, Ok, Err, inl, inr}
-use Rattle.std.specs.Prelude.{◌||◌, ◌≢◌, Option, Some, None, Contains, IsSome, IsTrue, max}
+use Rattle.std.specs.Prelude.{◌≢◌, IfSome, Option, Some, None, Contains, IsSome, IsTrue, max}
 use Rattle.std.specs.FinMap as map
 use Rattle.std.specs.FinMap.{entries, find, get-entries}
 use Rattle.std.specs.Ordering.{is_eq}
@@ -11,30 +11,37 @@ use Rattle.ndn_tlv.specs.Element.{Field}
 use Rattle.ndn_names.specs.Key.{name_cmp-antisymmetric, name_cmp-total}
 use Rattle.ndn_names.specs.Order.{name_cmp}
 use Rattle.ndn_packets.specs.Answers.{answers}
-use Rattle.ndn_packets.specs.FrameReading.{frame_at}
+use Rattle.ndn_packets.specs.FrameReading.{frame_at, token_at}
 use Rattle.ndn_packets.specs.Key.{key_of}
-use Rattle.ndn_packets.specs.Packet.{PlainData, PlainFrame, AnInterest, AData, ANack, Idle}
+use Rattle.ndn_packets.specs.Packet.{PlainData, PlainFrame, PlainInterest, AnInterest, AData, ANack, Idle}
 use Rattle.ndn_packets.specs.declared.fault.PacketFault.{PacketFault}
 use Rattle.ndn_packets.proofs.Answering.{answers_is}
-use Rattle.ndn_packets.proofs.Wholes.{data_alone}
+use Rattle.ndn_packets.specs.Link.{IsToken}
+use Rattle.ndn_packets.specs.Writing.{lp_text}
+use Rattle.ndn_packets.proofs.Wholes.{data_alone, data_short}
 use Rattle.pit_fib.specs.Cause.{Expires, records_after}
 use Rattle.pit_fib.specs.Records.{InRecord, Records}
+use Rattle.pit_fib.specs.Tokens.{IsTokenFor}
 use Rattle.repo_core.specs.Objects.{Objects, first_octets, full_name_answers, if_kept, kept, served}
 use Rattle.repo_core.proofs.FullNames.{as_data}
 use Rattle.repo_core.proofs.Kept.{entries-kept, get-kept}
-use Rattle.forwarder.specs.Event.{PlainEvent, Packet, FaceUp, FaceDown, Tick, NewRules, moment}
+use Rattle.forwarder.specs.Event.{PlainEvent, Packet, FaceUp, FaceDown, Tick, NewRules, moment, Send, Token, sent_back, token_in}
 use Rattle.forwarder.specs.Faces.{is_open}
-use Rattle.forwarder.specs.Verdict.{Answer}
+use Rattle.forwarder.specs.Verdict.{Answer, Dropped, NoSegment, Passed, dropped, passed}
 use Rattle.forwarder.specs.Policy.{Policy, at_moment}
 use Rattle.forwarder.specs.Request.{is_decided}
 use Rattle.forwarder.specs.Replies.{Seen}
 use Rattle.forwarder.specs.Effects.{decided_packet, packet_to_decide}
 use Rattle.forwarder.specs.Runs.{Run, Start, Then, IsRun, MayReply, now_of, records_of, seen_after}
 use Rattle.forwarder.specs.Allowed.{AllowedIn}
-use Rattle.forwarder.specs.AskedFor.{AnswersItself, IsOwnAnswer, WasAskedFor}
-use Rattle.forwarder.specs.Sends.{BringsOctets, IsAtHand, IsExplained, IsForwardedData, IsReply, begins_as_data, is_data, is_data_frame}
+use Rattle.forwarder.specs.AskedFor.{AnswersItself, BringsPacketOn, IsOwnAnswer, WasAskedFor}
+use Rattle.forwarder.specs.Sends.{BringsOctets, IsAtHand, IsExplained, IsForwardedData, IsReply, is_data}
 use Rattle.forwarder.proofs.CachedRuns.{allowed_then, cached_came_allowed}
+use Rattle.mgmt_core.specs.Writing.{segment_at}
+use Rattle.forwarder.specs.Datasets.{dataset_text, is_present, segment_answer, segment_data, segment_name}
+use Rattle.forwarder.proofs.Contents.{back_holds, back_reads, begins, begins_data, read_is_data}
 use Rattle.forwarder.proofs.Explained.{all_explained}
+use Rattle.forwarder.proofs.Origins.{AllFit, token_fits, waiting_fits}
 use Rattle.forwarder.proofs.Stored.{stored_is_of_allowed}
 
 -- ---- a Data that was allowed is read as it is
@@ -96,9 +103,33 @@ served_row name flag objects octets is =
 
 -- ---- what is sent
 
-either : (a b : Bool) → b ≡ true → (a || b) ≡ true
-either true b is = refl
-either false b is = is
+one_sent : (face : ℕ) (a b : List ℕ) → passed ((face, a) ∷ []) ≡ passed ((face, b) ∷ []) → a ≡ b
+one_sent face a b e =
+    let sends : ◌≡◌ {A = List Send} ((face, a) ∷ []) ((face, b) ∷ []) = ap (λ (x : Answer). x.sends) e in
+    let one : ◌≡◌ {A = Send} (face, a) (face, b) = cc (sends) in
+    ap (λ (s : Send). s.1) one
+
+never_passed : (sends : List Send) → dropped NoSegment ≡ passed sends → ⊥
+never_passed sends e = (let verdict : Dropped NoSegment ≡ Passed = ap (λ (x : Answer). x.verdict) e in cc verdict)
+
+-- the node's own answer begins as a Data
+own_begins : (p : Policy) (face : ℕ) (whole : List ℕ) (i : PlainInterest) (packet : List ℕ) → IsOwnAnswer p face whole i packet → begins 6 packet ≡ true
+own_begins p face whole i packet (inl reply) = ap (begins 6) reply.1.2 ∙ begins_data _
+own_begins p face whole i packet (inr list) = by_version (is_present p list.0.version) refl
+  where
+    name : List Field
+    name = segment_name list.0.kind p.table_number list.0.segment
+
+    by_part : (part : Option (List ℕ × ℕ)) → segment_answer face None name part ≡ passed ((face, packet) ∷ []) → begins 6 packet ≡ true
+    by_part None e = absurd (never_passed _ e)
+    by_part (Some part) e = ap (begins 6) (sym (one_sent face (segment_data name part.0 part.1) packet e)) ∙ begins_data _
+
+    by_version : (b : Bool) → is_present p list.0.version ≡ b → begins 6 packet ≡ true
+    by_version true is =
+        by_part (segment_at (dataset_text p list.0.kind) list.0.segment)
+        (sym (ap (λ (b : Bool). cond b (segment_answer face None name (segment_at (dataset_text p list.0.kind) list.0.segment)) (dropped NoSegment)) is) ∙ list.2)
+    by_version false is =
+        absurd (never_passed _ (sym (ap (λ (b : Bool). cond b (segment_answer face None name (segment_at (dataset_text p list.0.kind) list.0.segment)) (dropped NoSegment)) is) ∙ list.2))
 
 some_ask : (o : Option InRecord) → IsSome o → (ask : InRecord) × (o ≡ Some ask)
 some_ask None is = cc is
@@ -117,7 +148,7 @@ module _ (first : Policy) (past : Run) (event : PlainEvent) (answer : Answer) (r
 
   -- the face asked for this packet, if it is a Data
   abbrev Asked : PlainFrame → Type 0
-  Asked (AData whole d) = WasAskedFor first past reply.was event face octets whole d
+  Asked (AData whole d) = WasAskedFor first past reply.was event face whole d
   Asked (AnInterest whole i) = Unit {0}
   Asked (ANack reason whole i) = Unit {0}
   Asked Idle = Unit {0}
@@ -125,79 +156,104 @@ module _ (first : Policy) (past : Run) (event : PlainEvent) (answer : Answer) (r
   same_frame : (packet other : PlainFrame) → frame_at octets ≡ Ok packet → frame_at octets ≡ Ok other → other ≡ packet
   same_frame packet other read again = (let e : Ok packet ≡ Ok other = sym read ∙ again in cc e)
 
+  linked : AllFit seen.records
+  linked = waiting_fits past now reply.waiting reply.is_waiting
+
+  -- the token of an Interest of the face is one
+  given_token : (name : List Field) (digest : List ℕ) (token : Token) → IsTokenFor seen.records name digest face token → IfSome token IsToken
+  given_token name digest token (inl none) = subst (λ (t : Token). IfSome t IsToken) (sym none.1) tt
+  given_token name digest token (inr some) = subst (λ (t : Token). IfSome t IsToken) (sym some.3) (linked some.0 face some.1 some.2.asks.1).is_token
+
   forwarded_asked : (f : IsForwardedData seen event (face, octets)) → (frame_at octets ≡ Ok (AData f.whole f.packet)) × Asked (AData f.whole f.packet)
   forwarded_asked f =
       let key = f.waits.0 in
       let waits = some_ask (map.get (records_after (Expires now) key (records_of past key)).in_records face)
       (subst (λ (r : Records). IsSome (map.get r.in_records face)) (reply.is_waiting.records key) f.waits.2) in (
-        ap frame_at f.received ∙ data_alone f.octets f.whole f.packet f.read,
+        ap (λ (s : Send). frame_at s.1) f.received
+            ∙ back_reads f.token f.octets f.whole f.packet (given_token f.packet.name (sha256 f.whole) f.token f.is_token) (data_short f.octets f.whole f.packet f.read) f.read,
         inl (
           record { rule = f.rule; brings = f.decided; said = f.allowed },
           record { key = key; in_record = waits.0; waits = waits.1; answered = f.waits.1 },
         ),
       )
 
-  -- an earlier Data that answers the Interest of the event
-  earlier : (r : IsReply seen event (face, octets)) (whole : List ℕ) (d : PlainData) → octets ≡ whole → AllowedIn first past (AData whole d)
-      → IsTrue (answers d.name (sha256 whole) r.interest.name r.interest.can_be_prefix) → (frame_at octets ≡ Ok (AData whole d)) × Asked (AData whole d)
-  earlier r whole d same allowed answered = (
-    ap frame_at same ∙ allowed_reads first past whole d allowed,
-    inr (r.whole, r.interest, record { now = r.now; octets = r.octets; brings = r.brings; read = r.read }, inl (answered, allowed)),
-  )
+  module _ (r : IsReply seen event (face, octets)) where
+    abbrev brought : BringsPacketOn event face (AnInterest r.whole r.interest)
+    brought = record { now = r.now; octets = r.octets; brings = r.brings; read = r.read }
 
-  cached_asked : (r : IsReply seen event (face, octets)) → seen.MayGive (key_of r.interest) (Some octets) → (whole : List ℕ) × (d : PlainData) × (frame_at octets ≡ Ok (AData whole d)) × Asked (AData whole d)
-  cached_asked r (c, holds, serves, same) =
-      let i = r.interest in
-      let came = cached_came_allowed first past c is holds in
-      let d = came.0 in
-      let answered : IsTrue (answers c.name c.digest i.name i.can_be_prefix) = (answers_is c.name i.name c.digest i.can_be_prefix).1 serves.0 in
-      let named : IsTrue (answers d.name (sha256 c.octets) i.name i.can_be_prefix) = subst (λ (n : List Field). IsTrue (answers n (sha256 c.octets) i.name i.can_be_prefix)) came.2
-      (subst (λ (h : List ℕ). IsTrue (answers c.name h i.name i.can_be_prefix)) came.3 answered) in
-      let found = earlier r c.octets d same (allowed_then first past (AData c.octets d) c.arrival came.1) named in
-      (c.octets, d, found.0, found.1)
+    sent_packet : octets ≡ lp_text (token_at r.octets) None r.packet
+    sent_packet = ap (λ (s : Send). s.1) r.answered
 
-  stored_asked : (r : IsReply seen event (face, octets)) → served r.interest.name r.interest.can_be_prefix seen.policy.held.objects ≡ Some octets
-      → (whole : List ℕ) × (d : PlainData) × (frame_at octets ≡ Ok (AData whole d)) × Asked (AData whole d)
-  stored_asked r stored =
-      let i = r.interest in
-      let row = served_row i.name i.can_be_prefix seen.policy.held.objects octets stored in
-      let came = stored_is_of_allowed first reply.was past row.0 octets none reply.is_policy row.1 in
-      let d = came.0 in
-      let answered : IsTrue (answers d.name (sha256 octets) i.name i.can_be_prefix) =
-      sym (as_data i.name d.name (sha256 octets) i.can_be_prefix) ∙ ap (full_name_answers i.name i.can_be_prefix) (sym came.2) ∙ row.2 in
-      let found = earlier r octets d refl came.1 answered in
-      (octets, d, found.0, found.1)
+    own_token : IfSome (token_at r.octets) IsToken
+    own_token = token_fits r.octets (token_at r.octets) refl
 
-  own_asked : (r : IsReply seen event (face, octets)) (whole : List ℕ) (d : PlainData) → IsOwnAnswer q face r.whole r.interest octets → Asked (AData whole d)
-  own_asked r whole d own = inr (r.whole, r.interest, record { now = r.now; octets = r.octets; brings = r.brings; read = r.read }, inr own)
+    -- an earlier Data that answers the Interest of the event
+    earlier : (whole : List ℕ) (d : PlainData) → r.packet ≡ whole → AllowedIn first past (AData whole d)
+        → IsTrue (answers d.name (sha256 whole) r.interest.name r.interest.can_be_prefix) → (frame_at octets ≡ Ok (AData whole d)) × Asked (AData whole d)
+    earlier whole d same allowed answered =
+        let read = allowed_reads first past whole d allowed in (
+          ap frame_at (sent_packet ∙ ap (λ (p : List ℕ). lp_text (token_at r.octets) None p) same)
+              ∙ back_reads (token_at r.octets) whole whole d own_token (data_short whole whole d read) read,
+          inr (r.whole, r.interest, brought, inl (answered, allowed)),
+        )
+
+    cached_asked : seen.MayGive (key_of r.interest) (Some r.packet) → (whole : List ℕ) × (d : PlainData) × (frame_at octets ≡ Ok (AData whole d)) × Asked (AData whole d)
+    cached_asked (c, holds, serves, same) =
+        let i = r.interest in
+        let came = cached_came_allowed first past c is holds in
+        let d = came.0 in
+        let answered : IsTrue (answers c.name c.digest i.name i.can_be_prefix) = (answers_is c.name i.name c.digest i.can_be_prefix).1 serves.0 in
+        let named : IsTrue (answers d.name (sha256 c.octets) i.name i.can_be_prefix) = subst (λ (n : List Field). IsTrue (answers n (sha256 c.octets) i.name i.can_be_prefix)) came.2
+        (subst (λ (h : List ℕ). IsTrue (answers c.name h i.name i.can_be_prefix)) came.3 answered) in
+        let found = earlier c.octets d same (allowed_then first past (AData c.octets d) c.arrival came.1) named in
+        (c.octets, d, found.0, found.1)
+
+    stored_asked : served r.interest.name r.interest.can_be_prefix seen.policy.held.objects ≡ Some r.packet
+        → (whole : List ℕ) × (d : PlainData) × (frame_at octets ≡ Ok (AData whole d)) × Asked (AData whole d)
+    stored_asked stored =
+        let i = r.interest in
+        let row = served_row i.name i.can_be_prefix seen.policy.held.objects r.packet stored in
+        let came = stored_is_of_allowed first reply.was past row.0 r.packet none reply.is_policy row.1 in
+        let d = came.0 in
+        let answered : IsTrue (answers d.name (sha256 r.packet) i.name i.can_be_prefix) =
+        sym (as_data i.name d.name (sha256 r.packet) i.can_be_prefix) ∙ ap (full_name_answers i.name i.can_be_prefix) (sym came.2) ∙ row.2 in
+        let found = earlier r.packet d refl came.1 answered in
+        (r.packet, d, found.0, found.1)
+
+    own_asked : (whole : List ℕ) (d : PlainData) → frame_at octets ≡ Ok (AData whole d) → IsOwnAnswer q face r.whole r.interest r.packet → Asked (AData whole d)
+    own_asked whole d read own =
+        let same : r.packet ≡ whole = back_holds (token_at r.octets) r.packet whole d own_token (own_begins q face r.whole r.interest r.packet own) (sym (ap frame_at sent_packet) ∙ read) in
+        inr (r.whole, r.interest, brought, inr (subst (IsOwnAnswer q face r.whole r.interest) same own))
 
   by_frame : (whole : List ℕ) (d : PlainData) → frame_at octets ≡ Ok (AData whole d) → (packet : PlainFrame) × (frame_at octets ≡ Ok packet) × Asked packet → Asked (AData whole d)
   by_frame whole d read found = subst Asked (same_frame (AData whole d) found.0 read found.1) found.2
 
-  pub sent_was_asked_for : (whole : List ℕ) (d : PlainData) → Contains answer.sends (face, octets) → frame_at octets ≡ Ok (AData whole d) → WasAskedFor first past reply.was event face octets whole d
+  pub sent_was_asked_for : (whole : List ℕ) (d : PlainData) → Contains answer.sends (face, octets) → frame_at octets ≡ Ok (AData whole d) → WasAskedFor first past reply.was event face whole d
   sent_was_asked_for whole d sent read =
-      by_cause (All-contains (IsExplained seen event) answer.sends (face, octets) (all_explained seen event answer fits reply.replies) sent)
+      by_cause (All-contains (IsExplained seen event) answer.sends (face, octets) (all_explained seen event answer linked fits reply.replies) sent)
     where
-      by_hand : (r : IsReply seen event (face, octets)) → IsAtHand seen face r.whole r.interest octets → Asked (AData whole d)
+      by_hand : (r : IsReply seen event (face, octets)) → IsAtHand seen face r.whole r.interest r.packet → Asked (AData whole d)
       by_hand r (inl given) = let found = cached_asked r given in by_frame whole d read (AData found.0 found.1, found.2, found.3)
       by_hand r (inr (inl stored)) = let found = stored_asked r stored in by_frame whole d read (AData found.0 found.1, found.2, found.3)
-      by_hand r (inr (inr own)) = own_asked r whole d own
+      by_hand r (inr (inr own)) = own_asked r whole d read own
 
       by_cause : IsExplained seen event (face, octets) → Asked (AData whole d)
       by_cause (inl f) = let found = forwarded_asked f in by_frame whole d read (AData f.whole f.packet, found.0, found.1)
       by_cause (inr (inl r)) = by_hand r r.at_hand
-      by_cause (inr (inr other)) = (let yes : is_data octets ≡ true = either (begins_as_data octets) (is_data_frame (frame_at octets)) (ap is_data_frame read) in cc (other, yes))
+      by_cause (inr (inr other)) = (let yes = read_is_data octets whole d read in cc (other, yes))
 
-  pub unread_is_own : Contains answer.sends (face, octets) → is_data octets ≡ true → ((whole : List ℕ) (d : PlainData) → frame_at octets ≢ Ok (AData whole d)) → AnswersItself reply.was event face octets
+  pub unread_is_own : Contains answer.sends (face, octets) → is_data octets ≡ true → ((whole : List ℕ) (d : PlainData) → frame_at octets ≢ Ok (AData whole d))
+      → AnswersItself reply.was event (face, octets)
   unread_is_own sent is unread =
-      by_cause (All-contains (IsExplained seen event) answer.sends (face, octets) (all_explained seen event answer fits reply.replies) sent)
+      by_cause (All-contains (IsExplained seen event) answer.sends (face, octets) (all_explained seen event answer linked fits reply.replies) sent)
     where
-      by_hand : (r : IsReply seen event (face, octets)) → IsAtHand seen face r.whole r.interest octets → AnswersItself reply.was event face octets
+      by_hand : (r : IsReply seen event (face, octets)) → IsAtHand seen face r.whole r.interest r.packet → AnswersItself reply.was event (face, octets)
       by_hand r (inl given) = let found = cached_asked r given in absurd (unread found.0 found.1 found.2)
       by_hand r (inr (inl stored)) = let found = stored_asked r stored in absurd (unread found.0 found.1 found.2)
-      by_hand r (inr (inr own)) = (r.whole, r.interest, record { now = r.now; octets = r.octets; brings = r.brings; read = r.read }, own)
+      by_hand r (inr (inr own)) =
+          (r.whole, r.packet, r.interest, brought r, own, r.answered ∙ ap (λ (t : Token). sent_back face t r.packet) (sym (ap token_in r.brings)))
 
-      by_cause : IsExplained seen event (face, octets) → AnswersItself reply.was event face octets
+      by_cause : IsExplained seen event (face, octets) → AnswersItself reply.was event (face, octets)
       by_cause (inl f) = absurd (unread f.whole f.packet (forwarded_asked f).0)
       by_cause (inr (inl r)) = by_hand r r.at_hand
       by_cause (inr (inr other)) = cc (is, other)

@@ -2,7 +2,7 @@
 use Rattle.std.proofs.Common.{◌≡◌, ℕ, Bool, true, false, List, refl, sym, ap, subst, ◌∙◌, Result, Ok, inl, inr}
 use Rattle.std.specs.Prelude.{Some, None, max, not, if◌then◌else◌}
 use Rattle.sha2.specs.Sha256.{sha256}
-use Rattle.ndn_packets.specs.FrameReading.{frame_at}
+use Rattle.ndn_packets.specs.FrameReading.{frame_at, token_at}
 use Rattle.ndn_packets.specs.Packet.{PlainData, PlainFrame, AData}
 use Rattle.ndn_packets.specs.declared.fault.PacketFault.{PacketFault}
 use Rattle.info_rules.specs.declared.decision.Decision.{Decision}
@@ -62,8 +62,8 @@ module _ (was : Policy) (past : Run) (waiting : Pending) (face now : ℕ) (octet
   came_in : (whole : List ℕ) (d : PlainData) → frame_at octets ≡ Ok (AData whole d) → Replies seen arrival answer → Allows was arrival (AData whole d)
   came_in whole d read h = by_open (is_open face q.faces) refl h
     where
-      by_open : (o : Bool) → is_open face q.faces ≡ o → WhereTrue o (RepliesToPacket seen face (frame_at octets) answer) (answer ≡ dropped NoFace) → Allows was arrival (AData whole d)
-      by_open true e h = data_allowed whole d read e (subst (λ (r : Result PlainFrame PacketFault). RepliesToPacket seen face r answer) read h)
+      by_open : (o : Bool) → is_open face q.faces ≡ o → WhereTrue o (RepliesToPacket seen face (token_at octets) (frame_at octets) answer) (answer ≡ dropped NoFace) → Allows was arrival (AData whole d)
+      by_open true e h = data_allowed whole d read e (subst (λ (r : Result PlainFrame PacketFault). RepliesToPacket seen face (token_at octets) r answer) read h)
       by_open false e h = never NoFace h
 
 event_came : (first : Policy) (before : Run) (event : PlainEvent) (answer : Answer) (c : CachedData) (now : ℕ) → now ≡ max (now_of before) (moment event) → MayReply first before event answer

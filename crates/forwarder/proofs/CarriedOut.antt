@@ -32,6 +32,7 @@ use Rattle.repo_core.specs.Repo.{Held, IsCommandPrepared, RepoState, is_insert, 
 use Rattle.repo_core.specs.Writing.{repo_response}
 use Rattle.repo_core.proofs.Texts.{known_is_bounded, reply_has_text}
 use Rattle.pit_fib.specs.declared.faces.TheConstants.{MAX_FACES}
+use Rattle.forwarder.specs.Event.{Token}
 use Rattle.forwarder.specs.Policy.{Policy, with_next_version}
 use Rattle.forwarder.specs.Request.{ForRepository, ForTables}
 use Rattle.forwarder.specs.Said.{recorded_of}
@@ -41,7 +42,7 @@ use Rattle.forwarder.specs.Cache.{CacheAfter, Erases, Untouched, command_use}
 use Rattle.forwarder.specs.Node.{NodeState}
 use Rattle.forwarder.specs.Commanding.{IsCommanded}
 
-module _ (was new : NodeState) (face status : ℕ) (i : PlainInterest) (content : List ℕ) where
+module _ (was new : NodeState) (face : ℕ) (token : Token) (status : ℕ) (i : PlainInterest) (content : List ℕ) where
   -- a command on the tables, where this is read off its name
   pub tables_done : (read : Result PlainCommand ℕ) → command_at i.name ≡ read
       → status ≡ tables_status was.policy face read
@@ -49,10 +50,10 @@ module _ (was new : NodeState) (face status : ℕ) (i : PlainInterest) (content 
       → new.policy ≡ with_record (after_tables was.policy face read) (recorded_of i)
       → new.pending ≡ was.pending
       → CacheAfter was.policy.now was.pending (command_use read status) was.cache new.cache
-      → IsCommanded was face i ForTables status (replied face i content ∷ []) new
+      → IsCommanded was face token i ForTables status (replied face token i content ∷ []) new
   tables_done read is answered sent policy pending cache = record {
     answered = answered ∙ ap (λ (c : Result PlainCommand ℕ). tables_status was.policy face c) (sym is);
-    sent = ap (λ (o : List ℕ). replied face i o ∷ []) (sent ∙ ap (λ (c : Result PlainCommand ℕ). tables_reply was.policy face c) (sym is));
+    sent = ap (λ (o : List ℕ). replied face token i o ∷ []) (sent ∙ ap (λ (c : Result PlainCommand ℕ). tables_reply was.policy face c) (sym is));
     policy = policy ∙ ap (λ (c : Result PlainCommand ℕ). with_record (after_tables was.policy face c) (recorded_of i)) (sym is);
     pending = pending;
     cache = subst (λ (c : Result PlainCommand ℕ). CacheAfter was.policy.now was.pending (command_use c status) was.cache new.cache) (sym is) cache;
@@ -194,12 +195,12 @@ written_fits w space none most = by (is_bad_name (components w.name)) (nat_lt 64
     by false false false is none = grind (arith, nat_tests, is, most)
 
 -- a command to the repository, where this is its reply
-pub repository_done : (was new : NodeState) (face : ℕ) (i : PlainInterest) (reply : RepoReply) → reply ≡ repository_reply was.policy i
+pub repository_done : (was new : NodeState) (face : ℕ) (token : Token) (i : PlainInterest) (reply : RepoReply) → reply ≡ repository_reply was.policy i
     → new.policy ≡ with_record (after_repository was.policy i) (recorded_of i) → new.pending ≡ was.pending → new.cache ≡ was.cache
-    → IsCommanded was face i ForRepository reply.status (replied face i (repository_content reply) ∷ fetch_sends was.policy i.nonce reply.fetch) new
-repository_done was new face i reply is policy pending cache = record {
+    → IsCommanded was face token i ForRepository reply.status (replied face token i (repository_content reply) ∷ fetch_sends was.policy i.nonce reply.fetch) new
+repository_done was new face token i reply is policy pending cache = record {
   answered = ap (λ (r : RepoReply). r.status) is;
-  sent = ap (λ (r : RepoReply). replied face i (repository_content r) ∷ fetch_sends was.policy i.nonce r.fetch) is;
+  sent = ap (λ (r : RepoReply). replied face token i (repository_content r) ∷ fetch_sends was.policy i.nonce r.fetch) is;
   policy = policy;
   pending = pending;
   cache = cache;

@@ -1,31 +1,36 @@
 -- What octets are that begin as an Interest, a Data or a Nack does.
-use Rattle.std.proofs.Common.{◌≡◌, ℕ, zero, suc, ◌-◌, ◌^◌, ◌<◌, ◌≤◌, Bool, true, false, cond, ltb, List, [], ◌∷◌, ◌++◌, length, take, drop, refl, sym, ap, subst, ◌∙◌, arith, Result, Ok, Err}
-use Rattle.std.specs.Prelude.{◌==◌, ◌&&◌, ◌||◌, Option, None, Some, nat_lt, slice_set, is_some}
-use Rattle.std.proofs.lemmas.Bool.{eqb-true, ltb-false}
+use Rattle.std.proofs.Common.{◌≡◌, ℕ, zero, suc, ◌+◌, ◌-◌, ◌^◌, ◌<◌, ◌≤◌, Bool, true, false, cond, not, ltb, List, [], ◌∷◌, ◌++◌, length, take, drop, refl, sym, ap, ◌∙◌, arith, Result, Ok, Err, lit<}
+use Rattle.std.specs.Prelude.{◌==◌, ◌&&◌, ◌||◌, Option, None, Some, nat_lt, slice_set, is_some, IfSome}
+use Rattle.std.proofs.lemmas.Bool.{eqb-true, ltb-false, le-ltb, le-leb}
 use Rattle.std.proofs.lemmas.List.{append-nil, length-append}
 use Rattle.ndn_tlv.specs.declared.fault.TlvFault.{TlvFault}
 use Rattle.ndn_tlv.specs.declared.fault.TlvFault.TheVariants.{Truncated}
 use Rattle.ndn_tlv.specs.Element.{Field, IsField, element}
 use Rattle.ndn_tlv.specs.Number.{shortest_nni, spelling}
+use Rattle.ndn_tlv.proofs.Integers.{length-shortest_eight}
+use Rattle.ndn_tlv.proofs.Lengths.{length-element}
+use Rattle.ndn_tlv.proofs.Numbers.{length-spelling_nine, length-spelling_one}
 use Rattle.ndn_tlv.specs.Writing.{octets}
 use Rattle.ndn_tlv.specs.Reading.{◌>>=◌, element_at, elements_of, number_at, on_result}
-use Rattle.ndn_tlv.proofs.Fields.{element_again, elements_of-ok}
+use Rattle.ndn_tlv.proofs.Fields.{element_again, elements_of-nil, elements_of-ok}
 use Rattle.ndn_packets.specs.declared.fault.PacketFault.{PacketFault}
-use Rattle.ndn_packets.specs.declared.fault.PacketFault.TheVariants.{BadField, Fragmented, LpField, Tlv, TooLong}
-use Rattle.ndn_packets.specs.FrameReading.{LinkSoFar, at_most, data_of, fragment_at, frame_at, interest_of, is_refused_header, last_of, link_at, link_from, nack_at, nacked_of, no_fragment, no_headers_yet, only_element, outer_of, take_header, with_header}
+use Rattle.ndn_packets.specs.declared.fault.PacketFault.TheVariants.{BadField, LpField, Tlv, TooLong}
+use Rattle.ndn_packets.specs.FrameReading.{LinkSoFar, data_of, frame_at, framed_at, interest_of, is_token, link_at, link_from, nack_at, nacked_of, no_headers_yet, only_element, outer_of, packet_of, take_header}
 use Rattle.ndn_packets.specs.Covered.{from_first}
 use Rattle.ndn_packets.specs.Grammar.{IsInterest}
 use Rattle.ndn_packets.specs.HopLimit.{hop_place, place_from, place_in}
-use Rattle.ndn_packets.specs.declared.types.TheConstants.{FRAG_COUNT, FRAG_INDEX, HOP_LIMIT, NACK, PIT_TOKEN, SEQUENCE}
-use Rattle.ndn_packets.specs.Packet.{PlainInterest, PlainData, PlainFrame, AnInterest, AData, ANack, Idle}
-use Rattle.ndn_packets.specs.Reading.{is_nil, nni_value_at}
-use Rattle.ndn_packets.specs.Writing.{nack_text}
-use Rattle.ndn_packets.proofs.Packets.{frame_again}
-use Rattle.ndn_packets.proofs.WrittenNacks.{nack_written}
+use Rattle.ndn_packets.specs.Link.{IsToken}
+use Rattle.ndn_packets.specs.declared.types.TheConstants.{HOP_LIMIT}
+use Rattle.ndn_packets.specs.Packet.{PlainInterest, PlainData, PlainFrame, PlainFramed, AnInterest, AData, ANack, Idle, framed_with}
+use Rattle.ndn_packets.specs.Reading.{is_nil}
+use Rattle.ndn_packets.specs.Writing.{AreOctets, lp_text}
+use Rattle.ndn_packets.proofs.Wholes.{data_alone, data_packet}
+use Rattle.ndn_packets.proofs.Packets.{frame_found, frame_of_framed}
+use Rattle.ndn_packets.proofs.WrittenLinks.{lp_nack_read}
 use Rattle.forwarder.specs.Causes.{is_nack, is_nack_frame, is_nacked}
-use Rattle.forwarder.specs.Event.{to_each}
+use Rattle.forwarder.specs.Event.{Token, to_each}
 use Rattle.forwarder.specs.NextHops.{sent_on}
-use Rattle.forwarder.specs.Sends.{begins_as_data, is_data, is_data_frame}
+use Rattle.forwarder.specs.Sends.{carries_data, holds_data, is_data, is_data_frame}
 
 -- whether the first octet is this one
 abbrev pub begins : ℕ → List ℕ → Bool
@@ -50,10 +55,10 @@ abbrev only : Result (Field × List ℕ) TlvFault → Result Field PacketFault
 only r = on_result (λ x. cond (is_nil x.1) (Ok x.0) (Err BadField)) (λ f. Err (Tlv f)) r
 
 abbrev framed : List ℕ → Bool → Result (Field × List ℕ) TlvFault → Result PlainFrame PacketFault
-framed text long r = cond long (Err TooLong) (only r >>= outer_of text)
+framed text long r = cond long (Err TooLong) (only r >>= outer_of text) >>= λ f. Ok f.frame
 
 frame_is : (text : List ℕ) → frame_at text ≡ framed text (nat_lt 9000 (length text)) (element_at text)
-unfolding frame_at
+unfolding frame_at framed_at
 frame_is text = refl
 
 element_five : (octets : List ℕ) → element_at (5 ∷ octets) ≡ (number_at octets >>= sized 5)
@@ -73,7 +78,7 @@ five text true r = (refl, refl)
 five text false (Err f) = (refl, refl)
 five text false (Ok len) = by_size (ltb (length len.1) len.0) (take len.0 len.1) (drop len.0 len.1)
   where
-    by_read : (r : Result PlainInterest PacketFault) → IsNeither (r >>= λ i. Ok (AnInterest text i))
+    by_read : (r : Result PlainInterest PacketFault) → IsNeither (((r >>= λ i. Ok (AnInterest text i)) >>= λ f. Ok (framed_with None f)) >>= λ f. Ok f.frame)
     by_read (Ok i) = (refl, refl)
     by_read (Err f) = (refl, refl)
 
@@ -82,12 +87,22 @@ five text false (Ok len) = by_size (ltb (length len.1) len.0) (take len.0 len.1)
     by_size false value [] = by_read (interest_of text value)
     by_size false value (octet ∷ rest) = (refl, refl)
 
+-- an element of an Interest's type holds no Data
+five_holds : (r : Result (ℕ × List ℕ) TlvFault) → holds_data (only (r >>= sized 5)) ≡ false
+five_holds (Err f) = refl
+five_holds (Ok len) = by_size (ltb (length len.1) len.0) (take len.0 len.1) (drop len.0 len.1)
+  where
+    by_size : (cut : Bool) (value rest : List ℕ) → holds_data (only (cond cut (Err Truncated) (Ok ((5, value), rest)))) ≡ false
+    by_size true value rest = refl
+    by_size false value [] = refl
+    by_size false value (octet ∷ rest) = refl
+
 six : (text : List ℕ) (long : Bool) (r : Result (ℕ × List ℕ) TlvFault) → is_nack_frame (framed text long (r >>= sized 6)) ≡ false
 six text true r = refl
 six text false (Err f) = refl
 six text false (Ok len) = by_size (ltb (length len.1) len.0) (take len.0 len.1) (drop len.0 len.1)
   where
-    by_read : (r : Result PlainData PacketFault) → is_nack_frame (r >>= λ d. Ok (AData text d)) ≡ false
+    by_read : (r : Result PlainData PacketFault) → is_nack_frame (((r >>= λ d. Ok (AData text d)) >>= λ f. Ok (framed_with None f)) >>= λ f. Ok f.frame) ≡ false
     by_read (Ok d) = refl
     by_read (Err f) = refl
 
@@ -96,29 +111,26 @@ six text false (Ok len) = by_size (ltb (length len.1) len.0) (take len.0 len.1) 
     by_size false value [] = by_read (data_of text value)
     by_size false value (octet ∷ rest) = refl
 
--- octets that begin as an Interest are read as neither
-read_as_neither : (text : List ℕ) → begins 5 text ≡ true → IsNeither (frame_at text)
-read_as_neither [] is = cc is
-read_as_neither (octet ∷ octets) is =
+-- what is neither read as a Data nor one by its type is none
+no_data : (text : List ℕ) → is_data_frame (frame_at text) ≡ false → holds_data (only_element text) ≡ false → is_data text ≡ false
+no_data text read typed = ap (λ (b : Bool). b || holds_data (only_element text)) read ∙ typed
+
+-- what is read as a Data is one
+pub read_is_data : (text whole : List ℕ) (d : PlainData) → frame_at text ≡ Ok (AData whole d) → is_data text ≡ true
+read_is_data text whole d read = ap (λ (r : Result PlainFrame PacketFault). is_data_frame r || holds_data (only_element text)) read
+
+-- octets that begin as an Interest are neither a Nack nor a Data
+pub interest_is_neither : (text : List ℕ) → begins 5 text ≡ true → (is_nack text ≡ false) × (is_data text ≡ false)
+interest_is_neither [] is = cc is
+interest_is_neither (octet ∷ octets) is =
     let text = octet ∷ octets in
     let kind : octet ≡ 5 = eqb-true octet 5 is in
     let read : element_at text ≡ (number_at octets >>= sized 5) = ap (λ (o : ℕ). element_at (o ∷ octets)) kind ∙ element_five octets in
     let frame : frame_at text ≡ framed text (nat_lt 9000 (length text)) (number_at octets >>= sized 5) = frame_is text ∙ ap (framed text (nat_lt 9000 (length text))) read in
-    subst IsNeither (sym frame) (five text (nat_lt 9000 (length text)) (number_at octets))
-
--- what begins otherwise and is not read as a Data is none
-no_data : (text : List ℕ) → begins_as_data text ≡ false → is_data_frame (frame_at text) ≡ false → is_data text ≡ false
-no_data text other read = ap (λ (b : Bool). b || is_data_frame (frame_at text)) other ∙ read
-
-begins_otherwise : (text : List ℕ) → begins 5 text ≡ true → begins_as_data text ≡ false
-begins_otherwise [] is = refl
-begins_otherwise (octet ∷ octets) is =
-    let kind : octet ≡ 5 = eqb-true octet 5 is in
-    ap (λ (o : ℕ). begins_as_data (o ∷ octets)) kind
-
--- octets that begin as an Interest are neither a Nack nor a Data
-pub interest_is_neither : (text : List ℕ) → begins 5 text ≡ true → (is_nack text ≡ false) × (is_data text ≡ false)
-interest_is_neither text is = let neither = read_as_neither text is in (neither.0, no_data text (begins_otherwise text is) neither.1)
+    let neither = five text (nat_lt 9000 (length text)) (number_at octets) in (
+      ap is_nack_frame frame ∙ neither.0,
+      no_data text (ap is_data_frame frame ∙ neither.1) (ap (λ (r : Result (Field × List ℕ) TlvFault). holds_data (only r)) read ∙ five_holds (number_at octets)),
+    )
 
 -- octets that begin as a Data are no Nack
 pub data_is_no_nack : (text : List ℕ) → begins 6 text ≡ true → is_nack text ≡ false
@@ -129,6 +141,29 @@ data_is_no_nack (octet ∷ octets) is =
     let read : element_at text ≡ (number_at octets >>= sized 6) = ap (λ (o : ℕ). element_at (o ∷ octets)) kind ∙ element_six octets in
     let frame : frame_at text ≡ framed text (nat_lt 9000 (length text)) (number_at octets >>= sized 6) = frame_is text ∙ ap (framed text (nat_lt 9000 (length text))) read in
     ap is_nack_frame frame ∙ six text (nat_lt 9000 (length text)) (number_at octets)
+
+six_whole : (text : List ℕ) (long : Bool) (r : Result (ℕ × List ℕ) TlvFault) (whole : List ℕ) (d : PlainData) → framed text long (r >>= sized 6) ≡ Ok (AData whole d) → text ≡ whole
+six_whole text true r whole d e = cc e
+six_whole text false (Err f) whole d e = cc e
+six_whole text false (Ok len) whole d e = by_size (ltb (length len.1) len.0) (take len.0 len.1) (drop len.0 len.1) e
+  where
+    by_read : (r : Result PlainData PacketFault) → (((r >>= λ d. Ok (AData text d)) >>= λ f. Ok (framed_with None f)) >>= λ f. Ok f.frame) ≡ Ok (AData whole d) → text ≡ whole
+    by_read (Ok other) e = cc e
+    by_read (Err f) e = cc e
+
+    by_size : (cut : Bool) (value rest : List ℕ) → framed text false (cond cut (Err Truncated) (Ok ((6, value), rest))) ≡ Ok (AData whole d) → text ≡ whole
+    by_size true value rest e = cc e
+    by_size false value [] e = by_read (data_of text value) e
+    by_size false value (octet ∷ rest) e = cc e
+
+-- octets that begin as a Data are the received octets of the Data that they are read as
+data_is_whole : (text whole : List ℕ) (d : PlainData) → begins 6 text ≡ true → frame_at text ≡ Ok (AData whole d) → text ≡ whole
+data_is_whole [] whole d is read = cc is
+data_is_whole (octet ∷ octets) whole d is read =
+    let text = octet ∷ octets in
+    let kind : octet ≡ 6 = eqb-true octet 6 is in
+    let at : element_at text ≡ (number_at octets >>= sized 6) = ap (λ (o : ℕ). element_at (o ∷ octets)) kind ∙ element_six octets in
+    six_whole text (nat_lt 9000 (length text)) (number_at octets) whole d (sym (frame_is text ∙ ap (framed text (nat_lt 9000 (length text))) at) ∙ read)
 
 -- ---- an Interest that is sent on
 
@@ -170,146 +205,261 @@ sent_on_begins whole (Some n) is = begins_still 5 whole (hop_place whole) (n - 1
 pub spelled_begins : (whole : List ℕ) (i : PlainInterest) → IsInterest whole i → begins 5 whole ≡ true
 spelled_begins whole i is = ap (begins 5) is.fields.outer.1 ∙ begins_interest is.fields.value
 
+-- what is read as an Interest begins as one
+pub read_begins : (octets whole : List ℕ) (i : PlainInterest) → AreOctets octets → frame_at octets ≡ Ok (AnInterest whole i) → begins 5 whole ≡ true
+read_begins octets whole i fits read = spelled_begins whole i (frame_found octets (AnInterest whole i) fits read).1.0
+
 pub none_nacked : (faces octets : List ℕ) → is_nack octets ≡ false → is_nacked (to_each faces octets) ≡ false
 none_nacked [] octets other = refl
 none_nacked (f ∷ faces) octets other = ap (λ (b : Bool). b || is_nacked (to_each faces octets)) other ∙ none_nacked faces octets other
 
--- ---- a Nack
+-- ---- a link packet
 
--- a Nack around an Interest is one
-pub nack_is_nack : (reason : ℕ) (interest : List ℕ) (i : PlainInterest) → IsInterest interest i → reason < 2 ^ 64 → is_nack (nack_text reason interest) ≡ true
-nack_is_nack reason interest i is fits =
-    ap is_nack_frame (frame_again (nack_text reason interest) (ANack reason interest i) (nack_written reason interest i is fits))
-
-abbrev NoData : Result PlainFrame PacketFault → Type 0
-NoData r = is_data_frame r ≡ false
-
--- some Nack was met
-abbrev HasNack : LinkSoFar → Type 0
-HasNack s = is_some s.nack ≡ true
-
-nacked_no_data : (reason : ℕ) (text : List ℕ) (elements : List (Result Field TlvFault)) (r : Result Field PacketFault) → NoData ((r >>= nacked_of reason text) >>= λ frame. last_of frame elements)
-nacked_no_data reason text elements (Err f) = refl
-nacked_no_data reason text elements (Ok outer) = by_kind (outer.0 == 5)
-  where
-    by_rest : (i : PlainInterest) (rest : List (Result Field TlvFault)) → NoData (last_of (ANack reason text i) rest)
-    by_rest i [] = refl
-    by_rest i (Err f ∷ rest) = refl
-    by_rest i (Ok e ∷ rest) = refl
-
-    by_read : (r : Result PlainInterest PacketFault) → NoData ((r >>= λ i. Ok (ANack reason text i)) >>= λ frame. last_of frame elements)
-    by_read (Err f) = refl
-    by_read (Ok i) = by_rest i elements
-
-    by_kind : (b : Bool) → NoData (cond b (interest_of text outer.1 >>= λ i. Ok (ANack reason text i)) (Err BadField) >>= λ frame. last_of frame elements)
-    by_kind true = by_read (interest_of text outer.1)
-    by_kind false = refl
-
--- what stands beside a Nack is no Data
-fragment_no_data : (nack : Option ℕ) (text : List ℕ) (elements : List (Result Field TlvFault)) → is_some nack ≡ true → NoData (fragment_at nack text >>= λ frame. last_of frame elements)
-fragment_no_data None text elements is = cc is
-fragment_no_data (Some reason) text elements is = nacked_no_data reason text elements (only_element text)
-
-none_no_data : (nack : Option ℕ) → is_some nack ≡ true → NoData (no_fragment nack)
-none_no_data None is = cc is
-none_no_data (Some reason) is = refl
-
--- where each header that may follow keeps a Nack, none of what follows is a Data
-abbrev Goes : Result LinkSoFar PacketFault → Type 0
-Goes (Ok t) = HasNack t
-Goes (Err f) = Unit {0}
-
-limited : (limit : ℕ) (value : List ℕ) (s : LinkSoFar) → HasNack s → Goes (at_most limit value s)
-limited limit value s is = by_read (nni_value_at value)
-  where
-    by_read : (r : Result ℕ PacketFault) → Goes (r >>= λ n. cond (nat_lt limit n) (Err Fragmented) (Ok s))
-    by_read (Err f) = tt
-    by_read (Ok n) = by_less (nat_lt limit n)
-      where
-        by_less : (b : Bool) → Goes (cond b (Err Fragmented) (Ok s))
-        by_less true = tt
-        by_less false = is
-
-header_keeps : (s : LinkSoFar) (h : Field) → HasNack s → Goes (take_header s h)
-header_keeps s h is = by_refused (is_refused_header s h)
-  where
-    by_nack : (r : Result ℕ PacketFault) → Goes (r >>= λ reason. Ok (record s { nack = Some reason }))
-    by_nack (Err f) = tt
-    by_nack (Ok reason) = refl
-
-    by_kind : (a b c d e : Bool) → Goes (cond a (Ok (record s { sequence = true })) (
-        cond b (at_most 0 h.1 (record s { frag_index = true })) (
-        cond c (at_most 1 h.1 (record s { frag_count = true })) (
-        cond d (Ok (record s { pit_token = true })) (
-        cond e (nack_at h.1 >>= λ reason. Ok (record s { nack = Some reason })) (
-        Ok s))))))
-    by_kind true b c d e = is
-    by_kind false true c d e = limited 0 h.1 (record s { frag_index = true }) is
-    by_kind false false true d e = limited 1 h.1 (record s { frag_count = true }) is
-    by_kind false false false true e = is
-    by_kind false false false false true = by_nack (nack_at h.1)
-    by_kind false false false false false = is
-
-    by_refused : (b : Bool) → Goes (cond b (Err LpField) (with_header s h))
-    by_refused true = tt
-    by_refused false = by_kind (h.0 == SEQUENCE) (h.0 == FRAG_INDEX) (h.0 == FRAG_COUNT) (h.0 == PIT_TOKEN) (h.0 == NACK)
-
-link_no_data : (s : LinkSoFar) (elements : List (Result Field TlvFault)) → HasNack s → NoData (link_from s elements)
-link_no_data s [] is = none_no_data s.nack is
-link_no_data s (Err f ∷ elements) is = refl
-link_no_data s (Ok e ∷ elements) is = by_kind (λ t goes. link_no_data t elements goes) (e.0 == 80)
-  where
-    by_taken : ((t : LinkSoFar) → HasNack t → NoData (link_from t elements)) → (r : Result LinkSoFar PacketFault) → Goes r → NoData (r >>= λ t. link_from t elements)
-    by_taken rest (Err f) goes = refl
-    by_taken rest (Ok t) goes = rest t goes
-
-    by_kind : ((t : LinkSoFar) → HasNack t → NoData (link_from t elements)) → (b : Bool) → NoData (cond b (fragment_at s.nack e.1 >>= λ frame. last_of frame elements) (take_header s e >>= λ t. link_from t elements))
-    by_kind rest true = fragment_no_data s.nack e.1 elements is
-    by_kind rest false = by_taken rest (take_header s e) (header_keeps s e is)
-
--- a link packet whose first header is a Nack
-nack_first : (reason : List ℕ) (elements : List (Result Field TlvFault)) → NoData (link_from no_headers_yet (Ok (800, reason) ∷ elements))
-nack_first reason elements = by_read (nack_at reason)
-  where
-    by_read : (r : Result ℕ PacketFault) → NoData ((r >>= λ n. Ok (record no_headers_yet { nack = Some n })) >>= λ t. link_from t elements)
-    by_read (Err f) = refl
-    by_read (Ok n) = link_no_data (record no_headers_yet { nack = Some n }) elements refl
+-- an element is read as the only one
+only_one : (f : Field) → IsField f → only_element (element f) ≡ Ok f
+only_one f is = ap (λ (text : List ℕ). only (element_at text)) (sym (append-nil (element f))) ∙ ap only (element_again f [] is)
 
 link_is : (value : List ℕ) → link_at value ≡ link_from no_headers_yet (elements_of value)
 unfolding link_at
 link_is value = refl
 
--- an element around a Nack's header and more is no Data
-linked_no_data : (header rest : List ℕ) → NoData (frame_at (element (100, element (800, header) ++ rest)))
-linked_no_data header rest = by_long (nat_lt 9000 (length text)) refl
+-- the elements of a value, one by one
+next_element : (f : Field) (rest : List ℕ) → IsField f → elements_of (element f ++ rest) ≡ Ok f ∷ elements_of rest
+next_element f rest is = elements_of-ok (element f ++ rest) f rest (element_again f rest is)
+
+abbrev reason_value : ℕ → List ℕ
+reason_value reason = octets ((801, shortest_nni reason) ∷ [])
+
+length-reason_value : (reason : ℕ) → length (reason_value reason) ≤ 26
+length-reason_value reason =
+    let whole = length-append (element (801, shortest_nni reason)) [] in
+    let part = length-element 801 (shortest_nni reason) in
+    omega (arith, whole, part, length-spelling_nine 801, length-spelling_nine (length (shortest_nni reason)), length-shortest_eight reason)
+
+length-one : (kind : ℕ) (value : List ℕ) → length (element (kind, value)) ≤ length value + 18
+length-one kind value = omega (arith, length-element kind value, length-spelling_nine kind, length-spelling_nine (length value))
+
+is_one : (token : List ℕ) → IsToken token → is_token token ≡ true
+is_one token is = rw (le-leb 1 (length token) is.0, le-leb (length token) 32 is.1) refl
+
+-- a token may stand first
+token_taken : (token : List ℕ) → IsToken token → take_header no_headers_yet (98, token) ≡ Ok (record no_headers_yet { token = Some token })
+token_taken token is = ap (λ (b : Bool). cond (not b) (Err LpField) (Ok (record no_headers_yet { token = Some token }))) (is_one token is)
+
+-- a Nack of an Interest is none that holds a Data, with a token and without one
+module _ (reason : ℕ) (packet : List ℕ) (short : length packet ≤ 8800) where
+  abbrev last_part : List ℕ
+  last_part = element (80, packet) ++ []
+
+  abbrev nack_part : List ℕ
+  nack_part = element (800, reason_value reason) ++ last_part
+
+  nack_field_is : IsField (800, reason_value reason)
+  nack_field_is = (let few = length-reason_value reason in (omega arith, omega arith, omega (arith, few)))
+
+  nack_part_short : length nack_part ≤ 8900
+  nack_part_short =
+      let few = length-reason_value reason in
+      omega (arith, few, length-append (element (800, reason_value reason)) last_part, length-append (element (80, packet)) [], length-one 800 (reason_value reason), length-one 80 packet)
+
+  -- what a Nack's header begins carries no Data
+  carries_none : carries_data (elements_of nack_part) ≡ false
+  carries_none = ap carries_data (next_element (800, reason_value reason) last_part nack_field_is)
+
+  nack_elements : elements_of nack_part ≡ Ok (800, reason_value reason) ∷ (Ok (80, packet) ∷ [])
+  nack_elements =
+      let fragment : IsField (80, packet) = (omega arith, omega arith, omega (arith, short)) in
+      next_element (800, reason_value reason) last_part nack_field_is
+      ∙ ap (λ (l : List (Result Field TlvFault)). Ok (800, reason_value reason) ∷ l)
+      (next_element (80, packet) [] fragment ∙ ap (λ (l : List (Result Field TlvFault)). Ok (80, packet) ∷ l) elements_of-nil)
+
+  -- nor is it read as one, after a token or without one
+  abbrev NoDataIn : Result PlainFramed PacketFault → Type 0
+  NoDataIn r = is_data_frame (r >>= λ f. Ok f.frame) ≡ false
+
+  nack_read : (token : Token) → NoDataIn (link_from (record no_headers_yet { token = token }) (Ok (800, reason_value reason) ∷ (Ok (80, packet) ∷ [])))
+  nack_read token = by_nack (nack_at (reason_value reason))
+    where
+      by_interest : (n : ℕ) (r : Result PlainInterest PacketFault) → NoDataIn ((r >>= λ i. Ok (ANack n packet i)) >>= λ f. Ok (framed_with token f))
+      by_interest n (Ok i) = refl
+      by_interest n (Err f) = refl
+
+      by_kind : (n : ℕ) (e : Field) (b : Bool) → NoDataIn (cond b (interest_of packet e.1 >>= λ i. Ok (ANack n packet i)) (Err BadField) >>= λ f. Ok (framed_with token f))
+      by_kind n e true = by_interest n (interest_of packet e.1)
+      by_kind n e false = refl
+
+      by_element : (n : ℕ) (r : Result Field PacketFault) → NoDataIn ((r >>= nacked_of n packet) >>= λ f. Ok (framed_with token f))
+      by_element n (Err f) = refl
+      by_element n (Ok e) = by_kind n e (e.0 == 5)
+
+      by_nack : (r : Result ℕ PacketFault)
+          → NoDataIn ((r >>= λ n. Ok (record no_headers_yet { token = token; nack = Some n })) >>= λ s. link_from s (Ok (80, packet) ∷ []))
+      by_nack (Err f) = refl
+      by_nack (Ok n) = by_element n (only_element packet)
+
+  -- a link packet that is short enough is read by its elements
+  read_by : (value : List ℕ) → length value ≤ 8950 → only_element (element (100, value)) ≡ Ok (100, value)
+      → frame_at (element (100, value)) ≡ (link_from no_headers_yet (elements_of value) >>= λ f. Ok f.frame)
+  read_by value few one =
+      let fits = le-ltb 9000 (length (element (100, value))) (omega (arith, few, length-element 100 value, length-spelling_one 100 (lit< tt), length-spelling_nine (length value))) in
+      frame_is (element (100, value))
+      ∙ ap (λ (b : Bool). framed (element (100, value)) b (element_at (element (100, value)))) fits
+      ∙ ap (λ (r : Result Field PacketFault). (r >>= outer_of (element (100, value))) >>= λ f. Ok f.frame) one
+      ∙ ap (λ (r : Result PlainFramed PacketFault). r >>= λ f. Ok f.frame) (link_is value)
+
+  bare_nack : is_data (element (100, nack_part)) ≡ false
+  bare_nack =
+      let small = nack_part_short in
+      let outer : IsField (100, nack_part) = (omega arith, omega arith, omega (arith, small)) in
+      let one = only_one (100, nack_part) outer in
+      no_data (element (100, nack_part))
+      (ap is_data_frame (read_by nack_part (omega (arith, small)) one ∙ ap (λ (l : List (Result Field TlvFault)). link_from no_headers_yet l >>= λ f. Ok f.frame) nack_elements) ∙ nack_read None)
+      (ap holds_data one ∙ carries_none)
+
+  token_nack : (token : List ℕ) → IsToken token → is_data (element (100, element (98, token) ++ nack_part)) ≡ false
+  token_nack token is =
+      let small = nack_part_short in
+      let value = element (98, token) ++ nack_part in
+      let sum = length-append (element (98, token)) nack_part in
+      let part = length-one 98 token in
+      let few : length value ≤ 8950 = omega (arith, small, sum, part, is.1) in
+      let outer : IsField (100, value) = (omega arith, omega arith, omega (arith, few)) in
+      let inner : IsField (98, token) = (omega arith, omega arith, omega (arith, is.1)) in
+      let one = only_one (100, value) outer in
+      let elements = next_element (98, token) nack_part inner in
+      let header : take_header no_headers_yet (98, token) ≡ Ok (record no_headers_yet { token = Some token }) = token_taken token is in
+      no_data (element (100, value))
+      (ap is_data_frame (read_by value few one
+      ∙ ap (λ (l : List (Result Field TlvFault)). link_from no_headers_yet l >>= λ f. Ok f.frame) (elements ∙ ap (λ (l : List (Result Field TlvFault)). Ok (98, token) ∷ l) nack_elements)
+      ∙ ap (λ (r : Result LinkSoFar PacketFault). (r >>= λ s. link_from s (Ok (800, reason_value reason) ∷ (Ok (80, packet) ∷ []))) >>= λ f. Ok f.frame) header) ∙ nack_read (Some token))
+      (ap holds_data one ∙ ap carries_data elements ∙ carries_none)
+
+-- a Nack around octets that fit a packet is no Data
+pub nack_is_no_data : (token : Token) (reason : ℕ) (interest : List ℕ) → IfSome token IsToken → length interest ≤ 8800 → is_data (lp_text token (Some reason) interest) ≡ false
+nack_is_no_data None reason interest is short = bare_nack reason interest short
+nack_is_no_data (Some token) reason interest is short = token_nack reason interest short token is
+
+-- a Nack around an Interest is one
+pub nack_is_nack : (token : Token) (reason : ℕ) (interest : List ℕ) (i : PlainInterest) → IfSome token IsToken → IfSome token AreOctets → IsInterest interest i → reason < 2 ^ 64
+    → is_nack (lp_text token (Some reason) interest) ≡ true
+nack_is_nack token reason interest i is fits read small =
+    ap is_nack_frame (frame_of_framed (lp_text token (Some reason) interest) _ (lp_nack_read token reason interest i is fits small read))
+
+-- ---- a packet with a token
+
+abbrev wrapped : List ℕ → List ℕ → List ℕ
+wrapped token packet = element (100, element (98, token) ++ (element (80, packet) ++ []))
+
+wrapped_short : (token packet : List ℕ) → IsToken token → length packet ≤ 8800 → length (wrapped token packet) ≤ 9000
+wrapped_short token packet is short =
+    let after = element (80, packet) ++ [] in
+    let value = element (98, token) ++ after in
+    omega (
+      arith,
+      length-append (element (98, token)) after,
+      length-append (element (80, packet)) [],
+      length-one 98 token,
+      length-one 80 packet,
+      is.1,
+      short,
+      length-element 100 value,
+      length-spelling_one 100 (lit< tt),
+      length-spelling_nine (length value),
+    )
+
+module _ (token packet : List ℕ) (is : IsToken token) (small : length (wrapped token packet) ≤ 9000) where
+  abbrev after_token : List ℕ
+  after_token = element (80, packet) ++ []
+
+  abbrev value : List ℕ
+  value = element (98, token) ++ after_token
+
+  value_short : length value ≤ 9000
+  value_short = omega (arith, small, length-element 100 value)
+
+  packet_short : length packet ≤ 9000
+  packet_short =
+      let few = value_short in
+      omega (arith, few, length-append (element (98, token)) after_token, length-append (element (80, packet)) [], length-element 80 packet)
+
+  parts_are : elements_of value ≡ Ok (98, token) ∷ (Ok (80, packet) ∷ [])
+  parts_are =
+      let few = packet_short in
+      let first : IsField (98, token) = (omega arith, omega arith, omega (arith, is.1)) in
+      let second : IsField (80, packet) = (omega arith, omega arith, omega (arith, few)) in
+      next_element (98, token) after_token first
+      ∙ ap (λ (l : List (Result Field TlvFault)). Ok (98, token) ∷ l) (next_element (80, packet) [] second ∙ ap (λ (l : List (Result Field TlvFault)). Ok (80, packet) ∷ l) elements_of-nil)
+
+  -- it is read as it is alone
+  pub wrapped_is : frame_at (wrapped token packet) ≡ (((only_element packet >>= packet_of packet) >>= λ f. Ok (framed_with (Some token) f)) >>= λ f. Ok f.frame)
+  wrapped_is =
+      let few = value_short in
+      let outer : IsField (100, value) = (omega arith, omega arith, omega (arith, few)) in
+      frame_is (wrapped token packet)
+      ∙ ap (λ (b : Bool). framed (wrapped token packet) b (element_at (wrapped token packet))) (le-ltb 9000 (length (wrapped token packet)) small)
+      ∙ ap (λ (r : Result Field PacketFault). (r >>= outer_of (wrapped token packet)) >>= λ f. Ok f.frame) (only_one (100, value) outer)
+      ∙ ap (λ (r : Result PlainFramed PacketFault). r >>= λ f. Ok f.frame)
+      (link_is value ∙ ap (link_from no_headers_yet) parts_are ∙ ap (λ (r : Result LinkSoFar PacketFault). r >>= λ s. link_from s (Ok (80, packet) ∷ [])) (token_taken token is))
+
+-- what stands without a Nack is none
+pub back_is_no_nack : (token : Token) (packet : List ℕ) → IfSome token IsToken → length packet ≤ 8800 → is_nack packet ≡ false → is_nack (lp_text token None packet) ≡ false
+back_is_no_nack None packet is short other = other
+back_is_no_nack (Some token) packet is short other = ap is_nack_frame (wrapped_is token packet is (wrapped_short token packet is short)) ∙ by_element (only_element packet)
   where
-    value : List ℕ
-    value = element (800, header) ++ rest
+    by_interest : (r : Result PlainInterest PacketFault) → is_nack_frame (((r >>= λ i. Ok (AnInterest packet i)) >>= λ f. Ok (framed_with (Some token) f)) >>= λ f. Ok f.frame) ≡ false
+    by_interest (Ok i) = refl
+    by_interest (Err f) = refl
 
-    text : List ℕ
-    text = element (100, value)
+    by_data : (r : Result PlainData PacketFault) → is_nack_frame (((r >>= λ d. Ok (AData packet d)) >>= λ f. Ok (framed_with (Some token) f)) >>= λ f. Ok f.frame) ≡ false
+    by_data (Ok d) = refl
+    by_data (Err f) = refl
 
-    by_long : (long : Bool) → nat_lt 9000 (length text) ≡ long → NoData (frame_at text)
-    by_long true e = ap is_data_frame (frame_is text ∙ ap (λ (b : Bool). framed text b (element_at text)) e)
-    by_long false e =
-        let short : length text ≤ 9000 = ltb-false 9000 (length text) e in
-        let parts = length-append (spelling 100) (spelling (length value) ++ value) in
-        let tail = length-append (spelling (length value)) value in
-        let front = length-append (element (800, header)) rest in
-        let inner = length-append (spelling 800) (spelling (length header) ++ header) in
-        let last = length-append (spelling (length header)) header in
-        let outer_field : IsField (100, value) = (omega arith, omega arith, omega arith) in
-        let inner_field : IsField (800, header) = (omega arith, omega arith, omega arith) in
-        let read : element_at text ≡ Ok ((100, value), []) = ap element_at (sym (append-nil text)) ∙ element_again (100, value) [] outer_field in
-        let elements : elements_of value ≡ Ok (800, header) ∷ elements_of rest = elements_of-ok value (800, header) rest (element_again (800, header) rest inner_field) in
-        let frame : frame_at text ≡ link_at value = frame_is text ∙ ap (λ (b : Bool). framed text b (element_at text)) e ∙ ap (framed text false) read in
-        ap is_data_frame (frame ∙ link_is value ∙ ap (link_from no_headers_yet) elements) ∙ nack_first header (elements_of rest)
+    by_kind : (e : Field) (b c : Bool) → is_nack_frame (((cond b (interest_of packet e.1 >>= λ i. Ok (AnInterest packet i)) (cond c (data_of packet e.1 >>= λ d. Ok (AData packet d)) (Err BadField)))
+        >>= λ f. Ok (framed_with (Some token) f)) >>= λ f. Ok f.frame) ≡ false
+    by_kind e true c = by_interest (interest_of packet e.1)
+    by_kind e false true = by_data (data_of packet e.1)
+    by_kind e false false = refl
 
-link_begins : (value : List ℕ) → begins_as_data (element (100, value)) ≡ false
-unfolding spelling
-link_begins value = refl
+    by_element : (r : Result Field PacketFault) → is_nack_frame (((r >>= packet_of packet) >>= λ f. Ok (framed_with (Some token) f)) >>= λ f. Ok f.frame) ≡ false
+    by_element (Err f) = refl
+    by_element (Ok e) = by_kind e (e.0 == 5) (e.0 == 6)
 
--- a Nack around any octets is no Data
-pub nack_is_no_data : (reason : ℕ) (interest : List ℕ) → is_data (nack_text reason interest) ≡ false
-nack_is_no_data reason interest =
-    no_data (nack_text reason interest) (link_begins _) (linked_no_data (octets ((801, shortest_nni reason) ∷ [])) (element (80, interest) ++ []))
+-- a Data is read as it is alone
+pub back_reads : (token : Token) (octets whole : List ℕ) (d : PlainData) → IfSome token IsToken → length whole ≤ 8800 → frame_at octets ≡ Ok (AData whole d)
+    → frame_at (lp_text token None whole) ≡ Ok (AData whole d)
+back_reads None octets whole d is short read = data_alone octets whole d read
+back_reads (Some token) octets whole d is short read =
+    wrapped_is token whole is (wrapped_short token whole is short) ∙ ap (λ (r : Result PlainFrame PacketFault). (r >>= λ f. Ok (framed_with (Some token) f)) >>= λ f. Ok f.frame) (data_packet octets whole d read)
+
+-- whether octets that are too long for a link are read
+never_long : (text whole : List ℕ) (d : PlainData) → frame_at text ≡ Ok (AData whole d) → length text ≤ 9000
+never_long text whole d read = by_long (nat_lt 9000 (length text)) refl
+  where
+    by_long : (long : Bool) → nat_lt 9000 (length text) ≡ long → length text ≤ 9000
+    by_long false e = ltb-false 9000 (length text) e
+    by_long true e = (let none = frame_is text ∙ ap (λ (b : Bool). framed text b (element_at text)) e in cc (none, read))
+
+-- what goes back with a token and is read as a Data is that Data's octets, where it begins as one
+pub back_holds : (token : Token) (packet whole : List ℕ) (d : PlainData) → IfSome token IsToken → begins 6 packet ≡ true → frame_at (lp_text token None packet) ≡ Ok (AData whole d)
+    → packet ≡ whole
+back_holds None packet whole d is begun read = data_is_whole packet whole d begun read
+back_holds (Some token) packet whole d is begun read =
+    by_element (only_element packet) (sym (wrapped_is token packet is (never_long (wrapped token packet) whole d read)) ∙ read)
+  where
+    by_interest : (r : Result PlainInterest PacketFault) → (((r >>= λ i. Ok (AnInterest packet i)) >>= λ f. Ok (framed_with (Some token) f)) >>= λ f. Ok f.frame) ≡ Ok (AData whole d) → packet ≡ whole
+    by_interest (Ok i) e = cc e
+    by_interest (Err f) e = cc e
+
+    by_data : (r : Result PlainData PacketFault) → (((r >>= λ d. Ok (AData packet d)) >>= λ f. Ok (framed_with (Some token) f)) >>= λ f. Ok f.frame) ≡ Ok (AData whole d) → packet ≡ whole
+    by_data (Ok other) e = cc e
+    by_data (Err f) e = cc e
+
+    by_kind : (e : Field) (b c : Bool) → (((cond b (interest_of packet e.1 >>= λ i. Ok (AnInterest packet i)) (cond c (data_of packet e.1 >>= λ d. Ok (AData packet d)) (Err BadField)))
+        >>= λ f. Ok (framed_with (Some token) f)) >>= λ f. Ok f.frame) ≡ Ok (AData whole d) → packet ≡ whole
+    by_kind e true c is = by_interest (interest_of packet e.1) is
+    by_kind e false true is = by_data (data_of packet e.1) is
+    by_kind e false false is = cc is
+
+    by_element : (r : Result Field PacketFault) → (((r >>= packet_of packet) >>= λ f. Ok (framed_with (Some token) f)) >>= λ f. Ok f.frame) ≡ Ok (AData whole d) → packet ≡ whole
+    by_element (Err f) e = cc e
+    by_element (Ok field) e = by_kind field (field.0 == 5) (field.0 == 6) e

@@ -1,22 +1,41 @@
 -- What delivering a Data does.
 use Rattle.std.proofs.Common.{◌≡◌, ◌≢◌, inl, inr, ℕ, ◌<◌, ◌≤◌, Bool, true, false, cond, not, eqb, ltb, List, [], ◌∷◌, length, refl, sym, ap, subst, ◌∙◌, arith}
-use Rattle.std.specs.Prelude.{Some, IsSome, is_some, IsTrue, All, Contains, filter, ◌||◌, ◌↔◌}
+use Rattle.std.specs.Prelude.{None, Some, map, IsSome, is_some, IsTrue, All, Contains, filter, ◌||◌, ◌↔◌}
 use Rattle.std.specs.Ordering.{nat_cmp, is_eq}
 use Rattle.std.specs.Cmp.{nat_cmp_total, tied_itself}
 use Rattle.std.specs.FinMap.{entries, find, get, get-entries, len, len-entries}
+use Rattle.std.proofs.lemmas.List.Elements.{All-cons, All-nil}
 use Rattle.std.proofs.lemmas.Bool.{eq-eqb, ne_eqb, eqb-true, lt-ltb}
 use Rattle.sha2.specs.Sha256.{sha256}
 use Rattle.ndn_packets.specs.Packet.{PlainData}
 use Rattle.pit_fib.specs.Faces.{IsRising, has_face}
 use Rattle.pit_fib.specs.Pit.{WaitsFor}
+use Rattle.pit_fib.specs.Tokens.{IsTokenFor}
 use Rattle.pit_fib.specs.Records.{InRecord, InRecords, Records, is_alive, records_at}
 use Rattle.content_store.specs.Store.{StoreState, with_cached}
-use Rattle.forwarder.specs.Event.{to_each}
-use Rattle.forwarder.specs.Replies.{IsSentToAskers}
+use Rattle.forwarder.specs.Event.{Send, Token, to_each}
+use Rattle.forwarder.specs.Replies.{Askers, IsSentToAskers, faces_of, sent_to}
 use Rattle.forwarder.specs.Cache.{CacheAfter, Inserts, IsAwaited, held_from}
 use Rattle.forwarder.specs.Node.{NodeState}
 use Rattle.forwarder.specs.Handling.{seen_by}
 use Rattle.forwarder.proofs.Members.{IsRising-filter, IsIn, IsIn-filter_from, IsIn-filter_to, any_from, any_to}
+
+-- ---- faces without tokens
+
+abbrev pub bare : List ℕ → Askers
+bare faces = map {A = ℕ} {B = ℕ × Token} (λ f. (f, None)) faces
+
+pub bare_faces : (faces : List ℕ) → faces_of (bare faces) ≡ faces
+bare_faces [] = refl
+bare_faces (f ∷ faces) = ap (λ (rest : List ℕ). f ∷ rest) (bare_faces faces)
+
+pub bare_sends : (faces whole : List ℕ) → sent_to (bare faces) whole ≡ to_each faces whole
+bare_sends [] whole = refl
+bare_sends (f ∷ faces) whole = ap (λ (rest : List Send). let sent : Send = (f, whole) in sent ∷ rest) (bare_sends faces whole)
+
+pub all_bare : (P : ℕ × Token → Type 0) → ((f : ℕ) → P (f, None)) → (faces : List ℕ) → All P (bare faces)
+all_bare P each [] = All-nil P
+all_bare P each (f ∷ faces) = All-cons P (f, None) (bare faces) (each f) (all_bare P each faces)
 
 -- ---- who waits
 
@@ -65,8 +84,16 @@ module _ (s : NodeState) (now : ℕ) (whole : List ℕ) (d : PlainData) (askers 
 
   -- ---- what goes out
 
-  pub sent_to_askers : (face : ℕ) → IsRising askers → IsSentToAskers (seen_by s) face whole d (to_each (filter (λ f. not (eqb f face)) askers) whole)
-  sent_to_askers face rising = (others, IsRising-filter but askers rising, λ f. (there f, here f), refl)
+  -- the sends are to the faces that wait but for one, each with its token
+  pub sent_to_askers : (face : ℕ) → IsRising askers → (some : Askers) → faces_of some ≡ filter (λ f. not (eqb f face)) askers
+      → All (λ a. IsTokenFor (records_at s.pending) d.name (sha256 whole) a.0 a.1) some → IsSentToAskers (seen_by s) face whole d (sent_to some whole)
+  sent_to_askers face rising some are tokens = (
+    some,
+    subst IsRising (sym are) (IsRising-filter but askers rising),
+    λ f. subst (λ (faces : List ℕ). IsTrue (has_face f faces) ↔ ((f ≢ face) × WaitsFor s.pending d.name (sha256 whole) f)) (sym are) (there f, here f),
+    tokens,
+    refl,
+  )
     where
       but : ℕ → Bool
       but f = not (eqb f face)

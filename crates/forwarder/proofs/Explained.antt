@@ -1,15 +1,17 @@
 -- Each send of an answer is explained.
-use Rattle.std.proofs.Common.{ap, ◌∙◌, ◌≡◌, ℕ, Bool, true, false, List, [], ◌∷◌, map, refl, sym, subst, Result, Ok, Err, inl, inr}
-use Rattle.std.specs.Prelude.{Option, Some, None, IsTrue, nat_le, length, not, ◌==◌, ◌&&◌, ◌||◌, if◌then◌else◌}
+use Rattle.std.proofs.Common.{ap, ◌∙◌, ◌≡◌, ℕ, Bool, true, false, List, [], ◌∷◌, map, refl, sym, subst, Result, Ok, Err, inl, inr, ◌≤◌}
+use Rattle.std.specs.Prelude.{Option, Some, None, IsTrue, nat_le, length, not, ◌==◌, ◌&&◌, ◌||◌, if◌then◌else◌, IfSome}
 use Rattle.std.specs.List.{All}
 use Rattle.std.specs.FinMap as map_of
 use Rattle.std.proofs.lemmas.Bool.{eq-eqb}
-use Rattle.std.proofs.lemmas.List.Elements.{All-cons, All-nil}
-use Rattle.ndn_packets.specs.FrameReading.{frame_at}
+use Rattle.std.proofs.lemmas.List.Elements.{All-cons, All-nil, All-head, All-tail}
+use Rattle.ndn_packets.specs.FrameReading.{frame_at, token_at}
 use Rattle.ndn_packets.specs.Key.{PlainKey, key_of}
 use Rattle.ndn_packets.specs.Packet.{PlainInterest, PlainData, PlainFrame, AnInterest, AData, ANack, Idle}
-use Rattle.ndn_packets.specs.Writing.{AreOctets, nack_text, reply_text}
-use Rattle.ndn_packets.proofs.Packets.{frame_found}
+use Rattle.ndn_packets.specs.Link.{IsToken}
+use Rattle.ndn_packets.specs.Writing.{AreOctets, reply_text}
+use Rattle.sha2.specs.Sha256.{sha256}
+use Rattle.ndn_packets.proofs.Wholes.{interest_short}
 use Rattle.ndn_packets.specs.declared.fault.PacketFault.{PacketFault}
 use Rattle.ndn_packets.specs.declared.types.TheConstants.{DUPLICATE, NO_ROUTE}
 use Rattle.info_rules.specs.declared.decision.Decision.{Decision}
@@ -19,13 +21,14 @@ use Rattle.pit_fib.specs.declared.nacked.Nacked.TheVariants as nacks
 use Rattle.pit_fib.specs.Faces.{has_face}
 use Rattle.pit_fib.specs.Pit.{loops, moments, nacked_answer}
 use Rattle.pit_fib.specs.Records.{InRecord, InRecords, is_alive}
+use Rattle.pit_fib.specs.Tokens.{IsTokenFor}
 use Rattle.strategies.specs.declared.strategy.Choice.{Choice}
 use Rattle.strategies.specs.declared.strategy.Choice.TheVariants as choices
 use Rattle.mgmt_core.specs.Writing.{segment_at}
 use Rattle.repo_core.specs.declared.reply.Want.{Want}
 use Rattle.repo_core.specs.Objects.{served}
 use Rattle.pit_fib.specs.declared.faces.TheConstants.{MAX_FACES}
-use Rattle.forwarder.specs.Event.{PlainEvent, Packet, FaceUp, FaceDown, Tick, NewRules, Send}
+use Rattle.forwarder.specs.Event.{PlainEvent, Packet, FaceUp, FaceDown, Tick, NewRules, Send, Token, nacked_back, sent_back}
 use Rattle.forwarder.specs.Faces.{is_open}
 use Rattle.forwarder.specs.Event.{to_each}
 use Rattle.forwarder.specs.Verdict.{Answer, DropReason, Dropped, WhereTrue, BadFace, FaceOpen, FacesFull, Idle as IsIdle, Loop, Malformed, NoFace, NoSegment, PitFull, Scope as OutOfScope, dropped, passed}
@@ -35,9 +38,11 @@ use Rattle.forwarder.specs.Said.{IsSaid}
 use Rattle.forwarder.specs.Effects.{decided_packet, packet_to_decide}
 use Rattle.forwarder.specs.Commands.{repository_reply, allowed_reply, command_answer, fetch_sends, fetch_text, is_unwritable, reply_content, to_chosen}
 use Rattle.forwarder.specs.Datasets.{is_present, list_answer, dataset_text, segment_answer, segment_data, segment_name}
-use Rattle.forwarder.specs.Replies.{Seen, Replies, RepliesBySaid, RepliesForData, RepliesToData, RepliesToNack, RepliesToPacket, RepliesToRequest, by_content_store, by_strategy, nack_answer, opening_answer, by_repository}
+use Rattle.forwarder.specs.Replies.{Seen, Replies, RepliesBySaid, RepliesForData, RepliesToData, RepliesToNack, RepliesToPacket, RepliesToRequest, by_content_store, by_strategy, nack_answer, opening_answer, by_repository, Askers, faces_of, sent_to}
 use Rattle.forwarder.specs.Sends.{BringsOctets, EachIsExplained, IsAtHand, IsExplained}
-use Rattle.forwarder.proofs.Contents.{begins, begins_interest, interest_is_neither, nack_is_no_data, sent_on_begins, spelled_begins}
+use Rattle.forwarder.proofs.Contents.{begins, begins_interest, interest_is_neither, nack_is_no_data, read_begins, sent_on_begins}
+use Rattle.forwarder.proofs.Origins.{AllFit, FitsLink, token_fits}
+use Rattle.forwarder.proofs.NackSteps.{all_entries}
 use Rattle.forwarder.proofs.Requests.{for_list}
 
 -- the same octets to each of some faces
@@ -54,16 +59,13 @@ each_is seen event answer other e h = subst (λ (a : Answer). EachIsExplained se
 no_sends : (seen : Seen) (event : PlainEvent) (answer : Answer) (reason : DropReason) → answer ≡ dropped reason → EachIsExplained seen event answer
 no_sends seen event answer reason e = each_is seen event answer (dropped reason) e (All-nil (IsExplained seen event))
 
-nack_explained : (seen : Seen) (event : PlainEvent) (face reason : ℕ) (interest : List ℕ) → IsExplained seen event (face, nack_text reason interest)
-nack_explained seen event face reason interest = inr (inr (nack_is_no_data reason interest))
+nack_explained : (seen : Seen) (event : PlainEvent) (face : ℕ) (token : Token) (reason : ℕ) (interest : List ℕ) → IfSome token IsToken → length interest ≤ 8800
+    → IsExplained seen event (nacked_back face token reason interest)
+nack_explained seen event face token reason interest is short = inr (inr (nack_is_no_data token reason interest is short))
 
 -- the Interest of an insert begins as one
 fetch_begins : (want : Want) (nonce : List ℕ) → begins 5 (fetch_text want nonce) ≡ true
 fetch_begins want nonce = begins_interest _
-
--- what is read as an Interest begins as one
-pub read_begins : (octets whole : List ℕ) (i : PlainInterest) → AreOctets octets → frame_at octets ≡ Ok (AnInterest whole i) → begins 5 whole ≡ true
-read_begins octets whole i fits read = spelled_begins whole i (frame_found octets (AnInterest whole i) fits read).0
 
 -- ---- an Interest
 
@@ -71,11 +73,20 @@ module _ (seen : Seen) (face now : ℕ) (octets whole : List ℕ) (i : PlainInte
   abbrev event : PlainEvent
   event = Packet face now octets
 
-  hand : (text : List ℕ) → IsAtHand seen face whole i text → IsExplained seen event (face, text)
-  hand text h = inr (inl (record { now = now; octets = octets; whole = whole; interest = i; brings = refl; read = read; at_hand = h }))
+  abbrev token : Token
+  token = token_at octets
+
+  is_token : IfSome token IsToken
+  is_token = token_fits octets token refl
+
+  short : length whole ≤ 8800
+  short = interest_short octets whole i read
+
+  hand : (text : List ℕ) → IsAtHand seen face whole i text → IsExplained seen event (sent_back face token text)
+  hand text h = inr (inl (record { now = now; octets = octets; whole = whole; interest = i; brings = refl; read = read; packet = text; at_hand = h; answered = refl }))
 
   reply_explained : is_command (request_of seen.policy face i) ≡ true → (said : Decision) → IsSaid seen.policy (AnInterest whole i) said
-      → IsExplained seen event (face, reply_text i.name (reply_content seen.policy face i said))
+      → IsExplained seen event (sent_back face token (reply_text i.name (reply_content seen.policy face i said)))
   reply_explained is said says = hand _ (inr (inr (inl (is, (said, says, refl)))))
 
   chosen_explained : (choice : Choice) (want : Want) → All (IsExplained seen event) (to_chosen choice (fetch_text want i.nonce))
@@ -99,35 +110,36 @@ module _ (seen : Seen) (face now : ℕ) (octets whole : List ℕ) (i : PlainInte
   fetches_explained ForData = All-nil (IsExplained seen event)
 
   command_explained : is_command (request_of seen.policy face i) ≡ true → (said : Decision) → IsSaid seen.policy (AnInterest whole i) said
-      → EachIsExplained seen event (command_answer seen.policy face i said)
+      → EachIsExplained seen event (command_answer seen.policy face token i said)
   command_explained is (decided.Allowed rule) says =
       let reply = allowed_reply seen.policy face i (request_of seen.policy face i) in
-      All-cons (IsExplained seen event) (face, reply_text i.name reply.content) reply.fetches (reply_explained is (decided.Allowed rule) says) (fetches_explained (request_of seen.policy face i))
+      All-cons (IsExplained seen event) (sent_back face token (reply_text i.name reply.content)) reply.fetches (reply_explained is (decided.Allowed rule) says) (fetches_explained (request_of seen.policy face i))
   command_explained is (decided.Denied rule reason) says = one_send (IsExplained seen event) _ (reply_explained is (decided.Denied rule reason) says)
   command_explained is decided.NoRule says = one_send (IsExplained seen event) _ (reply_explained is decided.NoRule says)
 
-  part_explained : (asked : ListAsked) → list_asked i ≡ Some asked → (part : Option (List ℕ × ℕ))
-      → list_answer seen.policy face asked ≡ segment_answer face (segment_name asked.kind seen.policy.table_number asked.segment) part
-      → EachIsExplained seen event (list_answer seen.policy face asked)
-  part_explained asked is None e = no_sends seen event (list_answer seen.policy face asked) NoSegment e
-  part_explained asked is (Some part) e =
-      let text = segment_data (segment_name asked.kind seen.policy.table_number asked.segment) part.0 part.1 in
-      each_is seen event (list_answer seen.policy face asked) _ e (one_send (IsExplained seen event) (face, text) (hand text (inr (inr (inr (asked, is, e))))))
-
   -- the answer to an Interest for a list, by whether its version is the present one
-  abbrev by_present : ListAsked → Bool → Answer
-  by_present asked b =
-      if b then segment_answer face (segment_name asked.kind seen.policy.table_number asked.segment) (segment_at (dataset_text seen.policy asked.kind) asked.segment) else dropped NoSegment
+  abbrev by_present : Token → ListAsked → Bool → Answer
+  by_present t asked b =
+      if b then segment_answer face t (segment_name asked.kind seen.policy.table_number asked.segment) (segment_at (dataset_text seen.policy asked.kind) asked.segment) else dropped NoSegment
 
-  list_explained : (asked : ListAsked) → list_asked i ≡ Some asked → EachIsExplained seen event (list_answer seen.policy face asked)
+  part_explained : (asked : ListAsked) → list_asked i ≡ Some asked → (part : Option (List ℕ × ℕ))
+      → list_answer seen.policy face token asked ≡ segment_answer face token (segment_name asked.kind seen.policy.table_number asked.segment) part
+      → list_answer seen.policy face None asked ≡ segment_answer face None (segment_name asked.kind seen.policy.table_number asked.segment) part
+      → EachIsExplained seen event (list_answer seen.policy face token asked)
+  part_explained asked is None e bare = no_sends seen event (list_answer seen.policy face token asked) NoSegment e
+  part_explained asked is (Some part) e bare =
+      let text = segment_data (segment_name asked.kind seen.policy.table_number asked.segment) part.0 part.1 in
+      each_is seen event (list_answer seen.policy face token asked) _ e (one_send (IsExplained seen event) (sent_back face token text) (hand text (inr (inr (inr (asked, is, bare))))))
+
+  list_explained : (asked : ListAsked) → list_asked i ≡ Some asked → EachIsExplained seen event (list_answer seen.policy face token asked)
   list_explained asked is = by_version (is_present seen.policy asked.version) refl
     where
-      by_version : (b : Bool) → is_present seen.policy asked.version ≡ b → EachIsExplained seen event (list_answer seen.policy face asked)
-      by_version true e = part_explained asked is (segment_at (dataset_text seen.policy asked.kind) asked.segment) (ap (by_present asked) e)
-      by_version false e = no_sends seen event (list_answer seen.policy face asked) NoSegment (ap (by_present asked) e)
+      by_version : (b : Bool) → is_present seen.policy asked.version ≡ b → EachIsExplained seen event (list_answer seen.policy face token asked)
+      by_version true e = part_explained asked is (segment_at (dataset_text seen.policy asked.kind) asked.segment) (ap (by_present token asked) e) (ap (by_present None asked) e)
+      by_version false e = no_sends seen event (list_answer seen.policy face token asked) NoSegment (ap (by_present token asked) e)
 
-  forwarded_explained : (key : PlainKey) (choice : Choice) → EachIsExplained seen event (by_strategy seen key whole i face choice)
-  forwarded_explained key choices.NoRoute = one_send (IsExplained seen event) (face, nack_text NO_ROUTE whole) (nack_explained seen event face NO_ROUTE whole)
+  forwarded_explained : (key : PlainKey) (choice : Choice) → EachIsExplained seen event (by_strategy seen key whole i face token choice)
+  forwarded_explained key choices.NoRoute = one_send (IsExplained seen event) (nacked_back face token NO_ROUTE whole) (nack_explained seen event face token NO_ROUTE whole is_token short)
   forwarded_explained key (choices.Send faces) = by_full (not (is_alive (seen.records key)) && seen.is_full)
     where
       by_full : (b : Bool) → EachIsExplained seen event (if b then dropped PitFull else passed (to_each faces (sent_on whole i.hop_limit)))
@@ -136,48 +148,50 @@ module _ (seen : Seen) (face now : ℕ) (octets whole : List ℕ) (i : PlainInte
           let on = sent_on_begins whole i.hop_limit (read_begins octets whole i fits read) in
           all_to_each (IsExplained seen event) (sent_on whole i.hop_limit) faces (λ f. inr (inr (interest_is_neither (sent_on whole i.hop_limit) on).1))
 
-  object_explained : (object : Option (List ℕ)) → served i.name i.can_be_prefix seen.policy.held.objects ≡ object → EachIsExplained seen event (by_repository seen face whole i object)
-  object_explained (Some text) e = one_send (IsExplained seen event) (face, text) (hand text (inr (inl e)))
+  object_explained : (object : Option (List ℕ)) → served i.name i.can_be_prefix seen.policy.held.objects ≡ object → EachIsExplained seen event (by_repository seen face token whole i object)
+  object_explained (Some text) e = one_send (IsExplained seen event) (sent_back face token text) (hand text (inr (inl e)))
   object_explained None e =
       forwarded_explained (key_of i) (choice_for seen.policy i.name (moments (seen.records (key_of i)).out_records) (ask_from seen.policy face i))
 
-  given_explained : (given : Option (List ℕ)) → seen.MayGive (key_of i) given → EachIsExplained seen event (by_content_store seen face whole i given)
-  given_explained (Some text) h = one_send (IsExplained seen event) (face, text) (hand text (inl h))
+  given_explained : (given : Option (List ℕ)) → seen.MayGive (key_of i) given → EachIsExplained seen event (by_content_store seen face token whole i given)
+  given_explained (Some text) h = one_send (IsExplained seen event) (sent_back face token text) (hand text (inl h))
   given_explained None h = object_explained (served i.name i.can_be_prefix seen.policy.held.objects) refl
 
-  data_explained : (answer : Answer) → RepliesForData seen face whole i answer → EachIsExplained seen event answer
+  data_explained : (answer : Answer) → RepliesForData seen face token whole i answer → EachIsExplained seen event answer
   data_explained answer h = by_loop (loops (seen.records (key_of i)) face i.nonce) h
     where
-      by_loop : (b : Bool) → WhereTrue b (answer ≡ record { verdict = Dropped Loop; sends = (face, nack_text DUPLICATE whole) ∷ [] })
-          ((given : Option (List ℕ)) × seen.MayGive (key_of i) given × (answer ≡ by_content_store seen face whole i given)) → EachIsExplained seen event answer
+      by_loop : (b : Bool) → WhereTrue b (answer ≡ record { verdict = Dropped Loop; sends = nacked_back face token DUPLICATE whole ∷ [] })
+          ((given : Option (List ℕ)) × seen.MayGive (key_of i) given × (answer ≡ by_content_store seen face token whole i given)) → EachIsExplained seen event answer
       by_loop true e =
-          each_is seen event answer _ e (one_send (IsExplained seen event) (face, nack_text DUPLICATE whole) (nack_explained seen event face DUPLICATE whole))
-      by_loop false h = each_is seen event answer (by_content_store seen face whole i h.0) h.2 (given_explained h.0 h.1)
+          each_is seen event answer _ e (one_send (IsExplained seen event) (nacked_back face token DUPLICATE whole) (nack_explained seen event face token DUPLICATE whole is_token short))
+      by_loop false h = each_is seen event answer (by_content_store seen face token whole i h.0) h.2 (given_explained h.0 h.1)
 
-  pub interest_explained : (answer : Answer) (r : Request) → request_of seen.policy face i ≡ r → RepliesToRequest seen face whole i answer r → EachIsExplained seen event answer
+  pub interest_explained : (answer : Answer) (r : Request) → request_of seen.policy face i ≡ r → RepliesToRequest seen face token whole i answer r → EachIsExplained seen event answer
   interest_explained answer (Refused reason) e h = no_sends seen event answer reason h
-  interest_explained answer (ForList asked) e h = each_is seen event answer (list_answer seen.policy face asked) h (list_explained asked (for_list seen.policy face i asked e))
-  interest_explained answer ForTables e h = each_is seen event answer (command_answer seen.policy face i h.0) h.2 (command_explained (ap is_command e) h.0 h.1)
-  interest_explained answer ForRepository e h = each_is seen event answer (command_answer seen.policy face i h.0) h.2 (command_explained (ap is_command e) h.0 h.1)
+  interest_explained answer (ForList asked) e h = each_is seen event answer (list_answer seen.policy face token asked) h (list_explained asked (for_list seen.policy face i asked e))
+  interest_explained answer ForTables e h = each_is seen event answer (command_answer seen.policy face token i h.0) h.2 (command_explained (ap is_command e) h.0 h.1)
+  interest_explained answer ForRepository e h = each_is seen event answer (command_answer seen.policy face token i h.0) h.2 (command_explained (ap is_command e) h.0 h.1)
   interest_explained answer ForData e h = data_explained answer h
 
 -- ---- a Data, a Nack, and all events
 
-all_members : (P : Send → Type 0) (octets : List ℕ) (faces : List ℕ) → ((face : ℕ) → IsTrue (has_face face faces) → P (face, octets)) → All P (to_each faces octets)
-all_members P octets [] each = All-nil P
-all_members P octets (face ∷ faces) each =
-    All-cons P (face, octets) (to_each faces octets) (each face (here (face == face) (eq-eqb face face refl)))
-    (all_members P octets faces (λ f in'. each f (there f (face == f) in')))
+-- each send to one of these, which stand in the list that is asked for
+all_sent : (P : Send → Type 0) (T : ℕ × Token → Type 0) (whole : List ℕ) (askers : Askers) → All T askers
+    → ((a : ℕ × Token) → IsTrue (has_face a.0 (faces_of askers)) → T a → P (sent_back a.0 a.1 whole)) → All P (sent_to askers whole)
+all_sent P T whole [] all each = All-nil P
+all_sent P T whole (a ∷ askers) all each =
+    All-cons P (sent_back a.0 a.1 whole) (sent_to askers whole) (each a (here (a.0 == a.0) (eq-eqb a.0 a.0 refl)) (All-head T a askers all))
+    (all_sent P T whole askers (All-tail T a askers all) (λ b in' t. each b (there b.0 (a.0 == b.0) in') t))
   where
-    here : (b : Bool) → b ≡ true → IsTrue (b || has_face face faces)
+    here : (b : Bool) → b ≡ true → IsTrue (b || has_face a.0 (faces_of askers))
     here true e = refl
     here false e = cc e
 
-    there : (f : ℕ) (b : Bool) → IsTrue (has_face f faces) → IsTrue (b || has_face f faces)
+    there : (f : ℕ) (b : Bool) → IsTrue (has_face f (faces_of askers)) → IsTrue (b || has_face f (faces_of askers))
     there f true h = refl
     there f false h = h
 
-module _ (seen : Seen) (face now : ℕ) (octets : List ℕ) (fits : AreOctets octets) (answer : Answer) where
+module _ (seen : Seen) (face now : ℕ) (octets : List ℕ) (fits : AreOctets octets) (answer : Answer) (linked : AllFit seen.records) where
   abbrev arrival : PlainEvent
   arrival = Packet face now octets
 
@@ -185,9 +199,9 @@ module _ (seen : Seen) (face now : ℕ) (octets : List ℕ) (fits : AreOctets oc
       → RepliesBySaid seen face whole d answer said → EachIsExplained seen arrival answer
   said_explained whole d read heard (decided.Allowed rule) said h =
       let sent = h.1 in
-      subst (All (IsExplained seen arrival)) (sym sent.3)
-      (all_members (IsExplained seen arrival) whole sent.0
-      (λ f in'. let is = (sent.2 f).0 in' in inl (record {
+      subst (All (IsExplained seen arrival)) (sym sent.4)
+      (all_sent (IsExplained seen arrival) (λ a. IsTokenFor seen.records d.name (sha256 whole) a.0 a.1) whole sent.0 sent.3
+      (λ a in' is_for. let is = (sent.2 a.0).0 in' in inl (record {
         face = face;
         now = now;
         octets = octets;
@@ -200,6 +214,8 @@ module _ (seen : Seen) (face now : ℕ) (octets : List ℕ) (fits : AreOctets oc
         allowed = said;
         other = is.0;
         waits = is.1;
+        token = a.1;
+        is_token = is_for;
         received = refl;
       })))
   said_explained whole d read heard (decided.Denied rule reason) said h = each_is seen arrival answer _ h (All-nil (IsExplained seen arrival))
@@ -217,15 +233,18 @@ module _ (seen : Seen) (face now : ℕ) (octets : List ℕ) (fits : AreOctets oc
           ap (λ (b : Bool). if b then packet_to_decide seen.policy face (frame_at octets) else None) open' ∙ ap (λ (r : Result PlainFrame PacketFault). packet_to_decide seen.policy face r) read ∙ heard in
           said_explained whole d read brings h.0 h.1 h.2
 
-  all_nacks : (reason : ℕ) (asks : List (ℕ × InRecord)) → All (IsExplained seen arrival) (map {A = ℕ × InRecord} {B = Send} (λ e. (e.0, nack_text reason e.1.interest)) asks)
-  all_nacks reason [] = All-nil (IsExplained seen arrival)
-  all_nacks reason (e ∷ asks) =
-      All-cons (IsExplained seen arrival) (e.0, nack_text reason e.1.interest) _ (nack_explained seen arrival e.0 reason e.1.interest) (all_nacks reason asks)
+  all_nacks : (reason : ℕ) (asks : List (ℕ × InRecord)) → All (λ e. FitsLink e.1) asks
+      → All (IsExplained seen arrival) (map {A = ℕ × InRecord} {B = Send} (λ e. nacked_back e.0 e.1.token reason e.1.interest) asks)
+  all_nacks reason [] all = All-nil (IsExplained seen arrival)
+  all_nacks reason (e ∷ asks) all =
+      let is = All-head (λ (e : ℕ × InRecord). FitsLink e.1) e asks all in
+      All-cons (IsExplained seen arrival) (nacked_back e.0 e.1.token reason e.1.interest) _ (nack_explained seen arrival e.0 e.1.token reason e.1.interest is.is_token is.short)
+      (all_nacks reason asks (All-tail (λ (e : ℕ × InRecord). FitsLink e.1) e asks all))
 
-  nacked_explained : (asks : InRecords) (n : Nacked) → EachIsExplained seen arrival (nack_answer asks n)
-  nacked_explained asks nacks.NoPending = All-nil (IsExplained seen arrival)
-  nacked_explained asks nacks.Waiting = All-nil (IsExplained seen arrival)
-  nacked_explained asks (nacks.All reason) = all_nacks reason (map_of.entries asks)
+  nacked_explained : (asks : InRecords) (n : Nacked) → ((f : ℕ) (r : InRecord) → map_of.get asks f ≡ Some r → FitsLink r) → EachIsExplained seen arrival (nack_answer asks n)
+  nacked_explained asks nacks.NoPending all = All-nil (IsExplained seen arrival)
+  nacked_explained asks nacks.Waiting all = All-nil (IsExplained seen arrival)
+  nacked_explained asks (nacks.All reason) all = all_nacks reason (map_of.entries asks) (all_entries FitsLink asks all)
 
   nack_explains : (reason : ℕ) (i : PlainInterest) → RepliesToNack seen face reason i answer → EachIsExplained seen arrival answer
   nack_explains reason i h = by_scope (is_out_of_scope seen.policy face i.name) h
@@ -234,22 +253,23 @@ module _ (seen : Seen) (face now : ℕ) (octets : List ℕ) (fits : AreOctets oc
           → EachIsExplained seen arrival answer
       by_scope true e = no_sends seen arrival answer OutOfScope e
       by_scope false e =
-          each_is seen arrival answer _ e (nacked_explained (seen.records (key_of i)).in_records (nacked_answer (seen.records (key_of i)) face i.nonce reason))
+          each_is seen arrival answer _ e
+          (nacked_explained (seen.records (key_of i)).in_records (nacked_answer (seen.records (key_of i)) face i.nonce reason) (linked (key_of i)))
 
-  packet_explained : (read : Result PlainFrame PacketFault) → frame_at octets ≡ read → is_open face seen.policy.faces ≡ true → RepliesToPacket seen face read answer → EachIsExplained seen arrival answer
+  packet_explained : (read : Result PlainFrame PacketFault) → frame_at octets ≡ read → is_open face seen.policy.faces ≡ true → RepliesToPacket seen face (token_at octets) read answer → EachIsExplained seen arrival answer
   packet_explained (Err fault) e open' h = no_sends seen arrival answer (Malformed fault) h
   packet_explained (Ok (AnInterest whole i)) e open' h = interest_explained seen face now octets whole i fits e answer (request_of seen.policy face i) refl h
   packet_explained (Ok (AData whole d)) e open' h = forwarding_explained whole d e open' h
   packet_explained (Ok (ANack reason whole i)) e open' h = nack_explains reason i h
   packet_explained (Ok Idle) e open' h = no_sends seen arrival answer IsIdle h
 
-pub all_explained : (seen : Seen) (event : PlainEvent) (answer : Answer) → BringsOctets event → Replies seen event answer → EachIsExplained seen event answer
-all_explained seen (Packet face now octets) answer fits h = by_open (is_open face seen.policy.faces) refl h
+pub all_explained : (seen : Seen) (event : PlainEvent) (answer : Answer) → AllFit seen.records → BringsOctets event → Replies seen event answer → EachIsExplained seen event answer
+all_explained seen (Packet face now octets) answer linked fits h = by_open (is_open face seen.policy.faces) refl h
   where
-    by_open : (b : Bool) → is_open face seen.policy.faces ≡ b → WhereTrue b (RepliesToPacket seen face (frame_at octets) answer) (answer ≡ dropped NoFace) → EachIsExplained seen (Packet face now octets) answer
-    by_open true is h = packet_explained seen face now octets fits answer (frame_at octets) refl is h
+    by_open : (b : Bool) → is_open face seen.policy.faces ≡ b → WhereTrue b (RepliesToPacket seen face (token_at octets) (frame_at octets) answer) (answer ≡ dropped NoFace) → EachIsExplained seen (Packet face now octets) answer
+    by_open true is h = packet_explained seen face now octets fits answer linked (frame_at octets) refl is h
     by_open false is e = no_sends seen (Packet face now octets) answer NoFace e
-all_explained seen (FaceUp face scope now) answer fits h = each_is seen (FaceUp face scope now) answer (opening_answer seen.policy face) h
+all_explained seen (FaceUp face scope now) answer linked fits h = each_is seen (FaceUp face scope now) answer (opening_answer seen.policy face) h
     (by_zero (face == 0) (is_open face seen.policy.faces) (nat_le MAX_FACES (length seen.policy.faces)))
   where
     by_zero : (a b c : Bool) → EachIsExplained seen (FaceUp face scope now) (if a then dropped BadFace else (if b then dropped FaceOpen else (if c then dropped FacesFull else passed [])))
@@ -257,11 +277,11 @@ all_explained seen (FaceUp face scope now) answer fits h = each_is seen (FaceUp 
     by_zero false true c = All-nil (IsExplained seen (FaceUp face scope now))
     by_zero false false true = All-nil (IsExplained seen (FaceUp face scope now))
     by_zero false false false = All-nil (IsExplained seen (FaceUp face scope now))
-all_explained seen (FaceDown face now) answer fits h = each_is seen (FaceDown face now) answer (if is_open face seen.policy.faces then passed [] else dropped NoFace) h (by_open (is_open face seen.policy.faces))
+all_explained seen (FaceDown face now) answer linked fits h = each_is seen (FaceDown face now) answer (if is_open face seen.policy.faces then passed [] else dropped NoFace) h (by_open (is_open face seen.policy.faces))
   where
     by_open : (b : Bool) → EachIsExplained seen (FaceDown face now) (if b then passed [] else dropped NoFace)
     by_open true = All-nil (IsExplained seen (FaceDown face now))
     by_open false = All-nil (IsExplained seen (FaceDown face now))
-all_explained seen (Tick now) answer fits h = each_is seen (Tick now) answer (passed []) h (All-nil (IsExplained seen (Tick now)))
-all_explained seen (NewRules rules keys now) answer fits h =
+all_explained seen (Tick now) answer linked fits h = each_is seen (Tick now) answer (passed []) h (All-nil (IsExplained seen (Tick now)))
+all_explained seen (NewRules rules keys now) answer linked fits h =
     each_is seen (NewRules rules keys now) answer (passed []) h (All-nil (IsExplained seen (NewRules rules keys now)))

@@ -1,22 +1,17 @@
 -- An Interest is sent on: there is room for its asker and for the faces that it is sent to, what is
 -- kept of it are the causes of its answer, and a Nack back has room in what is reserved.
 use Rattle.std.proofs.Common.{◌^◌, ◌≡◌, ◌⊎◌, inl, inr, ℕ, zero, suc, ◌+◌, ◌<◌, ◌≤◌, Bool, true, false, cond, eqb, List, [], ◌∷◌, ◌++◌, length, map, take, leb, Some, refl, sym, ap, subst, ◌∙◌, arith, add-one}
-use Rattle.std.specs.Prelude.{slice_get, not, ◌&&◌, ◌||◌, ◌==◌}
+use Rattle.std.specs.Prelude.{slice_get, not, ◌&&◌, ◌||◌, ◌==◌, IfSome}
 use Rattle.std.specs.List.{AllByRecursion, list_any}
 use Rattle.std.proofs.lemmas.Bool.{eq-eqb, eqb-true, leb-true, ne_eqb}
 use Rattle.std.proofs.Math.Logic.{∥∥₁_elim}
-use Rattle.std.proofs.lemmas.List.{length-append, length-map}
+use Rattle.std.proofs.lemmas.List.{length-map}
 use Rattle.std.specs.FinMap as fin
-use Rattle.ndn_tlv.specs.Number.{shortest_nni, spelling}
-use Rattle.ndn_tlv.specs.Element.{element}
-use Rattle.ndn_tlv.proofs.Integers.{length-shortest_eight}
-use Rattle.ndn_tlv.proofs.Numbers.{length-spelling_nine, length-spelling_one, length-spelling_three}
 use Rattle.ndn_packets.specs.Key.{PlainKey, key_of}
 use Rattle.ndn_packets.specs.Packet.{PlainInterest}
 use Rattle.ndn_packets.specs.Grammar.{IsInterest}
-use Rattle.ndn_packets.specs.Writing.{nack_field, nack_text}
-use Rattle.ndn_tlv.proofs.Lengths.{length-element}
-use Rattle.ndn_packets.proofs.NackWriting.{nack_parts, nack_value}
+use Rattle.ndn_packets.specs.Link.{IsToken}
+use Rattle.ndn_packets.specs.Writing.{AreOctets, lp_text}
 use Rattle.pit_fib.specs.Cause.{Cause, Arrives, SentTo, Withdrawn, changed, settled, same_key, sent_at, records_after, Follows}
 use Rattle.pit_fib.specs.Faces.{IsRising, has_face, with_face}
 use Rattle.pit_fib.specs.Pit.{HasRecord, HasRoomFor, moments}
@@ -34,7 +29,7 @@ use Rattle.strategies.specs.Eligible.{eligible, is_eligible}
 use Rattle.pit_fib.specs.declared.faces.TheConstants.{MAX_FACES}
 use Rattle.forwarder.specs.Causes.{after_causes, in_record_for, interest_causes, is_answered, is_nack, is_nacked, sent_causes}
 use Rattle.forwarder.proofs.Contents.{begins, interest_is_neither, nack_is_nack, none_nacked, sent_on_begins, spelled_begins}
-use Rattle.forwarder.specs.Event.{Send, to_each}
+use Rattle.forwarder.specs.Event.{Send, to_each, Token, nacked_back}
 use Rattle.forwarder.specs.Faces.{FaceEntry, is_open, numbers}
 use Rattle.forwarder.specs.Forwarding.{choice_from}
 use Rattle.forwarder.specs.NextHops.{ask_from, hops_for, selection_of, sent_on, strategy_for}
@@ -264,31 +259,31 @@ begins_spelled whole i spelled = by_octet (begins 5 whole) refl
 -- ---- the causes of what is sent on
 
 -- an arrival, by values that are the same
-pub arrives_as : {k key : PlainKey} (face : ℕ) (whole nonce : List ℕ) {d deadline : ℕ} (old new : Pending) → k ≡ key → d ≡ deadline
-    → Follows (Arrives k face (record { interest = whole; nonce = nonce; deadline = d })) old new
-    → Follows (Arrives key face (record { interest = whole; nonce = nonce; deadline = deadline })) old new
-arrives_as {k} {key} face whole nonce {d} {deadline} old new same until arrives =
-    subst (λ (n : ℕ). Follows (Arrives key face (record { interest = whole; nonce = nonce; deadline = n })) old new) until
-    (subst (λ (q : PlainKey). Follows (Arrives q face (record { interest = whole; nonce = nonce; deadline = d })) old new) same arrives)
+pub arrives_as : {k key : PlainKey} (face : ℕ) (token : Token) (whole nonce : List ℕ) {d deadline : ℕ} (old new : Pending) → k ≡ key → d ≡ deadline
+    → Follows (Arrives k face (record { interest = whole; nonce = nonce; deadline = d; token = token })) old new
+    → Follows (Arrives key face (record { interest = whole; nonce = nonce; deadline = deadline; token = token })) old new
+arrives_as {k} {key} face token whole nonce {d} {deadline} old new same until arrives =
+    subst (λ (n : ℕ). Follows (Arrives key face (record { interest = whole; nonce = nonce; deadline = n; token = token })) old new) until
+    (subst (λ (q : PlainKey). Follows (Arrives q face (record { interest = whole; nonce = nonce; deadline = d; token = token })) old new) same arrives)
 
 -- an asker that nothing goes back to
-kept_causes : (now face : ℕ) (whole : List ℕ) (i : PlainInterest) (sends : List Send) → is_nacked sends ≡ false → is_answered face sends ≡ false
-    → interest_causes now face whole i sends
-    ≡ Arrives (key_of i) face (in_record_for now whole i) ∷ map (λ (sent : Send). SentTo (key_of i) sent.0 i.nonce now) sends
-kept_causes now face whole i sends nacked answered =
-    let kept = Arrives (key_of i) face (in_record_for now whole i) ∷ map (λ (sent : Send). SentTo (key_of i) sent.0 i.nonce now) sends in
+kept_causes : (now face : ℕ) (token : Token) (whole : List ℕ) (i : PlainInterest) (sends : List Send) → is_nacked sends ≡ false → is_answered face sends ≡ false
+    → interest_causes now face token whole i sends
+    ≡ Arrives (key_of i) face (in_record_for now token whole i) ∷ map (λ (sent : Send). SentTo (key_of i) sent.0 i.nonce now) sends
+kept_causes now face token whole i sends nacked answered =
+    let kept = Arrives (key_of i) face (in_record_for now token whole i) ∷ map (λ (sent : Send). SentTo (key_of i) sent.0 i.nonce now) sends in
     ap (λ (b : Bool). cond b (Withdrawn (key_of i) face ∷ []) (cond (is_answered face sends) [] kept)) nacked
     ∙ ap (λ (b : Bool). cond b [] kept) answered
 
-pub sent_on_causes : (now face : ℕ) (whole : List ℕ) (i : PlainInterest) (faces : List ℕ) (old mid new : Pending)
+pub sent_on_causes : (now face : ℕ) (token : Token) (whole : List ℕ) (i : PlainInterest) (faces : List ℕ) (old mid new : Pending)
     → ∥ IsInterest whole i ∥₁ → has_face face faces ≡ false
-    → Follows (Arrives (key_of i) face (in_record_for now whole i)) old mid → FollowAll (sent_causes (key_of i) i.nonce now faces) mid new
-    → FollowAll (interest_causes now face whole i (to_each faces (sent_on whole i.hop_limit))) old new
-sent_on_causes now face whole i faces old mid new spelled apart arrives sent key =
+    → Follows (Arrives (key_of i) face (in_record_for now token whole i)) old mid → FollowAll (sent_causes (key_of i) i.nonce now faces) mid new
+    → FollowAll (interest_causes now face token whole i (to_each faces (sent_on whole i.hop_limit))) old new
+sent_on_causes now face token whole i faces old mid new spelled apart arrives sent key =
     let octets = sent_on whole i.hop_limit in
     let other = (interest_is_neither octets (sent_on_begins whole i.hop_limit (begins_spelled whole i spelled))).0 in
-    let is = kept_causes now face whole i (to_each faces octets) (none_nacked faces octets other) (sends_to face faces octets ∙ apart) in
-    let arrived = Arrives (key_of i) face (in_record_for now whole i) in
+    let is = kept_causes now face token whole i (to_each faces octets) (none_nacked faces octets other) (sends_to face faces octets ∙ apart) in
+    let arrived = Arrives (key_of i) face (in_record_for now token whole i) in
     sent key ∙ ap (λ (r : Records). after_causes (sent_causes (key_of i) i.nonce now faces) key r) (arrives key)
     ∙ ap (λ (causes : List Cause). after_causes causes key (records_after arrived key (records_at old key))) (sym (sent_to_each (key_of i) i.nonce now faces octets))
     ∙ ap (λ (causes : List Cause). after_causes causes key (records_at old key)) (sym is)
@@ -304,47 +299,25 @@ takes_key false n never =
 
 -- ---- a Nack back
 
--- its header field, whose reason takes 8 octets at most
-nack_field_fits : (reason : ℕ) → length (nack_field reason) ≤ 16
-nack_field_fits reason =
-    let why = element (801, shortest_nni reason) in
-    let eight = length-shortest_eight reason in
-    let inner = length-element 801 (shortest_nni reason) in
-    let short : length why ≤ 12 = omega (arith, eight, inner, length-spelling_three 801 (omega arith), length-spelling_one (length (shortest_nni reason)) (omega (arith, eight))) in
-    omega (arith, short, length-element 800 why, length-spelling_three 800 (omega arith), length-spelling_one (length why) (omega (arith, short)))
-
-pub nack_is_short : (reason : ℕ) (interest : List ℕ) → length (nack_text reason interest) ≤ length interest + 40
-nack_is_short reason interest =
-    let value = nack_value reason interest in
-    omega (
-      arith,
-      nack_parts reason interest (length value) refl,
-      nack_field_fits reason,
-      length-append (spelling 100) (spelling (length value)),
-      length-spelling_one 100 (omega arith),
-      length-spelling_nine (length value),
-      length-element 80 interest,
-      length-spelling_one 80 (omega arith),
-      length-spelling_nine (length interest),
-    )
-
 -- a Nack around an Interest in hand is one
-nack_spelled : (reason : ℕ) (whole : List ℕ) (i : PlainInterest) → ∥ IsInterest whole i ∥₁ → reason < 2 ^ 64 → is_nack (nack_text reason whole) ≡ true
-nack_spelled reason whole i spelled fits = by_nack (is_nack (nack_text reason whole)) refl
+nack_spelled : (token : Token) (reason : ℕ) (whole : List ℕ) (i : PlainInterest) → IfSome token IsToken → IfSome token AreOctets → ∥ IsInterest whole i ∥₁ → reason < 2 ^ 64
+    → is_nack (lp_text token (Some reason) whole) ≡ true
+nack_spelled token reason whole i is octets spelled fits = by_nack (is_nack (lp_text token (Some reason) whole)) refl
   where
-    never : is_nack (nack_text reason whole) ≡ false → ⊥
-    never is = ∥∥₁_elim spelled (λ a b. absurd a) (λ h. let nack = nack_is_nack reason whole i h fits in cc (is, nack))
+    never : is_nack (lp_text token (Some reason) whole) ≡ false → ⊥
+    never other = ∥∥₁_elim spelled (λ a b. absurd a) (λ h. let nack = nack_is_nack token reason whole i is octets h fits in cc (other, nack))
 
-    by_nack : (b : Bool) → is_nack (nack_text reason whole) ≡ b → b ≡ true
-    by_nack true is = refl
-    by_nack false is = absurd (never is)
+    by_nack : (b : Bool) → is_nack (lp_text token (Some reason) whole) ≡ b → b ≡ true
+    by_nack true e = refl
+    by_nack false e = absurd (never e)
 
 -- a Nack back ends that its face waits
-pub nack_causes_are : (now face reason : ℕ) (whole : List ℕ) (i : PlainInterest) (old new : Pending) → ∥ IsInterest whole i ∥₁ → reason < 2 ^ 64 → Follows (Withdrawn (key_of i) face) old new
-    → FollowAll (interest_causes now face whole i ((face, nack_text reason whole) ∷ [])) old new
-nack_causes_are now face reason whole i old new spelled fits withdrawn key =
-    let sends = (face, nack_text reason whole) ∷ [] in
-    let kept = Arrives (key_of i) face (in_record_for now whole i) ∷ map (λ (sent : Send). SentTo (key_of i) sent.0 i.nonce now) sends in
-    let is : interest_causes now face whole i sends ≡ Withdrawn (key_of i) face ∷ [] =
-    ap (λ (b : Bool). cond (b || false) (Withdrawn (key_of i) face ∷ []) (cond (is_answered face sends) [] kept)) (nack_spelled reason whole i spelled fits) in
+pub nack_causes_are : (now face : ℕ) (token : Token) (reason : ℕ) (whole : List ℕ) (i : PlainInterest) (old new : Pending) → IfSome token IsToken → IfSome token AreOctets
+    → ∥ IsInterest whole i ∥₁ → reason < 2 ^ 64 → Follows (Withdrawn (key_of i) face) old new
+    → FollowAll (interest_causes now face token whole i (nacked_back face token reason whole ∷ [])) old new
+nack_causes_are now face token reason whole i old new tok octets spelled fits withdrawn key =
+    let sends = nacked_back face token reason whole ∷ [] in
+    let kept = Arrives (key_of i) face (in_record_for now token whole i) ∷ map (λ (sent : Send). SentTo (key_of i) sent.0 i.nonce now) sends in
+    let is : interest_causes now face token whole i sends ≡ Withdrawn (key_of i) face ∷ [] =
+    ap (λ (b : Bool). cond (b || false) (Withdrawn (key_of i) face ∷ []) (cond (is_answered face sends) [] kept)) (nack_spelled token reason whole i tok octets spelled fits) in
     withdrawn key ∙ ap (λ (causes : List Cause). after_causes causes key (records_at old key)) (sym is)

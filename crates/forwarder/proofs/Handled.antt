@@ -7,11 +7,11 @@ use Rattle.forwarder.specs.declared.state.State.{State}
 use Rattle.forwarder.specs.declared.verdict.Verdict as code
 use Rattle.forwarder.specs.declared.verdict.DropReason as code_reason
 use Rattle.forwarder.specs.declared.verdict.Verdict.TheVariants as said
-use Rattle.ndn_packets.specs.FrameReading.{frame_at}
+use Rattle.ndn_packets.specs.FrameReading.{frame_at, token_at}
 use Rattle.ndn_packets.specs.Packet.{PlainFrame, Idle as AnIdle}
 use Rattle.ndn_packets.specs.declared.fault.PacketFault.{PacketFault}
 use Rattle.content_store.specs.Store.{StoreState}
-use Rattle.forwarder.specs.Event.{PlainEvent, Packet, Send}
+use Rattle.forwarder.specs.Event.{PlainEvent, Packet, Send, Token}
 use Rattle.forwarder.specs.Faces.{is_open}
 use Rattle.forwarder.specs.Verdict.{WhereTrue, Answer, DropReason, Dropped, dropped, Malformed, Idle, NoFace, reason_of, verdict_of}
 use Rattle.forwarder.specs.Policy.{Policy, at_moment}
@@ -43,12 +43,12 @@ module _ (old was new : NodeState) (face now : ℕ) (octets : List ℕ) (answer 
 
   -- the packet, on an open face
   module _ (is_here : is_open face old.policy.faces ≡ true) (packet : PlainFrame) (read : frame_at octets ≡ Ok packet)
-      (answered : IsAnswered was face packet answer new) where
-    replies_read : RepliesToPacket (seen_in p was.pending old.cache) face (frame_at octets) answer
+      (answered : IsAnswered was face (token_at octets) packet answer new) where
+    replies_read : RepliesToPacket (seen_in p was.pending old.cache) face (token_at octets) (frame_at octets) answer
     replies_read =
-        subst (λ (r : Result PlainFrame PacketFault). RepliesToPacket (seen_in p was.pending old.cache) face r answer) (sym read)
-        (subst (λ (c : StoreState). RepliesToPacket (seen_in p was.pending c) face (Ok packet) answer) later.cache
-        (subst (λ (q : Policy). RepliesToPacket (seen_in q was.pending was.cache) face (Ok packet) answer) later.policy answered.replies))
+        subst (λ (r : Result PlainFrame PacketFault). RepliesToPacket (seen_in p was.pending old.cache) face (token_at octets) r answer) (sym read)
+        (subst (λ (c : StoreState). RepliesToPacket (seen_in p was.pending c) face (token_at octets) (Ok packet) answer) later.cache
+        (subst (λ (q : Policy). RepliesToPacket (seen_in q was.pending was.cache) face (token_at octets) (Ok packet) answer) later.policy answered.replies))
 
     cache_read : CacheAfter p.now was.pending (cache_use p.now (read_outcome face (frame_at octets) answer.verdict)) old.cache new.cache
     cache_read =
@@ -78,8 +78,8 @@ module _ (old was new : NodeState) (face now : ℕ) (octets : List ℕ) (answer 
       expiry = later.expiry;
       replies = where_true _ _ (is_open face old.policy.faces) is_here replies_read;
       policy = effect_read;
-      pending = subst (λ (r : Result PlainFrame PacketFault). FollowAll (causes_by p.now answer.sends (read_outcome face r answer.verdict)) was.pending new.pending) (sym read)
-          (subst (λ (q : Policy). FollowAll (packet_causes q.now face packet answer) was.pending new.pending) later.policy answered.pending);
+      pending = subst (λ (r : Result PlainFrame PacketFault). FollowAll (causes_by p.now (token_at octets) answer.sends (read_outcome face r answer.verdict)) was.pending new.pending) (sym read)
+          (subst (λ (q : Policy). FollowAll (packet_causes q.now face (token_at octets) packet answer) was.pending new.pending) later.policy answered.pending);
       alive = answered.alive;
       cache = cache_read;
     }
@@ -93,8 +93,8 @@ needs_read p face read packet here is (inr needs) = subst (NeedsNoMemory p face)
 -- ---- packets that are dropped
 
 module _ (old new : NodeState) (face now : ℕ) (octets : List ℕ) (later : IsLater old now new) where
-  same_pending : (reason : DropReason) → FollowAll (causes_by (at_moment old.policy now).now [] (read_outcome face (frame_at octets) (Dropped reason))) new.pending new.pending
-  same_pending reason = subst (λ (o : Outcome). FollowAll (causes_by (at_moment old.policy now).now [] o) new.pending new.pending) (sym (dropped_outcome face (frame_at octets) reason)) (λ key. refl)
+  same_pending : (reason : DropReason) → FollowAll (causes_by (at_moment old.policy now).now (token_at octets) [] (read_outcome face (frame_at octets) (Dropped reason))) new.pending new.pending
+  same_pending reason = subst (λ (o : Outcome). FollowAll (causes_by (at_moment old.policy now).now (token_at octets) [] o) new.pending new.pending) (sym (dropped_outcome face (frame_at octets) reason)) (λ key. refl)
 
   same_cache : (reason : DropReason) → CacheAfter (at_moment old.policy now).now new.pending (cache_use (at_moment old.policy now).now (read_outcome face (frame_at octets) (Dropped reason))) old.cache new.cache
   same_cache reason =
@@ -131,7 +131,7 @@ module _ (old new : NodeState) (face now : ℕ) (octets : List ℕ) (later : IsL
       living = later.living;
       expiry = later.expiry;
       replies = where_true _ _ (is_open face old.policy.faces) is_here
-          (subst (λ (r : Result PlainFrame PacketFault). RepliesToPacket (seen_in q new.pending old.cache) face r (dropped (Malformed fault))) (sym read) refl);
+          (subst (λ (r : Result PlainFrame PacketFault). RepliesToPacket (seen_in q new.pending old.cache) face (token_at octets) r (dropped (Malformed fault))) (sym read) refl);
       policy = undecided (Err fault) read refl;
       pending = same_pending (Malformed fault);
       alive = later.living;
@@ -144,7 +144,7 @@ module _ (old new : NodeState) (face now : ℕ) (octets : List ℕ) (later : IsL
       living = later.living;
       expiry = later.expiry;
       replies = where_true _ _ (is_open face old.policy.faces) is_here
-          (subst (λ (r : Result PlainFrame PacketFault). RepliesToPacket (seen_in q new.pending old.cache) face r (dropped Idle)) (sym read) refl);
+          (subst (λ (r : Result PlainFrame PacketFault). RepliesToPacket (seen_in q new.pending old.cache) face (token_at octets) r (dropped Idle)) (sym read) refl);
       policy = undecided (Ok AnIdle) read refl;
       pending = same_pending Idle;
       alive = later.living;
@@ -163,9 +163,14 @@ pub drops_by : (old new : NodeState) (before : List Send) (event : PlainEvent) (
 drops_by old new before event verdict reason is step =
     ([], sym (append-nil before), subst (λ (v : code.Verdict). IsStep old event (record { verdict = verdict_of v; sends = [] }) new) (sym is) step)
 
-pub handles_by : (old new : State) (before after : List Send) (face now : ℕ) (octets : List ℕ) (packet : PlainFrame) (r : Result code.Verdict Memory)
-    → is_open face old.faces ≡ true → frame_at octets ≡ Ok packet → IfOk r (IsHandled old new before after face now packet)
+pub handles_by : (old new : State) (before after : List Send) (face : ℕ) (token : Token) (now : ℕ) (octets : List ℕ) (packet : PlainFrame) (r : Result code.Verdict Memory)
+    → is_open face old.faces ≡ true → token ≡ token_at octets → frame_at octets ≡ Ok packet → IfOk r (IsHandled old new before after face token now packet)
     → IfOk r (StepsBy (state_of old) (state_of new) before after (Packet face now octets))
-handles_by old new before after face now octets packet (Err memory) is_here read handled = tt
-handles_by old new before after face now octets packet (Ok verdict) is_here read (was, sends, is, later, answered) =
-    (sends, is, packet_step (state_of old) was (state_of new) face now octets (record { verdict = verdict_of verdict; sends = sends }) later is_here packet read answered)
+handles_by old new before after face token now octets packet (Err memory) is_here its read handled = tt
+handles_by old new before after face token now octets packet (Ok verdict) is_here its read (was, sends, is, later, answered) =
+    let answer : Answer = record { verdict = verdict_of verdict; sends = sends } in (
+      sends,
+      is,
+      packet_step (state_of old) was (state_of new) face now octets answer later is_here packet read
+          (subst (λ (t : Token). IsAnswered was face t packet answer (state_of new)) its answered),
+    )

@@ -6,12 +6,12 @@ use Rattle.hmac_keys.specs.KeyFile.{AreApart}
 use Rattle.ndn_packets.specs.Key.{PlainKey}
 use Rattle.pit_fib.specs.declared.pit.TheConstants.{MAX_PENDING}
 use Rattle.pit_fib.specs.Records.{Records, records_at}
-use Rattle.ndn_packets.specs.FrameReading.{frame_at}
+use Rattle.ndn_packets.specs.FrameReading.{frame_at, token_at}
 use Rattle.ndn_packets.specs.Packet.{PlainInterest, PlainData, PlainFrame, AnInterest, AData, ANack, Idle}
 use Rattle.ndn_packets.specs.declared.fault.PacketFault.{PacketFault}
 use Rattle.info_rules.specs.declared.decision.Decision.{Decision}
 use Rattle.info_rules.specs.declared.decision.Decision.TheVariants as decided
-use Rattle.forwarder.specs.Event.{PlainEvent, Packet, FaceUp, FaceDown, Tick, NewRules}
+use Rattle.forwarder.specs.Event.{PlainEvent, Packet, FaceUp, FaceDown, Tick, NewRules, Token}
 use Rattle.forwarder.specs.Faces.{is_open}
 use Rattle.forwarder.specs.Event.{moment}
 use Rattle.forwarder.specs.Verdict.{Answer, WhereTrue, NoFace, Scope as OutOfScope, dropped}
@@ -41,32 +41,32 @@ one_policy first p q (Then before event answer) (Then other another reply) apart
     one_effect h.0 p q event keys h.2 after
 
 module _ (p : Policy) (r s : PlainKey → Records) (f g : Bool) (G H : PlainKey → Option (List ℕ) → Type 0) (apart : AreApart p.keys) (a b : Answer) where
-  one_command : (face : ℕ) (whole : List ℕ) (i : PlainInterest) → RepliesToCommand (seen_with p r f G) face whole i a → RepliesToCommand (seen_with p s g H) face whole i b → a ≡ b
-  one_command face whole i h k =
-      h.2 ∙ ap (λ (said : Decision). command_answer p face i said) (one_said p (AnInterest whole i) h.0 k.0 apart h.1 k.1) ∙ sym k.2
+  one_command : (face : ℕ) (token : Token) (whole : List ℕ) (i : PlainInterest) → RepliesToCommand (seen_with p r f G) face token whole i a → RepliesToCommand (seen_with p s g H) face token whole i b → a ≡ b
+  one_command face token whole i h k =
+      h.2 ∙ ap (λ (said : Decision). command_answer p face token i said) (one_said p (AnInterest whole i) h.0 k.0 apart h.1 k.1) ∙ sym k.2
 
-  one_request : (face : ℕ) (whole : List ℕ) (i : PlainInterest) (q : Request) → is_request q ≡ true → RepliesToRequest (seen_with p r f G) face whole i a q
-      → RepliesToRequest (seen_with p s g H) face whole i b q → a ≡ b
-  one_request face whole i (Refused reason) is h k = h ∙ sym k
-  one_request face whole i (ForList asked) is h k = h ∙ sym k
-  one_request face whole i ForTables is h k = one_command face whole i h k
-  one_request face whole i ForRepository is h k = one_command face whole i h k
-  one_request face whole i ForData is h k = cc is
+  one_request : (face : ℕ) (token : Token) (whole : List ℕ) (i : PlainInterest) (q : Request) → is_request q ≡ true → RepliesToRequest (seen_with p r f G) face token whole i a q
+      → RepliesToRequest (seen_with p s g H) face token whole i b q → a ≡ b
+  one_request face token whole i (Refused reason) is h k = h ∙ sym k
+  one_request face token whole i (ForList asked) is h k = h ∙ sym k
+  one_request face token whole i ForTables is h k = one_command face token whole i h k
+  one_request face token whole i ForRepository is h k = one_command face token whole i h k
+  one_request face token whole i ForData is h k = cc is
 
-  one_to_packet : (face : ℕ) (read : Result PlainFrame PacketFault) → IsRequestPacket p face read → RepliesToPacket (seen_with p r f G) face read a
-      → RepliesToPacket (seen_with p s g H) face read b → a ≡ b
-  one_to_packet face (Err fault) is h k = absurd is
-  one_to_packet face (Ok (AnInterest whole i)) is h k = one_request face whole i (request_of p face i) is h k
-  one_to_packet face (Ok (AData whole d)) is h k = absurd is
-  one_to_packet face (Ok (ANack reason whole i)) is h k = absurd is
-  one_to_packet face (Ok Idle) is h k = absurd is
+  one_to_packet : (face : ℕ) (token : Token) (read : Result PlainFrame PacketFault) → IsRequestPacket p face read → RepliesToPacket (seen_with p r f G) face token read a
+      → RepliesToPacket (seen_with p s g H) face token read b → a ≡ b
+  one_to_packet face token (Err fault) is h k = absurd is
+  one_to_packet face token (Ok (AnInterest whole i)) is h k = one_request face token whole i (request_of p face i) is h k
+  one_to_packet face token (Ok (AData whole d)) is h k = absurd is
+  one_to_packet face token (Ok (ANack reason whole i)) is h k = absurd is
+  one_to_packet face token (Ok Idle) is h k = absurd is
 
   pub one_answer : (event : PlainEvent) → BringsRequest p event → Replies (seen_with p r f G) event a → Replies (seen_with p s g H) event b → a ≡ b
   one_answer (Packet face now octets) is h k = by_open (is_open face p.faces) h k
     where
-      by_open : (o : Bool) → WhereTrue o (RepliesToPacket (seen_with p r f G) face (frame_at octets) a) (a ≡ dropped NoFace)
-          → WhereTrue o (RepliesToPacket (seen_with p s g H) face (frame_at octets) b) (b ≡ dropped NoFace) → a ≡ b
-      by_open true h k = one_to_packet face (frame_at octets) is h k
+      by_open : (o : Bool) → WhereTrue o (RepliesToPacket (seen_with p r f G) face (token_at octets) (frame_at octets) a) (a ≡ dropped NoFace)
+          → WhereTrue o (RepliesToPacket (seen_with p s g H) face (token_at octets) (frame_at octets) b) (b ≡ dropped NoFace) → a ≡ b
+      by_open true h k = one_to_packet face (token_at octets) (frame_at octets) is h k
       by_open false h k = h ∙ sym k
   one_answer (FaceUp face scope now) is h k = absurd is
   one_answer (FaceDown face now) is h k = absurd is
@@ -90,20 +90,20 @@ module _ (p : Policy) (r s : PlainKey → Records) (f g : Bool) (G H : PlainKey 
           by_said face whole d h.0 h.2
           (subst (λ (said : Decision). RepliesBySaid (seen_with p s g H) face whole d b said) (one_said p (AData whole d) k.0 h.0 apart k.1 h.1) k.2)
 
-  one_verdict_of : (face : ℕ) (read : Result PlainFrame PacketFault) → IsDataPacket read → RepliesToPacket (seen_with p r f G) face read a
-      → RepliesToPacket (seen_with p s g H) face read b → a.verdict ≡ b.verdict
-  one_verdict_of face (Err fault) is h k = absurd is
-  one_verdict_of face (Ok (AnInterest whole i)) is h k = absurd is
-  one_verdict_of face (Ok (AData whole d)) is h k = one_of_data face whole d h k
-  one_verdict_of face (Ok (ANack reason whole i)) is h k = absurd is
-  one_verdict_of face (Ok Idle) is h k = absurd is
+  one_verdict_of : (face : ℕ) (token : Token) (read : Result PlainFrame PacketFault) → IsDataPacket read → RepliesToPacket (seen_with p r f G) face token read a
+      → RepliesToPacket (seen_with p s g H) face token read b → a.verdict ≡ b.verdict
+  one_verdict_of face token (Err fault) is h k = absurd is
+  one_verdict_of face token (Ok (AnInterest whole i)) is h k = absurd is
+  one_verdict_of face token (Ok (AData whole d)) is h k = one_of_data face whole d h k
+  one_verdict_of face token (Ok (ANack reason whole i)) is h k = absurd is
+  one_verdict_of face token (Ok Idle) is h k = absurd is
 
   pub one_verdict : (event : PlainEvent) → BringsData event → Replies (seen_with p r f G) event a → Replies (seen_with p s g H) event b → a.verdict ≡ b.verdict
   one_verdict (Packet face now octets) is h k = by_open (is_open face p.faces) h k
     where
-      by_open : (o : Bool) → WhereTrue o (RepliesToPacket (seen_with p r f G) face (frame_at octets) a) (a ≡ dropped NoFace)
-          → WhereTrue o (RepliesToPacket (seen_with p s g H) face (frame_at octets) b) (b ≡ dropped NoFace) → a.verdict ≡ b.verdict
-      by_open true h k = one_verdict_of face (frame_at octets) is h k
+      by_open : (o : Bool) → WhereTrue o (RepliesToPacket (seen_with p r f G) face (token_at octets) (frame_at octets) a) (a ≡ dropped NoFace)
+          → WhereTrue o (RepliesToPacket (seen_with p s g H) face (token_at octets) (frame_at octets) b) (b ≡ dropped NoFace) → a.verdict ≡ b.verdict
+      by_open true h k = one_verdict_of face (token_at octets) (frame_at octets) is h k
       by_open false h k = ap (λ (x : Answer). x.verdict) (h ∙ sym k)
   one_verdict (FaceUp face scope now) is h k = absurd is
   one_verdict (FaceDown face now) is h k = absurd is

@@ -6,15 +6,14 @@ use Rattle.std.specs.FinMap as fin
 use Rattle.std.proofs.lemmas.Bool.{eqb-true, eq-eqb}
 use Rattle.std.proofs.lemmas.List.Elements.{All-cons, All-nil, All-head, All-tail, All-contains, Contains-get_or}
 use Rattle.ndn_packets.specs.Answers.{answers}
-use Rattle.ndn_packets.specs.FrameReading.{frame_at}
+use Rattle.ndn_packets.specs.FrameReading.{frame_at, token_at}
 use Rattle.ndn_packets.specs.Key.{PlainKey, key_of}
 use Rattle.ndn_packets.specs.Packet.{PlainInterest, PlainFrame, AnInterest, AData, ANack, Idle}
-use Rattle.ndn_packets.specs.Writing.{nack_text}
 use Rattle.ndn_packets.specs.declared.fault.PacketFault.{PacketFault}
-use Rattle.ndn_packets.specs.declared.types.TheConstants.{DUPLICATE, NO_ROUTE}
+use Rattle.ndn_packets.specs.declared.types.TheConstants.{DUPLICATE}
 use Rattle.info_rules.specs.declared.decision.Decision.{Decision}
 use Rattle.info_rules.specs.declared.decision.Decision.TheVariants as decided
-use Rattle.pit_fib.specs.Cause.{Cause, Expires, Arrives, SentTo, Satisfied, NackCame, Withdrawn, Removed, Closed, same_key}
+use Rattle.pit_fib.specs.Cause.{Cause, Expires, Arrives, SentTo, Satisfied, NackCame, Withdrawn, Removed, Closed, same_key, records_after}
 use Rattle.pit_fib.specs.Faces.{has_face}
 use Rattle.pit_fib.specs.Past.{in_record_after, in_record_of as in_record_of_causes}
 use Rattle.pit_fib.specs.Pit.{loops, moments}
@@ -24,7 +23,7 @@ use Rattle.strategies.specs.declared.strategy.Choice.{Choice}
 use Rattle.strategies.specs.declared.strategy.Choice.TheVariants as choices
 use Rattle.mgmt_core.specs.Writing.{segment_at}
 use Rattle.repo_core.specs.Objects.{served}
-use Rattle.forwarder.specs.Event.{PlainEvent, Packet, FaceUp, FaceDown, Tick, NewRules, Send, moment, to_each}
+use Rattle.forwarder.specs.Event.{PlainEvent, Packet, FaceUp, FaceDown, Tick, NewRules, Send, moment, to_each, Token, nacked_back, sent_back, token_in}
 use Rattle.forwarder.specs.Faces.{is_open}
 use Rattle.forwarder.specs.Verdict.{Answer, Verdict, WhereTrue, Passed, Allowed, DataAllowed, Denied, NoRule, Dropped, Loop, NoFace, NoSegment, PitFull, dropped, passed}
 use Rattle.forwarder.specs.Request.{ListAsked, Request, Refused, ForList, ForTables, ForRepository, ForData, list_asked, request_of}
@@ -32,14 +31,13 @@ use Rattle.forwarder.specs.NextHops.{ask_from, choice_for, sent_on}
 use Rattle.forwarder.specs.Commands.{command_answer}
 use Rattle.forwarder.specs.Datasets.{dataset_text, is_present, list_answer, segment_answer, segment_name}
 use Rattle.forwarder.specs.Causes.{in_record_for, before_earlier, causes_by, causes_of, interest_causes, is_answered, is_nacked, nack_causes}
-use Rattle.forwarder.specs.Outcome.{packet_outcome, read_outcome}
+use Rattle.forwarder.specs.Outcome.{packet_outcome, read_outcome, outcome_of}
 use Rattle.forwarder.specs.Replies.{Seen, Replies, RepliesForData, RepliesToPacket, RepliesToRequest, by_content_store, by_strategy, by_repository}
 use Rattle.forwarder.specs.Runs.{Run, Then, now_of, past_causes, records_of}
 use Rattle.forwarder.specs.Sends.{BringsOctets, IsAtHand}
 use Rattle.forwarder.specs.Kept.{IsAnswered, IsKept, IsPassed, IsSentOn}
 use Rattle.forwarder.proofs.Chosen.{chosen_hop}
-use Rattle.forwarder.proofs.Contents.{interest_is_neither, none_nacked, sent_on_begins}
-use Rattle.forwarder.proofs.Explained.{read_begins}
+use Rattle.forwarder.proofs.Contents.{interest_is_neither, none_nacked, read_begins, sent_on_begins}
 use Rattle.pit_fib.proofs.PendingPast.{asks_of_run}
 use Rattle.forwarder.proofs.Requests.{for_list}
 
@@ -56,12 +54,13 @@ kept_causes now event answer key face ask kept =
     let i = kept.interest in
     let is = kept.is_passed in
     let rest = sendings (key_of i) i.nonce now answer.sends in
-    ap (λ (e : PlainEvent). causes_of now e answer) is.brings
-    ∙ ap (λ (r : Result PlainFrame PacketFault). causes_by now answer.sends (read_outcome face r answer.verdict)) is.read
-    ∙ ap (λ (v : Verdict). causes_by now answer.sends (packet_outcome face (AnInterest kept.whole i) v)) is.passed
-    ∙ ap (λ (b : Bool). cond b (Withdrawn (key_of i) face ∷ []) (cond (is_answered face answer.sends) [] (Arrives (key_of i) face (in_record_for now kept.whole i) ∷ rest))) kept.not_nacked
-    ∙ ap (λ (b : Bool). cond b [] (Arrives (key_of i) face (in_record_for now kept.whole i) ∷ rest)) kept.unanswered
-    ∙ ap (λ (k : PlainKey). Arrives k face (in_record_for now kept.whole i) ∷ rest) (sym kept.is_key)
+    let token = token_in event in
+    ap (λ (e : PlainEvent). causes_by now token answer.sends (outcome_of e answer.verdict)) is.brings
+    ∙ ap (λ (r : Result PlainFrame PacketFault). causes_by now token answer.sends (read_outcome face r answer.verdict)) is.read
+    ∙ ap (λ (v : Verdict). causes_by now token answer.sends (packet_outcome face (AnInterest kept.whole i) v)) is.passed
+    ∙ ap (λ (b : Bool). cond b (Withdrawn (key_of i) face ∷ []) (cond (is_answered face answer.sends) [] (Arrives (key_of i) face (in_record_for now token kept.whole i) ∷ rest))) kept.not_nacked
+    ∙ ap (λ (b : Bool). cond b [] (Arrives (key_of i) face (in_record_for now token kept.whole i) ∷ rest)) kept.unanswered
+    ∙ ap (λ (k : PlainKey). Arrives k face (in_record_for now token kept.whole i) ∷ rest) (sym kept.is_key)
     ∙ ap (λ (a : InRecord). Arrives key face a ∷ rest) (sym kept.is_record)
 
 module _ (now : ℕ) (event : PlainEvent) (answer : Answer) (key : PlainKey) (face : ℕ) (ask : InRecord) where
@@ -79,19 +78,20 @@ module _ (now : ℕ) (event : PlainEvent) (answer : Answer) (key : PlainKey) (fa
   sent_kept k nonce [] = All-nil IsKeptBy
   sent_kept k nonce (sent ∷ sends) = All-cons IsKeptBy (SentTo k sent.0 nonce now) (sendings k nonce now sends) (λ e. cc e) (sent_kept k nonce sends)
 
-  interest_kept : (from : ℕ) (whole : List ℕ) (i : PlainInterest) → IsPassed event answer from whole i → AllKept (interest_causes now from whole i answer.sends)
-  interest_kept from whole i is = by_nack (is_nacked answer.sends) refl (is_answered from answer.sends) refl
+  interest_kept : (from : ℕ) (token : Token) (whole : List ℕ) (i : PlainInterest) → token ≡ token_in event → IsPassed event answer from whole i
+      → AllKept (interest_causes now from token whole i answer.sends)
+  interest_kept from token whole i same is = by_nack (is_nacked answer.sends) refl (is_answered from answer.sends) refl
     where
       by_nack : (b : Bool) → is_nacked answer.sends ≡ b → (d : Bool) → is_answered from answer.sends ≡ d
-          → AllKept (cond b (Withdrawn (key_of i) from ∷ []) (cond d [] (Arrives (key_of i) from (in_record_for now whole i) ∷ sendings (key_of i) i.nonce now answer.sends)))
+          → AllKept (cond b (Withdrawn (key_of i) from ∷ []) (cond d [] (Arrives (key_of i) from (in_record_for now token whole i) ∷ sendings (key_of i) i.nonce now answer.sends)))
       by_nack true e d f = one (Withdrawn (key_of i) from) (λ g. cc g)
       by_nack false e true f = All-nil IsKeptBy
       by_nack false e false f =
-          All-cons IsKeptBy (Arrives (key_of i) from (in_record_for now whole i)) (sendings (key_of i) i.nonce now answer.sends)
+          All-cons IsKeptBy (Arrives (key_of i) from (in_record_for now token whole i)) (sendings (key_of i) i.nonce now answer.sends)
           (λ g.
           let k : key_of i ≡ key = cc g in
           let n : from ≡ face = cc g in
-          let a : in_record_for now whole i ≡ ask = cc g in
+          let a : in_record_for now token whole i ≡ ask = cc g in
           record {
             whole = whole;
             interest = i;
@@ -99,14 +99,14 @@ module _ (now : ℕ) (event : PlainEvent) (answer : Answer) (key : PlainKey) (fa
             unanswered = subst (λ (m : ℕ). is_answered m answer.sends ≡ false) n f;
             not_nacked = e;
             is_key = sym k;
-            is_record = sym a;
+            is_record = sym a ∙ ap (λ (t : Token). in_record_for now t whole i) same;
           }) (sent_kept (key_of i) i.nonce answer.sends)
 
   packet_kept : (from t : ℕ) (octets : List ℕ) (read : Result PlainFrame PacketFault) → event ≡ Packet from t octets → frame_at octets ≡ read → (v : Verdict) → answer.verdict ≡ v
-      → AllKept (causes_by now answer.sends (read_outcome from read v))
+      → AllKept (causes_by now (token_at octets) answer.sends (read_outcome from read v))
   packet_kept from t octets (Err fault) e r v is = All-nil IsKeptBy
   packet_kept from t octets (Ok (AnInterest whole i)) e r Passed is =
-      interest_kept from whole i (record { now = t; octets = octets; brings = e; read = r; passed = is })
+      interest_kept from (token_at octets) whole i (sym (ap token_in e)) (record { now = t; octets = octets; brings = e; read = r; passed = is })
   packet_kept from t octets (Ok (AData whole d)) e r Passed is = All-nil IsKeptBy
   packet_kept from t octets (Ok (ANack reason whole i)) e r Passed is = nacked answer.sends
     where
@@ -231,6 +231,16 @@ module _ (key : PlainKey) (face : ℕ) (ask : InRecord) (Q : Type 0) where
       by_rest (inl q) = inl q
       by_rest (inr e) = by_cause (one_cause cause key face ask (in_record_of_causes earlier key face) e)
 
+-- who waits when a moment has come waited before
+pub waited_before : (past : Run) (now : ℕ) (key : PlainKey) (face : ℕ) (ask : InRecord) → fin.get (records_after (Expires now) key (records_of past key)).in_records face ≡ Some ask
+    → fin.get (records_of past key).in_records face ≡ Some ask
+waited_before past now key face ask e =
+    by_cause (one_cause (Expires now) key face ask (in_record_of_causes (past_causes past) key face) (sym (asks_of_run (Expires now ∷ past_causes past) key face) ∙ e))
+  where
+    by_cause : ((Expires now ≡ Arrives key face ask) ⊎ (in_record_of_causes (past_causes past) key face ≡ Some ask)) → fin.get (records_of past key).in_records face ≡ Some ask
+    by_cause (inl is) = cc is
+    by_cause (inr was) = asks_of_run (past_causes past) key face ∙ was
+
 pub kept_or_waited : (past : Run) (event : PlainEvent) (answer : Answer) (key : PlainKey) (face : ℕ) (ask : InRecord) → fin.get (records_of (Then past event answer) key).in_records face ≡ Some ask
     → IsKept (max (now_of past) (moment event)) event answer key face ask ⊎ (fin.get (records_of past key).in_records face ≡ Some ask)
 kept_or_waited past event answer key face ask e =
@@ -251,32 +261,36 @@ kept_or_waited past event answer key face ask e =
 -- ---- what a passed Interest is answered with
 
 module _ (seen : Seen) (event : PlainEvent) (answer : Answer) (face : ℕ) (whole : List ℕ) (i : PlainInterest) (is : IsPassed event answer face whole i) where
+  abbrev token : Token
+  token = token_at is.octets
+
   abbrev GoesOn : List Send → Type 0
-  GoesOn sends = IsSentOn face whole i sends ⊎ IsAnswered seen face whole i sends
+  GoesOn sends = IsSentOn face whole i sends ⊎ IsAnswered seen face token whole i sends
 
   never : {A : Type 0} (v : Verdict) → answer.verdict ≡ v → (v ≡ Passed → ⊥) → A
   never v e other = absurd (other (sym e ∙ is.passed))
 
-  hand : (octets : List ℕ) → answer ≡ passed ((face, octets) ∷ []) → IsAtHand seen face whole i octets → GoesOn answer.sends
-  hand octets e h = inr (octets, ap (λ (a : Answer). a.sends) e, inr h)
+  hand : (packet : List ℕ) → answer ≡ passed (sent_back face token packet ∷ []) → IsAtHand seen face whole i packet → GoesOn answer.sends
+  hand packet e h = inr (inr (packet, ap (λ (a : Answer). a.sends) e, h))
 
   -- the answer to an Interest for a list, by whether its version is the present one
-  abbrev by_present : ListAsked → Bool → Answer
-  by_present asked b =
-      cond b (segment_answer face (segment_name asked.kind seen.policy.table_number asked.segment) (segment_at (dataset_text seen.policy asked.kind) asked.segment)) (dropped NoSegment)
+  abbrev by_present : Token → ListAsked → Bool → Answer
+  by_present t asked b =
+      cond b (segment_answer face t (segment_name asked.kind seen.policy.table_number asked.segment) (segment_at (dataset_text seen.policy asked.kind) asked.segment)) (dropped NoSegment)
 
-  on_list : (asked : ListAsked) → list_asked i ≡ Some asked → answer ≡ list_answer seen.policy face asked → GoesOn answer.sends
+  on_list : (asked : ListAsked) → list_asked i ≡ Some asked → answer ≡ list_answer seen.policy face token asked → GoesOn answer.sends
   on_list asked found e = by_version (is_present seen.policy asked.version) refl
     where
-      by_part : (part : Option (List ℕ × ℕ)) → list_answer seen.policy face asked ≡ segment_answer face (segment_name asked.kind seen.policy.table_number asked.segment) part → GoesOn answer.sends
-      by_part None is = never (Dropped NoSegment) (ap (λ (a : Answer). a.verdict) (e ∙ is)) (λ f. cc f)
-      by_part (Some part) is = hand _ (e ∙ is) (inr (inr (inr (asked, found, is))))
+      by_part : (part : Option (List ℕ × ℕ)) → list_answer seen.policy face token asked ≡ segment_answer face token (segment_name asked.kind seen.policy.table_number asked.segment) part
+          → list_answer seen.policy face None asked ≡ segment_answer face None (segment_name asked.kind seen.policy.table_number asked.segment) part → GoesOn answer.sends
+      by_part None is bare = never (Dropped NoSegment) (ap (λ (a : Answer). a.verdict) (e ∙ is)) (λ f. cc f)
+      by_part (Some part) is bare = hand _ (e ∙ is) (inr (inr (inr (asked, found, bare))))
 
       by_version : (b : Bool) → is_present seen.policy asked.version ≡ b → GoesOn answer.sends
-      by_version true is = by_part (segment_at (dataset_text seen.policy asked.kind) asked.segment) (ap (by_present asked) is)
-      by_version false is = never (Dropped NoSegment) (ap (λ (a : Answer). a.verdict) (e ∙ ap (by_present asked) is)) (λ f. cc f)
+      by_version true is = by_part (segment_at (dataset_text seen.policy asked.kind) asked.segment) (ap (by_present token asked) is) (ap (by_present None asked) is)
+      by_version false is = never (Dropped NoSegment) (ap (λ (a : Answer). a.verdict) (e ∙ ap (by_present token asked) is)) (λ f. cc f)
 
-  on_command : (said : Decision) → answer ≡ command_answer seen.policy face i said → GoesOn answer.sends
+  on_command : (said : Decision) → answer ≡ command_answer seen.policy face token i said → GoesOn answer.sends
   on_command (decided.Allowed rule) e = never _ (ap (λ (a : Answer). a.verdict) e) (λ f. cc f)
   on_command (decided.Denied rule reason) e = never _ (ap (λ (a : Answer). a.verdict) e) (λ f. cc f)
   on_command decided.NoRule e = never _ (ap (λ (a : Answer). a.verdict) e) (λ f. cc f)
@@ -293,31 +307,31 @@ module _ (seen : Seen) (event : PlainEvent) (answer : Answer) (face : ℕ) (whol
           let eligible = h.2 in cc (asker, eligible)
 
   on_choice : (choice : Choice) → choice_for seen.policy i.name (moments (seen.records (key_of i)).out_records) (ask_from seen.policy face i) ≡ choice
-      → answer ≡ by_strategy seen (key_of i) whole i face choice → GoesOn answer.sends
-  on_choice choices.NoRoute chosen e = inr (nack_text NO_ROUTE whole, ap (λ (a : Answer). a.sends) e, inl refl)
+      → answer ≡ by_strategy seen (key_of i) whole i face token choice → GoesOn answer.sends
+  on_choice choices.NoRoute chosen e = inr (inl (ap (λ (a : Answer). a.sends) e))
   on_choice (choices.Send faces) chosen e = by_room (not (is_alive (seen.records (key_of i))) && seen.is_full) e
     where
       by_room : (b : Bool) → answer ≡ cond b (dropped PitFull) (passed (to_each faces (sent_on whole i.hop_limit))) → GoesOn answer.sends
       by_room true e = never (Dropped PitFull) (ap (λ (a : Answer). a.verdict) e) (λ f. cc f)
       by_room false e = inl (faces, not_asker faces chosen, ap (λ (a : Answer). a.sends) e)
 
-  on_object : (object : Option (List ℕ)) → served i.name i.can_be_prefix seen.policy.held.objects ≡ object → answer ≡ by_repository seen face whole i object → GoesOn answer.sends
+  on_object : (object : Option (List ℕ)) → served i.name i.can_be_prefix seen.policy.held.objects ≡ object → answer ≡ by_repository seen face token whole i object → GoesOn answer.sends
   on_object (Some octets) stored e = hand octets e (inr (inl stored))
   on_object None stored e = on_choice (choice_for seen.policy i.name (moments (seen.records (key_of i)).out_records) (ask_from seen.policy face i)) refl e
 
-  on_given : (given : Option (List ℕ)) → seen.MayGive (key_of i) given → answer ≡ by_content_store seen face whole i given → GoesOn answer.sends
+  on_given : (given : Option (List ℕ)) → seen.MayGive (key_of i) given → answer ≡ by_content_store seen face token whole i given → GoesOn answer.sends
   on_given (Some octets) gives e = hand octets e (inl gives)
   on_given None gives e = on_object (served i.name i.can_be_prefix seen.policy.held.objects) refl e
 
-  on_data : RepliesForData seen face whole i answer → GoesOn answer.sends
+  on_data : RepliesForData seen face token whole i answer → GoesOn answer.sends
   on_data h = by_loop (loops (seen.records (key_of i)) face i.nonce) h
     where
-      by_loop : (b : Bool) → WhereTrue b (answer ≡ record { verdict = Dropped Loop; sends = (face, nack_text DUPLICATE whole) ∷ [] })
-          ((given : Option (List ℕ)) × seen.MayGive (key_of i) given × (answer ≡ by_content_store seen face whole i given)) → GoesOn answer.sends
+      by_loop : (b : Bool) → WhereTrue b (answer ≡ record { verdict = Dropped Loop; sends = nacked_back face token DUPLICATE whole ∷ [] })
+          ((given : Option (List ℕ)) × seen.MayGive (key_of i) given × (answer ≡ by_content_store seen face token whole i given)) → GoesOn answer.sends
       by_loop true e = never (Dropped Loop) (ap (λ (a : Answer). a.verdict) e) (λ f. cc f)
       by_loop false h = on_given h.0 h.1 h.2
 
-  on_request : (r : Request) → request_of seen.policy face i ≡ r → RepliesToRequest seen face whole i answer r → GoesOn answer.sends
+  on_request : (r : Request) → request_of seen.policy face i ≡ r → RepliesToRequest seen face token whole i answer r → GoesOn answer.sends
   on_request (Refused reason) e h = never (Dropped reason) (ap (λ (a : Answer). a.verdict) h) (λ f. cc f)
   on_request (ForList asked) e h = on_list asked (for_list seen.policy face i asked e) h
   on_request ForTables e h = on_command h.0 h.2
@@ -328,8 +342,8 @@ module _ (seen : Seen) (event : PlainEvent) (answer : Answer) (face : ℕ) (whol
   goes_on replies =
       by_open (is_open face seen.policy.faces) (subst (λ (e : PlainEvent). Replies seen e answer) is.brings replies)
     where
-      by_open : (b : Bool) → WhereTrue b (RepliesToPacket seen face (frame_at is.octets) answer) (answer ≡ dropped NoFace) → GoesOn answer.sends
-      by_open true h = on_request (request_of seen.policy face i) refl (subst (λ (r : Result PlainFrame PacketFault). RepliesToPacket seen face r answer) is.read h)
+      by_open : (b : Bool) → WhereTrue b (RepliesToPacket seen face token (frame_at is.octets) answer) (answer ≡ dropped NoFace) → GoesOn answer.sends
+      by_open true h = on_request (request_of seen.policy face i) refl (subst (λ (r : Result PlainFrame PacketFault). RepliesToPacket seen face token r answer) is.read h)
       by_open false h = never (Dropped NoFace) (ap (λ (a : Answer). a.verdict) h) (λ f. cc f)
 
 none_to : (face : ℕ) (faces octets : List ℕ) → is_answered face (to_each faces octets) ≡ has_face face faces
@@ -337,11 +351,12 @@ none_to face [] octets = refl
 none_to face (f ∷ faces) octets = ap (λ (b : Bool). (f == face) || b) (none_to face faces octets)
 
 pub kept_or_answered : (seen : Seen) (now : ℕ) (event : PlainEvent) (answer : Answer) (face : ℕ) (whole : List ℕ) (i : PlainInterest) → BringsOctets event → Replies seen event answer
-    → IsPassed event answer face whole i → (IsKept now event answer (key_of i) face (in_record_for now whole i) × IsSentOn face whole i answer.sends) ⊎ IsAnswered seen face whole i answer.sends
-kept_or_answered seen now event answer face whole i fits replies is = by_way (goes_on seen event answer face whole i is replies)
+    → IsPassed event answer face whole i → (IsKept now event answer (key_of i) face (in_record_for now (token_in event) whole i) × IsSentOn face whole i answer.sends) ⊎ IsAnswered seen face (token_in event) whole i answer.sends
+kept_or_answered seen now event answer face whole i fits replies is =
+    by_way (subst (λ (t : Token). IsSentOn face whole i answer.sends ⊎ IsAnswered seen face t whole i answer.sends) (sym (ap token_in is.brings)) (goes_on seen event answer face whole i is replies))
   where
-    by_way : (IsSentOn face whole i answer.sends ⊎ IsAnswered seen face whole i answer.sends)
-        → (IsKept now event answer (key_of i) face (in_record_for now whole i) × IsSentOn face whole i answer.sends) ⊎ IsAnswered seen face whole i answer.sends
+    by_way : (IsSentOn face whole i answer.sends ⊎ IsAnswered seen face (token_in event) whole i answer.sends)
+        → (IsKept now event answer (key_of i) face (in_record_for now (token_in event) whole i) × IsSentOn face whole i answer.sends) ⊎ IsAnswered seen face (token_in event) whole i answer.sends
     by_way (inr back) = inr back
     by_way (inl on) =
         let octets = subst BringsOctets is.brings fits in

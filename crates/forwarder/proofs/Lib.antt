@@ -1,4 +1,5 @@
 pub mod Outboxes
+pub mod LinkLengths
 pub mod EffectiveFaces
 pub mod Chosen
 pub mod Soundness
@@ -28,6 +29,8 @@ pub mod RoutesRead
 pub mod RunHops
 pub mod KeptInterests
 pub mod Named
+pub mod Tokens
+pub mod Origins
 mod AskedFor
 pub mod Asking
 pub mod Saying

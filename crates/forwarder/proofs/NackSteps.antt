@@ -4,7 +4,8 @@ use Rattle.std.proofs.Common.{◌≡◌, ◌⊎◌, inl, inr, ℕ, ◌+◌, ◌<
 use lib.Dec.{T}
 use Rattle.std.specs.Prelude.{is_some, option_and_then, map, slice_get, unwrap_or, ◌||◌}
 use Rattle.std.specs.Option.{option_map}
-use Rattle.std.specs.List.{AllByRecursion}
+use Rattle.std.specs.List.{AllByRecursion, All as EachOf}
+use Rattle.std.proofs.lemmas.List.Elements.{All-cons, All-nil}
 use Rattle.std.specs.Ordering.{nat_cmp, eq_by_cmp}
 use Rattle.std.specs.declared.cmp.Ordering.TheVariants.{Less}
 use Rattle.std.specs.Cmp.{nat_cmp_total}
@@ -17,18 +18,18 @@ use Rattle.std.proofs.lemmas.List.Sums.{sum_by-cons}
 use Rattle.ndn_packets.specs.Key.{PlainKey, key_of}
 use Rattle.ndn_packets.specs.Packet.{PlainInterest, ANack}
 use Rattle.ndn_packets.specs.Reading.{is_nil}
-use Rattle.ndn_packets.specs.Writing.{nack_text}
 use Rattle.pit_fib.specs.declared.nacked.Nacked.TheVariants.{NoPending, All}
 use Rattle.pit_fib.specs.Cause.{Cause, Expires, NackCame, Removed, changed, settled, same_key, until_after, with_reason, records_after, Follows}
 use Rattle.pit_fib.specs.Faces.{IsRising, has_face}
 use Rattle.pit_fib.specs.Pit.{nacked_answer, was_sent}
 use Rattle.pit_fib.specs.Records.{InRecord, InRecords, OutRecords, OutRecord, Pending, Records, HoldsTheLiving, no_records, is_alive, records_at}
+use Rattle.pit_fib.specs.Tokens.{HaveNoTokens}
 use Rattle.pit_fib.proofs.Nacks.{not_pending}
 use Rattle.pit_fib.proofs.PendingPast.{get-changed}
 use Rattle.pit_fib.proofs.PendingTables.{one_key}
 use Rattle.ndn_names.proofs.Rows.{first_of, is_less, second_of}
 use Rattle.strategies.proofs.Places.{drop_here}
-use Rattle.forwarder.specs.Event.{Send}
+use Rattle.forwarder.specs.Event.{Send, Token, nacked_back}
 use Rattle.forwarder.specs.Causes.{after_causes, nack_causes}
 use Rattle.forwarder.specs.Cache.{CacheAfter, CacheUse}
 use Rattle.forwarder.specs.Handling.{IsAnswered, packet_causes}
@@ -37,7 +38,7 @@ use Rattle.forwarder.specs.Node.{FollowAll, NodeState}
 use Rattle.forwarder.specs.Replies.{nack_answer, nacks_to}
 use Rattle.forwarder.specs.Request.{is_out_of_scope}
 use Rattle.forwarder.specs.Verdict.{Answer, Scope, dropped}
-use Rattle.forwarder.specs.declared.nack.TheConstants.{NACK_EXTRA}
+use Rattle.forwarder.specs.declared.sends.TheConstants.{LINK_EXTRA}
 use Rattle.forwarder.proofs.ForwardSteps.{member_above}
 use Rattle.forwarder.proofs.Uses.{nack_use}
 use Rattle.forwarder.proofs.Handled.{where_false, where_true}
@@ -50,7 +51,7 @@ no e = absurd cc
 -- the Nack to a face, if it asks
 abbrev pub nack_for : ℕ → ℕ → Option InRecord → List Send
 nack_for reason face None = []
-nack_for reason face (Some ask) = (face, nack_text reason ask.interest) ∷ []
+nack_for reason face (Some ask) = nacked_back face ask.token reason ask.interest ∷ []
 
 -- the Nacks to those of the faces that ask
 abbrev pub nacks_by : ℕ → (ℕ → Option InRecord) → List ℕ → List Send
@@ -58,15 +59,16 @@ nacks_by reason ask_of [] = []
 nacks_by reason ask_of (face ∷ faces) = nack_for reason face (ask_of face) ++ nacks_by reason ask_of faces
 
 -- what an Interest that was found says of its asker
-pub asker_room : (o : Option InRecord) (octets : List ℕ) → Some octets ≡ option_map (λ (ask : InRecord). ask.interest) o → room_for o ≡ length octets + NACK_EXTRA
+pub asker_room : (o : Option InRecord) (octets : List ℕ) → Some octets ≡ option_map (λ (ask : InRecord). ask.interest) o → room_for o ≡ length octets + LINK_EXTRA
 asker_room None octets e = absurd cc
-asker_room (Some ask) octets e = let same : octets ≡ ask.interest = cc e in ap (λ (l : List ℕ). length l + NACK_EXTRA) (sym same)
+asker_room (Some ask) octets e = let same : octets ≡ ask.interest = cc e in ap (λ (l : List ℕ). length l + LINK_EXTRA) (sym same)
 
-pub asker_nack : (reason face : ℕ) (o : Option InRecord) (octets : List ℕ) → Some octets ≡ option_map (λ (ask : InRecord). ask.interest) o
-    → nack_for reason face o ≡ (face, nack_text reason octets) ∷ []
-asker_nack reason face None octets e = absurd cc
-asker_nack reason face (Some ask) octets e =
-    let same : octets ≡ ask.interest = cc e in ap (λ (l : List ℕ). let sent : Send = (face, nack_text reason l) in sent ∷ []) (sym same)
+pub asker_nack : (reason face : ℕ) (o : Option InRecord) (octets : List ℕ) (token : Token) → Some octets ≡ option_map (λ (ask : InRecord). ask.interest) o
+    → token ≡ option_and_then (λ (ask : InRecord). ask.token) o → nack_for reason face o ≡ nacked_back face token reason octets ∷ []
+asker_nack reason face None octets token e t = absurd cc
+asker_nack reason face (Some ask) octets token e t =
+    let same : octets ≡ ask.interest = cc e in
+    ap (λ (l : List ℕ). let sent : Send = nacked_back face ask.token reason l in sent ∷ []) (sym same) ∙ ap (λ (k : Token). let sent : Send = nacked_back face k reason octets in sent ∷ []) (sym t)
 
 pub no_asker : (o : Option InRecord) → None ≡ option_map (λ (ask : InRecord). ask.interest) o → o ≡ None
 no_asker None e = refl
@@ -122,7 +124,7 @@ module _ (reason : ℕ) where
   )
 
   nacks_of_entries : (faces : List ℕ) (es : List (ℕ × InRecord)) → IsRising faces → T (is_sorted nat_cmp es) → AllByRecursion (λ e. has_face e.0 faces ≡ true) es
-      → nacks_by reason (λ f. find nat_cmp f es) faces ≡ map {A = ℕ × InRecord} {B = Send} (λ e. (e.0, nack_text reason e.1.interest)) es
+      → nacks_by reason (λ f. find nat_cmp f es) faces ≡ map {A = ℕ × InRecord} {B = Send} (λ e. nacked_back e.0 e.1.token reason e.1.interest) es
   nacks_of_entries [] [] rising sorted all = refl
   nacks_of_entries [] (e ∷ es) rising sorted all = no all.0
   nacks_of_entries (y ∷ faces) [] rising sorted all = nacks_of_entries faces [] rising.1 sorted tt
@@ -130,12 +132,12 @@ module _ (reason : ℕ) where
       let higher = above e.0 es (first_of _ _ sorted) in
       elim (eqb y e.0) as (λ b. eqb y e.0 ≡ b → (b || has_face e.0 faces) ≡ true
       → nack_for reason y (find nat_cmp y (e ∷ es)) ++ nacks_by reason (λ f. find nat_cmp f (e ∷ es)) faces
-      ≡ map {A = ℕ × InRecord} {B = Send} (λ e. (e.0, nack_text reason e.1.interest)) (e ∷ es)) [
+      ≡ map {A = ℕ × InRecord} {B = Send} (λ e. nacked_back e.0 e.1.token reason e.1.interest) (e ∷ es)) [
         | true ↦ λ t has.
             let one : y ≡ e.0 = eqb-true y e.0 t in
             ap (λ b. nack_for reason y (cond b (Some e.1) (find nat_cmp y es)) ++ nacks_by reason (λ f. find nat_cmp f (e ∷ es)) faces) (tie y e.0 ∙ t)
-            ∙ ap (λ f. let sent : Send = (f, nack_text reason e.1.interest) in sent ∷ nacks_by reason (λ f. find nat_cmp f (e ∷ es)) faces) one
-            ∙ ap (λ (l : List Send). let sent : Send = (e.0, nack_text reason e.1.interest) in sent ∷ l)
+            ∙ ap (λ f. let sent : Send = nacked_back f e.1.token reason e.1.interest in sent ∷ nacks_by reason (λ f. find nat_cmp f (e ∷ es)) faces) one
+            ∙ ap (λ (l : List Send). let sent : Send = nacked_back e.0 e.1.token reason e.1.interest in sent ∷ l)
             (same_nacks (λ f. find nat_cmp f (e ∷ es)) (λ f. find nat_cmp f es) faces (found_later e.0 e.1 es faces (subst (λ (k : ℕ). AllByRecursion (λ f. k < f) faces) one rising.0))
             ∙ nacks_of_entries faces es rising.1 (second_of _ _ sorted) (among_rest y faces es (subst (λ (k : ℕ). AllByRecursion (λ e. k < e.0) es) (sym one) higher) all.1))
         | false ↦ λ t has.
@@ -172,6 +174,28 @@ module _ (reason : ℕ) where
         each [] = tt
         each (f ∷ some) = (get-entries asks f, each some)
 
+-- ---- what is true of each who asks
+
+module _ (P : InRecord → Type 0) where
+  abbrev OfEntry : ℕ × InRecord → Type 0
+  OfEntry e = P e.1
+
+  all_found : (es : List (ℕ × InRecord)) → T (is_sorted nat_cmp es) → ((f : ℕ) (r : InRecord) → find nat_cmp f es ≡ Some r → P r) → EachOf OfEntry es
+  all_found [] sorted are = All-nil OfEntry
+  all_found (e ∷ es) sorted are =
+      All-cons OfEntry e es (are e.0 e.1 (ap (λ b. cond b (Some e.1) (find nat_cmp e.0 es)) (tie e.0 e.0 ∙ eq-eqb e.0 e.0 refl)))
+      (all_found es (second_of _ _ sorted) (λ f r found. are f r (by_face f r found (eqb f e.0) refl)))
+    where
+      by_face : (f : ℕ) (r : InRecord) → find nat_cmp f es ≡ Some r → (b : Bool) → eqb f e.0 ≡ b → find nat_cmp f (e ∷ es) ≡ Some r
+      by_face f r found false other = ap (λ b. cond b (Some e.1) (find nat_cmp f es)) (tie f e.0 ∙ other) ∙ found
+      by_face f r found true same =
+          let one : f ≡ e.0 = eqb-true f e.0 same in
+          let none = none_below f es (subst (λ (k : ℕ). AllByRecursion (λ e. k < e.0) es) (sym one) (above e.0 es (first_of _ _ sorted))) in
+          cc (none, found)
+
+  pub all_entries : (asks : InRecords) → ((f : ℕ) (r : InRecord) → get asks f ≡ Some r → P r) → EachOf OfEntry (entries asks)
+  all_entries asks are = all_found (entries asks) (entries_sorted asks) (λ f r found. are f r (get-entries asks f ∙ found))
+
 -- ---- who asks still, where time has passed
 
 -- those who ask did, by the same Interests
@@ -202,7 +226,7 @@ settled_part r f =
     ]
 
 module _ (now : ℕ) (old new : Pending) (expires : Follows (Expires now) old new) (key : PlainKey) where
-  expired_part : IsPart (in_records_at new key) (in_records_at old key)
+  pub expired_part : IsPart (in_records_at new key) (in_records_at old key)
   expired_part f =
       let r = records_at old key in
       let is : get (in_records_at new key) f ≡ get (settled (changed (Expires now) key r)).in_records f = ap (λ (s : Records). get s.in_records f) (expires key) in
@@ -214,6 +238,17 @@ module _ (now : ℕ) (old new : Pending) (expires : Follows (Expires now) old ne
 
   pub expired_room : (faces : List ℕ) → nack_room (in_records_at new key) faces ≤ nack_room (in_records_at old key) faces
   expired_room = part_room (in_records_at new key) (in_records_at old key) expired_part
+
+-- where no Interest has a token, none of those left has one
+pub expired_bare : (now : ℕ) (old new : Pending) → Follows (Expires now) old new → HaveNoTokens old → HaveNoTokens new
+expired_bare now old new expires bare key face r found =
+    elim (expired_part now old new expires key face) [
+      | inl gone ↦ absurd (no_record (sym found ∙ gone))
+      | inr same ↦ bare key face r (sym same ∙ found)
+    ]
+  where
+    no_record : Some r ≡ None → ⊥
+    no_record e = cc e
 
 -- ---- the records of a key
 
@@ -289,7 +324,7 @@ module _ (key : PlainKey) (face : ℕ) (nonce : List ℕ) (reason : ℕ) where
 some_nacks : (asks : InRecords) (reason : ℕ) → ltb 0 (fin.len asks) ≡ true → is_nil (nacks_to asks reason) ≡ false
 some_nacks asks reason alive = go (entries asks) (sym (ap (ltb 0) (len-entries asks)) ∙ alive)
   where
-    go : (es : List (ℕ × InRecord)) → ltb 0 (length es) ≡ true → is_nil (map {A = ℕ × InRecord} {B = Send} (λ e. (e.0, nack_text reason e.1.interest)) es) ≡ false
+    go : (es : List (ℕ × InRecord)) → ltb 0 (length es) ≡ true → is_nil (map {A = ℕ × InRecord} {B = Send} (λ e. nacked_back e.0 e.1.token reason e.1.interest) es) ≡ false
     go [] some = no some
     go (e ∷ es) some = refl
 
@@ -305,11 +340,11 @@ removed_causes face reason least i old mid new alive follows removed k =
 
 -- ---- a Nack is answered
 
-module _ (was new : NodeState) (face reason : ℕ) (whole : List ℕ) (i : PlainInterest) (policy : new.policy ≡ was.policy) (cache : new.cache ≡ was.cache)
+module _ (was new : NodeState) (face : ℕ) (token : Token) (reason : ℕ) (whole : List ℕ) (i : PlainInterest) (policy : new.policy ≡ was.policy) (cache : new.cache ≡ was.cache)
     (alive : HoldsTheLiving new.pending) where
   pub nack_answered : (answer : Answer) → is_out_of_scope was.policy face i.name ≡ false
       → answer ≡ nack_answer (in_records_at was.pending (key_of i)) (nacked_answer (records_at was.pending (key_of i)) face i.nonce reason)
-      → FollowAll (packet_causes was.policy.now face (ANack reason whole i) answer) was.pending new.pending → IsAnswered was face (ANack reason whole i) answer new
+      → FollowAll (packet_causes was.policy.now face token (ANack reason whole i) answer) was.pending new.pending → IsAnswered was face token (ANack reason whole i) answer new
   nack_answered answer here is pending = record {
     replies = where_false _ _ (is_out_of_scope was.policy face i.name) here is;
     policy = policy;
@@ -318,9 +353,9 @@ module _ (was new : NodeState) (face reason : ℕ) (whole : List ℕ) (i : Plain
     cache = subst (λ (used : CacheUse). CacheAfter was.policy.now was.pending used was.cache new.cache) (sym (nack_use was.policy.now face reason whole i answer.verdict)) cache;
   }
 
-pub nack_out_of_scope : (was : NodeState) (face reason : ℕ) (whole : List ℕ) (i : PlainInterest) → HoldsTheLiving was.pending → is_out_of_scope was.policy face i.name ≡ true
-    → IsAnswered was face (ANack reason whole i) (dropped Scope) was
-nack_out_of_scope was face reason whole i living here = record {
+pub nack_out_of_scope : (was : NodeState) (face : ℕ) (token : Token) (reason : ℕ) (whole : List ℕ) (i : PlainInterest) → HoldsTheLiving was.pending → is_out_of_scope was.policy face i.name ≡ true
+    → IsAnswered was face token (ANack reason whole i) (dropped Scope) was
+nack_out_of_scope was face token reason whole i living here = record {
   replies = where_true _ _ (is_out_of_scope was.policy face i.name) here refl;
   policy = refl;
   pending = λ key. refl;

@@ -14,7 +14,7 @@ use Rattle.forwarder.specs.declared.request.NamedRequest.{NamedRequest}
 use Rattle.forwarder.specs.declared.request.NamedRequest.TheVariants as named
 use Rattle.forwarder.specs.declared.state.State.{State}
 use Rattle.forwarder.specs.declared.verdict.Verdict.TheVariants as code
-use Rattle.forwarder.specs.Event.{Send}
+use Rattle.forwarder.specs.Event.{Send, Token}
 use Rattle.forwarder.specs.Verdict.{Allowed, Answer, Denied, NoRule}
 use Rattle.forwarder.specs.Policy.{Policy}
 use Rattle.forwarder.specs.Request.{Request, Refused, ForList, ForTables, ForRepository, ForData, is_command, request_named, request_of}
@@ -70,43 +70,43 @@ request_then : (old was : NodeState) (now face : ℕ) (i : PlainInterest) (reque
     → request_of old.policy face i ≡ request → request_of was.policy face i ≡ request
 request_then old was now face i request later is = ap (λ (p : Policy). request_of p face i) later.policy ∙ is
 
-module _ (was new : NodeState) (face : ℕ) (whole : List ℕ) (i : PlainInterest) (request : Request) (is : request_of was.policy face i ≡ request)
+module _ (was new : NodeState) (face : ℕ) (token : Token) (whole : List ℕ) (i : PlainInterest) (request : Request) (is : request_of was.policy face i ≡ request)
     (command : is_command request ≡ true) (living : HoldsTheLiving was.pending) where
-  replies_by : (answer : Answer) → RepliesToCommand (seen_by was) face whole i answer → (r : Request) → is_command r ≡ true
-      → RepliesToRequest (seen_by was) face whole i answer r
+  replies_by : (answer : Answer) → RepliesToCommand (seen_by was) face token whole i answer → (r : Request) → is_command r ≡ true
+      → RepliesToRequest (seen_by was) face token whole i answer r
   replies_by answer h (Refused reason) e = absurd cc
   replies_by answer h (ForList asked) e = absurd cc
   replies_by answer h ForTables e = h
   replies_by answer h ForRepository e = h
   replies_by answer h ForData e = absurd cc
 
-  no_causes : (said : Decision) (now : ℕ) → packet_causes now face (AnInterest whole i) (command_answer was.policy face i said) ≡ []
+  no_causes : (said : Decision) (now : ℕ) → packet_causes now face token (AnInterest whole i) (command_answer was.policy face token i said) ≡ []
   no_causes (decided.Allowed rule) now = refl
   no_causes (decided.Denied rule reason) now = refl
   no_causes decided.NoRule now = refl
 
   -- a command of which this is said
-  command_answered : (said : Decision) (answer : Answer) → command_answer was.policy face i said ≡ answer → IsSaid was.policy (AnInterest whole i) said
+  command_answered : (said : Decision) (answer : Answer) → command_answer was.policy face token i said ≡ answer → IsSaid was.policy (AnInterest whole i) said
       → new.policy ≡ after_said was.policy face (AnInterest whole i) said → new.pending ≡ was.pending
-      → CacheAfter was.policy.now was.pending (packet_use was.policy.now face (AnInterest whole i) answer.verdict) was.cache new.cache → IsAnswered was face (AnInterest whole i) answer new
+      → CacheAfter was.policy.now was.pending (packet_use was.policy.now face (AnInterest whole i) answer.verdict) was.cache new.cache → IsAnswered was face token (AnInterest whole i) answer new
   command_answered said answer given says policy pending cache = record {
-    replies = subst (λ (r : Request). RepliesToRequest (seen_by was) face whole i answer r) (sym is) (replies_by answer (said, says, sym given) request command);
+    replies = subst (λ (r : Request). RepliesToRequest (seen_by was) face token whole i answer r) (sym is) (replies_by answer (said, says, sym given) request command);
     policy = subst (λ (b : Bool). IsPacketEffect was.policy face (AnInterest whole i) new.policy b) (sym (ap is_command is ∙ command)) (said, says, policy);
     pending = subst (λ (causes : List Cause). FollowAll causes was.pending new.pending)
-        (sym (no_causes said was.policy.now) ∙ ap (λ (a : Answer). packet_causes was.policy.now face (AnInterest whole i) a) given)
+        (sym (no_causes said was.policy.now) ∙ ap (λ (a : Answer). packet_causes was.policy.now face token (AnInterest whole i) a) given)
         (λ key. ap (λ (p : Pending). records_at p key) pending);
     alive = subst HoldsTheLiving (sym pending) living;
     cache = cache;
   }
 
   allowed_answered : (rule : RuleNo) (status : ℕ) (sends : List Send) → IsSaid was.policy (AnInterest whole i) (decided.Allowed rule)
-      → IsCommanded was face i request status sends new
-      → IsAnswered was face (AnInterest whole i) (record { verdict = Allowed rule.0 status; sends = sends }) new
+      → IsCommanded was face token i request status sends new
+      → IsAnswered was face token (AnInterest whole i) (record { verdict = Allowed rule.0 status; sends = sends }) new
   allowed_answered rule status sends says done =
       let answered = ap (λ (r : Request). (allowed_reply was.policy face i r).status) is ∙ sym done.answered in
       let used : request_use i status request ≡ command_use (command_at i.name) status =
       ap (λ (r : Request). request_use i status r) (sym is) ∙ commanded_use was.policy face status i (ap is_command is ∙ command) in
-      let sent = ap (λ (r : Request). replied face i (allowed_reply was.policy face i r).content ∷ (allowed_reply was.policy face i r).fetches) is ∙ sym done.sent in
+      let sent = ap (λ (r : Request). replied face token i (allowed_reply was.policy face i r).content ∷ (allowed_reply was.policy face i r).fetches) is ∙ sym done.sent in
       command_answered (decided.Allowed rule) (record { verdict = Allowed rule.0 status; sends = sends })
       (λ j. record { verdict = Allowed rule.0 (answered j); sends = sent j }) says
       (done.policy ∙ ap (λ (r : Request). with_record (after_request was.policy face i r) (recorded_of i)) (sym is))
@@ -114,37 +114,37 @@ module _ (was new : NodeState) (face : ℕ) (whole : List ℕ) (i : PlainInteres
 
 -- ---- refusals
 
-module _ (was : NodeState) (face : ℕ) (whole : List ℕ) (i : PlainInterest) (request : Request) (is : request_of was.policy face i ≡ request)
+module _ (was : NodeState) (face : ℕ) (token : Token) (whole : List ℕ) (i : PlainInterest) (request : Request) (is : request_of was.policy face i ≡ request)
     (command : is_command request ≡ true) (living : HoldsTheLiving was.pending) where
   command_denied : (rule : RuleNo) (reason : Reason) (text : List ℕ) → text ≡ denial_text was.policy rule.0 reason
       → IsSaid was.policy (AnInterest whole i) (decided.Denied rule reason)
-      → IsAnswered was face (AnInterest whole i) (record { verdict = Denied kinds.Interest rule.0 reason; sends = replied face i (refused_content request text) ∷ [] }) was
+      → IsAnswered was face token (AnInterest whole i) (record { verdict = Denied kinds.Interest rule.0 reason; sends = replied face token i (refused_content request text) ∷ [] }) was
   command_denied rule reason text written says =
       let same = ap (λ (r : Request). refused_content r (denial_text was.policy rule.0 reason)) is ∙ ap (refused_content request) (sym written) in
-      command_answered was was face whole i request is command living (decided.Denied rule reason) _
-      (λ j. record { verdict = Denied kinds.Interest rule.0 reason; sends = replied face i (same j) ∷ [] }) says refl refl refl
+      command_answered was was face token whole i request is command living (decided.Denied rule reason) _
+      (λ j. record { verdict = Denied kinds.Interest rule.0 reason; sends = replied face token i (same j) ∷ [] }) says refl refl refl
 
   command_by_no_rule : IsSaid was.policy (AnInterest whole i) decided.NoRule
-      → IsAnswered was face (AnInterest whole i) (record { verdict = NoRule kinds.Interest; sends = replied face i (refused_content request (codes "no rule")) ∷ [] }) was
+      → IsAnswered was face token (AnInterest whole i) (record { verdict = NoRule kinds.Interest; sends = replied face token i (refused_content request (codes "no rule")) ∷ [] }) was
   command_by_no_rule says =
       let same = ap (λ (r : Request). refused_content r (codes "no rule")) is in
-      command_answered was was face whole i request is command living decided.NoRule _
-      (λ j. record { verdict = NoRule kinds.Interest; sends = replied face i (same j) ∷ [] }) says refl refl refl
+      command_answered was was face token whole i request is command living decided.NoRule _
+      (λ j. record { verdict = NoRule kinds.Interest; sends = replied face token i (same j) ∷ [] }) says refl refl refl
 
 -- ---- what a handler does
 
-module _ (old : State) (before after : List Send) (face now : ℕ) (whole : List ℕ) (i : PlainInterest) (request : Request)
+module _ (old : State) (before after : List Send) (face : ℕ) (token : Token) (now : ℕ) (whole : List ℕ) (i : PlainInterest) (request : Request)
     (is : request_of (policy_of old) face i ≡ request) (command : is_command request ≡ true) where
   -- a command that is carried out, where what was prepared for it changed nothing
   pub carried_handled : (prepared new : State) (rule : RuleNo) (status : ℕ) → state_of prepared ≡ state_of old → SaysAt (policy_of old) now whole i (decided.Allowed rule)
-      → IsCarriedOut prepared new before after face now i request status → IsHandled old new before after face now (AnInterest whole i) (code.Allowed rule status)
+      → IsCarriedOut prepared new before after face token now i request status → IsHandled old new before after face token now (AnInterest whole i) (code.Allowed rule status)
   carried_handled prepared new rule status same says (was, sends, sent, then, done) =
       let later = subst (λ (n : NodeState). IsLater n now was) same then in (
         was,
         sends,
         sent,
         later,
-        allowed_answered was (state_of new) face whole i request (request_then (state_of old) was now face i request later is) command later.living rule status sends
+        allowed_answered was (state_of new) face token whole i request (request_then (state_of old) was now face i request later is) command later.living rule status sends
             (said_then (state_of old) was now whole i (decided.Allowed rule) later says) done,
       )
 
@@ -156,23 +156,23 @@ module _ (old : State) (before after : List Send) (face now : ℕ) (whole : List
     is_then = request_then (state_of old) was now face i request later is
 
     pub denied_handled : (rule : RuleNo) (reason : Reason) (text : List ℕ) → ((p : Policy) → p.rules ≡ old.rules → text ≡ denial_text p rule.0 reason)
-        → SaysAt (policy_of old) now whole i (decided.Denied rule reason) → after ≡ before ++ replied face i (refused_content request text) ∷ []
-        → IsHandled old new before after face now (AnInterest whole i) (code.Denied kinds.Interest rule reason)
+        → SaysAt (policy_of old) now whole i (decided.Denied rule reason) → after ≡ before ++ replied face token i (refused_content request text) ∷ []
+        → IsHandled old new before after face token now (AnInterest whole i) (code.Denied kinds.Interest rule reason)
     denied_handled rule reason text written says sent = (
       was,
       _,
       sent,
       later,
-      command_denied was face whole i request is_then command later.living rule reason text (written was.policy (ap (λ (p : Policy). p.rules) later.policy))
+      command_denied was face token whole i request is_then command later.living rule reason text (written was.policy (ap (λ (p : Policy). p.rules) later.policy))
           (said_then (state_of old) was now whole i (decided.Denied rule reason) later says),
     )
 
-    pub no_rule_handled : SaysAt (policy_of old) now whole i decided.NoRule → after ≡ before ++ replied face i (refused_content request (codes "no rule")) ∷ []
-        → IsHandled old new before after face now (AnInterest whole i) (code.NoRule kinds.Interest)
+    pub no_rule_handled : SaysAt (policy_of old) now whole i decided.NoRule → after ≡ before ++ replied face token i (refused_content request (codes "no rule")) ∷ []
+        → IsHandled old new before after face token now (AnInterest whole i) (code.NoRule kinds.Interest)
     no_rule_handled says sent = (
       was,
       _,
       sent,
       later,
-      command_by_no_rule was face whole i request is_then command later.living (said_then (state_of old) was now whole i decided.NoRule later says),
+      command_by_no_rule was face token whole i request is_then command later.living (said_then (state_of old) was now whole i decided.NoRule later says),
     )

@@ -5,7 +5,7 @@ use Rattle.std.specs.Prelude.{[], Option, Some, None, not, ◌==◌}
 use Rattle.hmac_keys.specs.KeyFile.{AreApart}
 use Rattle.ndn_packets.specs.Answers.{begins_with}
 use Rattle.ndn_packets.specs.Key.{PlainKey}
-use Rattle.ndn_packets.specs.FrameReading.{frame_at}
+use Rattle.ndn_packets.specs.FrameReading.{frame_at, token_at}
 use Rattle.ndn_packets.specs.Packet.{PlainInterest, PlainData, PlainFrame, AnInterest, AData, ANack, Idle}
 use Rattle.ndn_packets.specs.declared.fault.PacketFault.{PacketFault}
 use Rattle.info_rules.specs.declared.decision.Decision.{Decision}
@@ -131,7 +131,7 @@ module _ {V : Type 0} (see : Routes → V) (q : Policy) (command : Result PlainC
           by_read (Err status) k b = same b was (command (Err status) from was) (unread status from was)
           by_read (Ok c) k b = absurd (no_command i.name c other k)
 
-      on_command : request_of q from i ≡ ForTables → (said : Decision) → answer ≡ command_answer q from i said → new ≡ after_said q from (AnInterest whole i) said → IsRead answer.verdict
+      on_command : request_of q from i ≡ ForTables → (said : Decision) → answer ≡ command_answer q from (token_at octets) i said → new ≡ after_said q from (AnInterest whole i) said → IsRead answer.verdict
       on_command is (decided.Allowed rule) a e =
           let r = command_at i.name in
           let verdict : answer.verdict ≡ Allowed rule.0 (tables_status q from r) = ap (λ (x : Answer). x.verdict) a ∙ ap (λ (x : Request). Allowed rule.0 (allowed_reply q from i x).status) is in
@@ -147,23 +147,23 @@ module _ {V : Type 0} (see : Routes → V) (q : Policy) (command : Result PlainC
       on_repository is (decided.Denied rule reason) e = ap (λ (p : Policy). p.routes) e
       on_repository is decided.NoRule e = ap (λ (p : Policy). p.routes) e
 
-      list_not_done : (asked : ListAsked) → is_done (list_answer q from asked).verdict ≡ false
+      list_not_done : (asked : ListAsked) → is_done (list_answer q from (token_at octets) asked).verdict ≡ false
       list_not_done asked = by_version (is_present q asked.version)
         where
-          by_part : (part : Option (List ℕ × ℕ)) → is_done (segment_answer from (segment_name asked.kind q.table_number asked.segment) part).verdict ≡ false
+          by_part : (part : Option (List ℕ × ℕ)) → is_done (segment_answer from (token_at octets) (segment_name asked.kind q.table_number asked.segment) part).verdict ≡ false
           by_part None = refl
           by_part (Some part) = refl
 
-          by_version : (b : Bool) → is_done (cond b (segment_answer from (segment_name asked.kind q.table_number asked.segment) (segment_at (dataset_text q asked.kind) asked.segment)) (dropped NoSegment)).verdict ≡ false
+          by_version : (b : Bool) → is_done (cond b (segment_answer from (token_at octets) (segment_name asked.kind q.table_number asked.segment) (segment_at (dataset_text q asked.kind) asked.segment)) (dropped NoSegment)).verdict ≡ false
           by_version true = by_part (segment_at (dataset_text q asked.kind) asked.segment)
           by_version false = refl
 
       abbrev ReadsRequest : Request → Type 0
       ReadsRequest r =
-          request_of q from i ≡ r → RepliesToRequest seen from whole i answer r
+          request_of q from i ≡ r → RepliesToRequest seen from (token_at octets) whole i answer r
           → IsEffect q (Packet from now octets) new (cond (is_command r) (Some (AnInterest whole i)) None) → IsRead answer.verdict
 
-      interest_read : RepliesToRequest seen from whole i answer (request_of q from i) → IsEffect q (Packet from now octets) new (packet_to_decide q from (Ok (AnInterest whole i))) → IsRead answer.verdict
+      interest_read : RepliesToRequest seen from (token_at octets) whole i answer (request_of q from i) → IsEffect q (Packet from now octets) new (packet_to_decide q from (Ok (AnInterest whole i))) → IsRead answer.verdict
       interest_read replies effect =
           by_request q from i ReadsRequest
           (λ reason is h e. no_effect e answer.verdict (ap (λ (x : Answer). is_done x.verdict) h))
@@ -181,7 +181,7 @@ module _ {V : Type 0} (see : Routes → V) (q : Policy) (command : Result PlainC
     data_said from whole d (decided.Denied rule reason) e = no_change e
     data_said from whole d decided.NoRule e = no_change e
 
-    packet_read : (from now : ℕ) (octets : List ℕ) (read : Result PlainFrame PacketFault) → RepliesToPacket seen from read answer → IsEffect q (Packet from now octets) new (packet_to_decide q from read)
+    packet_read : (from now : ℕ) (octets : List ℕ) (read : Result PlainFrame PacketFault) → RepliesToPacket seen from (token_at octets) read answer → IsEffect q (Packet from now octets) new (packet_to_decide q from read)
         → see new.routes ≡ after (read_outcome from read answer.verdict) was
     packet_read from now octets (Err fault) h e = no_change e
     packet_read from now octets (Ok (AnInterest whole i)) h e = interest_read from now octets whole i h e ∙ command_read from whole i answer.verdict was
@@ -196,7 +196,7 @@ module _ {V : Type 0} (see : Routes → V) (q : Policy) (command : Result PlainC
     pub event_read : (event : PlainEvent) → Replies seen event answer → IsEffect q event new (decided_packet q event) → see new.routes ≡ after (outcome_of event answer.verdict) was
     event_read (Packet from now octets) h e = by_open (is_open from q.faces) h e
       where
-        by_open : (b : Bool) → WhereTrue b (RepliesToPacket seen from (frame_at octets) answer) (answer ≡ dropped NoFace)
+        by_open : (b : Bool) → WhereTrue b (RepliesToPacket seen from (token_at octets) (frame_at octets) answer) (answer ≡ dropped NoFace)
             → IsEffect q (Packet from now octets) new (cond b (packet_to_decide q from (frame_at octets)) None) → see new.routes ≡ after (read_outcome from (frame_at octets) answer.verdict) was
         by_open true h e = packet_read from now octets (frame_at octets) h e
         by_open false h e =

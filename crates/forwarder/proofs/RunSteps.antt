@@ -3,7 +3,7 @@ use Rattle.std.proofs.Common.{◌≡◌, ℕ, Bool, true, false, List, ap, subst
 use Rattle.std.specs.Prelude.{Option, Some, None, max, nat_le}
 use Rattle.std.specs.List.{All}
 use Rattle.std.specs.FinMap as map
-use Rattle.ndn_packets.specs.FrameReading.{frame_at}
+use Rattle.ndn_packets.specs.FrameReading.{frame_at, token_at}
 use Rattle.ndn_packets.specs.Key.{PlainKey, key_of}
 use Rattle.ndn_packets.specs.Packet.{PlainInterest, PlainFrame, AnInterest, AData, ANack, Idle}
 use Rattle.ndn_packets.specs.declared.fault.PacketFault.{PacketFault}
@@ -12,7 +12,7 @@ use Rattle.pit_fib.specs.Cause.{Expires, records_after}
 use Rattle.pit_fib.specs.Pit.{loops}
 use Rattle.pit_fib.specs.Records.{Records, records_at}
 use Rattle.content_store.specs.Store.{CachedData, Gives}
-use Rattle.forwarder.specs.Event.{PlainEvent, Packet, FaceUp, FaceDown, Tick, NewRules}
+use Rattle.forwarder.specs.Event.{PlainEvent, Packet, FaceUp, FaceDown, Tick, NewRules, Token}
 use Rattle.forwarder.specs.Faces.{is_open}
 use Rattle.forwarder.specs.Event.{moment}
 use Rattle.forwarder.specs.Verdict.{Answer, WhereTrue}
@@ -36,31 +36,31 @@ seen_with p records full gives = record { policy = p; records = records; is_full
 
 module _ (p : Policy) (records : PlainKey → Records) (full : Bool) (G H : PlainKey → Option (List ℕ) → Type 0)
     (more : (key : PlainKey) (given : Option (List ℕ)) → G key given → H key given) where
-  more_data : (face : ℕ) (whole : List ℕ) (i : PlainInterest) (answer : Answer)
-      → RepliesForData (seen_with p records full G) face whole i answer → RepliesForData (seen_with p records full H) face whole i answer
-  more_data face whole i answer =
+  more_data : (face : ℕ) (token : Token) (whole : List ℕ) (i : PlainInterest) (answer : Answer)
+      → RepliesForData (seen_with p records full G) face token whole i answer → RepliesForData (seen_with p records full H) face token whole i answer
+  more_data face token whole i answer =
       either_map (loops (records (key_of i)) face i.nonce) (λ h. h) (λ h. (h.0, more (key_of i) h.0 h.1, h.2))
 
-  more_request : (face : ℕ) (whole : List ℕ) (i : PlainInterest) (answer : Answer) (r : Request)
-      → RepliesToRequest (seen_with p records full G) face whole i answer r → RepliesToRequest (seen_with p records full H) face whole i answer r
-  more_request face whole i answer (Refused reason) h = h
-  more_request face whole i answer (ForList asked) h = h
-  more_request face whole i answer ForTables h = h
-  more_request face whole i answer ForRepository h = h
-  more_request face whole i answer ForData h = more_data face whole i answer h
+  more_request : (face : ℕ) (token : Token) (whole : List ℕ) (i : PlainInterest) (answer : Answer) (r : Request)
+      → RepliesToRequest (seen_with p records full G) face token whole i answer r → RepliesToRequest (seen_with p records full H) face token whole i answer r
+  more_request face token whole i answer (Refused reason) h = h
+  more_request face token whole i answer (ForList asked) h = h
+  more_request face token whole i answer ForTables h = h
+  more_request face token whole i answer ForRepository h = h
+  more_request face token whole i answer ForData h = more_data face token whole i answer h
 
-  more_packet : (face : ℕ) (read : Result PlainFrame PacketFault) (answer : Answer)
-      → RepliesToPacket (seen_with p records full G) face read answer → RepliesToPacket (seen_with p records full H) face read answer
-  more_packet face (Err fault) answer h = h
-  more_packet face (Ok (AnInterest whole i)) answer h = more_request face whole i answer (request_of p face i) h
-  more_packet face (Ok (AData whole d)) answer h = h
-  more_packet face (Ok (ANack reason whole i)) answer h = h
-  more_packet face (Ok Idle) answer h = h
+  more_packet : (face : ℕ) (token : Token) (read : Result PlainFrame PacketFault) (answer : Answer)
+      → RepliesToPacket (seen_with p records full G) face token read answer → RepliesToPacket (seen_with p records full H) face token read answer
+  more_packet face token (Err fault) answer h = h
+  more_packet face token (Ok (AnInterest whole i)) answer h = more_request face token whole i answer (request_of p face i) h
+  more_packet face token (Ok (AData whole d)) answer h = h
+  more_packet face token (Ok (ANack reason whole i)) answer h = h
+  more_packet face token (Ok Idle) answer h = h
 
   pub more_replies : (event : PlainEvent) (answer : Answer)
       → Replies (seen_with p records full G) event answer → Replies (seen_with p records full H) event answer
   more_replies (Packet face now octets) answer h =
-      either_map (is_open face p.faces) (more_packet face (frame_at octets) answer) (λ g. g) h
+      either_map (is_open face p.faces) (more_packet face (token_at octets) (frame_at octets) answer) (λ g. g) h
   more_replies (FaceUp face scope now) answer h = h
   more_replies (FaceDown face now) answer h = h
   more_replies (Tick now) answer h = h

@@ -2,10 +2,9 @@
 use Rattle.std.proofs.Common.{◌≡◌, ◌≢◌, ◌⊎◌, inl, inr, ℕ, suc, ◌<◌, ◌≤◌, Bool, true, false, cond, not, eqb, leb, ltb, List, [], ◌∷◌, length, Option, None, Some, Result, Ok, Err, refl, sym, ap, subst, ◌∙◌, arith}
 use Rattle.std.specs.Prelude.{map as map_list, max, ◌&&◌, ◌||◌, ◌==◌}
 use Rattle.std.proofs.lemmas.Bool.{eqb-true, eq-eqb, ne_eqb, leb-false}
-use Rattle.ndn_packets.specs.FrameReading.{frame_at}
+use Rattle.ndn_packets.specs.FrameReading.{frame_at, token_at}
 use Rattle.ndn_packets.specs.Key.{PlainKey, key_of}
 use Rattle.ndn_packets.specs.Packet.{PlainInterest, PlainData, PlainFrame, AnInterest, AData, ANack, Idle}
-use Rattle.ndn_packets.specs.Writing.{nack_text}
 use Rattle.ndn_packets.specs.declared.types.TheConstants.{DUPLICATE}
 use Rattle.ndn_packets.specs.declared.fault.PacketFault.{PacketFault}
 use Rattle.hmac_keys.specs.KeyFile.{NamedKey}
@@ -28,7 +27,7 @@ use Rattle.mgmt_core.specs.Tables.{AllAreUp}
 use Rattle.mgmt_core.proofs.OpenRoutes.{closing_leaves_up, command_leaves_up, expiry_leaves_up}
 use Rattle.pit_fib.specs.declared.faces.TheConstants.{MAX_FACES}
 use Rattle.forwarder.specs.declared.event.Scope.{Scope}
-use Rattle.forwarder.specs.Event.{PlainEvent, Packet, FaceUp, FaceDown, Tick, NewRules, Send, to_each}
+use Rattle.forwarder.specs.Event.{PlainEvent, Packet, FaceUp, FaceDown, Tick, NewRules, Send, to_each, Token, nacked_back}
 use Rattle.forwarder.specs.Faces.{FaceEntry, find_scope, is_open, numbers, with_face, without_entry}
 use Rattle.forwarder.specs.Verdict.{Verdict, WhereTrue, Passed, Allowed, DataAllowed, Denied, NoRule, Dropped, NoFace, NoSegment, PitFull, Loop, Answer, dropped, passed}
 use Rattle.forwarder.specs.Policy.{Policy, at_moment, open_faces, with_next_version}
@@ -101,10 +100,10 @@ sent_adds : (P : ℕ → Type 0) (key : PlainKey) (nonce : List ℕ) (now : ℕ)
 sent_adds P key nonce now [] all = tt
 sent_adds P key nonce now (sent ∷ sends) all = (λ f is. subst P (sym is) all.0, sent_adds P key nonce now sends all.1)
 
-interest_adds : (P : ℕ → Type 0) (now face : ℕ) (whole : List ℕ) (i : PlainInterest) (sends : List Send) → P face → SendsTo P sends
-    → AddOnly P (interest_causes now face whole i sends)
-interest_adds P now face whole i sends asker all =
-    let kept = Arrives (key_of i) face (in_record_for now whole i) ∷ map_list (λ (sent : Send). SentTo (key_of i) sent.0 i.nonce now) sends in
+interest_adds : (P : ℕ → Type 0) (now face : ℕ) (token : Token) (whole : List ℕ) (i : PlainInterest) (sends : List Send) → P face → SendsTo P sends
+    → AddOnly P (interest_causes now face token whole i sends)
+interest_adds P now face token whole i sends asker all =
+    let kept = Arrives (key_of i) face (in_record_for now token whole i) ∷ map_list (λ (sent : Send). SentTo (key_of i) sent.0 i.nonce now) sends in
     elim (is_nacked sends) as (λ b. AddOnly P (cond b (Withdrawn (key_of i) face ∷ []) (cond (is_answered face sends) [] kept))) [
       | true ↦ (λ f none. absurd none, tt)
       | false ↦ elim (is_answered face sends) as (λ b. AddOnly P (cond b [] kept)) [
@@ -121,53 +120,53 @@ nack_adds P face reason i (sent ∷ sends) = (λ f none. absurd none, (λ f none
 abbrev PassesTo : (ℕ → Type 0) → Answer → Type 0
 PassesTo P answer = answer.verdict ≡ Passed → SendsTo P answer.sends
 
-abbrev AreAdded : (ℕ → Type 0) → ℕ → ℕ → PlainFrame → Verdict → List Send → Type 0
-AreAdded P now face packet verdict sends = AddOnly P (causes_by now sends (packet_outcome face packet verdict))
+abbrev AreAdded : (ℕ → Type 0) → ℕ → ℕ → Token → PlainFrame → Verdict → List Send → Type 0
+AreAdded P now face token packet verdict sends = AddOnly P (causes_by now token sends (packet_outcome face packet verdict))
 
-of_interest : (P : ℕ → Type 0) (now face : ℕ) (whole : List ℕ) (i : PlainInterest) (verdict : Verdict) (sends : List Send) → P face
-    → (verdict ≡ Passed → SendsTo P sends) → AreAdded P now face (AnInterest whole i) verdict sends
-of_interest P now face whole i Passed sends asker all = interest_adds P now face whole i sends asker (all refl)
-of_interest P now face whole i (Allowed rule status) sends asker all = tt
-of_interest P now face whole i (DataAllowed rule) sends asker all = tt
-of_interest P now face whole i (Denied kind rule reason) sends asker all = tt
-of_interest P now face whole i (NoRule kind) sends asker all = tt
-of_interest P now face whole i (Dropped reason) sends asker all = tt
+of_interest : (P : ℕ → Type 0) (now face : ℕ) (token : Token) (whole : List ℕ) (i : PlainInterest) (verdict : Verdict) (sends : List Send) → P face
+    → (verdict ≡ Passed → SendsTo P sends) → AreAdded P now face token (AnInterest whole i) verdict sends
+of_interest P now face token whole i Passed sends asker all = interest_adds P now face token whole i sends asker (all refl)
+of_interest P now face token whole i (Allowed rule status) sends asker all = tt
+of_interest P now face token whole i (DataAllowed rule) sends asker all = tt
+of_interest P now face token whole i (Denied kind rule reason) sends asker all = tt
+of_interest P now face token whole i (NoRule kind) sends asker all = tt
+of_interest P now face token whole i (Dropped reason) sends asker all = tt
 
-of_data : (P : ℕ → Type 0) (now face : ℕ) (whole : List ℕ) (d : PlainData) (verdict : Verdict) (sends : List Send) → AreAdded P now face (AData whole d) verdict sends
-of_data P now face whole d Passed sends = tt
-of_data P now face whole d (Allowed rule status) sends = tt
-of_data P now face whole d (DataAllowed rule) sends = (λ f none. absurd none, tt)
-of_data P now face whole d (Denied kind rule reason) sends = tt
-of_data P now face whole d (NoRule kind) sends = tt
-of_data P now face whole d (Dropped reason) sends = tt
+of_data : (P : ℕ → Type 0) (now face : ℕ) (token : Token) (whole : List ℕ) (d : PlainData) (verdict : Verdict) (sends : List Send) → AreAdded P now face token (AData whole d) verdict sends
+of_data P now face token whole d Passed sends = tt
+of_data P now face token whole d (Allowed rule status) sends = tt
+of_data P now face token whole d (DataAllowed rule) sends = (λ f none. absurd none, tt)
+of_data P now face token whole d (Denied kind rule reason) sends = tt
+of_data P now face token whole d (NoRule kind) sends = tt
+of_data P now face token whole d (Dropped reason) sends = tt
 
-of_nack : (P : ℕ → Type 0) (now face reason : ℕ) (whole : List ℕ) (i : PlainInterest) (verdict : Verdict) (sends : List Send)
-    → AreAdded P now face (ANack reason whole i) verdict sends
-of_nack P now face reason whole i Passed sends = nack_adds P face reason i sends
-of_nack P now face reason whole i (Allowed rule status) sends = tt
-of_nack P now face reason whole i (DataAllowed rule) sends = tt
-of_nack P now face reason whole i (Denied kind rule why) sends = tt
-of_nack P now face reason whole i (NoRule kind) sends = tt
-of_nack P now face reason whole i (Dropped why) sends = tt
+of_nack : (P : ℕ → Type 0) (now face reason : ℕ) (token : Token) (whole : List ℕ) (i : PlainInterest) (verdict : Verdict) (sends : List Send)
+    → AreAdded P now face token (ANack reason whole i) verdict sends
+of_nack P now face reason token whole i Passed sends = nack_adds P face reason i sends
+of_nack P now face reason token whole i (Allowed rule status) sends = tt
+of_nack P now face reason token whole i (DataAllowed rule) sends = tt
+of_nack P now face reason token whole i (Denied kind rule why) sends = tt
+of_nack P now face reason token whole i (NoRule kind) sends = tt
+of_nack P now face reason token whole i (Dropped why) sends = tt
 
-of_idle : (P : ℕ → Type 0) (now face : ℕ) (verdict : Verdict) (sends : List Send) → AreAdded P now face Idle verdict sends
-of_idle P now face Passed sends = tt
-of_idle P now face (Allowed rule status) sends = tt
-of_idle P now face (DataAllowed rule) sends = tt
-of_idle P now face (Denied kind rule why) sends = tt
-of_idle P now face (NoRule kind) sends = tt
-of_idle P now face (Dropped why) sends = tt
+of_idle : (P : ℕ → Type 0) (now face : ℕ) (token : Token) (verdict : Verdict) (sends : List Send) → AreAdded P now face token Idle verdict sends
+of_idle P now face token Passed sends = tt
+of_idle P now face token (Allowed rule status) sends = tt
+of_idle P now face token (DataAllowed rule) sends = tt
+of_idle P now face token (Denied kind rule why) sends = tt
+of_idle P now face token (NoRule kind) sends = tt
+of_idle P now face token (Dropped why) sends = tt
 
-of_packet : (P : ℕ → Type 0) (now face : ℕ) (packet : PlainFrame) (answer : Answer) → P face → PassesTo P answer
-    → AddOnly P (packet_causes now face packet answer)
-of_packet P now face (AnInterest whole i) answer asker all = of_interest P now face whole i answer.verdict answer.sends asker all
-of_packet P now face (AData whole d) answer asker all = of_data P now face whole d answer.verdict answer.sends
-of_packet P now face (ANack reason whole i) answer asker all = of_nack P now face reason whole i answer.verdict answer.sends
-of_packet P now face Idle answer asker all = of_idle P now face answer.verdict answer.sends
+of_packet : (P : ℕ → Type 0) (now face : ℕ) (token : Token) (packet : PlainFrame) (answer : Answer) → P face → PassesTo P answer
+    → AddOnly P (packet_causes now face token packet answer)
+of_packet P now face token (AnInterest whole i) answer asker all = of_interest P now face token whole i answer.verdict answer.sends asker all
+of_packet P now face token (AData whole d) answer asker all = of_data P now face token whole d answer.verdict answer.sends
+of_packet P now face token (ANack reason whole i) answer asker all = of_nack P now face reason token whole i answer.verdict answer.sends
+of_packet P now face token Idle answer asker all = of_idle P now face token answer.verdict answer.sends
 
 -- ---- what is passed on goes to open faces
 
-module _ (seen : Seen) (P : ℕ → Type 0) (face : ℕ) (asker : P face) where
+module _ (seen : Seen) (P : ℕ → Type 0) (face : ℕ) (token : Token) (asker : P face) where
   drops : (reason : _) (answer : Answer) → answer ≡ dropped reason → PassesTo P answer
   drops reason answer is e = absurd (never (sym (ap (λ (a : Answer). a.verdict) is) ∙ e))
     where
@@ -178,73 +177,73 @@ module _ (seen : Seen) (P : ℕ → Type 0) (face : ℕ) (asker : P face) where
   back octets answer is e = subst (λ (a : Answer). SendsTo P a.sends) (sym is) (asker, tt)
 
 -- the present list, or a list of the past
-list_passes : (seen : Seen) (P : ℕ → Type 0) (face : ℕ) (asker : P face) (asked : ListAsked) (answer : Answer)
-    → answer ≡ list_answer seen.policy face asked → PassesTo P answer
-list_passes seen P face asker asked answer is =
+list_passes : (seen : Seen) (P : ℕ → Type 0) (face : ℕ) (token : Token) (asker : P face) (asked : ListAsked) (answer : Answer)
+    → answer ≡ list_answer seen.policy face token asked → PassesTo P answer
+list_passes seen P face token asker asked answer is =
     let p = seen.policy in
     let name = segment_name asked.kind p.table_number asked.segment in
     elim (is_present p asked.version) as
-    (λ b. answer ≡ cond b (segment_answer face name (segment_at (dataset_text p asked.kind) asked.segment)) (dropped NoSegment) → PassesTo P answer) [
+    (λ b. answer ≡ cond b (segment_answer face token name (segment_at (dataset_text p asked.kind) asked.segment)) (dropped NoSegment) → PassesTo P answer) [
       | true ↦ segment_passes (segment_at (dataset_text p asked.kind) asked.segment)
-      | false ↦ drops seen P face asker NoSegment answer
+      | false ↦ drops seen P face token asker NoSegment answer
     ] is
   where
-    segment_passes : (part : Option (List ℕ × ℕ)) → answer ≡ segment_answer face (segment_name asked.kind seen.policy.table_number asked.segment) part → PassesTo P answer
-    segment_passes None is = drops seen P face asker NoSegment answer is
-    segment_passes (Some part) is = back seen P face asker _ answer is
+    segment_passes : (part : Option (List ℕ × ℕ)) → answer ≡ segment_answer face token (segment_name asked.kind seen.policy.table_number asked.segment) part → PassesTo P answer
+    segment_passes None is = drops seen P face token asker NoSegment answer is
+    segment_passes (Some part) is = back seen P face token asker _ answer is
 
-command_passes : (P : ℕ → Type 0) (p : Policy) (face : ℕ) (i : PlainInterest) (said : Decision) (answer : Answer)
-    → answer ≡ command_answer p face i said → PassesTo P answer
-command_passes P p face i (decided.Allowed rule) answer is e = absurd (never (sym (ap (λ (a : Answer). a.verdict) is) ∙ e))
+command_passes : (P : ℕ → Type 0) (p : Policy) (face : ℕ) (token : Token) (i : PlainInterest) (said : Decision) (answer : Answer)
+    → answer ≡ command_answer p face token i said → PassesTo P answer
+command_passes P p face token i (decided.Allowed rule) answer is e = absurd (never (sym (ap (λ (a : Answer). a.verdict) is) ∙ e))
   where
     never : {r s : ℕ} → Allowed r s ≡ Passed → ⊥
     never e = absurd cc
-command_passes P p face i (decided.Denied rule reason) answer is e = absurd (never (sym (ap (λ (a : Answer). a.verdict) is) ∙ e))
+command_passes P p face token i (decided.Denied rule reason) answer is e = absurd (never (sym (ap (λ (a : Answer). a.verdict) is) ∙ e))
   where
     never : {k : _} {r : ℕ} {w : _} → Denied k r w ≡ Passed → ⊥
     never e = absurd cc
-command_passes P p face i decided.NoRule answer is e = absurd (never (sym (ap (λ (a : Answer). a.verdict) is) ∙ e))
+command_passes P p face token i decided.NoRule answer is e = absurd (never (sym (ap (λ (a : Answer). a.verdict) is) ∙ e))
   where
     never : {k : _} → NoRule k ≡ Passed → ⊥
     never e = absurd cc
 
-module _ (seen : Seen) (P : ℕ → Type 0) (face : ℕ) (asker : P face) (whole : List ℕ) (i : PlainInterest)
+module _ (seen : Seen) (P : ℕ → Type 0) (face : ℕ) (token : Token) (asker : P face) (whole : List ℕ) (i : PlainInterest)
     (chosen_are : (faces : List ℕ) (f : ℕ) → choice_for seen.policy i.name (moments (seen.records (key_of i)).out_records) (ask_from seen.policy face i) ≡ choices.Send faces
     → has_face f faces ≡ true → P f) where
   sent_passes : (full : Bool) (faces octets : List ℕ) (answer : Answer) → ((f : ℕ) → has_face f faces ≡ true → P f)
       → answer ≡ cond full (dropped PitFull) (passed (to_each faces octets)) → PassesTo P answer
-  sent_passes true faces octets answer all is e = drops seen P face asker PitFull answer is e
+  sent_passes true faces octets answer all is e = drops seen P face token asker PitFull answer is e
   sent_passes false faces octets answer all is e = subst (λ (a : Answer). SendsTo P a.sends) (sym is) (to_each_of P faces octets all)
 
   forwarded_passes : (choice : Choice) (answer : Answer)
       → choice_for seen.policy i.name (moments (seen.records (key_of i)).out_records) (ask_from seen.policy face i) ≡ choice
-      → answer ≡ by_strategy seen (key_of i) whole i face choice → PassesTo P answer
-  forwarded_passes choices.NoRoute answer chosen is = back seen P face asker _ answer is
+      → answer ≡ by_strategy seen (key_of i) whole i face token choice → PassesTo P answer
+  forwarded_passes choices.NoRoute answer chosen is = back seen P face token asker _ answer is
   forwarded_passes (choices.Send faces) answer chosen is =
       sent_passes (not (is_alive (seen.records (key_of i))) && seen.is_full) faces (sent_on whole i.hop_limit) answer (λ f has. chosen_are faces f chosen has) is
 
-  unserved_passes : (o : Option (List ℕ)) (answer : Answer) → answer ≡ by_repository seen face whole i o → PassesTo P answer
-  unserved_passes (Some octets) answer is = back seen P face asker octets answer is
+  unserved_passes : (o : Option (List ℕ)) (answer : Answer) → answer ≡ by_repository seen face token whole i o → PassesTo P answer
+  unserved_passes (Some octets) answer is = back seen P face token asker _ answer is
   unserved_passes None answer is = forwarded_passes _ answer refl is
 
-  cache_passes : (o : Option (List ℕ)) (answer : Answer) → answer ≡ by_content_store seen face whole i o → PassesTo P answer
-  cache_passes (Some octets) answer is = back seen P face asker octets answer is
+  cache_passes : (o : Option (List ℕ)) (answer : Answer) → answer ≡ by_content_store seen face token whole i o → PassesTo P answer
+  cache_passes (Some octets) answer is = back seen P face token asker _ answer is
   cache_passes None answer is = unserved_passes (served i.name i.can_be_prefix seen.policy.held.objects) answer is
 
   data_passes : (b : Bool) (answer : Answer)
-      → WhereTrue b (answer ≡ record { verdict = Dropped Loop; sends = (face, nack_text DUPLICATE whole) ∷ [] })
-      ((given : Option (List ℕ)) × seen.MayGive (key_of i) given × (answer ≡ by_content_store seen face whole i given)) → PassesTo P answer
+      → WhereTrue b (answer ≡ record { verdict = Dropped Loop; sends = nacked_back face token DUPLICATE whole ∷ [] })
+      ((given : Option (List ℕ)) × seen.MayGive (key_of i) given × (answer ≡ by_content_store seen face token whole i given)) → PassesTo P answer
   data_passes true answer is e = absurd (never (sym (ap (λ (a : Answer). a.verdict) is) ∙ e))
     where
       never : Dropped Loop ≡ Passed → ⊥
       never e = absurd cc
   data_passes false answer (given, may, is) e = cache_passes given answer is e
 
-  request_passes : (r : Request) (answer : Answer) → RepliesToRequest seen face whole i answer r → PassesTo P answer
-  request_passes (Refused reason) answer is = drops seen P face asker reason answer is
-  request_passes (ForList asked) answer is = list_passes seen P face asker asked answer is
-  request_passes ForTables answer (said, is_said, is) = command_passes P seen.policy face i said answer is
-  request_passes ForRepository answer (said, is_said, is) = command_passes P seen.policy face i said answer is
+  request_passes : (r : Request) (answer : Answer) → RepliesToRequest seen face token whole i answer r → PassesTo P answer
+  request_passes (Refused reason) answer is = drops seen P face token asker reason answer is
+  request_passes (ForList asked) answer is = list_passes seen P face token asker asked answer is
+  request_passes ForTables answer (said, is_said, is) = command_passes P seen.policy face token i said answer is
+  request_passes ForRepository answer (said, is_said, is) = command_passes P seen.policy face token i said answer is
   request_passes ForData answer is = data_passes (loops (seen.records (key_of i)) face i.nonce) answer is
 
 -- ---- what follows from events alone
@@ -389,32 +388,32 @@ module _ (old new : NodeState) (sound : IsSound old) where
         sym (has_numbers f old.policy.faces)
         ∙ chosen_up p (open_faces p) i.name (moments (records_at step.waiting (key_of i)).out_records) (ask_from p face i) faces f ((moment_keeps old.policy now).1 sound.routes) chosen has
 
-    frame_adds : (read : Result PlainFrame PacketFault) → Open face → RepliesToPacket (seen_in p step.waiting old.cache) face read answer
-        → AddOnly Open (causes_by p.now answer.sends (read_outcome face read answer.verdict))
+    frame_adds : (read : Result PlainFrame PacketFault) → Open face → RepliesToPacket (seen_in p step.waiting old.cache) face (token_at octets) read answer
+        → AddOnly Open (causes_by p.now (token_at octets) answer.sends (read_outcome face read answer.verdict))
     frame_adds (Err fault) here replies = tt
     frame_adds (Ok (AnInterest whole i)) here replies =
-        of_packet Open p.now face (AnInterest whole i) answer here
-        (request_passes (seen_in p step.waiting old.cache) Open face here whole i (chosen_open i) (request_of p face i) answer replies)
-    frame_adds (Ok (AData whole d)) here replies = of_data Open p.now face whole d answer.verdict answer.sends
-    frame_adds (Ok (ANack reason whole i)) here replies = of_nack Open p.now face reason whole i answer.verdict answer.sends
-    frame_adds (Ok Idle) here replies = of_idle Open p.now face answer.verdict answer.sends
+        of_packet Open p.now face (token_at octets) (AnInterest whole i) answer here
+        (request_passes (seen_in p step.waiting old.cache) Open face (token_at octets) here whole i (chosen_open i) (request_of p face i) answer replies)
+    frame_adds (Ok (AData whole d)) here replies = of_data Open p.now face (token_at octets) whole d answer.verdict answer.sends
+    frame_adds (Ok (ANack reason whole i)) here replies = of_nack Open p.now face reason (token_at octets) whole i answer.verdict answer.sends
+    frame_adds (Ok Idle) here replies = of_idle Open p.now face (token_at octets) answer.verdict answer.sends
 
     none_added : (read : Result PlainFrame PacketFault) (verdict : Verdict) (sends : List Send) → verdict ≡ Dropped NoFace
-        → AddOnly Open (causes_by p.now sends (read_outcome face read verdict))
+        → AddOnly Open (causes_by p.now (token_at octets) sends (read_outcome face read verdict))
     none_added (Err fault) verdict sends is = tt
     none_added (Ok packet) verdict sends is =
-        subst (λ (v : Verdict). AddOnly Open (causes_by p.now sends (packet_outcome face packet v))) (sym is) tt
+        subst (λ (v : Verdict). AddOnly Open (causes_by p.now (token_at octets) sends (packet_outcome face packet v))) (sym is) tt
 
     adds : (b : Bool) → is_open face old.policy.faces ≡ b
-        → WhereTrue b (RepliesToPacket (seen_in p step.waiting old.cache) face (frame_at octets) answer) (answer ≡ dropped NoFace)
-        → AddOnly Open (causes_by p.now answer.sends (read_outcome face (frame_at octets) answer.verdict))
+        → WhereTrue b (RepliesToPacket (seen_in p step.waiting old.cache) face (token_at octets) (frame_at octets) answer) (answer ≡ dropped NoFace)
+        → AddOnly Open (causes_by p.now (token_at octets) answer.sends (read_outcome face (frame_at octets) answer.verdict))
     adds true here replies = frame_adds (frame_at octets) here replies
     adds false closed is = none_added (frame_at octets) answer.verdict answer.sends (ap (λ (a : Answer). a.verdict) is)
 
     packet_sound : IsSound new
     packet_sound =
         same_faces keeps
-        (follows_within Open (causes_by p.now answer.sends (read_outcome face (frame_at octets) answer.verdict)) step.waiting new.pending
+        (follows_within Open (causes_by p.now (token_at octets) answer.sends (read_outcome face (frame_at octets) answer.verdict)) step.waiting new.pending
         (adds (is_open face old.policy.faces) refl step.replies) step.pending (waits_open p.now step.waiting step.expiry))
 
   tick_sound : (now : ℕ) (answer : Answer) → IsStep old (Tick now) answer new → IsSound new
@@ -489,11 +488,11 @@ module _ (old new : NodeState) (sound : IsSound old) where
     down_sound : IsSound new
     down_sound =
         elim (is_open face old.policy.faces) as (λ b. answer ≡ cond b (passed []) (dropped NoFace)
-        → FollowAll (causes_by at_closing.now answer.sends (closing_outcome face answer.verdict)) step.waiting new.pending
+        → FollowAll (causes_by at_closing.now None answer.sends (closing_outcome face answer.verdict)) step.waiting new.pending
         → new.policy ≡ cond b (with_next_version (record at_closing { faces = without_entry face old.policy.faces; routes = without_face at_closing.routes face })) at_closing
         → IsSound new) [
-          | true ↦ λ is follows policy. closed (subst (λ (v : Verdict). FollowAll (causes_by at_closing.now answer.sends (closing_outcome face v)) step.waiting new.pending) (ap (λ (a : Answer). a.verdict) is) follows) policy
-          | false ↦ λ is follows policy. not_open (subst (λ (v : Verdict). FollowAll (causes_by at_closing.now answer.sends (closing_outcome face v)) step.waiting new.pending) (ap (λ (a : Answer). a.verdict) is) follows) policy
+          | true ↦ λ is follows policy. closed (subst (λ (v : Verdict). FollowAll (causes_by at_closing.now None answer.sends (closing_outcome face v)) step.waiting new.pending) (ap (λ (a : Answer). a.verdict) is) follows) policy
+          | false ↦ λ is follows policy. not_open (subst (λ (v : Verdict). FollowAll (causes_by at_closing.now None answer.sends (closing_outcome face v)) step.waiting new.pending) (ap (λ (a : Answer). a.verdict) is) follows) policy
         ] step.replies step.pending step.policy
 
 pub step_sound : (old new : NodeState) (event : PlainEvent) (answer : Answer) → IsSound old → IsStep old event answer new → IsSound new

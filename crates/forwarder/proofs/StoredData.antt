@@ -12,7 +12,7 @@ use Rattle.repo_core.specs.Repo.{Held}
 use Rattle.repo_core.proofs.Stored.{command_objects, offer_objects}
 use Rattle.forwarder.specs.declared.state.State.{State}
 use Rattle.forwarder.specs.declared.verdict.Verdict as code
-use Rattle.forwarder.specs.Event.{PlainEvent, Send, moment}
+use Rattle.forwarder.specs.Event.{PlainEvent, Send, moment, Token}
 use Rattle.forwarder.specs.Policy.{Policy, at_moment}
 use Rattle.forwarder.specs.Request.{Request, Refused, ForList, ForTables, ForRepository, ForData, is_decided, request_of}
 use Rattle.forwarder.specs.Said.{recorded_of}
@@ -63,11 +63,11 @@ undecided_stores old new event is h =
     subst (λ (s : Held). AreObjects s.objects) (sym (ap (λ (p : Policy). p.held) is ∙ undecided_stored (at_moment old (moment event)) event)) h
 
 -- after a packet
-pub handled_stores : (old new : State) (before after : List Send) (face now : ℕ) (packet : PlainFrame) (r : Result code.Verdict Memory)
-    → HandlesPacket old new before after face now packet r → IsReadAsData packet → AreObjects old.repo.held.objects → AreObjects new.repo.held.objects
-handled_stores old new before after face now packet (Ok verdict) done read h = by_answer done.handled
+pub handled_stores : (old new : State) (before after : List Send) (face : ℕ) (token : Token) (now : ℕ) (packet : PlainFrame) (r : Result code.Verdict Memory)
+    → HandlesPacket old new before after face token now packet r → IsReadAsData packet → AreObjects old.repo.held.objects → AreObjects new.repo.held.objects
+handled_stores old new before after face token now packet (Ok verdict) done read h = by_answer done.handled
   where
-    by_answer : IsHandled old new before after face now packet verdict → AreObjects new.repo.held.objects
+    by_answer : IsHandled old new before after face token now packet verdict → AreObjects new.repo.held.objects
     by_answer (was, sends, sent, later, answered) =
         effect_stores was.policy (policy_of new) face packet (is_decided was.policy face packet) answered.policy read (subst StoresData (sym later.policy) h)
-handled_stores old new before after face now packet (Err memory) done read h = subst StoresData (sym done.memory.0.policy) h
+handled_stores old new before after face token now packet (Err memory) done read h = subst StoresData (sym done.memory.0.policy) h

@@ -7,7 +7,7 @@ use Rattle.pit_fib.specs.declared.pit.TheConstants.{MAX_PENDING}
 use Rattle.pit_fib.specs.Cause.{Expires, records_after}
 use Rattle.pit_fib.specs.Records.{Records, Pending, records_at}
 use Rattle.content_store.specs.Store.{CachedData}
-use Rattle.forwarder.specs.Event.{PlainEvent, Tick}
+use Rattle.forwarder.specs.Event.{PlainEvent, Tick, token_in}
 use Rattle.forwarder.specs.Event.{moment}
 use Rattle.forwarder.specs.Verdict.{Answer, passed}
 use Rattle.forwarder.specs.Policy.{Policy, at_moment}
@@ -37,7 +37,7 @@ now_ticks (Then before event answer) (Then other another reply) (t, inr (d, e, a
 
 idle_records : (now : ℕ) (event : PlainEvent) (answer : Answer) (key : PlainKey) (r : Records) → is_denied answer.verdict ≡ true
     → next_records now event answer key r ≡ records_after (Expires now) key r
-idle_records now event answer key r d = ap (λ (o : Outcome). after_causes (causes_by now answer.sends o) key (records_after (Expires now) key r)) (denied_outcome event answer.verdict d)
+idle_records now event answer key r d = ap (λ (o : Outcome). after_causes (causes_by now (token_in event) answer.sends o) key (records_after (Expires now) key r)) (denied_outcome event answer.verdict d)
 
 records_ticks : (past other : Run) → HasTicksFor past other → (key : PlainKey) → records_of other key ≡ records_of past key
 records_ticks Start Start t key = refl

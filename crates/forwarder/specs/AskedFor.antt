@@ -8,7 +8,7 @@ use Rattle.ndn_packets.specs.Key.{PlainKey}
 use Rattle.ndn_packets.specs.Packet.{PlainInterest, PlainData, PlainFrame, AnInterest, AData}
 use Rattle.pit_fib.specs.Cause.{Expires, records_after}
 use Rattle.pit_fib.specs.Records.{InRecord}
-use Rattle.forwarder.specs.Event.{PlainEvent, Packet, moment}
+use Rattle.forwarder.specs.Event.{PlainEvent, Packet, Send, moment, sent_back, token_in}
 use Rattle.forwarder.specs.Policy.{Policy, at_moment}
 use Rattle.forwarder.specs.Allowed.{AllowedIn, Allows}
 use Rattle.forwarder.specs.Runs.{Run, now_of, records_of}
@@ -36,26 +36,28 @@ IsOwnAnswer p face asked i octets =
     IsReplyToCommand p face asked i octets ⊎ IsSegmentAskedFor p face i octets
 
 -- the Data answers this Interest, and came in an earlier event that allowed it; or the node made it
-abbrev pub AnswersNow : Policy → Run → Policy → ℕ → List ℕ → PlainInterest → List ℕ → List ℕ
-    → PlainData → Type 0
-AnswersNow first past p face asked i octets whole d =
+abbrev pub AnswersNow : Policy → Run → Policy → ℕ → List ℕ → PlainInterest → List ℕ → PlainData
+    → Type 0
+AnswersNow first past p face asked i whole d =
     (IsTrue (answers d.name (sha256 whole) i.name i.can_be_prefix)
     × AllowedIn first past (AData whole d))
-    ⊎ IsOwnAnswer p face asked i octets
+    ⊎ IsOwnAnswer p face asked i whole
 
--- Where the run left this policy, the face asked for the Data that these octets hold. Either the
--- event brings it and allows it, and an Interest of the face is pending that it answers; or the event
--- brings an Interest on the face itself, and the Data answers that, or is the node's own answer.
-abbrev pub WasAskedFor : Policy → Run → Policy → PlainEvent → ℕ → List ℕ → List ℕ → PlainData
-    → Type 0
-WasAskedFor first past was event face octets whole d =
+-- Where the run left this policy, the face asked for this Data. Either the event brings it and allows
+-- it, and an Interest of the face is pending that it answers; or the event brings an Interest on the
+-- face itself, and the Data answers that, or is the node's own answer.
+abbrev pub WasAskedFor : Policy → Run → Policy → PlainEvent → ℕ → List ℕ → PlainData → Type 0
+WasAskedFor first past was event face whole d =
     (Allows was event (AData whole d)
     × IsPendingFor past (max (now_of past) (moment event)) face whole d)
     ⊎ ((asked : List ℕ) × (i : PlainInterest) × BringsPacketOn event face (AnInterest asked i)
-    × AnswersNow first past (at_moment was (moment event)) face asked i octets whole d)
+    × AnswersNow first past (at_moment was (moment event)) face asked i whole d)
 
--- the event brings an Interest on this face, and the octets are the node's own answer to it
-abbrev pub AnswersItself : Policy → PlainEvent → ℕ → List ℕ → Type 0
-AnswersItself was event face octets =
-    (asked : List ℕ) × (i : PlainInterest) × BringsPacketOn event face (AnInterest asked i)
-    × IsOwnAnswer (at_moment was (moment event)) face asked i octets
+-- the event brings an Interest on this face, and what is sent is the node's own answer to it, with
+-- its token
+abbrev pub AnswersItself : Policy → PlainEvent → Send → Type 0
+AnswersItself was event sent =
+    (asked packet : List ℕ) × (i : PlainInterest)
+    × BringsPacketOn event sent.0 (AnInterest asked i)
+    × IsOwnAnswer (at_moment was (moment event)) sent.0 asked i packet
+    × (sent ≡ sent_back sent.0 (token_in event) packet)

@@ -10,7 +10,7 @@ use Rattle.ndn_packets.specs.Packet.{PlainInterest, PlainFrame, AnInterest, ADat
 use Rattle.ndn_packets.specs.declared.fault.PacketFault.{PacketFault}
 use Rattle.pit_fib.specs.Cause.{Cause, Arrives, SentTo, Satisfied, NackCame, Withdrawn, Removed, Closed, records_after}
 use Rattle.pit_fib.specs.Records.{InRecord, Records}
-use Rattle.forwarder.specs.Event.{PlainEvent, Send}
+use Rattle.forwarder.specs.Event.{PlainEvent, Send, Token, token_in}
 use Rattle.forwarder.specs.Outcome.{Outcome, Nothing, InterestPassed, CommandAllowed, DataCame, NackPassed, FaceClosed, outcome_of}
 use Rattle.forwarder.specs.Verdict.{Answer}
 
@@ -18,10 +18,14 @@ use Rattle.forwarder.specs.Verdict.{Answer}
 abbrev pub deadline : ℕ → ℕ → ℕ
 deadline now lifetime = min (now + lifetime) (2 ^ 64 - 1)
 
--- the in-record of an Interest that came now, until its lifetime is over
-abbrev pub in_record_for : ℕ → List ℕ → PlainInterest → InRecord
-in_record_for now whole i =
-    record { interest = whole; nonce = i.nonce; deadline = deadline now i.lifetime }
+-- the in-record of an Interest that came now with a token, until its lifetime is over
+abbrev pub in_record_for : ℕ → Token → List ℕ → PlainInterest → InRecord
+in_record_for now token whole i = record {
+  interest = whole;
+  nonce = i.nonce;
+  deadline = deadline now i.lifetime;
+  token = token;
+}
 
 -- whether something went back to the face: a Data, or a Nack
 abbrev pub is_answered : ℕ → List Send → Bool
@@ -47,12 +51,12 @@ sent_causes key nonce now faces = map (λ face. SentTo key face nonce now) faces
 
 -- An Interest that is passed is kept where nothing went back to its face: it waits there, and was
 -- sent to each of the faces. Where a Nack went back, the face waits under its key no more.
-abbrev pub interest_causes : ℕ → ℕ → List ℕ → PlainInterest → List Send → List Cause
-interest_causes now face whole i sends =
+abbrev pub interest_causes : ℕ → ℕ → Token → List ℕ → PlainInterest → List Send → List Cause
+interest_causes now face token whole i sends =
     let key = key_of i in
     if is_nacked sends then Withdrawn key face ∷ [] else (
     if is_answered face sends then [] else
-    Arrives key face (in_record_for now whole i)
+    Arrives key face (in_record_for now token whole i)
     ∷ map (λ (sent : Send). SentTo key sent.0 i.nonce now) sends)
 
 -- A Nack that is passed has its reason kept; where it was sent on, nobody waits any more.
@@ -62,18 +66,20 @@ nack_causes face reason i sends =
     ∷ (if is_nil sends then [] else Removed (key_of i) ∷ [])
 
 -- All that an allowed Data answers was answered, sent or not.
-abbrev pub causes_by : ℕ → List Send → Outcome → List Cause
-causes_by now sends Nothing = []
-causes_by now sends (InterestPassed face whole i) = interest_causes now face whole i sends
-causes_by now sends (CommandAllowed face i status) = []
-causes_by now sends (DataCame whole d) = Satisfied d.name (sha256 whole) ∷ []
-causes_by now sends (NackPassed face reason i) = nack_causes face reason i sends
-causes_by now sends (FaceClosed face) = Closed face ∷ []
+abbrev pub causes_by : ℕ → Token → List Send → Outcome → List Cause
+causes_by now token sends Nothing = []
+causes_by now token sends (InterestPassed face whole i) =
+    interest_causes now face token whole i sends
+causes_by now token sends (CommandAllowed face i status) = []
+causes_by now token sends (DataCame whole d) = Satisfied d.name (sha256 whole) ∷ []
+causes_by now token sends (NackPassed face reason i) = nack_causes face reason i sends
+causes_by now token sends (FaceClosed face) = Closed face ∷ []
 
 -- the causes of an event and its answer in their order, at this moment, where what was due has
 -- expired
 abbrev pub causes_of : ℕ → PlainEvent → Answer → List Cause
-causes_of now event answer = causes_by now answer.sends (outcome_of event answer.verdict)
+causes_of now event answer =
+    causes_by now (token_in event) answer.sends (outcome_of event answer.verdict)
 
 -- the records of a key after these causes, in their order
 abbrev pub after_causes : List Cause → PlainKey → Records → Records

@@ -3,7 +3,7 @@
 use Rattle.std.specs.Prelude.{◌≡◌, ◌∷◌, ◌++◌, ℕ, List}
 use Rattle.ndn_packets.specs.Packet.{PlainInterest}
 use Rattle.forwarder.specs.declared.state.State.{State}
-use Rattle.forwarder.specs.Event.{Send}
+use Rattle.forwarder.specs.Event.{Send, Token}
 use Rattle.mgmt_core.specs.Reading.{command_at}
 use Rattle.forwarder.specs.Cache.{CacheAfter, CacheUse, Untouched, command_use}
 use Rattle.forwarder.specs.Request.{Request, Refused, ForList, ForTables, ForRepository, ForData}
@@ -22,11 +22,11 @@ request_use i status ForData = Untouched
 
 -- an allowed command that is this request was answered and had its effect, at whose moment the node
 -- was this
-pub record IsCommanded (was : NodeState) (face : ℕ) (i : PlainInterest) (request : Request)
-    (status : ℕ) (sends : List Send) (new : NodeState) : Type 0 where
+pub record IsCommanded (was : NodeState) (face : ℕ) (token : Token) (i : PlainInterest)
+    (request : Request) (status : ℕ) (sends : List Send) (new : NodeState) : Type 0 where
   pub answered : status ≡ (allowed_reply was.policy face i request).status
   pub sent : sends
-      ≡ replied face i (allowed_reply was.policy face i request).content
+      ≡ replied face token i (allowed_reply was.policy face i request).content
       ∷ (allowed_reply was.policy face i request).fetches
   pub policy : new.policy ≡ with_record (after_request was.policy face i request) (recorded_of i)
   pub pending : new.pending ≡ was.pending
@@ -34,9 +34,9 @@ pub record IsCommanded (was : NodeState) (face : ℕ) (i : PlainInterest) (reque
       was.cache new.cache
 
 -- the sends stand after the earlier ones
-abbrev pub IsCarriedOut : State → State → List Send → List Send → ℕ → ℕ → PlainInterest → Request
-    → ℕ → Type 0
-IsCarriedOut old new before after face moment i request status =
+abbrev pub IsCarriedOut : State → State → List Send → List Send → ℕ → Token → ℕ → PlainInterest
+    → Request → ℕ → Type 0
+IsCarriedOut old new before after face token moment i request status =
     (was : NodeState) × (sends : List Send) × (after ≡ before ++ sends)
     × IsLater (state_of old) moment was
-    × IsCommanded was face i request status sends (state_of new)
+    × IsCommanded was face token i request status sends (state_of new)

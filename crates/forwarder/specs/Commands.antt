@@ -31,8 +31,7 @@ use Rattle.repo_core.specs.Commands.{repo_text_of}
 use Rattle.repo_core.specs.Reading.{repo_command_at}
 use Rattle.repo_core.specs.Repo.{after_command, reply_to}
 use Rattle.repo_core.specs.Writing.{repo_response}
-use Rattle.forwarder.specs.Event.{Send}
-use Rattle.forwarder.specs.Event.{to_each}
+use Rattle.forwarder.specs.Event.{Send, Token, sent_back, to_each}
 use Rattle.forwarder.specs.Policy.{Policy, open_faces, with_next_version}
 use Rattle.forwarder.specs.Request.{Request, Refused, ForList, ForTables, ForRepository, ForData, request_of}
 use Rattle.forwarder.specs.Said.{recorded_of}
@@ -146,8 +145,8 @@ abbrev pub denial_text : Policy → ℕ → Reason → List ℕ
 denial_text p rule reason = reason_name reason ++ (codes " by " ++ id_of p.rules rule)
 
 -- a Data of the command's name, on the face that the command came from
-abbrev pub replied : ℕ → PlainInterest → List ℕ → Send
-replied face i content = (face, reply_text i.name content)
+abbrev pub replied : ℕ → Token → PlainInterest → List ℕ → Send
+replied face token i content = sent_back face token (reply_text i.name content)
 
 -- the Content of the reply to a command, of which this is said
 abbrev pub reply_content : Policy → ℕ → PlainInterest → Decision → List ℕ
@@ -158,37 +157,37 @@ reply_content p face i (decided.Denied rule reason) =
 reply_content p face i decided.NoRule = refused_content (request_of p face i) (codes "no rule")
 
 -- how a command is answered, of which this is said
-abbrev pub command_answer : Policy → ℕ → PlainInterest → Decision → Answer
-command_answer p face i (decided.Allowed rule) =
+abbrev pub command_answer : Policy → ℕ → Token → PlainInterest → Decision → Answer
+command_answer p face token i (decided.Allowed rule) =
     let reply = allowed_reply p face i (request_of p face i) in
     record {
       verdict = Allowed rule.0 reply.status;
-      sends = replied face i (reply_content p face i (decided.Allowed rule)) ∷ reply.fetches;
+      sends = replied face token i (reply_content p face i (decided.Allowed rule)) ∷ reply.fetches;
     }
-command_answer p face i (decided.Denied rule reason) = record {
+command_answer p face token i (decided.Denied rule reason) = record {
   verdict = Denied kinds.Interest rule.0 reason;
-  sends = replied face i (reply_content p face i (decided.Denied rule reason)) ∷ [];
+  sends = replied face token i (reply_content p face i (decided.Denied rule reason)) ∷ [];
 }
-command_answer p face i decided.NoRule = record {
+command_answer p face token i decided.NoRule = record {
   verdict = NoRule kinds.Interest;
-  sends = replied face i (reply_content p face i decided.NoRule) ∷ [];
+  sends = replied face token i (reply_content p face i decided.NoRule) ∷ [];
 }
 
 -- How a packet that is denied, or that no rule applies to, is answered: a command by a reply of
 -- status 403, which names the reason and the rule, and a Data by nothing. No other packet is denied.
-abbrev pub IsDenial : Policy → ℕ → PlainFrame → Decision → Answer → Type 0
-IsDenial p face (AnInterest whole i) (decided.Allowed rule) answer = ⊥
-IsDenial p face (AnInterest whole i) (decided.Denied rule reason) answer =
-    answer ≡ command_answer p face i (decided.Denied rule reason)
-IsDenial p face (AnInterest whole i) decided.NoRule answer =
-    answer ≡ command_answer p face i decided.NoRule
-IsDenial p face (AData whole d) (decided.Allowed rule) answer = ⊥
-IsDenial p face (AData whole d) (decided.Denied rule reason) answer =
+abbrev pub IsDenial : Policy → ℕ → Token → PlainFrame → Decision → Answer → Type 0
+IsDenial p face token (AnInterest whole i) (decided.Allowed rule) answer = ⊥
+IsDenial p face token (AnInterest whole i) (decided.Denied rule reason) answer =
+    answer ≡ command_answer p face token i (decided.Denied rule reason)
+IsDenial p face token (AnInterest whole i) decided.NoRule answer =
+    answer ≡ command_answer p face token i decided.NoRule
+IsDenial p face token (AData whole d) (decided.Allowed rule) answer = ⊥
+IsDenial p face token (AData whole d) (decided.Denied rule reason) answer =
     answer ≡ record { verdict = Denied kinds.Data rule.0 reason; sends = [] }
-IsDenial p face (AData whole d) decided.NoRule answer =
+IsDenial p face token (AData whole d) decided.NoRule answer =
     answer ≡ record { verdict = NoRule kinds.Data; sends = [] }
-IsDenial p face (ANack reason whole i) said answer = ⊥
-IsDenial p face Idle said answer = ⊥
+IsDenial p face token (ANack reason whole i) said answer = ⊥
+IsDenial p face token Idle said answer = ⊥
 
 -- the signer, time and number of an allowed command are recorded
 abbrev pub with_record : Policy → Option Recorded → Policy

@@ -6,6 +6,7 @@ use Rattle.ndn_names.specs.declared.component_type.TheConstants.{SEGMENT, VERSIO
 use Rattle.ndn_packets.specs.declared.signature.Sign.TheVariants as sign
 use Rattle.ndn_packets.specs.Writing.{meta_fields, meta_of, signed_data}
 use Rattle.mgmt_core.specs.Writing.{fib_text, segment_at, strategy_text}
+use Rattle.forwarder.specs.Event.{Token, sent_back}
 use Rattle.forwarder.specs.Policy.{Policy}
 use Rattle.forwarder.specs.Request.{ListKind, RouteList, StrategyList, ListAsked, list_name}
 use Rattle.forwarder.specs.Verdict.{Answer, NoSegment, dropped, passed}
@@ -29,9 +30,10 @@ segment_data name content last =
     signed_data sign.Digest name (meta_of (meta_fields (Some LIST_FRESHNESS) (Some last)))
     (Some content)
 
-abbrev pub segment_answer : ℕ → List Field → Option (List ℕ × ℕ) → Answer
-segment_answer face name None = dropped NoSegment
-segment_answer face name (Some part) = passed ((face, segment_data name part.0 part.1) ∷ [])
+abbrev pub segment_answer : ℕ → Token → List Field → Option (List ℕ × ℕ) → Answer
+segment_answer face token name None = dropped NoSegment
+segment_answer face token name (Some part) =
+    passed (sent_back face token (segment_data name part.0 part.1) ∷ [])
 
 -- the version that is asked for is the present one, or none is
 abbrev pub is_present : Policy → Option ℕ → Bool
@@ -39,14 +41,14 @@ is_present p None = true
 is_present p (Some version) = version == p.table_number
 
 -- how an Interest for a segment is answered
-abbrev pub list_answer : Policy → ℕ → ListAsked → Answer
-list_answer p face asked =
+abbrev pub list_answer : Policy → ℕ → Token → ListAsked → Answer
+list_answer p face token asked =
     if is_present p asked.version
-    then segment_answer face (segment_name asked.kind p.table_number asked.segment)
+    then segment_answer face token (segment_name asked.kind p.table_number asked.segment)
     (segment_at (dataset_text p asked.kind) asked.segment)
     else dropped NoSegment
 
 -- an answer with a segment's octets, if there are some
-abbrev pub answered_with : ℕ → Option (List ℕ) → Answer
-answered_with face None = dropped NoSegment
-answered_with face (Some octets) = passed ((face, octets) ∷ [])
+abbrev pub answered_with : ℕ → Token → Option (List ℕ) → Answer
+answered_with face token None = dropped NoSegment
+answered_with face token (Some octets) = passed (sent_back face token octets ∷ [])

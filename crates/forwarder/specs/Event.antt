@@ -1,7 +1,9 @@
 -- Events and what is sent, as plain data.
-use Rattle.std.specs.Prelude.{ℕ, List, map}
+use Rattle.std.specs.Prelude.{ℕ, List, map, Option, None, Some}
 use Rattle.hmac_keys.specs.KeyFile.{NamedKey}
 use Rattle.info_rules.specs.Rule.{PlainRule}
+use Rattle.ndn_packets.specs.FrameReading.{token_at}
+use Rattle.ndn_packets.specs.Writing.{lp_text}
 use Rattle.forwarder.specs.declared.event.Scope.{Scope}
 use Rattle.forwarder.specs.declared.event.Event.{Event}
 use Rattle.forwarder.specs.declared.event.Event.TheVariants as code
@@ -45,9 +47,29 @@ rules_after (FaceDown face now) rules = rules
 rules_after (Tick now) rules = rules
 rules_after (NewRules new keys now) rules = new
 
+-- the PIT token of an Interest, if it has one (NDNLPv2, "PIT Token")
+abbrev pub Token : Type 0
+Token = Option (List ℕ)
+
+-- the token of the link packet that an event brings
+abbrev pub token_in : PlainEvent → Token
+token_in (Packet face now octets) = token_at octets
+token_in (FaceUp face scope now) = None
+token_in (FaceDown face now) = None
+token_in (Tick now) = None
+token_in (NewRules rules keys now) = None
+
 -- octets that go to a face
 abbrev pub Send : Type 0
 Send = ℕ × List ℕ
+
+-- a packet goes back to a face that asked, with the token of its Interest
+abbrev pub sent_back : ℕ → Token → List ℕ → Send
+sent_back face token packet = (face, lp_text token None packet)
+
+-- a Nack of a reason goes back around the Interest, with its token
+abbrev pub nacked_back : ℕ → Token → ℕ → List ℕ → Send
+nacked_back face token reason whole = (face, lp_text token (Some reason) whole)
 
 -- the octets to each of these faces
 abbrev pub to_each : List ℕ → List ℕ → List Send

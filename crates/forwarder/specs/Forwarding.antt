@@ -8,7 +8,7 @@ use Rattle.pit_fib.specs.Records.{HoldsTheLiving, records_at}
 use Rattle.strategies.specs.declared.strategy.Choice.{Choice}
 use Rattle.forwarder.specs.declared.state.State.{State}
 use Rattle.forwarder.specs.declared.verdict.Verdict as code
-use Rattle.forwarder.specs.Event.{Send}
+use Rattle.forwarder.specs.Event.{Send, Token}
 use Rattle.forwarder.specs.Verdict.{Answer, verdict_of}
 use Rattle.forwarder.specs.Handling.{packet_causes, seen_by}
 use Rattle.forwarder.specs.NextHops.{ask_from, choice_for}
@@ -23,18 +23,18 @@ choice_from s face i =
     (ask_from s.policy face i)
 
 -- an Interest was sent on by this choice
-pub record IsForwarded (was : NodeState) (face : ℕ) (whole : List ℕ) (i : PlainInterest)
-    (choice : Choice) (answer : Answer) (new : NodeState) : Type 0 where
-  pub replied : answer ≡ by_strategy (seen_by was) (key_of i) whole i face choice
-  pub pending : FollowAll (packet_causes was.policy.now face (AnInterest whole i) answer)
+pub record IsForwarded (was : NodeState) (face : ℕ) (token : Token) (whole : List ℕ)
+    (i : PlainInterest) (choice : Choice) (answer : Answer) (new : NodeState) : Type 0 where
+  pub replied : answer ≡ by_strategy (seen_by was) (key_of i) whole i face token choice
+  pub pending : FollowAll (packet_causes was.policy.now face token (AnInterest whole i) answer)
       was.pending new.pending
   pub alive : HoldsTheLiving new.pending
   pub policy : new.policy ≡ was.policy
   pub cache : new.cache ≡ was.cache
 
-abbrev pub ForwardsBy : State → State → List Send → List Send → ℕ → List ℕ → PlainInterest
-    → Choice → code.Verdict → Type 0
-ForwardsBy old new before after face whole i choice verdict =
+abbrev pub ForwardsBy : State → State → List Send → List Send → ℕ → Token → List ℕ
+    → PlainInterest → Choice → code.Verdict → Type 0
+ForwardsBy old new before after face token whole i choice verdict =
     (sends : List Send) × (after ≡ before ++ sends)
-    × IsForwarded (state_of old) face whole i choice
+    × IsForwarded (state_of old) face token whole i choice
     (record { verdict = verdict_of verdict; sends = sends }) (state_of new)

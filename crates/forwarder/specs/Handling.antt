@@ -1,9 +1,13 @@
 -- One step by a packet that came on an open face and was read: its moment comes, and then it is
 -- answered and has its effect.
-use Rattle.std.specs.Prelude.{◌≡◌, ◌++◌, ℕ, List, Bool, true, false, Result, Ok, IfOk, OnErr}
+use Rattle.std.specs.Prelude.{◌≡◌, ◌++◌, ℕ, List, Bool, true, false, Option, Result, Ok, IfOk, IfSome, OnErr}
+use Rattle.std.specs.Borrow.{Bor}
+use Rattle.std.specs.Option.{option_map}
 use Rattle.ndn_tlv.specs.declared.memory.Memory.{Memory}
+use Rattle.ndn_packets.specs.Link.{IsToken}
 use Rattle.ndn_packets.specs.Packet.{PlainFrame, AnInterest, AData}
 use Rattle.ndn_packets.specs.View.{plain_data, plain_interest}
+use Rattle.ndn_packets.specs.Writing.{AreOctets}
 use Rattle.ndn_packets.specs.declared.data.Data.{Data}
 use Rattle.ndn_packets.specs.declared.interest.Interest.{Interest}
 use Rattle.info_rules.specs.declared.decision.Decision.{Decision}
@@ -12,7 +16,7 @@ use Rattle.pit_fib.specs.Records.{HoldsTheLiving}
 use Rattle.repo_core.specs.Objects.{AreObjects}
 use Rattle.forwarder.specs.declared.state.State.{State}
 use Rattle.forwarder.specs.declared.verdict.Verdict as code
-use Rattle.forwarder.specs.Event.{Send}
+use Rattle.forwarder.specs.Event.{Send, Token}
 use Rattle.forwarder.specs.Faces.{is_open}
 use Rattle.forwarder.specs.Verdict.{Answer, Verdict, verdict_of}
 use Rattle.forwarder.specs.Policy.{Policy}
@@ -36,33 +40,38 @@ abbrev pub seen_by : NodeState → Seen
 seen_by s = seen_in s.policy s.pending s.cache
 
 -- what a packet and its answer do to records, and ask the cache for
-abbrev pub packet_causes : ℕ → ℕ → PlainFrame → Answer → List Cause
-packet_causes now face packet answer =
-    causes_by now answer.sends (packet_outcome face packet answer.verdict)
+abbrev pub packet_causes : ℕ → ℕ → Token → PlainFrame → Answer → List Cause
+packet_causes now face token packet answer =
+    causes_by now token answer.sends (packet_outcome face packet answer.verdict)
 
 abbrev pub packet_use : ℕ → ℕ → PlainFrame → Verdict → CacheUse
 packet_use now face packet verdict = cache_use now (packet_outcome face packet verdict)
 
--- a packet was answered and had its effect, at whose moment the node was this
-pub record IsAnswered (was : NodeState) (face : ℕ) (packet : PlainFrame) (answer : Answer)
-    (new : NodeState) : Type 0 where
-  pub replies : RepliesToPacket (seen_by was) face (Ok packet) answer
+-- a packet that came with this token was answered and had its effect, at whose moment the node was
+-- this
+pub record IsAnswered (was : NodeState) (face : ℕ) (token : Token) (packet : PlainFrame)
+    (answer : Answer) (new : NodeState) : Type 0 where
+  pub replies : RepliesToPacket (seen_by was) face token (Ok packet) answer
   pub policy : IsPacketEffect was.policy face packet new.policy
       (is_decided was.policy face packet)
-  pub pending : FollowAll (packet_causes was.policy.now face packet answer)
+  pub pending : FollowAll (packet_causes was.policy.now face token packet answer)
       was.pending new.pending
   pub alive : HoldsTheLiving new.pending
   pub cache : CacheAfter was.policy.now was.pending
       (packet_use was.policy.now face packet answer.verdict) was.cache new.cache
 
 -- the sends stand after the earlier ones
-abbrev pub IsHandled : State → State → List Send → List Send → ℕ → ℕ → PlainFrame → code.Verdict
-    → Type 0
-IsHandled old new before after face moment packet verdict =
+abbrev pub IsHandled : State → State → List Send → List Send → ℕ → Token → ℕ → PlainFrame
+    → code.Verdict → Type 0
+IsHandled old new before after face token moment packet verdict =
     (was : NodeState) × (sends : List Send) × (after ≡ before ++ sends)
     × IsLater (state_of old) moment was
-    × IsAnswered was face packet (record { verdict = verdict_of verdict; sends = sends })
+    × IsAnswered was face token packet (record { verdict = verdict_of verdict; sends = sends })
     (state_of new)
+
+-- the token of a packet that came
+abbrev pub token_of : Option (Bor (List ℕ)) → Token
+token_of token = option_map (λ t. t.now) token
 
 -- an Interest and a Data as packets
 abbrev pub interest_packet : Interest → PlainFrame
@@ -71,15 +80,17 @@ interest_packet i = AnInterest i.whole.now (plain_interest i)
 abbrev pub data_packet : Data → PlainFrame
 data_packet d = AData d.whole.now (plain_data d)
 
--- What is true where a packet comes on a face: the node is sound, the face is open, and what the
--- repository stores is Data.
-pub record AwaitsPacket (s : State) (face : ℕ) : Type 0 where
+-- What is true where a packet comes on a face with a token: the node is sound, the face is open, the
+-- token is one, and what the repository stores is Data.
+pub record AwaitsPacket (s : State) (face : ℕ) (token : Token) : Type 0 where
   pub sound : IsSound (state_of s)
   pub from : is_open face s.faces ≡ true
+  pub is_token : IfSome token IsToken
+  pub octets : IfSome token AreOctets
   pub objects : AreObjects s.repo.held.objects
 
 -- a packet was handled, or nothing but the cache changed for want of memory
-pub record HandlesPacket (old new : State) (before after : List Send) (face moment : ℕ)
-    (packet : PlainFrame) (result : Result code.Verdict Memory) : Type 0 where
-  pub handled : IfOk result (IsHandled old new before after face moment packet)
+pub record HandlesPacket (old new : State) (before after : List Send) (face : ℕ) (token : Token)
+    (moment : ℕ) (packet : PlainFrame) (result : Result code.Verdict Memory) : Type 0 where
+  pub handled : IfOk result (IsHandled old new before after face token moment packet)
   pub memory : OnErr result (Unharmed (state_of old) (state_of new) × (after ≡ before))

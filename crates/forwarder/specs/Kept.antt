@@ -4,11 +4,10 @@ use Rattle.std.specs.Prelude.{◌≡◌, ◌⊎◌, ℕ, List, [], ◌∷◌, fa
 use Rattle.ndn_packets.specs.FrameReading.{frame_at}
 use Rattle.ndn_packets.specs.Key.{PlainKey, key_of}
 use Rattle.ndn_packets.specs.Packet.{PlainInterest, AnInterest}
-use Rattle.ndn_packets.specs.Writing.{nack_text}
 use Rattle.ndn_packets.specs.declared.types.TheConstants.{NO_ROUTE}
 use Rattle.pit_fib.specs.Faces.{has_face}
 use Rattle.pit_fib.specs.Records.{InRecord}
-use Rattle.forwarder.specs.Event.{PlainEvent, Packet, Send, to_each}
+use Rattle.forwarder.specs.Event.{PlainEvent, Packet, Send, Token, nacked_back, sent_back, to_each, token_in}
 use Rattle.forwarder.specs.Verdict.{Answer, Passed}
 use Rattle.forwarder.specs.Causes.{in_record_for, is_answered, is_nacked}
 use Rattle.forwarder.specs.NextHops.{sent_on}
@@ -25,7 +24,7 @@ pub record IsPassed (event : PlainEvent) (answer : Answer) (face : ℕ) (whole :
   pub passed : answer.verdict ≡ Passed
 
 -- The event brings an Interest of this key that is passed, nothing goes back to its face, and no
--- Nack is sent. So the face waits, by this record.
+-- Nack is sent. So the face waits, by this record, which has the Interest's token.
 pub record IsKept (now : ℕ) (event : PlainEvent) (answer : Answer) (key : PlainKey) (face : ℕ)
     (in_record : InRecord) : Type 0 where
   pub whole : List ℕ
@@ -34,18 +33,19 @@ pub record IsKept (now : ℕ) (event : PlainEvent) (answer : Answer) (key : Plai
   pub unanswered : is_answered face answer.sends ≡ false
   pub not_nacked : is_nacked answer.sends ≡ false
   pub is_key : key ≡ key_of interest
-  pub is_record : in_record ≡ in_record_for now whole interest
+  pub is_record : in_record ≡ in_record_for now (token_in event) whole interest
 
--- it goes on to other faces alone, as it came but for its HopLimit; to none, where the strategy
--- waits for those that were asked before
+-- it goes on to other faces alone, as it came but for its HopLimit and without its token; to none,
+-- where the strategy waits for those that were asked before
 abbrev pub IsSentOn : ℕ → List ℕ → PlainInterest → List Send → Type 0
 IsSentOn face whole i sends =
     (faces : List ℕ) × (has_face face faces ≡ false)
     × (sends ≡ to_each faces (sent_on whole i.hop_limit))
 
--- one packet goes back to its face, and nothing to others: a Nack NoRoute, or a Data that the cache
--- gives, the repository stores or the node makes
-abbrev pub IsAnswered : Seen → ℕ → List ℕ → PlainInterest → List Send → Type 0
-IsAnswered seen face whole i sends =
-    (octets : List ℕ) × (sends ≡ (face, octets) ∷ [])
-    × ((octets ≡ nack_text NO_ROUTE whole) ⊎ IsAtHand seen face whole i octets)
+-- one packet goes back to its face with its token, and nothing to others: a Nack NoRoute, or a Data
+-- that the cache gives, the repository stores or the node makes
+abbrev pub IsAnswered : Seen → ℕ → Token → List ℕ → PlainInterest → List Send → Type 0
+IsAnswered seen face token whole i sends =
+    (sends ≡ nacked_back face token NO_ROUTE whole ∷ [])
+    ⊎ ((packet : List ℕ) × (sends ≡ sent_back face token packet ∷ [])
+    × IsAtHand seen face whole i packet)

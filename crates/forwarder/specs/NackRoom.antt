@@ -3,7 +3,7 @@ use Rattle.std.specs.Prelude.{ℕ, ◌+◌, List, length, Option, None, Some, su
 use Rattle.std.specs.FinMap as map
 use Rattle.ndn_packets.specs.Key.{PlainKey}
 use Rattle.pit_fib.specs.Records.{InRecord, InRecords, Pending, records_at}
-use Rattle.forwarder.specs.declared.nack.TheConstants.{NACK_EXTRA}
+use Rattle.forwarder.specs.declared.sends.TheConstants.{LINK_EXTRA}
 
 -- the in-records of a key
 abbrev pub in_records_at : Pending → PlainKey → InRecords
@@ -11,7 +11,7 @@ in_records_at pending key = (records_at pending key).in_records
 
 abbrev pub room_for : Option InRecord → ℕ
 room_for None = 0
-room_for (Some in_record) = length in_record.interest + NACK_EXTRA
+room_for (Some in_record) = length in_record.interest + LINK_EXTRA
 
 abbrev pub nack_room : InRecords → List ℕ → ℕ
 nack_room in_records faces =

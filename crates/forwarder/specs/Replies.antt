@@ -1,14 +1,13 @@
 -- How a node may answer an event (NFD Developer's Guide, "Forwarding Pipelines"). One definition
 -- serves a step, where the node's tables show what it reads, and a run, where the past does.
-use Rattle.std.specs.Prelude.{◌≡◌, ◌≢◌, ◌↔◌, ℕ, List, [], ◌∷◌, map as map_list, Bool, not, Option, None, Some, IsSome, IsTrue, Result, Ok, Err, nat_le, length, ◌==◌, ◌&&◌, if◌then◌else◌}
+use Rattle.std.specs.Prelude.{◌≡◌, ◌≢◌, ◌↔◌, ℕ, List, [], ◌∷◌, All, map as map_list, Bool, not, Option, None, Some, IsSome, IsTrue, Result, Ok, Err, nat_le, length, ◌==◌, ◌&&◌, if◌then◌else◌}
 use Rattle.std.specs.FinMap as map
 use Rattle.sha2.specs.Sha256.{sha256}
 use Rattle.ndn_tlv.specs.Element.{Field}
 use Rattle.ndn_packets.specs.Answers.{answers}
-use Rattle.ndn_packets.specs.FrameReading.{frame_at}
+use Rattle.ndn_packets.specs.FrameReading.{frame_at, token_at}
 use Rattle.ndn_packets.specs.Key.{PlainKey, key_of}
 use Rattle.ndn_packets.specs.Packet.{PlainInterest, PlainData, PlainFrame, AnInterest, AData, ANack, Idle as AnIdle}
-use Rattle.ndn_packets.specs.Writing.{nack_text}
 use Rattle.ndn_packets.specs.declared.fault.PacketFault.{PacketFault}
 use Rattle.ndn_packets.specs.declared.types.TheConstants.{DUPLICATE, NO_ROUTE}
 use Rattle.info_rules.specs.declared.decision.Decision.{Decision}
@@ -19,13 +18,13 @@ use Rattle.pit_fib.specs.declared.nacked.Nacked.TheVariants as nacks
 use Rattle.pit_fib.specs.Faces.{IsRising, has_face}
 use Rattle.pit_fib.specs.Pit.{loops, moments, nacked_answer}
 use Rattle.pit_fib.specs.Records.{InRecord, InRecords, Records, is_alive}
+use Rattle.pit_fib.specs.Tokens.{IsTokenFor}
 use Rattle.strategies.specs.declared.strategy.Choice.{Choice}
 use Rattle.strategies.specs.declared.strategy.Choice.TheVariants as choices
 use Rattle.repo_core.specs.Objects.{served}
 use Rattle.pit_fib.specs.declared.faces.TheConstants.{MAX_FACES}
-use Rattle.forwarder.specs.Event.{PlainEvent, Packet, FaceUp, FaceDown, Tick, NewRules, Send}
+use Rattle.forwarder.specs.Event.{PlainEvent, Packet, FaceUp, FaceDown, Tick, NewRules, Send, Token, nacked_back, sent_back, to_each}
 use Rattle.forwarder.specs.Faces.{is_open}
-use Rattle.forwarder.specs.Event.{to_each}
 use Rattle.forwarder.specs.Verdict.{WhereTrue, Answer, Dropped, NoFace, Malformed, Idle, Loop, PitFull, NoPending, BadFace, FaceOpen, FacesFull, Scope as OutOfScope, DataAllowed, Denied, NoRule, dropped, passed}
 use Rattle.forwarder.specs.Policy.{Policy}
 use Rattle.forwarder.specs.Request.{Request, Refused, ForList, ForTables, ForRepository, ForData, request_of, is_out_of_scope}
@@ -46,70 +45,79 @@ pub record Seen : Type 1 where
 -- ---- Interests for Data, pipeline by pipeline
 
 -- Interest Loop: a Nack goes back
-abbrev pub interest_loop : ℕ → List ℕ → Answer
-interest_loop face whole = record {
+abbrev pub interest_loop : ℕ → Token → List ℕ → Answer
+interest_loop face token whole = record {
   verdict = Dropped Loop;
-  sends = (face, nack_text DUPLICATE whole) ∷ [];
+  sends = nacked_back face token DUPLICATE whole ∷ [];
 }
 
 -- Content Store Hit: what is held goes back
-abbrev pub content_store_hit : ℕ → List ℕ → Answer
-content_store_hit face octets = passed ((face, octets) ∷ [])
+abbrev pub content_store_hit : ℕ → Token → List ℕ → Answer
+content_store_hit face token octets = passed (sent_back face token octets ∷ [])
 
--- Outgoing Interest: to each of these faces, or not at all where its key would be one too many
+-- Outgoing Interest: to each of these faces, without a token, or not at all where its key would be
+-- one too many
 abbrev pub outgoing_interest : Seen → PlainKey → List ℕ → PlainInterest → List ℕ → Answer
 outgoing_interest seen key whole i faces =
     if not (is_alive (seen.records key)) && seen.is_full then dropped PitFull
     else passed (to_each faces (sent_on whole i.hop_limit))
 
 -- Interest Reject: a Nack goes back where no next hop may get the Interest
-abbrev pub interest_reject : ℕ → List ℕ → Answer
-interest_reject face whole = passed ((face, nack_text NO_ROUTE whole) ∷ [])
+abbrev pub interest_reject : ℕ → Token → List ℕ → Answer
+interest_reject face token whole = passed (nacked_back face token NO_ROUTE whole ∷ [])
 
 -- by the strategy's choice
-abbrev pub by_strategy : Seen → PlainKey → List ℕ → PlainInterest → ℕ → Choice → Answer
-by_strategy seen key whole i face choices.NoRoute = interest_reject face whole
-by_strategy seen key whole i face (choices.Send faces) = outgoing_interest seen key whole i faces
+abbrev pub by_strategy : Seen → PlainKey → List ℕ → PlainInterest → ℕ → Token → Choice → Answer
+by_strategy seen key whole i face token choices.NoRoute = interest_reject face token whole
+by_strategy seen key whole i face token (choices.Send faces) =
+    outgoing_interest seen key whole i faces
 
 -- what the repository stores goes back too; MustBeFresh does not bind it
-abbrev pub by_repository : Seen → ℕ → List ℕ → PlainInterest → Option (List ℕ) → Answer
-by_repository seen face whole i (Some octets) = content_store_hit face octets
-by_repository seen face whole i None =
-    by_strategy seen (key_of i) whole i face
+abbrev pub by_repository : Seen → ℕ → Token → List ℕ → PlainInterest → Option (List ℕ) → Answer
+by_repository seen face token whole i (Some octets) = content_store_hit face token octets
+by_repository seen face token whole i None =
+    by_strategy seen (key_of i) whole i face token
     (choice_for seen.policy i.name (moments (seen.records (key_of i)).out_records)
     (ask_from seen.policy face i))
 
 -- Content Store Miss: the repository answers, or the strategy chooses
-abbrev pub content_store_miss : Seen → ℕ → List ℕ → PlainInterest → Answer
-content_store_miss seen face whole i =
-    by_repository seen face whole i (served i.name i.can_be_prefix seen.policy.held.objects)
+abbrev pub content_store_miss : Seen → ℕ → Token → List ℕ → PlainInterest → Answer
+content_store_miss seen face token whole i =
+    by_repository seen face token whole i
+    (served i.name i.can_be_prefix seen.policy.held.objects)
 
-abbrev pub by_content_store : Seen → ℕ → List ℕ → PlainInterest → Option (List ℕ) → Answer
-by_content_store seen face whole i (Some octets) = content_store_hit face octets
-by_content_store seen face whole i None = content_store_miss seen face whole i
+abbrev pub by_content_store : Seen → ℕ → Token → List ℕ → PlainInterest → Option (List ℕ)
+    → Answer
+by_content_store seen face token whole i (Some octets) = content_store_hit face token octets
+by_content_store seen face token whole i None = content_store_miss seen face token whole i
 
 -- Incoming Interest: one that loops gets a Nack; else the content store answers, the repository, or
 -- a face is asked
-abbrev pub RepliesForData : Seen → ℕ → List ℕ → PlainInterest → Answer → Type 0
-RepliesForData seen face whole i answer =
-    WhereTrue (loops (seen.records (key_of i)) face i.nonce) (answer ≡ interest_loop face whole)
+abbrev pub RepliesForData : Seen → ℕ → Token → List ℕ → PlainInterest → Answer → Type 0
+RepliesForData seen face token whole i answer =
+    WhereTrue (loops (seen.records (key_of i)) face i.nonce)
+    (answer ≡ interest_loop face token whole)
     ((given : Option (List ℕ)) × seen.MayGive (key_of i) given
-    × (answer ≡ by_content_store seen face whole i given))
+    × (answer ≡ by_content_store seen face token whole i given))
 
 -- ---- each kind of packet
 
-abbrev pub RepliesToCommand : Seen → ℕ → List ℕ → PlainInterest → Answer → Type 0
-RepliesToCommand seen face whole i answer =
+abbrev pub RepliesToCommand : Seen → ℕ → Token → List ℕ → PlainInterest → Answer → Type 0
+RepliesToCommand seen face token whole i answer =
     (said : Decision) × IsSaid seen.policy (AnInterest whole i) said
-    × (answer ≡ command_answer seen.policy face i said)
+    × (answer ≡ command_answer seen.policy face token i said)
 
-abbrev pub RepliesToRequest : Seen → ℕ → List ℕ → PlainInterest → Answer → Request → Type 0
-RepliesToRequest seen face whole i answer (Refused reason) = answer ≡ dropped reason
-RepliesToRequest seen face whole i answer (ForList asked) =
-    answer ≡ list_answer seen.policy face asked
-RepliesToRequest seen face whole i answer ForTables = RepliesToCommand seen face whole i answer
-RepliesToRequest seen face whole i answer ForRepository = RepliesToCommand seen face whole i answer
-RepliesToRequest seen face whole i answer ForData = RepliesForData seen face whole i answer
+abbrev pub RepliesToRequest : Seen → ℕ → Token → List ℕ → PlainInterest → Answer → Request
+    → Type 0
+RepliesToRequest seen face token whole i answer (Refused reason) = answer ≡ dropped reason
+RepliesToRequest seen face token whole i answer (ForList asked) =
+    answer ≡ list_answer seen.policy face token asked
+RepliesToRequest seen face token whole i answer ForTables =
+    RepliesToCommand seen face token whole i answer
+RepliesToRequest seen face token whole i answer ForRepository =
+    RepliesToCommand seen face token whole i answer
+RepliesToRequest seen face token whole i answer ForData =
+    RepliesForData seen face token whole i answer
 
 -- a face has an in-record under a key that a Data of this name and implicit digest answers
 abbrev pub Waits : Seen → List Field → List ℕ → ℕ → Type 0
@@ -117,13 +125,27 @@ Waits seen name digest face =
     (key : PlainKey) × IsTrue (answers name digest key.name key.can_be_prefix)
     × IsSome (map.get (seen.records key).in_records face)
 
+-- faces, each with the token that a Data goes back to it with
+abbrev pub Askers : Type 0
+Askers = List (ℕ × Token)
+
+abbrev pub faces_of : Askers → List ℕ
+faces_of askers = map_list {A = ℕ × Token} {B = ℕ} (λ a. a.0) askers
+
+-- the received octets of a Data, to each of these
+abbrev pub sent_to : Askers → List ℕ → List Send
+sent_to askers whole =
+    map_list {A = ℕ × Token} {B = Send} (λ a. sent_back a.0 a.1 whole) askers
+
 -- The received octets go once to each face that waits for the Data, but for the one that it came
--- from, in rising order.
+-- from, in rising order, each time with the token of the face's latest Interest for it.
 abbrev pub IsSentToAskers : Seen → ℕ → List ℕ → PlainData → List Send → Type 0
 IsSentToAskers seen face whole d sends =
-    (faces : List ℕ) × IsRising faces
-    × ((f : ℕ) → IsTrue (has_face f faces) ↔ ((f ≢ face) × Waits seen d.name (sha256 whole) f))
-    × (sends ≡ to_each faces whole)
+    (askers : Askers) × IsRising (faces_of askers)
+    × ((f : ℕ) → IsTrue (has_face f (faces_of askers))
+    ↔ ((f ≢ face) × Waits seen d.name (sha256 whole) f))
+    × All (λ a. IsTokenFor seen.records d.name (sha256 whole) a.0 a.1) askers
+    × (sends ≡ sent_to askers whole)
 
 abbrev pub RepliesBySaid : Seen → ℕ → List ℕ → PlainData → Answer → Decision → Type 0
 RepliesBySaid seen face whole d answer (decided.Allowed rule) =
@@ -139,10 +161,12 @@ RepliesToData seen face whole d answer =
     ((said : Decision) × IsSaid seen.policy (AData whole d) said
     × RepliesBySaid seen face whole d answer said)
 
--- a Nack of this reason around the Interest of each in-record, in rising order of the faces
+-- a Nack of this reason around the Interest of each in-record, with its token, in rising order of the
+-- faces
 abbrev pub nacks_to : InRecords → ℕ → List Send
 nacks_to in_records reason =
-    map_list {A = ℕ × InRecord} {B = Send} (λ e. (e.0, nack_text reason e.1.interest))
+    map_list {A = ℕ × InRecord} {B = Send}
+    (λ e. nacked_back e.0 e.1.token reason e.1.interest)
     (map.entries in_records)
 
 abbrev pub nack_answer : InRecords → Nacked → Answer
@@ -156,14 +180,16 @@ RepliesToNack seen face reason i answer =
     WhereTrue (is_out_of_scope seen.policy face i.name) (answer ≡ dropped OutOfScope)
     (answer ≡ nack_answer r.in_records (nacked_answer r face i.nonce reason))
 
-abbrev pub RepliesToPacket : Seen → ℕ → Result PlainFrame PacketFault → Answer → Type 0
-RepliesToPacket seen face (Err fault) answer = answer ≡ dropped (Malformed fault)
-RepliesToPacket seen face (Ok (AnInterest whole i)) answer =
-    RepliesToRequest seen face whole i answer (request_of seen.policy face i)
-RepliesToPacket seen face (Ok (AData whole d)) answer = RepliesToData seen face whole d answer
-RepliesToPacket seen face (Ok (ANack reason whole i)) answer =
+-- the token of a Data or a Nack that comes is ignored
+abbrev pub RepliesToPacket : Seen → ℕ → Token → Result PlainFrame PacketFault → Answer → Type 0
+RepliesToPacket seen face token (Err fault) answer = answer ≡ dropped (Malformed fault)
+RepliesToPacket seen face token (Ok (AnInterest whole i)) answer =
+    RepliesToRequest seen face token whole i answer (request_of seen.policy face i)
+RepliesToPacket seen face token (Ok (AData whole d)) answer =
+    RepliesToData seen face whole d answer
+RepliesToPacket seen face token (Ok (ANack reason whole i)) answer =
     RepliesToNack seen face reason i answer
-RepliesToPacket seen face (Ok AnIdle) answer = answer ≡ dropped Idle
+RepliesToPacket seen face token (Ok AnIdle) answer = answer ≡ dropped Idle
 
 -- ---- all events
 
@@ -178,7 +204,8 @@ opening_answer p face =
 -- what may be answered to an event, where this is seen once its moment has come
 abbrev pub Replies : Seen → PlainEvent → Answer → Type 0
 Replies seen (Packet face now octets) answer =
-    WhereTrue (is_open face seen.policy.faces) (RepliesToPacket seen face (frame_at octets) answer)
+    WhereTrue (is_open face seen.policy.faces)
+    (RepliesToPacket seen face (token_at octets) (frame_at octets) answer)
     (answer ≡ dropped NoFace)
 Replies seen (FaceUp face scope now) answer = answer ≡ opening_answer seen.policy face
 Replies seen (FaceDown face now) answer =

@@ -1,9 +1,10 @@
 -- What an outbox holds, and how much more it takes without memory.
-use Rattle.std.specs.Prelude.{ℕ, List, [], ◌∷◌, Option, None, Some}
-use Rattle.ndn_packets.specs.declared.data_writer.DataWriter.{DataWriter}
+use Rattle.std.specs.Prelude.{ℕ, ◌+◌, ◌*◌, List, [], length, Bool, Option, None, Some, if◌then◌else◌}
 use Rattle.ndn_packets.specs.declared.fault.WriteFault.{WriteFault}
 use Rattle.ndn_packets.specs.declared.interest_writer.InterestWriter.{InterestWriter}
-use Rattle.ndn_packets.specs.Writing.{data_refusal, data_text, interest_refusal, interest_text}
+use Rattle.ndn_packets.specs.Writing.{interest_refusal, interest_text}
+use Rattle.pit_fib.specs.declared.faces.TheConstants.{MAX_FACES}
+use Rattle.forwarder.specs.declared.sends.TheConstants.{LINK_EXTRA}
 use Rattle.forwarder.specs.Event.{Send, to_each}
 
 pub record SendsState : Type 0 where
@@ -16,10 +17,12 @@ abbrev pub unless_refused : Option WriteFault → List Send → List Send
 unless_refused None sends = sends
 unless_refused (Some fault) sends = []
 
--- a Data to one face
-abbrev pub data_sends : ℕ → DataWriter → List Send
-data_sends face w = unless_refused (data_refusal w) ((face, data_text w) ∷ [])
-
 -- an Interest of the node itself to each of these faces
 abbrev pub fetched : List ℕ → InterestWriter → List Send
 fetched faces w = unless_refused (interest_refusal w) (to_each faces (interest_text w))
+
+-- The octets for which there has to be room where a Data goes to whoever waits for it: with tokens
+-- those of a link packet for each face, and without them those of one Data.
+abbrev pub room_for_data : List ℕ → Bool → ℕ
+room_for_data whole with_tokens =
+    if with_tokens then MAX_FACES * (length whole + LINK_EXTRA) else length whole

@@ -1,18 +1,22 @@
 -- Why Data are sent: each answers an Interest that is pending on its face, or the Interest of the
 -- event itself.
-use Rattle.std.specs.Prelude.{◌≡◌, ◌≢◌, ◌⊎◌, ℕ, List, [], ◌∷◌, Bool, true, false, Some, All, Result, Ok, Err, ⊤, ◌==◌, ◌||◌}
+use Rattle.std.specs.Prelude.{◌≡◌, ◌≢◌, ◌⊎◌, ℕ, List, [], ◌∷◌, Bool, true, false, None, Some, All, Result, Ok, Err, ⊤, ◌==◌, ◌||◌, if◌then◌else◌}
 use Rattle.sha2.specs.Sha256.{sha256}
-use Rattle.ndn_packets.specs.FrameReading.{frame_at}
+use Rattle.ndn_tlv.specs.Element.{Field}
+use Rattle.ndn_tlv.specs.Reading.{elements_of}
+use Rattle.ndn_tlv.specs.declared.fault.TlvFault.{TlvFault}
+use Rattle.ndn_packets.specs.FrameReading.{frame_at, only_element, token_at}
 use Rattle.ndn_packets.specs.Key.{key_of}
 use Rattle.ndn_packets.specs.Packet.{PlainInterest, PlainData, PlainFrame, AnInterest, AData, ANack, Idle}
 use Rattle.ndn_packets.specs.Writing.{AreOctets, reply_text}
 use Rattle.ndn_packets.specs.declared.fault.PacketFault.{PacketFault}
-use Rattle.ndn_packets.specs.declared.types.TheConstants.{DATA}
+use Rattle.ndn_packets.specs.declared.types.TheConstants.{DATA, FRAGMENT, LINK_PACKET, NACK}
+use Rattle.pit_fib.specs.Tokens.{IsTokenFor}
 use Rattle.info_rules.specs.declared.rules.RuleNo.{RuleNo}
 use Rattle.info_rules.specs.declared.decision.Decision.{Decision}
 use Rattle.info_rules.specs.declared.decision.Decision.TheVariants.{Allowed}
 use Rattle.repo_core.specs.Objects.{served}
-use Rattle.forwarder.specs.Event.{PlainEvent, Packet, FaceUp, FaceDown, Tick, NewRules, Send}
+use Rattle.forwarder.specs.Event.{PlainEvent, Packet, FaceUp, FaceDown, Tick, NewRules, Send, Token, sent_back}
 use Rattle.forwarder.specs.Said.{IsSaid}
 use Rattle.forwarder.specs.Commands.{reply_content}
 use Rattle.forwarder.specs.Datasets.{list_answer}
@@ -23,7 +27,8 @@ use Rattle.forwarder.specs.Replies.{Seen, Waits}
 use Rattle.forwarder.specs.Verdict.{Answer, passed}
 
 -- The event brings a Data that is allowed. Its received octets go to another face, which waits for
--- it: under some key that it answers, an Interest is pending there.
+-- it: under some key that it answers, an Interest is pending there. With them goes the token of the
+-- face's latest such Interest.
 pub record IsForwardedData (seen : Seen) (event : PlainEvent) (sent : Send) : Type 0 where
   pub face : ℕ
   pub now : ℕ
@@ -37,7 +42,9 @@ pub record IsForwardedData (seen : Seen) (event : PlainEvent) (sent : Send) : Ty
   pub allowed : IsSaid seen.policy (AData whole packet) (Allowed rule)
   pub other : sent.0 ≢ face
   pub waits : Waits seen packet.name (sha256 whole) sent.0
-  pub received : sent.1 ≡ whole
+  pub token : Token
+  pub is_token : IsTokenFor seen.records packet.name (sha256 whole) sent.0 token
+  pub received : sent ≡ sent_back sent.0 token whole
 
 -- the reply to a command, by what is said of it
 abbrev pub IsReplyToCommand : Policy → ℕ → List ℕ → PlainInterest → List ℕ → Type 0
@@ -50,7 +57,7 @@ IsReplyToCommand p face whole i octets =
 abbrev pub IsSegmentAskedFor : Policy → ℕ → PlainInterest → List ℕ → Type 0
 IsSegmentAskedFor p face i octets =
     (asked : ListAsked) × (list_asked i ≡ Some asked)
-    × (list_answer p face asked ≡ passed ((face, octets) ∷ []))
+    × (list_answer p face None asked ≡ passed ((face, octets) ∷ []))
 
 -- where a Data comes from that answers an Interest at once: the cache gives it, the repository
 -- stores it, or the node makes it
@@ -61,7 +68,7 @@ IsAtHand seen face whole i octets =
     ⊎ (IsReplyToCommand seen.policy face whole i octets
     ⊎ IsSegmentAskedFor seen.policy face i octets))
 
--- the event brings an Interest, and such a Data goes back to its face
+-- the event brings an Interest, and such a Data goes back to its face, with the Interest's token
 pub record IsReply (seen : Seen) (event : PlainEvent) (sent : Send) : Type 0 where
   pub now : ℕ
   pub octets : List ℕ
@@ -69,7 +76,9 @@ pub record IsReply (seen : Seen) (event : PlainEvent) (sent : Send) : Type 0 whe
   pub interest : PlainInterest
   pub brings : event ≡ Packet sent.0 now octets
   pub read : frame_at octets ≡ Ok (AnInterest whole interest)
-  pub at_hand : IsAtHand seen sent.0 whole interest sent.1
+  pub packet : List ℕ
+  pub at_hand : IsAtHand seen sent.0 whole interest packet
+  pub answered : sent ≡ sent_back sent.0 (token_at octets) packet
 
 -- whether octets are a Data, as they are read
 abbrev pub is_data_frame : Result PlainFrame PacketFault → Bool
@@ -79,15 +88,29 @@ is_data_frame (Ok (AData whole d)) = true
 is_data_frame (Ok (ANack reason whole i)) = false
 is_data_frame (Ok Idle) = false
 
--- whether octets begin as a Data does
-abbrev pub begins_as_data : List ℕ → Bool
-begins_as_data [] = false
-begins_as_data (octet ∷ octets) = octet == DATA
+-- whether an element is a Data by its type
+abbrev pub is_data_element : Result Field PacketFault → Bool
+is_data_element (Err fault) = false
+is_data_element (Ok e) = e.0 == DATA
 
--- Whether octets are a Data: one that is read, or one that is too long to be, as a reply of the node
--- may be.
+-- whether a link packet of these elements carries a Data by its type: its Fragment is one, and no
+-- Nack stands before it
+abbrev pub carries_data : List (Result Field TlvFault) → Bool
+carries_data [] = false
+carries_data (Err fault ∷ elements) = false
+carries_data (Ok e ∷ elements) =
+    if e.0 == FRAGMENT then is_data_element (only_element e.1) else (
+    if e.0 == NACK then false else
+    carries_data elements)
+
+abbrev pub holds_data : Result Field PacketFault → Bool
+holds_data (Err fault) = false
+holds_data (Ok e) = if e.0 == LINK_PACKET then carries_data (elements_of e.1) else (e.0 == DATA)
+
+-- Whether octets of a link hold a Data, bare or in a link packet: one that is read, or one that is too
+-- long to be, as a reply of the node may be.
 abbrev pub is_data : List ℕ → Bool
-is_data octets = begins_as_data octets || is_data_frame (frame_at octets)
+is_data octets = is_data_frame (frame_at octets) || holds_data (only_element octets)
 
 -- each Data that is sent is one of these two; what else is sent is no Data
 abbrev pub IsExplained : Seen → PlainEvent → Send → Type 0

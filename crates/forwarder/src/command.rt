@@ -5,7 +5,8 @@ ghost use Rattle.mgmt_core.specs.Reading.{asked, command_at};
 ghost use Rattle.replay_guard.specs.Guard.{IsPrepared};
 ghost use Rattle.forwarder.specs.Commanding.{IsCarriedOut};
 ghost use Rattle.forwarder.specs.Commands.{fetch_sends, refused_content, replied};
-ghost use Rattle.forwarder.specs.Handling.{AwaitsPacket, HandlesPacket, interest_packet};
+ghost use Rattle.ndn_packets.specs.Link.{IsToken};
+ghost use Rattle.forwarder.specs.Handling.{AwaitsPacket, HandlesPacket, interest_packet, token_of};
 ghost use Rattle.forwarder.specs.Request.{ForRepository, ForTables, is_command, request_named, request_of};
 ghost use Rattle.forwarder.specs.Said.{recorded_of};
 ghost use Rattle.forwarder.specs.State.{IsLater, IsSound, policy_of, state_of};
@@ -36,12 +37,13 @@ impl State {
         request: NamedRequest,
         out: &mut Sends,
     ) -> Result<Verdict, Memory>
-        requires ready { AwaitsPacket self.old arrived.now.face }
+        requires ready { AwaitsPacket self.old arrived.now.face (token_of arrived.now.token) }
         requires request { request_of (policy_of self.old) arrived.now.face
             (plain_interest arrived.now.packet.now) ≡ request_named request }
         requires command { is_command (request_named request) ≡ true }
         ensures { HandlesPacket self.old self.new out.old.sends out.new.sends
-            arrived.now.face arrived.now.moment (interest_packet arrived.now.packet.now) result }
+            arrived.now.face (token_of arrived.now.token) arrived.now.moment
+            (interest_packet arrived.now.packet.now) result }
     {
         let moment = self.now.max(arrived.moment);
         match said(
@@ -80,17 +82,18 @@ impl State {
         text: &str,
         out: &mut Sends,
     ) -> Result<(), Memory>
+        requires { IfSome (token_of arrived.now.token) IsToken }
         ensures later { OnOk result
             (IsLater (state_of self.old) arrived.now.moment (state_of self.new)) }
         ensures sends { OnOk result (out.new.sends ≡ out.old.sends ++ replied arrived.now.face
-            (plain_interest arrived.now.packet.now)
+            (token_of arrived.now.token) (plain_interest arrived.now.packet.now)
             (refused_content (request_named request) text.now) ∷ []) }
         ensures memory { OnErr result ((state_of self.new ≡ state_of self.old)
             × (out.new.sends ≡ out.old.sends)) }
     {
         let mut content = Vec::new(self.alloc);
         put_refusal(&mut content, request, text)?;
-        out.push_reply(arrived.face, arrived.packet.name, &content)?;
+        out.push_reply(arrived.face, arrived.token, arrived.packet.name, &content)?;
         self.pass_time(arrived.moment);
         Ok(())
     }
@@ -102,10 +105,11 @@ impl State {
         out: &mut Sends,
     ) -> Result<u16, Memory>
         requires sound { IsSound (state_of self.old) }
+        requires is_token { IfSome (token_of arrived.now.token) IsToken }
         requires prepared { IfSome (recorded_of (plain_interest arrived.now.packet.now))
             (λ r. IsPrepared self.old.guard r.signer) }
         ensures done { IfOk result (IsCarriedOut self.old self.new out.old.sends out.new.sends
-            arrived.now.face arrived.now.moment (plain_interest arrived.now.packet.now)
+            arrived.now.face (token_of arrived.now.token) arrived.now.moment (plain_interest arrived.now.packet.now)
             ForTables) }
         ensures memory { OnErr result ((state_of self.new ≡ state_of self.old)
             × (out.new.sends ≡ out.old.sends)) }
@@ -123,18 +127,19 @@ impl State {
         status: u16,
         out: &mut Sends,
     ) -> Result<u16, Memory>
+        requires is_token { IfSome (token_of arrived.now.token) IsToken }
         requires prepared { IfSome (recorded_of (plain_interest arrived.now.packet.now))
             (λ r. IsPrepared self.old.guard r.signer) }
         requires unread { command_at (components arrived.now.packet.now.name) ≡ Err status }
         ensures done { IfOk result (IsCarriedOut self.old self.new out.old.sends out.new.sends
-            arrived.now.face arrived.now.moment (plain_interest arrived.now.packet.now)
+            arrived.now.face (token_of arrived.now.token) arrived.now.moment (plain_interest arrived.now.packet.now)
             ForTables) }
         ensures memory { OnErr result ((state_of self.new ≡ state_of self.old)
             × (out.new.sends ≡ out.old.sends)) }
     {
         let mut content = Vec::new(self.alloc);
         put_status(&mut content, status, &[])?;
-        out.push_reply(arrived.face, arrived.packet.name, &content)?;
+        out.push_reply(arrived.face, arrived.token, arrived.packet.name, &content)?;
         self.pass_time(arrived.moment);
         record(&mut self.guard, arrived.packet)?;
         self.next_version();
@@ -149,11 +154,12 @@ impl State {
         out: &mut Sends,
     ) -> Result<u16, Memory>
         requires sound { IsSound (state_of self.old) }
+        requires is_token { IfSome (token_of arrived.now.token) IsToken }
         requires prepared { IfSome (recorded_of (plain_interest arrived.now.packet.now))
             (λ r. IsPrepared self.old.guard r.signer) }
         requires read { command_at (components arrived.now.packet.now.name) ≡ Ok (asked command.now) }
         ensures done { IfOk result (IsCarriedOut self.old self.new out.old.sends out.new.sends
-            arrived.now.face arrived.now.moment (plain_interest arrived.now.packet.now)
+            arrived.now.face (token_of arrived.now.token) arrived.now.moment (plain_interest arrived.now.packet.now)
             ForTables) }
         ensures memory { OnErr result ((state_of self.new ≡ state_of self.old)
             × (out.new.sends ≡ out.old.sends)) }
@@ -171,7 +177,7 @@ impl State {
             self.now,
         )?;
         put_status(&mut content, applied.status, applied.body.as_slice())?;
-        out.push_reply(arrived.face, arrived.packet.name, &content)?;
+        out.push_reply(arrived.face, arrived.token, arrived.packet.name, &content)?;
         record(&mut self.guard, arrived.packet)?;
         self.next_version();
         Ok(applied.status)
@@ -184,10 +190,11 @@ impl State {
         arrived: &Arrived<'_, Interest<'_>>,
         out: &mut Sends,
     ) -> Result<u16, Memory>
+        requires is_token { IfSome (token_of arrived.now.token) IsToken }
         requires prepared { IfSome (recorded_of (plain_interest arrived.now.packet.now))
             (λ r. IsPrepared self.old.guard r.signer) }
         ensures done { IfOk result (IsCarriedOut self.old self.new out.old.sends out.new.sends
-            arrived.now.face arrived.now.moment (plain_interest arrived.now.packet.now)
+            arrived.now.face (token_of arrived.now.token) arrived.now.moment (plain_interest arrived.now.packet.now)
             ForRepository) }
         ensures memory { OnErr result ((state_of self.new ≡ state_of self.old)
             × (out.new.sends ≡ out.old.sends)) }
@@ -200,7 +207,7 @@ impl State {
         self.pass_time(arrived.moment);
         let reply = self.repo.command(interest.name, self.now)?;
         put_repo_status(&mut content, &reply)?;
-        out.push_reply(arrived.face, interest.name, &content)?;
+        out.push_reply(arrived.face, arrived.token, interest.name, &content)?;
         self.fetch(&reply, interest.nonce, out)?;
         record(&mut self.guard, interest)?;
         Ok(reply.status)

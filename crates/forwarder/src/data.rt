@@ -1,31 +1,33 @@
-ghost use Rattle.std.specs.Prelude.{◌≡◌, ◌≤◌, ◌++◌, true, false, List, length, Ok, IsOk};
+ghost use Rattle.std.specs.Prelude.{◌≡◌, ◌≤◌, ◌++◌, true, false, All, List, length, Ok, IsOk};
 ghost use Rattle.sha2.specs.Sha256.{sha256};
 ghost use Rattle.ndn_names.specs.View.{components};
 ghost use Rattle.ndn_packets.specs.View.{plain_data};
 ghost use Rattle.info_rules.specs.declared.decision.Decision.TheVariants as said;
 ghost use Rattle.pit_fib.specs.Cause.{Satisfied, Follows};
-ghost use Rattle.pit_fib.specs.Records.{HoldsTheLiving};
+ghost use Rattle.pit_fib.specs.Records.{HoldsTheLiving, records_at};
+ghost use Rattle.pit_fib.specs.Tokens.{HaveNoTokens, IsTokenFor};
 ghost use Rattle.repo_core.specs.Repo.{IsOfferPrepared, after_offer};
 ghost use Rattle.forwarder.specs.Event.{Send};
-ghost use Rattle.forwarder.specs.Handling.{AwaitsPacket, HandlesPacket, data_packet, seen_by};
+ghost use Rattle.forwarder.specs.Handling.{AwaitsPacket, HandlesPacket, data_packet, seen_by, token_of};
 ghost use Rattle.forwarder.specs.Cache.{CacheAfter, Inserts, held_from};
 ghost use Rattle.forwarder.specs.Node.{NeedsNoMemory};
 ghost use Rattle.forwarder.specs.Policy.{Policy};
-ghost use Rattle.forwarder.specs.Replies.{IsSentToAskers};
+ghost use Rattle.forwarder.specs.Replies.{Askers, IsSentToAskers, faces_of, sent_to};
 ghost use Rattle.forwarder.specs.Request.{is_out_of_scope};
 ghost use Rattle.forwarder.specs.Said.{IsSaid};
+ghost use Rattle.forwarder.specs.Sending.{room_for_data};
 ghost use Rattle.forwarder.specs.State.{policy_of, state_of};
 
 use crate::arrived::Arrived;
 use crate::freshness::said_of_data;
 use crate::open_faces::without_face;
-use crate::sends::Sends;
+use crate::sends::{LINK_EXTRA, Sends};
 use crate::state::State;
 use crate::verdict::{DropReason, Verdict};
 use info_rules::{Decision, Kind, RuleNo};
 use ndn_packets::Data;
 use ndn_tlv::Memory;
-use pit_fib::MAX_FACES;
+use pit_fib::{Faces, MAX_FACES};
 
 impl State {
     /// Handles a Data (NFD Developer's Guide, "Incoming Data Pipeline"). Where the rules allow it,
@@ -36,9 +38,10 @@ impl State {
         arrived: &Arrived<'_, Data<'_>>,
         out: &mut Sends,
     ) -> Result<Verdict, Memory>
-        requires ready { AwaitsPacket self.old arrived.now.face }
+        requires ready { AwaitsPacket self.old arrived.now.face (token_of arrived.now.token) }
         ensures handles { HandlesPacket self.old self.new out.old.sends out.new.sends
-            arrived.now.face arrived.now.moment (data_packet arrived.now.packet.now) result }
+            arrived.now.face (token_of arrived.now.token) arrived.now.moment
+            (data_packet arrived.now.packet.now) result }
         ensures without_memory { NeedsNoMemory (policy_of self.old) arrived.now.face
             (Ok (data_packet arrived.now.packet.now)) → IsOk result }
     {
@@ -70,20 +73,29 @@ impl State {
         requires allowed { (p : Policy) → p.rules ≡ self.old.rules → p.keys ≡ self.old.keys
             → IsSaid p (data_packet arrived.now.packet.now) (said.Allowed rule) }
         ensures { HandlesPacket self.old self.new out.old.sends out.new.sends
-            arrived.now.face arrived.now.moment (data_packet arrived.now.packet.now) result }
+            arrived.now.face (token_of arrived.now.token) arrived.now.moment
+            (data_packet arrived.now.packet.now) result }
     {
+        let with_tokens = self.pit.has_tokens();
         self.repo.prepare_offer(arrived.packet)?;
-        out.reserve(MAX_FACES, arrived.packet.whole.len())?;
+        out.reserve(MAX_FACES, data_room(arrived.packet, with_tokens))?;
         self.pass_time(arrived.moment);
-        self.deliver(arrived.face, arrived.packet, out)?;
+        self.deliver(arrived.face, arrived.packet, with_tokens, out)?;
         Ok(Verdict::DataAllowed(rule))
     }
 
     /// Sends an allowed Data to whoever waits for it, and keeps it where it is wanted. It takes no
-    /// memory: room for 64 sends, and for the octets of one, and the offer are prepared.
-    fn deliver(&mut self, face: u64, packet: &Data<'_>, out: &mut Sends) -> Result<(), Memory>
+    /// memory: room for 64 sends and their octets, and the offer are prepared.
+    fn deliver(
+        &mut self,
+        face: u64,
+        packet: &Data<'_>,
+        with_tokens: bool,
+        out: &mut Sends,
+    ) -> Result<(), Memory>
+        requires tokens { with_tokens ≡ false → HaveNoTokens self.old.pit.pending }
         requires places { MAX_FACES ≤ out.old.places }
-        requires space { length packet.now.whole.now ≤ out.old.space }
+        requires space { room_for_data packet.now.whole.now with_tokens ≤ out.old.space }
         requires prepared { IsOfferPrepared self.old.repo (components packet.now.name)
             (sha256 packet.now.whole.now) packet.now.whole.now }
         ensures ok { IsOk result }
@@ -101,13 +113,67 @@ impl State {
             (Inserts (held_from self.old.now packet.now.whole.now (plain_data packet.now)))
             self.old.tables.store self.new.tables.store }
     {
+        if with_tokens {
+            self.send_with_tokens(face, packet, out)?;
+        }
         let askers = self.pit.satisfy(packet);
-        let is_awaited = askers.len() > 0;
-        out.push_to_each(&without_face(&askers, face), packet.whole)?;
-        if is_awaited {
+        if !with_tokens {
+            out.push_to_each(&without_face(&askers, face), packet.whole)?;
+        }
+        if askers.len() > 0 {
             self.tables.store.put(packet, self.now);
         }
         self.repo.offer(packet)?;
         Ok(())
+    }
+
+    /// Sends a Data to each other face that waits for it, each time with the token of the face's
+    /// latest Interest for it.
+    fn send_with_tokens(&self, face: u64, packet: &Data<'_>, out: &mut Sends) -> Result<(), Memory>
+        requires places { MAX_FACES ≤ out.old.places }
+        requires space { room_for_data packet.now.whole.now true ≤ out.old.space }
+        ensures ok { IsOk result }
+        ensures sends { (sends : List Send) × (out.new.sends ≡ out.old.sends ++ sends)
+            × IsSentToAskers (seen_by (state_of self.entry.now)) face packet.now.whole.now
+            (plain_data packet.now) sends }
+    {
+        let askers = self.pit.askers(packet);
+        self.push_with_tokens(&without_face(&askers, face), packet, out)
+    }
+
+    /// Sends a Data to these faces.
+    fn push_with_tokens(
+        &self,
+        faces: &Faces,
+        packet: &Data<'_>,
+        out: &mut Sends,
+    ) -> Result<(), Memory>
+        requires places { MAX_FACES ≤ out.old.places }
+        requires space { room_for_data packet.now.whole.now true ≤ out.old.space }
+        ensures ok { IsOk result }
+        ensures sends { (askers : Askers) × (faces_of askers ≡ faces.now)
+            × All (λ a. IsTokenFor (records_at self.entry.now.pit.pending) (components packet.now.name)
+            (sha256 packet.now.whole.now) a.0 a.1) askers
+            × (out.new.sends ≡ out.old.sends ++ sent_to askers packet.now.whole.now) }
+    {
+        for i in 0..faces.len() {
+            if let Some(face) = faces.get(i) {
+                let token = self.pit.token_for(packet, face);
+                out.push_back(face, token, packet.whole)?;
+            }
+        }
+        Ok(())
+    }
+}
+
+/// How many octets a Data takes at most that goes to whoever waits for it: with tokens each face may
+/// get a link packet of its own, and without them one copy serves all.
+fn data_room(packet: &Data<'_>, with_tokens: bool) -> usize
+    ensures { result ≡ room_for_data packet.now.whole.now with_tokens }
+{
+    if with_tokens {
+        MAX_FACES * (packet.whole.len() + LINK_EXTRA)
+    } else {
+        packet.whole.len()
     }
 }

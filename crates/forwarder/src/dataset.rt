@@ -6,7 +6,8 @@ ghost use Rattle.ndn_names.specs.View.{components};
 ghost use Rattle.ndn_packets.specs.View.{plain_interest};
 ghost use Rattle.pit_fib.specs.Fib.{left_at};
 ghost use Rattle.forwarder.specs.Datasets.{answered_with, dataset_text, is_present, list_answer, segment_data, segment_name};
-ghost use Rattle.forwarder.specs.Handling.{HandlesPacket, interest_packet};
+ghost use Rattle.forwarder.specs.Event.{Token};
+ghost use Rattle.forwarder.specs.Handling.{AwaitsPacket, HandlesPacket, interest_packet, token_of};
 ghost use Rattle.forwarder.specs.Policy.{Policy};
 ghost use Rattle.forwarder.specs.Request.{ForList, generic, list_name, request_of};
 ghost use Rattle.forwarder.specs.State.{policy_of};
@@ -36,10 +37,11 @@ pub(crate) fn list_segment(
     now: u64,
     asked: ListAsked,
 ) -> Result<Option<Vec<u8>>, Memory>
-    ensures answer { IfOk result (λ octets. (p : Policy) (face : ℕ)
+    ensures answer { IfOk result (λ octets. (p : Policy) (face : ℕ) (token : Token)
         → p.now ≡ now → p.routes ≡ left_at now tables.now.fib.table
         → p.choices ≡ tables.now.strategies.table → p.table_number ≡ table_number
-        → list_answer p face asked ≡ answered_with face (option_map (λ o. o.items) octets)) }
+        → list_answer p face token asked
+        ≡ answered_with face token (option_map (λ o. o.items) octets)) }
     // It is no longer than a packet may be.
     ensures short { IfOk result (λ octets. IfSome octets (λ o. length o.items ≤ 8800)) }
 {
@@ -147,17 +149,19 @@ impl State {
         asked: ListAsked,
         out: &mut Sends,
     ) -> Result<Verdict, Memory>
+        requires ready { AwaitsPacket self.old arrived.now.face (token_of arrived.now.token) }
         requires for_list { request_of (policy_of self.old) arrived.now.face
             (plain_interest arrived.now.packet.now) ≡ ForList asked }
         ensures { HandlesPacket self.old self.new out.old.sends out.new.sends
-            arrived.now.face arrived.now.moment (interest_packet arrived.now.packet.now) result }
+            arrived.now.face (token_of arrived.now.token) arrived.now.moment
+            (interest_packet arrived.now.packet.now) result }
     {
         let now = self.now.max(arrived.moment);
         let number = self.table_number.saturating_add(self.tables.fib.due(now));
         let Some(octets) = list_segment(self.alloc, &self.tables, number, now, asked)? else {
             return Ok(self.drop_packet(arrived.moment, DropReason::NoSegment));
         };
-        out.push(arrived.face, &octets)?;
+        out.push_back(arrived.face, arrived.token, &octets)?;
         self.pass_time(arrived.moment);
         Ok(Verdict::Passed)
     }

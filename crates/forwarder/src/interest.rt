@@ -1,26 +1,27 @@
-ghost use Rattle.std.specs.Prelude.{◌≡◌, ◌≢◌, ◌+◌, ◌≤◌, ◌++◌, ◌∷◌, [], ℕ, true, false, length, max, All, None, Some, Ok, IfOk, IsOk, IsSome};
+ghost use Rattle.std.specs.Prelude.{◌≡◌, ◌≢◌, ◌+◌, ◌≤◌, ◌++◌, ◌∷◌, [], ℕ, true, false, length, max, All, None, Some, Ok, IfOk, IfSome, IsOk, IsSome};
 ghost use Rattle.content_store.specs.Store.{CachedData, CanServe, IsLeast};
 ghost use Rattle.ndn_packets.specs.Key.{key_of};
+ghost use Rattle.ndn_packets.specs.Link.{IsToken};
 ghost use Rattle.ndn_packets.specs.View.{plain_interest};
-ghost use Rattle.ndn_packets.specs.Writing.{nack_text};
+ghost use Rattle.ndn_packets.specs.Writing.{AreOctets};
 ghost use Rattle.pit_fib.specs.Cause.{Arrives};
 ghost use Rattle.pit_fib.specs.Faces.{has_face};
-ghost use Rattle.pit_fib.specs.Pit.{loops};
+ghost use Rattle.pit_fib.specs.Pit.{loops, token_len};
 ghost use Rattle.pit_fib.specs.Records.{HoldsTheLiving, is_alive, records_at};
 ghost use Rattle.repo_core.specs.Objects.{served};
 ghost use Rattle.strategies.specs.declared.strategy.Choice.TheVariants as choices;
 ghost use Rattle.forwarder.specs.Causes.{sent_causes};
+ghost use Rattle.forwarder.specs.Event.{nacked_back};
 ghost use Rattle.forwarder.specs.Faces.{is_open};
 ghost use Rattle.forwarder.specs.Forwarding.{ForwardsBy, choice_from};
-ghost use Rattle.forwarder.specs.Handling.{AwaitsPacket, HandlesPacket, interest_packet};
+ghost use Rattle.forwarder.specs.Handling.{AwaitsPacket, HandlesPacket, interest_packet, token_of};
 ghost use Rattle.forwarder.specs.Node.{FollowAll, NeedsNoMemory};
 ghost use Rattle.forwarder.specs.Request.{ForData, request_of};
 ghost use Rattle.forwarder.specs.State.{IsSound, policy_of, state_of};
 
 use crate::arrived::Arrived;
-use crate::nack::NACK_EXTRA;
 use crate::request::{NamedRequest, has_no_hops, named_request};
-use crate::sends::Sends;
+use crate::sends::{LINK_EXTRA, Sends};
 use crate::state::State;
 use crate::verdict::{DropReason, Verdict};
 use ndn_packets::{DUPLICATE, Interest, MAX_PACKET, NO_ROUTE};
@@ -35,9 +36,10 @@ impl State {
         arrived: &Arrived<'_, Interest<'_>>,
         out: &mut Sends,
     ) -> Result<Verdict, Memory>
-        requires ready { AwaitsPacket self.old arrived.now.face }
+        requires ready { AwaitsPacket self.old arrived.now.face (token_of arrived.now.token) }
         ensures handles { HandlesPacket self.old self.new out.old.sends out.new.sends
-            arrived.now.face arrived.now.moment (interest_packet arrived.now.packet.now) result }
+            arrived.now.face (token_of arrived.now.token) arrived.now.moment
+            (interest_packet arrived.now.packet.now) result }
         ensures without_memory { NeedsNoMemory (policy_of self.old) arrived.now.face
             (Ok (interest_packet arrived.now.packet.now)) → IsOk result }
     {
@@ -61,12 +63,13 @@ impl State {
         arrived: &Arrived<'_, Interest<'_>>,
         out: &mut Sends,
     ) -> Result<Verdict, Memory>
-        requires ready { AwaitsPacket self.old arrived.now.face }
+        requires ready { AwaitsPacket self.old arrived.now.face (token_of arrived.now.token) }
         requires for_data { request_of (policy_of self.old) arrived.now.face
             (plain_interest arrived.now.packet.now) ≡ ForData }
         requires hops { arrived.now.packet.now.hop_limit ≢ Some 0 }
         ensures { HandlesPacket self.old self.new out.old.sends out.new.sends
-            arrived.now.face arrived.now.moment (interest_packet arrived.now.packet.now) result }
+            arrived.now.face (token_of arrived.now.token) arrived.now.moment
+            (interest_packet arrived.now.packet.now) result }
     {
         let interest = arrived.packet;
         let now = self.now.max(arrived.moment);
@@ -87,16 +90,17 @@ impl State {
         place: usize,
         out: &mut Sends,
     ) -> Result<Verdict, Memory>
-        requires ready { AwaitsPacket self.old arrived.now.face }
+        requires ready { AwaitsPacket self.old arrived.now.face (token_of arrived.now.token) }
         requires for_data { request_of (policy_of self.old) arrived.now.face
             (plain_interest arrived.now.packet.now) ≡ ForData }
         requires held { (c : CachedData)
             × IsLeast (CanServe (key_of (plain_interest arrived.now.packet.now))
             (max self.old.now arrived.now.moment)) self.old.tables.store.cached c }
         ensures { HandlesPacket self.old self.new out.old.sends out.new.sends
-            arrived.now.face arrived.now.moment (interest_packet arrived.now.packet.now) result }
+            arrived.now.face (token_of arrived.now.token) arrived.now.moment
+            (interest_packet arrived.now.packet.now) result }
     {
-        out.reserve(1, MAX_PACKET + NACK_EXTRA)?;
+        out.reserve(1, MAX_PACKET + LINK_EXTRA)?;
         self.pass_time(arrived.moment);
         if self.nack_loop(arrived, out)? {
             return Ok(Verdict::Dropped(DropReason::Loop));
@@ -105,7 +109,7 @@ impl State {
         let Some(octets) = self.tables.store.serve_at(place, key, self.now) else {
             unreachable!()
         };
-        out.push(arrived.face, octets)?;
+        out.push_back(arrived.face, arrived.token, octets)?;
         Ok(Verdict::Passed)
     }
 
@@ -116,7 +120,7 @@ impl State {
         arrived: &Arrived<'_, Interest<'_>>,
         out: &mut Sends,
     ) -> Result<Verdict, Memory>
-        requires ready { AwaitsPacket self.old arrived.now.face }
+        requires ready { AwaitsPacket self.old arrived.now.face (token_of arrived.now.token) }
         requires for_data { request_of (policy_of self.old) arrived.now.face
             (plain_interest arrived.now.packet.now) ≡ ForData }
         requires uncached { All (λ c. ¬ CanServe (key_of (plain_interest arrived.now.packet.now))
@@ -124,9 +128,10 @@ impl State {
         requires stored { IsSome (served (plain_interest arrived.now.packet.now).name
             (plain_interest arrived.now.packet.now).can_be_prefix self.old.repo.held.objects) }
         ensures { HandlesPacket self.old self.new out.old.sends out.new.sends
-            arrived.now.face arrived.now.moment (interest_packet arrived.now.packet.now) result }
+            arrived.now.face (token_of arrived.now.token) arrived.now.moment
+            (interest_packet arrived.now.packet.now) result }
     {
-        out.reserve(1, MAX_PACKET + NACK_EXTRA)?;
+        out.reserve(1, MAX_PACKET + LINK_EXTRA)?;
         self.pass_time(arrived.moment);
         if self.nack_loop(arrived, out)? {
             return Ok(Verdict::Dropped(DropReason::Loop));
@@ -134,7 +139,7 @@ impl State {
         let Some(octets) = self.repo.serve(arrived.packet) else {
             unreachable!()
         };
-        out.push(arrived.face, octets)?;
+        out.push_back(arrived.face, arrived.token, octets)?;
         Ok(Verdict::Passed)
     }
 
@@ -145,7 +150,7 @@ impl State {
         arrived: &Arrived<'_, Interest<'_>>,
         out: &mut Sends,
     ) -> Result<Verdict, Memory>
-        requires ready { AwaitsPacket self.old arrived.now.face }
+        requires ready { AwaitsPacket self.old arrived.now.face (token_of arrived.now.token) }
         requires for_data { request_of (policy_of self.old) arrived.now.face
             (plain_interest arrived.now.packet.now) ≡ ForData }
         requires hops { arrived.now.packet.now.hop_limit ≢ Some 0 }
@@ -155,16 +160,18 @@ impl State {
             (plain_interest arrived.now.packet.now).can_be_prefix self.old.repo.held.objects
             ≡ None }
         ensures { HandlesPacket self.old self.new out.old.sends out.new.sends
-            arrived.now.face arrived.now.moment (interest_packet arrived.now.packet.now) result }
+            arrived.now.face (token_of arrived.now.token) arrived.now.moment
+            (interest_packet arrived.now.packet.now) result }
     {
         let interest = arrived.packet;
-        self.pit.prepare(interest.key(), interest.whole.len())?;
-        out.reserve(MAX_FACES, MAX_PACKET + NACK_EXTRA)?;
+        self.pit
+            .prepare(interest.key(), kept_len(interest, arrived.token))?;
+        out.reserve(MAX_FACES, MAX_PACKET + LINK_EXTRA)?;
         self.pass_time(arrived.moment);
         if self.nack_loop(arrived, out)? {
             return Ok(Verdict::Dropped(DropReason::Loop));
         }
-        self.forward(arrived.face, interest, out)
+        self.forward(arrived.face, arrived.token, interest, out)
     }
 
     /// Sends a Nack back where an Interest loops (NFD Developer's Guide, "Interest Loop Pipeline"),
@@ -174,22 +181,24 @@ impl State {
         arrived: &Arrived<'_, Interest<'_>>,
         out: &mut Sends,
     ) -> Result<bool, Memory>
+        requires is_token { IfSome (token_of arrived.now.token) IsToken }
         requires places { 1 ≤ out.old.places }
-        requires space { length arrived.now.packet.now.whole.now + NACK_EXTRA ≤ out.old.space }
+        requires space { length arrived.now.packet.now.whole.now + LINK_EXTRA ≤ out.old.space }
         ensures ok { IsOk result }
         ensures found { IfOk result (λ is_loop. is_loop
             ≡ loops (records_at self.entry.now.pit.pending
             (key_of (plain_interest arrived.now.packet.now))) arrived.now.face
             (plain_interest arrived.now.packet.now).nonce) }
         ensures sent { result ≡ Ok true → out.new.sends ≡ out.old.sends
-            ++ (arrived.now.face, nack_text DUPLICATE arrived.now.packet.now.whole.now) ∷ [] }
+            ++ nacked_back arrived.now.face (token_of arrived.now.token) DUPLICATE
+            arrived.now.packet.now.whole.now ∷ [] }
         ensures same { result ≡ Ok false → out.new ≡ out.old }
     {
         let interest = arrived.packet;
         if !self.pit.loops(interest.key(), arrived.face, interest.nonce) {
             return Ok(false);
         }
-        out.push_nack(arrived.face, DUPLICATE, interest.whole)?;
+        out.push_nack(arrived.face, arrived.token, DUPLICATE, interest.whole)?;
         Ok(true)
     }
 
@@ -197,6 +206,7 @@ impl State {
     fn forward(
         &mut self,
         face: u64,
+        token: Option<&[u8]>,
         interest: &Interest<'_>,
         out: &mut Sends,
     ) -> Result<Verdict, Memory>
@@ -204,12 +214,17 @@ impl State {
         requires from { is_open face self.old.faces ≡ true }
         requires hops { interest.now.hop_limit ≢ Some 0 }
         requires prepared { self.old.pit.prepared
-            ≡ Some (key_of (plain_interest interest.now), Some (length interest.now.whole.now)) }
+            ≡ Some (
+              key_of (plain_interest interest.now),
+              Some (length interest.now.whole.now + token_len (token_of token)),
+            ) }
+        requires is_token { IfSome (token_of token) IsToken }
+        requires octets { IfSome (token_of token) AreOctets }
         requires places { MAX_FACES ≤ out.old.places }
-        requires space { length interest.now.whole.now + NACK_EXTRA ≤ out.old.space }
+        requires space { length interest.now.whole.now + LINK_EXTRA ≤ out.old.space }
         ensures ok { IsOk result }
         ensures forwards { IfOk result (ForwardsBy self.old self.new out.old.sends out.new.sends
-            face interest.now.whole.now (plain_interest interest.now)
+            face (token_of token.entry) interest.now.whole.now (plain_interest interest.now)
             (choice_from (state_of self.old) face (plain_interest interest.now))) }
     {
         let key = interest.key();
@@ -217,10 +232,10 @@ impl State {
         match self.choose(interest.name, &used, self.ask_from(face, interest)) {
             Choice::NoRoute => {
                 self.pit.withdraw(key, face);
-                out.push_nack(face, NO_ROUTE, interest.whole)?;
+                out.push_nack(face, token, NO_ROUTE, interest.whole)?;
                 Ok(Verdict::Passed)
             }
-            Choice::Send(faces) => self.send_on(face, interest, &faces, out),
+            Choice::Send(faces) => self.send_on(face, token, interest, &faces, out),
         }
     }
 
@@ -228,6 +243,7 @@ impl State {
     fn send_on(
         &mut self,
         face: u64,
+        token: Option<&[u8]>,
         interest: &Interest<'_>,
         faces: &Faces,
         out: &mut Sends,
@@ -238,18 +254,23 @@ impl State {
         requires chosen { choice_from (state_of self.old) face (plain_interest interest.now)
             ≡ choices.Send faces.now }
         requires prepared { self.old.pit.prepared
-            ≡ Some (key_of (plain_interest interest.now), Some (length interest.now.whole.now)) }
+            ≡ Some (
+              key_of (plain_interest interest.now),
+              Some (length interest.now.whole.now + token_len (token_of token)),
+            ) }
+        requires is_token { IfSome (token_of token) IsToken }
         requires places { MAX_FACES ≤ out.old.places }
-        requires space { length interest.now.whole.now + NACK_EXTRA ≤ out.old.space }
+        requires space { length interest.now.whole.now + LINK_EXTRA ≤ out.old.space }
         ensures ok { IsOk result }
         ensures forwards { IfOk result (ForwardsBy self.old self.new out.old.sends out.new.sends
-            face interest.now.whole.now (plain_interest interest.now) (choices.Send faces.now)) }
+            face (token_of token.entry) interest.now.whole.now (plain_interest interest.now)
+            (choices.Send faces.now)) }
     {
         let key = interest.key();
         let deadline = self.now.saturating_add(interest.lifetime);
         match self
             .pit
-            .arrive(key, face, interest.nonce, interest.whole, deadline)
+            .arrive(key, face, interest.nonce, interest.whole, deadline, token)
         {
             Ok(()) => {}
             Err(PitFault::PitFull) => return Ok(Verdict::Dropped(DropReason::PitFull)),
@@ -284,4 +305,12 @@ impl State {
         }
         Ok(())
     }
+}
+
+/// The octets of an Interest and of its token together.
+fn kept_len(interest: &Interest<'_>, token: Option<&[u8]>) -> usize
+    requires { IfSome (token_of token) IsToken }
+    ensures { result ≡ length interest.now.whole.now + token_len (token_of token.entry) }
+{
+    interest.whole.len() + token.map_or(0, |token| token.len())
 }

@@ -4,7 +4,7 @@ ghost use Rattle.hmac_keys.specs.KeyFile.{AreApart, NamedKey};
 ghost use Rattle.info_rules.specs.Rule.{PlainRule};
 ghost use Rattle.forwarder.specs.Event.{PlainEvent};
 ghost use Rattle.forwarder.specs.Policy.{Policy, at_moment};
-ghost use Rattle.forwarder.specs.Event.{moment};
+ghost use Rattle.forwarder.specs.Event.{moment, token_in};
 ghost use Rattle.forwarder.specs.Verdict.{Answer};
 ghost use Rattle.forwarder.specs.Effects.{IsAfter, decided_packet, face_in};
 ghost use Rattle.info_rules.specs.declared.decision.Decision.TheVariants as decided;
@@ -157,14 +157,14 @@ pub fn every_data_sent_was_asked_for()
         (octets whole : List ℕ) (d : PlainData) (reply : MayReply first past event answer)
         → first.held.objects ≡ map.empty → IsRun first past → BringsOctets event
         → Contains answer.sends (face, octets) → frame_at octets ≡ Ok (AData whole d)
-        → WasAskedFor first past reply.was event face octets whole d }
+        → WasAskedFor first past reply.was event face whole d }
     // A Data that no reader takes, as it is too long, is the node's own answer.
     ensures unread { (first : Policy) (past : Run) (event : PlainEvent) (answer : Answer) (face : ℕ)
         (octets : List ℕ) (reply : MayReply first past event answer)
         → first.held.objects ≡ map.empty → IsRun first past → BringsOctets event
         → Contains answer.sends (face, octets) → is_data octets ≡ true
         → ((whole : List ℕ) (d : PlainData) → frame_at octets ≢ Ok (AData whole d))
-        → AnswersItself reply.was event face octets }
+        → AnswersItself reply.was event (face, octets) }
 {}
 
 /// Law: of one signer's commands each that is allowed has a greater time than all that were allowed
@@ -251,9 +251,9 @@ pub fn unanswered_interests_wait()
         → BringsOctets event → IsPassed event answer face whole i
         → let now = max (now_of past) (moment event) in
         let seen = seen_after past (at_moment reply.was (moment event)) reply.waiting in
-        (IsKept now event answer (key_of i) face (in_record_for now whole i)
+        (IsKept now event answer (key_of i) face (in_record_for now (token_in event) whole i)
         × IsSentOn face whole i answer.sends)
-        ⊎ IsAnswered seen face whole i answer.sends }
+        ⊎ IsAnswered seen face (token_in event) whole i answer.sends }
 {}
 
 /// Law: the cost of a hop of the routes after a run is that of the last add-nexthop of its name and
@@ -289,7 +289,8 @@ pub fn denials_name_their_rule()
         → (packet : PlainFrame) × (n : RuleNo)
         × (decided_packet (at_moment reply.was (moment event)) event ≡ Some packet)
         × IsSaid (at_moment reply.was (moment event)) packet (decided.Denied n reason)
-        × (rule ≡ n.0) × IsDenial (at_moment reply.was (moment event)) (face_in event) packet
+        × (rule ≡ n.0) × IsDenial (at_moment reply.was (moment event)) (face_in event)
+        (token_in event) packet
         (decided.Denied n reason) answer }
     ensures no_rule { (first : Policy) (past : Run) (event : PlainEvent) (answer : Answer)
         (kind : Kind) (reply : MayReply first past event answer)
@@ -297,6 +298,7 @@ pub fn denials_name_their_rule()
         → (packet : PlainFrame)
         × (decided_packet (at_moment reply.was (moment event)) event ≡ Some packet)
         × IsSaid (at_moment reply.was (moment event)) packet decided.NoRule
-        × IsDenial (at_moment reply.was (moment event)) (face_in event) packet decided.NoRule
+        × IsDenial (at_moment reply.was (moment event)) (face_in event)
+        (token_in event) packet decided.NoRule
         answer }
 {}

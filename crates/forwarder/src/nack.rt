@@ -4,22 +4,19 @@ ghost use Rattle.ndn_packets.specs.Key.{plain_key};
 ghost use Rattle.ndn_packets.specs.Packet.{ANack};
 ghost use Rattle.ndn_packets.specs.View.{plain_interest};
 ghost use Rattle.forwarder.specs.Faces.{is_open, numbers};
-ghost use Rattle.forwarder.specs.Handling.{AwaitsPacket, HandlesPacket};
+ghost use Rattle.forwarder.specs.Handling.{AwaitsPacket, HandlesPacket, token_of};
 ghost use Rattle.forwarder.specs.NackRoom.{in_records_at, nack_room};
 ghost use Rattle.forwarder.specs.Node.{NeedsNoMemory};
 ghost use Rattle.forwarder.specs.Replies.{nacks_to};
 ghost use Rattle.forwarder.specs.State.{policy_of};
 
 use crate::arrived::Arrived;
-use crate::sends::Sends;
+use crate::sends::{LINK_EXTRA, Sends};
 use crate::state::State;
 use crate::verdict::{DropReason, Verdict};
 use ndn_packets::{Interest, Key};
 use ndn_tlv::Memory;
 use pit_fib::{MAX_FACES, Nacked};
-
-/// A Nack is at most so many octets longer than the Interest in it.
-pub const NACK_EXTRA: usize = 40;
 
 impl State {
     /// Handles a Nack (NFD Developer's Guide, "Incoming Nack Pipeline"). Once each out-record has
@@ -30,9 +27,10 @@ impl State {
         arrived: &Arrived<'_, Interest<'_>>,
         out: &mut Sends,
     ) -> Result<Verdict, Memory>
-        requires ready { AwaitsPacket self.old arrived.now.face }
+        requires ready { AwaitsPacket self.old arrived.now.face (token_of arrived.now.token) }
         ensures handles { HandlesPacket self.old self.new out.old.sends out.new.sends
-            arrived.now.face arrived.now.moment (ANack reason arrived.now.packet.now.whole.now
+            arrived.now.face (token_of arrived.now.token) arrived.now.moment
+            (ANack reason arrived.now.packet.now.whole.now
             (plain_interest arrived.now.packet.now)) result }
         ensures without_memory { NeedsNoMemory (policy_of self.old) arrived.now.face
             (Ok (ANack reason arrived.now.packet.now.whole.now
@@ -76,7 +74,7 @@ impl State {
     }
 
     /// Sends a Nack of this reason to each face with an in-record of a key, around the Interest that
-    /// it sent. Room for them is reserved.
+    /// it sent and with its token. Room for them is reserved.
     fn push_nacks(&self, key: Key<'_>, reason: u64, out: &mut Sends) -> Result<(), Memory>
         requires known { (f : ℕ) → IsSome (map.get (in_records_at self.now.pit.pending (plain_key key)) f)
             → is_open f self.now.faces ≡ true }
@@ -92,7 +90,7 @@ impl State {
                 continue;
             };
             if let Some(octets) = self.pit.interest_of(key, face) {
-                out.push_nack(face, reason, octets)?;
+                out.push_nack(face, self.pit.token_of(key, face), reason, octets)?;
             }
         }
         Ok(())
@@ -101,8 +99,8 @@ impl State {
 
 /// The room with that of one more Nack, around so many octets.
 fn room_with(room: usize, octets: usize) -> Result<usize, Memory>
-    ensures { IfOk result (λ sum. sum ≡ room + (octets + NACK_EXTRA)) }
+    ensures { IfOk result (λ sum. sum ≡ room + (octets + LINK_EXTRA)) }
 {
-    let more = octets.checked_add(NACK_EXTRA).ok_or(Memory)?;
+    let more = octets.checked_add(LINK_EXTRA).ok_or(Memory)?;
     room.checked_add(more).ok_or(Memory)
 }

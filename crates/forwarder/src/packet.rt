@@ -13,7 +13,7 @@ use crate::arrived::Arrived;
 use crate::sends::Sends;
 use crate::state::State;
 use crate::verdict::{DropReason, Verdict};
-use ndn_packets::{Frame, read_frame};
+use ndn_packets::{Frame, Framed, read_lp};
 use ndn_tlv::Memory;
 
 impl State {
@@ -41,30 +41,36 @@ impl State {
         if !self.faces.contains(face) {
             return Ok(self.drop_packet(now, DropReason::NoFace));
         }
-        match read_frame(octets) {
-            Err(fault) => Ok(self.drop_packet(now, DropReason::Malformed(fault))),
-            Ok(Frame::Idle) => Ok(self.drop_packet(now, DropReason::Idle)),
-            Ok(Frame::Interest(interest)) => self.receive_interest(
+        let Framed { token, frame } = match read_lp(octets) {
+            Ok(framed) => framed,
+            Err(fault) => return Ok(self.drop_packet(now, DropReason::Malformed(fault))),
+        };
+        match frame {
+            Frame::Idle => Ok(self.drop_packet(now, DropReason::Idle)),
+            Frame::Interest(interest) => self.receive_interest(
                 &Arrived {
                     face,
                     moment: now,
+                    token,
                     packet: &interest,
                 },
                 out,
             ),
-            Ok(Frame::Data(data)) => self.receive_data(
+            Frame::Data(data) => self.receive_data(
                 &Arrived {
                     face,
                     moment: now,
+                    token,
                     packet: &data,
                 },
                 out,
             ),
-            Ok(Frame::Nack { reason, interest }) => self.receive_nack(
+            Frame::Nack { reason, interest } => self.receive_nack(
                 reason,
                 &Arrived {
                     face,
                     moment: now,
+                    token,
                     packet: &interest,
                 },
                 out,

@@ -6,6 +6,7 @@ ghost use Rattle.mgmt_core.specs.Commands.{text_of};
 ghost use Rattle.mgmt_core.specs.Writing.{response};
 ghost use Rattle.forwarder.specs.Commands.{repository_content};
 
+use crate::sends::LINK_EXTRA;
 use mgmt_core::{put_response, status_text};
 use ndn_names::Name;
 use ndn_tlv::Memory;
@@ -15,16 +16,16 @@ use repo_core::{RepoReply, put_repo_reply, repo_status_text};
 /// signature.
 const REPLY_EXTRA: usize = 77;
 
-/// A number of octets that is enough for a reply of this name, where its Content is no longer than
-/// that. `Memory` where no memory has so many.
+/// A number of octets that is enough for a reply of this name with a token, where its Content is no
+/// longer than that. `Memory` where no memory has so many.
 pub(crate) fn reply_room(name: Name<'_>, content_len: usize) -> Result<usize, Memory>
     ensures { IfOk result (λ room. (content : List ℕ) → length content ≤ content_len
-        → length (reply_text (components name.entry) content) ≤ room) }
+        → length (reply_text (components name.entry) content) + LINK_EXTRA ≤ room) }
 {
     let Some(len) = name.as_octets().len().checked_add(content_len) else {
         return Err(Memory);
     };
-    let Some(room) = len.checked_add(REPLY_EXTRA) else {
+    let Some(room) = len.checked_add(REPLY_EXTRA + LINK_EXTRA) else {
         return Err(Memory);
     };
     Ok(room)

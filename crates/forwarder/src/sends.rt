@@ -1,22 +1,26 @@
-ghost use Rattle.std.specs.Prelude.{◌≡◌, ◌≢◌, ◌↔◌, ◌+◌, ◌<◌, ◌≤◌, ℕ, List, [], ◌∷◌, ◌++◌, length, map, slice_get, vec_len, Some, None, IsTrue, IsOk, OnOk, OnErr, IfOk, Err, is_ok};
-ghost use Rattle.std.specs.Option.{option_map, is_none};
+ghost use Rattle.std.specs.Prelude.{◌≡◌, ◌≢◌, ◌↔◌, ◌+◌, ◌<◌, ◌≤◌, ℕ, List, [], ◌∷◌, ◌++◌, length, map, slice_get, vec_len, Some, None, IsTrue, IsOk, OnOk, OnErr, IfOk, IfSome, Err, is_ok};
+ghost use Rattle.std.specs.Option.{option_map};
 ghost use Rattle.std.specs.Vec.{vec_capacity};
 ghost use Rattle.ndn_names.specs.View.{components};
 ghost use Rattle.ndn_packets.specs.HopLimit.{HasHopLimit, with_octet};
-ghost use Rattle.ndn_packets.specs.Writing.{data_refusal, data_text, interest_refusal, interest_text, nack_text, reply_text};
-ghost use Rattle.forwarder.specs.Event.{Send, to_each};
+ghost use Rattle.ndn_packets.specs.Link.{IsToken};
+ghost use Rattle.ndn_packets.specs.Writing.{interest_refusal, interest_text, lp_text, reply_text};
+ghost use Rattle.forwarder.specs.Event.{Send, nacked_back, sent_back, to_each};
+ghost use Rattle.forwarder.specs.Handling.{token_of};
 ghost use Rattle.forwarder.specs.NextHops.{sent_on};
 ghost use Rattle.forwarder.specs.Outbox.{placed};
-ghost use Rattle.forwarder.specs.Sending.{data_sends, fetched};
+ghost use Rattle.forwarder.specs.Sending.{fetched};
 
 use ndn_names::Name;
-use ndn_packets::{
-    DataWriter, Interest, InterestWriter, WriteFault, hop_limit_mut, put_nack, put_reply,
-};
+use ndn_packets::{Interest, InterestWriter, WriteFault, hop_limit_mut, put_lp, put_reply, wrap};
 use ndn_tlv::Memory;
 use pit_fib::{Faces, MAX_FACES};
 use std::alloc::Global;
 use std::marker::Model;
+
+/// A link packet is at most so many octets longer than the packet in it: its headers, a token of 32
+/// octets, and a Nack with its reason.
+pub const LINK_EXTRA: usize = 70;
 
 /// Where the octets of one send stand.
 #[derive(Clone, Copy)]
@@ -126,42 +130,99 @@ impl Sends {
         Ok(())
     }
 
-    /// Adds a Nack of this reason around an Interest's octets.
-    pub fn push_nack(&mut self, face: u64, reason: u64, interest: &[u8]) -> Result<(), Memory>
-        ensures ok { OnOk result
-            (self.new.sends ≡ self.old.sends ++ (face, nack_text reason interest.now) ∷ []) }
+    /// Adds a packet that goes back to a face which asked, with the token of its Interest.
+    pub fn push_back(
+        &mut self,
+        face: u64,
+        token: Option<&[u8]>,
+        packet: &[u8],
+    ) -> Result<(), Memory>
+        requires { IfSome (token_of token) IsToken }
+        ensures ok { OnOk result (self.new.sends ≡ self.old.sends
+            ++ sent_back face (token_of token.entry) packet.now ∷ []) }
         ensures err { OnErr result (self.new.sends ≡ self.old.sends) }
         // Where there is room, memory is not refused.
-        ensures promised { 1 ≤ self.old.places
-            → length (nack_text reason interest.now) ≤ self.old.space → IsOk result }
+        ensures promised { 1 ≤ self.old.places → length packet.now + LINK_EXTRA ≤ self.old.space
+            → IsOk result }
         // What is left for later sends.
         ensures room { self.old.places ≤ self.new.places + 1 }
-        ensures space { self.old.space ≤ self.new.space + length (nack_text reason interest.now) }
+        ensures space { self.old.space ≤ self.new.space + (length packet.now + LINK_EXTRA) }
+    {
+        self.push_lp(face, token, None, packet)
+    }
+
+    /// Adds a Nack of this reason around an Interest's octets, with its token.
+    pub fn push_nack(
+        &mut self,
+        face: u64,
+        token: Option<&[u8]>,
+        reason: u64,
+        interest: &[u8],
+    ) -> Result<(), Memory>
+        requires { IfSome (token_of token) IsToken }
+        ensures ok { OnOk result (self.new.sends ≡ self.old.sends
+            ++ nacked_back face (token_of token.entry) reason interest.now ∷ []) }
+        ensures err { OnErr result (self.new.sends ≡ self.old.sends) }
+        // Where there is room, memory is not refused.
+        ensures promised { 1 ≤ self.old.places → length interest.now + LINK_EXTRA ≤ self.old.space
+            → IsOk result }
+        // What is left for later sends.
+        ensures room { self.old.places ≤ self.new.places + 1 }
+        ensures space { self.old.space ≤ self.new.space + (length interest.now + LINK_EXTRA) }
+    {
+        self.push_lp(face, token, Some(reason), interest)
+    }
+
+    /// Adds a packet in a link packet with a token, a Nack of a reason, or both (NDNLPv2, "Packet
+    /// Format"), or bare where there is neither.
+    fn push_lp(
+        &mut self,
+        face: u64,
+        token: Option<&[u8]>,
+        nack: Option<u64>,
+        packet: &[u8],
+    ) -> Result<(), Memory>
+        requires { IfSome (token_of token) IsToken }
+        ensures ok { OnOk result (self.new.sends ≡ self.old.sends
+            ++ (face, lp_text (token_of token.entry) nack packet.now) ∷ []) }
+        ensures err { OnErr result (self.new.sends ≡ self.old.sends) }
+        ensures promised { 1 ≤ self.old.places → length packet.now + LINK_EXTRA ≤ self.old.space
+            → IsOk result }
+        ensures room { self.old.places ≤ self.new.places + 1 }
+        ensures space { self.old.space ≤ self.new.space + (length packet.now + LINK_EXTRA) }
     {
         self.places.reserve(1)?;
         let start = self.octets.len();
-        put_nack(&mut self.octets, reason, interest)?;
+        put_lp(&mut self.octets, token, nack, packet)?;
         place(&mut self.places, face, start, self.octets.len())?;
         Ok(())
     }
 
-    /// Adds a reply: a Data of this name and Content, without MetaInfo, signed with DigestSha256.
-    pub fn push_reply(&mut self, face: u64, name: Name<'_>, content: &[u8]) -> Result<(), Memory>
-        ensures ok { OnOk result (self.new.sends
-            ≡ self.old.sends ++ (face, reply_text (components name.entry) content.now) ∷ []) }
+    /// Adds a reply: a Data of this name and Content, without MetaInfo, signed with DigestSha256. It
+    /// goes back with the token of the Interest that it answers.
+    pub fn push_reply(
+        &mut self,
+        face: u64,
+        token: Option<&[u8]>,
+        name: Name<'_>,
+        content: &[u8],
+    ) -> Result<(), Memory>
+        requires { IfSome (token_of token) IsToken }
+        ensures ok { OnOk result (self.new.sends ≡ self.old.sends ++ sent_back face
+            (token_of token.entry) (reply_text (components name.entry) content.now) ∷ []) }
         ensures err { OnErr result (self.new.sends ≡ self.old.sends) }
         // Where there is room, memory is not refused.
         ensures promised { 1 ≤ self.old.places
-            → length (reply_text (components name.entry) content.now) ≤ self.old.space
-            → IsOk result }
+            → length (reply_text (components name.entry) content.now) + LINK_EXTRA
+            ≤ self.old.space → IsOk result }
         // What is left for later sends.
         ensures room { self.old.places ≤ self.new.places + 1 }
-        ensures space { self.old.space
-            ≤ self.new.space + length (reply_text (components name.entry) content.now) }
+        ensures space { self.old.space ≤ self.new.space
+            + (length (reply_text (components name.entry) content.now) + LINK_EXTRA) }
     {
         self.places.reserve(1)?;
         let start = self.octets.len();
-        put_reply(&mut self.octets, name, content)?;
+        put_reply_back(&mut self.octets, token, name, content)?;
         place(&mut self.places, face, start, self.octets.len())?;
         Ok(())
     }
@@ -207,28 +268,6 @@ impl Sends {
         put_sent_on(&mut self.octets, interest)?;
         place_each(&mut self.places, faces, start, self.octets.len())?;
         Ok(())
-    }
-
-    /// Adds a Data, and answers true. Answers false, and adds nothing, for one that is too long for
-    /// a packet.
-    pub fn push_data(&mut self, face: u64, writer: &DataWriter<'_>) -> Result<bool, Memory>
-        ensures ok { OnOk result (self.new.sends ≡ self.old.sends ++ data_sends face writer.now) }
-        ensures written { IfOk result (λ written. written ≡ is_none (data_refusal writer.now)) }
-        ensures err { OnErr result (self.new.sends ≡ self.old.sends) }
-        // Where there is room, memory is not refused.
-        ensures promised { 1 ≤ self.old.places → length (data_text writer.now) ≤ self.old.space
-            → IsOk result }
-        // What is left for later sends.
-        ensures room { self.old.places ≤ self.new.places + 1 }
-        ensures space { self.old.space ≤ self.new.space + length (data_text writer.now) }
-    {
-        self.places.reserve(1)?;
-        let start = self.octets.len();
-        let written = written(writer.write(&mut self.octets))?;
-        if written {
-            place(&mut self.places, face, start, self.octets.len())?;
-        }
-        Ok(written)
     }
 
     /// Adds an Interest of the node itself to each face, and nothing where it cannot be written. Its
@@ -283,6 +322,32 @@ fn place_each(places: &mut Vec<Sent>, faces: &Faces, start: usize, end: usize) -
         }
     }
     Ok(())
+}
+
+/// Appends a reply with the token of the Interest that it answers. Where memory is refused, nothing
+/// is appended.
+fn put_reply_back(
+    out: &mut Vec<u8>,
+    token: Option<&[u8]>,
+    name: Name<'_>,
+    content: &[u8],
+) -> Result<(), Memory>
+    requires { IfSome (token_of token) IsToken }
+    ensures ok { OnOk result (out.new.items ≡ out.old.items
+        ++ lp_text (token_of token.entry) None (reply_text (components name.entry) content.now)) }
+    ensures err { OnErr result (out.new.items ≡ out.old.items) }
+    ensures room { vec_len out.old
+        + (length (reply_text (components name.entry) content.now) + LINK_EXTRA)
+        ≤ vec_capacity out.old → IsOk result }
+    ensures capacity { vec_capacity out.old ≤ vec_capacity out.new }
+{
+    let start = out.len();
+    put_reply(out, name, content)?;
+    let done = wrap(out, start, token);
+    if done.is_err() {
+        out.truncate(start);
+    }
+    done
 }
 
 /// Whether a packet was written that a writer may have refused for another fault than memory.

@@ -13,6 +13,7 @@ use Rattle.forwarder.specs.Cache.{CacheAfter, command_use}
 use Rattle.forwarder.specs.Node.{NodeState}
 use Rattle.forwarder.specs.Policy.{Policy, with_next_version}
 use Rattle.forwarder.specs.Said.{recorded_of}
+use Rattle.forwarder.specs.Handling.{token_of}
 use Rattle.forwarder.specs.State.{IsLater, policy_of, state_of}
 use Rattle.forwarder.proofs.CarriedOut.{after_applied, at_most, cache_applied, has_room, response_within, still_ready, tables_done, with_tables}
 use Rattle.forwarder.proofs.Soundness.{later_up}
@@ -63,6 +64,7 @@ returns-clause-done c =
     let p = was.policy in
     let new = state_of c.next_version.new.self in
     let face = c.args.arrived.now.face in
+    let token = token_of c.args.arrived.now.token in
     let command = asked c.args.command.now in
     let status = c.in_ok-applied.applied.status in
     let content = c.put_status.new.out.items in
@@ -84,11 +86,11 @@ returns-clause-done c =
     let prepared = with_tables (state_of c.args.self.now) c.prepare.new.self.fib.table c.prepare.new.self.strategies.table c.prepare.new.self.store
     c.prepare.ensures.routes c.prepare.ensures.choices c.prepare.ensures.store in (
       was,
-      replied face i content ∷ [],
-      c.in_ok-push_reply.ensures.ok ∙ ap (λ (o : List ℕ). c.reserve.new.self.sends ++ replied face i o ∷ []) c.deref.ensures.value
-          ∙ ap (λ (l : List Send). l ++ replied face i content ∷ []) c.reserve.ensures.sends,
+      replied face token i content ∷ [],
+      c.in_ok-push_reply.ensures.ok ∙ ap (λ (o : List ℕ). c.reserve.new.self.sends ++ replied face token i o ∷ []) c.deref.ensures.value
+          ∙ ap (λ (l : List Send). l ++ replied face token i content ∷ []) c.reserve.ensures.sends,
       subst (λ (n : NodeState). IsLater n c.args.arrived.now.moment was) prepared c.pass_time.ensures.later,
-      tables_done was new face status i content (Ok command) c.requires.read answered (first ∙ second ∙ third) policy
+      tables_done was new face token status i content (Ok command) c.requires.read answered (first ∙ second ∙ third) policy
           (ap (λ (s : NodeState). s.pending) kept)
           (subst (λ (s : StoreState). CacheAfter p.now was.pending (command_use (Ok command) status) was.cache s) (sym (ap (λ (s : NodeState). s.cache) kept)) cache),
     )

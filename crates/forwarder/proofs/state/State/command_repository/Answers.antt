@@ -8,6 +8,7 @@ use Rattle.forwarder.specs.Event.{Send}
 use Rattle.forwarder.specs.Node.{NodeState}
 use Rattle.forwarder.specs.Policy.{Policy}
 use Rattle.forwarder.specs.Said.{recorded_of}
+use Rattle.forwarder.specs.Handling.{token_of}
 use Rattle.forwarder.specs.State.{IsLater, state_of}
 use Rattle.forwarder.proofs.CarriedOut.{content_fits, has_packet_room, has_places, has_reply_room, has_room, repository_done, same_fetches, still_prepared, sum_is, with_repository}
 use Rattle.forwarder.proofs.state.State.command_repository.Goals as goal
@@ -54,14 +55,15 @@ returns-clause-done c =
     let i = plain_interest c.args.arrived.now.packet.now in
     let was = state_of c.pass_time.new.self in
     let face = c.args.arrived.now.face in
+    let token = token_of c.args.arrived.now.token in
     let reply = c.in_ok-reply.reply in
     let repo = c.command.new.self in
-    let sent = replied face i (repository_content reply) in
+    let sent = replied face token i (repository_content reply) in
     let fetches = fetch_sends was.policy i.nonce reply.fetch in
     let written : c.deref.result.now ≡ repository_content reply =
     c.deref.ensures.value ∙ c.in_ok-put_repo_status.ensures.ok ∙ ap (λ (l : List ℕ). l ++ repository_content reply) c.in_ok-content.ensures.items in
     let replied_to : c.push_reply.new.self.sends ≡ c.args.out.now.sends ++ sent ∷ [] =
-    c.in_ok-push_reply.ensures.ok ∙ ap (λ (o : List ℕ). c.reserve.new.self.sends ++ replied face i o ∷ []) written
+    c.in_ok-push_reply.ensures.ok ∙ ap (λ (o : List ℕ). c.reserve.new.self.sends ++ replied face token i o ∷ []) written
     ∙ ap (λ (l : List Send). l ++ sent ∷ []) c.reserve.ensures.sends in
     let fetched : c.fetch.new.out.sends ≡ c.push_reply.new.self.sends ++ fetches =
     c.in_ok-fetch.ensures.ok ∙ ap (λ (l : List Send). c.push_reply.new.self.sends ++ l) (same_fetches was.policy repo.start repo.held i.nonce reply.fetch) in
@@ -73,5 +75,5 @@ returns-clause-done c =
       sent ∷ fetches,
       fetched ∙ ap (λ (l : List Send). l ++ fetches) replied_to ∙ append_assoc c.args.out.now.sends (sent ∷ []) fetches,
       subst (λ (n : NodeState). IsLater n c.args.arrived.now.moment was) prepared c.pass_time.ensures.later,
-      repository_done was _ face i reply c.in_ok-reply.ensures.reply policy refl refl,
+      repository_done was _ face token i reply c.in_ok-reply.ensures.reply policy refl refl,
     )

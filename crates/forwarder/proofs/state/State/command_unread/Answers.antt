@@ -6,6 +6,7 @@ use Rattle.ndn_packets.specs.View.{plain_interest}
 use Rattle.forwarder.specs.Commands.{replied}
 use Rattle.forwarder.specs.Node.{NodeState}
 use Rattle.forwarder.specs.Policy.{with_next_version}
+use Rattle.forwarder.specs.Handling.{token_of}
 use Rattle.forwarder.specs.State.{policy_of, state_of}
 use Rattle.forwarder.proofs.CarriedOut.{tables_done}
 use Rattle.forwarder.proofs.state.State.command_unread.Goals as goal
@@ -19,10 +20,10 @@ returns-clause-done c =
     c.in_ok-put_status.ensures.ok ∙ ap (λ (l : List ℕ). l ++ response c.args.status (unwrap_or (text_of c.args.status) []) []) c.new-content.ensures.items in
     let kept = ap state_of c.next_version.ensures in (
       was,
-      replied c.args.arrived.now.face i content ∷ [],
-      c.in_ok-push_reply.ensures.ok ∙ ap (λ (o : List ℕ). c.args.out.now.sends ++ replied c.args.arrived.now.face i o ∷ []) c.deref.ensures.value,
+      replied c.args.arrived.now.face (token_of c.args.arrived.now.token) i content ∷ [],
+      c.in_ok-push_reply.ensures.ok ∙ ap (λ (o : List ℕ). c.args.out.now.sends ++ replied c.args.arrived.now.face (token_of c.args.arrived.now.token) i o ∷ []) c.deref.ensures.value,
       c.pass_time.ensures.later,
-      tables_done was (state_of c.next_version.new.self) c.args.arrived.now.face c.args.status i content (Err c.args.status) c.requires.unread refl written
+      tables_done was (state_of c.next_version.new.self) c.args.arrived.now.face (token_of c.args.arrived.now.token) c.args.status i content (Err c.args.status) c.requires.unread refl written
           (ap policy_of c.next_version.ensures ∙ sym (c.record.ensures.recorded (with_next_version (policy_of c.pass_time.new.self)) refl))
           (ap (λ (s : NodeState). s.pending) kept) (ap (λ (s : NodeState). s.cache) kept),
     )

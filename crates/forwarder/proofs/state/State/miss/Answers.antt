@@ -1,11 +1,11 @@
 use Rattle.std.proofs.Common.{◌≡◌, true, false, List, [], ◌∷◌, ◌++◌, Ok, refl, sym, ap, subst, ◌∙◌, arith}
 use Rattle.ndn_packets.specs.Key.{key_of}
 use Rattle.ndn_packets.specs.View.{plain_interest}
-use Rattle.ndn_packets.specs.Writing.{nack_text}
 use Rattle.ndn_packets.specs.declared.types.TheConstants.{DUPLICATE}
 use Rattle.pit_fib.specs.Pit.{loops}
 use Rattle.pit_fib.specs.Records.{Pending, records_at}
-use Rattle.forwarder.specs.Event.{Send}
+use Rattle.forwarder.specs.Handling.{token_of}
+use Rattle.forwarder.specs.Event.{Send, nacked_back}
 use Rattle.forwarder.specs.Sending.{SendsState}
 use Rattle.forwarder.specs.State.{IsLater, state_of}
 use Rattle.forwarder.proofs.Answered.{refused_packet, sure_packet, unharmed}
@@ -31,14 +31,15 @@ returns-then-branch c = record {
       let i = plain_interest c.args.arrived.now.packet.now in
       let whole = c.args.arrived.now.packet.now.whole.now in
       let face = c.args.arrived.now.face in
+      let token = token_of c.args.arrived.now.token in
       let later : IsLater old c.args.arrived.now.moment was = subst (λ (pending : Pending). IsLater (record old { pending = pending }) c.args.arrived.now.moment was) c.prepare.ensures.pending c.pass_time.ensures.later in
       let loop : loops (records_at was.pending (key_of i)) face i.nonce ≡ true = sym c.in_ok-nack_loop.ensures.found ∙ c.if-branch.true in
-      let sends = (face, nack_text DUPLICATE whole) ∷ [] in (
+      let sends = nacked_back face token DUPLICATE whole ∷ [] in (
         was,
         sends,
         c.in_ok-nack_loop.ensures.sent (ap Ok c.if-branch.true) ∙ ap (λ (before : List Send). before ++ sends) c.reserve.ensures.sends,
         later,
-        loop_answered old was c.args.arrived.now.moment face whole i later c.requires.for_data loop,
+        loop_answered old was c.args.arrived.now.moment face token whole i c.requires.ready.is_token later c.requires.for_data loop,
       );
   memory = tt;
 }
@@ -63,10 +64,11 @@ returns c =
     let i = plain_interest c.args.arrived.now.packet.now in
     let whole = c.args.arrived.now.packet.now.whole.now in
     let face = c.args.arrived.now.face in
+    let token = token_of c.args.arrived.now.token in
     let later : IsLater old c.args.arrived.now.moment was = subst (λ (pending : Pending). IsLater (record old { pending = pending }) c.args.arrived.now.moment was) c.prepare.ensures.pending c.pass_time.ensures.later in
     let once : loops (records_at was.pending (key_of i)) face i.nonce ≡ false = sym c.in_ok-nack_loop.ensures.found ∙ c.if-branch.false in
     let none = uncached_then old was c.args.arrived.now.moment later (key_of i) c.requires.uncached in
     let unheld = served_then old was c.args.arrived.now.moment later i.name i.can_be_prefix ∙ c.requires.unstored in
     let sends : c.nack_loop.new.out.sends ≡ c.args.out.now.sends = ap (λ (s : SendsState). s.sends) (c.in_ok-nack_loop.ensures.same (ap Ok c.if-branch.false)) ∙ c.reserve.ensures.sends in
-    sure_packet c.forward.result c.forward.ensures.ok (forwards_handled c.args.self.now c.pass_time.new.self c.forward.new.self was c.args.out.now.sends c.forward.new.out.sends c.args.arrived.now.moment face whole i later c.requires.for_data once refl none unheld
+    sure_packet c.forward.result c.forward.ensures.ok (forwards_handled c.args.self.now c.pass_time.new.self c.forward.new.self was c.args.out.now.sends c.forward.new.out.sends c.args.arrived.now.moment face token whole i c.requires.ready.is_token later c.requires.for_data once refl none unheld
     c.forward.result (rw sends at c.forward.ensures.forwards))

@@ -2,14 +2,15 @@ use Rattle.std.proofs.Common.{◌+◌, ◌++◌, ◌≤◌, ℕ, List, ◌∷◌
 use Rattle.std.specs.FinMap as map
 use Rattle.std.proofs.lemmas.List.{drop_all, length-map}
 use Rattle.ndn_packets.specs.Key.{plain_key}
-use Rattle.ndn_packets.specs.Writing.{nack_text}
+use Rattle.ndn_packets.specs.Link.{IsToken}
 use Rattle.strategies.proofs.Places.{drop_here, drop_past}
-use Rattle.forwarder.specs.Event.{Send}
+use Rattle.forwarder.specs.Event.{Send, nacked_back}
 use Rattle.forwarder.specs.Faces.{FaceEntry, numbers}
+use Rattle.forwarder.specs.Handling.{token_of}
 use Rattle.forwarder.specs.NackRoom.{in_records_at, nack_room}
-use Rattle.forwarder.proofs.ForwardSteps.{nack_is_short}
 use Rattle.forwarder.proofs.NackSteps.{asker_nack, asker_room, nack_for, nacks_by, nacks_to_all, no_asker, room_here}
 use Rattle.forwarder.proofs.Soundness.{has_numbers}
+use Rattle.forwarder.proofs.Tokens.{token_there}
 use Rattle.forwarder.proofs.state.State.push_nacks.Goals as goal
 use Rattle.forwarder.proofs.state.State.push_nacks.Goals.{in-Some-interest_of+in_ok-push_nack, in_default-interest_of}
 
@@ -26,6 +27,9 @@ loop-i-preserved-in_default c =
       space = subst (λ (faces : List ℕ). nack_room asks faces ≤ c.loop-i.out.space) past c.loop-i.invariant.space;
     }
 
+pub push_nack-requires : goal.push_nack-requires
+push_nack-requires c = token_there IsToken c.token_of.result c.token_of.ensures.sizes
+
 -- there is room for one more
 refused_never : goal.After-from_residual → ⊥
 refused_never c =
@@ -34,10 +38,9 @@ refused_never c =
     let octets = c.in-Some-interest_of.octets.now in
     let room = room_here asks (numbers c.args.self.now.faces) c.loop-i.i face (sym c.get.ensures ∙ c.in-Some.is) in
     let mine = asker_room (map.get asks face) octets c.in-Some-interest_of.ensures in
-    let short = nack_is_short c.args.reason octets in
     let done = c.in_err-push_nack.ensures.promised
     (omega (arith, c.loop-i.invariant.places, c.loop-i-test.true, c.len-i-end.ensures.small))
-    (omega (arith, c.loop-i.invariant.space, room, mine, short)) in
+    (omega (arith, c.loop-i.invariant.space, room, mine)) in
     cc done
 
 pub returns-in_err-push_nack-clause-ok : goal.returns-in_err-push_nack-clause-ok
@@ -59,14 +62,14 @@ loop-i-preserved c =
       | in-Some-interest_of+in_ok-push_nack w ↦
           let octets = w.in-Some-interest_of.octets.now in
           let mine = asker_room (map.get asks face) octets w.in-Some-interest_of.ensures in
-          let sent = asker_nack c.args.reason face (map.get asks face) octets w.in-Some-interest_of.ensures in
-          let short = nack_is_short c.args.reason octets in
+          let token = token_of w.token_of.result in
+          let sent = asker_nack c.args.reason face (map.get asks face) octets token w.in-Some-interest_of.ensures w.token_of.ensures.token in
           rw w.out-is (record {
             sends = next ∙ ap (λ (one : List Send). c.loop-i.out.sends ++ (one ++ rest)) sent
-                ∙ sym (append_assoc c.loop-i.out.sends ((face, nack_text c.args.reason octets) ∷ []) rest)
+                ∙ sym (append_assoc c.loop-i.out.sends (nacked_back face token c.args.reason octets ∷ []) rest)
                 ∙ ap (λ (before : List Send). before ++ rest) (sym w.in_ok-push_nack.ensures.ok);
             places = omega (arith, c.loop-i.invariant.places, w.push_nack.ensures.room);
-            space = omega (arith, c.loop-i.invariant.space, room, mine, short, w.push_nack.ensures.space);
+            space = omega (arith, c.loop-i.invariant.space, room, mine, w.push_nack.ensures.space);
           })
       | in_default-interest_of w ↦
           let none = no_asker (map.get asks face) w.in_default-interest_of.ensures in

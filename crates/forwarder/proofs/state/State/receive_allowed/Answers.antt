@@ -4,9 +4,11 @@ use Rattle.ndn_names.specs.View.{components}
 use Rattle.ndn_packets.specs.View.{plain_data}
 use Rattle.repo_core.specs.Wants.{is_wanted}
 use Rattle.forwarder.specs.Event.{Send}
+use Rattle.forwarder.specs.Handling.{token_of}
 use Rattle.forwarder.specs.Policy.{Policy}
 use Rattle.forwarder.specs.State.{IsLater, policy_of, state_of}
 use Rattle.forwarder.proofs.Answered.{data_delivered, later_scope, refused_packet, still_wanted, unharmed}
+use Rattle.forwarder.proofs.NackSteps.{expired_bare}
 use Rattle.forwarder.proofs.state.State.receive_allowed.Goals as goal
 
 pub returns-in_err-prepare_offer : goal.returns-in_err-prepare_offer
@@ -25,6 +27,10 @@ deliver-requires-clause-prepared c = λ wanted.
     let later = ap (λ (p : Policy). is_wanted name digest p.held.wants) c.pass_time.ensures.later.policy in
     c.pass_time.ensures.object ∙ c.in_ok-prepare_offer.ensures.ok (still_wanted _ name digest c.prepare_offer.new.self.held.wants (sym later ∙ wanted))
 
+pub deliver-requires-clause-tokens : goal.deliver-requires-clause-tokens
+deliver-requires-clause-tokens c = λ without.
+    expired_bare _ c.args.self.now.pit.pending c.pass_time.new.self.pit.pending c.pass_time.ensures.later.expiry (c.has_tokens-with_tokens.ensures without)
+
 pub returns : goal.returns
 returns c = record {
   handled =
@@ -36,7 +42,7 @@ returns c = record {
         sends.0,
         sends.1 ∙ ap (λ (before : List Send). before ++ sends.0) c.reserve.ensures.sends,
         later,
-        data_delivered was (state_of c.deliver.new.self) c.args.arrived.now.face c.args.arrived.now.packet.now.whole.now (plain_data c.args.arrived.now.packet.now) sends.0 c.args.rule
+        data_delivered was (state_of c.deliver.new.self) c.args.arrived.now.face (token_of c.args.arrived.now.token) c.args.arrived.now.packet.now.whole.now (plain_data c.args.arrived.now.packet.now) sends.0 c.args.rule
             (later_scope old was c.args.arrived.now.face c.args.arrived.now.moment (components c.args.arrived.now.packet.now.name) later ∙ c.requires.scope)
             (c.requires.allowed was.policy (ap (λ (p : Policy). p.rules) later.policy) (ap (λ (p : Policy). p.keys) later.policy))
             sends.2 c.deliver.ensures.policy c.deliver.ensures.pending c.deliver.ensures.living c.deliver.ensures.cache,

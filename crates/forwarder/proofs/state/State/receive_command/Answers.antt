@@ -2,6 +2,7 @@ use Rattle.std.proofs.Common.{◌≡◌, refl, ap, ◌∙◌}
 use Rattle.info_rules.specs.declared.decision.Decision.TheVariants as decided
 use Rattle.ndn_packets.specs.View.{plain_interest}
 use Rattle.forwarder.specs.Request.{ForRepository, ForTables, request_named, request_of}
+use Rattle.forwarder.specs.Handling.{token_of}
 use Rattle.forwarder.specs.State.{policy_of, state_of}
 use Rattle.forwarder.proofs.Answered.{refused_packet, unharmed}
 use Rattle.forwarder.proofs.Refused.{carried_handled, denied_handled, kept_unharmed, no_rule_handled, other_command, said_as, with_guard}
@@ -51,7 +52,7 @@ returns-in_ok-status-in-ForTables c = record {
       let prepared = with_guard (state_of old) c.prepare_record.new.guard.latest c.prepare_record.ensures.latest in
       let is : request_of (policy_of old) c.args.arrived.now.face i ≡ ForTables = c.requires.request ∙ ap request_named c.in-ForTables.is in
       let says = said_as (policy_of old) c.args.arrived.now.moment c.max-moment.result whole i _ (decided.Allowed c.in-Allowed.rule) c.max-moment.ensures c.in-Allowed.is c.in_ok-rule.ensures in
-      carried_handled old c.args.out.now.sends c.command_tables.new.out.sends c.args.arrived.now.face c.args.arrived.now.moment whole i ForTables is refl
+      carried_handled old c.args.out.now.sends c.command_tables.new.out.sends c.args.arrived.now.face (token_of c.args.arrived.now.token) c.args.arrived.now.moment whole i ForTables is refl
       (record old { guard = c.prepare_record.new.guard }) c.command_tables.new.self c.in-Allowed.rule c.in_ok-status-in-ForTables.status prepared says
       c.in_ok-status-in-ForTables.ensures.done;
   memory = tt;
@@ -66,7 +67,7 @@ returns-in_ok-status-in_default c =
     let is : request_of (policy_of old) c.args.arrived.now.face i ≡ ForRepository = c.requires.request ∙ other_command c.args.request c.in_default.not-ForTables c.requires.command in
     let says = said_as (policy_of old) c.args.arrived.now.moment c.max-moment.result whole i _ (decided.Allowed c.in-Allowed.rule) c.max-moment.ensures c.in-Allowed.is c.in_ok-rule.ensures in
     record {
-      handled = carried_handled old c.args.out.now.sends c.command_repository.new.out.sends c.args.arrived.now.face c.args.arrived.now.moment whole i ForRepository is refl
+      handled = carried_handled old c.args.out.now.sends c.command_repository.new.out.sends c.args.arrived.now.face (token_of c.args.arrived.now.token) c.args.arrived.now.moment whole i ForRepository is refl
           (record old { guard = c.prepare_record.new.guard }) c.command_repository.new.self c.in-Allowed.rule c.in_ok-status-in_default.status prepared says
           c.in_ok-status-in_default.ensures.done;
       memory = tt;
@@ -79,7 +80,7 @@ returns-in_ok-refuse-in-Denied c = record {
       let whole = c.args.arrived.now.packet.now.whole.now in
       let i = plain_interest c.args.arrived.now.packet.now in
       let says = said_as (policy_of old) c.args.arrived.now.moment c.max-moment.result whole i _ (decided.Denied c.in-Denied.rule c.in-Denied.reason) c.max-moment.ensures c.in-Denied.is c.in_ok-rule.ensures in
-      denied_handled old c.args.out.now.sends c.refuse.new.out.sends c.args.arrived.now.face c.args.arrived.now.moment whole i (request_named c.args.request) c.requires.request c.requires.command
+      denied_handled old c.args.out.now.sends c.refuse.new.out.sends c.args.arrived.now.face (token_of c.args.arrived.now.token) c.args.arrived.now.moment whole i (request_named c.args.request) c.requires.request c.requires.command
       c.refuse.new.self c.in_ok-refuse-in-Denied.ensures.later c.in-Denied.rule c.in-Denied.reason c.deref.result.now
       (λ p is. c.deref.ensures ∙ c.in_ok-text-in-Denied.ensures p is) says c.in_ok-refuse-in-Denied.ensures.sends;
   memory = tt;
@@ -92,7 +93,7 @@ returns-in_ok-refuse-in-NoRule c = record {
       let whole = c.args.arrived.now.packet.now.whole.now in
       let i = plain_interest c.args.arrived.now.packet.now in
       let says = said_as (policy_of old) c.args.arrived.now.moment c.max-moment.result whole i _ decided.NoRule c.max-moment.ensures c.in-NoRule.is c.in_ok-rule.ensures in
-      no_rule_handled old c.args.out.now.sends c.refuse-in-NoRule.new.out.sends c.args.arrived.now.face c.args.arrived.now.moment whole i (request_named c.args.request) c.requires.request c.requires.command
+      no_rule_handled old c.args.out.now.sends c.refuse-in-NoRule.new.out.sends c.args.arrived.now.face (token_of c.args.arrived.now.token) c.args.arrived.now.moment whole i (request_named c.args.request) c.requires.request c.requires.command
       c.refuse-in-NoRule.new.self c.in_ok-refuse-in-NoRule.ensures.later says c.in_ok-refuse-in-NoRule.ensures.sends;
   memory = tt;
 }

@@ -4,7 +4,7 @@ use Rattle.ndn_packets.specs.Packet.{AData}
 use Rattle.ndn_packets.specs.View.{plain_data}
 use Rattle.info_rules.specs.declared.decision.Decision.{Decision}
 use Rattle.forwarder.specs.Event.{Send}
-use Rattle.forwarder.specs.Handling.{IsAnswered}
+use Rattle.forwarder.specs.Handling.{IsAnswered, token_of}
 use Rattle.forwarder.specs.Policy.{Policy}
 use Rattle.forwarder.specs.Said.{IsSaid}
 use Rattle.forwarder.specs.State.{policy_of, state_of}
@@ -24,8 +24,8 @@ returns-then-is_out_of_scope-clause-handles c = record {
         [],
         sym (append-nil {A = Send} c.args.out.now.sends),
         later,
-        subst (λ (v : code.Verdict). IsAnswered was c.args.arrived.now.face (AData whole d) (record { verdict = verdict_of v; sends = [] }) was) (sym c.drop_packet.ensures.verdict)
-            (data_out_of_scope was c.args.arrived.now.face whole d later.living
+        subst (λ (v : code.Verdict). IsAnswered was c.args.arrived.now.face (token_of c.args.arrived.now.token) (AData whole d) (record { verdict = verdict_of v; sends = [] }) was) (sym c.drop_packet.ensures.verdict)
+            (data_out_of_scope was c.args.arrived.now.face (token_of c.args.arrived.now.token) whole d later.living
             (later_scope (state_of c.args.self.now) was c.args.arrived.now.face c.args.arrived.now.moment d.name later ∙ sym c.is_out_of_scope.ensures ∙ c.if-is_out_of_scope.true)),
       );
   memory = tt;
@@ -50,7 +50,7 @@ returns-in-Denied-clause-handles c = record {
         [],
         sym (append-nil {A = Send} c.args.out.now.sends),
         later,
-        data_denied was c.args.arrived.now.face whole d later.living
+        data_denied was c.args.arrived.now.face (token_of c.args.arrived.now.token) whole d later.living
             (later_scope old was c.args.arrived.now.face c.args.arrived.now.moment d.name later ∙ sym c.is_out_of_scope.ensures ∙ c.if-is_out_of_scope.false)
             c.in-Denied.rule c.in-Denied.reason
             (subst (λ (said : Decision). IsSaid was.policy (AData whole d) said) c.in-Denied.is
@@ -71,7 +71,7 @@ returns-in-NoRule-clause-handles c = record {
         [],
         sym (append-nil {A = Send} c.args.out.now.sends),
         later,
-        data_by_no_rule was c.args.arrived.now.face whole d later.living
+        data_by_no_rule was c.args.arrived.now.face (token_of c.args.arrived.now.token) whole d later.living
             (later_scope old was c.args.arrived.now.face c.args.arrived.now.moment d.name later ∙ sym c.is_out_of_scope.ensures ∙ c.if-is_out_of_scope.false)
             (subst (λ (said : Decision). IsSaid was.policy (AData whole d) said) c.in-NoRule.is
             (c.in_ok-rule.ensures.said was.policy (ap (λ (p : Policy). p.rules) later.policy) (ap (λ (p : Policy). p.keys) later.policy))),

@@ -3,7 +3,7 @@ use Rattle.std.proofs.lemmas.List.{append-nil}
 use Rattle.ndn_packets.specs.Packet.{PlainInterest, AnInterest}
 use Rattle.ndn_packets.specs.View.{plain_interest}
 use Rattle.forwarder.specs.Event.{Send}
-use Rattle.forwarder.specs.Handling.{IsAnswered}
+use Rattle.forwarder.specs.Handling.{IsAnswered, token_of}
 use Rattle.forwarder.specs.Policy.{Policy}
 use Rattle.forwarder.specs.Request.{Refused, request_named, request_of}
 use Rattle.forwarder.specs.declared.request.NamedRequest.{NamedRequest}
@@ -27,8 +27,8 @@ returns-then-has_no_hops-clause-handles c = record {
         [],
         sym (append-nil {A = Send} c.args.out.now.sends),
         later,
-        subst (λ (v : code.Verdict). IsAnswered was c.args.arrived.now.face (AnInterest whole i) (record { verdict = verdict_of v; sends = [] }) was) (sym c.drop_packet.ensures.verdict)
-            (refused_answered old was c.args.arrived.now.moment c.args.arrived.now.face whole i later HopLimit (no_hops_refused old.policy c.args.arrived.now.face i none)),
+        subst (λ (v : code.Verdict). IsAnswered was c.args.arrived.now.face (token_of c.args.arrived.now.token) (AnInterest whole i) (record { verdict = verdict_of v; sends = [] }) was) (sym c.drop_packet.ensures.verdict)
+            (refused_answered old was c.args.arrived.now.moment c.args.arrived.now.face (token_of c.args.arrived.now.token) whole i c.requires.ready.is_token later HopLimit (no_hops_refused old.policy c.args.arrived.now.face i none)),
       );
   memory = tt;
 }
@@ -47,9 +47,9 @@ returns-then-is_out_of_scope-clause-handles c = record {
         [],
         sym (append-nil {A = Send} c.args.out.now.sends),
         later,
-        subst (λ (v : code.Verdict). IsAnswered was c.args.arrived.now.face (AnInterest whole i) (record { verdict = verdict_of v; sends = [] }) was)
+        subst (λ (v : code.Verdict). IsAnswered was c.args.arrived.now.face (token_of c.args.arrived.now.token) (AnInterest whole i) (record { verdict = verdict_of v; sends = [] }) was)
             (sym c.drop_packet-then-is_out_of_scope.ensures.verdict)
-            (refused_answered old was c.args.arrived.now.moment c.args.arrived.now.face whole i later Scope (scope_refused old.policy c.args.arrived.now.face i some out)),
+            (refused_answered old was c.args.arrived.now.moment c.args.arrived.now.face (token_of c.args.arrived.now.token) whole i c.requires.ready.is_token later Scope (scope_refused old.policy c.args.arrived.now.face i some out)),
       );
   memory = tt;
 }
@@ -58,6 +58,7 @@ pub send_list-requires : goal.send_list-requires
 send_list-requires c =
     let p = policy_of c.args.self.now in
     record {
+      ready = c.requires.ready;
       for_list = request_by_name p c.args.arrived.now.face (plain_interest c.args.arrived.now.packet.now) (sym c.has_no_hops.ensures ∙ c.if-has_no_hops.false)
           (sym c.is_out_of_scope.ensures ∙ c.if-is_out_of_scope.false) ∙ sym (c.in-ForList.ensures p refl);
     }

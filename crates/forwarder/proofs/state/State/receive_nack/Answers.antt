@@ -9,7 +9,7 @@ use Rattle.pit_fib.specs.Records.{InRecords, Records, records_at}
 use Rattle.pit_fib.proofs.PendingFaces.{had_records}
 use Rattle.forwarder.specs.Event.{Send}
 use Rattle.forwarder.specs.Faces.{FaceEntry, is_open, numbers}
-use Rattle.forwarder.specs.Handling.{IsAnswered}
+use Rattle.forwarder.specs.Handling.{IsAnswered, token_of}
 use Rattle.forwarder.specs.NackRoom.{in_records_at, nack_room}
 use Rattle.forwarder.specs.Policy.{Policy}
 use Rattle.forwarder.specs.Replies.{nack_answer, nacks_to}
@@ -31,8 +31,8 @@ returns-then-is_out_of_scope-clause-handles c = record {
         [],
         sym (append-nil {A = Send} c.args.out.now.sends),
         later,
-        subst (λ (v : code.Verdict). IsAnswered was c.args.arrived.now.face (ANack c.args.reason whole i) (record { verdict = verdict_of v; sends = [] }) was) (sym c.drop_packet.ensures.verdict)
-            (nack_out_of_scope was c.args.arrived.now.face c.args.reason whole i later.living
+        subst (λ (v : code.Verdict). IsAnswered was c.args.arrived.now.face (token_of c.args.arrived.now.token) (ANack c.args.reason whole i) (record { verdict = verdict_of v; sends = [] }) was) (sym c.drop_packet.ensures.verdict)
+            (nack_out_of_scope was c.args.arrived.now.face (token_of c.args.arrived.now.token) c.args.reason whole i later.living
             (later_scope (state_of c.args.self.now) was c.args.arrived.now.face c.args.arrived.now.moment i.name later ∙ sym c.is_out_of_scope.ensures ∙ c.if-is_out_of_scope.true)),
       );
   memory = tt;
@@ -87,7 +87,7 @@ returns-in-NoPending-clause-handles c = record {
         [],
         c.reserve.ensures.sends ∙ sym (append-nil {A = Send} c.args.out.now.sends),
         later,
-        nack_answered was (state_of (record c.pass_time.new.self { pit = c.nacked.new.self })) face c.args.reason c.args.arrived.now.packet.now.whole.now i refl refl c.nacked.ensures.living _
+        nack_answered was (state_of (record c.pass_time.new.self { pit = c.nacked.new.self })) face (token_of c.args.arrived.now.token) c.args.reason c.args.arrived.now.packet.now.whole.now i refl refl c.nacked.ensures.living _
             (later_scope old was face c.args.arrived.now.moment i.name later ∙ sym c.is_out_of_scope.ensures ∙ c.if-is_out_of_scope.false)
             (ap (nack_answer (in_records_at was.pending (key_of i))) (sym answer))
             (unknown_nack (key_of i) face nonce c.args.reason was.pending c.nacked.new.self.pending later.living answer follows),
@@ -111,7 +111,7 @@ returns-in-Waiting-clause-handles c = record {
         [],
         c.reserve.ensures.sends ∙ sym (append-nil {A = Send} c.args.out.now.sends),
         later,
-        nack_answered was (state_of (record c.pass_time.new.self { pit = c.nacked.new.self })) face c.args.reason c.args.arrived.now.packet.now.whole.now i refl refl c.nacked.ensures.living _
+        nack_answered was (state_of (record c.pass_time.new.self { pit = c.nacked.new.self })) face (token_of c.args.arrived.now.token) c.args.reason c.args.arrived.now.packet.now.whole.now i refl refl c.nacked.ensures.living _
             (later_scope old was face c.args.arrived.now.moment i.name later ∙ sym c.is_out_of_scope.ensures ∙ c.if-is_out_of_scope.false)
             (ap (nack_answer (in_records_at was.pending (key_of i))) (sym answer))
             follows,
@@ -143,7 +143,7 @@ returns-in_ok-push_nacks-in-All-clause-handles c = record {
         c.push_nacks.ensures.sends ∙ ap (λ (before : List Send). before ++ nacks_to (in_records_at c.nacked.new.self.pending (plain_key c.key-key.result)) least) c.reserve.ensures.sends
             ∙ ap (λ (m : InRecords). c.args.out.now.sends ++ nacks_to m least) same,
         later,
-        nack_answered was (state_of (record c.pass_time.new.self { pit = c.remove.new.self })) face c.args.reason c.args.arrived.now.packet.now.whole.now i refl refl c.remove.ensures.living _
+        nack_answered was (state_of (record c.pass_time.new.self { pit = c.remove.new.self })) face (token_of c.args.arrived.now.token) c.args.reason c.args.arrived.now.packet.now.whole.now i refl refl c.remove.ensures.living _
             (later_scope old was face c.args.arrived.now.moment i.name later ∙ sym c.is_out_of_scope.ensures ∙ c.if-is_out_of_scope.false)
             (ap (nack_answer asks) (sym answer))
             (removed_causes face c.args.reason least i was.pending c.nacked.new.self.pending c.remove.new.self.pending alive follows removed),

@@ -2,12 +2,12 @@ use Rattle.std.proofs.Common.{◌≡◌, true, false, List, [], ◌∷◌, ◌++
 use Rattle.std.proofs.lemmas.Bool.{false≢true}
 use Rattle.ndn_packets.specs.Key.{PlainKey, key_of}
 use Rattle.ndn_packets.specs.View.{plain_interest}
-use Rattle.ndn_packets.specs.Writing.{nack_text}
 use Rattle.ndn_packets.specs.declared.types.TheConstants.{DUPLICATE}
 use Rattle.pit_fib.specs.Pit.{loops}
 use Rattle.pit_fib.specs.Records.{records_at}
 use Rattle.content_store.specs.Store.{Finds}
-use Rattle.forwarder.specs.Event.{Send}
+use Rattle.forwarder.specs.Handling.{token_of}
+use Rattle.forwarder.specs.Event.{Send, nacked_back, sent_back}
 use Rattle.forwarder.specs.Sending.{SendsState}
 use Rattle.forwarder.specs.State.{IsLater, state_of}
 use Rattle.forwarder.proofs.Answered.{refused_packet, unharmed}
@@ -30,20 +30,21 @@ returns-then-branch c = record {
       let i = plain_interest c.args.arrived.now.packet.now in
       let whole = c.args.arrived.now.packet.now.whole.now in
       let face = c.args.arrived.now.face in
+      let token = token_of c.args.arrived.now.token in
       let later : IsLater old c.args.arrived.now.moment was = c.pass_time.ensures.later in
       let loop : loops (records_at was.pending (key_of i)) face i.nonce ≡ true = sym c.in_ok-nack_loop.ensures.found ∙ c.if-branch.true in
-      let sends = (face, nack_text DUPLICATE whole) ∷ [] in (
+      let sends = nacked_back face token DUPLICATE whole ∷ [] in (
         was,
         sends,
         c.in_ok-nack_loop.ensures.sent (ap Ok c.if-branch.true) ∙ ap (λ (before : List Send). before ++ sends) c.reserve.ensures.sends,
         later,
-        loop_answered old was c.args.arrived.now.moment face whole i later c.requires.for_data loop,
+        loop_answered old was c.args.arrived.now.moment face token whole i c.requires.ready.is_token later c.requires.for_data loop,
       );
   memory = tt;
 }
 
-pub returns-in_err-push : goal.returns-in_err-push
-returns-in_err-push c =
+pub returns-in_err-push_back : goal.returns-in_err-push_back
+returns-in_err-push_back c =
     let was = state_of c.pass_time.new.self in
     let i = plain_interest c.args.arrived.now.packet.now in
     let after = c.serve_at.follows.lender-at-none in
@@ -52,7 +53,7 @@ returns-in_err-push c =
     let same = c.in_ok-nack_loop.ensures.same (ap Ok c.if-branch.false) in
     let places = ap (λ (s : SendsState). s.places) same in
     let space = ap (λ (s : SendsState). s.space) same in
-    let done = c.in_err-push.ensures.promised (omega (arith, places, c.in_ok-reserve.ensures.places)) (omega (arith, space, back.0, c.in_ok-reserve.ensures.space)) in
+    let done = c.in_err-push_back.ensures.promised (omega (arith, places, c.in_ok-reserve.ensures.places)) (omega (arith, space, back.0, c.in_ok-reserve.ensures.space)) in
     absurd (false≢true done)
 
 pub returns : goal.returns
@@ -63,18 +64,19 @@ returns c = record {
       let i = plain_interest c.args.arrived.now.packet.now in
       let whole = c.args.arrived.now.packet.now.whole.now in
       let face = c.args.arrived.now.face in
+      let token = token_of c.args.arrived.now.token in
       let later : IsLater old c.args.arrived.now.moment was = c.pass_time.ensures.later in
       let once : loops (records_at was.pending (key_of i)) face i.nonce ≡ false = sym c.in_ok-nack_loop.ensures.found ∙ c.if-branch.false in
       let after = c.serve_at.follows.lender-at-none in
       let found : Finds (key_of i) was.policy.now was.cache (Some c.in-Some.octets.now) after = rw (c.in-Some.is, c.key-key.ensures) at c.serve_at.follows.holds-at-none.1 in
       let back : CanGoBack c.in-Some.octets.now = cached_goes_back (key_of i) was.policy.now was.cache after c.in-Some.octets.now c.serve_at.follows.holds-at-none.0 found in
       let same = c.in_ok-nack_loop.ensures.same (ap Ok c.if-branch.false) in
-      let sends = (face, c.in-Some.octets.now) ∷ [] in (
+      let sends = sent_back face token c.in-Some.octets.now ∷ [] in (
         was,
         sends,
-        c.in_ok-push.ensures.ok ∙ ap (λ (before : List Send). before ++ sends) (ap (λ (s : SendsState). s.sends) same ∙ c.reserve.ensures.sends),
+        c.in_ok-push_back.ensures.ok ∙ ap (λ (before : List Send). before ++ sends) (ap (λ (s : SendsState). s.sends) same ∙ c.reserve.ensures.sends),
         later,
-        cache_answered old was c.args.arrived.now.moment face whole i later c.requires.for_data once after c.in-Some.octets.now back.1 found,
+        cache_answered old was c.args.arrived.now.moment face token whole i c.requires.ready.is_token later c.requires.for_data once after c.in-Some.octets.now back found,
       );
   memory = tt;
 }
