@@ -1,7 +1,7 @@
 -- Which job a subcommand has.
 use Rattle.std.proofs.Common.{◌≡◌, ℕ, List, Vec, Global, true, false}
 use Rattle.clap.specs.Walk.{Row}
-use Rattle.ndn_client.specs.declared.job.InterestJob.{InterestJob}
+use Rattle.ndn_client.specs.declared.job.LinkJob.{LinkJob}
 use Rattle.ndn_client.specs.declared.job.DataJob.{DataJob}
 use Rattle.ndn_client.specs.declared.job.CommandJob.{CommandJob}
 use Rattle.ndn_client.specs.declared.job.TagJob.{TagJob}
@@ -11,14 +11,14 @@ use Rattle.ndn_client.specs.declared.job.AskJob.{AskJob}
 use Rattle.ndn_client.specs.declared.job.Job.{Job}
 use Rattle.ndn_client.specs.declared.job.Job.TheVariants.{Help, Interest, Data, Command, Tag, Show, Explain, Send, Ask}
 use Rattle.ndn_client.specs.declared.subcommand.Subcommand.TheVariants as sub
-use Rattle.ndn_client.specs.Options.{IsInterestJob, IsDataJob, IsCommandJob, IsTagJob, IsShowJob, IsExplainJob, IsSendJob}
+use Rattle.ndn_client.specs.Options.{IsLinkJob, IsDataJob, IsCommandJob, IsTagJob, IsShowJob, IsExplainJob, IsSendJob}
 use Rattle.ndn_client.specs.ShortForm.{IsShortJob}
 use Rattle.ndn_client.specs.RepositoryForm.{IsRepositoryJob}
 use Rattle.ndn_client.specs.Ask.{is_list, IsListJob, IsPeekJob}
 use Rattle.ndn_client.specs.Command.{IsJobFor, IsListedJob}
 
 module _ (now : ℕ) (words name : List ℕ) (rows : List Row) where
-  pub an_interest : (job : Job) → IsJobFor sub.Interest now words name rows job → (x : InterestJob) × IsInterestJob rows x
+  pub an_interest : (job : Job) → IsJobFor sub.Interest now words name rows job → (x : LinkJob) × IsLinkJob rows x
   an_interest (Help error) h = absurd h
   an_interest (Interest job) h = (job, h)
   an_interest (Data job) h = absurd h

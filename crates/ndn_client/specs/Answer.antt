@@ -10,11 +10,12 @@ use Rattle.ndn_packets.specs.declared.signature.Sign.{Sign}
 use Rattle.ndn_packets.specs.declared.signature.Sign.TheVariants.{Digest, Hmac}
 use Rattle.ndn_packets.specs.declared.interest_writer.InterestWriter.{InterestWriter}
 use Rattle.ndn_packets.specs.declared.data_writer.DataWriter.{DataWriter}
-use Rattle.ndn_packets.specs.Packet.{PlainFrame}
-use Rattle.ndn_packets.specs.Link.{IsFrame}
+use Rattle.ndn_packets.specs.Packet.{PlainFrame, PlainFramed}
+use Rattle.ndn_packets.specs.Link.{IsFrame, IsFramed}
 use Rattle.ndn_packets.specs.FrameFaults.{FaultOf}
-use Rattle.ndn_packets.specs.Writing.{interest_text, interest_refusal, data_text, data_refusal}
+use Rattle.ndn_packets.specs.Writing.{interest_text, interest_refusal, data_text, data_refusal, lp_text}
 use Rattle.ndn_client.specs.declared.job.InterestJob.{InterestJob}
+use Rattle.ndn_client.specs.declared.job.LinkJob.{LinkJob}
 use Rattle.ndn_client.specs.declared.job.DataJob.{DataJob}
 use Rattle.ndn_client.specs.declared.job.CommandJob.{CommandJob}
 use Rattle.ndn_client.specs.declared.job.TagJob.{TagJob}
@@ -26,7 +27,7 @@ use Rattle.ndn_client.specs.declared.fault.ToolFault.{ToolFault}
 use Rattle.ndn_client.specs.declared.fault.ToolFault.TheVariants as fault
 use Rattle.ndn_explain.specs.Show.{frame_lines, hex_line}
 use Rattle.ndn_explain.specs.TagCheck.{MayBeChecked}
-use Rattle.ndn_explain.specs.Explain.{explanation}
+use Rattle.ndn_explain.specs.Explain.{framed_explanation}
 use Rattle.ndn_requests.specs.Parameters.{command_name, IsTooLong}
 
 -- ---- the key
@@ -111,6 +112,12 @@ abbrev pub IsInterestAnswer : InterestJob → List NamedKey → List ℕ → Typ
 IsInterestAnswer job book text =
     (packet : List ℕ) × IsInterestPacket job book packet × (text ≡ hex_line packet)
 
+-- with a PIT token the link packet around it is printed
+abbrev pub IsLinkAnswer : LinkJob → List NamedKey → List ℕ → Type 0
+IsLinkAnswer job book text =
+    (packet : List ℕ) × IsInterestPacket job.interest book packet
+    × (text ≡ hex_line (lp_text job.token None packet))
+
 abbrev pub IsDataAnswer : DataJob → List NamedKey → List ℕ → Type 0
 IsDataAnswer job book text =
     (w : DataWriter) × AsksData job book w × (data_refusal w ≡ None)
@@ -134,11 +141,12 @@ IsTagAnswer job book text =
 abbrev pub IsShown : List ℕ → List ℕ → Type 0
 IsShown octets text = (frame : PlainFrame) × IsFrame octets frame × (text ≡ frame_lines frame)
 
--- the same, in words, and whether the signature is right where keys are given
+-- the same in words, with the PIT token beside it, and whether the signature is right where keys are
+-- given
 abbrev pub IsExplained : Option (List NamedKey) → List ℕ → List ℕ → Type 0
 IsExplained keys octets text =
-    (frame : PlainFrame) × (check : Option TagCheck) × IsFrame octets frame
-    × MayBeChecked frame keys check × (text ≡ explanation frame check)
+    (framed : PlainFramed) × (check : Option TagCheck) × IsFramed octets framed
+    × MayBeChecked framed.frame keys check × (text ≡ framed_explanation framed check)
 
 -- keys are given by a key file
 abbrev pub with_file : {A : Type 0} → Option A → List NamedKey → Option (List NamedKey)
@@ -160,7 +168,7 @@ IsExplainAnswer job book text =
 -- what help says, the reader of the command line knows
 abbrev pub IsAnswer : Job → List NamedKey → List ℕ → Type 0
 IsAnswer (job.Help help) book text = ⊤
-IsAnswer (job.Interest asked) book text = IsInterestAnswer asked book text
+IsAnswer (job.Interest asked) book text = IsLinkAnswer asked book text
 IsAnswer (job.Data asked) book text = IsDataAnswer asked book text
 IsAnswer (job.Command asked) book text = IsCommandAnswer asked book text
 IsAnswer (job.Tag asked) book text = IsTagAnswer asked book text
@@ -222,7 +230,7 @@ IsExplainRefusal job why = IsPacketRefusal (option_map (λ p. p.items) job.packe
 
 abbrev pub IsRefusal : Job → List NamedKey → ToolFault → Type 0
 IsRefusal (job.Help help) book why = why ≡ fault.Memory
-IsRefusal (job.Interest asked) book why = IsInterestRefusal asked book why
+IsRefusal (job.Interest asked) book why = IsInterestRefusal asked.interest book why
 IsRefusal (job.Data asked) book why = IsDataRefusal asked book why
 IsRefusal (job.Command asked) book why = IsCommandRefusal asked book why
 IsRefusal (job.Tag asked) book why = IsTagRefusal asked book why

@@ -16,7 +16,7 @@ use Rattle.ndn_client.specs.declared.fault.Usage.{Usage as WrongUsage}
 use Rattle.ndn_client.specs.declared.fault.Usage.TheVariants.{CommandLine, BadValue}
 use Rattle.ndn_client.specs.declared.fault.ToolFault.{ToolFault}
 use Rattle.ndn_client.specs.declared.fault.ToolFault.TheVariants.{Usage, Memory}
-use Rattle.ndn_client.specs.Options.{IsInterestJob, IsDataJob, IsCommandJob, IsTagJob, IsShowJob, IsExplainJob, IsSendJob}
+use Rattle.ndn_client.specs.Options.{IsLinkJob, IsDataJob, IsCommandJob, IsTagJob, IsShowJob, IsExplainJob, IsSendJob}
 use Rattle.ndn_client.specs.ShortForm.{IsShortJob}
 use Rattle.ndn_client.specs.RepositoryForm.{IsRepositoryJob}
 use Rattle.ndn_client.specs.Ask.{is_list, IsListJob, IsPeekJob}
@@ -43,7 +43,7 @@ IsListedJob now words name rows job = ⊥
 -- what the options of a subcommand, which goes by this name, ask for at this time and in these
 -- words; `route`, `strategy` and `cache` are short forms of `command`, and so is `repo`
 abbrev pub IsJobFor : Subcommand → ℕ → List ℕ → List ℕ → List Row → Job → Type 0
-IsJobFor sub.Interest now words name rows (Interest job) = IsInterestJob rows job
+IsJobFor sub.Interest now words name rows (Interest job) = IsLinkJob rows job
 IsJobFor sub.Data now words name rows (Data job) = IsDataJob rows job
 IsJobFor sub.Command now words name rows (Command job) = IsCommandJob rows job
 IsJobFor sub.Route now words name rows job = IsListedJob now words name rows job

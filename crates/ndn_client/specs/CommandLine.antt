@@ -69,6 +69,7 @@ interest_app = a_subcommand (codes "interest") (
     ∷ an_option (codes "seq")
     ∷ an_option (codes "keys")
     ∷ an_option (codes "key")
+    ∷ an_option (codes "token")
     ∷ [])
 
 unfoldable pub data_app : App

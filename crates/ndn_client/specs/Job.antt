@@ -7,7 +7,7 @@ use Rattle.ndn_client.specs.declared.job.Job.TheVariants.{Help, Interest, Data, 
 -- the path of the key file that a job names
 abbrev pub key_file_of : Job → Option (List ℕ)
 key_file_of (Help error) = None
-key_file_of (Interest job) = option_map string_bytes job.key.keys
+key_file_of (Interest job) = option_map string_bytes job.interest.key.keys
 key_file_of (Data job) = option_map string_bytes job.key.keys
 key_file_of (Command job) = option_map string_bytes job.stamp.key.keys
 key_file_of (Tag job) = Some (string_bytes job.keys)

@@ -7,6 +7,7 @@ use Rattle.ndn_tlv.specs.Element.{Field}
 use Rattle.ndn_names.specs.ReadsAs.{ReadsAs}
 use Rattle.ndn_client.specs.declared.job.KeyChoice.{KeyChoice}
 use Rattle.ndn_client.specs.declared.job.InterestJob.{InterestJob}
+use Rattle.ndn_client.specs.declared.job.LinkJob.{LinkJob}
 use Rattle.ndn_client.specs.declared.job.DataJob.{DataJob}
 use Rattle.ndn_requests.specs.declared.parameters.Parameters.{Parameters}
 use Rattle.ndn_client.specs.declared.job.Stamp.{Stamp}
@@ -15,7 +16,7 @@ use Rattle.ndn_client.specs.declared.job.CommandJob.{CommandJob}
 use Rattle.ndn_client.specs.declared.job.TagJob.{TagJob}
 use Rattle.ndn_client.specs.declared.job.ExplainJob.{ExplainJob}
 use Rattle.ndn_client.specs.declared.job.SendJob.{SendJob}
-use Rattle.ndn_client.specs.Value.{IsNumber, IsHops, IsPort, AreOctets, IsPacket, IsNonce}
+use Rattle.ndn_client.specs.Value.{IsNumber, IsHops, IsPort, AreOctets, IsPacket, IsNonce, IsTokenText}
 
 -- what was found, option by option
 abbrev pub rows_in : ArgMatches → List Row
@@ -87,6 +88,10 @@ pub record IsInterestJob (rows : List Row) (job : InterestJob) : Type 0 where
   pub time : MayHave (value_at rows (codes "time")) IsNumber job.time
   pub seq : MayHave (value_at rows (codes "seq")) IsNumber job.seq
   pub key : IsKeyChoice rows job.key
+
+pub record IsLinkJob (rows : List Row) (job : LinkJob) : Type 0 where
+  pub interest : IsInterestJob rows job.interest
+  pub token : MayHave (value_at rows (codes "token")) IsTokenText job.token
 
 pub record IsDataJob (rows : List Row) (job : DataJob) : Type 0 where
   pub name : Has (value_at rows (codes "URI")) ReadsAs job.name

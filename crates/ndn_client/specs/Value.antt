@@ -2,6 +2,7 @@
 use Rattle.std.specs.Prelude.{◌≡◌, ℕ, ◌<◌, ◌^◌, List, length, codes, Option, None, Some, Result, Ok, Err, Vec, ⊤}
 use Rattle.std.specs.Str.Parse.{IsNumeral, digits_value}
 use Rattle.hex.specs.Hex.{decode_of}
+use Rattle.ndn_packets.specs.Link.{IsToken}
 use Rattle.ndn_client.specs.declared.fault.Usage.TheVariants.{BadValue}
 use Rattle.ndn_client.specs.declared.fault.ToolFault.{ToolFault}
 use Rattle.ndn_client.specs.declared.fault.ToolFault.TheVariants as fault
@@ -33,6 +34,10 @@ IsPacket text (Some octets) = AreOctets text octets
 -- the 4 octets of a Nonce
 abbrev pub IsNonce : List ℕ → List ℕ → Type 0
 IsNonce text octets = IsOctets text octets × (length octets ≡ 4)
+
+-- the 1 to 32 octets of a PIT token
+abbrev pub IsTokenText : List ℕ → List ℕ → Type 0
+IsTokenText text octets = IsOctets text octets × IsToken octets
 
 -- the fault of a text
 abbrev pub IsUsage : ToolFault → Type 0

@@ -1,16 +1,17 @@
 //! The answer to a job.
 ghost use Rattle.std.specs.Prelude.{◌≡◌, MatchResult, option_map};
-ghost use Rattle.ndn_packets.specs.Link.{IsFrame};
-ghost use Rattle.ndn_packets.specs.View.{plain_frame};
-ghost use Rattle.ndn_client.specs.Answer.{IsAnswer, IsRefusal, IsInterestAnswer, IsInterestPacket, IsInterestRefusal, IsDataAnswer, IsDataRefusal, IsCommandPacket, IsCommandAnswer, IsCommandRefusal, IsTagAnswer, IsTagRefusal, IsShown, IsExplained, IsExplainAnswer, IsExplainRefusal, IsNotShown, keys_given, IsHmac, SignsInterest, SignsData, IsNoKey};
+ghost use Rattle.ndn_packets.specs.Link.{IsFrame, IsFramed};
+ghost use Rattle.ndn_packets.specs.View.{plain_frame, plain_framed};
+ghost use Rattle.ndn_client.specs.Answer.{IsAnswer, IsRefusal, IsInterestAnswer, IsLinkAnswer, IsInterestPacket, IsInterestRefusal, IsDataAnswer, IsDataRefusal, IsCommandPacket, IsCommandAnswer, IsCommandRefusal, IsTagAnswer, IsTagRefusal, IsShown, IsExplained, IsExplainAnswer, IsExplainRefusal, IsNotShown, keys_given, IsHmac, SignsInterest, SignsData, IsNoKey};
 ghost use Rattle.ndn_requests.specs.Parameters.{command_name};
 
 use crate::fault::ToolFault;
-use crate::job::{CommandJob, DataJob, ExplainJob, InterestJob, Job, TagJob};
+use crate::job::{CommandJob, DataJob, ExplainJob, InterestJob, Job, LinkJob, TagJob};
+use crate::token::octets_of;
 use hmac_keys::{KeyBook, hmac_sha256};
-use ndn_explain::{check_of, hex_line, put_explanation, put_frame};
+use ndn_explain::{check_of, hex_line, put_frame, put_framed_explanation};
 use ndn_names::NameBuf;
-use ndn_packets::{DataWriter, Frame, InterestWriter, Sign, read_frame};
+use ndn_packets::{DataWriter, Frame, Framed, InterestWriter, Sign, put_lp, read_frame, read_lp};
 use ndn_requests::command_name;
 use std::alloc::Global;
 
@@ -25,7 +26,7 @@ pub fn text_of(alloc: Global, job: &Job, book: &KeyBook) -> Result<Vec<u8>, Tool
 {
     match job {
         Job::Help(help) => Ok(help.to_string(alloc)?.into_bytes()),
-        Job::Interest(job) => interest_text(alloc, job, book),
+        Job::Interest(job) => link_text(alloc, job, book),
         Job::Ask(job) => interest_text(alloc, &job.interest, book),
         Job::Data(job) => data_text(alloc, job, book),
         Job::Command(job) => command_text(alloc, job, book),
@@ -34,6 +35,18 @@ pub fn text_of(alloc: Global, job: &Job, book: &KeyBook) -> Result<Vec<u8>, Tool
         Job::Explain(job) => explain_text(alloc, job, book),
         Job::Send(_) => Ok(Vec::new(alloc)),
     }
+}
+
+/// The line of an Interest, in a link packet where there is a PIT token (NDNLPv2, "PIT Token").
+fn link_text(alloc: Global, job: &LinkJob, book: &KeyBook) -> Result<Vec<u8>, ToolFault>
+    ensures { MatchResult result
+        (λ text. IsLinkAnswer job.now book.now text.items)
+        (IsInterestRefusal job.now.interest book.now) }
+{
+    let packet = interest_packet(alloc, &job.interest, book)?;
+    let mut frame = Vec::new(alloc);
+    put_lp(&mut frame, octets_of(&job.token), None, &packet)?;
+    Ok(hex_line(alloc, &frame)?)
 }
 
 fn interest_text(alloc: Global, job: &InterestJob, book: &KeyBook) -> Result<Vec<u8>, ToolFault>
@@ -198,10 +211,10 @@ fn explained_text(
         (λ text. IsExplained (option_map (λ b. b.now) keys.entry) octets.now text.items)
         (IsNotShown octets.now) }
 {
-    let frame = frame_of(octets)?;
-    let check = check_of(&frame, keys);
+    let framed = framed_of(octets)?;
+    let check = check_of(&framed.frame, keys);
     let mut text = Vec::new(alloc);
-    put_explanation(alloc, &mut text, &frame, check)?;
+    put_framed_explanation(alloc, &mut text, &framed, check)?;
     Ok(text)
 }
 
@@ -213,6 +226,18 @@ fn frame_of(octets: &[u8]) -> Result<Frame<'_>, ToolFault>
 {
     match read_frame(octets) {
         Ok(frame) => Ok(frame),
+        Err(fault) => Err(ToolFault::Packet(fault)),
+    }
+}
+
+/// The frame that the octets are, and the PIT token beside it.
+fn framed_of(octets: &[u8]) -> Result<Framed<'_>, ToolFault>
+    ensures { MatchResult result
+        (λ framed. IsFramed octets.now (plain_framed framed))
+        (IsNotShown octets.now) }
+{
+    match read_lp(octets) {
+        Ok(framed) => Ok(framed),
         Err(fault) => Err(ToolFault::Packet(fault)),
     }
 }

@@ -9,9 +9,7 @@ ghost use Rattle.ndn_client.specs.Command.{reading_of, IsJob, IsJobFor, IsListed
 
 use crate::fault::{ToolFault, Usage};
 use crate::help;
-use crate::job::{
-    AskJob, CommandJob, DataJob, ExplainJob, InterestJob, Job, SendJob, TagJob, is_list,
-};
+use crate::job::{AskJob, CommandJob, DataJob, ExplainJob, Job, LinkJob, SendJob, TagJob, is_list};
 use crate::nonce::words_of;
 use crate::options::required_octets;
 use crate::subcommand::{Subcommand, with_subcommands};
@@ -104,7 +102,7 @@ fn job_for(
         (IsJobFor subcommand now words.now name.now (rows_in options.now)) result }
 {
     match subcommand {
-        Subcommand::Interest => Ok(Job::Interest(InterestJob::read(alloc, options)?)),
+        Subcommand::Interest => Ok(Job::Interest(LinkJob::read(alloc, options)?)),
         Subcommand::Data => Ok(Job::Data(DataJob::read(alloc, options)?)),
         Subcommand::Command => Ok(Job::Command(CommandJob::read(alloc, options)?)),
         Subcommand::Route | Subcommand::Strategy => listed_job(alloc, name, options, now, words),

@@ -25,6 +25,7 @@ answer.";
 pub const INTEREST: &str =
     "With --key the Interest is signed with HmacWithSha256 and has parameters, empty if none are
 given; their digest is appended to the name. --time and --seq apply to signed Interests alone.
+With --token a link packet with this PIT token is put around it.
 
 Example: an Interest for /A with the default lifetime of 4,000 milliseconds.
   $ ndn_tool interest /A --nonce 01020304

@@ -12,6 +12,7 @@ use crate::nonce::nonce_or;
 use crate::options;
 use crate::repository_form::repository_name;
 use crate::short_form::{action_in, check_fit, refusal};
+use crate::token::Token;
 use clap::{ArgMatches, Error};
 use mgmt_core::Action;
 use ndn_names::NameBuf;
@@ -24,7 +25,7 @@ pub enum Job {
     /// The help text.
     Help(Error),
     /// To write an Interest.
-    Interest(InterestJob),
+    Interest(LinkJob),
     /// To write a Data.
     Data(DataJob),
     /// To write a command.
@@ -79,6 +80,14 @@ pub struct InterestJob {
     pub seq: Option<u64>,
     /// The key of its signature; without one it is not signed.
     pub key: KeyChoice,
+}
+
+/// An Interest to write, and the PIT token that is put beside it.
+#[derive(Drop)]
+pub struct LinkJob {
+    pub interest: InterestJob,
+    /// The PIT token; without one the Interest stands alone.
+    pub token: Option<Token>,
 }
 
 /// A Data to write.
@@ -163,7 +172,7 @@ impl Job {
         ensures { option_map (λ path. path.now) result ≡ key_file_of self.now }
     {
         match self {
-            Job::Interest(job) => job.key.path(),
+            Job::Interest(job) => job.interest.key.path(),
             Job::Data(job) => job.key.path(),
             Job::Command(job) => job.stamp.key.path(),
             Job::Tag(job) => Some(job.keys.as_str()),
@@ -177,7 +186,7 @@ impl InterestJob {
     ghost use Rattle.ndn_client.specs.Value.{ReadsInMemory};
     ghost use Rattle.ndn_client.specs.Options.{rows_in, IsInterestJob};
 
-    /// The Interest that the options of `interest` ask for.
+    /// The Interest that the options of `interest` ask for, without the PIT token.
     pub fn read(alloc: Global, options: &ArgMatches<'_>) -> Result<InterestJob, ToolFault>
         ensures { ReadsInMemory (IsInterestJob (rows_in options.now)) result }
     {
@@ -192,6 +201,21 @@ impl InterestJob {
             time: options::number(options, "time")?,
             seq: options::number(options, "seq")?,
             key: KeyChoice::read(alloc, options)?,
+        })
+    }
+}
+
+impl LinkJob {
+    ghost use Rattle.ndn_client.specs.Value.{ReadsInMemory};
+    ghost use Rattle.ndn_client.specs.Options.{rows_in, IsLinkJob};
+
+    /// The Interest and the PIT token that the options of `interest` ask for.
+    pub fn read(alloc: Global, options: &ArgMatches<'_>) -> Result<LinkJob, ToolFault>
+        ensures { ReadsInMemory (IsLinkJob (rows_in options.now)) result }
+    {
+        Ok(LinkJob {
+            interest: InterestJob::read(alloc, options)?,
+            token: options::token(alloc, options, "token")?,
         })
     }
 }

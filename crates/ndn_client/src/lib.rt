@@ -16,14 +16,15 @@ mod plan;
 mod repository_form;
 mod short_form;
 mod subcommand;
+mod token;
 mod value;
 
 pub use command::parse_words;
 pub use fault::{Fault, ToolFault, Usage};
 pub use input::packet_in;
 pub use job::{
-    AskJob, CommandJob, DataJob, ExplainJob, InterestJob, Job, KeyChoice, Ports, SendJob, Stamp,
-    TagJob,
+    AskJob, CommandJob, DataJob, ExplainJob, InterestJob, Job, KeyChoice, LinkJob, Ports, SendJob,
+    Stamp, TagJob,
 };
 pub use key_file::read_book;
 pub use ndn_explain::put_input;
@@ -31,3 +32,4 @@ pub use ndn_requests::{
     Exchange, Failure, NodeList, Outcome, Progress, Silence, View, judge, put_said, silence_of,
 };
 pub use plan::{Plan, fault_of_silence, plan_of, reads_input};
+pub use token::Token;

@@ -1,14 +1,15 @@
 //! The options of a subcommand, by their ids.
 ghost use Rattle.std.specs.Prelude.{◌≡◌, Some, None, option_map, MatchResult};
 ghost use Rattle.ndn_names.specs.ReadsAs.{ReadsAs};
-ghost use Rattle.ndn_client.specs.Value.{IsNumber, IsHops, IsPort, AreOctets, IsPacket, IsNonce, IsUsage, Reads, ReadsInMemory};
+ghost use Rattle.ndn_client.specs.Value.{IsNumber, IsHops, IsPort, AreOctets, IsPacket, IsNonce, IsTokenText, IsUsage, Reads, ReadsInMemory};
 ghost use Rattle.ndn_client.specs.Options.{rows_in, value_at, Has, MayHave, IsPath, IsFlag, flag_at, SpellsStrategy};
 
 use crate::fault::{ToolFault, Usage};
 use crate::short_form::strategy_uri;
+use crate::token::Token;
 use crate::value::{
     parse_hops, parse_name, parse_nonce, parse_number, parse_octets, parse_packet, parse_port,
-    parse_strategy,
+    parse_strategy, parse_token,
 };
 use clap::ArgMatches;
 use ndn_names::NameBuf;
@@ -148,6 +149,20 @@ pub fn octets(
     match value(options, id) {
         None => Ok(None),
         Some(value) => Ok(Some(parse_octets(alloc, id, value)?)),
+    }
+}
+
+/// The PIT token that an option spells, if it is there.
+pub fn token(
+    alloc: Global,
+    options: &ArgMatches<'_>,
+    id: &'static str,
+) -> Result<Option<Token>, ToolFault>
+    ensures { ReadsInMemory (MayHave (value_at (rows_in options.now) id.now) IsTokenText) result }
+{
+    match value(options, id) {
+        None => Ok(None),
+        Some(value) => Ok(Some(parse_token(alloc, id, value)?)),
     }
 }
 

@@ -121,6 +121,7 @@ fn interest_command<'a>(alloc: Global) -> Result<Command<'a>, AllocError>
         Argument::Optional("seq", "N", help::SEQ),
         Argument::Optional("keys", "FILE", help::KEYS),
         Argument::Optional("key", "URI", help::KEY),
+        Argument::Optional("token", "HEX", "The PIT token, 1 to 32 octets"),
     ];
     let about = "Writes an Interest and prints it";
     described(alloc, "interest", about, help::INTEREST, &arguments)

@@ -1,9 +1,10 @@
 //! The values that the texts of a command line spell.
 ghost use Rattle.std.specs.Prelude.{◌≡◌, ℕ, MatchOption};
 ghost use Rattle.ndn_names.specs.ReadsAs.{ReadsAs};
-ghost use Rattle.ndn_client.specs.Value.{IsNumber, IsHops, IsPort, AreOctets, IsPacket, IsNonce, Reads, ReadsInMemory};
+ghost use Rattle.ndn_client.specs.Value.{IsNumber, IsHops, IsPort, AreOctets, IsPacket, IsNonce, IsTokenText, Reads, ReadsInMemory};
 
 use crate::fault::{ToolFault, Usage};
+use crate::token::Token;
 use hex::FromHexError;
 use ndn_names::{NameBuf, NameFault};
 use std::alloc::Global;
@@ -52,6 +53,20 @@ pub fn parse_octets(alloc: Global, place: &'static str, text: &str) -> Result<Ve
         Ok(octets) => Ok(octets),
         Err(FromHexError::OutOfMemory) => Err(ToolFault::Memory),
         Err(_) => Err(bad_value(place, "two hexadecimal digits for each octet")),
+    }
+}
+
+/// The PIT token, 1 to 32 octets, that a text spells in hexadecimal of either case.
+pub fn parse_token(alloc: Global, place: &'static str, text: &str) -> Result<Token, ToolFault>
+    ensures { ReadsInMemory (IsTokenText text.now) result }
+{
+    match hex::decode(alloc, text) {
+        Ok(octets) => match Token::new(octets) {
+            Some(token) => Ok(token),
+            None => Err(bad_value(place, "1 to 32 octets in hexadecimal")),
+        },
+        Err(FromHexError::OutOfMemory) => Err(ToolFault::Memory),
+        Err(_) => Err(bad_value(place, "1 to 32 octets in hexadecimal")),
     }
 }
 
