@@ -223,6 +223,62 @@ fn nonces(rt: HostRuntime) {
     check_session(&rt, "", NONCES);
 }
 
+const TOKENS: &str = "
+$ ndn_tool interest /A --nonce 01020304 --token a1b2
+64136202a1b2500d050b07030801410a0401020304
+$ ndn_tool explain 64136202a1b2500d050b07030801410a0401020304
+token a1b2
+interest /A
+nonce 01020304
+lifetime 4000
+$ ndn_tool show 64136202a1b2500d050b07030801410a0401020304
+interest /A
+nonce 01020304
+lifetime 4000
+$ ndn_tool interest /A --nonce 01020304 --token F0
+64126201f0500d050b07030801410a0401020304
+$ ndn_tool interest /A --nonce 01020304 --token 0000000000000000000000000000000000000000000000000000000000000000
+643162200000000000000000000000000000000000000000000000000000000000000000500d050b07030801410a0401020304
+$ ndn_tool explain 641c6202a1b2fd032005fd03210196500d050b07030801410a0401020304
+token a1b2
+nack 150 NoRoute
+interest /A
+nonce 01020304
+lifetime 4000
+$ ndn_tool explain 64046202a1b2
+token a1b2
+idle
+";
+
+/// A PitToken is an element 98 before the Fragment, an element 80, in a link packet, an element 100.
+#[test]
+fn tokens(rt: HostRuntime) {
+    check_session(&rt, "", TOKENS);
+}
+
+const REFUSED_TOKENS: &str = "
+$ ndn_tool interest /A --nonce 01020304 --token ''
+error: invalid value for token: give 1 to 32 octets in hexadecimal
+status 2
+$ ndn_tool interest /A --nonce 01020304 --token 000000000000000000000000000000000000000000000000000000000000000000
+error: invalid value for token: give 1 to 32 octets in hexadecimal
+status 2
+$ ndn_tool interest /A --nonce 01020304 --token a1b
+error: invalid value for token: give 1 to 32 octets in hexadecimal
+status 2
+$ ndn_tool interest /A --nonce 01020304 --token g1
+error: invalid value for token: give 1 to 32 octets in hexadecimal
+status 2
+$ ndn_tool explain 64116200500d050b07030801410a0401020304
+LpField
+status 1
+";
+
+#[test]
+fn refused_tokens(rt: HostRuntime) {
+    check_session(&rt, "", REFUSED_TOKENS);
+}
+
 const SIGNED_INTERESTS: &str = "
 $ ndn_tool interest /A --nonce 01020304 --keys F --key /ops/KEY/1 --time 1000000
 056d07250801410220f7941a6b4d9f43a320f470097b2c6c701ad95cf361a450fb9a053a19956e0e7c0a040102030424002c1a1b01041c0f070d08036f707308034b45590801312804000f42402e20983c3321a438bf1c3afb280c205c6134cc50c7c6f85af82c7682460c83e5663f
