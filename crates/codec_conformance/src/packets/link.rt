@@ -1,5 +1,8 @@
 //! Link packets (NDNLPv2, "Packet Format", "Fragmentation", "Network Nack", "PIT Token").
 
+ghost use Rattle.std.specs.Prelude.{IfSome};
+ghost use Rattle.ndn_packets.specs.Link.{IsToken};
+
 use crate::packets::{carried, cut, fields, outcome, packet, value_text};
 use crate::rows::check_rows;
 use ndn_packets::{put_lp, read_lp, wrap};
@@ -21,7 +24,9 @@ fn with_token(alloc: Global, reason: &str) -> Option<String> {
 
 /// Whether two octets and an Interest are these octets, once the Interest is in a link packet with
 /// this token, or bare without one.
-fn wraps(alloc: Global, token: Option<&[u8]>, wanted: &[u8]) -> bool {
+fn wraps(alloc: Global, token: Option<&[u8]>, wanted: &[u8]) -> bool
+    requires { IfSome token (λ t. IsToken t.now) }
+{
     let before = b"\xfe\xff\x05\x0b\x07\x03\x08\x01\x41\x0a\x04\x01\x02\x03\x04";
     let Ok(mut out) = before.to_vec(alloc) else {
         return false;
