@@ -16,6 +16,7 @@ mod repository_life;
 mod routes;
 mod scripts;
 mod streams;
+mod tokens;
 mod udp;
 
 use hmac_keys::KeyBook;
