@@ -1,11 +1,11 @@
 ghost use Rattle.std.specs.Prelude.{◌≡◌, ◌≤◌, ◌++◌, ◌∷◌, [], true, Some, Ok, Err, IfOk, IfSome, IsOk, OnErr, OnOk};
 ghost use Rattle.ndn_names.specs.View.{components};
+ghost use Rattle.ndn_packets.specs.Link.{IsToken};
 ghost use Rattle.ndn_packets.specs.View.{plain_interest};
 ghost use Rattle.mgmt_core.specs.Reading.{asked, command_at};
 ghost use Rattle.replay_guard.specs.Guard.{IsPrepared};
 ghost use Rattle.forwarder.specs.Commanding.{IsCarriedOut};
 ghost use Rattle.forwarder.specs.Commands.{fetch_sends, refused_content, replied};
-ghost use Rattle.ndn_packets.specs.Link.{IsToken};
 ghost use Rattle.forwarder.specs.Handling.{AwaitsPacket, HandlesPacket, interest_packet, token_of};
 ghost use Rattle.forwarder.specs.Request.{ForRepository, ForTables, is_command, request_named, request_of};
 ghost use Rattle.forwarder.specs.Said.{recorded_of};
@@ -109,8 +109,8 @@ impl State {
         requires prepared { IfSome (recorded_of (plain_interest arrived.now.packet.now))
             (λ r. IsPrepared self.old.guard r.signer) }
         ensures done { IfOk result (IsCarriedOut self.old self.new out.old.sends out.new.sends
-            arrived.now.face (token_of arrived.now.token) arrived.now.moment (plain_interest arrived.now.packet.now)
-            ForTables) }
+            arrived.now.face (token_of arrived.now.token) arrived.now.moment
+            (plain_interest arrived.now.packet.now) ForTables) }
         ensures memory { OnErr result ((state_of self.new ≡ state_of self.old)
             × (out.new.sends ≡ out.old.sends)) }
     {
@@ -132,8 +132,8 @@ impl State {
             (λ r. IsPrepared self.old.guard r.signer) }
         requires unread { command_at (components arrived.now.packet.now.name) ≡ Err status }
         ensures done { IfOk result (IsCarriedOut self.old self.new out.old.sends out.new.sends
-            arrived.now.face (token_of arrived.now.token) arrived.now.moment (plain_interest arrived.now.packet.now)
-            ForTables) }
+            arrived.now.face (token_of arrived.now.token) arrived.now.moment
+            (plain_interest arrived.now.packet.now) ForTables) }
         ensures memory { OnErr result ((state_of self.new ≡ state_of self.old)
             × (out.new.sends ≡ out.old.sends)) }
     {
@@ -159,8 +159,8 @@ impl State {
             (λ r. IsPrepared self.old.guard r.signer) }
         requires read { command_at (components arrived.now.packet.now.name) ≡ Ok (asked command.now) }
         ensures done { IfOk result (IsCarriedOut self.old self.new out.old.sends out.new.sends
-            arrived.now.face (token_of arrived.now.token) arrived.now.moment (plain_interest arrived.now.packet.now)
-            ForTables) }
+            arrived.now.face (token_of arrived.now.token) arrived.now.moment
+            (plain_interest arrived.now.packet.now) ForTables) }
         ensures memory { OnErr result ((state_of self.new ≡ state_of self.old)
             × (out.new.sends ≡ out.old.sends)) }
     {
@@ -194,8 +194,8 @@ impl State {
         requires prepared { IfSome (recorded_of (plain_interest arrived.now.packet.now))
             (λ r. IsPrepared self.old.guard r.signer) }
         ensures done { IfOk result (IsCarriedOut self.old self.new out.old.sends out.new.sends
-            arrived.now.face (token_of arrived.now.token) arrived.now.moment (plain_interest arrived.now.packet.now)
-            ForRepository) }
+            arrived.now.face (token_of arrived.now.token) arrived.now.moment
+            (plain_interest arrived.now.packet.now) ForRepository) }
         ensures memory { OnErr result ((state_of self.new ≡ state_of self.old)
             × (out.new.sends ≡ out.old.sends)) }
     {

@@ -141,7 +141,7 @@ impl State {
         self.push_with_tokens(&without_face(&askers, face), packet, out)
     }
 
-    /// Sends a Data to these faces.
+    /// Sends a Data to these faces, each with the token of its latest Interest for it.
     fn push_with_tokens(
         &self,
         faces: &Faces,
@@ -152,8 +152,8 @@ impl State {
         requires space { room_for_data packet.now.whole.now true ≤ out.old.space }
         ensures ok { IsOk result }
         ensures sends { (askers : Askers) × (faces_of askers ≡ faces.now)
-            × All (λ a. IsTokenFor (records_at self.entry.now.pit.pending) (components packet.now.name)
-            (sha256 packet.now.whole.now) a.0 a.1) askers
+            × All (λ a. IsTokenFor (records_at self.entry.now.pit.pending)
+            (components packet.now.name) (sha256 packet.now.whole.now) a.0 a.1) askers
             × (out.new.sends ≡ out.old.sends ++ sent_to askers packet.now.whole.now) }
     {
         for i in 0..faces.len() {

@@ -18,8 +18,8 @@ use Rattle.pit_fib.specs.Cause.{with_reason}
 
 pub record PitState : Type 0 where
   pub pending : Pending
-  -- the key of the calls that are prepared: an `arrive` of an Interest of at most so many octets,
-  -- and the `sent` calls after it; with None the `sent` calls alone
+  -- the key of the calls that are prepared: an `arrive` of an Interest and a token of at most so
+  -- many octets together, and the `sent` calls after it; with None the `sent` calls alone
   pub prepared : Option (PlainKey × Option ℕ)
 
 abbrev pub pit_code : Coded PitState

@@ -51,7 +51,7 @@ pub struct Pit {
     prepared: Option<Prepared>,
     // Spare memory for the out-records of an entry whose own memory is full.
     spare: Room<OutRecord>,
-    // Whether an Interest may have a PIT token. While none has, no search looks for one.
+    // Whether some Interest had a PIT token so far. While none had, no search looks for one.
     has_tokens: bool,
 }
 
@@ -300,7 +300,7 @@ impl Pit {
     }
 
     /// Whether some pending Interest may have a PIT token (NDNLPv2, "PIT Token"). Where it is false,
-    /// none has.
+    /// none has; it stays true once a token came.
     pub fn has_tokens(&self) -> bool
         ensures { result ≡ false → HaveNoTokens self.now.pending }
     {
