@@ -1,0 +1,363 @@
+"""A plain node, for `damaged`: what the documents say of an event, with nothing but dictionaries and lists.
+
+It follows `docs/SCRIPTS.md` ("What the node does with a packet"), `docs/MANAGEMENT.md` and `docs/RULES.md`
+as far as the cases need it, and stops where they would need more: repository and other strategies than
+best-route are not in it, nor other commands than those on next hops. Packets are read by `grammar`.
+"""
+
+import hashlib
+import hmac
+
+import grammar as g
+import packets as p
+
+LOCALHOST, NFD = p.name("/localhost"), p.name("/localhost/nfd")
+REPOSITORY = [p.name("/repo/" + verb) for verb in ("insert", "delete", "check")]
+DUPLICATE = 100
+CLOCKS_DIFFER = 120_000
+LAST_MOMENT = (1 << 64) - 1
+SEGMENT = 4096
+
+
+class Beyond(Exception):
+    """The cases need something that this model does not have."""
+
+
+class Rule:
+    """A rule with at most one filter, a prefix, and at most one checker: HMAC of a key, or SHA-256."""
+
+    def __init__(self, identity, kind, prefix=(), key=None, checks=True):
+        self.identity, self.kind, self.prefix, self.key, self.checks = identity, kind, prefix, key, checks
+
+    def reason(self, keys, signature):
+        """Why its checker does not let the packet pass, or None."""
+        if not self.checks:
+            return "KeyLocator"
+        if signature.kind != (0 if self.key is None else 4):
+            return "SigType"
+        if self.key is None:
+            right = hashlib.sha256(signature.covered).digest()
+        else:
+            if signature.key != self.key:
+                return "KeyLocator"
+            if self.key not in keys:
+                return "KeyUnknown"
+            right = hmac.digest(keys[self.key], signature.covered, "sha256")
+        return None if signature.value == right else "Tag"
+
+
+class Entry:
+    """What is pending under one name and flags: who asks, and who was asked."""
+
+    def __init__(self):
+        self.askers, self.asked = {}, {}
+
+
+class Asker:
+    def __init__(self, nonce, whole, deadline, token):
+        self.nonce, self.whole, self.deadline, self.token = nonce, whole, deadline, token
+
+
+class Asked:
+    def __init__(self, nonce, moment):
+        self.nonce, self.moment, self.reason = nonce, moment, None
+
+
+def wrapped(packet, token, reason=None):
+    """What goes back to a face: bare, or in a link packet with the token of its Interest."""
+    if token is None and reason is None:
+        return packet
+    headers = [] if token is None else [p.tlv(98, token)]
+    if reason is not None:
+        headers.append(p.tlv(800, p.integer(801, reason)))
+    return p.link(packet, *headers)
+
+
+def made(name, content, between=b""):
+    """A Data that the node makes."""
+    covered = p.tlv(7, *name) + between + p.tlv(21, content) + p.tlv(22, p.integer(27, 0))
+    return p.tlv(6, covered, p.tlv(23, hashlib.sha256(covered).digest()))
+
+
+def status_content(status, text, body=b""):
+    return p.tlv(101, p.integer(102, status), p.tlv(103, text.encode()), body)
+
+
+class Node:
+    def __init__(self, rules, keys):
+        self.rules, self.keys = rules, keys
+        self.now, self.up, self.version = 0, {}, 0
+        self.hops, self.pending, self.cached, self.last = {}, {}, [], {}
+
+    # Events: each gives a verdict and what is sent, a list of faces with octets.
+
+    def passes(self, moment):
+        """Time goes on, and what has expired goes."""
+        self.now = max(self.now, moment)
+        for entry in self.pending.values():
+            entry.askers = {face: one for face, one in entry.askers.items() if one.deadline > self.now}
+        self.sweep()
+
+    def sweep(self):
+        self.pending = {key: entry for key, entry in self.pending.items() if entry.askers}
+
+    def opens(self, face, scope, moment):
+        self.passes(moment)
+        if face == 0 or face in self.up or len(self.up) == 64:
+            raise Beyond("a face that does not open")
+        self.up[face] = scope
+        return "passed", []
+
+    def closes(self, face, moment):
+        self.passes(moment)
+        if face not in self.up:
+            return "dropped NoFace", []
+        del self.up[face]
+        self.version += 1
+        for hops in self.hops.values():
+            hops.pop(face, None)
+        self.hops = {name: hops for name, hops in self.hops.items() if hops}
+        for entry in self.pending.values():
+            entry.askers.pop(face, None)
+            entry.asked.pop(face, None)
+        self.sweep()
+        return "passed", []
+
+    def takes_rules(self, rules, keys, moment):
+        self.passes(moment)
+        self.rules, self.keys = rules, keys
+        return "passed", []
+
+    def receives(self, face, moment, octets):
+        self.passes(moment)
+        if face not in self.up:
+            return "dropped NoFace", []
+        try:
+            frame = g.read(octets)
+        except g.Fault as fault:
+            return f"dropped Malformed {fault}", []
+        if frame.packet is None:
+            return "dropped Idle", []
+        packet = frame.packet
+        if isinstance(packet, g.Interest) and frame.reason is g.NO_NACK and g.hop_limit(packet) == 0:
+            return "dropped HopLimit", []
+        if g.begins(packet.name, LOCALHOST) and self.up[face] == "far":
+            return "dropped Scope", []
+        if frame.reason is not g.NO_NACK:
+            return self.nack(face, packet, frame.reason)
+        if isinstance(packet, g.Data):
+            return self.data(face, packet)
+        return self.interest(face, packet, frame.token)
+
+    # Interests.
+
+    def interest(self, face, interest, token):
+        segment = self.segment_asked(interest)
+        if segment is not None:
+            whole = self.segment(*segment)
+            return ("dropped NoSegment", []) if whole is None else ("passed", [(face, wrapped(whole, token))])
+        name = interest.name
+        if g.begins(name, NFD):
+            return self.command(face, interest, token)
+        if any(g.begins(name, verb) for verb in REPOSITORY):
+            raise Beyond("a command of the repository")
+        key = (name, interest.can_be_prefix, interest.must_be_fresh)
+        entry = self.pending.get(key)
+        if entry is not None and self.loops(entry, face, interest.nonce):
+            return "dropped Loop", [(face, wrapped(interest.whole, token, DUPLICATE))]
+        found = self.found(*key)
+        if found is not None:
+            return "passed", [(face, wrapped(found, token))]
+        return self.forward(key, face, interest, token)
+
+    def loops(self, entry, face, nonce):
+        own = entry.askers.get(face)
+        if own is not None and own.nonce == nonce:
+            return False
+        others = [one.nonce for asker, one in entry.askers.items() if asker != face]
+        return nonce in others + [one.nonce for one in entry.asked.values()]
+
+    def found(self, name, can_be_prefix, must_be_fresh):
+        """The cached Data of the least full name that answers."""
+        best = None
+        for data, came in self.cached:
+            fresh = not must_be_fresh or self.now < min(came + data.freshness, LAST_MOMENT)
+            if g.answers(data, name, can_be_prefix) and fresh:
+                if best is None or g.order(g.full_name(data)) < g.order(g.full_name(best)):
+                    best = data
+        return None if best is None else best.whole
+
+    def forward(self, key, face, interest, token):
+        entry = self.pending.get(key, Entry())
+        limit = g.hop_limit(interest)
+        hops = next((self.hops[key[0][:n]] for n in range(len(key[0]), -1, -1) if key[0][:n] in self.hops), {})
+        local_alone = g.begins(key[0], LOCALHOST) or limit == 1
+        eligible = sorted((cost, hop) for hop, cost in hops.items() if hop != face and not (local_alone and self.up[hop] == "far"))
+        if not eligible:
+            entry.askers.pop(face, None)
+            self.sweep()
+            return "passed", [(face, wrapped(interest.whole, token, p.NO_ROUTE))]
+        chosen = self.best_route(entry, eligible)
+        self.pending[key] = entry
+        entry.askers[face] = Asker(interest.nonce, interest.whole, min(self.now + interest.lifetime, LAST_MOMENT), token)
+        if chosen is None:
+            return "passed", []
+        entry.asked[chosen] = Asked(interest.nonce, self.now)
+        whole = bytearray(interest.whole)
+        if limit is not None:
+            whole[interest.hop_limit_at] = limit - 1
+        return "passed", [(chosen, bytes(whole))]
+
+    def best_route(self, entry, eligible):
+        if any(self.now - one.moment < 10 for one in entry.asked.values()):
+            return None
+        new = [hop for _, hop in eligible if hop not in entry.asked]
+        if new:
+            return new[0]
+        return min((entry.asked[hop].moment, cost, hop) for cost, hop in eligible)[2]
+
+    # Data and Nacks.
+
+    def data(self, face, data):
+        rule = next((rule for rule in self.rules if rule.kind == "data" and g.begins(data.name, rule.prefix)), None)
+        if rule is None:
+            return "no-rule data", []
+        reason = rule.reason(self.keys, data.signature)
+        if reason is not None:
+            return f"denied data {reason} {rule.identity}", []
+        wanted = {key: entry for key, entry in self.pending.items() if g.answers(data, key[0], key[1])}
+        last = {}
+        for key, entry in wanted.items():
+            del self.pending[key]
+            for asker, one in entry.askers.items():
+                rank = (one.deadline, g.order(key[0]), key[1], key[2])
+                if asker not in last or last[asker][0] < rank:
+                    last[asker] = (rank, one.token)
+        if wanted:
+            self.cached = [pair for pair in self.cached if g.full_name(pair[0]) != g.full_name(data)]
+            self.cached.append((data, self.now))
+        sends = [(asker, wrapped(data.whole, token)) for asker, (_, token) in sorted(last.items()) if asker != face]
+        return f"data {rule.identity}", sends
+
+    def nack(self, face, interest, reason):
+        key = (interest.name, interest.can_be_prefix, interest.must_be_fresh)
+        entry = self.pending.get(key)
+        asked = None if entry is None else entry.asked.get(face)
+        if asked is None or asked.nonce != interest.nonce:
+            return "dropped NoPending", []
+        asked.reason = reason
+        reasons = [one.reason for one in entry.asked.values()]
+        if None in reasons:
+            return "passed", []
+        del self.pending[key]
+        back = min(reasons)
+        return "passed", [(asker, wrapped(one.whole, one.token, back)) for asker, one in sorted(entry.askers.items())]
+
+    # Commands.
+
+    def command(self, face, interest, token):
+        def reply(content):
+            return [(face, wrapped(made(interest.name, content), token))]
+
+        named = interest.name[:-1] if g.kind_of(interest.name[-1]) == g.PARAMETERS_DIGEST else interest.name
+        rule = next((rule for rule in self.rules if rule.kind == "interest" and g.begins(named, rule.prefix)), None)
+        if rule is None:
+            return "no-rule interest", reply(status_content(403, "no rule"))
+        signature = interest.signature
+        if signature is None:
+            reason = "NotSigned"
+        elif signature.covered is None or signature.time is None:
+            reason = "Shape"
+        else:
+            reason = rule.reason(self.keys, signature) or self.replay(signature)
+        if reason is not None:
+            return f"denied interest {reason} {rule.identity}", reply(status_content(403, f"{reason} by {rule.identity}"))
+        signer = self.signer(signature)
+        time, number = self.last.get(signer, (None, None))
+        self.last[signer] = (signature.time, number if signature.number is None else signature.number)
+        self.version += 1
+        status, text, body = self.apply(face, named)
+        return f"allowed {status} {rule.identity}", reply(status_content(status, text, body))
+
+    def signer(self, signature):
+        return None if signature.kind == 0 else signature.key
+
+    def replay(self, signature):
+        time, number = self.last.get(self.signer(signature), (None, None))
+        late = abs(signature.time - self.now) > CLOCKS_DIFFER
+        old = time is not None and signature.time <= time
+        again = None not in (number, signature.number) and signature.number <= number
+        return "Replay" if late or old or again else None
+
+    def apply(self, asker, named):
+        """A status with its text, and the element 104 of the reply."""
+        bad = (400, "bad parameters", b"")
+        if len(named) < 4:
+            return bad
+        if named[:4] not in (p.name("/localhost/nfd/fib/add-nexthop"), p.name("/localhost/nfd/fib/remove-nexthop")):
+            raise Beyond("another command")
+        adds = named[3] == p.name("/add-nexthop")[0]
+        if len(named) != 5 or g.kind_of(named[4]) != p.GENERIC:
+            return bad
+        try:
+            outer = g.element(g.element(named[4]).value)
+            if outer.kind != 104 or outer.end != len(g.element(named[4]).value):
+                return bad
+            fields = {}
+            for one in g.elements(outer.value):
+                fields.setdefault(one.kind, one.value)
+            uses = (7, 105, 106) if adds else (7, 105)
+            if 7 not in fields or any(kind in fields and kind not in uses for kind in (105, 106, 107, 108, 109, 111, 132)):
+                return bad
+            name = g.components(fields[7])
+            hop, cost = (g.integer(fields[kind]) if kind in fields else 0 for kind in (105, 106))
+        except g.Fault:
+            return bad
+        hop = hop or asker
+        if not adds:
+            self.hops.get(name, {}).pop(hop, None)
+            self.hops = {of: hops for of, hops in self.hops.items() if hops}
+            return 200, "OK", p.tlv(104, p.tlv(7, *name), p.integer(105, hop))
+        if len(name) > 32:
+            return 414, "prefix too long", b""
+        if hop not in self.up:
+            return 410, "face not open", b""
+        if name not in self.hops and len(self.hops) == 4096:
+            return 503, "table full", b""
+        self.hops.setdefault(name, {})[hop] = cost
+        return 200, "OK", p.tlv(104, p.tlv(7, *name), p.integer(105, hop), p.integer(106, cost))
+
+    # The list of routes.
+
+    def segment_asked(self, interest):
+        """The version, or None for the present one, and the number of the segment that is asked for; None for another Interest."""
+        name, of_routes = interest.name, p.name("/localhost/nfd/fib/list")
+        if g.begins(name, p.name("/localhost/nfd/strategy-choice/list")):
+            raise Beyond("the list of strategies")
+        if not g.begins(name, of_routes) or len(name) > 6:
+            return None
+        numbers = []
+        for part, kind in zip(name[4:], (54, 50)):
+            n = int.from_bytes(g.element(part).value, "big")
+            if n > LAST_MOMENT or part != p.integer(kind, n):
+                return None
+            numbers.append(n)
+        if len(numbers) == 2:
+            return numbers
+        if not interest.can_be_prefix:
+            return None
+        return (numbers[0] if numbers else None), 0
+
+    def segment(self, version, k):
+        if version not in (None, self.version):
+            return None
+        text = b""
+        for name in sorted(self.hops, key=g.order):
+            hops = sorted((cost, hop) for hop, cost in self.hops[name].items())
+            text += p.tlv(128, p.tlv(7, *name), *(p.tlv(129, p.integer(105, hop), p.integer(106, cost)) for cost, hop in hops))
+        last = max(len(text) - 1, 0) // SEGMENT
+        if k > last:
+            return None
+        name = p.name("/localhost/nfd/fib/list") + (p.integer(54, self.version), p.integer(50, k))
+        meta = p.tlv(20, p.integer(25, 1000), p.tlv(26, p.integer(50, last)))
+        return made(name, text[k * SEGMENT : (k + 1) * SEGMENT], meta)
