@@ -1,8 +1,8 @@
 """A plain node, for `damaged`: what the documents say of an event, with nothing but dictionaries and lists.
 
 It follows `docs/SCRIPTS.md` ("What the node does with a packet"), `docs/MANAGEMENT.md` and `docs/RULES.md`
-as far as the cases need it, and stops where they would need more: repository and other strategies than
-best-route are not in it, nor other commands than those on next hops. Packets are read by `grammar`.
+as far as the cases need it, and stops where they would need more: other strategies than best-route are not
+in it, nor other commands than those on next hops and of the repository. Packets are read by `grammar`.
 """
 
 import hashlib
@@ -12,7 +12,7 @@ import grammar as g
 import packets as p
 
 LOCALHOST, NFD = p.name("/localhost"), p.name("/localhost/nfd")
-REPOSITORY = [p.name("/repo/" + verb) for verb in ("insert", "delete", "check")]
+REPOSITORY = {p.name("/repo/" + verb): verb for verb in ("insert", "delete", "check")}
 DUPLICATE = 100
 CLOCKS_DIFFER = 120_000
 LAST_MOMENT = (1 << 64) - 1
@@ -83,11 +83,31 @@ def status_content(status, text, body=b""):
     return p.tlv(101, p.integer(102, status), p.tlv(103, text.encode()), body)
 
 
+def repository_content(status, text, count=0):
+    return p.tlv(207, p.integer(208, status), p.tlv(103, text.encode()), p.integer(132, count))
+
+
+def first_fields(component, kind):
+    """The parameters of a command: a generic component that holds one element of this type. Its elements by type, of each
+    type the first; a fault where it is something else."""
+    if g.kind_of(component) != p.GENERIC:
+        raise g.Fault("BadField")
+    value = g.element(component).value
+    outer = g.element(value)
+    if outer.kind != kind or outer.end != len(value):
+        raise g.Fault("BadField")
+    fields = {}
+    for one in g.elements(outer.value):
+        fields.setdefault(one.kind, one.value)
+    return fields
+
+
 class Node:
     def __init__(self, rules, keys):
         self.rules, self.keys = rules, keys
         self.now, self.up, self.version = 0, {}, 0
         self.hops, self.pending, self.cached, self.last = {}, {}, [], {}
+        self.wants, self.objects = {}, {}
 
     # Events: each gives a verdict and what is sent, a list of faces with octets.
 
@@ -96,6 +116,7 @@ class Node:
         self.now = max(self.now, moment)
         for entry in self.pending.values():
             entry.askers = {face: one for face, one in entry.askers.items() if one.deadline > self.now}
+        self.wants = {want: deadline for want, deadline in self.wants.items() if deadline > self.now}
         self.sweep()
 
     def sweep(self):
@@ -157,15 +178,13 @@ class Node:
             whole = self.segment(*segment)
             return ("dropped NoSegment", []) if whole is None else ("passed", [(face, wrapped(whole, token))])
         name = interest.name
-        if g.begins(name, NFD):
+        if g.begins(name, NFD) or any(g.begins(name, verb) for verb in REPOSITORY):
             return self.command(face, interest, token)
-        if any(g.begins(name, verb) for verb in REPOSITORY):
-            raise Beyond("a command of the repository")
         key = (name, interest.can_be_prefix, interest.must_be_fresh)
         entry = self.pending.get(key)
         if entry is not None and self.loops(entry, face, interest.nonce):
             return "dropped Loop", [(face, wrapped(interest.whole, token, DUPLICATE))]
-        found = self.found(*key)
+        found = self.found(*key) or self.stored(*key[:2])
         if found is not None:
             return "passed", [(face, wrapped(found, token))]
         return self.forward(key, face, interest, token)
@@ -187,12 +206,25 @@ class Node:
                     best = data
         return None if best is None else best.whole
 
+    def stored(self, name, can_be_prefix):
+        """The stored Data of the least full name that answers."""
+        found = [full for full, data in self.objects.items() if g.answers(data, name, can_be_prefix)]
+        return self.objects[min(found, key=g.order)].whole if found else None
+
+    def longest(self, name):
+        """The next hops of the longest prefix that has some: costs by face."""
+        return next((self.hops[name[:n]] for n in range(len(name), -1, -1) if name[:n] in self.hops), {})
+
+    def eligible(self, name, asker, local_alone):
+        """The next hops that an Interest of this name may go to, by cost and then by face."""
+        local_alone = local_alone or g.begins(name, LOCALHOST)
+        hops = sorted((cost, hop) for hop, cost in self.longest(name).items())
+        return [(cost, hop) for cost, hop in hops if hop != asker and not (local_alone and self.up[hop] == "far")]
+
     def forward(self, key, face, interest, token):
         entry = self.pending.get(key, Entry())
         limit = g.hop_limit(interest)
-        hops = next((self.hops[key[0][:n]] for n in range(len(key[0]), -1, -1) if key[0][:n] in self.hops), {})
-        local_alone = g.begins(key[0], LOCALHOST) or limit == 1
-        eligible = sorted((cost, hop) for hop, cost in hops.items() if hop != face and not (local_alone and self.up[hop] == "far"))
+        eligible = self.eligible(key[0], face, limit == 1)
         if not eligible:
             entry.askers.pop(face, None)
             self.sweep()
@@ -236,6 +268,10 @@ class Node:
         if wanted:
             self.cached = [pair for pair in self.cached if g.full_name(pair[0]) != g.full_name(data)]
             self.cached.append((data, self.now))
+        filled = [want for want in self.wants if g.answers(data, *want)]
+        for want in filled:
+            del self.wants[want]
+            self.objects[g.full_name(data)] = data
         sends = [(asker, wrapped(data.whole, token)) for asker, (_, token) in sorted(last.items()) if asker != face]
         return f"data {rule.identity}", sends
 
@@ -256,13 +292,15 @@ class Node:
     # Commands.
 
     def command(self, face, interest, token):
-        def reply(content):
-            return [(face, wrapped(made(interest.name, content), token))]
+        content_of = status_content if g.begins(interest.name, NFD) else repository_content
+
+        def reply(*content):
+            return [(face, wrapped(made(interest.name, content_of(*content)), token))]
 
         named = interest.name[:-1] if g.kind_of(interest.name[-1]) == g.PARAMETERS_DIGEST else interest.name
         rule = next((rule for rule in self.rules if rule.kind == "interest" and g.begins(named, rule.prefix)), None)
         if rule is None:
-            return "no-rule interest", reply(status_content(403, "no rule"))
+            return "no-rule interest", reply(403, "no rule")
         signature = interest.signature
         if signature is None:
             reason = "NotSigned"
@@ -271,13 +309,16 @@ class Node:
         else:
             reason = rule.reason(self.keys, signature) or self.replay(signature)
         if reason is not None:
-            return f"denied interest {reason} {rule.identity}", reply(status_content(403, f"{reason} by {rule.identity}"))
+            return f"denied interest {reason} {rule.identity}", reply(403, f"{reason} by {rule.identity}")
         signer = self.signer(signature)
         time, number = self.last.get(signer, (None, None))
         self.last[signer] = (signature.time, number if signature.number is None else signature.number)
+        if content_of is repository_content:
+            status, text, count, fetch = self.repository(named, interest.nonce)
+            return f"allowed {status} {rule.identity}", reply(status, text, count) + fetch
         self.version += 1
         status, text, body = self.apply(face, named)
-        return f"allowed {status} {rule.identity}", reply(status_content(status, text, body))
+        return f"allowed {status} {rule.identity}", reply(status, text, body)
 
     def signer(self, signature):
         return None if signature.kind == 0 else signature.key
@@ -297,15 +338,10 @@ class Node:
         if named[:4] not in (p.name("/localhost/nfd/fib/add-nexthop"), p.name("/localhost/nfd/fib/remove-nexthop")):
             raise Beyond("another command")
         adds = named[3] == p.name("/add-nexthop")[0]
-        if len(named) != 5 or g.kind_of(named[4]) != p.GENERIC:
+        if len(named) != 5:
             return bad
         try:
-            outer = g.element(g.element(named[4]).value)
-            if outer.kind != 104 or outer.end != len(g.element(named[4]).value):
-                return bad
-            fields = {}
-            for one in g.elements(outer.value):
-                fields.setdefault(one.kind, one.value)
+            fields = first_fields(named[4], 104)
             uses = (7, 105, 106) if adds else (7, 105)
             if 7 not in fields or any(kind in fields and kind not in uses for kind in (105, 106, 107, 108, 109, 111, 132)):
                 return bad
@@ -327,10 +363,43 @@ class Node:
         self.hops.setdefault(name, {})[hop] = cost
         return 200, "OK", p.tlv(104, p.tlv(7, *name), p.integer(105, hop), p.integer(106, cost))
 
+    def repository(self, named, nonce):
+        """A status with its text, a number, and the Interest that goes out for what is wanted."""
+        bad = (400, "bad parameters", 0, [])
+        if len(named) != 3:
+            return bad
+        try:
+            fields = first_fields(named[2], 201)
+            name = g.components(fields[7])
+            flag = 33 in fields and g.octets_of(0)(fields[33]) == b""
+            lifetime = g.integer(fields[12]) if 12 in fields else 4000
+        except (g.Fault, KeyError):
+            return bad
+        want, verb = (name, flag), REPOSITORY[named[:2]]
+        found = [full for full, data in self.objects.items() if g.answers(data, *want)]
+        if verb == "delete":
+            gone = self.wants.pop(want, None)
+            for full in found:
+                del self.objects[full]
+            return (200, "OK", len(found), []) if found or gone is not None else (404, "not found", 0, [])
+        if found:
+            return 200, "OK", len(found), []
+        if verb == "check":
+            return (100, "pending", 0, []) if want in self.wants else (404, "not found", 0, [])
+        if want not in self.wants and (len(self.wants) == 64 or len(self.wants) + len(self.objects) == 65_536):
+            return 503, "repository full", 0, []
+        self.wants[want] = min(self.now + lifetime, LAST_MOMENT)
+        eligible = self.eligible(name, None, False)
+        if not eligible or not name or any(g.kind_of(part) == g.PARAMETERS_DIGEST for part in name):
+            return 100, "pending", 0, []
+        asks = p.interest(name, int.from_bytes(nonce, "big"), flag, False, lifetime)
+        return 100, "pending", 0, [(eligible[0][1], asks)]
+
     # The list of routes.
 
     def segment_asked(self, interest):
-        """The version, or None for the present one, and the number of the segment that is asked for; None for another Interest."""
+        """The version, or None for the present one, and the number of the segment that is asked for; None where an
+        Interest asks for no list."""
         name, of_routes = interest.name, p.name("/localhost/nfd/fib/list")
         if g.begins(name, p.name("/localhost/nfd/strategy-choice/list")):
             raise Beyond("the list of strategies")
