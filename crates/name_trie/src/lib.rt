@@ -7,6 +7,7 @@ mod children;
 mod component_buf;
 mod held;
 mod listing;
+mod look;
 mod name_map;
 mod node;
 mod rows;
@@ -18,6 +19,7 @@ mod trie;
 
 pub use becomes::Becomes;
 pub use change::Change;
+pub use look::Look;
 pub use name_map::NameMap;
 pub use see::See;
 pub use take::Take;

@@ -10,6 +10,7 @@ ghost use Rattle.name_trie.specs.Taken.{taken, taken_along, changed_along};
 use crate::becomes::Becomes;
 use crate::change::Change;
 use crate::held::{held_node, hold, node_held, node_of, place_for, release, release_other};
+use crate::look::{Look, look_along};
 use crate::node::{Node, child_of, find, has_child_up_to, prune, value_of};
 use crate::take::{Take, take_along, take_at};
 use crate::timed::{Timed, change_all_timed, change_timed, expire, replace_at};
@@ -113,6 +114,15 @@ impl<V: Timed + Drop> TimedMap<V> {
             Some(at) => has_child_up_to(&self.nodes, at, kind),
             None => false,
         }
+    }
+
+    /// Looks at the values of a name's proper prefixes, the shortest first, and of the name, in one
+    /// walk.
+    pub fn look_along<'a, L: Look<'a, V>>(&'a self, name: Name<'_>, look: &mut L)
+        ensures { look.new ≡ taken_along (L.seen true) (L.seen false) look.old
+            (map.get self.now.table) [] (components name.entry) }
+    {
+        look_along(&self.nodes, self.root, name, look);
     }
 
     /// Puts what a name's value becomes in its place.

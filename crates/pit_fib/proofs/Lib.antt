@@ -23,6 +23,7 @@ pub mod Expiry
 pub mod Arrivals
 pub mod Answered
 pub mod LastAsks
+pub mod LastAlong
 pub mod Tokenless
 pub mod AskedFaces
 pub mod SatisfiedTables

@@ -40,6 +40,10 @@ abbrev pub last_in_row : Bool → ℕ → Option InRecord → Option Row → Opt
 last_in_row is_own face last None = last
 last_in_row is_own face last (Some row) = last_in is_own face last row
 
+-- what a search for a face's last in-record becomes where it looks at a row
+abbrev pub last_seen : Bool → ℕ × Option InRecord → Row → ℕ × Option InRecord
+last_seen is_own s row = (s.0, last_in is_own s.0 s.1 row)
+
 -- under the names of fewer than n components that a name begins with
 abbrev pub last_above : Rows → ℕ → List Field → ℕ → Option InRecord
 last_above rows face name zero = None

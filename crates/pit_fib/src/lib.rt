@@ -15,6 +15,7 @@ mod flags;
 mod hops;
 mod inheriting;
 mod key_buf;
+mod last;
 mod law;
 mod nacked;
 mod pit;

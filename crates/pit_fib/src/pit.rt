@@ -13,7 +13,6 @@ ghost use Rattle.pit_fib.specs.Cause.{Expires, Arrives, SentTo, Satisfied, NackC
 ghost use Rattle.pit_fib.specs.Kept.{answer_in, has_place_in, kept_at, was_sent_in, with_answered};
 ghost use Rattle.pit_fib.specs.Pit.{HasRecord, HasRoomFor, WaitsFor, loops as loops_in, moments, nacked_answer, token_len};
 ghost use Rattle.pit_fib.specs.Tokens.{HaveNoTokens, IsTokenFor};
-ghost use Rattle.pit_fib.specs.Last.{last_along, last_in_row, last_of};
 
 use crate::arrival::{Arrival, Departure};
 use crate::by_face::Used;
@@ -22,6 +21,7 @@ use crate::faces::{Faces, MAX_FACES};
 use crate::fault::PitFault;
 use crate::fib::MAX_ENTRIES;
 use crate::flags::Flags;
+use crate::last::last_for;
 use crate::nacked::Nacked;
 use crate::prepared::{Prepared, after_sending, arriving, in_record_and_room};
 use crate::revisions::{Closing, Expiry, NackOf, Removal, Withdrawal};
@@ -370,7 +370,7 @@ impl Pit {
             (sha256 packet.now.whole.now) face }
     {
         let mut faces = Faces::new();
-        add_along(&self.rows, packet.name, &mut faces);
+        self.rows.look_along(packet.name, &mut faces);
         if !self.rows.has_below(packet.name, IMPLICIT_SHA256_DIGEST) {
             return faces;
         }
@@ -461,58 +461,6 @@ fn entry_of<'a>(rows: &'a TimedMap<Row>, key: Key<'_>) -> Option<&'a Entry>
     rows.get(key.name)?.get(Flags::of(key))
 }
 
-/// The later of a face's in-records under a name's keys and this one. Those with CanBePrefix count
-/// or, if the name is a Data's own, all.
-fn last_at<'a>(
-    rows: &'a TimedMap<Row>,
-    name: Name<'_>,
-    is_own: bool,
-    face: u64,
-    last: Option<&'a InRecord>,
-) -> Option<&'a InRecord>
-    ensures { option_map (λ r. r.now) result ≡ last_in_row is_own face
-        (option_map (λ r. r.now) last.entry) (map.get rows.now.table (components name.entry)) }
-{
-    match rows.get(name) {
-        Some(row) => row.last_of(is_own, face, last),
-        None => last,
-    }
-}
-
-/// The last of a face's in-records under a name's keys, and those of its proper prefixes that have
-/// CanBePrefix.
-fn last_along<'a>(rows: &'a TimedMap<Row>, name: Name<'_>, face: u64) -> Option<&'a InRecord>
-    ensures { option_map (λ r. r.now) result
-        ≡ last_along rows.now.table face (components name.entry) }
-{
-    let mut last = None;
-    for n in 0..name.len() {
-        last = last_at(rows, name.prefix(n), false, face, last);
-    }
-    last_at(rows, name, true, face, last)
-}
-
-/// The last of a face's in-records that a Data answers. The Data's digest is computed only where a
-/// key asks for one.
-fn last_for<'a>(rows: &'a TimedMap<Row>, packet: &Data<'_>, face: u64) -> Option<&'a InRecord>
-    ensures { option_map (λ r. r.now) result ≡ last_of rows.now.table face
-        (components packet.now.name) (sha256 packet.now.whole.now) }
-{
-    let last = last_along(rows, packet.name, face);
-    if !rows.has_below(packet.name, IMPLICIT_SHA256_DIGEST) {
-        return last;
-    }
-    let digest = packet.digest();
-    let component = Component {
-        kind: IMPLICIT_SHA256_DIGEST,
-        value: &digest,
-    };
-    match rows.get_below(packet.name, component) {
-        Some(row) => row.last_of(true, face, last),
-        None => last,
-    }
-}
-
 /// Adds the faces that ask under a name's keys, if it has any. Those with CanBePrefix count or, if the
 /// name is a Data's own, all.
 fn add_of(row: Option<&Row>, is_own: bool, faces: &mut Faces)
@@ -522,18 +470,6 @@ fn add_of(row: Option<&Row>, is_own: bool, faces: &mut Faces)
     if let Some(row) = row {
         row.add_answered(is_own, faces);
     }
-}
-
-/// Adds the faces that ask under a name's keys, and under those of its proper prefixes that have
-/// CanBePrefix.
-fn add_along(rows: &TimedMap<Row>, name: Name<'_>, faces: &mut Faces)
-    ensures { faces.new ≡ taken_along (with_answered true) (with_answered false) faces.old
-        (map.get rows.now.table) [] (components name.entry) }
-{
-    for n in 0..name.len() {
-        add_of(rows.get(name.prefix(n)), false, faces);
-    }
-    add_of(rows.get(name), true, faces);
 }
 
 /// Whether the last sending to a face under this key had this Nonce.

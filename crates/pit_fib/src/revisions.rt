@@ -5,7 +5,7 @@ use crate::faces::Faces;
 use crate::flags::Flags;
 use crate::row::Row;
 use crate::slots::Revision;
-use name_trie::Take;
+use name_trie::{Look, Take};
 
 /// Ends the Interests whose deadline is not after now.
 #[derive(Drop)]
@@ -137,5 +137,15 @@ impl Take<Row> for Faces {
     fn take(&mut self, row: Row, is_own: bool) -> Option<Row> {
         row.add_answered(is_own, self);
         row.revised(&Answered { is_own })
+    }
+}
+
+impl<'a> Look<'a, Row> for Faces {
+    ghost use Rattle.pit_fib.specs.Kept.{with_answered};
+
+    ghost seen = { with_answered };
+
+    fn look(&mut self, row: &'a Row, is_own: bool) {
+        row.add_answered(is_own, self);
     }
 }
