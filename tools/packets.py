@@ -9,7 +9,9 @@ import hashlib
 import hmac
 
 GENERIC, DIGEST = 8, 2
-NO_ROUTE = 150
+SEGMENT, VERSION = 50, 54
+PIT_TOKEN = 98
+DUPLICATE, NO_ROUTE = 100, 150
 LONGEST_PACKET = 8800
 MOST_COMPONENTS = 64
 STRATEGIES = "/localhost/nfd/strategy/"
@@ -115,16 +117,17 @@ def command(of, nonce, key, time, number=None, wrong=False):
     return tlv(5, tlv(7, *whole), tlv(10, nonce.to_bytes(4, "big")), later)
 
 
-def node_name(verb, of=None, face=None, cost=None, strategy=None, count=None):
+def node_name(verb, of=None, face=None, cost=None, strategy=None, count=None, origin=None, flags=None, expires=None):
     """The name of a command of the node, as `fib/add-nexthop`, with its parameters."""
     fields = [] if of is None else [tlv(7, *of)]
-    for kind, value in ((105, face), (106, cost)):
+    for kind, value in ((105, face), (111, origin), (106, cost), (108, flags)):
         if value is not None:
             fields.append(integer(kind, value))
     if strategy is not None:
         fields.append(tlv(107, tlv(7, *strategy)))
-    if count is not None:
-        fields.append(integer(132, count))
+    for kind, value in ((109, expires), (132, count)):
+        if value is not None:
+            fields.append(integer(kind, value))
     return name("/localhost/nfd/" + verb) + (tlv(GENERIC, tlv(104, *fields)),)
 
 
@@ -143,9 +146,14 @@ def link(packet, *headers):
     return tlv(100, *headers, tlv(80, packet))
 
 
-def nack(reason, of):
-    """A Nack of an Interest's octets."""
-    return link(of, tlv(800, integer(801, reason)))
+def with_token(packet, token):
+    """A link packet that holds a packet and a PIT token."""
+    return link(packet, tlv(PIT_TOKEN, token))
+
+
+def nack(reason, of, *headers):
+    """A Nack of an Interest's octets, in a link packet with these headers before it."""
+    return link(of, *headers, tlv(800, integer(801, reason)))
 
 
 def rule(identity, kind, prefix=None, key=None, hierarchical=False):
