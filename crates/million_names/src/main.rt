@@ -1,0 +1,61 @@
+//! Puts a million names into a map, 64 of which stand at a time, takes each out again, and prints
+//! what is left. The map's invariant says that a node without a value and without children is not
+//! kept, so a map without names has no node.
+#![tactic(auto)]
+
+use name_trie::NameMap;
+use ndn_names::NameBuf;
+use ndn_names::component_type::GENERIC;
+use ndn_tlv::Memory;
+use std::alloc::Global;
+use std::io;
+
+/// How many names come.
+const NAMES: u64 = 1_000_000;
+
+/// How many names stand at a time.
+const STANDING: u64 = 64;
+
+/// The name of a number: of 4,096 that follow one another all have the same first component.
+fn name_of(alloc: Global, number: u64) -> Result<NameBuf, Memory> {
+    let mut name = NameBuf::new(alloc);
+    for part in [number / 4096, number % 4096] {
+        name.append(GENERIC, &part.to_be_bytes())
+            .map_err(|_| Memory)?;
+    }
+    Ok(name)
+}
+
+/// Puts a name in, and takes out the one that came so many names before. Answers how many stand.
+fn put_and_remove(alloc: Global, names: &mut NameMap<u64>, number: u64) -> Result<usize, Memory> {
+    let name = name_of(alloc, number)?;
+    if names.len() < usize::MAX {
+        names.put(name.view(), number)?;
+    }
+    if let Some(old) = number.checked_sub(STANDING) {
+        names.remove(name_of(alloc, old)?.view());
+    }
+    Ok(names.len())
+}
+
+/// Puts all names in and takes them out. Answers how many stood at most, and how many are left.
+fn rounds(alloc: Global) -> Result<(usize, usize), Memory> {
+    let mut names = NameMap::new(alloc);
+    let mut most = 0;
+    for number in 0..NAMES {
+        most = most.max(put_and_remove(alloc, &mut names, number)?);
+    }
+    for number in NAMES - STANDING..NAMES {
+        names.remove(name_of(alloc, number)?.view());
+    }
+    Ok((most, names.len()))
+}
+
+fn main(rt: HostRuntime) -> io::Result<()> {
+    match rounds(rt.alloc()) {
+        Ok((most, left)) => {
+            println!(rt; "{NAMES} names came, {most} stood at most, {left} are left")
+        }
+        Err(Memory) => println!(rt; "out of memory"),
+    }
+}
