@@ -1,0 +1,66 @@
+use super::*;
+use std::io::{BufReader, repeat};
+
+/// The limit of a rule file.
+const LIMIT: u32 = 65_536;
+
+/// A reader whose reads fail.
+#[derive(Drop)]
+struct Broken;
+
+impl Read for Broken {
+    fn read(&mut self, _buf: &mut [u8]) -> io::Result<usize> {
+        Err(io::Error::from(io::ErrorKind::Other))
+    }
+}
+
+/// How many octets are read of a reader that has so many; `None` where they are too many.
+fn read_of(alloc: Global, count: u64) -> Option<usize> {
+    let found = read_within(alloc, repeat(b'x').take(count), LIMIT).ok()?;
+    Some(found?.len())
+}
+
+/// Whether a reader without an end is too long.
+fn refuses_endless(alloc: Global) -> bool {
+    read_within(alloc, repeat(b'x'), LIMIT).is_ok_and(|found| found.is_none())
+}
+
+/// Whether an error after some octets is reported.
+fn fails_in_the_middle(alloc: Global) -> bool {
+    read_within(alloc, repeat(b'x').take(3).chain(Broken), LIMIT).is_err()
+}
+
+/// The octets of a reader may be as many as the limit, and no more.
+#[test]
+fn readers(rt: HostRuntime) {
+    assert!(rt; read_of(rt.alloc(), 0) == Some(0));
+    assert!(rt; read_of(rt.alloc(), 65_536) == Some(65_536));
+    assert!(rt; read_of(rt.alloc(), 65_537).is_none());
+    assert!(rt; refuses_endless(rt.alloc()));
+    assert!(rt; fails_in_the_middle(rt.alloc()));
+}
+
+/// Whether the lines of a text are these, with a limit of four octets; `-` stands for a line that is
+/// longer, and ends the text.
+fn lines_are(alloc: Global, text: &str, wanted: &str) -> Option<bool> {
+    let mut reader = BufReader::new(alloc, text.as_bytes()).ok()?;
+    let mut lines = Vec::new(alloc);
+    for _ in 0..text.len() {
+        match read_line_within(alloc, &mut reader, 4).ok()? {
+            None => {
+                lines.extend_from_slice(b"-").ok()?;
+                return Some(lines.as_slice() == wanted.as_bytes());
+            }
+            Some(line) => lines.extend_from_slice(&line).ok()?,
+        }
+    }
+    Some(lines.as_slice() == wanted.as_bytes())
+}
+
+/// A line may have as many octets as the limit with its LF, and no more.
+#[test]
+fn lines(rt: HostRuntime) {
+    assert!(rt; lines_are(rt.alloc(), "abc\n\nabcd", "abc\n\nabcd") == Some(true));
+    assert!(rt; lines_are(rt.alloc(), "a\nabcd\nb\n", "a\n-") == Some(true));
+    assert!(rt; lines_are(rt.alloc(), "abcde", "-") == Some(true));
+}
