@@ -29,6 +29,7 @@ refused_words name rows fault.NotText h = absurd h
 refused_words name rows (fault.Unread file) h = absurd h
 refused_words name rows (fault.Rules why) h = absurd h
 refused_words name rows (fault.Keys why) h = absurd h
+refused_words name rows fault.LargeKeys h = absurd h
 refused_words name rows (fault.Script (run.BadLine line)) h = absurd h
 refused_words name rows (fault.Script run.Read) h = absurd h
 refused_words name rows (fault.Script run.Write) h = absurd h

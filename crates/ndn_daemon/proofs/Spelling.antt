@@ -18,6 +18,7 @@ module _ {A B : Type 0} (Part : A → Type 0) (Whole : B → Type 0) (part : (y 
   wrong_part (fault.Unread file) h = h
   wrong_part (fault.Rules why) h = h
   wrong_part (fault.Keys why) h = h
+  wrong_part fault.LargeKeys h = h
   wrong_part (fault.Script why) h = h
   wrong_part (fault.Unbound port) h = h
   wrong_part fault.Unreceived h = h
@@ -29,6 +30,7 @@ module _ {A B : Type 0} (Part : A → Type 0) (Whole : B → Type 0) (part : (y 
   refused_part (fault.Unread file) h = h
   refused_part (fault.Rules why) h = h
   refused_part (fault.Keys why) h = h
+  refused_part fault.LargeKeys h = h
   refused_part (fault.Script (run.BadLine line)) h = h
   refused_part (fault.Script run.Read) h = h
   refused_part (fault.Script run.Write) h = h
@@ -44,6 +46,7 @@ module _ {A B : Type 0} (Part : A → Type 0) (Whole : B → Type 0) (part : (y 
   wrong_in_memory (fault.Unread file) h = h
   wrong_in_memory (fault.Rules why) h = h
   wrong_in_memory (fault.Keys why) h = h
+  wrong_in_memory fault.LargeKeys h = h
   wrong_in_memory (fault.Script (run.BadLine line)) h = h
   wrong_in_memory (fault.Script run.Read) h = h
   wrong_in_memory (fault.Script run.Write) h = h
@@ -61,6 +64,7 @@ bad_value_wrong Spell none fault.NotText h = h
 bad_value_wrong Spell none (fault.Unread file) h = h
 bad_value_wrong Spell none (fault.Rules why) h = h
 bad_value_wrong Spell none (fault.Keys why) h = h
+bad_value_wrong Spell none fault.LargeKeys h = h
 bad_value_wrong Spell none (fault.Script why) h = h
 bad_value_wrong Spell none (fault.Unbound port) h = h
 bad_value_wrong Spell none fault.Unreceived h = h

@@ -10,7 +10,7 @@ use Rattle.forwarder.specs.declared.node.NodeFault.TheVariants.{BadRepoPrefix, B
 use Rattle.node_core.specs.declared.script.RunFault.{RunFault}
 use Rattle.node_core.specs.declared.script.RunFault.TheVariants.{BadLine, Read, Write, Node, Memory}
 use Rattle.ndn_daemon.specs.declared.fault.Fault.{Fault}
-use Rattle.ndn_daemon.specs.declared.fault.Fault.TheVariants.{CommandLine, BadValue, NotText, Unread, Rules, Keys, Script, Unbound, Unreceived}
+use Rattle.ndn_daemon.specs.declared.fault.Fault.TheVariants.{CommandLine, BadValue, NotText, Unread, Rules, Keys, LargeKeys, Script, Unbound, Unreceived}
 
 abbrev pub rules_status : RulesFaultKind → ℕ
 rules_status kinds.Memory = 3
@@ -28,6 +28,7 @@ status_of (Keys (BadKey line)) = 1
 status_of (Keys (TwiceNamed line)) = 1
 status_of (Keys TooMany) = 1
 status_of (Keys KeyMemory) = 3
+status_of LargeKeys = 1
 status_of (Script (BadLine line)) = 1
 status_of (Script Read) = 3
 status_of (Script Write) = 3
@@ -70,6 +71,7 @@ text_of NotText = Some (codes "error: an argument is not UTF-8 text\n")
 text_of (Unread file) = Some (codes "error: the " ++ file.now ++ codes " cannot be read\n")
 text_of (Rules fault) = Some (rules_fault_text fault.line fault.kind)
 text_of (Keys fault) = Some (key_fault_text fault)
+text_of LargeKeys = Some (codes "keys:0: TooLarge\n")
 text_of (Script fault) = Some (run_fault_text fault)
 text_of (Unbound port) = Some (codes "error: port " ++ decimal port
     ++ codes " of 127.0.0.1 cannot be bound: give one that no program has\n")

@@ -28,6 +28,8 @@ pub enum Fault {
     Rules(RulesFault),
     /// The file is not a key file.
     Keys(KeyFault),
+    /// The file has more octets than a key file may have.
+    LargeKeys,
     /// The script did not run to its end.
     Script(RunFault),
     /// A port cannot be bound.
@@ -60,6 +62,7 @@ impl Fault {
                 }
             }
             Fault::Keys(KeyFault::BadLine(_) | KeyFault::TwiceNamed(_) | KeyFault::TooMany)
+            | Fault::LargeKeys
             | Fault::Script(RunFault::BadLine(_)) => 1,
             Fault::Unread { .. }
             | Fault::Unbound { .. }
@@ -98,6 +101,7 @@ impl fmt::Display for Fault {
             Fault::Keys(KeyFault::BadLine(line)) => writeln!(f, "keys:{line}: BadLine"),
             Fault::Keys(KeyFault::TwiceNamed(line)) => writeln!(f, "keys:{line}: TwiceNamed"),
             Fault::Keys(KeyFault::TooMany) => f.write_str("keys:0: TooMany\n"),
+            Fault::LargeKeys => f.write_str("keys:0: TooLarge\n"),
             Fault::Script(RunFault::BadLine(line)) => writeln!(f, "script:{line}: bad line"),
             Fault::Unbound { port } => writeln!(
                 f,

@@ -12,7 +12,7 @@ mod watched_ports;
 
 pub use command::{Request, request_of};
 pub use fault::Fault;
-pub use files::{read_keys, read_rules};
+pub use files::{read_key_file, read_keys, read_rule_file, read_rules};
 pub use options::Options;
 pub use port::{MachineClock, run_on_port};
 pub use rule_files::RuleFiles;

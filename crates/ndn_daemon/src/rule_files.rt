@@ -1,13 +1,13 @@
 //! The rule file and the key file of a node, which are read again where they change.
 use crate::fault::Fault;
-use crate::files::{read_keys, read_rules};
+use crate::files::{read_key_file, read_rule_file, read_rules, unread};
 use crate::watched_ports::RuleSource;
 use hmac_keys::KeyBook;
 use info_rules::Rules;
-use node_core::RunFault;
+use std::fs;
+use std::fs::File;
 use std::rt::Files;
 use std::time::SystemTime;
-use std::{fs, io};
 
 /// By what a file is seen to have changed.
 #[derive(Clone, Copy, PartialEq, Eq)]
@@ -43,11 +43,15 @@ impl<'a, R: AllocGlobal + Files> RuleFiles<'a, R> {
 
     /// The rules and the keys in the files.
     pub fn read(&self) -> Result<(Rules, KeyBook), Fault> {
-        let rules = read_rules(
-            self.rt.alloc(),
-            &contents(self.rt, &self.rules, "rule file")?,
-        )?;
-        let keys = read_keys(self.rt.alloc(), &contents(self.rt, &self.keys, "key file")?)?;
+        let alloc = self.rt.alloc();
+        let rules = match &self.rules {
+            Some(path) => read_rule_file(alloc, open(self.rt, path, "rule file")?)?,
+            None => read_rules(alloc, b"")?,
+        };
+        let keys = match &self.keys {
+            Some(path) => read_key_file(alloc, open(self.rt, path, "key file")?)?,
+            None => KeyBook::new(alloc),
+        };
         Ok((rules, keys))
     }
 
@@ -92,20 +96,7 @@ fn stamp_of<R: Files>(rt: &R, path: &Option<String>) -> Option<Stamp> {
     })
 }
 
-/// The octets of a file, or none where no file is named.
-fn contents<R: AllocGlobal + Files>(
-    rt: &R,
-    path: &Option<String>,
-    file: &'static str,
-) -> Result<Vec<u8>, Fault> {
-    let Some(path) = path else {
-        return Ok(Vec::new(rt.alloc()));
-    };
-    match fs::read(rt, path.as_str()) {
-        Ok(octets) => Ok(octets),
-        Err(error) if error.kind() == io::ErrorKind::OutOfMemory => {
-            Err(Fault::Script(RunFault::Memory))
-        }
-        Err(_) => Err(Fault::Unread { file }),
-    }
+/// Opens a file for reading.
+fn open<R: Files>(rt: &R, path: &str, file: &'static str) -> Result<R::File, Fault> {
+    File::open(rt, path).map_err(|error| unread(&error, file))
 }

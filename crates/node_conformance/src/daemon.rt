@@ -5,7 +5,7 @@ use info_rules::{RulesFault, RulesFaultKind};
 use ndn_daemon::*;
 use node_core::{NodeFault, RunFault};
 use std::alloc::Global;
-use std::io::Write;
+use std::io::{Read, Write, repeat};
 use std::process::Abort;
 
 /// What a command asks for.
@@ -229,6 +229,32 @@ fn key_files(rt: HostRuntime) {
     let twice = b"/k 6b6579\n/k 6b6579\n";
     assert!(rt; refused_keys(alloc, twice).as_deref() == Some("1 keys:2: TwiceNamed\n"));
     assert!(rt; refused_keys(alloc, b"\xff").as_deref() == Some("1 keys:0: BadLine\n"));
+}
+
+/// What a file of so many octets is refused with, where each is a semicolon, and then a letter of two octets.
+fn refused_comment(alloc: Global, count: u64) -> Option<String> {
+    let file = repeat(b';').take(count).chain("é".as_bytes());
+    refused(alloc, read_rule_file(alloc, file))
+}
+
+/// What a key file of so many semicolons is refused with.
+fn refused_key_comment(alloc: Global, count: u64) -> Option<String> {
+    refused(alloc, read_key_file(alloc, repeat(b';').take(count)))
+}
+
+/// A file may have as many octets as its limit and no more, and a file that is too long may end anywhere.
+#[test]
+fn large_files(rt: HostRuntime) {
+    let alloc = rt.alloc();
+    let rules = "1 rules:0: TooLarge\n";
+    assert!(rt; refused_comment(alloc, 65_534).is_none());
+    assert!(rt; refused_comment(alloc, 65_535).as_deref() == Some(rules));
+    assert!(rt; refused_comment(alloc, 65_536).as_deref() == Some(rules));
+    assert!(rt; refused_comment(alloc, u64::MAX).as_deref() == Some(rules));
+    let keys = "1 keys:0: TooLarge\n";
+    assert!(rt; refused_key_comment(alloc, 8_388_608).is_none());
+    assert!(rt; refused_key_comment(alloc, 8_388_609).as_deref() == Some(keys));
+    assert!(rt; refused_key_comment(alloc, u64::MAX).as_deref() == Some(keys));
 }
 
 /// Whether a fault has this status and this text.
