@@ -1,9 +1,39 @@
--- What stands on standard input where one packet is to be sent.
-use Rattle.std.specs.Prelude.{ℕ, ◌-◌, List, length, take, ◌==◌, if◌then◌else◌, slice_get}
+-- What stands on standard input.
+use Rattle.std.specs.Prelude.{◌≡◌, ◌<◌, ◌≤◌, ℕ, ◌-◌, List, length, take, ◌==◌, if◌then◌else◌, slice_get, String, string_bytes, ⊤}
 use Rattle.ndn_tlv.specs.Options.{on_option}
+use Rattle.ndn_client.specs.declared.fault.Usage.TheVariants.{BadValue}
+use Rattle.ndn_client.specs.declared.fault.ToolFault.{ToolFault}
+use Rattle.ndn_client.specs.declared.fault.ToolFault.TheVariants.{Usage, Memory}
+use Rattle.ndn_client.specs.declared.fault.Fault.{Fault}
+use Rattle.ndn_client.specs.declared.fault.Fault.TheVariants.{Input, Tool}
 
 -- a text without the LF at its end
 abbrev pub without_lf : List ℕ → List ℕ
 without_lf text =
     on_option (λ o. if o == 10 then take (length text - 1) text else text) text
     (slice_get text (length text - 1))
+
+-- ---- its text
+
+-- a text is these octets
+abbrev pub IsTextOf : {Z : Type 0} → List ℕ → String Z → Type 0
+IsTextOf octets text = string_bytes text ≡ octets
+
+-- the same, of no more octets than the limit
+abbrev pub IsInput : {Z : Type 0} → ℕ → List ℕ → String Z → Type 0
+IsInput limit octets text = (length octets ≤ limit) × IsTextOf octets text
+
+-- standard input cannot be read as a text, or memory was refused
+abbrev pub IsUnreadInput : Fault → Type 0
+IsUnreadInput Input = ⊤
+IsUnreadInput (Tool why) = why ≡ Memory
+IsUnreadInput why = ⊥
+
+abbrev pub IsInputRefusal : ℕ → List ℕ → ToolFault → Type 0
+IsInputRefusal limit octets (Usage (BadValue place wanted)) = limit < length octets
+IsInputRefusal limit octets why = why ≡ Memory
+
+-- there are more octets than the limit, or they cannot be read as a text, or memory was refused
+abbrev pub IsInputFault : ℕ → List ℕ → Fault → Type 0
+IsInputFault limit octets (Tool why) = IsInputRefusal limit octets why
+IsInputFault limit octets why = IsUnreadInput why

@@ -1,9 +1,25 @@
 -- The fault of what the octets of a key file are read as.
-use Rattle.std.specs.Prelude.{ℕ, List}
-use Rattle.hmac_keys.specs.KeyReading.{IsFaultOfOctets}
+use Rattle.std.specs.Prelude.{◌≡◌, ◌<◌, ◌≤◌, ℕ, List, length, ⊤}
+use Rattle.hmac_keys.specs.KeyFile.{NamedKey}
+use Rattle.hmac_keys.specs.KeyReading.{AreKeys, IsFaultOfOctets}
+use Rattle.limited_reads.specs.declared.TheConstants.{MAX_KEY_FILE}
+use Rattle.ndn_client.specs.declared.fault.ToolFault.TheVariants.{Memory}
 use Rattle.ndn_client.specs.declared.fault.Fault.{Fault}
-use Rattle.ndn_client.specs.declared.fault.Fault.TheVariants.{Keys}
+use Rattle.ndn_client.specs.declared.fault.Fault.TheVariants.{Keys, LargeKeys, Read, Tool}
 
 abbrev pub IsFileFault : List ℕ → Fault → Type 0
 IsFileFault octets (Keys why) = IsFaultOfOctets octets why
 IsFileFault octets why = ⊥
+
+-- the keys of octets, which are no more than a key file may have
+abbrev pub AreKeysOfFile : List ℕ → List NamedKey → Type 0
+AreKeysOfFile octets keys = (length octets ≤ MAX_KEY_FILE) × AreKeys octets keys
+
+-- that there are more octets than a key file may have, or else the fault of what they say, or the
+-- file cannot be read, or memory was refused
+abbrev pub IsKeyFileFault : List ℕ → Fault → Type 0
+IsKeyFileFault octets LargeKeys = MAX_KEY_FILE < length octets
+IsKeyFileFault octets (Keys why) = (length octets ≤ MAX_KEY_FILE) × IsFaultOfOctets octets why
+IsKeyFileFault octets Read = ⊤
+IsKeyFileFault octets (Tool why) = why ≡ Memory
+IsKeyFileFault octets why = ⊥

@@ -1,11 +1,11 @@
 -- What the program has to do for a job.
-use Rattle.std.specs.Prelude.{◌≡◌, ℕ, List, [], Option, None, Some, Bool, true, false, is_none, Vec}
+use Rattle.std.specs.Prelude.{◌≡◌, ℕ, List, [], Option, None, Some, Bool, true, false, is_none, if◌then◌else◌, Vec}
 use Rattle.std.specs.Option.{option_map}
 use Rattle.std.specs.Global.{Vec as Octets}
 use Rattle.hmac_keys.specs.KeyFile.{NamedKey}
 use Rattle.ndn_explain.specs.Input.{IsSaidInput}
 use Rattle.ndn_requests.specs.declared.exchange.View.{View}
-use Rattle.ndn_requests.specs.declared.exchange.View.TheVariants.{Hexadecimal, Lines}
+use Rattle.ndn_requests.specs.declared.exchange.View.TheVariants.{Hexadecimal, Lines as AsLines}
 use Rattle.ndn_requests.specs.declared.exchange.Exchange.{Exchange}
 use Rattle.ndn_requests.specs.declared.fault.Silence.{Silence}
 use Rattle.ndn_requests.specs.declared.fault.Failure.TheVariants as failure
@@ -19,6 +19,8 @@ use Rattle.ndn_client.specs.declared.fault.ToolFault.{ToolFault}
 use Rattle.ndn_client.specs.declared.fault.ToolFault.TheVariants as tool
 use Rattle.ndn_client.specs.declared.fault.Fault.{Fault}
 use Rattle.ndn_client.specs.declared.fault.Fault.TheVariants as fault
+use Rattle.ndn_client.specs.declared.plan.InputForm.{InputForm}
+use Rattle.ndn_client.specs.declared.plan.InputForm.TheVariants.{Nothing, Packet, Lines}
 use Rattle.ndn_client.specs.declared.plan.Plan.{Plan}
 use Rattle.ndn_client.specs.declared.plan.Plan.TheVariants as plan
 use Rattle.ndn_client.specs.Value.{AreOctets, IsRefused}
@@ -27,10 +29,10 @@ use Rattle.ndn_client.specs.Answer.{IsAnswer, IsRefusal, IsCommandPacket, IsInte
 
 -- ---- parts of a job
 
-abbrev pub reads_input : Job → Bool
-reads_input (job.Explain asked) = is_none asked.packet
-reads_input (job.Send asked) = is_none asked.packet
-reads_input asked = false
+abbrev pub input_form : Job → InputForm
+input_form (job.Explain asked) = if is_none asked.packet then Lines else Nothing
+input_form (job.Send asked) = if is_none asked.packet then Packet else Nothing
+input_form asked = Nothing
 
 -- the ports that it is sent to and from
 abbrev pub ports_of : Job → Ports
@@ -42,7 +44,7 @@ ports_of asked = record { to = None; from = None }
 abbrev pub view_of : Job → View
 view_of (job.Ask asked) = asked.view
 view_of (job.Send asked) = Hexadecimal
-view_of asked = Lines
+view_of asked = AsLines
 
 -- ---- what is printed
 

@@ -46,6 +46,8 @@ pub enum Fault {
     NotText,
     /// The file is not a key file.
     Keys(KeyFault),
+    /// The file has more octets than a key file may have.
+    LargeKeys,
     /// The key file cannot be read.
     Read,
     /// The clock cannot be read.
@@ -97,6 +99,7 @@ impl Fault {
             Fault::Tool(fault) => fault.exit_status(),
             Fault::NotText => 2,
             Fault::Keys(KeyFault::BadLine(_) | KeyFault::TwiceNamed(_) | KeyFault::TooMany)
+            | Fault::LargeKeys
             | Fault::NoKeyFile
             | Fault::NotDone(_) => 1,
             Fault::Keys(KeyFault::Memory)
@@ -147,6 +150,7 @@ impl fmt::Display for Fault {
             Fault::Keys(KeyFault::BadLine(line)) => writeln!(f, "keys:{line}: BadLine"),
             Fault::Keys(KeyFault::TwiceNamed(line)) => writeln!(f, "keys:{line}: TwiceNamed"),
             Fault::Keys(KeyFault::TooMany) => f.write_str("keys:0: TooMany\n"),
+            Fault::LargeKeys => f.write_str("keys:0: TooLarge\n"),
             Fault::Keys(KeyFault::Memory) => f.write_str("error: out of memory\n"),
             Fault::Read => f.write_str("error: the key file cannot be read\n"),
             Fault::Clock => f.write_str("error: the clock cannot be read\n"),

@@ -1,13 +1,70 @@
-//! The one packet of standard input.
+//! Standard input: one packet, or lines.
 
-ghost use Rattle.std.specs.Prelude.{◌≡◌};
+ghost use Rattle.std.specs.Prelude.{◌≡◌, ◌≤◌, IfOk, IfSome, MatchResult, string_len};
 ghost use Rattle.ndn_client.specs.Value.{AreOctets, ReadsInMemory};
-ghost use Rattle.ndn_client.specs.Input.{without_lf};
+ghost use Rattle.ndn_client.specs.Input.{IsInput, IsInputFault, IsTextOf, IsUnreadInput, without_lf};
 
-use crate::fault::ToolFault;
+use crate::fault::{Fault, ToolFault};
 use crate::short_form::refusal;
 use hex::FromHexError;
+use limited_reads::{read_line_within, read_within};
 use std::alloc::Global;
+use std::io;
+use std::io::{BufRead, Read};
+
+/// The greatest length of a packet on standard input: the 65,507 octets of a UDP datagram in hexadecimal,
+/// and an LF.
+const MAX_PACKET_INPUT: u32 = 131_015;
+
+/// The greatest length of a line of standard input, with its LF, in octets. A line of a script's answers
+/// with such a packet has at most 131,038.
+const MAX_INPUT_LINE: u32 = 131_072;
+
+/// The text of standard input that has to be one packet. Refuses what is longer than a packet of 65,507
+/// octets in hexadecimal, and reads no more than one octet of the rest.
+pub fn read_packet_input<R: Read + Drop>(alloc: Global, reader: R) -> Result<String, Fault>
+    // Where it is known what the reader has.
+    ensures { IfSome (R.remaining reader)
+        (λ octets. MatchResult result (IsInput 131015 octets) (IsInputFault 131015 octets)) }
+{
+    match read_within(alloc, reader, MAX_PACKET_INPUT) {
+        Ok(Some(octets)) => text_of(octets),
+        Ok(None) => Err(Fault::Tool(refusal(
+            "standard input",
+            "one packet in hexadecimal, of at most 65507 octets",
+        ))),
+        Err(error) => Err(unread(&error)),
+    }
+}
+
+/// The next line of standard input with its LF; an empty text at the end. Refuses a line of more than
+/// 131,072 octets, its LF among them, and reads no more than one octet of the rest.
+pub fn read_input_line<R: BufRead>(alloc: Global, reader: &mut R) -> Result<String, Fault>
+    ensures { IfOk result (λ line. string_len line ≤ 131072) }
+{
+    match read_line_within(alloc, reader, MAX_INPUT_LINE) {
+        Ok(Some(line)) => text_of(line),
+        Ok(None) => Err(Fault::Tool(refusal("standard input", "lines of at most 131072 octets"))),
+        Err(error) => Err(unread(&error)),
+    }
+}
+
+/// The text of these octets, if they are UTF-8.
+fn text_of(octets: Vec<u8>) -> Result<String, Fault>
+    ensures { MatchResult result (IsTextOf octets.items) IsUnreadInput }
+{
+    String::from_utf8(octets).map_err(|_| Fault::Input)
+}
+
+/// The fault of standard input that cannot be read.
+fn unread(error: &io::Error) -> Fault
+    ensures { IsUnreadInput result }
+{
+    if error.kind() == io::ErrorKind::OutOfMemory {
+        return Fault::Tool(ToolFault::Memory);
+    }
+    Fault::Input
+}
 
 /// The one packet that a text spells in hexadecimal of either case, with or without an LF at its
 /// end.

@@ -21,15 +21,15 @@ mod value;
 
 pub use command::parse_words;
 pub use fault::{Fault, ToolFault, Usage};
-pub use input::packet_in;
+pub use input::{packet_in, read_input_line, read_packet_input};
 pub use job::{
     AskJob, CommandJob, DataJob, ExplainJob, InterestJob, Job, KeyChoice, LinkJob, Ports, SendJob,
     Stamp, TagJob,
 };
-pub use key_file::read_book;
+pub use key_file::{read_book, read_key_file};
 pub use ndn_explain::put_input;
 pub use ndn_requests::{
     Exchange, Failure, NodeList, Outcome, Progress, Silence, View, judge, put_said, silence_of,
 };
-pub use plan::{Plan, fault_of_silence, plan_of, reads_input};
+pub use plan::{InputForm, Plan, fault_of_silence, input_form, plan_of};
 pub use token::Token;

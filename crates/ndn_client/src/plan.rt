@@ -2,7 +2,7 @@
 
 ghost use Rattle.std.specs.Prelude.{◌≡◌, MatchResult};
 ghost use Rattle.ndn_client.specs.Answer.{IsRefusal};
-ghost use Rattle.ndn_client.specs.Plan.{IsPlan, IsNoPlan, IsRequest, IsSent, IsNotSent, IsPrinted, fault_of_silence, ports_of, reads_input, view_of};
+ghost use Rattle.ndn_client.specs.Plan.{IsPlan, IsNoPlan, IsRequest, IsSent, IsNotSent, IsPrinted, fault_of_silence, input_form, ports_of, view_of};
 
 use crate::answer::{command_packet, interest_packet, keys_given, text_of};
 use crate::fault::{Fault, ToolFault};
@@ -22,19 +22,30 @@ pub enum Plan {
     Exchange(Exchange),
 }
 
-/// Whether the job is about what stands on standard input.
-pub fn reads_input(job: &Job) -> bool
-    ensures { result ≡ reads_input job.now }
+/// What a job is about on standard input.
+#[derive(Clone, Copy)]
+pub enum InputForm {
+    /// Nothing.
+    Nothing,
+    /// One packet.
+    Packet,
+    /// Lines, each of which is a job of its own.
+    Lines,
+}
+
+/// What the job is about on standard input.
+pub fn input_form(job: &Job) -> InputForm
+    ensures { result ≡ input_form job.now }
 {
     match job {
-        Job::Explain(job) => job.packet.is_none(),
-        Job::Send(job) => job.packet.is_none(),
-        _ => false,
+        Job::Explain(job) if job.packet.is_none() => InputForm::Lines,
+        Job::Send(job) if job.packet.is_none() => InputForm::Packet,
+        _ => InputForm::Nothing,
     }
 }
 
-/// What the program has to do for a job, with the keys of its key file, and with what stands on
-/// standard input where the job is about that.
+/// What the program has to do for a job, with the keys of its key file, and with the packet or any
+/// lines of standard input where the job is about that.
 ///
 /// Refuses a job by its cause or by `Memory`; by `Usage` only an input that is not one packet.
 pub fn plan_of(alloc: Global, job: &Job, book: &KeyBook, input: &str) -> Result<Plan, ToolFault>

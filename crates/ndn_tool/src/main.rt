@@ -6,16 +6,17 @@ ghost use Rattle.std.specs.Prelude.{◌≤◌, length, IfOk};
 
 use hmac_keys::KeyBook;
 use ndn_client::{
-    Exchange, Fault, Job, Outcome, Plan, Progress, ToolFault, fault_of_silence, parse_words,
-    plan_of, read_book, reads_input,
+    Exchange, Fault, InputForm, Job, Outcome, Plan, Progress, ToolFault, fault_of_silence,
+    input_form, parse_words, plan_of, read_input_line, read_key_file, read_packet_input,
 };
 use std::env::Env;
-use std::io::{Input, Write};
+use std::fs::File;
+use std::io::{BufRead, BufReader, Input, Write};
 use std::net::{Ipv4Addr, Net, UdpSocket};
 use std::process::ExitCode;
 use std::rt::Files;
 use std::time::{Clock, Duration, Instant, SystemTime};
-use std::{env, fs, io};
+use std::{env, io};
 
 /// The greatest length of what a UDP datagram carries over IPv4, in octets.
 const MAX_DATAGRAM: usize = 65_507;
@@ -61,19 +62,42 @@ where
     R: Clock + AllocGlobal + Eprint + Files + Input + Net + Print,
 {
     let book = book_of(rt, job)?;
-    let input = input_for(rt, job)?;
-    match plan_of(rt.alloc(), job, &book, &input)? {
-        Plan::Print(text) => print(rt, &text),
-        Plan::Exchange(exchange) => run_exchange(rt, exchange, &book),
+    match input_form(job) {
+        InputForm::Nothing => run_plan(rt, job, &book, ""),
+        InputForm::Packet => run_plan(rt, job, &book, &read_packet_input(rt.alloc(), rt.reader())?),
+        InputForm::Lines => run_lines(rt, job, &book, &mut input_of(rt)?),
     }
 }
 
-/// What stands on standard input, where the job is about that.
-fn input_for<R: AllocGlobal + Input>(rt: &R, job: &Job) -> Result<String, Fault> {
-    if reads_input(job) {
-        return input_of(rt);
+/// Standard input, with a buffer.
+fn input_of<R: AllocGlobal + Input>(rt: &R) -> Result<BufReader<R::Reader>, Fault> {
+    BufReader::new(rt.alloc(), rt.reader()).map_err(|_| Fault::Tool(ToolFault::Memory))
+}
+
+/// Does what the job asks for with each line of standard input, before the next one is read.
+fn run_lines<R, I: BufRead>(rt: &R, job: &Job, book: &KeyBook, input: &mut I) -> Result<(), Fault>
+where
+    R: Clock + AllocGlobal + Eprint + Net + Print,
+{
+    for _ in 0..u64::MAX {
+        let line = read_input_line(rt.alloc(), input)?;
+        if line.is_empty() {
+            break;
+        }
+        run_plan(rt, job, book, &line)?;
     }
-    Ok(String::new(rt.alloc()))
+    Ok(())
+}
+
+/// Does what the job asks for, with this text of standard input.
+fn run_plan<R>(rt: &R, job: &Job, book: &KeyBook, input: &str) -> Result<(), Fault>
+where
+    R: Clock + AllocGlobal + Eprint + Net + Print,
+{
+    match plan_of(rt.alloc(), job, book, input)? {
+        Plan::Print(text) => print(rt, &text),
+        Plan::Exchange(exchange) => run_exchange(rt, exchange, book),
+    }
 }
 
 /// Sends a request and those that follow it, and prints what the answers say.
@@ -193,17 +217,6 @@ fn receive<R: Clock>(
     })
 }
 
-/// The text of standard input.
-fn input_of<R: AllocGlobal + Input>(rt: &R) -> Result<String, Fault> {
-    match io::read_to_string(rt.alloc(), rt.reader()) {
-        Ok(text) => Ok(text),
-        Err(error) if error.kind() == io::ErrorKind::OutOfMemory => {
-            Err(Fault::Tool(ToolFault::Memory))
-        }
-        Err(_) => Err(Fault::Input),
-    }
-}
-
 fn arguments_of<R: Env + AllocGlobal>(rt: &R) -> Result<Vec<String>, Fault> {
     match env::args(rt) {
         Ok(arguments) => Ok(arguments.collect(rt.alloc())?),
@@ -230,8 +243,8 @@ fn book_of<R: AllocGlobal + Files>(rt: &R, job: &Job) -> Result<KeyBook, Fault> 
     let Some(path) = job.key_file() else {
         return Ok(KeyBook::new(rt.alloc()));
     };
-    match fs::read(rt, path) {
-        Ok(octets) => read_book(rt.alloc(), &octets),
+    match File::open(rt, path) {
+        Ok(file) => read_key_file(rt.alloc(), file),
         Err(error) if error.kind() == io::ErrorKind::OutOfMemory => {
             Err(Fault::Tool(ToolFault::Memory))
         }

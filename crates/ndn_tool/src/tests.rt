@@ -1,10 +1,11 @@
 use super::*;
 use hmac_keys::KeyFault;
 use ndn_client::{
-    Failure, Silence, Usage, View, judge, packet_in, put_input, put_said, silence_of,
+    Failure, Silence, Usage, View, judge, packet_in, put_input, put_said, read_book, silence_of,
 };
 use ndn_packets::{Frame, PacketFault, WriteFault, put_reply, read_frame};
 use std::alloc::Global;
+use std::io::{Read, repeat};
 use std::net::Ipv4Addr;
 use std::process::Abort;
 
@@ -1071,6 +1072,47 @@ fn key_files(rt: HostRuntime) {
     assert!(rt; refuses_keys(rt.alloc(), b"/a\n", "keys:1: BadLine\n"));
     assert!(rt; reads_keys(rt.alloc(), b"", 0));
     assert!(rt; reads_keys(rt.alloc(), OPS.as_bytes(), 1));
+}
+
+/// What reading from standard input or a key file is refused with: the status and the text.
+fn refused<T: Drop>(alloc: Global, read: Result<T, Fault>) -> Option<String> {
+    let fault = read.err()?;
+    format!(in alloc; "{} {fault}", fault.exit_status()).ok()
+}
+
+/// What a key file of so many semicolons is refused with.
+fn refused_key_file(alloc: Global, count: u64) -> Option<String> {
+    refused(alloc, read_key_file(alloc, repeat(b';').take(count)))
+}
+
+/// What a packet of so many digits is refused with.
+fn refused_packet(alloc: Global, count: u64) -> Option<String> {
+    refused(alloc, read_packet_input(alloc, repeat(b'0').take(count)))
+}
+
+/// What a line of so many digits and an LF is refused with.
+fn refused_line(alloc: Global, count: u64) -> Option<String> {
+    let input = repeat(b'0').take(count).chain(b"\n0\n".as_slice());
+    refused(
+        alloc,
+        read_input_line(alloc, &mut BufReader::new(alloc, input).ok()?),
+    )
+}
+
+/// Key files, packets and lines may have as many octets as their limit, and no more.
+#[test]
+fn large_input(rt: HostRuntime) {
+    let alloc = rt.alloc();
+    let keys = "1 keys:0: TooLarge\n";
+    assert!(rt; refused_key_file(alloc, 8_388_608).is_none());
+    assert!(rt; refused_key_file(alloc, 8_388_609).as_deref() == Some(keys));
+    let packet =
+        "2 error: invalid value for standard input: give one packet in hexadecimal, of at most 65507 octets\n";
+    assert!(rt; refused_packet(alloc, 131_015).is_none());
+    assert!(rt; refused_packet(alloc, 131_016).as_deref() == Some(packet));
+    let line = "2 error: invalid value for standard input: give lines of at most 131072 octets\n";
+    assert!(rt; refused_line(alloc, 131_071).is_none());
+    assert!(rt; refused_line(alloc, 131_072).as_deref() == Some(line));
 }
 
 /// The status that reading the key file of a job ends with: 0 for no keys.
