@@ -2,6 +2,7 @@
 #![tactic(auto)]
 
 ghost use Rattle.std.specs.Prelude.{◌≤◌, length, IfOk, IfSome, option_map};
+ghost use Rattle.std.specs.Io.BufRead.{take_through};
 ghost use Rattle.limited_reads.specs.Limit.{IsWithin};
 
 use std::alloc::Global;
@@ -38,11 +39,13 @@ pub fn read_line_within<R: BufRead>(
     reader: &mut R,
     limit: u32,
 ) -> io::Result<Option<Vec<u8>>>
-    ensures { IfOk result (λ found. IfSome found (λ line. length line.items ≤ limit)) }
+    ensures bound { IfOk result (λ found. IfSome found (λ line. length line.items ≤ limit)) }
+    // Where it is known what the reader has.
+    ensures known { IfOk result (λ found. IfSome (R.remaining reader.old)
+        (λ octets. IsWithin limit (take_through 10 octets) (option_map (λ o. o.items) found))) }
 {
     let mut line = Vec::new(alloc);
     reader
-        .by_ref()
         .take(u64::from(limit) + 1)
         .read_until(b'\n', &mut line)?;
     Ok(kept_within(line, limit))

@@ -1,6 +1,7 @@
 //! Standard input: one packet, or lines.
 
 ghost use Rattle.std.specs.Prelude.{◌≡◌, ◌≤◌, IfOk, IfSome, MatchResult, string_len};
+ghost use Rattle.std.specs.Io.BufRead.{take_through};
 ghost use Rattle.ndn_client.specs.Value.{AreOctets, ReadsInMemory};
 ghost use Rattle.ndn_client.specs.Input.{IsInput, IsInputFault, IsTextOf, IsUnreadInput, without_lf};
 
@@ -40,7 +41,11 @@ pub fn read_packet_input<R: Read + Drop>(alloc: Global, reader: R) -> Result<Str
 /// The next line of standard input with its LF; an empty text at the end. Refuses a line of more than
 /// 131,072 octets, its LF among them, and reads no more than one octet of the rest.
 pub fn read_input_line<R: BufRead>(alloc: Global, reader: &mut R) -> Result<String, Fault>
-    ensures { IfOk result (λ line. string_len line ≤ 131072) }
+    ensures bound { IfOk result (λ line. string_len line ≤ 131072) }
+    // Where it is known what the reader has.
+    ensures known { IfSome (R.remaining reader.old)
+        (λ octets. MatchResult result (IsInput 131072 (take_through 10 octets))
+        (IsInputFault 131072 (take_through 10 octets))) }
 {
     match read_line_within(alloc, reader, MAX_INPUT_LINE) {
         Ok(Some(line)) => text_of(line),
