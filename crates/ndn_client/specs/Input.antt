@@ -1,8 +1,7 @@
 -- What stands on standard input.
-use Rattle.std.specs.Prelude.{◌≡◌, ◌<◌, ◌≤◌, ℕ, ◌-◌, List, length, take, ◌==◌, if◌then◌else◌, slice_get, String, string_bytes, ⊤}
+use Rattle.std.specs.Prelude.{◌≡◌, ◌⊎◌, ◌<◌, ◌≤◌, ℕ, ◌-◌, List, length, take, ◌==◌, if◌then◌else◌, slice_get, String, string_bytes, ⊤}
 use Rattle.ndn_tlv.specs.Options.{on_option}
 use Rattle.ndn_client.specs.declared.fault.Usage.TheVariants.{BadValue}
-use Rattle.ndn_client.specs.declared.fault.ToolFault.{ToolFault}
 use Rattle.ndn_client.specs.declared.fault.ToolFault.TheVariants.{Usage, Memory}
 use Rattle.ndn_client.specs.declared.fault.Fault.{Fault}
 use Rattle.ndn_client.specs.declared.fault.Fault.TheVariants.{Input, Tool}
@@ -29,11 +28,10 @@ IsUnreadInput Input = ⊤
 IsUnreadInput (Tool why) = why ≡ Memory
 IsUnreadInput why = ⊥
 
-abbrev pub IsInputRefusal : ℕ → List ℕ → ToolFault → Type 0
-IsInputRefusal limit octets (Usage (BadValue place wanted)) = limit < length octets
-IsInputRefusal limit octets why = why ≡ Memory
+abbrev pub IsWrongInput : Fault → Type 0
+IsWrongInput (Tool (Usage (BadValue place wanted))) = ⊤
+IsWrongInput why = ⊥
 
 -- there are more octets than the limit, or they cannot be read as a text, or memory was refused
 abbrev pub IsInputFault : ℕ → List ℕ → Fault → Type 0
-IsInputFault limit octets (Tool why) = IsInputRefusal limit octets why
-IsInputFault limit octets why = IsUnreadInput why
+IsInputFault limit octets why = ((limit < length octets) × IsWrongInput why) ⊎ IsUnreadInput why

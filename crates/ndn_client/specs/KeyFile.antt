@@ -1,5 +1,5 @@
 -- The fault of what the octets of a key file are read as.
-use Rattle.std.specs.Prelude.{◌≡◌, ◌<◌, ◌≤◌, ℕ, List, length, ⊤}
+use Rattle.std.specs.Prelude.{◌≡◌, ◌⊎◌, ◌<◌, ◌≤◌, ℕ, List, length, ⊤}
 use Rattle.hmac_keys.specs.KeyFile.{NamedKey}
 use Rattle.hmac_keys.specs.KeyReading.{AreKeys, IsFaultOfOctets}
 use Rattle.limited_reads.specs.declared.TheConstants.{MAX_KEY_FILE}
@@ -15,11 +15,15 @@ IsFileFault octets why = ⊥
 abbrev pub AreKeysOfFile : List ℕ → List NamedKey → Type 0
 AreKeysOfFile octets keys = (length octets ≤ MAX_KEY_FILE) × AreKeys octets keys
 
--- that there are more octets than a key file may have, or else the fault of what they say, or the
--- file cannot be read, or memory was refused
+-- a key file cannot be read, or memory was refused
+abbrev pub IsUnreadFile : Fault → Type 0
+IsUnreadFile Read = ⊤
+IsUnreadFile (Tool why) = why ≡ Memory
+IsUnreadFile why = ⊥
+
+-- there are more octets than a key file may have; or else the fault of what they say; or the file
+-- cannot be read
 abbrev pub IsKeyFileFault : List ℕ → Fault → Type 0
-IsKeyFileFault octets LargeKeys = MAX_KEY_FILE < length octets
-IsKeyFileFault octets (Keys why) = (length octets ≤ MAX_KEY_FILE) × IsFaultOfOctets octets why
-IsKeyFileFault octets Read = ⊤
-IsKeyFileFault octets (Tool why) = why ≡ Memory
-IsKeyFileFault octets why = ⊥
+IsKeyFileFault octets why =
+    ((MAX_KEY_FILE < length octets) × (why ≡ LargeKeys))
+    ⊎ ((length octets ≤ MAX_KEY_FILE) × IsFileFault octets why) ⊎ IsUnreadFile why

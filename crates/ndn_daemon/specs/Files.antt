@@ -1,8 +1,7 @@
 -- What the octets of a rule file and of a key file are read as.
-use Rattle.std.specs.Prelude.{◌≡◌, ◌<◌, ◌≤◌, ℕ, List, length, ⊤}
+use Rattle.std.specs.Prelude.{◌≡◌, ◌⊎◌, ◌<◌, ◌≤◌, ℕ, List, length, ⊤}
 use Rattle.hmac_keys.specs.KeyFile.{NamedKey}
 use Rattle.hmac_keys.specs.KeyReading.{AreKeys, IsFaultOfOctets}
-use Rattle.info_rules.specs.declared.fault.RulesFault.{RulesFault}
 use Rattle.info_rules.specs.declared.fault.RulesFaultKind.TheVariants.{TooLarge}
 use Rattle.limited_reads.specs.declared.TheConstants.{MAX_KEY_FILE}
 use Rattle.node_core.specs.Files.{IsFaultOfRules}
@@ -28,24 +27,20 @@ IsUnread (Unread file) = ⊤
 IsUnread (Script why) = why ≡ Memory
 IsUnread why = ⊥
 
--- that there are more octets than a rule file may have, or else the fault of what they say
-abbrev pub IsFaultOfLength : List ℕ → RulesFault → Type 0
-IsFaultOfLength octets why =
-    (65536 < length octets → why ≡ record { line = 0; kind = TooLarge })
-    × (length octets ≤ 65536 → IsFaultOfRules octets why)
-
--- the same, or the file cannot be read
+-- there are more octets than a rule file may have; or else the fault of what they say; or the file
+-- cannot be read
 abbrev pub IsRuleFileFault : List ℕ → Fault → Type 0
-IsRuleFileFault octets (Rules why) = IsFaultOfLength octets why
-IsRuleFileFault octets why = IsUnread why
+IsRuleFileFault octets why =
+    ((65536 < length octets) × (why ≡ Rules (record { line = 0; kind = TooLarge })))
+    ⊎ ((length octets ≤ 65536) × IsRuleFault octets why) ⊎ IsUnread why
 
 -- the keys of octets, which are no more than a key file may have
 abbrev pub AreKeysOfFile : List ℕ → List NamedKey → Type 0
 AreKeysOfFile octets keys = (length octets ≤ MAX_KEY_FILE) × AreKeys octets keys
 
--- that there are more octets than a key file may have, or else the fault of what they say, or the
--- file cannot be read
+-- there are more octets than a key file may have; or else the fault of what they say; or the file
+-- cannot be read
 abbrev pub IsKeyFileFault : List ℕ → Fault → Type 0
-IsKeyFileFault octets LargeKeys = MAX_KEY_FILE < length octets
-IsKeyFileFault octets (Keys why) = (length octets ≤ MAX_KEY_FILE) × IsFaultOfOctets octets why
-IsKeyFileFault octets why = IsUnread why
+IsKeyFileFault octets why =
+    ((MAX_KEY_FILE < length octets) × (why ≡ LargeKeys))
+    ⊎ ((length octets ≤ MAX_KEY_FILE) × IsKeyFault octets why) ⊎ IsUnread why
