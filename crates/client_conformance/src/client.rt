@@ -1,0 +1,172 @@
+//! The client: its command lines, and what it makes of datagrams.
+
+use super::scene::Scene;
+use hmac_keys::KeyBook;
+use ndn_client::{
+    Exchange, Failure, Outcome, Plan, Progress, Silence, View, packet_in, parse_words, plan_of,
+};
+use std::alloc::Global;
+use test_support::{KEYS, typed};
+
+/// What a word of a row stands for.
+fn spelled(word: &str) -> &str {
+    match word {
+        "$KEY" => "--keys F --key /ops/KEY/1",
+        "$NODE" => "--send 6363 --from 6401",
+        word => word,
+    }
+}
+
+/// The words of a command line.
+fn words_of<'a>(alloc: Global, line: &'a str) -> Option<Vec<&'a str>> {
+    let mut words = Vec::new(alloc);
+    words.push("ndn_tool").ok()?;
+    for word in line.split(' ') {
+        for part in spelled(word).split(' ') {
+            words.push(part).ok()?;
+        }
+    }
+    Some(words)
+}
+
+/// The exchange for a packet that is printed in hexadecimal.
+fn printed_exchange(alloc: Global, text: &[u8]) -> Option<Exchange> {
+    Some(Exchange {
+        request: packet_in(alloc, text).ok()?,
+        to: 6363,
+        from: Some(6401),
+        view: View::Lines,
+        contents: Vec::new(alloc),
+    })
+}
+
+/// The exchange of a command line at a moment. What it prints is sent from the port 6401.
+pub fn exchange_of(alloc: Global, line: &str, now: u64, book: &KeyBook) -> Option<Exchange> {
+    let words = words_of(alloc, line)?;
+    let job = parse_words(alloc, now, words.as_slice()).ok()?;
+    match plan_of(alloc, &job, book, "").ok()? {
+        Plan::Exchange(exchange) => Some(exchange),
+        Plan::Print(text) => printed_exchange(alloc, &text),
+    }
+}
+
+/// What comes of datagrams, of which the first that is an answer is taken.
+pub fn heard(
+    alloc: Global,
+    exchange: &mut Exchange,
+    datagrams: &[Vec<u8>],
+    book: &KeyBook,
+) -> Option<Progress> {
+    for datagram in datagrams {
+        match exchange.take(alloc, datagram, book).ok()? {
+            Progress::Ignored => {}
+            progress => return Some(progress),
+        }
+    }
+    Some(Progress::Ignored)
+}
+
+/// What comes of the node's answers to the request that an exchange has now.
+pub fn turn(
+    alloc: Global,
+    scene: &mut Scene,
+    exchange: &mut Exchange,
+    book: &KeyBook,
+) -> Option<Progress> {
+    let answers = scene.answers(alloc, exchange.from, &exchange.request)?;
+    heard(alloc, exchange, &answers, book)
+}
+
+/// What comes of an exchange in the end.
+pub fn played(
+    alloc: Global,
+    scene: &mut Scene,
+    exchange: &mut Exchange,
+    book: &KeyBook,
+) -> Option<Progress> {
+    for _ in 0..10 {
+        match turn(alloc, scene, exchange, book)? {
+            Progress::Next => {}
+            progress => return Some(progress),
+        }
+    }
+    None
+}
+
+fn word_of_silence(silence: Silence) -> &'static str {
+    match silence {
+        Silence::Closed => "closed",
+        Silence::Far => "far",
+        Silence::Late => "late",
+        Silence::Changed => "changed",
+    }
+}
+
+fn word_of_outcome(outcome: Outcome) -> &'static str {
+    match outcome {
+        Ok(()) => "done",
+        Err(Failure::Refused) => "refused",
+        Err(Failure::NoStatus) => "no-status",
+        Err(Failure::Nack) => "nack",
+        Err(Failure::Silent(silence)) => word_of_silence(silence),
+    }
+}
+
+/// A word for how an exchange ended, and what is printed. Where no answer came, the time is over.
+pub fn end_of(alloc: Global, exchange: &Exchange, progress: Progress) -> (&'static str, Vec<u8>) {
+    match progress {
+        Progress::Done(text, outcome) => (word_of_outcome(outcome), text),
+        Progress::Ignored | Progress::Next => {
+            (word_of_silence(exchange.silence(false)), Vec::new(alloc))
+        }
+    }
+}
+
+/// Whether an exchange ended as a text says: with this word, and after a space the end of what is
+/// printed, where LF and tab are signs.
+pub fn ends_as(
+    alloc: Global,
+    exchange: &Exchange,
+    progress: Progress,
+    wanted: &str,
+) -> Option<bool> {
+    let (word, printed) = end_of(alloc, exchange, progress);
+    let (wanted, lines) = wanted.split_once(' ').unwrap_or((wanted, ""));
+    let lines = typed(alloc, lines)?;
+    Some(word == wanted && printed.ends_with(lines.as_bytes()))
+}
+
+/// Whether a command line ends as a row says, a moment after the one before.
+pub fn plays(alloc: Global, scene: &mut Scene, book: &KeyBook, row: &str) -> Option<bool> {
+    let (line, wanted) = row.split_once(" => ").unwrap_or((row, "no end"));
+    scene.now = scene.now.saturating_add(1);
+    let mut exchange = exchange_of(alloc, line, scene.now, book)?;
+    let progress = played(alloc, scene, &mut exchange, book)?;
+    ends_as(alloc, &exchange, progress, wanted)
+}
+
+/// The first of rows that does not end as it says, where they are played on one node in turn.
+fn first_misplayed<'a>(
+    alloc: Global,
+    scene: &mut Scene,
+    book: &KeyBook,
+    rows: &'a str,
+) -> Option<&'a str> {
+    for row in rows.lines() {
+        if !row.is_empty() && plays(alloc, scene, book, row) != Some(true) {
+            return Some(row);
+        }
+    }
+    None
+}
+
+/// The same on a new node under these rules.
+pub fn misplayed<'a>(alloc: Global, rules: &str, rows: &'a str) -> Option<&'a str> {
+    let Ok(book) = KeyBook::read(alloc, KEYS) else {
+        return Some("no keys");
+    };
+    match Scene::new(alloc, rules) {
+        Some(mut scene) => first_misplayed(alloc, &mut scene, &book, rows),
+        None => Some("no node"),
+    }
+}

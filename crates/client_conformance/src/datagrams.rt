@@ -1,0 +1,152 @@
+//! Datagrams that are no answer to a command, before the reply, after it, and in its place.
+
+use super::client::{ends_as, exchange_of, heard};
+use super::scene::Scene;
+use hmac_keys::KeyBook;
+use ndn_client::Exchange;
+use std::alloc::Global;
+use test_support::{KEYS, SAMPLE, first_wrong};
+
+/// What comes after a command was sent, and how it ends: `reply` is the node's reply to it, `forged` the
+/// same with a wrong signature, and `earlier` its reply to the command before, which comes too late.
+const HEARD: &str = "
+reply => done status 200 OK␊name /A␊face 2␊cost 5␊
+forged earlier reply => done status 200 OK␊name /A␊face 2␊cost 5␊
+reply forged => done status 200 OK␊name /A␊face 2␊cost 5␊
+forged => late
+earlier => late
+earlier forged earlier => late
+";
+
+/// A datagram of a word.
+fn datagram(alloc: Global, word: &str, reply: &[u8], earlier: &[u8]) -> Option<Vec<u8>> {
+    let octets = if word == "earlier" { earlier } else { reply };
+    let mut datagram = Vec::from_slice(alloc, octets).ok()?;
+    if word == "forged" {
+        *datagram.last_mut()? ^= 1;
+    }
+    Some(datagram)
+}
+
+/// The datagrams of words.
+fn datagrams(alloc: Global, words: &str, reply: &[u8], earlier: &[u8]) -> Option<Vec<Vec<u8>>> {
+    let mut datagrams = Vec::new(alloc);
+    for word in words.split(' ') {
+        datagrams.push(datagram(alloc, word, reply, earlier)?).ok()?;
+    }
+    Some(datagrams)
+}
+
+/// The one reply of the node to a command line.
+fn reply_to(alloc: Global, scene: &mut Scene, exchange: &Exchange) -> Option<Vec<u8>> {
+    let mut replies = scene.answers(alloc, exchange.from, &exchange.request)?;
+    if replies.len() == 1 {
+        replies.pop()
+    } else {
+        None
+    }
+}
+
+/// The node's reply to a command on another name.
+fn earlier_reply(alloc: Global, scene: &mut Scene, book: &KeyBook) -> Option<Vec<u8>> {
+    let line = "route add /earlier --face 2 $KEY $NODE";
+    let exchange = exchange_of(alloc, line, 1_000_000, book)?;
+    reply_to(alloc, scene, &exchange)
+}
+
+/// Whether an exchange ends as a row says, with this reply and that to the command before.
+fn hears(
+    alloc: Global,
+    exchange: &mut Exchange,
+    book: &KeyBook,
+    reply: &[u8],
+    earlier: &[u8],
+    row: &str,
+) -> Option<bool> {
+    let (words, wanted) = row.split_once(" => ")?;
+    let datagrams = datagrams(alloc, words, reply, earlier)?;
+    let progress = heard(alloc, exchange, &datagrams, book)?;
+    ends_as(alloc, exchange, progress, wanted)
+}
+
+/// The same of a new node, which gets another command before that of the line, and whose reply to this one
+/// has so many octets.
+fn hears_on(
+    alloc: Global,
+    scene: &mut Scene,
+    book: &KeyBook,
+    line: &str,
+    len: usize,
+    row: &str,
+) -> Option<bool> {
+    let earlier = earlier_reply(alloc, scene, book)?;
+    let mut exchange = exchange_of(alloc, line, 1_000_001, book)?;
+    let reply = reply_to(alloc, scene, &exchange)?;
+    let heard = hears(alloc, &mut exchange, book, &reply, &earlier, row)?;
+    Some(heard && reply.len() == len)
+}
+
+/// The same with the sample keys and rules.
+fn hears_of(alloc: Global, line: &str, len: usize, row: &str) -> Option<bool> {
+    let book = KeyBook::read(alloc, KEYS).ok()?;
+    hears_on(
+        alloc,
+        &mut Scene::new(alloc, SAMPLE)?,
+        &book,
+        line,
+        len,
+        row,
+    )
+}
+
+/// The same of a route for `/A`, whose name, with its parameters, stands in the reply in 85 octets.
+fn is_heard(alloc: Global, row: &str) -> bool {
+    hears_of(alloc, "route add /A --face 2 --cost 5 $KEY $NODE", 150, row) == Some(true)
+}
+
+/// Only the command's reply with the right signature ends it.
+#[test]
+fn forged_and_earlier_replies(rt: HostRuntime) {
+    assert!(rt; first_wrong(rt.alloc(), HEARD, is_heard) == 0);
+}
+
+/// The same of a command whose name stands for the sign `~`.
+const LONG: &str = "
+reply => done status 200 OK␊name ~␊face 2␊cost 0␊
+forged earlier reply => done status 200 OK␊name ~␊face 2␊cost 0␊
+forged => late
+";
+
+/// A name of 28 components of 280 octets.
+fn long_name(alloc: Global) -> Option<String> {
+    let mut name = String::new(alloc);
+    for _ in 0..28 {
+        name.push('/').ok()?;
+        for _ in 0..280 {
+            name.push('y').ok()?;
+        }
+    }
+    Some(name)
+}
+
+/// Whether a command for this name ends so. Its reply has the name twice, in 7,956 octets each, and 151 others.
+fn hears_name(alloc: Global, name: &str, row: &str) -> Option<bool> {
+    let line = "route add ~ --face 2 $KEY $NODE"
+        .replace(alloc, '~', name)
+        .ok()?;
+    let row = row.replace(alloc, '~', name).ok()?;
+    hears_of(alloc, line.as_str(), 16_063, row.as_str())
+}
+
+fn is_long_heard(alloc: Global, row: &str) -> bool {
+    match long_name(alloc) {
+        Some(name) => hears_name(alloc, name.as_str(), row) == Some(true),
+        None => false,
+    }
+}
+
+/// A reply of more than 8,800 octets is taken where it is whole.
+#[test]
+fn reply_of_16063_octets(rt: HostRuntime) {
+    assert!(rt; first_wrong(rt.alloc(), LONG, is_long_heard) == 0);
+}

@@ -1,0 +1,119 @@
+//! A list of several segments, and a repository that is full.
+
+use super::client::{end_of, ends_as, exchange_of, plays, turn};
+use super::scene::Scene;
+use hmac_keys::KeyBook;
+use ndn_client::{Exchange, Progress};
+use std::alloc::Global;
+use test_support::{KEYS, SAMPLE};
+
+/// What stands before the number in a name: 47 letters, so that a route has 64 octets in the list.
+const LETTERS: &str = "xxxxxxxxxxxxxxxxxxxxxxxxxxxxxxxxxxxxxxxxxxxxxxx";
+
+/// Whether the node takes 130 routes, which have 8,320 octets in the list.
+fn adds_routes(alloc: Global, scene: &mut Scene, book: &KeyBook) -> Option<bool> {
+    for number in 100..230 {
+        let row = format!(in alloc;
+            "route add /{LETTERS}{number} --face 2 $KEY $NODE => done status 200 OK␊name /{LETTERS}{number}␊face 2␊cost 0␊"
+        ).ok()?;
+        if !plays(alloc, scene, book, row.as_str())? {
+            return Some(false);
+        }
+    }
+    Some(true)
+}
+
+/// The table of these routes.
+fn table(alloc: Global) -> Option<String> {
+    let mut table = String::from_str(alloc, "name\tface\tcost\n").ok()?;
+    for number in 100..230 {
+        let row = format!(in alloc; "/{LETTERS}{number}\t2\t0\n").ok()?;
+        table.push_str(row.as_str()).ok()?;
+    }
+    Some(table)
+}
+
+/// Whether a segment comes that is not the last one.
+fn goes_on(alloc: Global, scene: &mut Scene, exchange: &mut Exchange, book: &KeyBook) -> bool {
+    matches!(turn(alloc, scene, exchange, book), Some(Progress::Next))
+}
+
+/// Whether a third segment ends the list, which is this table.
+fn ends_with_table(
+    alloc: Global,
+    scene: &mut Scene,
+    exchange: &mut Exchange,
+    book: &KeyBook,
+) -> Option<bool> {
+    let in_three = goes_on(alloc, scene, exchange, book) && goes_on(alloc, scene, exchange, book);
+    let progress = turn(alloc, scene, exchange, book)?;
+    let (word, printed) = end_of(alloc, exchange, progress);
+    Some(in_three && word == "done" && printed.as_slice() == table(alloc)?.as_bytes())
+}
+
+/// Whether no second segment comes, where the list changes after the first.
+fn ends_with_change(
+    alloc: Global,
+    scene: &mut Scene,
+    exchange: &mut Exchange,
+    book: &KeyBook,
+) -> Option<bool> {
+    let row = "route remove /x --face 2 $KEY $NODE => done status 200 OK␊name /x␊face 2␊";
+    let changed = goes_on(alloc, scene, exchange, book) && plays(alloc, scene, book, row)?;
+    let progress = turn(alloc, scene, exchange, book)?;
+    Some(changed && ends_as(alloc, exchange, progress, "changed")?)
+}
+
+/// Whether the list that is asked for ends so.
+fn lists(
+    alloc: Global,
+    scene: &mut Scene,
+    book: &KeyBook,
+    ends: fn(Global, &mut Scene, &mut Exchange, &KeyBook) -> Option<bool>,
+) -> Option<bool>
+    requires { IsAlwaysCallable ends }
+{
+    let mut exchange = exchange_of(alloc, "route list $NODE", scene.now, book)?;
+    ends(alloc, scene, &mut exchange, book)
+}
+
+/// Whether this is right of a new node.
+fn is_right(alloc: Global, plays: fn(Global, &mut Scene, &KeyBook) -> Option<bool>) -> Option<bool>
+    requires { IsAlwaysCallable plays }
+{
+    let book = KeyBook::read(alloc, KEYS).ok()?;
+    plays(alloc, &mut Scene::new(alloc, SAMPLE)?, &book)
+}
+
+/// Whether a list of 130 routes comes, and comes again after a change has ended it.
+fn lists_routes(alloc: Global, scene: &mut Scene, book: &KeyBook) -> Option<bool> {
+    let added = adds_routes(alloc, scene, book)?;
+    let whole = lists(alloc, scene, book, ends_with_table)?;
+    let changed = lists(alloc, scene, book, ends_with_change)?;
+    let again = lists(alloc, scene, book, ends_with_table)?;
+    Some(added && whole && changed && again)
+}
+
+#[test]
+fn routes_in_three_segments(rt: HostRuntime) {
+    assert!(rt; is_right(rt.alloc(), lists_routes) == Some(true));
+}
+
+/// Whether a repository takes 64 wants and no more.
+fn takes_wants(alloc: Global, scene: &mut Scene, book: &KeyBook) -> Option<bool> {
+    for number in 0..64 {
+        let row = format!(in alloc;
+            "repo insert /repo /want/{number} $KEY $NODE => done status 100 pending␊count 0␊"
+        ).ok()?;
+        if !plays(alloc, scene, book, row.as_str())? {
+            return Some(false);
+        }
+    }
+    let row = "repo insert /repo /want $KEY $NODE => refused status 503 repository full␊count 0␊";
+    plays(alloc, scene, book, row)
+}
+
+#[test]
+fn full_repository(rt: HostRuntime) {
+    assert!(rt; is_right(rt.alloc(), takes_wants) == Some(true));
+}

@@ -1,0 +1,124 @@
+//! A node, and who is at its faces.
+
+use forwarder::{Event, Node, NodeParts, Outbox, Scope};
+use hmac_keys::KeyBook;
+use info_rules::{InfoTree, Rules};
+use ndn_names::{Name, NameBuf};
+use ndn_packets::{DataWriter, Frame, Sign, read_frame};
+use std::alloc::Global;
+use test_support::KEYS;
+
+/// The face of the port 6401, a program on the node's machine.
+const OPERATOR: u64 = 1;
+
+/// The face of a producer, which answers each Interest.
+const PRODUCER: u64 = 2;
+
+/// The face of a new port.
+const NEW_PORT: u64 = 3;
+
+/// A node with these three faces, and the time, which goes on with each command.
+#[derive(Drop)]
+pub struct Scene {
+    node: Node,
+    outbox: Outbox,
+    /// In milliseconds since 1970.
+    pub now: u64,
+}
+
+/// The parts of a node whose repository is at `/repo`.
+fn parts_of(alloc: Global, rules: &str) -> Option<NodeParts> {
+    Some(NodeParts {
+        rules: Rules::read(alloc, &InfoTree::read(alloc, rules).ok()?).ok()?,
+        keys: KeyBook::read(alloc, KEYS).ok()?,
+        repo: NameBuf::from_uri(alloc, "/repo").ok()?,
+        cache: 1024,
+    })
+}
+
+/// The Data of this name, with the Content `21.5 C`.
+fn data_of(alloc: Global, name: Name<'_>) -> Option<Vec<u8>> {
+    let writer = DataWriter {
+        name,
+        freshness: None,
+        last: None,
+        content: Some(b"21.5 C".as_slice()),
+        sign: Sign::Digest,
+    };
+    let mut data = Vec::new(alloc);
+    writer.write(&mut data).ok()?;
+    Some(data)
+}
+
+/// What a producer answers to a packet.
+fn produced(alloc: Global, packet: &[u8]) -> Option<Vec<u8>> {
+    match read_frame(packet) {
+        Ok(Frame::Interest(asked)) => data_of(alloc, asked.name),
+        _ => None,
+    }
+}
+
+impl Scene {
+    /// A node under these rules, at its first moment.
+    pub fn new(alloc: Global, rules: &str) -> Option<Scene> {
+        let node = Node::new(alloc, parts_of(alloc, rules)?).ok()?;
+        let mut scene = Scene {
+            node,
+            outbox: Outbox::new(alloc),
+            now: 1_000_000,
+        };
+        let opened = scene.open(OPERATOR, Scope::Local)
+            && scene.open(PRODUCER, Scope::Far)
+            && scene.open(NEW_PORT, Scope::Far);
+        if opened { Some(scene) } else { None }
+    }
+
+    fn open(&mut self, face: u64, scope: Scope) -> bool {
+        let now = self.now;
+        self.step(Event::FaceUp { face, scope, now })
+    }
+
+    fn receive(&mut self, face: u64, octets: &[u8]) -> bool {
+        let now = self.now;
+        self.step(Event::Packet { face, now, octets })
+    }
+
+    fn step(&mut self, event: Event<'_>) -> bool {
+        self.node.step(event, &mut self.outbox).is_ok()
+    }
+
+    /// What stands in the outbox for a face.
+    fn sent_to(&self, alloc: Global, face: u64) -> Option<Vec<Vec<u8>>> {
+        let mut packets = Vec::new(alloc);
+        for i in 0..self.outbox.len() {
+            let (to, octets) = self.outbox.sent(i)?;
+            if to == face {
+                packets.push(Vec::from_slice(alloc, octets).ok()?).ok()?;
+            }
+        }
+        Some(packets)
+    }
+
+    /// What the producer is asked for, it sends.
+    fn produce(&mut self, alloc: Global) -> Option<bool> {
+        for interest in &self.sent_to(alloc, PRODUCER)? {
+            self.receive(PRODUCER, &produced(alloc, interest)?);
+        }
+        Some(true)
+    }
+
+    /// What the node sends to a client for a packet, and what comes of it by the producer's Data. The
+    /// client is at the port 6401, where it names a port of its own.
+    pub fn answers(
+        &mut self,
+        alloc: Global,
+        from: Option<u16>,
+        packet: &[u8],
+    ) -> Option<Vec<Vec<u8>>> {
+        let face = if from.is_some() { OPERATOR } else { NEW_PORT };
+        self.outbox.clear();
+        self.receive(face, packet);
+        self.produce(alloc)?;
+        self.sent_to(alloc, face)
+    }
+}
