@@ -1,0 +1,144 @@
+//! Hands damaged packets to `read_frame`, and prints what it reads.
+//!
+//! Standard input has a packet in hexadecimal on each line. Of each these octets are read: its
+//! proper beginnings, the shortest first; the packet; the packet with each octet in turn set to 0,
+//! where it is another; then with each set to 255. A line is printed for each run of equal results:
+//! how many they are, then the name of the fault, or what was read, with the number of components
+//! of its name and the InterestLifetime, the FreshnessPeriod or the NackReason.
+#![tactic(auto)]
+
+use limited_reads::read_line_within;
+use ndn_packets::{Frame, MAX_FRAME, read_frame};
+use std::alloc::Global;
+use std::fmt;
+use std::io;
+use std::io::{BufReader, Input};
+
+/// The greatest length of a line, in octets: the digits of one octet more than may arrive, and the
+/// LF.
+const MAX_LINE: u32 = 2 * (MAX_FRAME as u32 + 1) + 1;
+
+/// The greatest number of packets.
+const MAX_PACKETS: u32 = 1000;
+
+/// What is read of octets.
+#[derive(Clone, Copy, PartialEq, Eq)]
+struct Found {
+    /// The name of the fault, or the kind of what was read.
+    word: &'static str,
+    /// How many components the name has.
+    components: usize,
+    /// The InterestLifetime, the FreshnessPeriod or the NackReason.
+    number: u64,
+}
+
+/// A run of results that are equal.
+#[derive(Drop)]
+struct Run {
+    found: Found,
+    count: u64,
+}
+
+fn found_of(octets: &[u8]) -> Found {
+    match read_frame(octets) {
+        Ok(Frame::Interest(interest)) => Found {
+            word: "Interest",
+            components: interest.name.len(),
+            number: interest.lifetime,
+        },
+        Ok(Frame::Data(data)) => Found {
+            word: "Data",
+            components: data.name.len(),
+            number: data.freshness,
+        },
+        Ok(Frame::Nack { reason, interest }) => Found {
+            word: "Nack",
+            components: interest.name.len(),
+            number: reason,
+        },
+        Ok(Frame::Idle) => Found {
+            word: "Idle",
+            components: 0,
+            number: 0,
+        },
+        Err(fault) => Found {
+            word: fault.name(),
+            components: 0,
+            number: 0,
+        },
+    }
+}
+
+/// Prints a run.
+fn print_run<R: Print>(rt: &R, run: &Run) -> io::Result<()> {
+    let Found {
+        word,
+        components,
+        number,
+    } = run.found;
+    println!(rt; "{} {word} {components} {number}", run.count)
+}
+
+/// Reads octets. Where the result is another than that of the run, the run is printed and a new one
+/// begins.
+fn read<R: Print>(rt: &R, octets: &[u8], run: &mut Run) -> io::Result<()> {
+    let found = found_of(octets);
+    if found != run.found {
+        print_run(rt, run)?;
+        run.found = found;
+        run.count = 0;
+    }
+    run.count = run.count.saturating_add(1);
+    Ok(())
+}
+
+/// Reads a packet with each octet in turn set to this value, where it is another.
+fn read_with<R: Print>(rt: &R, packet: &mut [u8], value: u8, run: &mut Run) -> io::Result<()> {
+    for at in 0..packet.len() {
+        let right = packet[at];
+        if right != value {
+            packet[at] = value;
+            read(rt, packet, run)?;
+            packet[at] = right;
+        }
+    }
+    Ok(())
+}
+
+/// Reads all damaged forms of a packet, and the packet.
+fn read_all<R: Print>(rt: &R, packet: &mut [u8]) -> io::Result<()> {
+    let mut run = Run {
+        found: found_of(&[]),
+        count: 0,
+    };
+    for len in 0..packet.len() {
+        read(rt, &packet[..len], &mut run)?;
+    }
+    read(rt, packet, &mut run)?;
+    read_with(rt, packet, 0, &mut run)?;
+    read_with(rt, packet, 255, &mut run)?;
+    print_run(rt, &run)
+}
+
+/// The packet of a line, which ends with an LF.
+fn packet_of(alloc: Global, line: &[u8]) -> io::Result<Vec<u8>> {
+    match hex::decode(alloc, &line[..line.len().saturating_sub(1)]) {
+        Ok(packet) => Ok(packet),
+        Err(_) => Err(io::Error::from(io::ErrorKind::InvalidData)),
+    }
+}
+
+fn main(rt: HostRuntime) -> io::Result<()> {
+    let mut input = BufReader::new(rt.alloc(), rt.reader())?;
+    for _ in 0..MAX_PACKETS {
+        let Some(line) = read_line_within(rt.alloc(), &mut input, MAX_LINE)? else {
+            return Err(io::Error::from(io::ErrorKind::InvalidData));
+        };
+        if line.is_empty() {
+            return Ok(());
+        }
+        println!(rt; "")?;
+        read_all(&rt, &mut packet_of(rt.alloc(), &line)?)?;
+    }
+    Ok(())
+}
