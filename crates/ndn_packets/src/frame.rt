@@ -73,11 +73,23 @@ pub fn read_frame(octets: &[u8]) -> Result<Frame<'_>, PacketFault>
     frame_of(octets)
 }
 
+// A packet that stands alone is read at its place in the result, here and in `framed_of`: a call
+// of `packet_of` would copy it.
+#[tactic(auto, unfolding(crate::specs::FrameReading::frame_at, crate::specs::FrameReading::framed_at))]
 #[inline(always)]
 fn frame_of(octets: &[u8]) -> Result<Frame<'_>, PacketFault>
     ensures { on_result (λ f. Ok (plain_frame f)) Err result ≡ frame_at octets.now }
 {
-    Ok(read_lp(octets)?.frame)
+    if octets.len() > MAX_FRAME {
+        return Err(PacketFault::TooLong);
+    }
+    let outer = only_element(octets)?;
+    match outer.kind {
+        INTEREST => Ok(Frame::Interest(Interest::read(outer)?)),
+        DATA => Ok(Frame::Data(Data::read(outer)?)),
+        LINK_PACKET => Ok(read_link(outer.value)?.frame),
+        _ => Err(PacketFault::BadField),
+    }
 }
 
 /// Reads octets of a link as `read_frame` does, and tells the PIT token beside what they hold
@@ -112,13 +124,18 @@ fn framed_of(octets: &[u8]) -> Result<Framed<'_>, PacketFault>
         return Err(PacketFault::TooLong);
     }
     let outer = only_element(octets)?;
-    if outer.kind == LINK_PACKET {
-        return read_link(outer.value);
+    match outer.kind {
+        INTEREST => Ok(Framed {
+            token: None,
+            frame: Frame::Interest(Interest::read(outer)?),
+        }),
+        DATA => Ok(Framed {
+            token: None,
+            frame: Frame::Data(Data::read(outer)?),
+        }),
+        LINK_PACKET => read_link(outer.value),
+        _ => Err(PacketFault::BadField),
     }
-    Ok(Framed {
-        token: None,
-        frame: packet_of(outer)?,
-    })
 }
 
 /// The one element that the octets are.
@@ -145,7 +162,7 @@ pub(crate) fn is_too_long(whole: &[u8]) -> bool
 }
 
 /// The Interest or the Data that this element is.
-#[inline(always)]
+#[inline(never)]
 pub(crate) fn packet_of(outer: Element<'_>) -> Result<Frame<'_>, PacketFault>
     ensures { on_result (λ f. Ok (plain_frame f)) Err result
         ≡ packet_of outer.entry.whole.now (outer.entry.kind, outer.entry.value.now) }
