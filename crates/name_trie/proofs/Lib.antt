@@ -14,4 +14,5 @@ pub mod Least
 pub mod Totals
 pub mod Along
 pub mod Seen
+pub mod Shown
 pub mod Heads

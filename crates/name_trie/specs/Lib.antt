@@ -9,3 +9,4 @@ pub mod Least
 pub mod Taken
 pub mod Head
 pub mod Rows
+pub mod Shown

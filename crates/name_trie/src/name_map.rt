@@ -4,10 +4,12 @@ ghost use Rattle.std.specs.Option.{option_map};
 ghost use Rattle.ndn_names.specs.View.{components};
 ghost use Rattle.name_trie.specs.ByName.{longest as longest_in, revise, with_value};
 ghost use Rattle.name_trie.specs.Taken.{taken_along};
+ghost use Rattle.name_trie.specs.Shown.{known_at, shown_known};
 
 use crate::becomes::Becomes;
 use crate::change::Change;
 use crate::see::See;
+use crate::show::{Carry, Show};
 use crate::trie::NameTrie;
 use ndn_names::{Name, NameBuf};
 use ndn_tlv::Memory;
@@ -177,5 +179,19 @@ impl<V: Drop> NameMap<V> {
         ensures { see.new ≡ fold S.seen see.old (map.values self.now.table) }
     {
         self.trie.see_all(see);
+    }
+
+    /// Shows all names that have a value, in canonical order, each with what is known there. An
+    /// `Err` leaves some of them shown.
+    pub fn show_all<W: Carry<V> + Drop, S: Show<W>>(
+        &self,
+        before: &W,
+        show: &mut S,
+    ) -> Result<(), Memory>
+        ensures { OnOk result (show.new ≡ shown_known S.shown
+            (known_at W.past before.now (map.get self.now.table)) show.old
+            (map.entries self.now.table)) }
+    {
+        self.trie.show_all(before, show)
     }
 }

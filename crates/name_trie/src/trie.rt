@@ -10,6 +10,7 @@ ghost use Rattle.name_trie.specs.ByName.{longest as longest_in, revise, with_val
 ghost use Rattle.name_trie.specs.Trie.{value as value_in, walk, lookup, Sound};
 ghost use Rattle.name_trie.specs.Changes.{SameLookups, IsBare, IsTidy};
 ghost use Rattle.name_trie.specs.Taken.{taken_along};
+ghost use Rattle.name_trie.specs.Shown.{known_at, shown_known};
 
 use crate::becomes::{Becomes, put_at};
 use crate::change::{Change, change_all, change_at};
@@ -17,6 +18,7 @@ use crate::held::{held_node, release};
 use crate::listing::list;
 use crate::node::{Node, find, longest, make_path, prune, set_value, value_of};
 use crate::see::{See, see_all, see_along};
+use crate::show::{Carry, Show, show_all};
 use ndn_names::{Name, NameBuf};
 use ndn_tlv::Memory;
 use slab::Slab;
@@ -261,5 +263,18 @@ impl<V: Drop> NameTrie<V> {
         ensures { see.new ≡ fold S.seen see.old (map.values self.now.table) }
     {
         see_all(&self.nodes, self.root, see);
+    }
+
+    /// Shows all names that have a value, in canonical order, each with what is known there.
+    pub fn show_all<W: Carry<V> + Drop, S: Show<W>>(
+        &self,
+        before: &W,
+        show: &mut S,
+    ) -> Result<(), Memory>
+        ensures { OnOk result (show.new ≡ shown_known S.shown
+            (known_at W.past before.now (map.get self.now.table)) show.old
+            (map.entries self.now.table)) }
+    {
+        show_all(self.alloc, &self.nodes, self.root, before, show)
     }
 }

@@ -35,5 +35,6 @@ pub mod FibRoutes
 pub mod FibTally
 pub mod FibLists
 pub mod Inheritance
+pub mod FibShown
 pub mod Effective
 pub mod LongestRoutes

@@ -8,6 +8,7 @@ pub mod Effective
 pub mod Limits
 pub mod Within
 pub mod Inheriting
+pub mod Listing
 pub mod Tally
 pub mod StrategyTable
 pub mod Records

@@ -2,12 +2,12 @@ ghost use Rattle.std.specs.Prelude.{◌≡◌, ◌≢◌, ◌+◌, ◌-◌, ◌^
 ghost use Rattle.std.specs.FinMap as map;
 ghost use Rattle.std.specs.Vec.{vec_capacity};
 ghost use Rattle.ndn_names.specs.View.{components};
-ghost use Rattle.pit_fib.specs.declared.faces.TheConstants.{MAX_FACES};
+ghost use Rattle.name_trie.specs.Shown.{shown_each};
 ghost use Rattle.pit_fib.specs.declared.fault.TableFault.TheVariants as faults;
 ghost use Rattle.pit_fib.specs.Effective.{effective, listed, longest_hops};
 ghost use Rattle.pit_fib.specs.Faces.{AtMost64};
 ghost use Rattle.pit_fib.specs.Fib.{HasRoomFor, LeadsTo, due_count, is_full_for_route, left_at, registered_at, route_count, route_refusal, with_next_hop, with_route, without_face, without_next_hop, without_route};
-ghost use Rattle.pit_fib.specs.Hops.{hops_of, in_order};
+ghost use Rattle.pit_fib.specs.Hops.{hops_of};
 ghost use Rattle.pit_fib.specs.Limits.{AreShallow, HaveSome, IsTallied};
 ghost use Rattle.pit_fib.specs.Refusal.{refusal};
 
@@ -15,11 +15,12 @@ use crate::fault::TableFault;
 use crate::fib_entry::{
     Entry, WithHop, WithRoute, WithoutDue, WithoutFace, WithoutHop, WithoutRoute,
 };
-use crate::hops::{Hop, Hops};
+use crate::hops::{Hops, hops_in_order};
 use crate::inheriting::Inheriting;
+use crate::listing::{AsHops, AtName};
 use crate::route::{Route, RouteKey};
 use crate::tally::{Left, Tally, sooner};
-use name_trie::NameMap;
+use name_trie::{NameMap, Show};
 use ndn_names::{Name, NameBuf};
 use ndn_tlv::Memory;
 use std::alloc::Global;
@@ -311,6 +312,17 @@ impl Fib {
         }
         Ok(list)
     }
+
+    /// Shows all names in canonical order, each with its effective next hops, as they are once the
+    /// routes that end by this moment are gone.
+    pub fn show_all<S: Show<Hops> + Drop>(&self, now: u64, show: S) -> Result<S, Memory>
+        ensures { IfOk result
+            (λ s. s ≡ shown_each S.shown show (listed (left_at now self.now.table))) }
+    {
+        let mut names = AsHops { show };
+        self.entries.show_all(&AtName::new(now), &mut names)?;
+        Ok(names.show)
+    }
 }
 
 impl Fib {
@@ -415,20 +427,4 @@ fn tally(entries: &NameMap<Entry>) -> Tally
     };
     entries.see_all(&mut tally);
     tally
-}
-
-/// Costs by face, as hops.
-fn hops_in_order(costs: &[(u64, u64)]) -> Hops
-    requires { length costs.now ≤ MAX_FACES }
-    ensures { result ≡ in_order costs.now }
-{
-    let mut hops = Hops::new();
-    for place in costs {
-        hops.insert(Hop {
-            face: place.0,
-            cost: place.1,
-            local: false,
-        });
-    }
-    hops
 }

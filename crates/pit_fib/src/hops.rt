@@ -1,5 +1,5 @@
 ghost use Rattle.std.specs.Prelude.{◌≡◌, [], ◌+◌, ◌<◌, ◌≤◌, length, insert, slice_get, true, false};
-ghost use Rattle.pit_fib.specs.Hops.{with_hop, is_before as is_hop_before, marked};
+ghost use Rattle.pit_fib.specs.Hops.{with_hop, in_order, is_before as is_hop_before, marked};
 
 use crate::array_list::insert_at;
 use crate::faces::{Faces, MAX_FACES};
@@ -113,4 +113,20 @@ fn place_of(hops: &[Hop], hop: Hop) -> usize
         }
     }
     hops.len()
+}
+
+/// Costs by face, as hops.
+pub fn hops_in_order(costs: &[(u64, u64)]) -> Hops
+    requires { length costs.now ≤ MAX_FACES }
+    ensures { result ≡ in_order costs.now }
+{
+    let mut hops = Hops::new();
+    for place in costs {
+        hops.insert(Hop {
+            face: place.0,
+            cost: place.1,
+            local: false,
+        });
+    }
+    hops
 }

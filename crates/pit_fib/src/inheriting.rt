@@ -30,6 +30,17 @@ impl Inheriting {
             costs: Used::new(),
         }
     }
+
+    /// The same once more.
+    pub fn copied(&self) -> Inheriting
+        ensures { result ≡ self.now }
+    {
+        Inheriting {
+            at: self.at,
+            inherited: self.inherited.copied(),
+            costs: self.costs.copied(),
+        }
+    }
 }
 
 impl See<Entry> for Inheriting {

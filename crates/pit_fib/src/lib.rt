@@ -17,6 +17,7 @@ mod inheriting;
 mod key_buf;
 mod last;
 mod law;
+mod listing;
 mod nacked;
 mod pit;
 mod prepared;

@@ -3,6 +3,7 @@ ghost use Rattle.std.specs.FinMap as map;
 ghost use Rattle.ndn_names.specs.View.{components};
 ghost use Rattle.pit_fib.specs.declared.fault.TableFault.TheVariants as faults;
 ghost use Rattle.name_trie.specs.ByName.{longest as longest_in};
+ghost use Rattle.name_trie.specs.Shown.{shown_each};
 ghost use Rattle.pit_fib.specs.declared.fib.TheConstants.{MAX_ENTRIES};
 ghost use Rattle.pit_fib.specs.Limits.{AreShallow};
 ghost use Rattle.pit_fib.specs.Refusal.{refusal};
@@ -10,7 +11,7 @@ ghost use Rattle.pit_fib.specs.StrategyTable.{only_best_route, without_choice};
 
 use crate::fault::TableFault;
 use crate::fib::{MAX_DEPTH, MAX_ENTRIES};
-use name_trie::NameMap;
+use name_trie::{Carry, NameMap, Show};
 use ndn_names::{Name, NameBuf};
 use ndn_tlv::Memory;
 use std::alloc::Global;
@@ -23,6 +24,15 @@ pub enum StrategyId {
     BestRoute,
     /// `/localhost/nfd/strategy/multicast`
     Multicast,
+}
+
+// What is known at a name that has a strategy is the strategy.
+impl Carry<StrategyId> for StrategyId {
+    ghost past = { λ before strategy. strategy };
+
+    fn carry(&self, strategy: &StrategyId) -> StrategyId {
+        *strategy
+    }
 }
 
 /// Which strategy chooses next hops: one by name (NFD Developer's Guide, "Strategy Choice Table").
@@ -170,5 +180,14 @@ impl StrategyTable {
             list.push((name, *strategy))?;
         }
         Ok(list)
+    }
+
+    /// Shows all names in canonical order, each with its strategy. An `Err` leaves some of them shown.
+    pub fn show_all<S: Show<StrategyId>>(&self, show: &mut S) -> Result<(), Memory>
+        ensures { OnOk result
+            (show.new ≡ shown_each S.shown show.old (map.entries self.now.table)) }
+    {
+        show.show(&[], &self.root)?;
+        self.others.show_all(&self.root, show)
     }
 }

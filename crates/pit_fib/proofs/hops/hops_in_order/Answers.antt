@@ -2,7 +2,7 @@ use Rattle.std.proofs.Common.{◌<◌, ◌≤◌, get_or, length, ap, sym, ◌�
 use Rattle.std.proofs.lemmas.List.{take_all}
 use Rattle.pit_fib.specs.Hops.{in_order, with_hop, unmarked_hop}
 use Rattle.pit_fib.proofs.OrderedHops.{ordered_more, length-ordered}
-use Rattle.pit_fib.proofs.fib.hops_in_order.Goals as goal
+use Rattle.pit_fib.proofs.hops.hops_in_order.Goals as goal
 
 pub insert-requires : goal.insert-requires
 insert-requires c =

@@ -1,0 +1,67 @@
+ghost use Rattle.std.specs.Prelude.{◌≡◌};
+ghost use Rattle.pit_fib.specs.Listing.{start_at};
+
+use crate::fib_entry::Entry;
+use crate::hops::{Hops, hops_in_order};
+use crate::inheriting::Inheriting;
+use name_trie::{Carry, See, Show};
+use ndn_tlv::Memory;
+
+/// What is known at a name on a walk over all names.
+#[derive(Drop)]
+pub struct AtName {
+    pub now: u64,
+    /// Whether its entry is left at the moment.
+    pub is_left: bool,
+    /// The way to the name, its entry included.
+    pub way: Inheriting,
+}
+
+impl AtName {
+    /// Before the first entry, at a moment in milliseconds since 1970.
+    pub fn new(now: u64) -> AtName
+        ensures { result ≡ start_at now }
+    {
+        AtName {
+            now,
+            is_left: false,
+            way: Inheriting::new(Some(now)),
+        }
+    }
+}
+
+impl Carry<Entry> for AtName {
+    ghost use Rattle.pit_fib.specs.Listing.{past_at};
+
+    ghost past = { past_at };
+
+    fn carry(&self, entry: &Entry) -> AtName {
+        let mut way = self.way.copied();
+        way.see(entry);
+        AtName {
+            now: self.now,
+            is_left: entry.is_left_at(self.now),
+            way,
+        }
+    }
+}
+
+/// Shows the effective next hops of the names whose entries are left.
+#[derive(Drop)]
+pub struct AsHops<S> {
+    pub show: S,
+}
+
+impl<S: Show<Hops>> Show<AtName> for AsHops<S> {
+    ghost use Rattle.pit_fib.specs.Listing.{hops_shown};
+
+    ghost shown = { hops_shown S.shown };
+
+    fn show(&mut self, name: &[u8], at: &AtName) -> Result<(), Memory> {
+        if at.is_left {
+            self.show
+                .show(name, &hops_in_order(at.way.costs.as_slice()))?;
+        }
+        Ok(())
+    }
+}
