@@ -6,12 +6,12 @@ use Rattle.ndn_packets.specs.declared.fault.WriteFault.TheVariants.{BadName, Too
 use Rattle.ndn_packets.specs.declared.interest_writer.InterestWriter.{InterestWriter}
 use Rattle.ndn_packets.specs.declared.data_writer.DataWriter.{DataWriter}
 use Rattle.ndn_packets.specs.Writing.{interest_refusal, data_refusal}
-use Rattle.ndn_client.specs.declared.job.InterestJob.{InterestJob}
-use Rattle.ndn_client.specs.declared.job.DataJob.{DataJob}
-use Rattle.ndn_client.specs.declared.job.CommandJob.{CommandJob}
+use Rattle.ndn_jobs.specs.declared.job.InterestJob.{InterestJob}
+use Rattle.ndn_jobs.specs.declared.job.DataJob.{DataJob}
+use Rattle.ndn_jobs.specs.declared.job.CommandJob.{CommandJob}
 use Rattle.ndn_requests.specs.Parameters.{IsNameRefusal}
 use Rattle.ndn_requests.proofs.Refusals.{IsToldBy, bad_name, too_long}
-use Rattle.ndn_client.specs.Fault.{fault_of_write}
+use Rattle.ndn_jobs.specs.Fault.{fault_of_write}
 use Rattle.ndn_client.specs.Answer.{AsksInterest, AsksData, AsksCommand, IsInterestRefusal, IsDataRefusal, IsCommandRefusal}
 
 pub interest_refused : (job : InterestJob) (book : List NamedKey) (w : InterestWriter) (why : WriteFault)

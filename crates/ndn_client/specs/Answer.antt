@@ -14,17 +14,17 @@ use Rattle.ndn_packets.specs.Packet.{PlainFrame, PlainFramed}
 use Rattle.ndn_packets.specs.Link.{IsFrame, IsFramed}
 use Rattle.ndn_packets.specs.FrameFaults.{FaultOf}
 use Rattle.ndn_packets.specs.Writing.{interest_text, interest_refusal, data_text, data_refusal, lp_text}
-use Rattle.ndn_client.specs.declared.job.InterestJob.{InterestJob}
-use Rattle.ndn_client.specs.declared.job.LinkJob.{LinkJob}
-use Rattle.ndn_client.specs.declared.job.DataJob.{DataJob}
-use Rattle.ndn_client.specs.declared.job.CommandJob.{CommandJob}
-use Rattle.ndn_client.specs.declared.job.TagJob.{TagJob}
-use Rattle.ndn_client.specs.declared.job.ExplainJob.{ExplainJob}
+use Rattle.ndn_jobs.specs.declared.job.InterestJob.{InterestJob}
+use Rattle.ndn_jobs.specs.declared.job.LinkJob.{LinkJob}
+use Rattle.ndn_jobs.specs.declared.job.DataJob.{DataJob}
+use Rattle.ndn_jobs.specs.declared.job.CommandJob.{CommandJob}
+use Rattle.ndn_jobs.specs.declared.job.TagJob.{TagJob}
+use Rattle.ndn_jobs.specs.declared.job.ExplainJob.{ExplainJob}
 use Rattle.ndn_explain.specs.declared.tag_check.TagCheck.{TagCheck}
-use Rattle.ndn_client.specs.declared.job.Job.{Job}
-use Rattle.ndn_client.specs.declared.job.Job.TheVariants as job
-use Rattle.ndn_client.specs.declared.fault.ToolFault.{ToolFault}
-use Rattle.ndn_client.specs.declared.fault.ToolFault.TheVariants as fault
+use Rattle.ndn_jobs.specs.declared.job.Job.{Job}
+use Rattle.ndn_jobs.specs.declared.job.Job.TheVariants as job
+use Rattle.ndn_jobs.specs.declared.fault.ToolFault.{ToolFault}
+use Rattle.ndn_jobs.specs.declared.fault.ToolFault.TheVariants as fault
 use Rattle.ndn_explain.specs.Show.{frame_lines, hex_line}
 use Rattle.ndn_explain.specs.TagCheck.{MayBeChecked}
 use Rattle.ndn_explain.specs.Explain.{framed_explanation}

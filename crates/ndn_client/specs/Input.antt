@@ -1,8 +1,8 @@
 -- What stands on standard input.
 use Rattle.std.specs.Prelude.{◌≡◌, ◌⊎◌, ◌<◌, ◌≤◌, ℕ, ◌-◌, List, length, take, ◌==◌, if◌then◌else◌, slice_get, String, string_bytes, ⊤}
 use Rattle.ndn_tlv.specs.Options.{on_option}
-use Rattle.ndn_client.specs.declared.fault.Usage.TheVariants.{BadValue}
-use Rattle.ndn_client.specs.declared.fault.ToolFault.TheVariants.{Usage, Memory}
+use Rattle.ndn_jobs.specs.declared.fault.Usage.TheVariants.{BadValue}
+use Rattle.ndn_jobs.specs.declared.fault.ToolFault.TheVariants.{Usage, Memory}
 use Rattle.ndn_client.specs.declared.fault.Fault.{Fault}
 use Rattle.ndn_client.specs.declared.fault.Fault.TheVariants.{Input, Tool}
 

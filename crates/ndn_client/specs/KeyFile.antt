@@ -3,7 +3,7 @@ use Rattle.std.specs.Prelude.{◌≡◌, ◌⊎◌, ◌<◌, ◌≤◌, ℕ, Lis
 use Rattle.hmac_keys.specs.KeyFile.{NamedKey}
 use Rattle.hmac_keys.specs.KeyReading.{AreKeys, IsFaultOfOctets}
 use Rattle.limited_reads.specs.declared.TheConstants.{MAX_KEY_FILE}
-use Rattle.ndn_client.specs.declared.fault.ToolFault.TheVariants.{Memory}
+use Rattle.ndn_jobs.specs.declared.fault.ToolFault.TheVariants.{Memory}
 use Rattle.ndn_client.specs.declared.fault.Fault.{Fault}
 use Rattle.ndn_client.specs.declared.fault.Fault.TheVariants.{Keys, LargeKeys, Read, Tool}
 

@@ -10,20 +10,20 @@ use Rattle.ndn_requests.specs.declared.exchange.Exchange.{Exchange}
 use Rattle.ndn_requests.specs.declared.fault.Silence.{Silence}
 use Rattle.ndn_requests.specs.declared.fault.Failure.TheVariants as failure
 use Rattle.ndn_requests.specs.Exchange.{silence_in}
-use Rattle.ndn_client.specs.declared.job.Job.{Job}
-use Rattle.ndn_client.specs.declared.job.Job.TheVariants as job
-use Rattle.ndn_client.specs.declared.job.Ports.{Ports}
-use Rattle.ndn_client.specs.declared.job.SendJob.{SendJob}
-use Rattle.ndn_client.specs.declared.job.ExplainJob.{ExplainJob}
-use Rattle.ndn_client.specs.declared.fault.ToolFault.{ToolFault}
-use Rattle.ndn_client.specs.declared.fault.ToolFault.TheVariants as tool
+use Rattle.ndn_jobs.specs.declared.job.Job.{Job}
+use Rattle.ndn_jobs.specs.declared.job.Job.TheVariants as job
+use Rattle.ndn_jobs.specs.declared.job.Ports.{Ports}
+use Rattle.ndn_jobs.specs.declared.job.SendJob.{SendJob}
+use Rattle.ndn_jobs.specs.declared.job.ExplainJob.{ExplainJob}
+use Rattle.ndn_jobs.specs.declared.fault.ToolFault.{ToolFault}
+use Rattle.ndn_jobs.specs.declared.fault.ToolFault.TheVariants as tool
 use Rattle.ndn_client.specs.declared.fault.Fault.{Fault}
 use Rattle.ndn_client.specs.declared.fault.Fault.TheVariants as fault
 use Rattle.ndn_client.specs.declared.plan.InputForm.{InputForm}
 use Rattle.ndn_client.specs.declared.plan.InputForm.TheVariants.{Nothing, Packet, Lines}
 use Rattle.ndn_client.specs.declared.plan.Plan.{Plan}
 use Rattle.ndn_client.specs.declared.plan.Plan.TheVariants as plan
-use Rattle.ndn_client.specs.Value.{AreOctets, IsRefused}
+use Rattle.ndn_jobs.specs.Value.{AreOctets, IsRefused}
 use Rattle.ndn_client.specs.Input.{without_lf}
 use Rattle.ndn_client.specs.Answer.{IsAnswer, IsRefusal, IsCommandPacket, IsInterestPacket, keys_given}
 

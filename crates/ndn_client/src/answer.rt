@@ -5,11 +5,11 @@ ghost use Rattle.ndn_packets.specs.View.{plain_frame, plain_framed};
 ghost use Rattle.ndn_client.specs.Answer.{IsAnswer, IsRefusal, IsInterestAnswer, IsLinkAnswer, IsInterestPacket, IsInterestRefusal, IsDataAnswer, IsDataRefusal, IsCommandPacket, IsCommandAnswer, IsCommandRefusal, IsTagAnswer, IsTagRefusal, IsShown, IsExplained, IsExplainAnswer, IsExplainRefusal, IsNotShown, keys_given, IsHmac, SignsInterest, SignsData, IsNoKey};
 ghost use Rattle.ndn_requests.specs.Parameters.{command_name};
 
-use crate::fault::ToolFault;
-use crate::job::{CommandJob, DataJob, ExplainJob, InterestJob, Job, LinkJob, TagJob};
-use crate::token::octets_of;
 use hmac_keys::{KeyBook, hmac_sha256};
 use ndn_explain::{check_of, hex_line, put_frame, put_framed_explanation};
+use ndn_jobs::{
+    CommandJob, DataJob, ExplainJob, InterestJob, Job, LinkJob, TagJob, ToolFault, token_octets,
+};
 use ndn_names::NameBuf;
 use ndn_packets::{DataWriter, Frame, Framed, InterestWriter, Sign, put_lp, read_frame, read_lp};
 use ndn_requests::command_name;
@@ -45,7 +45,7 @@ fn link_text(alloc: Global, job: &LinkJob, book: &KeyBook) -> Result<Vec<u8>, To
 {
     let packet = interest_packet(alloc, &job.interest, book)?;
     let mut frame = Vec::new(alloc);
-    put_lp(&mut frame, octets_of(&job.token), None, &packet)?;
+    put_lp(&mut frame, token_octets(&job.token), None, &packet)?;
     Ok(hex_line(alloc, &frame)?)
 }
 

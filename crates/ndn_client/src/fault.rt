@@ -1,39 +1,11 @@
 //! Why the program stops: its message and its exit status.
 use hmac_keys::KeyFault;
-use ndn_packets::{PacketFault, WriteFault};
+use ndn_jobs::ToolFault;
+use ndn_packets::WriteFault;
 use ndn_requests::{Failure, Silence};
 use ndn_tlv::Memory;
 use std::alloc::AllocError;
 use std::fmt;
-
-/// What is wrong with a command line.
-#[derive(Debug, Drop)]
-pub enum Usage {
-    /// The arguments are not a command line.
-    CommandLine(clap::Error),
-    /// A value is not one that may be given there.
-    BadValue {
-        /// The option or argument, as the help names it.
-        place: &'static str,
-        /// What to give there.
-        wanted: &'static str,
-    },
-}
-
-/// Why a job was not done.
-#[derive(Debug, Drop)]
-pub enum ToolFault {
-    /// The command line is wrong.
-    Usage(Usage),
-    /// The key is not in the key file.
-    NoKey,
-    /// The packet cannot be written.
-    Write(WriteFault),
-    /// The octets to show are not a packet.
-    Packet(PacketFault),
-    /// A growth of memory was refused.
-    Memory,
-}
 
 /// Why the program did not do what it was asked.
 #[derive(Debug, Drop)]
@@ -66,25 +38,6 @@ pub enum Fault {
     NotDone(Failure),
 }
 
-impl ToolFault {
-    ghost use Rattle.std.specs.Prelude.{◌≡◌};
-    ghost use Rattle.ndn_client.specs.Fault.{tool_status};
-
-    /// The exit status: 1 for a missing key or a bad packet, 2 for a wrong command line, 3 if
-    /// memory was refused.
-    pub fn exit_status(&self) -> u8
-        ensures { result ≡ tool_status self.now }
-    {
-        match self {
-            ToolFault::Usage(_) => 2,
-            ToolFault::NoKey
-            | ToolFault::Write(WriteFault::BadName | WriteFault::TooLong)
-            | ToolFault::Packet(_) => 1,
-            ToolFault::Write(WriteFault::Memory) | ToolFault::Memory => 3,
-        }
-    }
-}
-
 impl Fault {
     ghost use Rattle.std.specs.Prelude.{◌≡◌};
     ghost use Rattle.ndn_client.specs.Fault.{status_of};
@@ -110,28 +63,6 @@ impl Fault {
             | Fault::Send
             | Fault::From
             | Fault::Silent(_) => 3,
-        }
-    }
-}
-
-impl fmt::Display for ToolFault {
-    ghost use Rattle.ndn_client.specs.Fault.{tool_text};
-
-    // Each message ends with an LF.
-    ghost output = { tool_text };
-
-    fn fmt<W: fmt::Write>(&self, f: &mut fmt::Formatter<W>) -> fmt::Result {
-        match self {
-            ToolFault::Usage(Usage::CommandLine(error)) => error.fmt(f),
-            ToolFault::Usage(Usage::BadValue { place, wanted }) => {
-                writeln!(f, "error: invalid value for {place}: give {wanted}")
-            }
-            ToolFault::NoKey => f.write_str("key not found\n"),
-            ToolFault::Write(WriteFault::Memory) | ToolFault::Memory => {
-                f.write_str("error: out of memory\n")
-            }
-            ToolFault::Write(fault) => writeln!(f, "{}", fault.name()),
-            ToolFault::Packet(fault) => writeln!(f, "{}", fault.name()),
         }
     }
 }
@@ -166,42 +97,6 @@ impl fmt::Display for Fault {
     }
 }
 
-impl From<WriteFault> for ToolFault {
-    ghost use Rattle.std.specs.Prelude.{◌≡◌};
-    ghost use Rattle.ndn_client.specs.Fault.{fault_of_write};
-
-    ghost from_gives = { λ why fault. fault ≡ fault_of_write why };
-
-    fn from(fault: WriteFault) -> ToolFault {
-        match fault {
-            WriteFault::BadName | WriteFault::TooLong => ToolFault::Write(fault),
-            WriteFault::Memory => ToolFault::Memory,
-        }
-    }
-}
-
-impl From<Memory> for ToolFault {
-    ghost use Rattle.std.specs.Prelude.{◌≡◌};
-    ghost use Rattle.ndn_client.specs.declared.fault.ToolFault.TheVariants.{Memory};
-
-    ghost from_gives = { λ _ fault. fault ≡ Memory };
-
-    fn from(_memory: Memory) -> ToolFault {
-        ToolFault::Memory
-    }
-}
-
-impl From<AllocError> for ToolFault {
-    ghost use Rattle.std.specs.Prelude.{◌≡◌};
-    ghost use Rattle.ndn_client.specs.declared.fault.ToolFault.TheVariants.{Memory};
-
-    ghost from_gives = { λ _ fault. fault ≡ Memory };
-
-    fn from(_error: AllocError) -> ToolFault {
-        ToolFault::Memory
-    }
-}
-
 impl From<ToolFault> for Fault {
     ghost use Rattle.std.specs.Prelude.{◌≡◌};
     ghost use Rattle.ndn_client.specs.declared.fault.Fault.TheVariants.{Tool};
@@ -216,7 +111,7 @@ impl From<ToolFault> for Fault {
 impl From<Memory> for Fault {
     ghost use Rattle.std.specs.Prelude.{◌≡◌};
     ghost use Rattle.ndn_client.specs.declared.fault.Fault.TheVariants.{Tool};
-    ghost use Rattle.ndn_client.specs.declared.fault.ToolFault.TheVariants.{Memory};
+    ghost use Rattle.ndn_jobs.specs.declared.fault.ToolFault.TheVariants.{Memory};
 
     ghost from_gives = { λ _ fault. fault ≡ Tool Memory };
 
@@ -228,7 +123,7 @@ impl From<Memory> for Fault {
 impl From<AllocError> for Fault {
     ghost use Rattle.std.specs.Prelude.{◌≡◌};
     ghost use Rattle.ndn_client.specs.declared.fault.Fault.TheVariants.{Tool};
-    ghost use Rattle.ndn_client.specs.declared.fault.ToolFault.TheVariants.{Memory};
+    ghost use Rattle.ndn_jobs.specs.declared.fault.ToolFault.TheVariants.{Memory};
 
     ghost from_gives = { λ _ fault. fault ≡ Tool Memory };
 
@@ -240,7 +135,7 @@ impl From<AllocError> for Fault {
 impl From<WriteFault> for Fault {
     ghost use Rattle.std.specs.Prelude.{◌≡◌};
     ghost use Rattle.ndn_client.specs.declared.fault.Fault.TheVariants.{Tool};
-    ghost use Rattle.ndn_client.specs.Fault.{fault_of_write};
+    ghost use Rattle.ndn_jobs.specs.Fault.{fault_of_write};
 
     ghost from_gives = { λ why fault. fault ≡ Tool (fault_of_write why) };
 

@@ -2,13 +2,13 @@
 
 ghost use Rattle.std.specs.Prelude.{◌≡◌, ◌≤◌, IfOk, IfSome, MatchResult, string_len};
 ghost use Rattle.std.specs.Io.BufRead.{take_through};
-ghost use Rattle.ndn_client.specs.Value.{AreOctets, ReadsInMemory};
+ghost use Rattle.ndn_jobs.specs.Value.{AreOctets, ReadsInMemory};
 ghost use Rattle.ndn_client.specs.Input.{IsInput, IsInputFault, IsTextOf, IsUnreadInput, without_lf};
 
-use crate::fault::{Fault, ToolFault};
-use crate::short_form::refusal;
+use crate::fault::Fault;
 use hex::FromHexError;
 use limited_reads::{read_line_within, read_within};
+use ndn_jobs::{ToolFault, refusal};
 use std::alloc::Global;
 use std::io;
 use std::io::{BufRead, Read};

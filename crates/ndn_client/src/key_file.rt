@@ -4,9 +4,10 @@ ghost use Rattle.std.specs.Prelude.{IfSome, MatchResult};
 ghost use Rattle.hmac_keys.specs.KeyReading.{AreKeys};
 ghost use Rattle.ndn_client.specs.KeyFile.{AreKeysOfFile, IsFileFault, IsKeyFileFault};
 
-use crate::fault::{Fault, ToolFault};
+use crate::fault::Fault;
 use hmac_keys::KeyBook;
 use limited_reads::{MAX_KEY_FILE, read_within};
+use ndn_jobs::ToolFault;
 use std::alloc::Global;
 use std::io;
 use std::io::Read;

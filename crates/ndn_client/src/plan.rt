@@ -5,11 +5,11 @@ ghost use Rattle.ndn_client.specs.Answer.{IsRefusal};
 ghost use Rattle.ndn_client.specs.Plan.{IsPlan, IsNoPlan, IsRequest, IsSent, IsNotSent, IsPrinted, fault_of_silence, input_form, ports_of, view_of};
 
 use crate::answer::{command_packet, interest_packet, keys_given, text_of};
-use crate::fault::{Fault, ToolFault};
+use crate::fault::Fault;
 use crate::input::packet_in;
-use crate::job::{Job, Ports, SendJob};
 use hmac_keys::KeyBook;
 use ndn_explain::put_input;
+use ndn_jobs::{Job, Ports, SendJob, ToolFault};
 use ndn_requests::{Exchange, Failure, View};
 use std::alloc::Global;
 

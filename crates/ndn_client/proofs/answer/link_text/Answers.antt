@@ -16,5 +16,5 @@ returns c = (
   c.in_ok-packet.packet.items,
   c.in_ok-packet.ensures,
   c.in_ok-hex_line.ensures ∙ ap hex_line (c.deref-2.ensures.value
-      ∙ put c.put_lp.new.out.items c.new-frame.result.items c.deref.result.now c.in_ok-packet.packet.items _ c.args.job.now.token c.in_ok-put_lp.ensures.ok c.new-frame.ensures.items c.octets_of.ensures.value c.deref.ensures.value),
+      ∙ put c.put_lp.new.out.items c.new-frame.result.items c.deref.result.now c.in_ok-packet.packet.items _ c.args.job.now.token c.in_ok-put_lp.ensures.ok c.new-frame.ensures.items c.token_octets.ensures.value c.deref.ensures.value),
 )

@@ -1,8 +1,0 @@
-use Rattle.std.proofs.lemmas.Result.{err_from_is_err_and}
-use Rattle.ndn_client.proofs.Spelling.{refused_part}
-use Rattle.ndn_client.proofs.job.repository_parameters.Goals as goal
-
-pub returns-in_err-required_name : goal.returns-in_err-required_name
-returns-in_err-required_name c =
-    let p = err_from_is_err_and c.from_residual.result c.from_residual.ensures.1 in
-    rw (p.1, p.2) (refused_part _ _ (λ job h. (job.name, h.name)) c.in_err-required_name.field-0.0 c.in_err-required_name.ensures)

@@ -1,6 +1,0 @@
-use Rattle.ndn_client.specs.CommandLine.{peek_app}
-use Rattle.ndn_client.proofs.subcommand.peek_command.Goals as goal
-
-pub returns : goal.returns
-unfolding peek_app
-returns c = c.described.ensures

@@ -1,6 +1,0 @@
-use Rattle.ndn_client.specs.CommandLine.{route_app}
-use Rattle.ndn_client.proofs.subcommand.route_command.Goals as goal
-
-pub returns : goal.returns
-unfolding route_app
-returns c = c.with_stamp.ensures _ c.in_ok-command.ensures

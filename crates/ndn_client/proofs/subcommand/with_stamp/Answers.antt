@@ -1,4 +1,0 @@
-use Rattle.ndn_client.proofs.subcommand.with_stamp.Goals as goal
-
-pub returns : goal.returns
-returns c app has = c.with_arguments.ensures app has

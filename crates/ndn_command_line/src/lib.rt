@@ -1,0 +1,10 @@
+//! The command line of `ndn_tool`: its subcommands with their arguments, options and texts of help.
+#![tactic(auto)]
+
+mod argument;
+mod command;
+mod help;
+mod subcommand;
+
+pub use command::tool_command;
+pub use subcommand::Subcommand;

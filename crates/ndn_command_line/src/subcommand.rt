@@ -1,0 +1,305 @@
+//! The subcommands, by their names, with their arguments and their help.
+
+ghost use Rattle.std.specs.Prelude.{map, IfOk};
+ghost use Rattle.clap.specs.Simple.{App};
+ghost use Rattle.ndn_command_line.specs.CommandLine.{HasApp, rule_for, a_subcommand, app_for, with_subcommands, interest_app, data_app, command_app, route_app, strategy_app, cache_app, repository_app, tag_app, show_app, explain_app, send_app, peek_app, stamped};
+
+use crate::argument::{Argument, with_arguments};
+use crate::help;
+use clap::Command;
+use std::alloc::{AllocError, Global};
+
+/// A subcommand.
+#[derive(Clone, Copy, Debug, PartialEq, Eq)]
+pub enum Subcommand {
+    Interest,
+    Data,
+    Command,
+    Route,
+    Strategy,
+    Cache,
+    Repository,
+    Tag,
+    Show,
+    Explain,
+    Send,
+    Peek,
+}
+
+impl Subcommand {
+    ghost use Rattle.std.specs.Prelude.{◌≡◌, IfOk};
+    ghost use Rattle.ndn_command_line.specs.CommandLine.{HasApp, app_for, subcommand_named};
+
+    /// The subcommand of this name.
+    pub fn named(word: &str) -> Option<Subcommand>
+        ensures { result ≡ subcommand_named word.now }
+    {
+        match word {
+            "interest" => Some(Subcommand::Interest),
+            "data" => Some(Subcommand::Data),
+            "command" => Some(Subcommand::Command),
+            "route" => Some(Subcommand::Route),
+            "strategy" => Some(Subcommand::Strategy),
+            "cache" => Some(Subcommand::Cache),
+            "repo" => Some(Subcommand::Repository),
+            "tag" => Some(Subcommand::Tag),
+            "show" => Some(Subcommand::Show),
+            "explain" => Some(Subcommand::Explain),
+            "send" => Some(Subcommand::Send),
+            "peek" => Some(Subcommand::Peek),
+            _ => None,
+        }
+    }
+
+    /// Its command line.
+    fn command<'a>(self, alloc: Global) -> Result<Command<'a>, AllocError>
+        ensures { IfOk result (HasApp (app_for self)) }
+    {
+        match self {
+            Subcommand::Interest => interest_command(alloc),
+            Subcommand::Data => data_command(alloc),
+            Subcommand::Command => command_command(alloc),
+            Subcommand::Route => route_command(alloc),
+            Subcommand::Strategy => strategy_command(alloc),
+            Subcommand::Cache => cache_command(alloc),
+            Subcommand::Repository => repository_command(alloc),
+            Subcommand::Tag => tag_command(alloc),
+            Subcommand::Show => show_command(alloc),
+            Subcommand::Explain => explain_command(alloc),
+            Subcommand::Send => send_command(alloc),
+            Subcommand::Peek => peek_command(alloc),
+        }
+    }
+}
+
+/// The command with these subcommands too, in turn.
+pub fn with_subcommands<'a>(
+    alloc: Global,
+    command: Command<'a>,
+    subcommands: &[Subcommand],
+) -> Result<Command<'a>, AllocError>
+    ensures { (app : App) → HasApp app command.entry
+        → IfOk result (HasApp (with_subcommands app (map app_for subcommands.now))) }
+{
+    let mut command = command;
+    for subcommand in subcommands {
+        command = command.subcommand(subcommand.command(alloc)?)?;
+    }
+    Ok(command)
+}
+
+/// A subcommand of this name, with its texts of help and its arguments.
+fn described<'a>(
+    alloc: Global,
+    name: &'a str,
+    about: &'a str,
+    after: &'a str,
+    arguments: &[Argument<'a>],
+) -> Result<Command<'a>, AllocError>
+    ensures { IfOk result (HasApp (a_subcommand name.entry.now (map rule_for arguments.now))) }
+{
+    let command = Command::new(alloc, name).about(about).after_help(after);
+    with_arguments(alloc, command, arguments)
+}
+
+fn interest_command<'a>(alloc: Global) -> Result<Command<'a>, AllocError>
+    ensures { IfOk result (HasApp interest_app) }
+{
+    let arguments = [
+        Argument::Positional("URI", "The name"),
+        Argument::Required("nonce", "HEX", "The Nonce, 4 octets"),
+        Argument::Flag("can-be-prefix", "Data with longer names may answer too"),
+        Argument::Flag("must-be-fresh", "Only fresh Data may answer"),
+        Argument::Optional(
+            "lifetime",
+            "N",
+            "The lifetime in milliseconds; 4000 if absent",
+        ),
+        Argument::Optional("hop-limit", "N", "How many hops it may travel, at most 255"),
+        Argument::Optional("parameters", "HEX", "The application parameters"),
+        Argument::Optional("time", "N", help::TIME),
+        Argument::Optional("seq", "N", help::SEQ),
+        Argument::Optional("keys", "FILE", help::KEYS),
+        Argument::Optional("key", "URI", help::KEY),
+        Argument::Optional("token", "HEX", "The PIT token, 1 to 32 octets"),
+    ];
+    let about = "Writes an Interest and prints it";
+    described(alloc, "interest", about, help::INTEREST, &arguments)
+}
+
+fn data_command<'a>(alloc: Global) -> Result<Command<'a>, AllocError>
+    ensures { IfOk result (HasApp data_app) }
+{
+    let arguments = [
+        Argument::Positional("URI", "The name"),
+        Argument::Optional("content", "HEX", "The content"),
+        Argument::Optional(
+            "freshness",
+            "N",
+            "How long the Data is fresh, in milliseconds",
+        ),
+        Argument::Optional("keys", "FILE", help::KEYS),
+        Argument::Optional("key", "URI", help::KEY),
+    ];
+    let about = "Writes a Data and prints it";
+    described(alloc, "data", about, help::DATA, &arguments)
+}
+
+fn command_command<'a>(alloc: Global) -> Result<Command<'a>, AllocError>
+    ensures { IfOk result (HasApp command_app) }
+{
+    let arguments = [
+        Argument::Positional("URI", "The name of the command"),
+        Argument::Required("name", "URI", "The name that it is about"),
+        Argument::Required("nonce", "HEX", "The Nonce, 4 octets"),
+        Argument::Required("time", "N", help::TIME),
+        Argument::Optional("seq", "N", help::SEQ),
+        Argument::Optional("face", "N", help::FACE),
+        Argument::Optional("cost", "N", help::COST),
+        Argument::Optional("strategy", "URI", "The name of a strategy"),
+        Argument::Optional("flags", "N", help::FLAGS),
+        Argument::Optional("expires", "MILLISECONDS", help::EXPIRES),
+        Argument::Optional("origin", "N", help::ORIGIN),
+        Argument::Optional("count", "N", help::COUNT),
+        Argument::Optional("lifetime", "N", help::LIFETIME),
+        Argument::Flag("can-be-prefix", help::CAN_BE_PREFIX),
+        Argument::Optional("keys", "FILE", help::KEYS),
+        Argument::Optional("key", "URI", help::KEY),
+    ];
+    let about = "Writes a command and prints it";
+    described(alloc, "command", about, help::COMMAND, &arguments)
+}
+
+fn route_command<'a>(alloc: Global) -> Result<Command<'a>, AllocError>
+    ensures { IfOk result (HasApp route_app) }
+{
+    let arguments = [
+        Argument::Positional("VERB", "add, remove, list, register or unregister"),
+        Argument::MaybePositional("PREFIX", "The name of the route"),
+        Argument::Optional("face", "N", help::FACE),
+        Argument::Optional("cost", "N", help::COST),
+        Argument::Optional("flags", "N", help::FLAGS),
+        Argument::Optional("expires", "MILLISECONDS", help::EXPIRES),
+        Argument::Optional("origin", "N", help::ORIGIN),
+    ];
+    let about = "Adds or removes a next hop, registers or unregisters a route, or lists the routes";
+    let command = described(alloc, "route", about, help::ROUTE, &arguments)?;
+    with_stamp(alloc, command)
+}
+
+fn strategy_command<'a>(alloc: Global) -> Result<Command<'a>, AllocError>
+    ensures { IfOk result (HasApp strategy_app) }
+{
+    let arguments = [
+        Argument::Positional("VERB", "set, unset or list"),
+        Argument::MaybePositional("PREFIX", "The name that has the strategy"),
+        Argument::MaybePositional("STRATEGY", "The strategy"),
+    ];
+    let about = "Sets or unsets a strategy, or lists the strategies";
+    let command = described(alloc, "strategy", about, help::STRATEGY, &arguments)?;
+    with_stamp(alloc, command)
+}
+
+fn cache_command<'a>(alloc: Global) -> Result<Command<'a>, AllocError>
+    ensures { IfOk result (HasApp cache_app) }
+{
+    let arguments = [
+        Argument::Positional("VERB", "erase"),
+        Argument::Positional("PREFIX", "The name under which Data are erased"),
+        Argument::Optional("count", "N", help::COUNT),
+    ];
+    let about = "Writes a command that erases Data from the cache";
+    let command = described(alloc, "cache", about, help::CACHE, &arguments)?;
+    with_stamp(alloc, command)
+}
+
+fn repository_command<'a>(alloc: Global) -> Result<Command<'a>, AllocError>
+    ensures { IfOk result (HasApp repository_app) }
+{
+    let arguments = [
+        Argument::Positional("VERB", "insert, delete or check"),
+        Argument::Positional("PREFIX", "The name of the repository"),
+        Argument::Positional("NAME", "The name of the Data"),
+        Argument::Flag("can-be-prefix", help::CAN_BE_PREFIX),
+        Argument::Optional("lifetime", "N", help::LIFETIME),
+    ];
+    let about = "Writes a command that inserts, deletes or checks Data in a repository";
+    let command = described(alloc, "repo", about, help::REPOSITORY, &arguments)?;
+    with_stamp(alloc, command)
+}
+
+fn tag_command<'a>(alloc: Global) -> Result<Command<'a>, AllocError>
+    ensures { IfOk result (HasApp tag_app) }
+{
+    let arguments = [
+        Argument::Positional("HEX", "The octets"),
+        Argument::Required("keys", "FILE", help::KEYS),
+        Argument::Required("key", "URI", "The name of the key"),
+    ];
+    let about = "Computes the HMAC with SHA-256 of octets and prints it";
+    described(alloc, "tag", about, help::TAG, &arguments)
+}
+
+fn show_command<'a>(alloc: Global) -> Result<Command<'a>, AllocError>
+    ensures { IfOk result (HasApp show_app) }
+{
+    let arguments = [Argument::Positional("HEX", "The packet, alone or in a link packet")];
+    let about = "Shows what a packet holds";
+    described(alloc, "show", about, help::SHOW, &arguments)
+}
+
+fn explain_command<'a>(alloc: Global) -> Result<Command<'a>, AllocError>
+    ensures { IfOk result (HasApp explain_app) }
+{
+    let arguments = [
+        Argument::Positional("HEX", "The packet, or - for those of standard input"),
+        Argument::Optional("keys", "FILE", "The key file to check the signature with"),
+    ];
+    let about = "Says in words what a packet is";
+    described(alloc, "explain", about, help::EXPLAIN, &arguments)
+}
+
+fn send_command<'a>(alloc: Global) -> Result<Command<'a>, AllocError>
+    ensures { IfOk result (HasApp send_app) }
+{
+    let arguments = [
+        Argument::Positional("HEX", "The packet, or - for that of standard input"),
+        Argument::Required("to", "PORT", help::TO),
+        Argument::Optional("from", "PORT", help::FROM),
+    ];
+    let about = "Sends a packet to a node and prints the answer";
+    described(alloc, "send", about, help::SEND, &arguments)
+}
+
+fn peek_command<'a>(alloc: Global) -> Result<Command<'a>, AllocError>
+    ensures { IfOk result (HasApp peek_app) }
+{
+    let arguments = [
+        Argument::Positional("URI", "The name"),
+        Argument::Flag("can-be-prefix", help::CAN_BE_PREFIX),
+        Argument::Flag("must-be-fresh", "Only fresh Data may answer"),
+        Argument::Optional("lifetime", "N", help::LIFETIME),
+        Argument::Optional("nonce", "HEX", "The Nonce, 4 octets"),
+        Argument::Flag("raw", "Prints the content alone, as it is"),
+        Argument::Optional("to", "PORT", help::TO),
+        Argument::Optional("from", "PORT", help::FROM),
+    ];
+    let about = "Asks a node for a Data and says what it holds";
+    described(alloc, "peek", about, help::PEEK, &arguments)
+}
+
+/// The command with the options of a stamp.
+fn with_stamp<'a>(alloc: Global, command: Command<'a>) -> Result<Command<'a>, AllocError>
+    ensures { (app : App) → HasApp app command.entry → IfOk result (HasApp (stamped app)) }
+{
+    let arguments = [
+        Argument::Optional("time", "N", help::TIME),
+        Argument::Optional("nonce", "HEX", "The Nonce, 4 octets"),
+        Argument::Optional("seq", "N", help::SEQ),
+        Argument::Optional("keys", "FILE", help::KEYS),
+        Argument::Optional("key", "URI", help::KEY),
+        Argument::Optional("send", "PORT", help::PORT),
+        Argument::Optional("from", "PORT", help::FROM),
+    ];
+    with_arguments(alloc, command, &arguments)
+}

@@ -1,0 +1,153 @@
+-- Which job a subcommand has.
+use Rattle.std.proofs.Common.{◌≡◌, ℕ, List, Vec, Global, true, false}
+use Rattle.clap.specs.Walk.{Row}
+use Rattle.ndn_jobs.specs.declared.job.LinkJob.{LinkJob}
+use Rattle.ndn_jobs.specs.declared.job.DataJob.{DataJob}
+use Rattle.ndn_jobs.specs.declared.job.CommandJob.{CommandJob}
+use Rattle.ndn_jobs.specs.declared.job.TagJob.{TagJob}
+use Rattle.ndn_jobs.specs.declared.job.ExplainJob.{ExplainJob}
+use Rattle.ndn_jobs.specs.declared.job.SendJob.{SendJob}
+use Rattle.ndn_jobs.specs.declared.job.AskJob.{AskJob}
+use Rattle.ndn_jobs.specs.declared.job.Job.{Job}
+use Rattle.ndn_jobs.specs.declared.job.Job.TheVariants.{Help, Interest, Data, Command, Tag, Show, Explain, Send, Ask}
+use Rattle.ndn_command_line.specs.declared.subcommand.Subcommand.TheVariants as sub
+use Rattle.ndn_jobs.specs.Options.{IsLinkJob, IsDataJob, IsCommandJob, IsTagJob, IsShowJob, IsExplainJob, IsSendJob}
+use Rattle.ndn_jobs.specs.ShortForm.{IsShortJob}
+use Rattle.ndn_jobs.specs.RepositoryForm.{IsRepositoryJob}
+use Rattle.ndn_jobs.specs.Ask.{is_list, IsListJob, IsPeekJob}
+use Rattle.ndn_jobs.specs.Command.{IsJobFor, IsListedJob}
+
+module _ (now : ℕ) (words name : List ℕ) (rows : List Row) where
+  pub an_interest : (job : Job) → IsJobFor sub.Interest now words name rows job → (x : LinkJob) × IsLinkJob rows x
+  an_interest (Help error) h = absurd h
+  an_interest (Interest job) h = (job, h)
+  an_interest (Data job) h = absurd h
+  an_interest (Command job) h = absurd h
+  an_interest (Tag job) h = absurd h
+  an_interest (Show octets) h = absurd h
+  an_interest (Explain job) h = absurd h
+  an_interest (Send job) h = absurd h
+  an_interest (Ask job) h = absurd h
+
+  pub a_data : (job : Job) → IsJobFor sub.Data now words name rows job → (x : DataJob) × IsDataJob rows x
+  a_data (Help error) h = absurd h
+  a_data (Interest job) h = absurd h
+  a_data (Data job) h = (job, h)
+  a_data (Command job) h = absurd h
+  a_data (Tag job) h = absurd h
+  a_data (Show octets) h = absurd h
+  a_data (Explain job) h = absurd h
+  a_data (Send job) h = absurd h
+  a_data (Ask job) h = absurd h
+
+  pub a_command : (job : Job) → IsJobFor sub.Command now words name rows job → (x : CommandJob) × IsCommandJob rows x
+  a_command (Help error) h = absurd h
+  a_command (Interest job) h = absurd h
+  a_command (Data job) h = absurd h
+  a_command (Command job) h = (job, h)
+  a_command (Tag job) h = absurd h
+  a_command (Show octets) h = absurd h
+  a_command (Explain job) h = absurd h
+  a_command (Send job) h = absurd h
+  a_command (Ask job) h = absurd h
+
+  pub a_cache : (job : Job) → IsJobFor sub.Cache now words name rows job → (x : CommandJob) × IsShortJob now words name rows x
+  a_cache (Help error) h = absurd h
+  a_cache (Interest job) h = absurd h
+  a_cache (Data job) h = absurd h
+  a_cache (Command job) h = (job, h)
+  a_cache (Tag job) h = absurd h
+  a_cache (Show octets) h = absurd h
+  a_cache (Explain job) h = absurd h
+  a_cache (Send job) h = absurd h
+  a_cache (Ask job) h = absurd h
+
+  pub a_repository : (job : Job) → IsJobFor sub.Repository now words name rows job → (x : CommandJob) × IsRepositoryJob now words rows x
+  a_repository (Help error) h = absurd h
+  a_repository (Interest job) h = absurd h
+  a_repository (Data job) h = absurd h
+  a_repository (Command job) h = (job, h)
+  a_repository (Tag job) h = absurd h
+  a_repository (Show octets) h = absurd h
+  a_repository (Explain job) h = absurd h
+  a_repository (Send job) h = absurd h
+  a_repository (Ask job) h = absurd h
+
+  pub a_tag : (job : Job) → IsJobFor sub.Tag now words name rows job → (x : TagJob) × IsTagJob rows x
+  a_tag (Help error) h = absurd h
+  a_tag (Interest job) h = absurd h
+  a_tag (Data job) h = absurd h
+  a_tag (Command job) h = absurd h
+  a_tag (Tag job) h = (job, h)
+  a_tag (Show octets) h = absurd h
+  a_tag (Explain job) h = absurd h
+  a_tag (Send job) h = absurd h
+  a_tag (Ask job) h = absurd h
+
+  pub a_show : (job : Job) → IsJobFor sub.Show now words name rows job → (x : Vec ℕ Global) × IsShowJob rows x
+  a_show (Help error) h = absurd h
+  a_show (Interest job) h = absurd h
+  a_show (Data job) h = absurd h
+  a_show (Command job) h = absurd h
+  a_show (Tag job) h = absurd h
+  a_show (Show octets) h = (octets, h)
+  a_show (Explain job) h = absurd h
+  a_show (Send job) h = absurd h
+  a_show (Ask job) h = absurd h
+
+  pub an_explanation : (job : Job) → IsJobFor sub.Explain now words name rows job → (x : ExplainJob) × IsExplainJob rows x
+  an_explanation (Help error) h = absurd h
+  an_explanation (Interest job) h = absurd h
+  an_explanation (Data job) h = absurd h
+  an_explanation (Command job) h = absurd h
+  an_explanation (Tag job) h = absurd h
+  an_explanation (Show octets) h = absurd h
+  an_explanation (Explain job) h = (job, h)
+  an_explanation (Send job) h = absurd h
+  an_explanation (Ask job) h = absurd h
+
+  pub a_send : (job : Job) → IsJobFor sub.Send now words name rows job → (x : SendJob) × IsSendJob rows x
+  a_send (Help error) h = absurd h
+  a_send (Interest job) h = absurd h
+  a_send (Data job) h = absurd h
+  a_send (Command job) h = absurd h
+  a_send (Tag job) h = absurd h
+  a_send (Show octets) h = absurd h
+  a_send (Explain job) h = absurd h
+  a_send (Send job) h = (job, h)
+  a_send (Ask job) h = absurd h
+
+  pub a_peek : (job : Job) → IsJobFor sub.Peek now words name rows job → (x : AskJob) × IsPeekJob now words rows x
+  a_peek (Help error) h = absurd h
+  a_peek (Interest job) h = absurd h
+  a_peek (Data job) h = absurd h
+  a_peek (Command job) h = absurd h
+  a_peek (Tag job) h = absurd h
+  a_peek (Show octets) h = absurd h
+  a_peek (Explain job) h = absurd h
+  a_peek (Send job) h = absurd h
+  a_peek (Ask job) h = (job, h)
+
+  -- by whether the verb is `list`
+
+  pub a_list : is_list rows ≡ true → (job : Job) → IsListedJob now words name rows job → (x : AskJob) × IsListJob now words name rows x
+  a_list said (Help error) h = absurd h
+  a_list said (Interest job) h = absurd h
+  a_list said (Data job) h = absurd h
+  a_list said (Command job) h = let apart = h.0 in absurd cc
+  a_list said (Tag job) h = absurd h
+  a_list said (Show octets) h = absurd h
+  a_list said (Explain job) h = absurd h
+  a_list said (Send job) h = absurd h
+  a_list said (Ask job) h = (job, h.1)
+
+  pub a_short : is_list rows ≡ false → (job : Job) → IsListedJob now words name rows job → (x : CommandJob) × IsShortJob now words name rows x
+  a_short other (Help error) h = absurd h
+  a_short other (Interest job) h = absurd h
+  a_short other (Data job) h = absurd h
+  a_short other (Command job) h = (job, h.1)
+  a_short other (Tag job) h = absurd h
+  a_short other (Show octets) h = absurd h
+  a_short other (Explain job) h = absurd h
+  a_short other (Send job) h = absurd h
+  a_short other (Ask job) h = let apart = h.0 in absurd cc

@@ -1,0 +1,6 @@
+pub mod Nonces
+pub mod Spelling
+pub mod Lines
+pub mod Jobs
+pub mod ShortForms
+pub mod RepositoryForms

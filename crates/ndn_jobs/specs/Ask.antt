@@ -1,0 +1,79 @@
+-- Interests that are sent, and what is printed of the answer: `route list`, `strategy list` and
+-- `peek`.
+use Rattle.std.specs.Prelude.{◌≡◌, ℕ, List, Option, None, Some, Bool, true, false, is_none, ◌&&◌, codes, bytes_eq, if◌then◌else◌}
+use Rattle.clap.specs.Walk.{Row}
+use Rattle.ndn_names.specs.ReadsAs.{ReadsAs}
+use Rattle.ndn_requests.specs.declared.names.NodeList.{NodeList}
+use Rattle.ndn_requests.specs.declared.names.NodeList.TheVariants.{Routes, Strategies}
+use Rattle.ndn_requests.specs.declared.exchange.View.{View}
+use Rattle.ndn_requests.specs.declared.exchange.View.TheVariants.{Lines, Content, Table}
+use Rattle.ndn_requests.specs.Lists.{list_name}
+use Rattle.ndn_jobs.specs.declared.job.InterestJob.{InterestJob}
+use Rattle.ndn_jobs.specs.declared.job.AskJob.{AskJob}
+use Rattle.ndn_jobs.specs.Value.{IsNumber, IsNonce}
+use Rattle.ndn_jobs.specs.Options.{value_at, flag_at, Has, MayHave, HasOr, IsFlag, IsPorts}
+use Rattle.ndn_jobs.specs.Nonce.{nonce_of}
+
+-- an Interest that is not signed; where no Nonce is given, it is made of the time and the words
+pub record IsPlainInterest (now : ℕ) (words : List ℕ) (rows : List Row) (i : InterestJob)
+    : Type 0 where
+  pub nonce : HasOr (nonce_of now words) (value_at rows (codes "nonce")) IsNonce i.nonce
+  pub hop_limit : i.hop_limit ≡ None
+  pub parameters : i.parameters ≡ None
+  pub time : i.time ≡ None
+  pub seq : i.seq ≡ None
+  pub keys : i.key.keys ≡ None
+  pub key : i.key.key ≡ None
+
+-- ---- lists
+
+abbrev pub is_word : List ℕ → Option (List ℕ) → Bool
+is_word word None = false
+is_word word (Some said) = bytes_eq said word
+
+abbrev pub is_list : List Row → Bool
+is_list rows = is_word (codes "list") (value_at rows (codes "VERB"))
+
+-- none of these is given
+abbrev pub lacks : List Row → List ℕ → Bool
+lacks rows id = is_none (value_at rows id)
+
+-- a list takes nothing of what the commands of its subcommand take, but a Nonce and ports
+abbrev pub is_alone : List Row → Bool
+is_alone rows =
+    lacks rows (codes "PREFIX") && lacks rows (codes "face") && lacks rows (codes "cost")
+    && lacks rows (codes "origin") && lacks rows (codes "flags") && lacks rows (codes "expires")
+    && lacks rows (codes "STRATEGY") && lacks rows (codes "time") && lacks rows (codes "seq")
+    && lacks rows (codes "keys") && lacks rows (codes "key")
+
+-- that of the subcommand of this name
+abbrev pub list_of : List ℕ → NodeList
+list_of subcommand = if bytes_eq subcommand (codes "route") then Routes else Strategies
+
+-- the Interest for the first segment, whatever its version
+pub record IsListJob (now : ℕ) (words subcommand : List ℕ) (rows : List Row) (job : AskJob)
+    : Type 0 where
+  pub alone : is_alone rows ≡ true
+  pub view : job.view ≡ Table (list_of subcommand)
+  pub name : job.interest.name ≡ list_name (list_of subcommand)
+  pub can_be_prefix : job.interest.can_be_prefix ≡ true
+  pub must_be_fresh : job.interest.must_be_fresh ≡ true
+  pub lifetime : job.interest.lifetime ≡ None
+  pub plain : IsPlainInterest now words rows job.interest
+  pub ports : IsPorts (value_at rows (codes "send")) (value_at rows (codes "from")) job.ports
+
+-- ---- one Data
+
+abbrev pub view_of : Bool → View
+view_of raw = if raw then Content else Lines
+
+pub record IsPeekJob (now : ℕ) (words : List ℕ) (rows : List Row) (job : AskJob) : Type 0 where
+  pub raw : Bool
+  pub said : IsFlag (flag_at rows (codes "raw")) raw
+  pub view : job.view ≡ view_of raw
+  pub name : Has (value_at rows (codes "URI")) ReadsAs job.interest.name
+  pub can_be_prefix : IsFlag (flag_at rows (codes "can-be-prefix")) job.interest.can_be_prefix
+  pub must_be_fresh : IsFlag (flag_at rows (codes "must-be-fresh")) job.interest.must_be_fresh
+  pub lifetime : MayHave (value_at rows (codes "lifetime")) IsNumber job.interest.lifetime
+  pub plain : IsPlainInterest now words rows job.interest
+  pub ports : IsPorts (value_at rows (codes "to")) (value_at rows (codes "from")) job.ports

@@ -1,0 +1,104 @@
+-- What the arguments of a command line ask for, and what is refused.
+use Rattle.std.specs.Prelude.{◌≡◌, ◌⊎◌, ℕ, true, false, List, [], drop, Option, None, Some, Result, Ok, Err, ⊤}
+use Rattle.clap.specs.Walk.{Row}
+use Rattle.clap.specs.Words.{kind_of}
+use Rattle.clap.specs.Simple.{subcommand_of}
+use Rattle.clap.specs.Faults.{fault_of}
+use Rattle.clap.specs.Kinds.{Kinds, IsAmong}
+use Rattle.clap.specs.declared.error.Error.{Error}
+use Rattle.clap.specs.declared.error.kind.ErrorKind.{ErrorKind}
+use Rattle.clap.specs.declared.error.kind.ErrorKind.TheVariants.{DisplayHelp, DisplayVersion, OutOfMemory}
+use Rattle.ndn_jobs.specs.declared.job.Job.{Job}
+use Rattle.ndn_jobs.specs.declared.job.Job.TheVariants.{Help, Interest, Data, Command, Tag, Show, Explain, Send, Ask}
+use Rattle.ndn_command_line.specs.declared.subcommand.Subcommand.{Subcommand}
+use Rattle.ndn_command_line.specs.declared.subcommand.Subcommand.TheVariants as sub
+use Rattle.ndn_jobs.specs.declared.fault.Usage.{Usage as WrongUsage}
+use Rattle.ndn_jobs.specs.declared.fault.Usage.TheVariants.{CommandLine, BadValue}
+use Rattle.ndn_jobs.specs.declared.fault.ToolFault.{ToolFault}
+use Rattle.ndn_jobs.specs.declared.fault.ToolFault.TheVariants.{Usage, Memory}
+use Rattle.ndn_jobs.specs.Options.{IsLinkJob, IsDataJob, IsCommandJob, IsTagJob, IsShowJob, IsExplainJob, IsSendJob}
+use Rattle.ndn_jobs.specs.ShortForm.{IsShortJob}
+use Rattle.ndn_jobs.specs.RepositoryForm.{IsRepositoryJob}
+use Rattle.ndn_jobs.specs.Ask.{is_list, IsListJob, IsPeekJob}
+use Rattle.ndn_jobs.specs.Nonce.{words_of}
+use Rattle.ndn_command_line.specs.CommandLine.{subcommand_named, tool}
+
+-- help or the version was asked for, memory was refused, or the command line is wrong
+abbrev pub reading_of : ErrorKind → Error → Result Job ToolFault
+reading_of DisplayHelp error = Ok (Help error)
+reading_of DisplayVersion error = Ok (Help error)
+reading_of OutOfMemory error = Err Memory
+reading_of kind error = Err (Usage (CommandLine error))
+
+-- ---- jobs
+
+-- a subcommand whose verb may be `list`
+abbrev pub IsListedJob : ℕ → List ℕ → List ℕ → List Row → Job → Type 0
+IsListedJob now words name rows (Command job) =
+    (is_list rows ≡ false) × IsShortJob now words name rows job
+IsListedJob now words name rows (Ask job) =
+    (is_list rows ≡ true) × IsListJob now words name rows job
+IsListedJob now words name rows job = ⊥
+
+-- what the options of a subcommand, which goes by this name, ask for at this time and in these
+-- words; `route`, `strategy` and `cache` are short forms of `command`, and so is `repo`
+abbrev pub IsJobFor : Subcommand → ℕ → List ℕ → List ℕ → List Row → Job → Type 0
+IsJobFor sub.Interest now words name rows (Interest job) = IsLinkJob rows job
+IsJobFor sub.Data now words name rows (Data job) = IsDataJob rows job
+IsJobFor sub.Command now words name rows (Command job) = IsCommandJob rows job
+IsJobFor sub.Route now words name rows job = IsListedJob now words name rows job
+IsJobFor sub.Strategy now words name rows job = IsListedJob now words name rows job
+IsJobFor sub.Cache now words name rows (Command job) = IsShortJob now words name rows job
+IsJobFor sub.Repository now words name rows (Command job) = IsRepositoryJob now words rows job
+IsJobFor sub.Tag now words name rows (Tag job) = IsTagJob rows job
+IsJobFor sub.Show now words name rows (Show octets) = IsShowJob rows octets
+IsJobFor sub.Explain now words name rows (Explain job) = IsExplainJob rows job
+IsJobFor sub.Send now words name rows (Send job) = IsSendJob rows job
+IsJobFor sub.Peek now words name rows (Ask job) = IsPeekJob now words rows job
+IsJobFor subcommand now words name rows job = ⊥
+
+abbrev pub IsFoundJob : Option Subcommand → ℕ → List ℕ → List ℕ → List Row → Job → Type 0
+IsFoundJob None now words name rows job = ⊥
+IsFoundJob (Some subcommand) now words name rows job = IsJobFor subcommand now words name rows job
+
+-- the same, of the subcommand of this name, if there is one
+abbrev pub IsNamedJob : ℕ → List ℕ → List ℕ → List Row → Job → Type 0
+IsNamedJob now words name rows job = IsFoundJob (subcommand_named name) now words name rows job
+
+-- the same, of the subcommand that was found, if one was
+abbrev pub IsJob : ℕ → List ℕ → Option (List ℕ × List Row) → Job → Type 0
+IsJob now words None job = ⊥
+IsJob now words (Some used) job = IsNamedJob now words used.0 used.1 job
+
+-- ---- command lines
+
+-- the faults of a command line; the list is empty if there are none
+abbrev pub faults : List (List ℕ) → Kinds
+faults arguments = fault_of tool arguments
+
+-- the job of the subcommand of these arguments, the first of which is the program's name
+abbrev pub IsJobOf : ℕ → List (List ℕ) → Job → Type 0
+IsJobOf now arguments job =
+    IsJob now (words_of (drop 1 arguments)) (subcommand_of tool arguments) job
+
+-- a text that the arguments ask for: help, or the version
+abbrev pub IsText : ErrorKind → Type 0
+IsText kind = (kind ≡ DisplayHelp) ⊎ (kind ≡ DisplayVersion)
+
+-- such a text, and otherwise the job of their subcommand
+abbrev pub Asks : ℕ → List (List ℕ) → Job → Type 0
+Asks now arguments (Help error) =
+    IsText (kind_of error) × IsAmong (kind_of error) (faults arguments)
+Asks now arguments job = (faults arguments ≡ []) × IsJobOf now arguments job
+
+-- arguments that are wrong, or that spell no job
+abbrev pub IsWrongLine : ℕ → List (List ℕ) → WrongUsage → Type 0
+IsWrongLine now arguments (CommandLine error) =
+    IsAmong (kind_of error) (faults arguments) × (IsText (kind_of error) → ⊥)
+IsWrongLine now arguments (BadValue place wanted) =
+    (faults arguments ≡ []) × ((job : Job) → IsJobOf now arguments job → ⊥)
+
+abbrev pub IsRefusedLine : ℕ → List (List ℕ) → ToolFault → Type 0
+IsRefusedLine now arguments (Usage usage) = IsWrongLine now arguments usage
+IsRefusedLine now arguments Memory = ⊤
+IsRefusedLine now arguments why = ⊥

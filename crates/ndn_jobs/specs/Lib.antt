@@ -1,0 +1,10 @@
+pub mod Value
+pub mod Options
+pub mod Nonce
+pub mod ShortForm
+pub mod Ask
+pub mod RepositoryForm
+pub mod Job
+pub mod Fault
+pub mod Command
+pub use Rattle.ndn_command_line.specs.CommandLine

@@ -1,0 +1,144 @@
+//! The job that the words of a command line ask for.
+ghost use Rattle.std.specs.Prelude.{◌≡◌, drop, map, option_map, MatchResult};
+ghost use Rattle.clap.specs.Words.{kind_of, subcommand_rows_of};
+ghost use Rattle.ndn_jobs.specs.Value.{IsUsage, ReadsInMemory};
+ghost use Rattle.ndn_jobs.specs.Options.{rows_in};
+ghost use Rattle.ndn_jobs.specs.Nonce.{words_of};
+ghost use Rattle.ndn_jobs.specs.Command.{reading_of, IsJob, IsJobFor, IsListedJob, IsNamedJob, Asks, IsRefusedLine};
+
+use crate::fault::{ToolFault, Usage};
+use crate::job::{AskJob, CommandJob, DataJob, ExplainJob, Job, LinkJob, SendJob, TagJob, is_list};
+use crate::nonce::words_of;
+use crate::options::required_octets;
+use clap::error::ErrorKind;
+use clap::{ArgMatches, Error};
+use ndn_command_line::{Subcommand, tool_command};
+use std::alloc::Global;
+use std::convert::AsStr;
+
+/// Reads the arguments of a command line, the first of which is the program's name, at a time in
+/// milliseconds since 1970.
+///
+/// Refuses a wrong command line by `Usage`, and any other by `Memory` alone.
+pub fn parse_words<S: AsStr>(alloc: Global, now: u64, arguments: &[S]) -> Result<Job, ToolFault>
+    ensures { MatchResult result
+        (Asks now (map S.text arguments.now))
+        (IsRefusedLine now (map S.text arguments.now)) }
+{
+    let words = words_of(alloc, after_program(arguments))?;
+    let mut command = tool_command(alloc)?;
+    match command.try_get_matches_from_mut(arguments) {
+        Ok(matches) => job_of(alloc, &matches, now, &words),
+        Err(error) => answer_to(error),
+    }
+}
+
+/// The arguments after the program's name.
+fn after_program<S: AsStr>(arguments: &[S]) -> &[S]
+    ensures { map S.text result.now ≡ drop 1 (map S.text arguments.now) }
+{
+    if arguments.is_empty() {
+        arguments
+    } else {
+        &arguments[1..]
+    }
+}
+
+fn answer_to(error: Error) -> Result<Job, ToolFault>
+    ensures { result ≡ reading_of (kind_of error) error }
+{
+    match error.kind() {
+        ErrorKind::DisplayHelp | ErrorKind::DisplayVersion => Ok(Job::Help(error)),
+        ErrorKind::OutOfMemory => Err(ToolFault::Memory),
+        _ => Err(ToolFault::Usage(Usage::CommandLine(error))),
+    }
+}
+
+/// The job of the subcommand that was found.
+fn job_of(alloc: Global, matches: &ArgMatches<'_>, now: u64, words: &[u8]) -> Result<Job, ToolFault>
+    ensures { ReadsInMemory (IsJob now words.now (subcommand_rows_of matches.now)) result }
+{
+    match used(matches) {
+        Some((name, options)) => named_job(alloc, name, options, now, words),
+        None => Err(no_subcommand()),
+    }
+}
+
+/// The name of the subcommand that was found, and its options.
+fn used<'a, 'm>(matches: &'m ArgMatches<'a>) -> Option<(&'a str, &'m ArgMatches<'a>)>
+    ensures { option_map (λ p. (p.0.now, rows_in p.1.now)) result ≡ subcommand_rows_of matches.now }
+{
+    matches.subcommand()
+}
+
+/// The job that the options of the subcommand of this name ask for.
+fn named_job(
+    alloc: Global,
+    name: &str,
+    options: &ArgMatches<'_>,
+    now: u64,
+    words: &[u8],
+) -> Result<Job, ToolFault>
+    ensures { ReadsInMemory (IsNamedJob now words.now name.now (rows_in options.now)) result }
+{
+    match Subcommand::named(name) {
+        Some(subcommand) => job_for(alloc, subcommand, name, options, now, words),
+        None => Err(no_subcommand()),
+    }
+}
+
+/// The job that the options of a subcommand, which goes by this name, ask for.
+fn job_for(
+    alloc: Global,
+    subcommand: Subcommand,
+    name: &str,
+    options: &ArgMatches<'_>,
+    now: u64,
+    words: &[u8],
+) -> Result<Job, ToolFault>
+    ensures { ReadsInMemory
+        (IsJobFor subcommand now words.now name.now (rows_in options.now)) result }
+{
+    match subcommand {
+        Subcommand::Interest => Ok(Job::Interest(LinkJob::read(alloc, options)?)),
+        Subcommand::Data => Ok(Job::Data(DataJob::read(alloc, options)?)),
+        Subcommand::Command => Ok(Job::Command(CommandJob::read(alloc, options)?)),
+        Subcommand::Route | Subcommand::Strategy => listed_job(alloc, name, options, now, words),
+        Subcommand::Cache => {
+            Ok(Job::Command(CommandJob::read_short(alloc, name, options, now, words)?))
+        }
+        Subcommand::Repository => {
+            Ok(Job::Command(CommandJob::read_repository(alloc, options, now, words)?))
+        }
+        Subcommand::Tag => Ok(Job::Tag(TagJob::read(alloc, options)?)),
+        Subcommand::Show => Ok(Job::Show(required_octets(alloc, options, "HEX")?)),
+        Subcommand::Explain => Ok(Job::Explain(ExplainJob::read(alloc, options)?)),
+        Subcommand::Send => Ok(Job::Send(SendJob::read(alloc, options)?)),
+        Subcommand::Peek => Ok(Job::Ask(AskJob::read_peek(alloc, options, now, words)?)),
+    }
+}
+
+/// The list, or the command of a short form, that the options of a subcommand ask for.
+fn listed_job(
+    alloc: Global,
+    name: &str,
+    options: &ArgMatches<'_>,
+    now: u64,
+    words: &[u8],
+) -> Result<Job, ToolFault>
+    ensures { ReadsInMemory (IsListedJob now words.now name.now (rows_in options.now)) result }
+{
+    if is_list(options) {
+        return Ok(Job::Ask(AskJob::read_list(alloc, name, options, now, words)?));
+    }
+    Ok(Job::Command(CommandJob::read_short(alloc, name, options, now, words)?))
+}
+
+fn no_subcommand() -> ToolFault
+    ensures { IsUsage result }
+{
+    ToolFault::Usage(Usage::BadValue {
+        place: "the first positional",
+        wanted: "a subcommand",
+    })
+}

@@ -1,0 +1,632 @@
+//! What a command line asks for.
+
+ghost use Rattle.std.specs.Prelude.{◌≡◌, option_map, string_bytes};
+ghost use Rattle.ndn_jobs.specs.Value.{ReadsInMemory};
+ghost use Rattle.ndn_jobs.specs.Options.{rows_in, AreParameters};
+ghost use Rattle.ndn_jobs.specs.ShortForm.{AreShortParameters};
+ghost use Rattle.ndn_jobs.specs.RepositoryForm.{AreRepositoryParameters};
+ghost use Rattle.ndn_jobs.specs.Ask.{is_alone, is_list, lacks, list_of, view_of};
+
+use crate::fault::{ToolFault, refusal};
+use crate::nonce::nonce_or;
+use crate::options;
+use crate::repository_form::repository_name;
+use crate::short_form::{action_in, check_fit};
+use crate::token::Token;
+use clap::{ArgMatches, Error};
+use mgmt_core::Action;
+use ndn_names::NameBuf;
+use ndn_requests::{NodeList, Parameters, View, action_name, list_name};
+use std::alloc::Global;
+
+/// What a command line asks for: a subcommand with its options.
+#[derive(Drop)]
+pub enum Job {
+    /// The help text.
+    Help(Error),
+    /// To write an Interest.
+    Interest(LinkJob),
+    /// To write a Data.
+    Data(DataJob),
+    /// To write a command.
+    Command(CommandJob),
+    /// To compute the tag of octets.
+    Tag(TagJob),
+    /// To show what a packet holds.
+    Show(Vec<u8>),
+    /// To say in words what packets are.
+    Explain(ExplainJob),
+    /// To send a packet, and to print the answer to it.
+    Send(SendJob),
+    /// To send an Interest, and to say what the answer holds.
+    Ask(AskJob),
+}
+
+/// The ports of 127.0.0.1 that a packet is sent to and from.
+#[derive(Clone, Copy, Debug)]
+pub struct Ports {
+    /// The port that it is sent to, if it is sent; else it is printed.
+    pub to: Option<u16>,
+    /// The port that it is sent from; without one it is a new one.
+    pub from: Option<u16>,
+}
+
+/// The key of a signature: the file that it is in, and its name.
+#[derive(Drop)]
+pub struct KeyChoice {
+    /// The path of the key file, if there is one.
+    pub keys: Option<String>,
+    /// The name of the key, if there is one.
+    pub key: Option<NameBuf>,
+}
+
+/// An Interest to write.
+#[derive(Drop)]
+pub struct InterestJob {
+    pub name: NameBuf,
+    pub can_be_prefix: bool,
+    pub must_be_fresh: bool,
+    /// The value of the Nonce, 4 octets as they stand.
+    pub nonce: [u8; 4],
+    /// The InterestLifetime in milliseconds.
+    pub lifetime: Option<u64>,
+    /// The HopLimit, in hops.
+    pub hop_limit: Option<u8>,
+    /// The value of the ApplicationParameters.
+    pub parameters: Option<Vec<u8>>,
+    /// The SignatureTime, in milliseconds since 1970, of a signed Interest.
+    pub time: Option<u64>,
+    /// The SignatureSeqNum of a signed Interest.
+    pub seq: Option<u64>,
+    /// The key of its signature; without one it is not signed.
+    pub key: KeyChoice,
+}
+
+/// An Interest to write, and the PIT token that is put beside it.
+#[derive(Drop)]
+pub struct LinkJob {
+    pub interest: InterestJob,
+    /// The PIT token; without one the Interest stands alone.
+    pub token: Option<Token>,
+}
+
+/// A Data to write.
+#[derive(Drop)]
+pub struct DataJob {
+    pub name: NameBuf,
+    /// The value of the Content.
+    pub content: Option<Vec<u8>>,
+    /// The FreshnessPeriod in milliseconds.
+    pub freshness: Option<u64>,
+    /// The key of its signature; without one it is signed with DigestSha256.
+    pub key: KeyChoice,
+}
+
+/// A command to write: an Interest whose name ends with its parameters.
+#[derive(Drop)]
+pub struct CommandJob {
+    /// The name of the command, which ends with its verb.
+    pub name: NameBuf,
+    pub parameters: Parameters,
+    pub stamp: Stamp,
+}
+
+/// What makes a command one of its own, and who sends it.
+#[derive(Drop)]
+pub struct Stamp {
+    /// The value of the Nonce, 4 octets as they stand.
+    pub nonce: [u8; 4],
+    /// The SignatureTime, in milliseconds since 1970.
+    pub time: u64,
+    /// The SignatureSeqNum.
+    pub seq: Option<u64>,
+    /// The key of the signature; without one it is DigestSha256.
+    pub key: KeyChoice,
+    pub ports: Ports,
+}
+
+/// Octets, and the key to compute their tag with.
+#[derive(Drop)]
+pub struct TagJob {
+    pub octets: Vec<u8>,
+    /// The path of the key file.
+    pub keys: String,
+    /// The name of the key.
+    pub key: NameBuf,
+}
+
+/// Packets to say in words.
+#[derive(Drop)]
+pub struct ExplainJob {
+    /// The packet; without one, those of standard input.
+    pub packet: Option<Vec<u8>>,
+    /// The path of the key file that signatures are checked with; without one they are not.
+    pub keys: Option<String>,
+}
+
+/// A packet to send.
+#[derive(Drop)]
+pub struct SendJob {
+    /// The packet; without one, that of standard input.
+    pub packet: Option<Vec<u8>>,
+    /// The port of 127.0.0.1 that it is sent to.
+    pub to: u16,
+    /// The port that it is sent from; without one it is a new one.
+    pub from: Option<u16>,
+}
+
+/// An Interest to send, and what is printed of the answer.
+#[derive(Drop)]
+pub struct AskJob {
+    pub interest: InterestJob,
+    pub view: View,
+    pub ports: Ports,
+}
+
+impl Job {
+    ghost use Rattle.std.specs.Prelude.{◌≡◌, option_map};
+    ghost use Rattle.ndn_jobs.specs.Job.{key_file_of};
+
+    /// The path of the key file that the job names, if it names one.
+    pub fn key_file(&self) -> Option<&str>
+        ensures { option_map (λ path. path.now) result ≡ key_file_of self.now }
+    {
+        match self {
+            Job::Interest(job) => job.interest.key.path(),
+            Job::Data(job) => job.key.path(),
+            Job::Command(job) => job.stamp.key.path(),
+            Job::Tag(job) => Some(job.keys.as_str()),
+            Job::Explain(job) => path_in(&job.keys),
+            Job::Help(_) | Job::Show(_) | Job::Send(_) | Job::Ask(_) => None,
+        }
+    }
+}
+
+impl InterestJob {
+    ghost use Rattle.ndn_jobs.specs.Value.{ReadsInMemory};
+    ghost use Rattle.ndn_jobs.specs.Options.{rows_in, IsInterestJob};
+
+    /// The Interest that the options of `interest` ask for, without the PIT token.
+    pub fn read(alloc: Global, options: &ArgMatches<'_>) -> Result<InterestJob, ToolFault>
+        ensures { ReadsInMemory (IsInterestJob (rows_in options.now)) result }
+    {
+        Ok(InterestJob {
+            name: options::required_name(alloc, options, "URI")?,
+            can_be_prefix: options::flag(options, "can-be-prefix"),
+            must_be_fresh: options::flag(options, "must-be-fresh"),
+            nonce: options::required_nonce(options, "nonce")?,
+            lifetime: options::number(options, "lifetime")?,
+            hop_limit: options::hops(options, "hop-limit")?,
+            parameters: options::octets(alloc, options, "parameters")?,
+            time: options::number(options, "time")?,
+            seq: options::number(options, "seq")?,
+            key: KeyChoice::read(alloc, options)?,
+        })
+    }
+}
+
+impl LinkJob {
+    ghost use Rattle.ndn_jobs.specs.Value.{ReadsInMemory};
+    ghost use Rattle.ndn_jobs.specs.Options.{rows_in, IsLinkJob};
+
+    /// The Interest and the PIT token that the options of `interest` ask for.
+    pub fn read(alloc: Global, options: &ArgMatches<'_>) -> Result<LinkJob, ToolFault>
+        ensures { ReadsInMemory (IsLinkJob (rows_in options.now)) result }
+    {
+        Ok(LinkJob {
+            interest: InterestJob::read(alloc, options)?,
+            token: options::token(alloc, options, "token")?,
+        })
+    }
+}
+
+impl DataJob {
+    ghost use Rattle.ndn_jobs.specs.Value.{ReadsInMemory};
+    ghost use Rattle.ndn_jobs.specs.Options.{rows_in, IsDataJob};
+
+    /// The Data that the options of `data` ask for.
+    pub fn read(alloc: Global, options: &ArgMatches<'_>) -> Result<DataJob, ToolFault>
+        ensures { ReadsInMemory (IsDataJob (rows_in options.now)) result }
+    {
+        Ok(DataJob {
+            name: options::required_name(alloc, options, "URI")?,
+            content: options::octets(alloc, options, "content")?,
+            freshness: options::number(options, "freshness")?,
+            key: KeyChoice::read(alloc, options)?,
+        })
+    }
+}
+
+impl CommandJob {
+    ghost use Rattle.ndn_jobs.specs.Value.{ReadsInMemory};
+    ghost use Rattle.ndn_jobs.specs.Options.{rows_in, IsCommandJob};
+    ghost use Rattle.ndn_jobs.specs.ShortForm.{IsFormJob, IsShortJob};
+    ghost use Rattle.ndn_jobs.specs.RepositoryForm.{IsRepositoryJob};
+
+    /// The command that the options of `command` ask for.
+    pub fn read(alloc: Global, options: &ArgMatches<'_>) -> Result<CommandJob, ToolFault>
+        ensures { ReadsInMemory (IsCommandJob (rows_in options.now)) result }
+    {
+        Ok(CommandJob {
+            name: options::required_name(alloc, options, "URI")?,
+            parameters: parameters(alloc, options)?,
+            stamp: Stamp::read(alloc, options)?,
+        })
+    }
+
+    /// The command that a short form asks for: the subcommand of this name with these options.
+    /// Where they leave out the time and the Nonce, they are `now` and made of the words.
+    pub fn read_short(
+        alloc: Global,
+        subcommand: &str,
+        options: &ArgMatches<'_>,
+        now: u64,
+        words: &[u8],
+    ) -> Result<CommandJob, ToolFault>
+        ensures { ReadsInMemory
+            (IsShortJob now words.now subcommand.now (rows_in options.now)) result }
+    {
+        let action = action_in(subcommand, options)?;
+        CommandJob::read_form(alloc, action, options, now, words)
+    }
+
+    /// The command that the options of `repo` ask for. Where they leave out the time and the Nonce,
+    /// they are `now` and made of the words.
+    pub fn read_repository(
+        alloc: Global,
+        options: &ArgMatches<'_>,
+        now: u64,
+        words: &[u8],
+    ) -> Result<CommandJob, ToolFault>
+        ensures { ReadsInMemory (IsRepositoryJob now words.now (rows_in options.now)) result }
+    {
+        Ok(CommandJob {
+            name: repository_name(alloc, options)?,
+            parameters: repository_parameters(alloc, options)?,
+            stamp: Stamp::read_short(alloc, options, now, words)?,
+        })
+    }
+
+    /// The command of a short form.
+    fn read_form(
+        alloc: Global,
+        action: Action,
+        options: &ArgMatches<'_>,
+        now: u64,
+        words: &[u8],
+    ) -> Result<CommandJob, ToolFault>
+        ensures { ReadsInMemory (IsFormJob action now words.now (rows_in options.now)) result }
+    {
+        check_fit(action, options)?;
+        Ok(CommandJob {
+            name: action_name(alloc, action)?,
+            parameters: short_parameters(alloc, options)?,
+            stamp: Stamp::read_short(alloc, options, now, words)?,
+        })
+    }
+}
+
+/// The parameters that the options of `command` spell.
+fn parameters(alloc: Global, options: &ArgMatches<'_>) -> Result<Parameters, ToolFault>
+    ensures { ReadsInMemory (AreParameters (rows_in options.now)) result }
+{
+    Ok(Parameters {
+        name: options::required_name(alloc, options, "name")?,
+        face: options::number(options, "face")?,
+        origin: options::number(options, "origin")?,
+        cost: options::number(options, "cost")?,
+        flags: options::number(options, "flags")?,
+        expires: options::number(options, "expires")?,
+        strategy: options::name(alloc, options, "strategy")?,
+        count: options::number(options, "count")?,
+        can_be_prefix: options::flag(options, "can-be-prefix"),
+        lifetime: options::number(options, "lifetime")?,
+    })
+}
+
+/// The parameters that the options of a short form spell.
+fn short_parameters(alloc: Global, options: &ArgMatches<'_>) -> Result<Parameters, ToolFault>
+    ensures { ReadsInMemory (AreShortParameters (rows_in options.now)) result }
+{
+    Ok(Parameters {
+        name: options::required_name(alloc, options, "PREFIX")?,
+        face: options::number(options, "face")?,
+        origin: options::number(options, "origin")?,
+        cost: options::number(options, "cost")?,
+        flags: options::number(options, "flags")?,
+        expires: options::number(options, "expires")?,
+        strategy: options::strategy(alloc, options, "STRATEGY")?,
+        count: options::number(options, "count")?,
+        can_be_prefix: false,
+        lifetime: None,
+    })
+}
+
+/// The parameters that the options of `repo` spell.
+fn repository_parameters(alloc: Global, options: &ArgMatches<'_>) -> Result<Parameters, ToolFault>
+    ensures { ReadsInMemory (AreRepositoryParameters (rows_in options.now)) result }
+{
+    Ok(Parameters {
+        name: options::required_name(alloc, options, "NAME")?,
+        face: None,
+        origin: None,
+        cost: None,
+        flags: None,
+        expires: None,
+        strategy: None,
+        count: None,
+        can_be_prefix: options::flag(options, "can-be-prefix"),
+        lifetime: options::number(options, "lifetime")?,
+    })
+}
+
+impl Stamp {
+    ghost use Rattle.ndn_jobs.specs.Value.{ReadsInMemory};
+    ghost use Rattle.ndn_jobs.specs.Options.{rows_in, IsStamp};
+    ghost use Rattle.ndn_jobs.specs.ShortForm.{IsShortStamp};
+
+    /// The stamp that the options of `command` spell.
+    fn read(alloc: Global, options: &ArgMatches<'_>) -> Result<Stamp, ToolFault>
+        ensures { ReadsInMemory (IsStamp (rows_in options.now)) result }
+    {
+        Ok(Stamp {
+            nonce: options::required_nonce(options, "nonce")?,
+            time: options::required_number(options, "time")?,
+            seq: options::number(options, "seq")?,
+            key: KeyChoice::read(alloc, options)?,
+            ports: Ports {
+                to: None,
+                from: None,
+            },
+        })
+    }
+
+    /// The stamp that the options of a short form spell.
+    fn read_short(
+        alloc: Global,
+        options: &ArgMatches<'_>,
+        now: u64,
+        words: &[u8],
+    ) -> Result<Stamp, ToolFault>
+        ensures { ReadsInMemory (IsShortStamp now words.now (rows_in options.now)) result }
+    {
+        let time = options::number(options, "time")?.unwrap_or(now);
+        let given = options::nonce(options, "nonce")?;
+        let ports = Ports::read(options, "send")?;
+        Ok(Stamp {
+            nonce: nonce_or(alloc, given, time, words)?,
+            time,
+            seq: options::number(options, "seq")?,
+            key: KeyChoice::read(alloc, options)?,
+            ports,
+        })
+    }
+}
+
+impl Ports {
+    ghost use Rattle.std.specs.Prelude.{codes};
+    ghost use Rattle.ndn_jobs.specs.Value.{Reads};
+    ghost use Rattle.ndn_jobs.specs.Options.{rows_in, value_at, IsPorts};
+
+    /// The ports that the option of this id and `from` spell.
+    fn read(options: &ArgMatches<'_>, id: &'static str) -> Result<Ports, ToolFault>
+        ensures { Reads (IsPorts (value_at (rows_in options.now) id.now)
+            (value_at (rows_in options.now) (codes "from"))) result }
+    {
+        let to = options::port(options, id)?;
+        let from = options::port(options, "from")?;
+        if to.is_none() && from.is_some() {
+            return Err(refusal("from", "the port to send to as well"));
+        }
+        Ok(Ports { to, from })
+    }
+}
+
+impl AskJob {
+    ghost use Rattle.std.specs.Prelude.{◌≡◌, codes, true};
+    ghost use Rattle.ndn_jobs.specs.Value.{IsUsage, ReadsInMemory};
+    ghost use Rattle.ndn_jobs.specs.Options.{rows_in};
+    ghost use Rattle.ndn_jobs.specs.Ask.{IsListJob, IsPeekJob};
+
+    /// The list that `list` asks for, as a verb of the subcommand of this name. Where the options
+    /// leave out the Nonce, it is made of the time and the words.
+    pub fn read_list(
+        alloc: Global,
+        subcommand: &str,
+        options: &ArgMatches<'_>,
+        now: u64,
+        words: &[u8],
+    ) -> Result<AskJob, ToolFault>
+        ensures { ReadsInMemory
+            (IsListJob now words.now subcommand.now (rows_in options.now)) result }
+    {
+        if !is_alone(options) {
+            return Err(refusal(
+                "list",
+                "no name and no option but --nonce, --send and --from",
+            ));
+        }
+        let list = list_of(subcommand);
+        let given = options::nonce(options, "nonce")?;
+        let ports = Ports::read(options, "send")?;
+        Ok(AskJob {
+            interest: InterestJob {
+                name: list_name(alloc, list)?,
+                can_be_prefix: true,
+                must_be_fresh: true,
+                nonce: nonce_or(alloc, given, now, words)?,
+                lifetime: None,
+                hop_limit: None,
+                parameters: None,
+                time: None,
+                seq: None,
+                key: KeyChoice {
+                    keys: None,
+                    key: None,
+                },
+            },
+            view: View::Table(list),
+            ports,
+        })
+    }
+
+    /// The Interest that the options of `peek` ask for. Where they leave out the Nonce, it is made of
+    /// the time and the words.
+    pub fn read_peek(
+        alloc: Global,
+        options: &ArgMatches<'_>,
+        now: u64,
+        words: &[u8],
+    ) -> Result<AskJob, ToolFault>
+        ensures { ReadsInMemory (IsPeekJob now words.now (rows_in options.now)) result }
+    {
+        let given = options::nonce(options, "nonce")?;
+        let ports = Ports::read(options, "to")?;
+        Ok(AskJob {
+            interest: InterestJob {
+                name: options::required_name(alloc, options, "URI")?,
+                can_be_prefix: options::flag(options, "can-be-prefix"),
+                must_be_fresh: options::flag(options, "must-be-fresh"),
+                nonce: nonce_or(alloc, given, now, words)?,
+                lifetime: options::number(options, "lifetime")?,
+                hop_limit: None,
+                parameters: None,
+                time: None,
+                seq: None,
+                key: KeyChoice {
+                    keys: None,
+                    key: None,
+                },
+            },
+            view: view_of(options::flag(options, "raw")),
+            ports,
+        })
+    }
+}
+
+fn view_of(raw: bool) -> View
+    ensures { result ≡ view_of raw }
+{
+    if raw { View::Content } else { View::Lines }
+}
+
+/// The list of the subcommand of this name.
+fn list_of(subcommand: &str) -> NodeList
+    ensures { result ≡ list_of subcommand.now }
+{
+    if subcommand == "route" {
+        NodeList::Routes
+    } else {
+        NodeList::Strategies
+    }
+}
+
+/// Whether the verb is `list`.
+pub fn is_list(options: &ArgMatches<'_>) -> bool
+    ensures { result ≡ is_list (rows_in options.now) }
+{
+    match options::value(options, "VERB") {
+        None => false,
+        Some(verb) => verb == "list",
+    }
+}
+
+/// Whether nothing is given that belongs to the commands of the subcommand.
+fn is_alone(options: &ArgMatches<'_>) -> bool
+    ensures { result ≡ is_alone (rows_in options.now) }
+{
+    lacks(options, "PREFIX")
+        && lacks(options, "face")
+        && lacks(options, "cost")
+        && lacks(options, "origin")
+        && lacks(options, "flags")
+        && lacks(options, "expires")
+        && lacks(options, "STRATEGY")
+        && lacks(options, "time")
+        && lacks(options, "seq")
+        && lacks(options, "keys")
+        && lacks(options, "key")
+}
+
+fn lacks(options: &ArgMatches<'_>, id: &str) -> bool
+    ensures { result ≡ lacks (rows_in options.now) id.now }
+{
+    options::value(options, id).is_none()
+}
+
+impl TagJob {
+    ghost use Rattle.ndn_jobs.specs.Value.{ReadsInMemory};
+    ghost use Rattle.ndn_jobs.specs.Options.{rows_in, IsTagJob};
+
+    /// The octets and the key that the options of `tag` name.
+    pub fn read(alloc: Global, options: &ArgMatches<'_>) -> Result<TagJob, ToolFault>
+        ensures { ReadsInMemory (IsTagJob (rows_in options.now)) result }
+    {
+        Ok(TagJob {
+            octets: options::required_octets(alloc, options, "HEX")?,
+            keys: options::required_path(alloc, options, "keys")?,
+            key: options::required_name(alloc, options, "key")?,
+        })
+    }
+}
+
+impl ExplainJob {
+    ghost use Rattle.ndn_jobs.specs.Value.{ReadsInMemory};
+    ghost use Rattle.ndn_jobs.specs.Options.{rows_in, IsExplainJob};
+
+    /// The packets and the key file that the options of `explain` name.
+    pub fn read(alloc: Global, options: &ArgMatches<'_>) -> Result<ExplainJob, ToolFault>
+        ensures { ReadsInMemory (IsExplainJob (rows_in options.now)) result }
+    {
+        Ok(ExplainJob {
+            packet: options::packet(alloc, options, "HEX")?,
+            keys: options::path(alloc, options, "keys")?,
+        })
+    }
+}
+
+impl SendJob {
+    ghost use Rattle.ndn_jobs.specs.Value.{ReadsInMemory};
+    ghost use Rattle.ndn_jobs.specs.Options.{rows_in, IsSendJob};
+
+    /// The packet and the port that the options of `send` name.
+    pub fn read(alloc: Global, options: &ArgMatches<'_>) -> Result<SendJob, ToolFault>
+        ensures { ReadsInMemory (IsSendJob (rows_in options.now)) result }
+    {
+        Ok(SendJob {
+            packet: options::packet(alloc, options, "HEX")?,
+            to: options::required_port(options, "to")?,
+            from: options::port(options, "from")?,
+        })
+    }
+}
+
+impl KeyChoice {
+    ghost use Rattle.std.specs.Prelude.{◌≡◌, option_map, string_bytes};
+    ghost use Rattle.ndn_jobs.specs.Value.{ReadsInMemory};
+    ghost use Rattle.ndn_jobs.specs.Options.{rows_in, IsKeyChoice};
+
+    fn read(alloc: Global, options: &ArgMatches<'_>) -> Result<KeyChoice, ToolFault>
+        ensures { ReadsInMemory (IsKeyChoice (rows_in options.now)) result }
+    {
+        Ok(KeyChoice {
+            keys: options::path(alloc, options, "keys")?,
+            key: options::name(alloc, options, "key")?,
+        })
+    }
+
+    fn path(&self) -> Option<&str>
+        ensures { option_map (λ path. path.now) result ≡ option_map string_bytes self.now.keys }
+    {
+        path_in(&self.keys)
+    }
+}
+
+fn path_in(path: &Option<String>) -> Option<&str>
+    ensures { option_map (λ path. path.now) result ≡ option_map string_bytes path.now }
+{
+    match path {
+        None => None,
+        Some(path) => Some(path.as_str()),
+    }
+}

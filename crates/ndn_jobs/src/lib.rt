@@ -1,0 +1,20 @@
+//! What the words of a command line ask for, as a job, and the faults of words that ask for none.
+#![tactic(auto)]
+
+mod command;
+mod fault;
+mod job;
+mod nonce;
+mod options;
+mod repository_form;
+mod short_form;
+mod token;
+mod value;
+
+pub use command::parse_words;
+pub use fault::{ToolFault, Usage, refusal};
+pub use job::{
+    AskJob, CommandJob, DataJob, ExplainJob, InterestJob, Job, KeyChoice, LinkJob, Ports, SendJob,
+    Stamp, TagJob,
+};
+pub use token::{Token, token_octets};

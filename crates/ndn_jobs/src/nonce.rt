@@ -1,0 +1,59 @@
+//! The Nonce of a command whose options give none.
+
+ghost use Rattle.std.specs.Prelude.{◌≡◌, ◌++◌, flat_map, unwrap_or, IfOk, OnOk};
+ghost use Rattle.ndn_jobs.specs.Nonce.{nonce_of, spaced};
+
+use sha2::{Digest, Sha256};
+use std::alloc::{AllocError, Global};
+use std::convert::AsStr;
+use std::io::Write;
+
+/// The words of a command line as one text, a space before each.
+pub fn words_of<S: AsStr>(alloc: Global, words: &[S]) -> Result<Vec<u8>, AllocError>
+    ensures { IfOk result
+        (λ text. text.items ≡ flat_map (λ word. spaced (S.text word)) words.now) }
+{
+    let mut text = Vec::new(alloc);
+    for word in words {
+        put_spaced(&mut text, word.as_str())?;
+    }
+    Ok(text)
+}
+
+/// Appends a space and a word, or some octets of them.
+fn put_spaced(text: &mut Vec<u8>, word: &str) -> Result<(), AllocError>
+    ensures { OnOk result (text.new.items ≡ text.old.items ++ spaced word.now) }
+{
+    text.push(b' ')?;
+    text.extend_from_slice(word.as_bytes())
+}
+
+/// The Nonce that is given, or one of its own for this time and these words.
+pub fn nonce_or(
+    alloc: Global,
+    given: Option<[u8; 4]>,
+    time: u64,
+    words: &[u8],
+) -> Result<[u8; 4], AllocError>
+    ensures { IfOk result (λ nonce. nonce ≡ unwrap_or given (nonce_of time words.now)) }
+{
+    match given {
+        Some(nonce) => Ok(nonce),
+        None => nonce_of(alloc, time, words),
+    }
+}
+
+/// A Nonce of its own for a time and the words of a command: the first four octets of SHA-256 over
+/// the time in decimal digits and the words.
+fn nonce_of(alloc: Global, time: u64, words: &[u8]) -> Result<[u8; 4], AllocError>
+    ensures { IfOk result (λ nonce. nonce ≡ nonce_of time words.now) }
+{
+    let time = time.to_string(alloc)?;
+    let mut hasher = Sha256::new();
+    hasher.update(time.as_bytes());
+    hasher.update(words);
+    let digest = hasher.finalize();
+    let mut nonce = [0; 4];
+    nonce.copy_from_slice(&digest[..4]);
+    Ok(nonce)
+}

@@ -1,0 +1,148 @@
+//! The values that the texts of a command line spell.
+ghost use Rattle.std.specs.Prelude.{◌≡◌, ℕ, MatchOption};
+ghost use Rattle.ndn_names.specs.ReadsAs.{ReadsAs};
+ghost use Rattle.ndn_jobs.specs.Value.{IsNumber, IsHops, IsPort, AreOctets, IsPacket, IsNonce, IsTokenText, Reads, ReadsInMemory};
+
+use crate::fault::{ToolFault, Usage};
+use crate::token::Token;
+use hex::FromHexError;
+use ndn_names::{NameBuf, NameFault};
+use std::alloc::Global;
+
+/// The name whose URI is this text.
+pub fn parse_name(alloc: Global, place: &'static str, text: &str) -> Result<NameBuf, ToolFault>
+    ensures { ReadsInMemory (ReadsAs text.now) result }
+{
+    parse_uri(alloc, place, text, "the URI of a name, such as /A/B")
+}
+
+/// The name of a strategy whose URI is this text.
+pub fn parse_strategy(alloc: Global, place: &'static str, text: &str) -> Result<NameBuf, ToolFault>
+    ensures { ReadsInMemory (ReadsAs text.now) result }
+{
+    parse_uri(
+        alloc,
+        place,
+        text,
+        "best-route, multicast or the URI of a strategy",
+    )
+}
+
+fn parse_uri(
+    alloc: Global,
+    place: &'static str,
+    text: &str,
+    wanted: &'static str,
+) -> Result<NameBuf, ToolFault>
+    ensures { ReadsInMemory (ReadsAs text.now) result }
+{
+    match NameBuf::from_uri(alloc, text) {
+        Ok(name) => Ok(name),
+        Err(fault) => match fault {
+            NameFault::Memory => Err(ToolFault::Memory),
+            _ => Err(bad_value(place, wanted)),
+        },
+    }
+}
+
+/// The octets that a text spells in hexadecimal of either case; an empty text has none.
+pub fn parse_octets(alloc: Global, place: &'static str, text: &str) -> Result<Vec<u8>, ToolFault>
+    ensures { ReadsInMemory (AreOctets text.now) result }
+{
+    match hex::decode(alloc, text) {
+        Ok(octets) => Ok(octets),
+        Err(FromHexError::OutOfMemory) => Err(ToolFault::Memory),
+        Err(_) => Err(bad_value(place, "two hexadecimal digits for each octet")),
+    }
+}
+
+/// The PIT token, 1 to 32 octets, that a text spells in hexadecimal of either case.
+pub fn parse_token(alloc: Global, place: &'static str, text: &str) -> Result<Token, ToolFault>
+    ensures { ReadsInMemory (IsTokenText text.now) result }
+{
+    match hex::decode(alloc, text) {
+        Ok(octets) => match Token::new(octets) {
+            Some(token) => Ok(token),
+            None => Err(bad_value(place, "1 to 32 octets in hexadecimal")),
+        },
+        Err(FromHexError::OutOfMemory) => Err(ToolFault::Memory),
+        Err(_) => Err(bad_value(place, "1 to 32 octets in hexadecimal")),
+    }
+}
+
+/// The packet that a text spells in hexadecimal, or none where the text is a dash.
+pub fn parse_packet(
+    alloc: Global,
+    place: &'static str,
+    text: &str,
+) -> Result<Option<Vec<u8>>, ToolFault>
+    ensures { ReadsInMemory (IsPacket text.now) result }
+{
+    if text == "-" {
+        return Ok(None);
+    }
+    Ok(Some(parse_octets(alloc, place, text)?))
+}
+
+/// The value of a Nonce that a text spells.
+pub fn parse_nonce(place: &'static str, text: &str) -> Result<[u8; 4], ToolFault>
+    ensures { Reads (IsNonce text.now) result }
+{
+    let mut nonce = [0; 4];
+    match hex::decode_to_slice(text, &mut nonce) {
+        Ok(()) => Ok(nonce),
+        Err(_) => Err(bad_value(place, "8 hexadecimal digits, such as 01020304")),
+    }
+}
+
+/// The number below 2^64 that a text spells in decimal digits, with leading zeros allowed.
+pub fn parse_number(place: &'static str, text: &str) -> Result<u64, ToolFault>
+    ensures { Reads (IsNumber text.now) result }
+{
+    match parse_digits(text) {
+        Some(number) => Ok(number),
+        None => Err(bad_value(place, "a decimal number below 2^64")),
+    }
+}
+
+/// The number of hops, from 0 to 255, that a text spells in decimal digits.
+pub fn parse_hops(place: &'static str, text: &str) -> Result<u8, ToolFault>
+    ensures { Reads (IsHops text.now) result }
+{
+    if let Some(number) = parse_digits(text)
+        && let Ok(hops) = u8::try_from(number)
+    {
+        return Ok(hops);
+    }
+    Err(bad_value(place, "a decimal number from 0 to 255"))
+}
+
+/// The port, from 1 to 65535, that a text spells in decimal digits.
+pub fn parse_port(place: &'static str, text: &str) -> Result<u16, ToolFault>
+    ensures { Reads (IsPort text.now) result }
+{
+    if let Some(number) = parse_digits(text)
+        && let Ok(port) = u16::try_from(number)
+        && port > 0
+    {
+        return Ok(port);
+    }
+    Err(bad_value(place, "a port, a decimal number from 1 to 65535"))
+}
+
+/// The number that decimal digits spell, if there are any and it is below 2^64.
+fn parse_digits(text: &str) -> Option<u64>
+    ensures { MatchOption result ((n : ℕ) → IsNumber text.now n → ⊥) (IsNumber text.now) }
+{
+    // The parser of numbers would accept a sign.
+    if text.starts_with('+') {
+        return None;
+    }
+    text.parse::<u64>().ok()
+}
+
+fn bad_value(place: &'static str, wanted: &'static str) -> ToolFault
+    ensures { result ≡ ToolFault.Usage (Usage.BadValue place.entry wanted.entry) }
+{
+    ToolFault::Usage(Usage::BadValue { place, wanted })
+}
