@@ -5,6 +5,7 @@ ghost use Rattle.ndn_names.specs.Name.{octets_of};
 ghost use Rattle.ndn_names.specs.View.{components};
 ghost use Rattle.ndn_packets.specs.View.{plain_interest};
 ghost use Rattle.pit_fib.specs.Fib.{left_at};
+ghost use Rattle.mgmt_core.specs.Writing.{segment_at};
 ghost use Rattle.forwarder.specs.Datasets.{answered_with, dataset_text, is_present, list_answer, segment_data, segment_name};
 ghost use Rattle.forwarder.specs.Event.{Token};
 ghost use Rattle.forwarder.specs.Handling.{AwaitsPacket, HandlesPacket, interest_packet, token_of};
@@ -17,7 +18,7 @@ use crate::request::{ListAsked, ListKind};
 use crate::sends::Sends;
 use crate::state::State;
 use crate::verdict::{DropReason, Verdict};
-use mgmt_core::{Tables, fib_dataset, segment_of, strategy_dataset};
+use mgmt_core::{Tables, fib_segment, strategy_segment};
 use ndn_names::component_type::{GENERIC, SEGMENT, VERSION};
 use ndn_names::{Name, NameBuf};
 use ndn_packets::{DataWriter, Interest, Sign};
@@ -48,12 +49,11 @@ pub(crate) fn list_segment(
     if !is_present(asked.version, table_number) {
         return Ok(None);
     }
-    let text = list_text(alloc, tables, now, asked.kind)?;
-    let Some((content, last)) = segment_of(&text, asked.segment) else {
+    let Some((content, last)) = list_part(alloc, tables, now, asked)? else {
         return Ok(None);
     };
     let name = segment_name(alloc, asked.kind, table_number, asked.segment)?;
-    let octets = segment_data(alloc, name.view(), content, last)?;
+    let octets = segment_data(alloc, name.view(), &content, last)?;
     Ok(Some(octets))
 }
 
@@ -67,15 +67,23 @@ fn is_present(asked: Option<u64>, table_number: u64) -> bool
     }
 }
 
-/// The octets of a list at a moment.
-fn list_text(alloc: Global, tables: &Tables, now: u64, kind: ListKind) -> Result<Vec<u8>, Memory>
-    ensures { IfOk result (λ text. (p : Policy) → p.now ≡ now
+/// The octets of the segment of a list at a moment, and the number of the last one.
+fn list_part(
+    alloc: Global,
+    tables: &Tables,
+    now: u64,
+    asked: ListAsked,
+) -> Result<Option<(Vec<u8>, u64)>, Memory>
+    ensures part { IfOk result (λ part. (p : Policy) → p.now ≡ now
         → p.routes ≡ left_at now tables.now.fib.table
-        → p.choices ≡ tables.now.strategies.table → text.items ≡ dataset_text p kind) }
+        → p.choices ≡ tables.now.strategies.table
+        → option_map (λ s. (s.0.items, s.1)) part
+        ≡ segment_at (dataset_text p asked.kind) asked.segment) }
+    ensures short { IfOk result (λ part. IfSome part (λ s. length s.0.items ≤ 4096)) }
 {
-    match kind {
-        ListKind::RouteList => fib_dataset(alloc, &tables.fib, now),
-        ListKind::StrategyList => strategy_dataset(alloc, &tables.strategies),
+    match asked.kind {
+        ListKind::RouteList => fib_segment(alloc, &tables.fib, now, asked.segment),
+        ListKind::StrategyList => strategy_segment(alloc, &tables.strategies, asked.segment),
     }
 }
 

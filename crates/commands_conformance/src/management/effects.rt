@@ -84,13 +84,23 @@ impl Station {
         self.now = now;
     }
 
-    /// The list of strategies, or that of routes.
-    pub fn list(&self, alloc: Global, of_strategies: bool) -> Option<Vec<u8>> {
+    /// A segment of the list of strategies, or of that of routes, and the number of the last one.
+    fn segment(&self, alloc: Global, of_strategies: bool, number: u64) -> Option<(Vec<u8>, u64)> {
         if of_strategies {
-            strategy_dataset(alloc, &self.tables.strategies).ok()
+            strategy_segment(alloc, &self.tables.strategies, number).ok()?
         } else {
-            fib_dataset(alloc, &self.tables.fib, self.now).ok()
+            fib_segment(alloc, &self.tables.fib, self.now, number).ok()?
         }
+    }
+
+    /// The list of strategies, or that of routes: all segments.
+    pub fn list(&self, alloc: Global, of_strategies: bool) -> Option<Vec<u8>> {
+        let (mut text, last) = self.segment(alloc, of_strategies, 0)?;
+        for number in 0..last {
+            let (segment, _) = self.segment(alloc, of_strategies, number + 1)?;
+            text.extend_from_slice(&segment).ok()?;
+        }
+        Some(text)
     }
 
     fn put(&mut self, packet: &[u8]) -> Option<bool> {
@@ -345,19 +355,23 @@ fn is_full(station: &mut Station, too_deep: &NameBuf, more: &NameBuf, known: &Na
 /// Whether the list of 4,096 routes has 16 octets for each, the first and the last as expected, and
 /// 16 segments.
 fn lists_4096_routes(alloc: Global) -> Option<bool> {
-    let text = filled(alloc)?.list(alloc, false)?;
-    Some(are_4096_routes(&text))
+    let station = filled(alloc)?;
+    let text = station.list(alloc, false)?;
+    Some(are_4096_routes(&text) && has_16_segments(alloc, &station))
 }
 
 fn are_4096_routes(text: &[u8]) -> bool {
-    let Some((segment, 15)) = segment_of(text, 15) else {
-        return false;
-    };
     text.len() == 65_536
         && text.starts_with(b"\x80\x0e\x07\x04\x08\x02\x00\x00\x81\x06\x69\x01\x02\x6a\x01\x00")
-        && segment.len() == 4096
-        && segment.ends_with(b"\x80\x0e\x07\x04\x08\x02\x0f\xff\x81\x06\x69\x01\x02\x6a\x01\x00")
-        && segment_of(text, 16).is_none()
+        && text.ends_with(b"\x80\x0e\x07\x04\x08\x02\x0f\xff\x81\x06\x69\x01\x02\x6a\x01\x00")
+}
+
+/// Whether the list of routes has 16 segments of 4,096 octets.
+fn has_16_segments(alloc: Global, station: &Station) -> bool {
+    let Some((segment, 15)) = station.segment(alloc, false, 15) else {
+        return false;
+    };
+    segment.len() == 4096 && station.segment(alloc, false, 16).is_none()
 }
 
 /// Whether 4,095 names find a strategy beside `/`, and one more does not, but comes after an unknown
@@ -430,8 +444,9 @@ fn list_of_4096_routes(rt: HostRuntime) {
 /// Whether a list of one route, whose name's component makes it so long, has these segments: the
 /// length of the last one, and its number.
 fn is_cut(alloc: Global, len: usize, last_len: usize, last: u64) -> Option<bool> {
-    let text = list_of_route(alloc, &long_name(alloc, len)?)?;
-    let (segment, number) = segment_of(&text, last)?;
+    let station = station_of_route(alloc, &long_name(alloc, len)?)?;
+    let text = station.list(alloc, false)?;
+    let (segment, number) = station.segment(alloc, false, last)?;
     Some(text.len() == len && segment.len() == last_len && number == last)
 }
 
@@ -445,18 +460,17 @@ fn long_name(alloc: Global, len: usize) -> Option<NameBuf> {
     Some(name)
 }
 
-/// The list of one route of this name.
-fn list_of_route(alloc: Global, name: &NameBuf) -> Option<Vec<u8>> {
-    let mut station = Station::new(alloc)?;
-    list_after(alloc, &mut station, name, 2)
+/// Tables with one route of this name to face 2.
+fn station_of_route(alloc: Global, name: &NameBuf) -> Option<Station> {
+    with_hop(Station::new(alloc)?, name, 2)
 }
 
-/// The list of routes after a hop was added.
-fn list_after(alloc: Global, station: &mut Station, name: &NameBuf, face: u64) -> Option<Vec<u8>> {
-    if added(station, name, face) != 200 {
+/// The tables after a hop was added.
+fn with_hop(mut station: Station, name: &NameBuf, face: u64) -> Option<Station> {
+    if added(&mut station, name, face) != 200 {
         return None;
     }
-    station.list(alloc, false)
+    Some(station)
 }
 
 #[test]
@@ -503,23 +517,22 @@ fn segment_packet<'a>(
     Some(packet)
 }
 
-/// The Data of a list's first segment.
-fn first_segment(alloc: Global, text: &[u8]) -> Option<Vec<u8>> {
-    let (segment, last) = segment_of(text, 0)?;
+/// The Data of the list's first segment.
+fn first_segment(alloc: Global, station: &Station) -> Option<Vec<u8>> {
+    let (segment, last) = station.segment(alloc, false, 0)?;
     let name = NameBuf::from_uri(alloc, "/localhost/nfd/fib/list/v=2/seg=0").ok()?;
-    segment_packet(alloc, name.view(), segment, last)
+    segment_packet(alloc, name.view(), &segment, last)
 }
 
-/// The list of a route of `/A` to face 7.
-fn one_route_listed(alloc: Global) -> Option<Vec<u8>> {
+/// Tables with a route of `/A` to face 7.
+fn one_route_to_7(alloc: Global) -> Option<Station> {
     let name = NameBuf::from_uri(alloc, "/A").ok()?;
-    let mut station = Station::of_faces(alloc, 7, 9)?;
-    list_after(alloc, &mut station, &name, 7)
+    with_hop(Station::of_faces(alloc, 7, 9)?, &name, 7)
 }
 
 /// Whether the segment is written as it stands there.
 fn writes_the_segment(alloc: Global) -> Option<bool> {
-    let packet = first_segment(alloc, &one_route_listed(alloc)?)?;
+    let packet = first_segment(alloc, &one_route_to_7(alloc)?)?;
     Some(packet.as_slice() == octets(alloc, LIST_OF_ONE_ROUTE)?.as_slice())
 }
 

@@ -2,8 +2,8 @@ use Rattle.std.proofs.Common.{List, ℕ, ◌++◌, sym, ap, ◌∙◌, append_as
 use Rattle.std.specs.Prelude.{flat_map}
 use Rattle.mgmt_core.specs.Writing.{hop_text}
 use Rattle.mgmt_core.proofs.Texts.{texts_and_one, never_absent}
-use Rattle.mgmt_core.proofs.dataset.put_hops.Goals as goal
-use Rattle.mgmt_core.proofs.dataset.put_hops.Goals.{in-Some+in_ok-put_hop, in_default}
+use Rattle.mgmt_core.proofs.window.put_hops.Goals as goal
+use Rattle.mgmt_core.proofs.window.put_hops.Goals.{in-Some+in_ok-put_hop, in_default}
 
 pub loop-at-preserved : goal.loop-at-preserved
 loop-at-preserved c =
