@@ -2,7 +2,7 @@
 
 mod effects;
 mod registered_routes;
-mod unknown_commands;
+mod segments_and_unknown_commands;
 
 use crate::rows::check_rows;
 use effects::Station;

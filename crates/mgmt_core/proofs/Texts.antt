@@ -1,8 +1,9 @@
 -- Lengths of elements, and lists of texts.
-use Rattle.std.proofs.Common.{◌≡◌, ℕ, suc, zero, ◌+◌, ◌<◌, List, [], ◌∷◌, ◌++◌, length, take, refl, sym, ap, ◌∙◌, append_assoc, append-nil, add-one, arith, inl, inr}
-use Rattle.std.specs.Prelude.{flat_map, slice_get, unwrap_or, Some, None, min}
+use Rattle.std.proofs.Common.{◌≡◌, ℕ, suc, zero, ◌+◌, ◌<◌, ◌≤◌, List, [], ◌∷◌, ◌++◌, length, take, drop, refl, sym, ap, ◌∙◌, append_assoc, append-nil, add-one, arith, inl, inr}
+use Rattle.std.specs.Prelude.{flat_map, slice_get, unwrap_or, Some, None, ◌-◌, ◌*◌, ◌/◌, min}
 use Rattle.std.proofs.lemmas.List.{take_all}
 use Rattle.std.proofs.lemmas.Bool.{cases_lt}
+use Rattle.mgmt_core.specs.Writing.{segment_at}
 
 -- there is an item at each place of a list
 pub never_absent : {X : Type 0} (xs : List X) (at : ℕ) → at < length xs → slice_get xs at ≡ None → Unit {0} → at < at
@@ -16,6 +17,12 @@ take_min n xs =
       | inl lt ↦ let e : min (length xs) n ≡ n = omega arith in rw e refl
       | inr le ↦ let e : min (length xs) n ≡ length xs = omega arith in rw e (take_all (length xs) xs (omega arith) ∙ sym (take_all n xs le))
     ]
+
+pub segment_is : (text : List ℕ) (k last : ℕ) (rest : List ℕ) → last ≡ (length text - 1) / 4096 → k ≤ last → rest ≡ drop (k * 4096) text
+    → Some (take (min (length rest) 4096) rest, last) ≡ segment_at text k
+segment_is text k last rest at_last le is =
+    ap (λ (t : List ℕ). Some (t, last)) (take_min 4096 rest ∙ ap (take 4096) is)
+    ∙ grind (arith, at_last, le)
 
 -- one more of a list's texts
 pub texts_and_one : {X : Type 0} (text_of : X → List ℕ) (xs : List X) (at : ℕ) (x : X) → slice_get xs at ≡ Some x

@@ -72,3 +72,12 @@ module _ {X : Type 0} (entry : List ℕ → X → List ℕ) (from : ℕ) where
   -- of the entries' text the segment is kept
   pub all_written : (es : List (List Field × X)) → shown_each (λ k name x. with_more k (entry name x)) (kept_of from []) es ≡ kept_of from (flat_map (λ e. entry (octets_of e.0) e.1) es)
   all_written es = written [] es
+
+-- the entries' text is written
+pub text_written : {X : Type 0} (entry : List ℕ → X → List ℕ) (text : List ℕ) (es : List (List Field × X))
+    → shown_each (λ t name x. t ++ entry name x) text es ≡ text ++ flat_map (λ e. entry (octets_of e.0) e.1) es
+text_written entry text [] = sym (append-nil text)
+text_written {X} entry text (e ∷ es) =
+    let one = entry (octets_of e.0) e.1 in
+    text_written entry (text ++ one) es
+    ∙ append_assoc text one (flat_map (λ (e : List Field × X). entry (octets_of e.0) e.1) es)

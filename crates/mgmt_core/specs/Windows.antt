@@ -54,3 +54,10 @@ with_route k name hops = with_more k (route_octets name hops)
 
 abbrev pub with_choice : Kept → List ℕ → StrategyId → Kept
 with_choice k name strategy = with_more k (choice_octets name strategy)
+
+-- a text with an entry more
+abbrev pub text_with_route : List ℕ → List ℕ → List Hop → List ℕ
+text_with_route text name hops = text ++ route_octets name hops
+
+abbrev pub text_with_choice : List ℕ → List ℕ → StrategyId → List ℕ
+text_with_choice text name strategy = text ++ choice_octets name strategy

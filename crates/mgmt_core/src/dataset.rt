@@ -2,7 +2,7 @@ ghost use Rattle.std.specs.Prelude.{◌≡◌, IfOk};
 ghost use Rattle.std.specs.Option.{option_map};
 ghost use Rattle.mgmt_core.specs.Writing.{fib_text, segment_at, strategy_text};
 
-use crate::window::ListWriter;
+use crate::window::{ListText, ListWriter};
 use ndn_tlv::Memory;
 use pit_fib::{Fib, StrategyTable};
 use std::alloc::Global;
@@ -15,13 +15,40 @@ pub fn segment_limit_is_as_promised()
     ensures { SEGMENT_LEN ≡ 4096 }
 {}
 
-/// A segment of the list of routes (NFD Management, "FIB Dataset"), counted from 0, and the number of
-/// the last one. The list has the routes as they are once those that end by this moment are gone: by
-/// name in canonical order, the effective next hops of a name by cost and then by face. Each segment
-/// but the last has 4,096 octets; a list without octets is one segment without octets.
-///
-/// The list is read from its first name to its last one, and no more of it than the segment and one
-/// entry is kept.
+/// The list of routes (NFD Management, "FIB Dataset"), as they are once those that end by this
+/// moment are gone: by name in canonical order, the effective next hops of a name by cost and then
+/// by face.
+pub fn fib_dataset(alloc: Global, fib: &Fib, now: u64) -> Result<Vec<u8>, Memory>
+    ensures { IfOk result (λ text. text.items ≡ fib_text now fib.now.table) }
+{
+    let list = fib.show_all(now, ListText::new(alloc))?;
+    Ok(list.into_octets())
+}
+
+/// The list of strategies (NFD Management, "Strategy Choice Dataset"): by name in canonical order.
+pub fn strategy_dataset(alloc: Global, strategies: &StrategyTable) -> Result<Vec<u8>, Memory>
+    ensures { IfOk result (λ text. text.items ≡ strategy_text strategies.now.table) }
+{
+    let mut list = ListText::new(alloc);
+    strategies.show_all(&mut list)?;
+    Ok(list.into_octets())
+}
+
+/// A segment of a list, counted from 0, and the number of the last one. Each segment but the last
+/// has 4,096 octets; a list without octets is one segment without octets.
+pub fn segment_of(text: &[u8], number: u64) -> Option<(&[u8], u64)>
+    ensures { option_map (λ s. (s.0.now, s.1)) result ≡ segment_at text.now number }
+{
+    let last = (text.len().saturating_sub(1) / SEGMENT_LEN) as u64;
+    if number > last {
+        return None;
+    }
+    let (_, rest) = text.split_at(number as usize * SEGMENT_LEN);
+    Some((&rest[..rest.len().min(SEGMENT_LEN)], last))
+}
+
+/// `segment_of` of the list of routes, which is read from its first name to its last one and not made:
+/// no more of it than the segment, an entry and a name is kept.
 pub fn fib_segment(
     alloc: Global,
     fib: &Fib,
@@ -35,8 +62,7 @@ pub fn fib_segment(
     Ok(written.segment(number))
 }
 
-/// As `fib_segment`, of the list of strategies (NFD Management, "Strategy Choice Dataset"): by name in
-/// canonical order.
+/// As `fib_segment`, of the list of strategies.
 pub fn strategy_segment(
     alloc: Global,
     strategies: &StrategyTable,

@@ -19,7 +19,10 @@ mod window;
 pub use action::Action;
 pub use applied::{Applied, Octets};
 pub use command::Command;
-pub use dataset::{SEGMENT_LEN, fib_segment, segment_limit_is_as_promised, strategy_segment};
+pub use dataset::{
+    SEGMENT_LEN, fib_dataset, fib_segment, segment_limit_is_as_promised, segment_of,
+    strategy_dataset, strategy_segment,
+};
 pub use effect::apply;
 pub use law::{
     closings_leave_faces_up, commands_leave_faces_up, expiry_leaves_faces_up,

@@ -124,6 +124,61 @@ impl ListWriter {
     }
 }
 
+/// A list that is written, of which all is kept.
+#[derive(Drop)]
+pub struct ListText {
+    text: Vec<u8>,
+    // Memory for what stands in an entry.
+    fields: Vec<u8>,
+}
+
+impl Model for ListText {
+    ghost use Rattle.std.specs.Prelude.{List, ℕ};
+
+    ghost Value = { List ℕ };
+
+    ghost view = { λ w. w.text.items };
+}
+
+impl ListText {
+    /// A list of which nothing is written yet.
+    pub fn new(alloc: Global) -> ListText
+        ensures { result ≡ [] }
+    {
+        ListText {
+            text: Vec::new(alloc),
+            fields: Vec::new(alloc),
+        }
+    }
+
+    /// Its octets.
+    pub fn into_octets(self) -> Vec<u8>
+        ensures { result.items ≡ self }
+    {
+        self.text
+    }
+}
+
+impl Show<Hops> for ListText {
+    ghost use Rattle.mgmt_core.specs.Windows.{text_with_route};
+
+    ghost shown = { text_with_route };
+
+    fn show(&mut self, name: &[u8], hops: &Hops) -> Result<(), Memory> {
+        put_route(&mut self.fields, &mut self.text, name, hops)
+    }
+}
+
+impl Show<StrategyId> for ListText {
+    ghost use Rattle.mgmt_core.specs.Windows.{text_with_choice};
+
+    ghost shown = { text_with_choice };
+
+    fn show(&mut self, name: &[u8], strategy: &StrategyId) -> Result<(), Memory> {
+        put_choice(&mut self.fields, &mut self.text, name, *strategy)
+    }
+}
+
 impl Show<Hops> for ListWriter {
     ghost use Rattle.mgmt_core.specs.Windows.{with_route};
 

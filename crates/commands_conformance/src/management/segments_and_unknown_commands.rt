@@ -1,7 +1,9 @@
-//! Names that are no command.
+//! Names that are no command, and segments of lists.
 
 use super::command_shown;
 use crate::rows::check_rows;
+use mgmt_core::segment_of;
+use std::alloc::Global;
 
 /// Less than a module and a verb, with the digest and without.
 #[test]
@@ -51,4 +53,29 @@ fn names_of_another_shape(rt: HostRuntime) {
 /localhost/nfd/rib/unregister digest -> 400
 ";
     check_rows(&rt, rt.alloc(), rows, command_shown);
+}
+
+/// Whether a segment of so many octets has this length and this number of the last one.
+fn segment_is(alloc: Global, len: usize, number: u64, expected: Option<(usize, u64)>) -> bool {
+    let mut text: Vec<u8> = Vec::new(alloc);
+    if text.resize(len, 7).is_err() {
+        return false;
+    }
+    match segment_of(&text, number) {
+        None => expected.is_none(),
+        Some((segment, last)) => expected == Some((segment.len(), last)),
+    }
+}
+
+/// A list is cut every 4,096 octets.
+#[test]
+fn segments_of_4096_octets(rt: HostRuntime) {
+    assert!(rt; segment_is(rt.alloc(), 4097, 0, Some((4096, 1))));
+    assert!(rt; segment_is(rt.alloc(), 4097, 1, Some((1, 1))));
+    assert!(rt; segment_is(rt.alloc(), 4097, 2, None));
+    assert!(rt; segment_is(rt.alloc(), 4096, 0, Some((4096, 0))));
+    assert!(rt; segment_is(rt.alloc(), 4096, 1, None));
+    assert!(rt; segment_is(rt.alloc(), 0, 0, Some((0, 0))));
+    assert!(rt; segment_is(rt.alloc(), 0, 1, None));
+    assert!(rt; segment_is(rt.alloc(), 4097, u64::MAX, None));
 }
