@@ -10,7 +10,6 @@
 use limited_reads::read_line_within;
 use ndn_packets::{Frame, MAX_FRAME, read_frame};
 use std::alloc::Global;
-use std::fmt;
 use std::io;
 use std::io::{BufReader, Input};
 
