@@ -11,4 +11,5 @@ pub mod FileWords
 pub mod Appending
 pub mod Digits
 pub mod Meeting
+pub mod Heard
 pub mod Silent

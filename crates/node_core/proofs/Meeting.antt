@@ -11,14 +11,6 @@ use Rattle.node_core.specs.Udp.{Datagram}
 use Rattle.node_core.specs.Clients.{ClientsState, IsSilentLongest}
 use Rattle.node_core.specs.KnownPorts.{Closes}
 
--- the client that is taken out at its place
-pub Closes-removed : (before : KnownPorts) (clients : ClientsState) (place : ℕ) (client removed : Client) → IsSilentLongest before.clients.rows place client
-    → slice_get before.clients.rows place ≡ Some removed → clients ≡ record before.clients { rows = remove before.clients.rows place } → Closes before (record before { clients = clients }) client removed.face
-Closes-removed before clients place client removed longest is rest =
-    let both : Some removed ≡ Some client = sym is ∙ longest.is in
-    let same : removed ≡ client = cc both in
-    (place, longest, ap (λ (c : Client). c.face) same, ap (λ (c : ClientsState). record before { clients = c }) rest)
-
 -- octets that were cut once
 pub cut_once : (len : ℕ) (octets : List ℕ) → len ≤ FRAME_ROOM → take FRAME_ROOM (take len octets) ≡ take len octets
 cut_once len octets h = take_all FRAME_ROOM (take len octets) (omega (arith, length-take len octets, h))

@@ -48,6 +48,15 @@ MayHear before after port now =
     ((face : ℕ) × Hears before after port now face)
     ⊎ (IsNoClient before port × (after ≡ before))
 
+-- the client of this port is heard now, if there is one and it is not idle
+abbrev pub HearsInTime : Option ℕ → List Client → List Client → ℕ → ℕ → Type 0
+HearsInTime idle before after port now =
+    ((face : ℕ) × (heard : Hears before after port now face) × (IsIdle idle now heard.client → ⊥))
+    ⊎ ((IsNoClient before port ⊎ ((place : ℕ) × (client : Client)
+    × (position (λ known. known.port == port) before ≡ Some place)
+    × (slice_get before place ≡ Some client) × IsIdle idle now client))
+    × (after ≡ before))
+
 -- no client is idle before this moment
 abbrev pub AreHeardUntil : ℕ → Option ℕ → List Client → Type 0
 AreHeardUntil moment None clients = ⊤

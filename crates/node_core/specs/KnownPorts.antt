@@ -7,7 +7,7 @@ use Rattle.node_core.specs.declared.ports.clients.Client.{Client}
 use Rattle.node_core.specs.declared.ports.known_ports.KnownPorts.{KnownPorts}
 use Rattle.node_core.specs.declared.ports.known_ports.Met.{Met}
 use Rattle.node_core.specs.declared.ports.known_ports.Met.TheVariants.{Face, Opening, Closing}
-use Rattle.node_core.specs.Clients.{GivesWay, Hears, IsIdle, IsNoClient, IsSilentLongest}
+use Rattle.node_core.specs.Clients.{GivesWay, Hears, HearsInTime, IsIdle, IsNoClient, IsSilentLongest}
 use Rattle.node_core.specs.Ports.{one_more}
 
 -- how many ports have faces
@@ -59,11 +59,11 @@ OpensNone before after face =
     (face ≡ unwrap_or before.refused before.next)
     × (after ≡ record before { next = one_more face; refused = Some face })
 
--- the face closes of the client that was silent longest
-abbrev pub Closes : KnownPorts → KnownPorts → Client → ℕ → Type 0
-Closes before after client face =
+-- the face closes of the client that was silent longest; these clients are known, and it no more
+abbrev pub Closes : KnownPorts → List Client → KnownPorts → Client → ℕ → Type 0
+Closes before rows after client face =
     (place : ℕ) × IsSilentLongest before.clients.rows place client × (face ≡ client.face)
-    × (after ≡ with_clients before (remove before.clients.rows place))
+    × (after ≡ with_clients before (remove rows place))
 
 -- no client is idle
 abbrev pub NoneIsIdle : KnownPorts → ℕ → Type 0
@@ -75,8 +75,9 @@ NoneGivesWay before now =
     All (λ client. GivesWay before.clients.idle now client → ⊥) before.clients.rows
 
 -- What a datagram of a port meets. Where a client is idle, the face closes of the one that was
--- silent longest, whatever the port. Else the port has a face; or one opens, while fewer than 64
--- ports are known; or, while 64 are, a face closes that gives way, and none opens if none does.
+-- silent longest, whatever the port; and the port is heard, if it is a client that is not idle. Else
+-- the port has a face; or one opens, while fewer than 64 ports are known; or, while 64 are, a face
+-- closes that gives way, and none opens if none does.
 abbrev pub Meets : KnownPorts → KnownPorts → ℕ → ℕ → Met → Type 0
 Meets before after port now (Face face) = NoneIsIdle before now × Knows before after port now face
 Meets before after port now (Opening face) =
@@ -84,7 +85,9 @@ Meets before after port now (Opening face) =
     × (((known_count before < MAX_FACES) × OpensNew before after port now face)
     ⊎ ((MAX_FACES ≤ known_count before) × NoneGivesWay before now × OpensNone before after face))
 Meets before after port now (Closing face) =
-    ((client : Client) × Closes before after client face × IsIdle before.clients.idle now client)
+    ((client : Client) × (rows : List Client) × IsIdle before.clients.idle now client
+    × HearsInTime before.clients.idle before.clients.rows rows port now
+    × Closes before rows after client face)
     ⊎ (NoneIsIdle before now × IsNewcomer before port × (MAX_FACES ≤ known_count before)
-    × ((client : Client) × Closes before after client face
-    × GivesWay before.clients.idle now client))
+    × ((client : Client) × GivesWay before.clients.idle now client
+    × Closes before before.clients.rows after client face))

@@ -1,6 +1,6 @@
 //! The ports that opened their faces themselves.
-ghost use Rattle.std.specs.Prelude.{◌≡◌, ◌∷◌, ◌++◌, [], ◌+◌, ◌<◌, ◌≤◌, ◌==◌, ◌↔◌, All, length, List, slice_get, slice_set, remove, position, find, option_map, IfSome, IsTrue, Some, None};
-ghost use Rattle.node_core.specs.Clients.{GivesWay, Hears, IsIdle, IsNoClient, IsSilent, IsSilentLongest};
+ghost use Rattle.std.specs.Prelude.{◌≡◌, ◌∷◌, ◌++◌, [], ◌+◌, ◌<◌, ◌≤◌, ◌==◌, ◌↔◌, All, length, List, slice_get, slice_set, remove, position, find, option_map, IfSome, IsTrue, Some, None, true, false};
+ghost use Rattle.node_core.specs.Clients.{GivesWay, Hears, HearsInTime, IsIdle, IsNoClient, IsSilent, IsSilentLongest};
 ghost use Rattle.node_core.specs.declared.ports.clients.Client.{Client};
 
 use arrayvec::ArrayVec;
@@ -94,12 +94,11 @@ impl Clients {
     }
 
     /// Takes out the port at a place, counted from 0.
-    pub fn remove(&mut self, place: usize) -> Client
+    pub fn remove(&mut self, place: usize)
         requires { place < length self.old.rows }
-        ensures is { slice_get self.old.rows place ≡ Some result }
-        ensures rest { self.new ≡ record self.old { rows = remove self.old.rows place } }
+        ensures { self.new ≡ record self.old { rows = remove self.old.rows place } }
     {
-        self.rows.remove(place)
+        let _client = self.rows.remove(place);
     }
 
     /// Something comes from a port at this moment. Its face is given, if it has one.
@@ -111,6 +110,44 @@ impl Clients {
     {
         let place = self.place_of(port)?;
         Some(self.hear_at(place, now))
+    }
+
+    /// Something comes from a port at this moment: it is heard, if it has a face and was not silent
+    /// for the time after which that closes.
+    pub fn hear_in_time(&mut self, port: u16, now: u64)
+        ensures heard { (rows : List Client)
+            × HearsInTime self.old.idle self.old.rows rows port now
+            × (self.new ≡ record self.old { rows = rows }) }
+        ensures len { length self.new.rows ≡ length self.old.rows }
+    {
+        if let Some(place) = self.place_of(port) {
+            if !self.is_idle_at(place, now) {
+                let _face = self.hear_at(place, now);
+            }
+        }
+    }
+
+    /// Whether the port at a place was silent for the time after which its face closes.
+    fn is_idle_at(&self, place: usize, now: u64) -> bool
+        requires { place < length self.now.rows }
+        ensures yes { result ≡ true → (client : Client)
+            → slice_get self.now.rows place ≡ Some client → IsIdle self.now.idle now client }
+        ensures no { result ≡ false → (client : Client)
+            → slice_get self.now.rows place ≡ Some client → IsIdle self.now.idle now client → ⊥ }
+    {
+        match self.idle {
+            Some(idle) => is_silent(self.rows.as_slice()[place].heard, idle, now),
+            None => false,
+        }
+    }
+
+    /// The face at a place, counted from 0.
+    pub fn face_at(&self, place: usize) -> u64
+        requires { place < length self.now.rows }
+        ensures { (client : Client) → slice_get self.now.rows place ≡ Some client
+            → result ≡ client.face }
+    {
+        self.rows.as_slice()[place].face
     }
 
     /// The first place of a port, counted from 0.

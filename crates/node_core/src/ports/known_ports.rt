@@ -74,7 +74,11 @@ impl KnownPorts {
         ensures { Meets self.old self.new port now result }
     {
         if let Some(place) = self.clients.idle_place(now) {
-            return Met::Closing(self.clients.remove(place).face);
+            let face = self.clients.face_at(place);
+            // What is handled after the closing has come in time.
+            self.clients.hear_in_time(port, now);
+            self.clients.remove(place);
+            return Met::Closing(face);
         }
         if let Some(face) = self.hear(port, now) {
             return Met::Face(face);
@@ -83,7 +87,11 @@ impl KnownPorts {
             return Met::Opening(self.open(port, now));
         }
         match self.clients.yielding_place(now) {
-            Some(place) => Met::Closing(self.clients.remove(place).face),
+            Some(place) => {
+                let face = self.clients.face_at(place);
+                self.clients.remove(place);
+                Met::Closing(face)
+            }
             None => Met::Opening(self.refuse()),
         }
     }
