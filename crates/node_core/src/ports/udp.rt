@@ -117,9 +117,8 @@ impl<M: Moments> UdpPorts<M> {
     /// time: for `idle` milliseconds, or, where 64 ports are known and another one speaks, for
     /// 10,000, and then the face that was silent longest.
     ///
-    /// A face closes when a datagram is there, of whatever port and before it is handled, one in
-    /// each turn. So nothing is sent, and no other face opens or closes, between the moment from
-    /// which a face is silent for too long and its end.
+    /// A face closes when a datagram is there, of whatever port, before that is handled, one in
+    /// each turn. A datagram whose own face was opened in the turn before comes first.
     pub fn close_after(&mut self, idle: u64)
         ensures { self.new ≡ closes_after idle self.old }
     {
