@@ -1,6 +1,6 @@
 -- Ports that are read one after the other.
 use Rattle.std.proofs.Common.{◌≡◌, ◌≢◌, ℕ, ◌+◌, ◌<◌, ◌≤◌, List, [], ◌∷◌, ◌++◌, map, take, length, nat_eq, true, false, refl, sym, ap, subst, ◌∙◌, add-one, arith}
-use Rattle.std.specs.Prelude.{All, AllPairs, slice_index_or}
+use Rattle.std.specs.Prelude.{All, AllPairs, Option, None, Some, slice_index_or}
 use Rattle.std.specs.Str.Parse.{digits_value}
 use Rattle.std.proofs.Math.Seq.{take-suc}
 use Rattle.std.proofs.lemmas.Bool.{eqb-true, eqb-false}
@@ -8,7 +8,7 @@ use Rattle.std.proofs.lemmas.List.Elements.{All-push}
 use Rattle.std.proofs.lemmas.List.Quantifiers.{all_pairs_push}
 use Rattle.std.proofs.lemmas.List.{get_or-take, get_or-map, map-append, length-map, length-take-le}
 use Rattle.pit_fib.specs.declared.faces.TheConstants.{MAX_FACES}
-use Rattle.ndn_daemon.specs.UdpOptions.{IsPort, IsLocal, ArePorts}
+use Rattle.ndn_daemon.specs.UdpOptions.{Has, IsPort, IsLocal, ArePorts}
 
 abbrev pub IsPortText : List ℕ → Type 0
 IsPortText text = IsPort text (digits_value 10 text)
@@ -82,3 +82,17 @@ pub few_ports : (texts : List (List ℕ)) (ports : List ℕ) → ArePorts texts 
 few_ports texts ports are =
     let same : length texts ≡ length ports = sym (length-map texts (digits_value 10)) ∙ ap length are.spelled in
     subst (λ (n : ℕ). n ≤ MAX_FACES) same are.few
+
+-- a text spells one port
+pub same_port : (text : Option (List ℕ)) (a b : ℕ) → Has text IsPort a → Has text IsPort b → a ≡ b
+same_port None a b first second = absurd first
+same_port (Some text) a b first second = sym first.1 ∙ second.1
+
+-- a peer's port is the node's own
+pub own_port : (texts : List (List ℕ)) (listen : Option (List ℕ)) (a b : List ℕ) (n m : ℕ) → ArePorts texts a → ArePorts texts b → Has listen IsPort n → Has listen IsPort m
+    → (k : ℕ) × (k < length b) × ((d : ℕ) → nat_eq (slice_index_or b k d) m ≡ true) → All (λ port. port ≢ n) a → ⊥
+own_port texts listen a b n m first second heard spelled found others =
+    let same : b ≡ a = sym second.spelled ∙ first.spelled in
+    let few : found.0 < length a = subst (λ (ports : List ℕ). found.0 < length ports) same found.1 in
+    let is : slice_index_or a found.0 0 ≡ m = ap (λ (ports : List ℕ). slice_index_or ports found.0 0) (sym same) ∙ eqb-true _ _ (found.2 0) in
+    others found.0 0 few (is ∙ same_port listen m n spelled heard)

@@ -35,6 +35,10 @@ IsNumber text n = IsNumeral 10 text × (digits_value 10 text ≡ n) × (n < 2 ^ 
 abbrev pub IsPort : List ℕ → ℕ → Type 0
 IsPort text n = IsNumeral 10 text × (digits_value 10 text ≡ n) × (0 < n) × (n < 2 ^ 16)
 
+-- the same, of seconds from 1 to 2^32 - 1
+abbrev pub IsSeconds : List ℕ → ℕ → Type 0
+IsSeconds text n = IsNumeral 10 text × (digits_value 10 text ≡ n) × (0 < n) × (n < 2 ^ 32)
+
 -- the value is there, and spells this
 abbrev pub Has : {A : Type 0} → Option (List ℕ) → (List ℕ → A → Type 0) → A → Type 0
 Has None Spells x = ⊥
@@ -56,8 +60,10 @@ pub record IsUdpOptions (rows : List Row) (options : UdpOptions) : Type 0 where
   pub listen : Has (value_at rows (codes "listen")) IsPort options.listen
   pub turns : Has (value_at rows (codes "turns")) IsNumber options.turns
   pub peers : ArePorts (values_at rows (codes "PEERS")) options.peers.items
+  pub others : All (λ port. port ≢ options.listen) options.peers.items
   pub local : IsLocal (given_or (codes "0") (value_at rows (codes "local")))
       (length options.peers.items) options.local
+  pub idle : IsSeconds (given_or (codes "600") (value_at rows (codes "idle"))) options.idle
   pub quiet : IsFlag (flag_at rows (codes "quiet")) options.quiet
 
 -- the fault of a text

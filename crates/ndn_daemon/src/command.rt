@@ -79,7 +79,11 @@ are given, each once.
 
 In each turn the node opens the face of the next peer, or takes one datagram, for which it waits. A
 datagram from another port opens the next face, which is Far, and is handled in the turn after that.
-While 64 ports are known, no more faces open. No face is closed.
+
+A face that a datagram opened, and that nothing came from for the time of --idle, closes in a turn of
+its own, before the next datagram is handled. While 64 ports are known and another one speaks, of
+these faces the one closes that was silent longest, if it was for 10 seconds; else no face opens for
+that port, and its packet is dropped. The face of a peer never closes, and no number is used again.
 
 A key file has on each line the URI of a key's name, one space, and the key in hexadecimal; a second
 space would belong to the name.
@@ -201,6 +205,12 @@ fn udp_command<'a>(alloc: Global) -> Result<Command<'a>, AllocError> {
             "local",
             "K",
             "How many of the first peers are Local; 0 if absent",
+        ))?
+        .arg(option(
+            alloc,
+            "idle",
+            "SECONDS",
+            "After how long a silence a face closes that is no peer's; 600 if absent",
         ))?
         .arg(flag(
             alloc,

@@ -81,9 +81,10 @@ pub fn run_on_port<R: AllocGlobal + Net + Print, M: Moments, S: RuleSource>(
     };
     let port = options.listen;
     let bound = UdpPorts::bind(rt, port, options.peers.as_slice(), options.local, moments);
-    let Ok(ports) = bound else {
+    let Ok(mut ports) = bound else {
         return Err(Fault::Unbound { port });
     };
+    ports.close_after(options.idle as u64 * 1000);
     let mut ports = WatchedPorts::new(ports, source, 0);
     take_as_asked(
         rt.alloc(),

@@ -1,7 +1,7 @@
 //! The options of a node that listens on a port.
 ghost use Rattle.std.specs.Prelude.{◌≡◌, codes, map, option_map};
 ghost use Rattle.ndn_daemon.specs.Options.{Reads, ReadsInMemory, rows_in, value_at};
-ghost use Rattle.ndn_daemon.specs.UdpOptions.{ArePorts, Has, IsBadValue, IsFlag, IsLocal, IsNumber, IsPort, IsUdpOptions, flag_at, values_at};
+ghost use Rattle.ndn_daemon.specs.UdpOptions.{ArePorts, Has, IsBadValue, IsFlag, IsLocal, IsNumber, IsPort, IsSeconds, IsUdpOptions, flag_at, values_at};
 
 use crate::fault::Fault;
 use crate::options::{given_or, value};
@@ -16,10 +16,12 @@ pub struct UdpOptions {
     pub listen: u16,
     /// How many turns it takes.
     pub turns: u64,
-    /// The ports of the peers, all different, at most 64.
+    /// The ports of the peers, all different and not that of the node, at most 64.
     pub peers: Vec<u16>,
     /// How many of the first peers are Local, at most their number.
     pub local: u64,
+    /// After how many seconds of silence a face closes that is not a peer's, at least 1.
+    pub idle: u32,
     /// Whether no answers are printed.
     pub quiet: bool,
 }
@@ -32,12 +34,20 @@ impl UdpOptions {
         let listen = required_port(found)?;
         let turns = required_number(found)?;
         let peers = given_peers(alloc, found)?;
+        if peers.as_slice().contains(&listen) {
+            return Err(Fault::BadValue {
+                place: "PEERS",
+                wanted: "other ports than that of --listen",
+            });
+        }
         let local = local_of(given_or("0", value(found, "local")), peers.len())?;
+        let idle = seconds_of(given_or("600", value(found, "idle")))?;
         Ok(UdpOptions {
             listen,
             turns,
             peers,
             local,
+            idle,
             quiet: flag(found, "quiet"),
         })
     }
@@ -116,6 +126,23 @@ fn local_of(digits: &str, peers: usize) -> Result<u64, Fault>
     Err(Fault::BadValue {
         place: "--local",
         wanted: "a number that is at most that of the peers",
+    })
+}
+
+/// The number of seconds from 1 to 2^32 - 1 that this text spells in decimal digits, with leading
+/// zeros allowed.
+fn seconds_of(digits: &str) -> Result<u32, Fault>
+    ensures { Reads (IsSeconds digits.now) result }
+{
+    if !digits.starts_with('+')
+        && let Ok(seconds) = digits.parse::<u32>()
+        && seconds > 0
+    {
+        return Ok(seconds);
+    }
+    Err(Fault::BadValue {
+        place: "--idle",
+        wanted: "a decimal number of seconds from 1 to 4294967295",
     })
 }
 

@@ -68,6 +68,7 @@ const UDP_HELP: &str = "
 ndn_node --help => udp     Runs the node on a UDP port
 ndn_node udp --help => Usage: ndn_node udp [OPTIONS] --listen <PORT> --turns <N> [PEERS]...
 ndn_node udp --help => --local <K>
+ndn_node udp --help => --idle <SECONDS>
 ndn_node udp --help => --quiet
 ndn_node udp --help => --cache <N>
 ";
@@ -90,6 +91,10 @@ ndn_node udp --listen 1 --turns 1 7 0 => error: invalid value for PEERS: give a 
 ndn_node udp --listen 1 --turns 1 7 65536 => error: invalid value for PEERS: give a decimal port from 1 to 65535
 ndn_node udp --listen 1 --turns 1 7 x => error: invalid value for PEERS: give a decimal port from 1 to 65535
 ndn_node udp --listen 1 --turns 1 7 8 07 => error: invalid value for PEERS: give each port once
+ndn_node udp --listen 7 --turns 1 8 07 => error: invalid value for PEERS: give other ports than that of --listen
+ndn_node udp --listen 1 --turns 1 --idle 0 => error: invalid value for --idle: give a decimal number of seconds from 1 to 4294967295
+ndn_node udp --listen 1 --turns 1 --idle +1 => error: invalid value for --idle: give a decimal number of seconds from 1 to 4294967295
+ndn_node udp --listen 1 --turns 1 --idle 4294967296 => error: invalid value for --idle: give a decimal number of seconds from 1 to 4294967295
 ndn_node udp --listen 1 --turns 1 --cache x => error: invalid value for --cache: give a decimal number below 2^32
 ndn_node udp --listen 1 --turns 1 -- 7 => error: unexpected argument '--' found
 ndn_node script 7 => error: unexpected argument '7' found
@@ -97,7 +102,7 @@ ndn_node script 7 => error: unexpected argument '7' found
 
 /// A command of so many peers, ports from 1 on.
 fn command_of_peers(alloc: Global, peers: u16) -> Option<String> {
-    let mut command = String::from_str(alloc, "ndn_node udp --listen 1 --turns 1").ok()?;
+    let mut command = String::from_str(alloc, "ndn_node udp --listen 6363 --turns 1").ok()?;
     for port in 0..peers {
         write!(command, " {}", port.saturating_add(1)).ok()?;
     }
@@ -139,9 +144,10 @@ fn udp_options_of(alloc: Global, command: &str) -> Option<String> {
         listen,
         turns,
         local,
+        idle,
         ..
     } = &udp;
-    let mut text = format!(in alloc; "{cache} {listen} {turns} {local}").ok()?;
+    let mut text = format!(in alloc; "{cache} {listen} {turns} {local} {idle}").ok()?;
     for port in udp.peers.as_slice() {
         write!(text, " {port}").ok()?;
     }
@@ -157,12 +163,12 @@ fn is_quiet(alloc: Global, command: &str) -> bool {
 fn udp_options(rt: HostRuntime) {
     let alloc = rt.alloc();
     let absent = udp_options_of(alloc, "ndn_node udp --listen 6363 --turns 0");
-    assert!(rt; absent.as_deref() == Some("1024 6363 0 0"));
+    assert!(rt; absent.as_deref() == Some("1024 6363 0 0 600"));
     let given = udp_options_of(
         alloc,
-        "ndn_node udp 7 --cache 5 --turns 18446744073709551615 8 --listen 065535 --local 2 9",
+        "ndn_node udp 7 --cache 5 --turns 18446744073709551615 8 --listen 065535 --local 2 --idle 09 9",
     );
-    assert!(rt; given.as_deref() == Some("5 65535 18446744073709551615 2 7 8 9"));
+    assert!(rt; given.as_deref() == Some("5 65535 18446744073709551615 2 9 7 8 9"));
     assert!(rt; is_quiet(alloc, "ndn_node udp --listen 1 --quiet --turns 1 7"));
     assert!(rt; !is_quiet(alloc, "ndn_node udp --listen 1 --turns 1 7"));
 }

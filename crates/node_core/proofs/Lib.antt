@@ -10,3 +10,6 @@ pub mod OneReading
 pub mod FileWords
 pub mod Appending
 pub mod Digits
+pub mod Meeting
+pub mod Heard
+pub mod Silent

@@ -1,5 +1,7 @@
 pub mod Files
 pub mod Ports
+pub mod Clients
+pub mod KnownPorts
 pub mod Udp
 pub mod Script
 pub mod Outcomes

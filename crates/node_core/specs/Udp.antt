@@ -1,21 +1,32 @@
 -- What UDP ports keep, and what they give. What a socket gives or takes is not said.
-use Rattle.std.specs.Prelude.{◌≡◌, ℕ, ◌+◌, ◌-◌, ◌<◌, ◌⊎◌, ◌==◌, List, [], ◌∷◌, ◌++◌, length, take, position, slice_get, Option, None, Some, nat_le, if◌then◌else◌}
+use Rattle.std.specs.Prelude.{◌≡◌, ℕ, ◌+◌, ◌<◌, ◌⊎◌, List, [], length, take, Option, None, Some, nat_le, if◌then◌else◌}
 use Rattle.forwarder.specs.declared.event.Scope.{Scope}
 use Rattle.forwarder.specs.declared.event.Scope.TheVariants.{Local, Far}
-use Rattle.pit_fib.specs.declared.faces.TheConstants.{MAX_FACES}
 use Rattle.node_core.specs.declared.ports.TheConstants.{FRAME_ROOM}
 use Rattle.node_core.specs.declared.ports.Arrival.{Arrival}
 use Rattle.node_core.specs.declared.ports.Arrival.TheVariants.{End, Packet, FaceUp, FaceDown, Tick, NewRules}
+use Rattle.node_core.specs.declared.ports.known_ports.KnownPorts.{KnownPorts}
+use Rattle.node_core.specs.declared.ports.known_ports.Met.TheVariants.{Face, Opening, Closing}
+use Rattle.node_core.specs.declared.ports.clients.Client.{Client}
+use Rattle.node_core.specs.Clients.{MayHear}
+use Rattle.node_core.specs.KnownPorts.{Meets, with_clients}
+
+-- a datagram that was received and not yet given
+pub record Datagram : Type 0 where
+  pub port : ℕ
+  -- the face that it is for; none while that is not settled
+  pub face : Option ℕ
+  pub octets : List ℕ
 
 pub record UdpState : Type 0 where
-  -- the known ports, that of face 1 first
-  pub ports : List ℕ
-  -- how many faces were opened
+  -- which ports have faces
+  pub known : KnownPorts
+  -- how many faces of peers were opened
   pub opened : ℕ
   -- how many of the first faces are Local
   pub local : ℕ
-  -- the datagram that was received and not yet given, and its face
-  pub waiting : Option (ℕ × List ℕ)
+  -- the datagram that waits for the next turn
+  pub waiting : Option Datagram
   -- the moment that the clock told last
   pub told : ℕ
   -- how many calls failed
@@ -24,7 +35,12 @@ pub record UdpState : Type 0 where
 -- before the first arrival
 abbrev pub bound_to : List ℕ → ℕ → ℕ → UdpState
 bound_to peers local told = record {
-  ports = peers;
+  known = record {
+    peers = peers;
+    clients = record { rows = []; idle = None };
+    next = length peers + 1;
+    refused = None;
+  };
   opened = 0;
   local = local;
   waiting = None;
@@ -32,17 +48,23 @@ bound_to peers local told = record {
   failures = 0;
 }
 
+-- the same ports, where faces close after this time of silence
+abbrev pub closes_after : ℕ → UdpState → UdpState
+closes_after idle ports = record ports {
+  known = record ports.known { clients = record ports.known.clients { idle = Some idle } };
+}
+
 abbrev pub scope_of_face : ℕ → ℕ → Scope
 scope_of_face local face = if nat_le face local then Local else Far
 
--- the port of a face
-abbrev pub port_at : List ℕ → ℕ → Option ℕ
-port_at ports face = if face == 0 then None else slice_get ports (face - 1)
+-- every peer has its face
+abbrev pub HasOpened : UdpState → Type 0
+HasOpened before = before.opened ≡ length before.known.peers
 
 -- a face opens that a peer has from the start
 abbrev pub OpensPeer : UdpState → UdpState → Arrival → Type 0
 OpensPeer before after (FaceUp face scope now) =
-    (before.opened < length before.ports) × (face ≡ before.opened + 1)
+    (before.opened < length before.known.peers) × (face ≡ before.opened + 1)
     × (scope ≡ scope_of_face before.local face)
     × (after ≡ record before { opened = face; told = now })
 OpensPeer before after (Packet face now len) = ⊥
@@ -51,69 +73,73 @@ OpensPeer before after (FaceDown face now) = ⊥
 OpensPeer before after (Tick now) = ⊥
 OpensPeer before after (NewRules rules keys now) = ⊥
 
--- the datagram that waited comes unchanged, cut to the buffer
+-- The datagram that waited for its face comes unchanged, cut to the buffer, in the turn after the
+-- opening.
 abbrev pub GivesWaiting : UdpState → UdpState → List ℕ → Arrival → Type 0
 GivesWaiting before after buffer (Packet face now len) =
-    (octets : List ℕ) × (before.opened ≡ length before.ports)
-    × (before.waiting ≡ Some (face, octets)) × (take len buffer ≡ take (length buffer) octets)
-    × (after ≡ record before { waiting = None; told = now })
+    (port : ℕ) × (octets : List ℕ) × (rows : List Client) × HasOpened before
+    × (before.waiting ≡ Some (record { port = port; face = Some face; octets = octets }))
+    × (take len buffer ≡ take (length buffer) octets)
+    × MayHear before.known.clients.rows rows port now
+    × (after ≡ record before {
+      known = with_clients before.known rows;
+      waiting = None;
+      told = now;
+    })
 GivesWaiting before after buffer (FaceUp face scope now) = ⊥
 GivesWaiting before after buffer End = ⊥
 GivesWaiting before after buffer (FaceDown face now) = ⊥
 GivesWaiting before after buffer (Tick now) = ⊥
 GivesWaiting before after buffer (NewRules rules keys now) = ⊥
 
--- every known port has its face, and no datagram waits
+-- a datagram waits, cut to 9,001 octets
+abbrev pub kept : ℕ → Option ℕ → List ℕ → Datagram
+kept port face datagram = record { port = port; face = face; octets = take FRAME_ROOM datagram }
+
+-- A datagram of this port comes on its face; or it waits while a face opens for it, or while one
+-- closes first.
+abbrev pub Brings : UdpState → UdpState → ℕ → List ℕ → List ℕ → Arrival → Type 0
+Brings before after port datagram buffer (Packet face now len) =
+    (known : KnownPorts) × Meets before.known known port now (Face face)
+    × (take len buffer ≡ take (length buffer) datagram)
+    × (after ≡ record before { known = known; waiting = None; told = now })
+Brings before after port datagram buffer (FaceUp face scope now) =
+    (known : KnownPorts) × Meets before.known known port now (Opening face) × (scope ≡ Far)
+    × (after ≡ record before {
+      known = known;
+      waiting = Some (kept port (Some face) datagram);
+      told = now;
+    })
+Brings before after port datagram buffer (FaceDown face now) =
+    (known : KnownPorts) × Meets before.known known port now (Closing face)
+    × (after ≡ record before {
+      known = known;
+      waiting = Some (kept port None datagram);
+      told = now;
+    })
+Brings before after port datagram buffer End = ⊥
+Brings before after port datagram buffer (Tick now) = ⊥
+Brings before after port datagram buffer (NewRules rules keys now) = ⊥
+
+-- every peer has its face, and no datagram waits
 abbrev pub Listens : UdpState → Type 0
-Listens before = (before.opened ≡ length before.ports) × (before.waiting ≡ None)
-
--- the place of a port among those that are known
-abbrev pub place_of : ℕ → UdpState → Option ℕ
-place_of port before = position (λ known. known == port) before.ports
-
--- A datagram of a port that is not known, while fewer than 64 are: the next face opens, and the
--- datagram waits.
-abbrev pub OpensNew : UdpState → UdpState → ℕ → List ℕ → ℕ → Scope → ℕ → Type 0
-OpensNew before after port datagram face scope now =
-    (length before.ports < MAX_FACES) × (face ≡ length before.ports + 1) × (scope ≡ Far)
-    × (after ≡ record before {
-      ports = before.ports ++ (port ∷ []);
-      opened = face;
-      waiting = Some (face, take FRAME_ROOM datagram);
-      told = now;
-    })
-
--- While 64 are known, it is for face 65: the datagram waits, and its port is not kept.
-abbrev pub OpensNone : UdpState → UdpState → List ℕ → ℕ → Scope → ℕ → Type 0
-OpensNone before after datagram face scope now =
-    (length before.ports ≡ MAX_FACES) × (face ≡ MAX_FACES + 1) × (scope ≡ Far)
-    × (after ≡ record before {
-      waiting = Some (MAX_FACES + 1, take FRAME_ROOM datagram);
-      told = now;
-    })
-
--- What a datagram of this port brings: itself on the face that is the port's place, counted from 1;
--- or the opening of a face.
-abbrev pub Receives : UdpState → UdpState → ℕ → List ℕ → Arrival → Type 0
-Receives before after port datagram (Packet face now len) =
-    (place : ℕ) × (place_of port before ≡ Some place) × (face ≡ place + 1)
-    × (len ≡ length datagram) × (after ≡ record before { told = now })
-Receives before after port datagram (FaceUp face scope now) =
-    (place_of port before ≡ None)
-    × (OpensNew before after port datagram face scope now
-    ⊎ OpensNone before after datagram face scope now)
-Receives before after port datagram End = ⊥
-Receives before after port datagram (FaceDown face now) = ⊥
-Receives before after port datagram (Tick now) = ⊥
-Receives before after port datagram (NewRules rules keys now) = ⊥
+Listens before = HasOpened before × (before.waiting ≡ None)
 
 -- some datagram of some port was received into the front of the buffer
 abbrev pub GivesReceived : UdpState → UdpState → List ℕ → Arrival → Type 0
 GivesReceived before after buffer arrival =
-    Listens before × ((port len : ℕ) × Receives before after port (take len buffer) arrival)
+    Listens before × ((port len : ℕ) × Brings before after port (take len buffer) buffer arrival)
+
+-- the datagram that waited while a face closed
+abbrev pub GoesOn : UdpState → UdpState → List ℕ → Arrival → Type 0
+GoesOn before after buffer arrival =
+    (port : ℕ) × (octets : List ℕ) × HasOpened before
+    × (before.waiting ≡ Some (record { port = port; face = None; octets = octets }))
+    × Brings before after port octets buffer arrival
 
 -- what may arrive, and what the ports are afterwards
 abbrev pub UdpGives : UdpState → UdpState → List ℕ → Arrival → Type 0
 UdpGives before after buffer arrival =
     OpensPeer before after arrival
-    ⊎ (GivesWaiting before after buffer arrival ⊎ GivesReceived before after buffer arrival)
+    ⊎ (GivesWaiting before after buffer arrival
+    ⊎ (GoesOn before after buffer arrival ⊎ GivesReceived before after buffer arrival))

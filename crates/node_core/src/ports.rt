@@ -2,9 +2,11 @@ ghost use Rattle.std.specs.Prelude.{◌≡◌, ℕ, List, [], ◌∷◌, Option,
 ghost use Rattle.forwarder.specs.Event.{PlainEvent, Send};
 ghost use Rattle.node_core.specs.Ports.{Gives, LiesWithin, Takes, arrived, one_more};
 
+mod clients;
 mod datagram;
 mod known_ports;
 mod memory;
+mod peers;
 mod serving;
 mod udp;
 

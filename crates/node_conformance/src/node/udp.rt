@@ -8,6 +8,7 @@ use node_core::{
     Verdict, receive_one, send_one, serve, serve_turn, serve_turn_soon,
 };
 use std::alloc::Global;
+use std::cell::Cell;
 use std::net::{Ipv4Addr, Net, UdpSocket};
 
 /// A clock that stands at the moment that the commands of dialogues are signed for.
@@ -33,6 +34,22 @@ impl Moments for Moving {
 
     fn now(&mut self) -> u64 {
         self.last = self.last.saturating_add(1);
+        self.last
+    }
+}
+
+/// A clock that a test sets.
+#[derive(Drop)]
+struct Handed<'a> {
+    moment: &'a Cell<u64>,
+    last: u64,
+}
+
+impl<'a> Moments for Handed<'a> {
+    ghost last = { λ clock. clock.last };
+
+    fn now(&mut self) -> u64 {
+        self.last = self.moment.get();
         self.last
     }
 }
@@ -68,7 +85,7 @@ fn hears(alloc: Global, socket: &UdpSocket, word: &str) -> bool {
 }
 
 /// Whether so many turns pass, in which each send succeeds.
-fn passes(alloc: Global, node: &mut Node, ports: &mut UdpPorts<Still>, turns: u64) -> bool {
+fn passes<M: Moments>(alloc: Global, node: &mut Node, ports: &mut UdpPorts<M>, turns: u64) -> bool {
     serve(alloc, node, ports, turns)
         == Ok(Served {
             events: turns,
@@ -255,7 +272,7 @@ fn udp_port_taken(rt: HostRuntime) {
 }
 
 /// Whether the next arrival opens this Far face at this moment.
-fn brings_face(ports: &mut UdpPorts<Moving>, opened: u64, at: u64) -> bool {
+fn brings_face<M: Moments>(ports: &mut UdpPorts<M>, opened: u64, at: u64) -> bool {
     matches!(
         ports.next(&mut [0; 100]),
         Ok(Arrival::FaceUp { face, scope: Scope::Far, now }) if face == opened && now == at
@@ -263,7 +280,7 @@ fn brings_face(ports: &mut UdpPorts<Moving>, opened: u64, at: u64) -> bool {
 }
 
 /// Whether the next arrival is a packet of so many octets on this face at this moment.
-fn brings_packet(ports: &mut UdpPorts<Moving>, from: u64, at: u64, count: usize) -> bool {
+fn brings_packet<M: Moments>(ports: &mut UdpPorts<M>, from: u64, at: u64, count: usize) -> bool {
     matches!(
         ports.next(&mut [0; 100]),
         Ok(Arrival::Packet { face, now, len }) if face == from && now == at && len == count
@@ -271,7 +288,13 @@ fn brings_packet(ports: &mut UdpPorts<Moving>, from: u64, at: u64, count: usize)
 }
 
 /// Whether the next two arrivals, at these moments, open a face and bring so many octets on it.
-fn opens(ports: &mut UdpPorts<Moving>, face: u64, opened: u64, came: u64, len: usize) -> bool {
+fn opens<M: Moments>(
+    ports: &mut UdpPorts<M>,
+    face: u64,
+    opened: u64,
+    came: u64,
+    len: usize,
+) -> bool {
     brings_face(ports, face, opened) && brings_packet(ports, face, came, len)
 }
 
@@ -322,4 +345,178 @@ fn hears_loopback_alone(rt: &impl Net) -> Option<bool> {
 #[test]
 fn udp_hears_loopback_alone(rt: HostRuntime) {
     assert!(rt; hears_loopback_alone(&rt) == Some(true));
+}
+
+/// Whether the next arrival closes this face at this moment.
+fn brings_end<M: Moments>(ports: &mut UdpPorts<M>, closed: u64, at: u64) -> bool {
+    matches!(
+        ports.next(&mut [0; 100]),
+        Ok(Arrival::FaceDown { face, now }) if face == closed && now == at
+    )
+}
+
+/// Whether a new client is answered in so many turns.
+fn answers_client<M: Moments>(
+    rt: &(impl AllocGlobal + Net),
+    node: &mut Node,
+    ports: &mut UdpPorts<M>,
+    listen: u16,
+    turns: u64,
+) -> bool {
+    let alloc = rt.alloc();
+    match send_one(rt, listen, octets_of(alloc, "INTEREST").as_slice()) {
+        Ok(client) => passes(alloc, node, ports, turns) && hears(alloc, &client, "NO_ROUTE"),
+        Err(_) => false,
+    }
+}
+
+/// How many clients are answered, one after the other, where each is silent for the whole time
+/// before the next one speaks.
+fn answered_clients(rt: &(impl AllocGlobal + Net), moment: &Cell<u64>) -> Option<u64> {
+    let listen = free_port(rt)?;
+    let mut ports = UdpPorts::bind(rt, listen, &[], 0, Handed { moment, last: 0 }).ok()?;
+    ports.close_after(600_000);
+    let mut node = node_of(rt.alloc())?;
+    let mut answered = 0;
+    for client in 0..200u64 {
+        moment.set(client.saturating_mul(600_000));
+        let turns = if client == 0 { 2 } else { 3 };
+        if answers_client(rt, &mut node, &mut ports, listen, turns) {
+            answered += 1;
+        }
+    }
+    Some(answered)
+}
+
+/// Each of 200 clients gets a face, which closes before the next one's opens.
+#[test]
+fn udp_many_clients(rt: HostRuntime) {
+    assert!(rt; answered_clients(&rt, &Cell::new(0)) == Some(200));
+}
+
+/// Whether a peer keeps its face while it is silent, where a client's closes.
+fn keeps_peer(rt: &impl Net, moment: &Cell<u64>) -> Option<bool> {
+    let (peer, producer) = heard_port(rt)?;
+    let listen = free_port(rt)?;
+    let mut ports = UdpPorts::bind(rt, listen, &[peer], 0, Handed { moment, last: 0 }).ok()?;
+    ports.close_after(1_000);
+    let client = send_one(rt, listen, b"1").ok()?;
+    let opened = brings_face(&mut ports, 1, 0) && opens(&mut ports, 2, 0, 0, 1);
+    moment.set(86_400_000);
+    producer.send_to(b"22", (Ipv4Addr::LOCALHOST, listen)).ok()?;
+    let kept = brings_end(&mut ports, 2, 86_400_000) && brings_packet(&mut ports, 1, 86_400_000, 2);
+    client.send(b"333").ok()?;
+    Some(opened && kept && opens(&mut ports, 3, 86_400_000, 86_400_000, 3))
+}
+
+/// A peer that is silent for a day keeps its face. A client's closes, and the next has another number.
+#[test]
+fn udp_silent_peer(rt: HostRuntime) {
+    assert!(rt; keeps_peer(&rt, &Cell::new(0)) == Some(true));
+}
+
+/// Whether so many faces open at this moment.
+fn open_all<M: Moments>(ports: &mut UdpPorts<M>, faces: u64, at: u64) -> bool {
+    for face in 0..faces {
+        if !brings_face(ports, face.saturating_add(1), at) {
+            return false;
+        }
+    }
+    true
+}
+
+/// What the 65th port brings where the 64th, a client, was silent for 9 seconds and for 10.
+fn gives_way(
+    ports: &mut UdpPorts<Handed<'_>>,
+    moment: &Cell<u64>,
+    client: &UdpSocket,
+    newcomer: &UdpSocket,
+) -> Option<bool> {
+    client.send(b"1").ok()?;
+    let full = open_all(ports, 63, 0) && opens(ports, 64, 0, 0, 1);
+    moment.set(9_999);
+    newcomer.send(b"22").ok()?;
+    let refused = opens(ports, 65, 9_999, 9_999, 2) && ports.send(65, b"").is_err();
+    moment.set(10_000);
+    newcomer.send(b"333").ok()?;
+    let closed = brings_end(ports, 64, 10_000) && opens(ports, 66, 10_000, 10_000, 3);
+    Some(full && refused && closed && ports.send(66, b"").is_ok() && ports.send(64, b"").is_err())
+}
+
+/// Whether it is as it should be where 63 peers are known.
+fn is_room_made(rt: &(impl AllocGlobal + Net), moment: &Cell<u64>) -> Option<bool> {
+    let mut peers = sixty_four_ports(rt.alloc())?;
+    let _last = peers.pop();
+    if peers.len() > 64 {
+        return None;
+    }
+    let listen = free_port(rt)?;
+    let moments = Handed { moment, last: 0 };
+    let mut ports = UdpPorts::bind(rt, listen, peers.as_slice(), 0, moments).ok()?;
+    ports.close_after(600_000);
+    let (_, client) = connected(rt, listen)?;
+    let (_, newcomer) = connected(rt, listen)?;
+    gives_way(&mut ports, moment, &client, &newcomer)
+}
+
+/// A port, and a socket that sends to another port and hears that alone.
+fn connected(rt: &impl Net, to: u16) -> Option<(u16, UdpSocket)> {
+    let (port, socket) = heard_port(rt)?;
+    socket.connect((Ipv4Addr::LOCALHOST, to)).ok()?;
+    Some((port, socket))
+}
+
+/// A face that was silent for 10 seconds closes for the 65th port, and not one that was for 9,999
+/// milliseconds.
+#[test]
+fn udp_gives_way(rt: HostRuntime) {
+    assert!(rt; is_room_made(&rt, &Cell::new(0)) == Some(true));
+}
+
+/// Whether an Interest goes to a producer while its face is open, and comes back once it has closed.
+fn goes_until_closed(
+    alloc: Global,
+    node: &mut Node,
+    ports: &mut UdpPorts<Handed<'_>>,
+    moment: &Cell<u64>,
+    listen: u16,
+    operator: &UdpSocket,
+    producer: &UdpSocket,
+) -> bool {
+    let routed = sends(alloc, producer, listen, "D_A")
+        && sends(alloc, operator, listen, "ADD")
+        && sends(alloc, operator, listen, "INTEREST")
+        && passes(alloc, node, ports, 5)
+        && hears(alloc, operator, "ADDED")
+        && hears(alloc, producer, "INTEREST");
+    moment.set(1_600_000);
+    routed
+        && sends(alloc, operator, listen, "INTEREST")
+        && passes(alloc, node, ports, 2)
+        && hears(alloc, operator, "NO_ROUTE")
+}
+
+/// Whether a route goes with the face of a client that closes.
+fn loses_route(rt: &(impl AllocGlobal + Net), moment: &Cell<u64>) -> Option<bool> {
+    let (peer, operator) = heard_port(rt)?;
+    let (_, producer) = heard_port(rt)?;
+    let listen = free_port(rt)?;
+    let moments = Handed { moment, last: 0 };
+    let mut ports = UdpPorts::bind(rt, listen, &[peer], 1, moments).ok()?;
+    ports.close_after(600_000);
+    let mut node = node_of(rt.alloc())?;
+    Some(goes_until_closed(
+        rt.alloc(),
+        &mut node,
+        &mut ports,
+        moment,
+        listen,
+        &operator,
+        &producer,
+    ))
+}
+
+#[test]
+fn udp_route_of_a_closed_face(rt: HostRuntime) {
+    assert!(rt; loses_route(&rt, &Cell::new(1_000_000)) == Some(true));
 }

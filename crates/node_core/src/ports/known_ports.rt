@@ -1,72 +1,143 @@
 //! The ports that have faces.
-ghost use Rattle.std.specs.Prelude.{◌≡◌, ◌∷◌, ◌++◌, [], ◌<◌, ◌≤◌, ◌==◌, length, slice_get, position, IfSome};
+ghost use Rattle.std.specs.Prelude.{◌≡◌, [], ◌+◌, ◌<◌, ◌≤◌, length, List, IfSome, None, Some};
+ghost use Rattle.node_core.specs.Clients.{MayHear};
+ghost use Rattle.node_core.specs.declared.ports.clients.Client.{Client};
+ghost use Rattle.node_core.specs.KnownPorts.{IsNewcomer, Knows, Meets, OpensNew, OpensNone, peer_at, port_at, with_clients};
 
+use crate::ports::clients::{Client, Clients};
+use crate::ports::peers::Peers;
 use forwarder::MAX_FACES;
-use std::marker::Model;
 
-/// At most as many ports as a node has faces, 64, in the order of their faces.
-#[derive(Drop)]
-pub struct KnownPorts {
-    ports: [u16; MAX_FACES],
-    len: usize,
+/// What a datagram meets.
+#[derive(Clone, Copy)]
+pub enum Met {
+    /// Its port has this face.
+    Face(u64),
+    /// Its port has none, and is told this number: a face that opens for it, or one that no node
+    /// opens.
+    Opening(u64),
+    /// This face closes first.
+    Closing(u64),
 }
 
-impl Model for KnownPorts {
-    ghost use Rattle.std.specs.Prelude.{List, ℕ, ◌≤◌, take};
-    ghost use Rattle.pit_fib.specs.declared.faces.TheConstants.{MAX_FACES};
-
-    ghost Value = { List ℕ };
-
-    ghost view = { λ k. take k.len k.ports };
-
-    ghost invariant = { λ k. k.len ≤ MAX_FACES };
+/// The ports of the peers, which have the faces from 1 on, and those that opened their faces
+/// themselves. No number of a face is used again.
+#[derive(Drop)]
+pub struct KnownPorts {
+    pub peers: Peers,
+    pub clients: Clients,
+    /// The number of the face that opens next.
+    pub next: u64,
+    /// The number that is told to ports without a face, where one was told since a face opened.
+    pub refused: Option<u64>,
 }
 
 impl KnownPorts {
-    /// These ports, of which there are at most 64.
-    pub fn new(ports: &[u16]) -> KnownPorts
-        requires { length ports.now ≤ MAX_FACES }
-        ensures { result ≡ ports.now }
+    /// The ports of the peers, of which there are at most 64.
+    pub fn new(peers: &[u16]) -> KnownPorts
+        requires { length peers.now ≤ MAX_FACES }
+        ensures { result ≡ record {
+          peers = peers.now;
+          clients = record { rows = []; idle = None };
+          next = length peers.now + 1;
+          refused = None;
+        } }
     {
-        let mut known = [0; MAX_FACES];
-        known[..ports.len()].copy_from_slice(ports);
         KnownPorts {
-            ports: known,
-            len: ports.len(),
+            peers: Peers::new(peers),
+            clients: Clients::new(),
+            next: peers.len() as u64 + 1,
+            refused: None,
         }
     }
 
-    /// Adds a port at the end.
-    pub fn push(&mut self, port: u16)
-        requires { length self.old < MAX_FACES }
-        ensures { self.new ≡ self.old ++ (port ∷ []) }
+    /// The port of a face.
+    pub fn port_of(&self, face: u64) -> Option<u16>
+        ensures { result ≡ port_at self.now face }
     {
-        self.ports[self.len] = port;
-        self.len += 1;
+        match self.peer_of(face) {
+            Some(port) => Some(port),
+            None => self.clients.port_of(face),
+        }
     }
 
-    /// The number of ports.
-    pub fn len(&self) -> usize
-        ensures exact { result ≡ length self.now }
-        ensures small { result ≤ MAX_FACES }
+    /// The port of a peer's face.
+    fn peer_of(&self, face: u64) -> Option<u16>
+        ensures { result ≡ peer_at self.now.peers face }
     {
-        self.len
+        let place = usize::try_from(face).ok()?.checked_sub(1)?;
+        self.peers.get(place)
     }
 
-    /// The port at a place, counted from 0.
-    pub fn get(&self, i: usize) -> Option<u16>
-        ensures { result ≡ slice_get self.now i }
+    /// What a datagram of this port meets at this moment.
+    pub fn meet(&mut self, port: u16, now: u64) -> Met
+        ensures { Meets self.old self.new port now result }
     {
-        self.ports[..self.len].get(i).copied()
+        if let Some(place) = self.clients.idle_place(now) {
+            let face = self.clients.face_at(place);
+            // What is handled after the closing has come in time.
+            self.clients.hear_in_time(port, now);
+            self.clients.remove(place);
+            return Met::Closing(face);
+        }
+        if let Some(face) = self.hear(port, now) {
+            return Met::Face(face);
+        }
+        if self.peers.len() + self.clients.len() < MAX_FACES {
+            return Met::Opening(self.open(port, now));
+        }
+        match self.clients.yielding_place(now) {
+            Some(place) => {
+                let face = self.clients.face_at(place);
+                self.clients.remove(place);
+                Met::Closing(face)
+            }
+            None => Met::Opening(self.refuse()),
+        }
     }
 
-    /// The first place of a port, counted from 0.
-    pub fn place_of(&self, port: u16) -> Option<usize>
-        ensures first { result ≡ position (λ known. known == port) self.now }
-        ensures within { IfSome result (λ place. place < length self.now) }
+    /// The face of a port, which is heard at this moment.
+    fn hear(&mut self, port: u16, now: u64) -> Option<u64>
+        ensures known { IfSome result (Knows self.old self.new port now) }
+        ensures none { result ≡ None → IsNewcomer self.old port × (self.new ≡ self.old) }
     {
-        self.ports[..self.len]
-            .iter()
-            .position(|known| *known == port)
+        match self.peers.place_of(port) {
+            Some(place) => Some(place as u64 + 1),
+            None => self.clients.hear(port, now),
+        }
+    }
+
+    /// Something comes at this moment from a port that has its face, if it is a client.
+    pub fn hear_client(&mut self, port: u16, now: u64)
+        ensures { (rows : List Client) × MayHear self.old.clients.rows rows port now
+            × (self.new ≡ with_clients self.old rows) }
+    {
+        let _face = self.clients.hear(port, now);
+    }
+
+    /// Opens the next face for a port that has none.
+    fn open(&mut self, port: u16, now: u64) -> u64
+        requires { length self.old.peers + length self.old.clients.rows < MAX_FACES }
+        ensures { OpensNew self.old self.new port now result }
+    {
+        let face = self.next;
+        self.clients.push(Client {
+            port,
+            face,
+            heard: now,
+        });
+        self.next = face.saturating_add(1);
+        self.refused = None;
+        face
+    }
+
+    /// The number for a port that gets no face.
+    fn refuse(&mut self) -> u64
+        ensures { OpensNone self.old self.new result }
+    {
+        let face = self.refused.unwrap_or(self.next);
+        self.refused = Some(face);
+        self.next = face.saturating_add(1);
+        face
     }
 }

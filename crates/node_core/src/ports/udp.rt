@@ -1,9 +1,10 @@
 //! Ports by UDP, for programs on this machine.
 ghost use Rattle.std.specs.Prelude.{◌≡◌, ◌<◌, ◌≤◌, ℕ, List, None, Some, length, take, IfOk, IfSome, OnOk, OnErr};
+ghost use Rattle.node_core.specs.KnownPorts.{port_at};
 ghost use Rattle.node_core.specs.Ports.{LiesWithin, one_more};
-ghost use Rattle.node_core.specs.Udp.{Listens, OpensPeer, Receives, UdpGives, bound_to, port_at};
+ghost use Rattle.node_core.specs.Udp.{Brings, GivesWaiting, GoesOn, HasOpened, Listens, OpensPeer, UdpGives, bound_to, closes_after, kept};
 
-use crate::ports::known_ports::KnownPorts;
+use crate::ports::known_ports::{KnownPorts, Met};
 use crate::ports::{Arrival, FRAME_ROOM, PortFault, Ports, put_front};
 use forwarder::{MAX_FACES, Scope};
 use std::marker::Model;
@@ -27,24 +28,33 @@ pub trait Moments: Drop {
 ///
 /// The peers' ports have the faces 1, 2 and so on, and each is opened in a turn of its own before
 /// anything is received. A port that is not known gets the next number and is opened as Far before
-/// its first packet. While 64 ports are known, both the opening and the packet are for face 65,
-/// which no node with 64 faces opens, and the port is not kept. No face is ever closed, and nothing
-/// ends.
+/// its first packet. While 64 ports are known, the opening and the packet are for the next number,
+/// 65 while no face has closed, and the port is not kept: no node with 64 faces opens it. No number
+/// is used again, and nothing ends.
+///
+/// By `close_after` faces close that were silent for too long. A peer's face never closes.
 #[derive(Drop)]
 pub struct UdpPorts<M: Moments> {
     socket: UdpSocket,
     moments: M,
     known: KnownPorts,
-    // How many faces were opened.
+    // How many faces of peers were opened.
     opened: usize,
     local: u64,
-    // The datagram that waits until it is asked for, and its face.
+    // The datagram that waits for the next turn, whose octets stand by themselves.
+    waiting: Option<Waiting>,
     octets: [u8; FRAME_ROOM],
     len: usize,
-    waiting: Option<u64>,
     // Whether receiving ends after a short time, in place of waiting as long as nothing comes.
     is_brief: bool,
     failures: u64,
+}
+
+/// Where a datagram that waits came from, and the face that it is for, if that is settled.
+#[derive(Clone, Copy)]
+struct Waiting {
+    port: u16,
+    face: Option<u64>,
 }
 
 impl<M: Moments> Model for UdpPorts<M> {
@@ -56,21 +66,26 @@ impl<M: Moments> Model for UdpPorts<M> {
     ghost Value = { UdpState };
 
     ghost view = { λ u. record {
-      ports = u.known;
+      known = u.known;
       opened = u.opened;
       local = u.local;
-      waiting = option_map (λ face. (face, take u.len u.octets)) u.waiting;
+      waiting = option_map (λ waiting. record {
+        port = waiting.port;
+        face = waiting.face;
+        octets = take u.len u.octets;
+      }) u.waiting;
       told = M.last u.moments;
       failures = u.failures;
     } };
 
-    ghost invariant = { λ u. (u.opened ≤ length u.known) × (u.len ≤ FRAME_ROOM) };
+    ghost invariant = { λ u. (u.opened ≤ length u.known.peers) × (u.len ≤ FRAME_ROOM) };
 }
 
 impl<M: Moments> UdpPorts<M> {
     /// Ports with the peers' faces to open, of which the first `local` are Local and the others
     /// Far. It takes one socket and no memory. There are at most 64 peers; of a port that is named
-    /// twice the first face alone hears. Its fault says that the port cannot be bound.
+    /// twice the first face alone hears. No face closes. Its fault says that the port cannot be
+    /// bound.
     pub fn bind(
         rt: &impl Net,
         listen: u16,
@@ -90,12 +105,24 @@ impl<M: Moments> UdpPorts<M> {
             known: KnownPorts::new(peers),
             opened: 0,
             local,
+            waiting: None,
             octets: [0; FRAME_ROOM],
             len: 0,
-            waiting: None,
             is_brief: false,
             failures: 0,
         })
+    }
+
+    /// Says that faces close from now on, which are not peers' and on which nothing came for some
+    /// time: for `idle` milliseconds, or, where 64 ports are known and another one speaks, for
+    /// 10,000, and then the face that was silent longest.
+    ///
+    /// A face closes when a datagram is there, of whatever port, before that is handled, one in
+    /// each turn. A datagram whose own face was opened in the turn before comes first.
+    pub fn close_after(&mut self, idle: u64)
+        ensures { self.new ≡ closes_after idle self.old }
+    {
+        self.known.clients.close_after(idle);
     }
 
     /// Counts a failure.
@@ -115,36 +142,61 @@ impl<M: Moments> UdpPorts<M> {
 
     /// Gives the datagram that waits for this face, at the front of the buffer. What does not fit is
     /// cut off.
-    fn give_waiting(&mut self, face: u64, buffer: &mut [u8]) -> Arrival
-        requires opened { self.old.opened ≡ length self.old.ports }
-        requires waiting { (octets : List ℕ) × (self.old.waiting ≡ Some (face, octets)) }
+    fn give_waiting(&mut self, port: u16, face: u64, buffer: &mut [u8]) -> Arrival
+        requires opened { HasOpened self.old }
+        requires waiting { (octets : List ℕ) × (self.old.waiting
+            ≡ Some (record { port = port; face = Some face; octets = octets })) }
         ensures fits { LiesWithin (length buffer.new) result }
-        ensures gives { UdpGives self.old self.new buffer.new result }
+        ensures gives { GivesWaiting self.old self.new buffer.new result }
     {
+        let now = self.now();
+        self.known.hear_client(port, now);
         let len = put_front(&self.octets[..self.len], buffer);
         self.waiting = None;
-        Arrival::Packet {
-            face,
-            now: self.now(),
-            len,
+        Arrival::Packet { face, now, len }
+    }
+
+    /// Goes on with the datagram that waits while faces close.
+    fn go_on(&mut self, port: u16, buffer: &mut [u8]) -> Arrival
+        requires opened { HasOpened self.old }
+        requires waiting { (octets : List ℕ) × (self.old.waiting
+            ≡ Some (record { port = port; face = None; octets = octets })) }
+        ensures fits { LiesWithin (length buffer.new) result }
+        ensures gives { GoesOn self.old self.new buffer.new result }
+    {
+        let now = self.now();
+        match self.known.meet(port, now) {
+            Met::Face(face) => {
+                let len = put_front(&self.octets[..self.len], buffer);
+                self.waiting = None;
+                Arrival::Packet { face, now, len }
+            }
+            Met::Opening(face) => {
+                self.waiting = Some(Waiting {
+                    port,
+                    face: Some(face),
+                });
+                far_face(face, now)
+            }
+            Met::Closing(face) => Arrival::FaceDown { face, now },
         }
     }
 
-    /// Keeps a datagram until it is asked for. It is for this face.
-    fn keep(&mut self, face: u64, datagram: &[u8])
+    /// Keeps a datagram of this port for the next turn.
+    fn keep(&mut self, port: u16, face: Option<u64>, datagram: &[u8])
         ensures { self.new
-            ≡ record self.old { waiting = Some (face, take FRAME_ROOM datagram.now) } }
+            ≡ record self.old { waiting = Some (kept port face datagram.now) } }
     {
         self.len = put_front(datagram, &mut self.octets);
-        self.waiting = Some(face);
+        self.waiting = Some(Waiting { port, face });
     }
 
-    /// Opens the face of the first known port that has none.
+    /// Opens the face of the first peer that has none.
     fn open(&mut self) -> Arrival
-        requires { self.old.opened < length self.old.ports }
+        requires { self.old.opened < length self.old.known.peers }
         ensures { OpensPeer self.old self.new result }
     {
-        let known = self.known.len();
+        let known = self.known.peers.len();
         self.opened += 1;
         let face = self.opened as u64;
         let scope = if face <= self.local {
@@ -159,30 +211,25 @@ impl<M: Moments> UdpPorts<M> {
         }
     }
 
-    /// What a datagram of this port brings, while none waits.
-    fn arrive(&mut self, datagram: &[u8], port: u16) -> Arrival
-        requires { Listens self.old }
-        ensures fits { LiesWithin (length datagram.now) result }
-        ensures receives { Receives self.old self.new port datagram.now result }
+    /// What a datagram of this port brings, which is the first `len` octets of the buffer, while none
+    /// waits.
+    fn arrive(&mut self, port: u16, len: usize, buffer: &[u8]) -> Arrival
+        requires listens { Listens self.old }
+        requires fits { len ≤ length buffer.now }
+        ensures fits { LiesWithin (length buffer.now) result }
+        ensures brings { Brings self.old self.new port (take len buffer.now) buffer.now result }
     {
-        if let Some(place) = self.known.place_of(port) {
-            return Arrival::Packet {
-                face: place as u64 + 1,
-                now: self.now(),
-                len: datagram.len(),
-            };
-        }
-        let count = self.known.len();
-        if count < MAX_FACES {
-            self.known.push(port);
-            self.opened += 1;
-        }
-        let face = count as u64 + 1;
-        self.keep(face, datagram);
-        Arrival::FaceUp {
-            face,
-            scope: Scope::Far,
-            now: self.now(),
+        let now = self.now();
+        match self.known.meet(port, now) {
+            Met::Face(face) => Arrival::Packet { face, now, len },
+            Met::Opening(face) => {
+                self.keep(port, Some(face), &buffer[..len]);
+                far_face(face, now)
+            }
+            Met::Closing(face) => {
+                self.keep(port, None, &buffer[..len]);
+                Arrival::FaceDown { face, now }
+            }
         }
     }
 
@@ -217,7 +264,7 @@ impl<M: Moments> UdpPorts<M> {
             return None;
         }
         let (len, from) = self.socket.recv_from(buffer).ok()?;
-        Some(self.arrive(&buffer[..len], from.port()))
+        Some(self.arrive(from.port(), len, buffer))
     }
 
     /// What is there without receiving, and otherwise a datagram.
@@ -227,21 +274,16 @@ impl<M: Moments> UdpPorts<M> {
         ensures none { result ≡ None → self.new ≡ self.old }
         ensures works { self.new.failures ≡ self.old.failures }
     {
-        if self.opened < self.known.len() {
+        if self.opened < self.known.peers.len() {
             return Some(self.open());
         }
-        match self.waiting {
-            Some(face) => Some(self.give_waiting(face, buffer)),
-            None => self.receive(buffer, is_brief),
+        let Some(waiting) = self.waiting else {
+            return self.receive(buffer, is_brief);
+        };
+        match waiting.face {
+            Some(face) => Some(self.give_waiting(waiting.port, face, buffer)),
+            None => Some(self.go_on(waiting.port, buffer)),
         }
-    }
-
-    /// The port of a face.
-    fn port_of(&self, face: u64) -> Option<u16>
-        ensures { result ≡ port_at self.now.ports face }
-    {
-        let place = usize::try_from(face).ok()?.checked_sub(1)?;
-        self.known.get(place)
     }
 }
 
@@ -277,12 +319,12 @@ impl<M: Moments> Ports for UdpPorts<M> {
 
     fn send(&mut self, face: u64, octets: &[u8]) -> Result<(), PortFault>
         ensures known { OnOk result
-            ((port : ℕ) × (port_at self.old.ports face ≡ Some port)) }
+            ((port : ℕ) × (port_at self.old.known face ≡ Some port)) }
         ensures works { OnOk result (self.new ≡ self.old) }
         ensures failed { OnErr result
             (self.new ≡ record self.old { failures = one_more self.old.failures }) }
     {
-        let Some(port) = self.port_of(face) else {
+        let Some(port) = self.known.port_of(face) else {
             return Err(self.fail());
         };
         match self.socket.send_to(octets, (Ipv4Addr::LOCALHOST, port)) {
@@ -293,5 +335,16 @@ impl<M: Moments> Ports for UdpPorts<M> {
 
     fn failures(&self) -> u64 {
         self.failures
+    }
+}
+
+/// A face opens for a port that is no peer's.
+fn far_face(face: u64, now: u64) -> Arrival
+    ensures { result ≡ Arrival.FaceUp face Scope.Far now }
+{
+    Arrival::FaceUp {
+        face,
+        scope: Scope::Far,
+        now,
     }
 }

@@ -1,7 +1,7 @@
 use Rattle.std.proofs.Common.{◌≡◌, length, rules}
 use Rattle.std.proofs.lemmas.Result.{err_from_is_err_and}
 use Rattle.ndn_daemon.proofs.Spelling.{refused_part, wrong_in_memory}
-use Rattle.ndn_daemon.proofs.Peers.{same_local}
+use Rattle.ndn_daemon.proofs.Peers.{own_port, same_local}
 use Rattle.ndn_daemon.proofs.udp_options.UdpOptions.read.Goals as goal
 
 pub returns-in_err-peers : goal.returns-in_err-peers
@@ -16,3 +16,8 @@ returns-in_err-local c =
     rw (p.1, p.2) (wrong_in_memory _ _
     (λ options h. (options.local, same_local _ options.peers.items c.in_ok-peers.peers.items h.peers c.in_ok-peers.ensures _ c.len.result options.local many h.local))
     c.in_err-local.field-0.0 (rw (c.given_or.ensures, c.value.ensures) at c.in_err-local.ensures))
+
+pub returns-then-contains : goal.returns-then-contains
+returns-then-contains c = λ x are.
+    own_port _ _ x.peers.items c.in_ok-peers.peers.items x.listen c.in_ok-listen.listen are.peers c.in_ok-peers.ensures are.listen c.in_ok-listen.ensures
+    (rw c.as_slice.ensures.value at c.if-contains.ensures.cases) are.others

@@ -1,0 +1,281 @@
+//! The ports that opened their faces themselves.
+ghost use Rattle.std.specs.Prelude.{◌≡◌, ◌∷◌, ◌++◌, [], ◌+◌, ◌<◌, ◌≤◌, ◌==◌, ◌↔◌, All, length, List, slice_get, slice_set, remove, position, find, option_map, IfSome, IsTrue, Some, None, true, false};
+ghost use Rattle.node_core.specs.Clients.{GivesWay, Hears, HearsInTime, IsIdle, IsNoClient, IsSilent, IsSilentLongest};
+ghost use Rattle.node_core.specs.declared.ports.clients.Client.{Client};
+
+use arrayvec::ArrayVec;
+use forwarder::MAX_FACES;
+use std::marker::Model;
+
+/// After how long a silence a face closes for a port that has none, in milliseconds.
+pub const GIVE_WAY_MILLISECONDS: u64 = 10_000;
+
+/// A port that opened its face itself.
+#[derive(Clone, Copy, Default)]
+pub struct Client {
+    /// Its port.
+    pub port: u16,
+    /// Its face.
+    pub face: u64,
+    /// The moment at which something came from it last.
+    pub heard: u64,
+}
+
+/// At most 64 ports that opened their faces themselves, in the order of their faces.
+///
+/// Where a time is given, the faces may close that are silent for it, or, for a port that has no
+/// face, those that are silent for `GIVE_WAY_MILLISECONDS`.
+#[derive(Drop)]
+pub struct Clients {
+    rows: ArrayVec<Client, MAX_FACES>,
+    idle: Option<u64>,
+    // No client is idle before this moment, so that none is looked for.
+    heard_until: u64,
+}
+
+impl Model for Clients {
+    ghost use Rattle.node_core.specs.Clients.{AreHeardUntil, ClientsState};
+
+    ghost Value = { ClientsState };
+
+    ghost view = { λ c. record { rows = c.rows.items; idle = c.idle } };
+
+    ghost invariant = { λ c. AreHeardUntil c.heard_until c.idle c.rows.items };
+}
+
+impl Clients {
+    /// No port yet, and no face closes.
+    pub fn new() -> Clients
+        ensures { result ≡ record { rows = []; idle = None } }
+    {
+        Clients {
+            rows: ArrayVec::new(),
+            idle: None,
+            heard_until: 0,
+        }
+    }
+
+    /// Says after how many milliseconds of silence a face closes.
+    pub fn close_after(&mut self, idle: u64)
+        ensures { self.new ≡ record self.old { idle = Some idle } }
+    {
+        self.idle = Some(idle);
+        self.heard_until = 0;
+    }
+
+    /// The number of ports.
+    pub fn len(&self) -> usize
+        ensures exact { result ≡ length self.now.rows }
+        ensures small { result ≤ MAX_FACES }
+    {
+        self.rows.len()
+    }
+
+    /// The port of a face.
+    pub fn port_of(&self, face: u64) -> Option<u16>
+        ensures { result ≡ option_map (λ client. client.port)
+            (find (λ client. client.face == face) self.now.rows) }
+    {
+        let client = self
+            .rows
+            .as_slice()
+            .iter()
+            .find(|client| client.face == face)?;
+        Some(client.port)
+    }
+
+    /// Adds a port, while there are fewer than 64.
+    pub fn push(&mut self, client: Client)
+        requires { length self.old.rows < MAX_FACES }
+        ensures { self.new ≡ record self.old { rows = self.old.rows ++ (client ∷ []) } }
+    {
+        self.heard_until = self.heard_until.min(end_of(self.idle, client.heard));
+        self.rows.push(client);
+    }
+
+    /// Takes out the port at a place, counted from 0.
+    pub fn remove(&mut self, place: usize)
+        requires { place < length self.old.rows }
+        ensures { self.new ≡ record self.old { rows = remove self.old.rows place } }
+    {
+        let _client = self.rows.remove(place);
+    }
+
+    /// Something comes from a port at this moment. Its face is given, if it has one.
+    pub fn hear(&mut self, port: u16, now: u64) -> Option<u64>
+        ensures found { IfSome result (λ face. (rows : List Client)
+            × Hears self.old.rows rows port now face
+            × (self.new ≡ record self.old { rows = rows })) }
+        ensures none { result ≡ None → IsNoClient self.old.rows port × (self.new ≡ self.old) }
+    {
+        let place = self.place_of(port)?;
+        Some(self.hear_at(place, now))
+    }
+
+    /// Something comes from a port at this moment: it is heard, if it has a face and was not silent
+    /// for the time after which that closes.
+    pub fn hear_in_time(&mut self, port: u16, now: u64)
+        ensures heard { (rows : List Client)
+            × HearsInTime self.old.idle self.old.rows rows port now
+            × (self.new ≡ record self.old { rows = rows }) }
+        ensures len { length self.new.rows ≡ length self.old.rows }
+    {
+        if let Some(place) = self.place_of(port) {
+            if !self.is_idle_at(place, now) {
+                let _face = self.hear_at(place, now);
+            }
+        }
+    }
+
+    /// Whether the port at a place was silent for the time after which its face closes.
+    fn is_idle_at(&self, place: usize, now: u64) -> bool
+        requires { place < length self.now.rows }
+        ensures yes { result ≡ true → (client : Client)
+            → slice_get self.now.rows place ≡ Some client → IsIdle self.now.idle now client }
+        ensures no { result ≡ false → (client : Client)
+            → slice_get self.now.rows place ≡ Some client → IsIdle self.now.idle now client → ⊥ }
+    {
+        match self.idle {
+            Some(idle) => is_silent(self.rows.as_slice()[place].heard, idle, now),
+            None => false,
+        }
+    }
+
+    /// The face at a place, counted from 0.
+    pub fn face_at(&self, place: usize) -> u64
+        requires { place < length self.now.rows }
+        ensures { (client : Client) → slice_get self.now.rows place ≡ Some client
+            → result ≡ client.face }
+    {
+        self.rows.as_slice()[place].face
+    }
+
+    /// The first place of a port, counted from 0.
+    fn place_of(&self, port: u16) -> Option<usize>
+        ensures first { result ≡ position (λ client. client.port == port) self.now.rows }
+        ensures within { IfSome result (λ place. place < length self.now.rows) }
+    {
+        self.rows
+            .as_slice()
+            .iter()
+            .position(|client| client.port == port)
+    }
+
+    /// Something comes from the port at a place. Its face is given.
+    fn hear_at(&mut self, place: usize, now: u64) -> u64
+        requires { place < length self.old.rows }
+        ensures { (client : Client) × (slice_get self.old.rows place ≡ Some client)
+            × (result ≡ client.face)
+            × (self.new ≡ record self.old {
+              rows = slice_set self.old.rows place (record client { heard = now });
+            }) }
+    {
+        self.heard_until = self.heard_until.min(end_of(self.idle, now));
+        hear_at(self.rows.as_mut_slice(), place, now)
+    }
+
+    /// The place of the port that was silent longest, if it was for the time after which its face
+    /// closes.
+    pub fn idle_place(&mut self, now: u64) -> Option<usize>
+        ensures same { self.new ≡ self.old }
+        ensures none { result ≡ None
+            → All (λ client. IsIdle self.old.idle now client → ⊥) self.old.rows }
+        ensures longest { IfSome result (λ place. (client : Client)
+            × IsSilentLongest self.old.rows place client × IsIdle self.old.idle now client) }
+        ensures within { IfSome result (λ place. place < length self.old.rows) }
+    {
+        let idle = self.idle?;
+        if now < self.heard_until {
+            return None;
+        }
+        let place = self.silent_for(idle, now);
+        self.heard_until = first_end(self.rows.as_slice(), idle);
+        place
+    }
+
+    /// The place of the port that was silent longest, if its face closes for a port that has none.
+    pub fn yielding_place(&self, now: u64) -> Option<usize>
+        ensures none { result ≡ None
+            → All (λ client. GivesWay self.now.idle now client → ⊥) self.now.rows }
+        ensures longest { IfSome result (λ place. (client : Client)
+            × IsSilentLongest self.now.rows place client × GivesWay self.now.idle now client) }
+        ensures within { IfSome result (λ place. place < length self.now.rows) }
+    {
+        let _idle = self.idle?;
+        self.silent_for(GIVE_WAY_MILLISECONDS, now)
+    }
+
+    /// The place of the port that was silent longest, if for this time at least.
+    fn silent_for(&self, time: u64, now: u64) -> Option<usize>
+        ensures none { result ≡ None
+            → All (λ client. IsSilent time now client → ⊥) self.now.rows }
+        ensures longest { IfSome result (λ place. (client : Client)
+            × IsSilentLongest self.now.rows place client × IsSilent time now client) }
+        ensures within { IfSome result (λ place. place < length self.now.rows) }
+    {
+        let rows = self.rows.as_slice();
+        if rows.is_empty() {
+            return None;
+        }
+        let place = silent_longest(rows);
+        if is_silent(rows[place].heard, time, now) {
+            Some(place)
+        } else {
+            None
+        }
+    }
+}
+
+/// Whether nothing came for this time since the moment `heard`.
+fn is_silent(heard: u64, time: u64, now: u64) -> bool
+    ensures { IsTrue result ↔ (heard + time ≤ now) }
+{
+    heard <= now && now - heard >= time
+}
+
+/// The moment at which a port is idle, unless it is heard before.
+fn end_of(idle: Option<u64>, heard: u64) -> u64
+    ensures { IfSome idle (λ idle. result ≤ heard + idle) }
+{
+    match idle {
+        Some(idle) => heard.saturating_add(idle),
+        None => u64::MAX,
+    }
+}
+
+/// Something comes from the port at a place. Its face is given.
+fn hear_at(clients: &mut [Client], place: usize, now: u64) -> u64
+    requires { place < length clients.old }
+    ensures { (client : Client) × (slice_get clients.old place ≡ Some client)
+        × (result ≡ client.face)
+        × (clients.new ≡ slice_set clients.old place (record client { heard = now })) }
+{
+    clients[place].heard = now;
+    clients[place].face
+}
+
+/// A moment before which none is silent for this time.
+fn first_end(clients: &[Client], time: u64) -> u64
+    ensures { All (λ client. result ≤ client.heard + time) clients.now }
+{
+    let mut first = u64::MAX;
+    for place in 0..clients.len() {
+        first = first.min(clients[place].heard.saturating_add(time));
+    }
+    first
+}
+
+/// The place of the port that was silent longest, and the first of several.
+fn silent_longest(clients: &[Client]) -> usize
+    requires { 0 < length clients.now }
+    ensures within { result < length clients.now }
+    ensures longest { (client : Client) × IsSilentLongest clients.now result client }
+{
+    let mut longest = 0;
+    for place in 1..clients.len() {
+        if clients[place].heard < clients[longest].heard {
+            longest = place;
+        }
+    }
+    longest
+}
