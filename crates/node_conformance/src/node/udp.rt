@@ -415,6 +415,30 @@ fn udp_silent_peer(rt: HostRuntime) {
     assert!(rt; keeps_peer(&rt, &Cell::new(0)) == Some(true));
 }
 
+/// Whether a datagram that came in time is heard, where another face closes first and the time is
+/// then over.
+fn hears_what_waits(rt: &impl Net, moment: &Cell<u64>) -> Option<bool> {
+    let listen = free_port(rt)?;
+    let mut ports = UdpPorts::bind(rt, listen, &[], 0, Handed { moment, last: 0 }).ok()?;
+    ports.close_after(1_000);
+    let silent = send_one(rt, listen, b"1").ok()?;
+    let opened = opens(&mut ports, 1, 0, 0, 1) && silent.local_addr().is_ok();
+    moment.set(1);
+    let client = send_one(rt, listen, b"22").ok()?;
+    let both = opened && opens(&mut ports, 2, 1, 1, 2);
+    moment.set(1_000);
+    client.send(b"333").ok()?;
+    let closed = brings_end(&mut ports, 1, 1_000);
+    moment.set(1_001);
+    Some(both && closed && brings_packet(&mut ports, 2, 1_001, 3))
+}
+
+/// What comes in time keeps its face while another one closes.
+#[test]
+fn udp_waits_while_a_face_closes(rt: HostRuntime) {
+    assert!(rt; hears_what_waits(&rt, &Cell::new(0)) == Some(true));
+}
+
 /// Whether so many faces open at this moment.
 fn open_all<M: Moments>(ports: &mut UdpPorts<M>, faces: u64, at: u64) -> bool {
     for face in 0..faces {
