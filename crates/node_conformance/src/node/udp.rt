@@ -377,12 +377,12 @@ fn answered_clients(rt: &(impl AllocGlobal + Net), moment: &Cell<u64>) -> Option
     let mut ports = UdpPorts::bind(rt, listen, &[], 0, Handed { moment, last: 0 }).ok()?;
     ports.close_after(600_000);
     let mut node = node_of(rt.alloc())?;
-    let mut answered = 0;
+    let mut answered = 0u64;
     for client in 0..200u64 {
         moment.set(client.saturating_mul(600_000));
         let turns = if client == 0 { 2 } else { 3 };
         if answers_client(rt, &mut node, &mut ports, listen, turns) {
-            answered += 1;
+            answered = answered.saturating_add(1);
         }
     }
     Some(answered)
