@@ -2,6 +2,7 @@
 
 mod cache;
 mod decisions;
+mod endpoints;
 mod faces;
 mod full_pending;
 mod new_rules;

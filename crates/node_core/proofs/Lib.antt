@@ -13,3 +13,4 @@ pub mod Digits
 pub mod Meeting
 pub mod Heard
 pub mod Silent
+pub mod Strangers

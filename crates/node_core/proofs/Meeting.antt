@@ -5,11 +5,11 @@ use Rattle.std.specs.Option.{option_map}
 use Rattle.std.proofs.lemmas.List.{take_all}
 use Rattle.node_core.specs.declared.ports.TheConstants.{FRAME_ROOM}
 use Rattle.node_core.specs.declared.ports.clients.Client.{Client}
-use Rattle.node_core.specs.declared.ports.known_ports.KnownPorts.{KnownPorts}
+use Rattle.node_core.specs.declared.ports.known_endpoints.KnownEndpoints.{KnownEndpoints}
 use Rattle.node_core.specs.declared.ports.udp.Waiting.{Waiting}
 use Rattle.node_core.specs.Udp.{Datagram}
 use Rattle.node_core.specs.Clients.{ClientsState, IsSilentLongest}
-use Rattle.node_core.specs.KnownPorts.{Closes}
+use Rattle.node_core.specs.KnownEndpoints.{Closes}
 
 -- octets that were cut once
 pub cut_once : (len : ℕ) (octets : List ℕ) → len ≤ FRAME_ROOM → take FRAME_ROOM (take len octets) ≡ take len octets
@@ -17,7 +17,7 @@ cut_once len octets h = take_all FRAME_ROOM (take len octets) (omega (arith, len
 
 -- the datagram of octets that wait
 abbrev pub datagram_of : List ℕ → Waiting → Datagram
-datagram_of octets waiting = record { port = waiting.port; face = waiting.face; octets = octets }
+datagram_of octets waiting = record { endpoint = waiting.endpoint; face = waiting.face; octets = octets }
 
 pub octets_wait : (waiting : Option Waiting) (octets : List ℕ) (datagram : Datagram) → option_map (datagram_of octets) waiting ≡ Some datagram → octets ≡ datagram.octets
 octets_wait None octets datagram h = absurd cc

@@ -1,6 +1,7 @@
 -- The client that was silent longest.
 use Rattle.std.proofs.Common.{◌≡◌, ℕ, ◌+◌, ◌<◌, ◌≤◌, List, length, take, drop, remove, suc, length-take, slice_index_or, inl, inr, ◌⊎◌, arith, ap, All}
-use Rattle.std.specs.Prelude.{Option, Some, None}
+use Rattle.std.specs.Prelude.{Option, Some, None, []}
+use Rattle.std.specs.declared.net.socket_addr.SocketAddr.TheVariants.{V4}
 use Rattle.std.proofs.lemmas.List.{get_or_default, get_or-take}
 use Rattle.std.proofs.lemmas.List.Elements.{All-append, All-take, All-drop}
 use Rattle.std.proofs.lemmas.Option.{slice_get-get_or}
@@ -9,7 +10,7 @@ use Rattle.node_core.specs.Clients.{AreHeardUntil, IsSilentLongest}
 use Rattle.node_core.specs.declared.ports.clients.Client.{Client}
 
 abbrev pub nobody : Client
-nobody = record { port = 0; face = 0; heard = 0 }
+nobody = record { endpoint = V4 (record { ip = record { octets = [] }; port = 0 }); face = 0; heard = 0 }
 
 abbrev pub heard_at : List Client → ℕ → ℕ
 heard_at clients k = (slice_index_or clients k nobody).heard

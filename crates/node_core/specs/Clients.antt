@@ -1,8 +1,10 @@
--- The ports that opened their faces themselves, and how long they were silent. Times are in
+-- The endpoints that opened their faces themselves, and how long they were silent. Times are in
 -- milliseconds, and moments in milliseconds since 1970.
-use Rattle.std.specs.Prelude.{◌≡◌, ℕ, ◌+◌, ◌<◌, ◌≤◌, ◌==◌, ◌⊎◌, List, All, position, slice_get, slice_set, take, Option, None, Some, ⊤}
+use Rattle.std.specs.Prelude.{◌≡◌, ℕ, ◌+◌, ◌<◌, ◌≤◌, ◌⊎◌, List, All, position, slice_get, slice_set, take, Option, None, Some, ⊤}
+use Rattle.std.specs.declared.net.socket_addr.SocketAddr.{SocketAddr}
 use Rattle.node_core.specs.declared.ports.clients.Client.{Client}
 use Rattle.node_core.specs.declared.ports.clients.TheConstants.{GIVE_WAY_MILLISECONDS}
+use Rattle.node_core.specs.Endpoints.{is_at}
 
 pub record ClientsState : Type 0 where
   -- in the order of their faces
@@ -19,7 +21,7 @@ abbrev pub IsIdle : Option ℕ → ℕ → Client → Type 0
 IsIdle None now client = ⊥
 IsIdle (Some idle) now client = IsSilent idle now client
 
--- a client was silent for so long that its face may close for a port that has none
+-- a client was silent for so long that its face may close for an endpoint that has none
 abbrev pub GivesWay : Option ℕ → ℕ → Client → Type 0
 GivesWay None now client = ⊥
 GivesWay (Some idle) now client = IsSilent GIVE_WAY_MILLISECONDS now client
@@ -30,30 +32,30 @@ pub record IsSilentLongest (clients : List Client) (place : ℕ) (client : Clien
   pub least : All (λ other. client.heard ≤ other.heard) clients
   pub first : All (λ other. client.heard < other.heard) (take place clients)
 
--- a client has this port, and its face; now it is heard, and nothing else changes
-pub record Hears (before after : List Client) (port now face : ℕ) : Type 0 where
+-- a client has this endpoint, and its face; now it is heard, and nothing else changes
+pub record Hears (before after : List Client) (endpoint : SocketAddr) (now face : ℕ) : Type 0 where
   pub place : ℕ
   pub client : Client
-  pub first : position (λ known. known.port == port) before ≡ Some place
+  pub first : position (λ known. is_at endpoint known.endpoint) before ≡ Some place
   pub is : slice_get before place ≡ Some client
   pub face_is : face ≡ client.face
   pub heard : after ≡ slice_set before place (record client { heard = now })
 
-abbrev pub IsNoClient : List Client → ℕ → Type 0
-IsNoClient clients port = position (λ known. known.port == port) clients ≡ None
+abbrev pub IsNoClient : List Client → SocketAddr → Type 0
+IsNoClient clients endpoint = position (λ known. is_at endpoint known.endpoint) clients ≡ None
 
--- the client of this port is heard now, if there is one
-abbrev pub MayHear : List Client → List Client → ℕ → ℕ → Type 0
-MayHear before after port now =
-    ((face : ℕ) × Hears before after port now face)
-    ⊎ (IsNoClient before port × (after ≡ before))
+-- the client of this endpoint is heard now, if there is one
+abbrev pub MayHear : List Client → List Client → SocketAddr → ℕ → Type 0
+MayHear before after endpoint now =
+    ((face : ℕ) × Hears before after endpoint now face)
+    ⊎ (IsNoClient before endpoint × (after ≡ before))
 
--- the client of this port is heard now, if there is one and it is not idle
-abbrev pub HearsInTime : Option ℕ → List Client → List Client → ℕ → ℕ → Type 0
-HearsInTime idle before after port now =
-    ((face : ℕ) × (heard : Hears before after port now face) × (IsIdle idle now heard.client → ⊥))
-    ⊎ ((IsNoClient before port ⊎ ((place : ℕ) × (client : Client)
-    × (position (λ known. known.port == port) before ≡ Some place)
+-- the client of this endpoint is heard now, if there is one and it is not idle
+abbrev pub HearsInTime : Option ℕ → List Client → List Client → SocketAddr → ℕ → Type 0
+HearsInTime idle before after endpoint now =
+    ((face : ℕ) × (heard : Hears before after endpoint now face) × (IsIdle idle now heard.client → ⊥))
+    ⊎ ((IsNoClient before endpoint ⊎ ((place : ℕ) × (client : Client)
+    × (position (λ known. is_at endpoint known.endpoint) before ≡ Some place)
     × (slice_get before place ≡ Some client) × IsIdle idle now client))
     × (after ≡ before))
 

@@ -1,7 +1,8 @@
 pub mod Files
 pub mod Ports
+pub mod Endpoints
 pub mod Clients
-pub mod KnownPorts
+pub mod KnownEndpoints
 pub mod Udp
 pub mod Script
 pub mod Outcomes

@@ -1,26 +1,29 @@
--- What UDP ports keep, and what they give. What a socket gives or takes is not said.
-use Rattle.std.specs.Prelude.{◌≡◌, ℕ, ◌+◌, ◌<◌, ◌⊎◌, List, [], length, take, Option, None, Some, nat_le, if◌then◌else◌}
+-- What UDP ports hold, and what they give. What a socket gives or takes is not said.
+use Rattle.std.specs.Prelude.{◌≡◌, ◌≢◌, ℕ, ◌+◌, ◌<◌, ◌≤◌, ◌⊎◌, Bool, true, List, [], length, position, take, Option, None, Some, nat_le, if◌then◌else◌}
+use Rattle.std.specs.declared.net.socket_addr.SocketAddr.{SocketAddr}
 use Rattle.forwarder.specs.declared.event.Scope.{Scope}
 use Rattle.forwarder.specs.declared.event.Scope.TheVariants.{Local, Far}
 use Rattle.node_core.specs.declared.ports.TheConstants.{FRAME_ROOM}
 use Rattle.node_core.specs.declared.ports.Arrival.{Arrival}
 use Rattle.node_core.specs.declared.ports.Arrival.TheVariants.{End, Packet, FaceUp, FaceDown, Tick, NewRules}
-use Rattle.node_core.specs.declared.ports.known_ports.KnownPorts.{KnownPorts}
-use Rattle.node_core.specs.declared.ports.known_ports.Met.TheVariants.{Face, Opening, Closing}
+use Rattle.node_core.specs.declared.ports.known_endpoints.KnownEndpoints.{KnownEndpoints}
+use Rattle.node_core.specs.declared.ports.known_endpoints.Met.TheVariants.{Face, Opening, Closing}
 use Rattle.node_core.specs.declared.ports.clients.Client.{Client}
+use Rattle.node_core.specs.Endpoints.{is_at}
 use Rattle.node_core.specs.Clients.{MayHear}
-use Rattle.node_core.specs.KnownPorts.{Meets, with_clients}
+use Rattle.node_core.specs.KnownEndpoints.{Meets, with_clients}
+use Rattle.node_core.specs.Ports.{one_more}
 
 -- a datagram that was received and not yet given
 pub record Datagram : Type 0 where
-  pub port : ℕ
+  pub endpoint : SocketAddr
   -- the face that it is for; none while that is not settled
   pub face : Option ℕ
   pub octets : List ℕ
 
 pub record UdpState : Type 0 where
-  -- which ports have faces
-  pub known : KnownPorts
+  -- which endpoints have faces
+  pub known : KnownEndpoints
   -- how many faces of peers were opened
   pub opened : ℕ
   -- how many of the first faces are Local
@@ -29,11 +32,15 @@ pub record UdpState : Type 0 where
   pub waiting : Option Datagram
   -- the moment that the clock told last
   pub told : ℕ
+  -- whether endpoints are heard that are no peers
+  pub hears_strangers : Bool
+  -- how many datagrams of such endpoints were dropped, where they are not heard
+  pub strangers : ℕ
   -- how many calls failed
   pub failures : ℕ
 
 -- before the first arrival
-abbrev pub bound_to : List ℕ → ℕ → ℕ → UdpState
+abbrev pub bound_to : List SocketAddr → ℕ → ℕ → UdpState
 bound_to peers local told = record {
   known = record {
     peers = peers;
@@ -45,6 +52,8 @@ bound_to peers local told = record {
   local = local;
   waiting = None;
   told = told;
+  hears_strangers = true;
+  strangers = 0;
   failures = 0;
 }
 
@@ -77,10 +86,10 @@ OpensPeer before after (NewRules rules keys now) = ⊥
 -- opening.
 abbrev pub GivesWaiting : UdpState → UdpState → List ℕ → Arrival → Type 0
 GivesWaiting before after buffer (Packet face now len) =
-    (port : ℕ) × (octets : List ℕ) × (rows : List Client) × HasOpened before
-    × (before.waiting ≡ Some (record { port = port; face = Some face; octets = octets }))
+    (endpoint : SocketAddr) × (octets : List ℕ) × (rows : List Client) × HasOpened before
+    × (before.waiting ≡ Some (record { endpoint = endpoint; face = Some face; octets = octets }))
     × (take len buffer ≡ take (length buffer) octets)
-    × MayHear before.known.clients.rows rows port now
+    × MayHear before.known.clients.rows rows endpoint now
     × (after ≡ record before {
       known = with_clients before.known rows;
       waiting = None;
@@ -93,49 +102,75 @@ GivesWaiting before after buffer (Tick now) = ⊥
 GivesWaiting before after buffer (NewRules rules keys now) = ⊥
 
 -- a datagram waits, cut to 9,001 octets
-abbrev pub kept : ℕ → Option ℕ → List ℕ → Datagram
-kept port face datagram = record { port = port; face = face; octets = take FRAME_ROOM datagram }
+abbrev pub kept : SocketAddr → Option ℕ → List ℕ → Datagram
+kept endpoint face datagram = record {
+  endpoint = endpoint;
+  face = face;
+  octets = take FRAME_ROOM datagram;
+}
 
--- A datagram of this port comes on its face; or it waits while a face opens for it, or while one
--- closes first.
-abbrev pub Brings : UdpState → UdpState → ℕ → List ℕ → List ℕ → Arrival → Type 0
-Brings before after port datagram buffer (Packet face now len) =
-    (known : KnownPorts) × Meets before.known known port now (Face face)
+-- A datagram of this endpoint comes on its face; or it waits while a face opens for it, or while
+-- one closes first.
+abbrev pub Brings : UdpState → UdpState → SocketAddr → List ℕ → List ℕ → Arrival → Type 0
+Brings before after endpoint datagram buffer (Packet face now len) =
+    (known : KnownEndpoints) × Meets before.known known endpoint now (Face face)
     × (take len buffer ≡ take (length buffer) datagram)
     × (after ≡ record before { known = known; waiting = None; told = now })
-Brings before after port datagram buffer (FaceUp face scope now) =
-    (known : KnownPorts) × Meets before.known known port now (Opening face) × (scope ≡ Far)
+Brings before after endpoint datagram buffer (FaceUp face scope now) =
+    (known : KnownEndpoints) × Meets before.known known endpoint now (Opening face) × (scope ≡ Far)
     × (after ≡ record before {
       known = known;
-      waiting = Some (kept port (Some face) datagram);
+      waiting = Some (kept endpoint (Some face) datagram);
       told = now;
     })
-Brings before after port datagram buffer (FaceDown face now) =
-    (known : KnownPorts) × Meets before.known known port now (Closing face)
+Brings before after endpoint datagram buffer (FaceDown face now) =
+    (known : KnownEndpoints) × Meets before.known known endpoint now (Closing face)
     × (after ≡ record before {
       known = known;
-      waiting = Some (kept port None datagram);
+      waiting = Some (kept endpoint None datagram);
       told = now;
     })
-Brings before after port datagram buffer End = ⊥
-Brings before after port datagram buffer (Tick now) = ⊥
-Brings before after port datagram buffer (NewRules rules keys now) = ⊥
+Brings before after endpoint datagram buffer End = ⊥
+Brings before after endpoint datagram buffer (Tick now) = ⊥
+Brings before after endpoint datagram buffer (NewRules rules keys now) = ⊥
 
 -- every peer has its face, and no datagram waits
 abbrev pub Listens : UdpState → Type 0
 Listens before = HasOpened before × (before.waiting ≡ None)
 
--- some datagram of some port was received into the front of the buffer
+-- a datagram of this endpoint is heard: it is a peer's, or strangers are heard
+abbrev pub IsHeard : UdpState → SocketAddr → Type 0
+IsHeard before endpoint =
+    (before.hears_strangers ≡ true) ⊎ (position (is_at endpoint) before.known.peers ≢ None)
+
+-- Datagrams of strangers were dropped unread and counted. None are dropped where strangers are
+-- heard.
+pub record DropsStrangers (before after : UdpState) : Type 0 where
+  pub count : ℕ
+  pub is : after ≡ record before { strangers = count }
+  pub more : before.strangers ≤ count
+  pub none : before.hears_strangers ≡ true → count ≡ before.strangers
+
+-- after datagrams of strangers, one of an endpoint that is heard was received into the front of the
+-- buffer
 abbrev pub GivesReceived : UdpState → UdpState → List ℕ → Arrival → Type 0
 GivesReceived before after buffer arrival =
-    Listens before × ((port len : ℕ) × Brings before after port (take len buffer) buffer arrival)
+    Listens before × ((mid : UdpState) × (endpoint : SocketAddr) × (len : ℕ)
+    × DropsStrangers before mid × IsHeard mid endpoint
+    × Brings mid after endpoint (take len buffer) buffer arrival)
+
+-- the call failed, after datagrams of strangers
+abbrev pub FailsReceiving : UdpState → UdpState → Type 0
+FailsReceiving before after =
+    (mid : UdpState) × DropsStrangers before mid
+    × (after ≡ record mid { failures = one_more mid.failures })
 
 -- the datagram that waited while a face closed
 abbrev pub GoesOn : UdpState → UdpState → List ℕ → Arrival → Type 0
 GoesOn before after buffer arrival =
-    (port : ℕ) × (octets : List ℕ) × HasOpened before
-    × (before.waiting ≡ Some (record { port = port; face = None; octets = octets }))
-    × Brings before after port octets buffer arrival
+    (endpoint : SocketAddr) × (octets : List ℕ) × HasOpened before
+    × (before.waiting ≡ Some (record { endpoint = endpoint; face = None; octets = octets }))
+    × Brings before after endpoint octets buffer arrival
 
 -- what may arrive, and what the ports are afterwards
 abbrev pub UdpGives : UdpState → UdpState → List ℕ → Arrival → Type 0

@@ -4,7 +4,7 @@ ghost use Rattle.node_core.specs.Ports.{Gives, LiesWithin, Takes, arrived, one_m
 
 mod clients;
 mod datagram;
-mod known_ports;
+mod known_endpoints;
 mod memory;
 mod peers;
 mod serving;

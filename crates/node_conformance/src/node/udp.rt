@@ -25,8 +25,8 @@ impl Moments for Still {
 
 /// A clock that moves on by a millisecond whenever it is asked.
 #[derive(Drop)]
-struct Moving {
-    last: u64,
+pub struct Moving {
+    pub last: u64,
 }
 
 impl Moments for Moving {
@@ -55,13 +55,13 @@ impl<'a> Moments for Handed<'a> {
 }
 
 /// A port, and a socket that hears it.
-fn heard_port(rt: &impl Net) -> Option<(u16, UdpSocket)> {
+pub fn heard_port(rt: &impl Net) -> Option<(u16, UdpSocket)> {
     let socket = UdpSocket::bind(rt, (Ipv4Addr::LOCALHOST, 0)).ok()?;
     Some((socket.local_addr().ok()?.port(), socket))
 }
 
 /// A port of this machine that nobody hears.
-fn free_port(rt: &impl Net) -> Option<u16> {
+pub fn free_port(rt: &impl Net) -> Option<u16> {
     Some(heard_port(rt)?.0)
 }
 
@@ -272,7 +272,7 @@ fn udp_port_taken(rt: HostRuntime) {
 }
 
 /// Whether the next arrival opens this Far face at this moment.
-fn brings_face<M: Moments>(ports: &mut UdpPorts<M>, opened: u64, at: u64) -> bool {
+pub fn brings_face<M: Moments>(ports: &mut UdpPorts<M>, opened: u64, at: u64) -> bool {
     matches!(
         ports.next(&mut [0; 100]),
         Ok(Arrival::FaceUp { face, scope: Scope::Far, now }) if face == opened && now == at
@@ -280,7 +280,7 @@ fn brings_face<M: Moments>(ports: &mut UdpPorts<M>, opened: u64, at: u64) -> boo
 }
 
 /// Whether the next arrival is a packet of so many octets on this face at this moment.
-fn brings_packet<M: Moments>(ports: &mut UdpPorts<M>, from: u64, at: u64, count: usize) -> bool {
+pub fn brings_packet<M: Moments>(ports: &mut UdpPorts<M>, from: u64, at: u64, count: usize) -> bool {
     matches!(
         ports.next(&mut [0; 100]),
         Ok(Arrival::Packet { face, now, len }) if face == from && now == at && len == count
@@ -288,7 +288,7 @@ fn brings_packet<M: Moments>(ports: &mut UdpPorts<M>, from: u64, at: u64, count:
 }
 
 /// Whether the next two arrivals, at these moments, open a face and bring so many octets on it.
-fn opens<M: Moments>(
+pub fn opens<M: Moments>(
     ports: &mut UdpPorts<M>,
     face: u64,
     opened: u64,
@@ -318,7 +318,7 @@ fn open_themselves(rt: &impl Net) -> Option<bool> {
 }
 
 /// Whether these octets are what a socket hears next.
-fn hears_octets(socket: &UdpSocket, octets: &[u8]) -> bool {
+pub fn hears_octets(socket: &UdpSocket, octets: &[u8]) -> bool {
     let mut buffer = [0; 100];
     match receive_one(socket, &mut buffer) {
         Ok(len) => buffer.get(..len) == Some(octets),

@@ -1,30 +1,44 @@
-//! The ports that opened their faces themselves.
+//! The endpoints that opened their faces themselves.
 ghost use Rattle.std.specs.Prelude.{◌≡◌, ◌∷◌, ◌++◌, [], ◌+◌, ◌<◌, ◌≤◌, ◌==◌, ◌↔◌, All, length, List, slice_get, slice_set, remove, position, find, option_map, IfSome, IsTrue, Some, None, true, false};
 ghost use Rattle.node_core.specs.Clients.{GivesWay, Hears, HearsInTime, IsIdle, IsNoClient, IsSilent, IsSilentLongest};
+ghost use Rattle.node_core.specs.Endpoints.{is_at};
 ghost use Rattle.node_core.specs.declared.ports.clients.Client.{Client};
 
+use crate::ports::peers::nowhere;
 use arrayvec::ArrayVec;
 use forwarder::MAX_FACES;
 use std::marker::Model;
+use std::net::SocketAddr;
 
-/// After how long a silence a face closes for a port that has none, in milliseconds.
+/// After how long a silence a face closes for an endpoint that has none, in milliseconds.
 pub const GIVE_WAY_MILLISECONDS: u64 = 10_000;
 
-/// A port that opened its face itself.
-#[derive(Clone, Copy, Default)]
+/// An endpoint that opened its face itself.
+#[derive(Clone, Copy)]
 pub struct Client {
-    /// Its port.
-    pub port: u16,
+    /// Its address and port.
+    pub endpoint: SocketAddr,
     /// Its face.
     pub face: u64,
     /// The moment at which something came from it last.
     pub heard: u64,
 }
 
-/// At most 64 ports that opened their faces themselves, in the order of their faces.
+impl Default for Client {
+    // What fills a place that has no client.
+    fn default() -> Client {
+        Client {
+            endpoint: nowhere(),
+            face: 0,
+            heard: 0,
+        }
+    }
+}
+
+/// At most 64 endpoints that opened their faces themselves, in the order of their faces.
 ///
-/// Where a time is given, the faces may close that are silent for it, or, for a port that has no
-/// face, those that are silent for `GIVE_WAY_MILLISECONDS`.
+/// Where a time is given, the faces may close that are silent for it, or, for an endpoint that has
+/// no face, those that are silent for `GIVE_WAY_MILLISECONDS`.
 #[derive(Drop)]
 pub struct Clients {
     rows: ArrayVec<Client, MAX_FACES>,
@@ -44,7 +58,7 @@ impl Model for Clients {
 }
 
 impl Clients {
-    /// No port yet, and no face closes.
+    /// No endpoint yet, and no face closes.
     pub fn new() -> Clients
         ensures { result ≡ record { rows = []; idle = None } }
     {
@@ -63,7 +77,7 @@ impl Clients {
         self.heard_until = 0;
     }
 
-    /// The number of ports.
+    /// The number of endpoints.
     pub fn len(&self) -> usize
         ensures exact { result ≡ length self.now.rows }
         ensures small { result ≤ MAX_FACES }
@@ -71,9 +85,9 @@ impl Clients {
         self.rows.len()
     }
 
-    /// The port of a face.
-    pub fn port_of(&self, face: u64) -> Option<u16>
-        ensures { result ≡ option_map (λ client. client.port)
+    /// The endpoint of a face.
+    pub fn endpoint_of(&self, face: u64) -> Option<SocketAddr>
+        ensures { result ≡ option_map (λ client. client.endpoint)
             (find (λ client. client.face == face) self.now.rows) }
     {
         let client = self
@@ -81,10 +95,10 @@ impl Clients {
             .as_slice()
             .iter()
             .find(|client| client.face == face)?;
-        Some(client.port)
+        Some(client.endpoint)
     }
 
-    /// Adds a port, while there are fewer than 64.
+    /// Adds an endpoint, while there are fewer than 64.
     pub fn push(&mut self, client: Client)
         requires { length self.old.rows < MAX_FACES }
         ensures { self.new ≡ record self.old { rows = self.old.rows ++ (client ∷ []) } }
@@ -93,7 +107,7 @@ impl Clients {
         self.rows.push(client);
     }
 
-    /// Takes out the port at a place, counted from 0.
+    /// Takes out the endpoint at a place, counted from 0.
     pub fn remove(&mut self, place: usize)
         requires { place < length self.old.rows }
         ensures { self.new ≡ record self.old { rows = remove self.old.rows place } }
@@ -101,33 +115,33 @@ impl Clients {
         let _client = self.rows.remove(place);
     }
 
-    /// Something comes from a port at this moment. Its face is given, if it has one.
-    pub fn hear(&mut self, port: u16, now: u64) -> Option<u64>
+    /// Something comes from an endpoint at this moment. Its face is given, if it has one.
+    pub fn hear(&mut self, endpoint: SocketAddr, now: u64) -> Option<u64>
         ensures found { IfSome result (λ face. (rows : List Client)
-            × Hears self.old.rows rows port now face
+            × Hears self.old.rows rows endpoint now face
             × (self.new ≡ record self.old { rows = rows })) }
-        ensures none { result ≡ None → IsNoClient self.old.rows port × (self.new ≡ self.old) }
+        ensures none { result ≡ None → IsNoClient self.old.rows endpoint × (self.new ≡ self.old) }
     {
-        let place = self.place_of(port)?;
+        let place = self.place_of(endpoint)?;
         Some(self.hear_at(place, now))
     }
 
-    /// Something comes from a port at this moment: it is heard, if it has a face and was not silent
-    /// for the time after which that closes.
-    pub fn hear_in_time(&mut self, port: u16, now: u64)
+    /// Something comes from an endpoint at this moment: it is heard, if it has a face and was not
+    /// silent for the time after which that closes.
+    pub fn hear_in_time(&mut self, endpoint: SocketAddr, now: u64)
         ensures heard { (rows : List Client)
-            × HearsInTime self.old.idle self.old.rows rows port now
+            × HearsInTime self.old.idle self.old.rows rows endpoint now
             × (self.new ≡ record self.old { rows = rows }) }
         ensures len { length self.new.rows ≡ length self.old.rows }
     {
-        if let Some(place) = self.place_of(port) {
+        if let Some(place) = self.place_of(endpoint) {
             if !self.is_idle_at(place, now) {
                 let _face = self.hear_at(place, now);
             }
         }
     }
 
-    /// Whether the port at a place was silent for the time after which its face closes.
+    /// Whether the endpoint at a place was silent for the time after which its face closes.
     fn is_idle_at(&self, place: usize, now: u64) -> bool
         requires { place < length self.now.rows }
         ensures yes { result ≡ true → (client : Client)
@@ -150,18 +164,18 @@ impl Clients {
         self.rows.as_slice()[place].face
     }
 
-    /// The first place of a port, counted from 0.
-    fn place_of(&self, port: u16) -> Option<usize>
-        ensures first { result ≡ position (λ client. client.port == port) self.now.rows }
+    /// The first place of an endpoint, counted from 0.
+    fn place_of(&self, endpoint: SocketAddr) -> Option<usize>
+        ensures first { result ≡ position (λ client. is_at endpoint client.endpoint) self.now.rows }
         ensures within { IfSome result (λ place. place < length self.now.rows) }
     {
         self.rows
             .as_slice()
             .iter()
-            .position(|client| client.port == port)
+            .position(|client| client.endpoint == endpoint)
     }
 
-    /// Something comes from the port at a place. Its face is given.
+    /// Something comes from the endpoint at a place. Its face is given.
     fn hear_at(&mut self, place: usize, now: u64) -> u64
         requires { place < length self.old.rows }
         ensures { (client : Client) × (slice_get self.old.rows place ≡ Some client)
@@ -174,8 +188,8 @@ impl Clients {
         hear_at(self.rows.as_mut_slice(), place, now)
     }
 
-    /// The place of the port that was silent longest, if it was for the time after which its face
-    /// closes.
+    /// The place of the endpoint that was silent longest, if it was for the time after which its
+    /// face closes.
     pub fn idle_place(&mut self, now: u64) -> Option<usize>
         ensures same { self.new ≡ self.old }
         ensures none { result ≡ None
@@ -193,7 +207,7 @@ impl Clients {
         place
     }
 
-    /// The place of the port that was silent longest, if its face closes for a port that has none.
+    /// The place of the endpoint that was silent longest, if its face closes for one that has none.
     pub fn yielding_place(&self, now: u64) -> Option<usize>
         ensures none { result ≡ None
             → All (λ client. GivesWay self.now.idle now client → ⊥) self.now.rows }
@@ -205,7 +219,7 @@ impl Clients {
         self.silent_for(GIVE_WAY_MILLISECONDS, now)
     }
 
-    /// The place of the port that was silent longest, if for this time at least.
+    /// The place of the endpoint that was silent longest, if for this time at least.
     fn silent_for(&self, time: u64, now: u64) -> Option<usize>
         ensures none { result ≡ None
             → All (λ client. IsSilent time now client → ⊥) self.now.rows }
@@ -233,7 +247,7 @@ fn is_silent(heard: u64, time: u64, now: u64) -> bool
     heard <= now && now - heard >= time
 }
 
-/// The moment at which a port is idle, unless it is heard before.
+/// The moment at which an endpoint is idle, unless it is heard before.
 fn end_of(idle: Option<u64>, heard: u64) -> u64
     ensures { IfSome idle (λ idle. result ≤ heard + idle) }
 {
@@ -243,7 +257,7 @@ fn end_of(idle: Option<u64>, heard: u64) -> u64
     }
 }
 
-/// Something comes from the port at a place. Its face is given.
+/// Something comes from the endpoint at a place. Its face is given.
 fn hear_at(clients: &mut [Client], place: usize, now: u64) -> u64
     requires { place < length clients.old }
     ensures { (client : Client) × (slice_get clients.old place ≡ Some client)
@@ -265,7 +279,7 @@ fn first_end(clients: &[Client], time: u64) -> u64
     first
 }
 
-/// The place of the port that was silent longest, and the first of several.
+/// The place of the endpoint that was silent longest, and the first of several.
 fn silent_longest(clients: &[Client]) -> usize
     requires { 0 < length clients.now }
     ensures within { result < length clients.now }

@@ -1,63 +1,79 @@
-//! The ports that are known from the start.
-ghost use Rattle.std.specs.Prelude.{◌≡◌, ◌<◌, ◌≤◌, ◌==◌, length, slice_get, position, IfSome};
+//! The endpoints that are known from the start.
+ghost use Rattle.std.specs.Prelude.{◌≡◌, ◌<◌, ◌≤◌, length, slice_get, position, IfSome};
+ghost use Rattle.node_core.specs.Endpoints.{is_at};
 
 use forwarder::MAX_FACES;
 use std::marker::Model;
+use std::net::{Ipv4Addr, SocketAddr, SocketAddrV4};
 
-/// At most as many ports as a node has faces, 64, in the order of their faces, which never close.
+/// At most as many endpoints as a node has faces, 64, in the order of their faces, which never
+/// close.
 #[derive(Drop)]
 pub struct Peers {
-    ports: [u16; MAX_FACES],
+    endpoints: [SocketAddr; MAX_FACES],
     len: usize,
 }
 
 impl Model for Peers {
-    ghost use Rattle.std.specs.Prelude.{List, ℕ, ◌≤◌, take};
+    ghost use Rattle.std.specs.Prelude.{List, ◌≤◌, take};
+    ghost use Rattle.std.specs.declared.net.socket_addr.SocketAddr.{SocketAddr};
     ghost use Rattle.pit_fib.specs.declared.faces.TheConstants.{MAX_FACES};
 
-    ghost Value = { List ℕ };
+    ghost Value = { List SocketAddr };
 
-    ghost view = { λ p. take p.len p.ports };
+    ghost view = { λ p. take p.len p.endpoints };
 
     ghost invariant = { λ p. p.len ≤ MAX_FACES };
 }
 
 impl Peers {
-    /// These ports, of which there are at most 64.
-    pub fn new(ports: &[u16]) -> Peers
-        requires { length ports.now ≤ MAX_FACES }
-        ensures { result ≡ ports.now }
+    /// These endpoints, of which there are at most 64.
+    pub fn new(endpoints: &[SocketAddr]) -> Peers
+        requires { length endpoints.now ≤ MAX_FACES }
+        ensures { result ≡ endpoints.now }
     {
-        let mut known = [0; MAX_FACES];
-        known[..ports.len()].copy_from_slice(ports);
+        let mut known = [nowhere(); MAX_FACES];
+        known[..endpoints.len()].copy_from_slice(endpoints);
         Peers {
-            ports: known,
-            len: ports.len(),
+            endpoints: known,
+            len: endpoints.len(),
         }
     }
 
-    /// The number of ports.
+    /// The number of endpoints.
     pub fn len(&self) -> usize
         ensures exact { result ≡ length self.now }
         ensures small { result ≤ MAX_FACES }
     {
-        self.len
+        self.as_slice().len()
     }
 
-    /// The port at a place, counted from 0.
-    pub fn get(&self, i: usize) -> Option<u16>
+    fn as_slice(&self) -> &[SocketAddr]
+        ensures exact { result.now ≡ self.now }
+        ensures small { length result.now ≤ MAX_FACES }
+    {
+        &self.endpoints[..self.len]
+    }
+
+    /// The endpoint at a place, counted from 0.
+    pub fn get(&self, i: usize) -> Option<SocketAddr>
         ensures { result ≡ slice_get self.now i }
     {
-        self.ports[..self.len].get(i).copied()
+        self.as_slice().get(i).copied()
     }
 
-    /// The first place of a port, counted from 0.
-    pub fn place_of(&self, port: u16) -> Option<usize>
-        ensures first { result ≡ position (λ known. known == port) self.now }
+    /// The first place of an endpoint, counted from 0.
+    pub fn place_of(&self, endpoint: SocketAddr) -> Option<usize>
+        ensures first { result ≡ position (is_at endpoint) self.now }
         ensures small { IfSome result (λ place. place < MAX_FACES) }
     {
-        self.ports[..self.len]
+        self.as_slice()
             .iter()
-            .position(|known| *known == port)
+            .position(|known| *known == endpoint)
     }
+}
+
+/// What fills a place that has no endpoint.
+pub fn nowhere() -> SocketAddr {
+    SocketAddr::V4(SocketAddrV4::new(Ipv4Addr::UNSPECIFIED, 0))
 }

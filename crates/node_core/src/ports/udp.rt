@@ -1,14 +1,16 @@
-//! Ports by UDP, for programs on this machine.
-ghost use Rattle.std.specs.Prelude.{◌≡◌, ◌<◌, ◌≤◌, ℕ, List, None, Some, length, take, IfOk, IfSome, OnOk, OnErr};
-ghost use Rattle.node_core.specs.KnownPorts.{port_at};
+//! Ports by UDP.
+ghost use Rattle.std.specs.Prelude.{◌≡◌, ◌<◌, ◌≤◌, ◌↔◌, ℕ, List, None, Some, true, false, length, take, IfOk, IfSome, IsTrue, OnOk, OnErr};
+ghost use Rattle.std.specs.declared.net.socket_addr.SocketAddr.{SocketAddr};
+ghost use Rattle.node_core.specs.Endpoints.{AreLoopbackAt, IsLoopbackAt};
+ghost use Rattle.node_core.specs.KnownEndpoints.{endpoint_at};
 ghost use Rattle.node_core.specs.Ports.{LiesWithin, one_more};
-ghost use Rattle.node_core.specs.Udp.{Brings, GivesWaiting, GoesOn, HasOpened, Listens, OpensPeer, UdpGives, bound_to, closes_after, kept};
+ghost use Rattle.node_core.specs.Udp.{Brings, DropsStrangers, FailsReceiving, GivesWaiting, GoesOn, HasOpened, IsHeard, Listens, OpensPeer, UdpGives, bound_to, closes_after, kept};
 
-use crate::ports::known_ports::{KnownPorts, Met};
+use crate::ports::known_endpoints::{KnownEndpoints, Met};
 use crate::ports::{Arrival, FRAME_ROOM, PortFault, Ports, put_front};
 use forwarder::{MAX_FACES, Scope};
 use std::marker::Model;
-use std::net::{Ipv4Addr, Net, UdpSocket};
+use std::net::{Ipv4Addr, Net, SocketAddr, SocketAddrV4, UdpSocket};
 use std::time::Duration;
 
 /// How long `UdpPorts::next_soon` waits for a datagram, in milliseconds.
@@ -24,20 +26,21 @@ pub trait Moments: Drop {
         ensures { result ≡ last self.new };
 }
 
-/// Ports of programs on this machine, with a face for each, by one UDP socket on 127.0.0.1.
+/// Ports by one UDP socket, with a face for each endpoint that is known.
 ///
-/// The peers' ports have the faces 1, 2 and so on, and each is opened in a turn of its own before
-/// anything is received. A port that is not known gets the next number and is opened as Far before
-/// its first packet. While 64 ports are known, the opening and the packet are for the next number,
-/// 65 while no face has closed, and the port is not kept: no node with 64 faces opens it. No number
-/// is used again, and nothing ends.
+/// The peers' endpoints have the faces 1, 2 and so on, and each is opened in a turn of its own
+/// before anything is received. An endpoint that is not known gets the next number and is opened as
+/// Far before its first packet. While 64 endpoints are known, the opening and the packet are for the
+/// next number, 65 while no face has closed, and the endpoint is not kept: no node with 64 faces
+/// opens it. No number is used again, and nothing ends.
 ///
-/// By `close_after` faces close that were silent for too long. A peer's face never closes.
+/// By `close_after` faces close that were silent for too long. A peer's face never closes. By
+/// `ignore_strangers` the peers alone are heard.
 #[derive(Drop)]
 pub struct UdpPorts<M: Moments> {
     socket: UdpSocket,
     moments: M,
-    known: KnownPorts,
+    known: KnownEndpoints,
     // How many faces of peers were opened.
     opened: usize,
     local: u64,
@@ -47,13 +50,15 @@ pub struct UdpPorts<M: Moments> {
     len: usize,
     // Whether receiving ends after a short time, in place of waiting as long as nothing comes.
     is_brief: bool,
+    hears_strangers: bool,
+    strangers: u64,
     failures: u64,
 }
 
 /// Where a datagram that waits came from, and the face that it is for, if that is settled.
 #[derive(Clone, Copy)]
 struct Waiting {
-    port: u16,
+    endpoint: SocketAddr,
     face: Option<u64>,
 }
 
@@ -70,11 +75,13 @@ impl<M: Moments> Model for UdpPorts<M> {
       opened = u.opened;
       local = u.local;
       waiting = option_map (λ waiting. record {
-        port = waiting.port;
+        endpoint = waiting.endpoint;
         face = waiting.face;
         octets = take u.len u.octets;
       }) u.waiting;
       told = M.last u.moments;
+      hears_strangers = u.hears_strangers;
+      strangers = u.strangers;
       failures = u.failures;
     } };
 
@@ -82,10 +89,7 @@ impl<M: Moments> Model for UdpPorts<M> {
 }
 
 impl<M: Moments> UdpPorts<M> {
-    /// Ports with the peers' faces to open, of which the first `local` are Local and the others
-    /// Far. It takes one socket and no memory. There are at most 64 peers; of a port that is named
-    /// twice the first face alone hears. No face closes. Its fault says that the port cannot be
-    /// bound.
+    /// Ports on this port of 127.0.0.1, whose peers are ports of 127.0.0.1: as `bind_at`.
     pub fn bind(
         rt: &impl Net,
         listen: u16,
@@ -94,35 +98,97 @@ impl<M: Moments> UdpPorts<M> {
         moments: M,
     ) -> Result<UdpPorts<M>, PortFault>
         requires few { length peers.now ≤ MAX_FACES }
+        ensures { IfOk result (λ ports. (endpoints : List SocketAddr)
+            × AreLoopbackAt peers.now endpoints
+            × (ports ≡ bound_to endpoints local (M.last moments))) }
+    {
+        let mut endpoints = [loopback(0); MAX_FACES];
+        let endpoints = &mut endpoints[..peers.len()];
+        put_loopback(peers, endpoints);
+        UdpPorts::bind_at(rt, loopback(listen), endpoints, local, moments)
+    }
+
+    /// Ports with the peers' faces to open, of which the first `local` are Local and the others
+    /// Far. It takes one socket and no memory. There are at most 64 peers, of the family of the
+    /// address that is bound; of an endpoint that is named twice the first face alone hears. No
+    /// face closes, and strangers are heard. Its fault says that the endpoint cannot be bound.
+    pub fn bind_at(
+        rt: &impl Net,
+        listen: SocketAddr,
+        peers: &[SocketAddr],
+        local: u64,
+        moments: M,
+    ) -> Result<UdpPorts<M>, PortFault>
+        requires few { length peers.now ≤ MAX_FACES }
         ensures { IfOk result (λ ports. ports ≡ bound_to peers.now local (M.last moments)) }
     {
-        let Ok(socket) = UdpSocket::bind(rt, (Ipv4Addr::LOCALHOST, listen)) else {
+        let Ok(socket) = UdpSocket::bind(rt, listen) else {
             return Err(PortFault::Failed);
         };
         Ok(UdpPorts {
             socket,
             moments,
-            known: KnownPorts::new(peers),
+            known: KnownEndpoints::new(peers),
             opened: 0,
             local,
             waiting: None,
             octets: [0; FRAME_ROOM],
             len: 0,
             is_brief: false,
+            hears_strangers: true,
+            strangers: 0,
             failures: 0,
         })
     }
 
     /// Says that faces close from now on, which are not peers' and on which nothing came for some
-    /// time: for `idle` milliseconds, or, where 64 ports are known and another one speaks, for
+    /// time: for `idle` milliseconds, or, where 64 endpoints are known and another one speaks, for
     /// 10,000, and then the face that was silent longest.
     ///
-    /// A face closes when a datagram is there, of whatever port, before that is handled, one in
+    /// A face closes when a datagram is there, of whatever endpoint, before that is handled, one in
     /// each turn. A datagram whose own face was opened in the turn before comes first.
     pub fn close_after(&mut self, idle: u64)
         ensures { self.new ≡ closes_after idle self.old }
     {
         self.known.clients.close_after(idle);
+    }
+
+    /// Says that from now on a datagram of an endpoint that is no peer is dropped unread and
+    /// counted.
+    pub fn ignore_strangers(&mut self)
+        ensures { self.new ≡ record self.old { hears_strangers = false } }
+    {
+        self.hears_strangers = false;
+    }
+
+    /// How many datagrams were dropped so. The count stops at the greatest u64.
+    pub fn strangers(&self) -> u64
+        ensures { result ≡ self.now.strangers }
+    {
+        self.strangers
+    }
+
+    /// The endpoint of a face.
+    pub fn endpoint_of(&self, face: u64) -> Option<SocketAddr>
+        ensures { result ≡ endpoint_at self.now.known face }
+    {
+        self.known.endpoint_of(face)
+    }
+
+    /// Whether a datagram of this endpoint is heard.
+    fn hears(&self, endpoint: SocketAddr) -> bool
+        ensures { IsTrue result ↔ IsHeard self.now endpoint }
+    {
+        self.hears_strangers || self.known.peers.place_of(endpoint).is_some()
+    }
+
+    /// Counts a datagram of a stranger.
+    fn count_stranger(&mut self)
+        ensures counted { self.new
+            ≡ record self.old { strangers = one_more self.old.strangers } }
+        ensures more { self.old.strangers ≤ self.new.strangers }
+    {
+        self.strangers = self.strangers.saturating_add(1);
     }
 
     /// Counts a failure.
@@ -142,30 +208,30 @@ impl<M: Moments> UdpPorts<M> {
 
     /// Gives the datagram that waits for this face, at the front of the buffer. What does not fit is
     /// cut off.
-    fn give_waiting(&mut self, port: u16, face: u64, buffer: &mut [u8]) -> Arrival
+    fn give_waiting(&mut self, endpoint: SocketAddr, face: u64, buffer: &mut [u8]) -> Arrival
         requires opened { HasOpened self.old }
         requires waiting { (octets : List ℕ) × (self.old.waiting
-            ≡ Some (record { port = port; face = Some face; octets = octets })) }
+            ≡ Some (record { endpoint = endpoint; face = Some face; octets = octets })) }
         ensures fits { LiesWithin (length buffer.new) result }
         ensures gives { GivesWaiting self.old self.new buffer.new result }
     {
         let now = self.now();
-        self.known.hear_client(port, now);
+        self.known.hear_client(endpoint, now);
         let len = put_front(&self.octets[..self.len], buffer);
         self.waiting = None;
         Arrival::Packet { face, now, len }
     }
 
     /// Goes on with the datagram that waits while faces close.
-    fn go_on(&mut self, port: u16, buffer: &mut [u8]) -> Arrival
+    fn go_on(&mut self, endpoint: SocketAddr, buffer: &mut [u8]) -> Arrival
         requires opened { HasOpened self.old }
         requires waiting { (octets : List ℕ) × (self.old.waiting
-            ≡ Some (record { port = port; face = None; octets = octets })) }
+            ≡ Some (record { endpoint = endpoint; face = None; octets = octets })) }
         ensures fits { LiesWithin (length buffer.new) result }
         ensures gives { GoesOn self.old self.new buffer.new result }
     {
         let now = self.now();
-        match self.known.meet(port, now) {
+        match self.known.meet(endpoint, now) {
             Met::Face(face) => {
                 let len = put_front(&self.octets[..self.len], buffer);
                 self.waiting = None;
@@ -173,7 +239,7 @@ impl<M: Moments> UdpPorts<M> {
             }
             Met::Opening(face) => {
                 self.waiting = Some(Waiting {
-                    port,
+                    endpoint,
                     face: Some(face),
                 });
                 far_face(face, now)
@@ -182,13 +248,13 @@ impl<M: Moments> UdpPorts<M> {
         }
     }
 
-    /// Keeps a datagram of this port for the next turn.
-    fn keep(&mut self, port: u16, face: Option<u64>, datagram: &[u8])
+    /// Keeps a datagram of this endpoint for the next turn.
+    fn keep(&mut self, endpoint: SocketAddr, face: Option<u64>, datagram: &[u8])
         ensures { self.new
-            ≡ record self.old { waiting = Some (kept port face datagram.now) } }
+            ≡ record self.old { waiting = Some (kept endpoint face datagram.now) } }
     {
         self.len = put_front(datagram, &mut self.octets);
-        self.waiting = Some(Waiting { port, face });
+        self.waiting = Some(Waiting { endpoint, face });
     }
 
     /// Opens the face of the first peer that has none.
@@ -211,23 +277,23 @@ impl<M: Moments> UdpPorts<M> {
         }
     }
 
-    /// What a datagram of this port brings, which is the first `len` octets of the buffer, while none
-    /// waits.
-    fn arrive(&mut self, port: u16, len: usize, buffer: &[u8]) -> Arrival
+    /// What a datagram of this endpoint brings, which is the first `len` octets of the buffer, while
+    /// none waits.
+    fn arrive(&mut self, endpoint: SocketAddr, len: usize, buffer: &[u8]) -> Arrival
         requires listens { Listens self.old }
         requires fits { len ≤ length buffer.now }
         ensures fits { LiesWithin (length buffer.now) result }
-        ensures brings { Brings self.old self.new port (take len buffer.now) buffer.now result }
+        ensures brings { Brings self.old self.new endpoint (take len buffer.now) buffer.now result }
     {
         let now = self.now();
-        match self.known.meet(port, now) {
+        match self.known.meet(endpoint, now) {
             Met::Face(face) => Arrival::Packet { face, now, len },
             Met::Opening(face) => {
-                self.keep(port, Some(face), &buffer[..len]);
+                self.keep(endpoint, Some(face), &buffer[..len]);
                 far_face(face, now)
             }
             Met::Closing(face) => {
-                self.keep(port, None, &buffer[..len]);
+                self.keep(endpoint, None, &buffer[..len]);
                 Arrival::FaceDown { face, now }
             }
         }
@@ -252,26 +318,44 @@ impl<M: Moments> UdpPorts<M> {
         true
     }
 
-    /// Receives a datagram, while none waits. None is given where the socket gives none.
+    /// Receives a datagram, while none waits. None is given where the socket gives none. A datagram
+    /// of an endpoint that is not heard is counted, and then the next is received; where receiving
+    /// is brief, none is given.
     fn receive(&mut self, buffer: &mut [u8], is_brief: bool) -> Option<Arrival>
         requires { Listens self.old }
         ensures fits { IfSome result (LiesWithin (length buffer.new)) }
         ensures gives { IfSome result (UdpGives self.old self.new buffer.new) }
-        ensures none { result ≡ None → self.new ≡ self.old }
+        ensures none { result ≡ None → DropsStrangers self.old self.new }
         ensures works { self.new.failures ≡ self.old.failures }
     {
         if !self.set_brief(is_brief) {
             return None;
         }
-        let (len, from) = self.socket.recv_from(buffer).ok()?;
-        Some(self.arrive(from.port(), len, buffer))
+        for _ in 0..u64::MAX {
+            let (len, from) = self.receive_one(buffer)?;
+            if self.hears(from) {
+                return Some(self.arrive(from, len, buffer));
+            }
+            self.count_stranger();
+            if is_brief {
+                return None;
+            }
+        }
+        None
+    }
+
+    /// Receives a datagram into the front of the buffer: its length there, and where it came from.
+    fn receive_one(&self, buffer: &mut [u8]) -> Option<(usize, SocketAddr)>
+        ensures { IfSome result (λ received. received.0 ≤ length buffer.new) }
+    {
+        self.socket.recv_from(buffer).ok()
     }
 
     /// What is there without receiving, and otherwise a datagram.
     fn take(&mut self, buffer: &mut [u8], is_brief: bool) -> Option<Arrival>
         ensures fits { IfSome result (LiesWithin (length buffer.new)) }
         ensures gives { IfSome result (UdpGives self.old self.new buffer.new) }
-        ensures none { result ≡ None → self.new ≡ self.old }
+        ensures none { result ≡ None → DropsStrangers self.old self.new }
         ensures works { self.new.failures ≡ self.old.failures }
     {
         if self.opened < self.known.peers.len() {
@@ -281,8 +365,8 @@ impl<M: Moments> UdpPorts<M> {
             return self.receive(buffer, is_brief);
         };
         match waiting.face {
-            Some(face) => Some(self.give_waiting(waiting.port, face, buffer)),
-            None => Some(self.go_on(waiting.port, buffer)),
+            Some(face) => Some(self.give_waiting(waiting.endpoint, face, buffer)),
+            None => Some(self.go_on(waiting.endpoint, buffer)),
         }
     }
 }
@@ -299,8 +383,7 @@ impl<M: Moments> Ports for UdpPorts<M> {
         ensures fits { IfOk result (LiesWithin (length buffer.new)) }
         ensures works { OnOk result (self.new.failures ≡ self.old.failures) }
         ensures gives { IfOk result (UdpGives self.old self.new buffer.new) }
-        ensures failed { OnErr result
-            (self.new ≡ record self.old { failures = one_more self.old.failures }) }
+        ensures failed { OnErr result (FailsReceiving self.old self.new) }
     {
         match self.take(buffer, false) {
             Some(arrival) => Ok(arrival),
@@ -312,22 +395,22 @@ impl<M: Moments> Ports for UdpPorts<M> {
         ensures fits { IfSome result (LiesWithin (length buffer.new)) }
         ensures works { self.new.failures ≡ self.old.failures }
         ensures gives { IfSome result (UdpGives self.old self.new buffer.new) }
-        ensures none { result ≡ None → self.new ≡ self.old }
+        ensures none { result ≡ None → DropsStrangers self.old self.new }
     {
         self.take(buffer, true)
     }
 
     fn send(&mut self, face: u64, octets: &[u8]) -> Result<(), PortFault>
         ensures known { OnOk result
-            ((port : ℕ) × (port_at self.old.known face ≡ Some port)) }
+            ((endpoint : SocketAddr) × (endpoint_at self.old.known face ≡ Some endpoint)) }
         ensures works { OnOk result (self.new ≡ self.old) }
         ensures failed { OnErr result
             (self.new ≡ record self.old { failures = one_more self.old.failures }) }
     {
-        let Some(port) = self.known.port_of(face) else {
+        let Some(endpoint) = self.known.endpoint_of(face) else {
             return Err(self.fail());
         };
-        match self.socket.send_to(octets, (Ipv4Addr::LOCALHOST, port)) {
+        match self.socket.send_to(octets, endpoint) {
             Ok(sent) if sent == octets.len() => Ok(()),
             _ => Err(self.fail()),
         }
@@ -338,7 +421,7 @@ impl<M: Moments> Ports for UdpPorts<M> {
     }
 }
 
-/// A face opens for a port that is no peer's.
+/// A face opens for an endpoint that is no peer's.
 fn far_face(face: u64, now: u64) -> Arrival
     ensures { result ≡ Arrival.FaceUp face Scope.Far now }
 {
@@ -346,5 +429,22 @@ fn far_face(face: u64, now: u64) -> Arrival
         face,
         scope: Scope::Far,
         now,
+    }
+}
+
+/// This port of 127.0.0.1.
+fn loopback(port: u16) -> SocketAddr
+    ensures { IsLoopbackAt port result }
+{
+    SocketAddr::V4(SocketAddrV4::new(Ipv4Addr::LOCALHOST, port))
+}
+
+/// Puts these ports of 127.0.0.1 into endpoints, of which there are as many.
+fn put_loopback(ports: &[u16], endpoints: &mut [SocketAddr])
+    requires { length endpoints.old ≡ length ports.now }
+    ensures { AreLoopbackAt ports.now endpoints.new }
+{
+    for place in 0..ports.len() {
+        endpoints[place] = loopback(ports[place]);
     }
 }

@@ -1,10 +1,10 @@
 use Rattle.std.proofs.Common.{◌≡◌, ℕ, List, take, refl, sym, ap, subst, ◌∙◌}
 use Rattle.std.specs.Prelude.{Option, None, Some}
 use Rattle.node_core.specs.declared.ports.TheConstants.{FRAME_ROOM}
-use Rattle.node_core.specs.declared.ports.known_ports.KnownPorts.{KnownPorts}
-use Rattle.node_core.specs.declared.ports.known_ports.Met.{Met}
-use Rattle.node_core.specs.declared.ports.known_ports.Met.TheVariants.{Opening, Closing}
-use Rattle.node_core.specs.KnownPorts.{Meets}
+use Rattle.node_core.specs.declared.ports.known_endpoints.KnownEndpoints.{KnownEndpoints}
+use Rattle.node_core.specs.declared.ports.known_endpoints.Met.{Met}
+use Rattle.node_core.specs.declared.ports.known_endpoints.Met.TheVariants.{Opening, Closing}
+use Rattle.node_core.specs.KnownEndpoints.{Meets}
 use Rattle.node_core.specs.Udp.{Datagram, UdpState}
 use Rattle.node_core.proofs.Meeting.{cut_once, octets_wait}
 use Rattle.node_core.proofs.ports.udp.UdpPorts.go_on.Goals as goal
@@ -16,12 +16,12 @@ returns-in-Opening-clause-gives g c =
     let kept_octets = take c.self.inside.len c.self.inside.octets in
     let waits = c.requires.waiting in
     let is = c.self.view_is ∙ c.now-now.ensures in
-    let same : kept_octets ≡ waits.0 = octets_wait c.self.inside.waiting kept_octets (record { port = c.args.port; face = None; octets = waits.0 }) (ap (λ (u : UdpState). u.waiting) is ∙ waits.1) in
+    let same : kept_octets ≡ waits.0 = octets_wait c.self.inside.waiting kept_octets (record { endpoint = c.args.endpoint; face = None; octets = waits.0 }) (ap (λ (u : UdpState). u.waiting) is ∙ waits.1) in
     let whole : kept_octets ≡ take FRAME_ROOM waits.0 = sym (cut_once c.self.inside.len c.self.inside.octets c.self.invariant.1) ∙ ap (take FRAME_ROOM) same in
-    let meets = subst (λ (k : KnownPorts). Meets k known c.args.port c.now-now.result (Opening face)) (ap (λ (u : UdpState). u.known) is) (subst (λ (m : Met). Meets c.self.inside.known known c.args.port c.now-now.result m) c.in-Opening.is c.meet.ensures) in
-    let waiting : List ℕ → Option Datagram = λ o. Some (record { port = c.args.port; face = Some face; octets = o }) in
+    let meets = subst (λ (k : KnownEndpoints). Meets k known c.args.endpoint c.now-now.result (Opening face)) (ap (λ (u : UdpState). u.known) is) (subst (λ (m : Met). Meets c.self.inside.known known c.args.endpoint c.now-now.result m) c.in-Opening.is c.meet.ensures) in
+    let waiting : List ℕ → Option Datagram = λ o. Some (record { endpoint = c.args.endpoint; face = Some face; octets = o }) in
     rw c.far_face.ensures (
-      c.args.port,
+      c.args.endpoint,
       waits.0,
       c.requires.opened,
       waits.1,
@@ -41,11 +41,11 @@ returns-in-Closing-clause-gives g c =
     let kept_octets = take c.self.inside.len c.self.inside.octets in
     let waits = c.requires.waiting in
     let is = c.self.view_is ∙ c.now-now.ensures in
-    let same : kept_octets ≡ waits.0 = octets_wait c.self.inside.waiting kept_octets (record { port = c.args.port; face = None; octets = waits.0 }) (ap (λ (u : UdpState). u.waiting) is ∙ waits.1) in
+    let same : kept_octets ≡ waits.0 = octets_wait c.self.inside.waiting kept_octets (record { endpoint = c.args.endpoint; face = None; octets = waits.0 }) (ap (λ (u : UdpState). u.waiting) is ∙ waits.1) in
     let whole : waits.0 ≡ take FRAME_ROOM waits.0 = sym same ∙ sym (cut_once c.self.inside.len c.self.inside.octets c.self.invariant.1) ∙ ap (take FRAME_ROOM) same in
-    let meets = subst (λ (k : KnownPorts). Meets k known c.args.port c.now-now.result (Closing face)) (ap (λ (u : UdpState). u.known) is) (subst (λ (m : Met). Meets c.self.inside.known known c.args.port c.now-now.result m) c.in-Closing.is c.meet.ensures) in
-    let waiting : List ℕ → Option Datagram = λ o. Some (record { port = c.args.port; face = None; octets = o }) in (
-      c.args.port,
+    let meets = subst (λ (k : KnownEndpoints). Meets k known c.args.endpoint c.now-now.result (Closing face)) (ap (λ (u : UdpState). u.known) is) (subst (λ (m : Met). Meets c.self.inside.known known c.args.endpoint c.now-now.result m) c.in-Closing.is c.meet.ensures) in
+    let waiting : List ℕ → Option Datagram = λ o. Some (record { endpoint = c.args.endpoint; face = None; octets = o }) in (
+      c.args.endpoint,
       waits.0,
       c.requires.opened,
       waits.1,

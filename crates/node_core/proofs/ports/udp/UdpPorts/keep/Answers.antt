@@ -9,6 +9,6 @@ returns g c =
     let datagram = c.args.datagram.now in
     let room : length put.new.buffer ≡ 9001 = put.auto.buffer ∙ c.self.told in
     let octets : take put.result put.new.buffer ≡ take 9001 datagram = put.ensures.front ∙ ap (λ (n : ℕ). take n datagram) room in
-    let waits : List ℕ → Datagram = λ o. record { port = c.args.port; face = c.args.face; octets = o } in
+    let waits : List ℕ → Datagram = λ o. record { endpoint = c.args.endpoint; face = c.args.face; octets = o } in
     ap (λ (u : UdpState). record u { waiting = Some (waits (take put.result put.new.buffer)) }) c.self.view_is
     ∙ ap (λ (o : List ℕ). record c.args.self.now { waiting = Some (waits o) }) octets

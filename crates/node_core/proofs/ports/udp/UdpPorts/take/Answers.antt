@@ -8,11 +8,11 @@ use Rattle.node_core.proofs.ports.udp.UdpPorts.take.Goals as goal
 pub give_waiting-requires-clause-waiting : goal.give_waiting-requires-clause-waiting
 give_waiting-requires-clause-waiting g c =
     let octets = take c.self.inside.len c.self.inside.octets in
-    let with_face : Option ℕ → Option Datagram = λ face. Some (record { port = c.in-Some.waiting.port; face = face; octets = octets }) in
+    let with_face : Option ℕ → Option Datagram = λ face. Some (record { endpoint = c.in-Some.waiting.endpoint; face = face; octets = octets }) in
     (octets, sym (ap (λ (u : UdpState). u.waiting) c.self.view_is) ∙ ap (option_map (datagram_of octets)) c.in-Some.is ∙ ap with_face c.in-Some-face.is)
 
 pub go_on-requires-clause-waiting : goal.go_on-requires-clause-waiting
 go_on-requires-clause-waiting g c =
     let octets = take c.self.inside.len c.self.inside.octets in
-    let with_face : Option ℕ → Option Datagram = λ face. Some (record { port = c.in-Some.waiting.port; face = face; octets = octets }) in
+    let with_face : Option ℕ → Option Datagram = λ face. Some (record { endpoint = c.in-Some.waiting.endpoint; face = face; octets = octets }) in
     (octets, sym (ap (λ (u : UdpState). u.waiting) c.self.view_is) ∙ ap (option_map (datagram_of octets)) c.in-Some.is ∙ ap with_face c.in-None.is)

@@ -1,40 +1,41 @@
-//! The ports that have faces.
+//! The endpoints that have faces.
 ghost use Rattle.std.specs.Prelude.{◌≡◌, [], ◌+◌, ◌<◌, ◌≤◌, length, List, IfSome, None, Some};
 ghost use Rattle.node_core.specs.Clients.{MayHear};
 ghost use Rattle.node_core.specs.declared.ports.clients.Client.{Client};
-ghost use Rattle.node_core.specs.KnownPorts.{IsNewcomer, Knows, Meets, OpensNew, OpensNone, peer_at, port_at, with_clients};
+ghost use Rattle.node_core.specs.KnownEndpoints.{IsNewcomer, Knows, Meets, OpensNew, OpensNone, peer_at, endpoint_at, with_clients};
 
 use crate::ports::clients::{Client, Clients};
 use crate::ports::peers::Peers;
 use forwarder::MAX_FACES;
+use std::net::SocketAddr;
 
 /// What a datagram meets.
 #[derive(Clone, Copy)]
 pub enum Met {
-    /// Its port has this face.
+    /// Its endpoint has this face.
     Face(u64),
-    /// Its port has none, and is told this number: a face that opens for it, or one that no node
+    /// Its endpoint has none, and is told this number: a face that opens for it, or one that no node
     /// opens.
     Opening(u64),
     /// This face closes first.
     Closing(u64),
 }
 
-/// The ports of the peers, which have the faces from 1 on, and those that opened their faces
+/// The endpoints of the peers, which have the faces from 1 on, and those that opened their faces
 /// themselves. No number of a face is used again.
 #[derive(Drop)]
-pub struct KnownPorts {
+pub struct KnownEndpoints {
     pub peers: Peers,
     pub clients: Clients,
     /// The number of the face that opens next.
     pub next: u64,
-    /// The number that is told to ports without a face, where one was told since a face opened.
+    /// The number that is told to endpoints without a face, where one was told since a face opened.
     pub refused: Option<u64>,
 }
 
-impl KnownPorts {
-    /// The ports of the peers, of which there are at most 64.
-    pub fn new(peers: &[u16]) -> KnownPorts
+impl KnownEndpoints {
+    /// The endpoints of the peers, of which there are at most 64.
+    pub fn new(peers: &[SocketAddr]) -> KnownEndpoints
         requires { length peers.now ≤ MAX_FACES }
         ensures { result ≡ record {
           peers = peers.now;
@@ -43,7 +44,7 @@ impl KnownPorts {
           refused = None;
         } }
     {
-        KnownPorts {
+        KnownEndpoints {
             peers: Peers::new(peers),
             clients: Clients::new(),
             next: peers.len() as u64 + 1,
@@ -51,40 +52,40 @@ impl KnownPorts {
         }
     }
 
-    /// The port of a face.
-    pub fn port_of(&self, face: u64) -> Option<u16>
-        ensures { result ≡ port_at self.now face }
+    /// The endpoint of a face.
+    pub fn endpoint_of(&self, face: u64) -> Option<SocketAddr>
+        ensures { result ≡ endpoint_at self.now face }
     {
         match self.peer_of(face) {
-            Some(port) => Some(port),
-            None => self.clients.port_of(face),
+            Some(endpoint) => Some(endpoint),
+            None => self.clients.endpoint_of(face),
         }
     }
 
-    /// The port of a peer's face.
-    fn peer_of(&self, face: u64) -> Option<u16>
+    /// The endpoint of a peer's face.
+    fn peer_of(&self, face: u64) -> Option<SocketAddr>
         ensures { result ≡ peer_at self.now.peers face }
     {
         let place = usize::try_from(face).ok()?.checked_sub(1)?;
         self.peers.get(place)
     }
 
-    /// What a datagram of this port meets at this moment.
-    pub fn meet(&mut self, port: u16, now: u64) -> Met
-        ensures { Meets self.old self.new port now result }
+    /// What a datagram of this endpoint meets at this moment.
+    pub fn meet(&mut self, endpoint: SocketAddr, now: u64) -> Met
+        ensures { Meets self.old self.new endpoint now result }
     {
         if let Some(place) = self.clients.idle_place(now) {
             let face = self.clients.face_at(place);
             // What is handled after the closing has come in time.
-            self.clients.hear_in_time(port, now);
+            self.clients.hear_in_time(endpoint, now);
             self.clients.remove(place);
             return Met::Closing(face);
         }
-        if let Some(face) = self.hear(port, now) {
+        if let Some(face) = self.hear(endpoint, now) {
             return Met::Face(face);
         }
         if self.peers.len() + self.clients.len() < MAX_FACES {
-            return Met::Opening(self.open(port, now));
+            return Met::Opening(self.open(endpoint, now));
         }
         match self.clients.yielding_place(now) {
             Some(place) => {
@@ -96,33 +97,33 @@ impl KnownPorts {
         }
     }
 
-    /// The face of a port, which is heard at this moment.
-    fn hear(&mut self, port: u16, now: u64) -> Option<u64>
-        ensures known { IfSome result (Knows self.old self.new port now) }
-        ensures none { result ≡ None → IsNewcomer self.old port × (self.new ≡ self.old) }
+    /// The face of an endpoint, which is heard at this moment.
+    fn hear(&mut self, endpoint: SocketAddr, now: u64) -> Option<u64>
+        ensures known { IfSome result (Knows self.old self.new endpoint now) }
+        ensures none { result ≡ None → IsNewcomer self.old endpoint × (self.new ≡ self.old) }
     {
-        match self.peers.place_of(port) {
+        match self.peers.place_of(endpoint) {
             Some(place) => Some(place as u64 + 1),
-            None => self.clients.hear(port, now),
+            None => self.clients.hear(endpoint, now),
         }
     }
 
-    /// Something comes at this moment from a port that has its face, if it is a client.
-    pub fn hear_client(&mut self, port: u16, now: u64)
-        ensures { (rows : List Client) × MayHear self.old.clients.rows rows port now
+    /// Something comes at this moment from an endpoint that has its face, if it is a client.
+    pub fn hear_client(&mut self, endpoint: SocketAddr, now: u64)
+        ensures { (rows : List Client) × MayHear self.old.clients.rows rows endpoint now
             × (self.new ≡ with_clients self.old rows) }
     {
-        let _face = self.clients.hear(port, now);
+        let _face = self.clients.hear(endpoint, now);
     }
 
-    /// Opens the next face for a port that has none.
-    fn open(&mut self, port: u16, now: u64) -> u64
+    /// Opens the next face for an endpoint that has none.
+    fn open(&mut self, endpoint: SocketAddr, now: u64) -> u64
         requires { length self.old.peers + length self.old.clients.rows < MAX_FACES }
-        ensures { OpensNew self.old self.new port now result }
+        ensures { OpensNew self.old self.new endpoint now result }
     {
         let face = self.next;
         self.clients.push(Client {
-            port,
+            endpoint,
             face,
             heard: now,
         });
@@ -131,7 +132,7 @@ impl KnownPorts {
         face
     }
 
-    /// The number for a port that gets no face.
+    /// The number for an endpoint that gets no face.
     fn refuse(&mut self) -> u64
         ensures { OpensNone self.old self.new result }
     {

@@ -1,0 +1,97 @@
+-- Which endpoints have faces, and what a datagram of an endpoint meets: its face, a face that
+-- opens, or one that closes first.
+use Rattle.std.specs.Prelude.{◌≡◌, ℕ, ◌+◌, ◌-◌, ◌<◌, ◌≤◌, ◌⊎◌, ◌==◌, List, [], ◌∷◌, ◌++◌, All, find, length, option_map, position, remove, slice_get, unwrap_or, Option, None, Some, if◌then◌else◌}
+use Rattle.std.specs.Option.{option_or}
+use Rattle.std.specs.declared.net.socket_addr.SocketAddr.{SocketAddr}
+use Rattle.pit_fib.specs.declared.faces.TheConstants.{MAX_FACES}
+use Rattle.node_core.specs.declared.ports.clients.Client.{Client}
+use Rattle.node_core.specs.declared.ports.known_endpoints.KnownEndpoints.{KnownEndpoints}
+use Rattle.node_core.specs.declared.ports.known_endpoints.Met.{Met}
+use Rattle.node_core.specs.declared.ports.known_endpoints.Met.TheVariants.{Face, Opening, Closing}
+use Rattle.node_core.specs.Endpoints.{is_at}
+use Rattle.node_core.specs.Clients.{GivesWay, Hears, HearsInTime, IsIdle, IsNoClient, IsSilentLongest}
+use Rattle.node_core.specs.Ports.{one_more}
+
+-- how many endpoints have faces
+abbrev pub known_count : KnownEndpoints → ℕ
+known_count endpoints = length endpoints.peers + length endpoints.clients.rows
+
+-- the endpoint of a peer's face, which is the peer's place, counted from 1
+abbrev pub peer_at : List SocketAddr → ℕ → Option SocketAddr
+peer_at peers face = if face == 0 then None else slice_get peers (face - 1)
+
+-- the endpoint of a face
+abbrev pub endpoint_at : KnownEndpoints → ℕ → Option SocketAddr
+endpoint_at endpoints face = option_or (peer_at endpoints.peers face)
+    (option_map (λ (client : Client). client.endpoint)
+    (find (λ client. client.face == face) endpoints.clients.rows))
+
+-- the first place of an endpoint among the peers
+abbrev pub peer_place : SocketAddr → KnownEndpoints → Option ℕ
+peer_place endpoint endpoints = position (is_at endpoint) endpoints.peers
+
+-- the endpoints with other clients
+abbrev pub with_clients : KnownEndpoints → List Client → KnownEndpoints
+with_clients endpoints rows = record endpoints { clients = record endpoints.clients { rows = rows } }
+
+-- An endpoint has this face: a peer's is its place, counted from 1. A client is heard now.
+abbrev pub Knows : KnownEndpoints → KnownEndpoints → SocketAddr → ℕ → ℕ → Type 0
+Knows before after endpoint now face =
+    ((place : ℕ) × (peer_place endpoint before ≡ Some place) × (face ≡ place + 1) × (after ≡ before))
+    ⊎ ((rows : List Client) × (peer_place endpoint before ≡ None)
+    × Hears before.clients.rows rows endpoint now face × (after ≡ with_clients before rows))
+
+-- an endpoint has no face
+abbrev pub IsNewcomer : KnownEndpoints → SocketAddr → Type 0
+IsNewcomer before endpoint =
+    (peer_place endpoint before ≡ None) × IsNoClient before.clients.rows endpoint
+
+-- the next face opens for an endpoint
+abbrev pub OpensNew : KnownEndpoints → KnownEndpoints → SocketAddr → ℕ → ℕ → Type 0
+OpensNew before after endpoint now face =
+    (face ≡ before.next)
+    × (after ≡ record (with_clients before
+    (before.clients.rows ++ (record { endpoint = endpoint; face = face; heard = now } ∷ []))) {
+      next = one_more face;
+      refused = None;
+    })
+
+-- No face opens: the number is for no endpoint, and is the same until a face opens.
+abbrev pub OpensNone : KnownEndpoints → KnownEndpoints → ℕ → Type 0
+OpensNone before after face =
+    (face ≡ unwrap_or before.refused before.next)
+    × (after ≡ record before { next = one_more face; refused = Some face })
+
+-- the face closes of the client that was silent longest; these clients are known, and it no more
+abbrev pub Closes : KnownEndpoints → List Client → KnownEndpoints → Client → ℕ → Type 0
+Closes before rows after client face =
+    (place : ℕ) × IsSilentLongest before.clients.rows place client × (face ≡ client.face)
+    × (after ≡ with_clients before (remove rows place))
+
+-- no client is idle
+abbrev pub NoneIsIdle : KnownEndpoints → ℕ → Type 0
+NoneIsIdle before now = All (λ client. IsIdle before.clients.idle now client → ⊥) before.clients.rows
+
+-- no client was silent for so long that its face closes for an endpoint that has none
+abbrev pub NoneGivesWay : KnownEndpoints → ℕ → Type 0
+NoneGivesWay before now =
+    All (λ client. GivesWay before.clients.idle now client → ⊥) before.clients.rows
+
+-- What a datagram of an endpoint meets. Where a client is idle, the face closes of the one that was
+-- silent longest, whatever the endpoint; and the endpoint is heard, if it is a client that is not
+-- idle. Else the endpoint has a face; or one opens, while fewer than 64 endpoints are known; or,
+-- while 64 are, a face closes that gives way, and none opens if none does.
+abbrev pub Meets : KnownEndpoints → KnownEndpoints → SocketAddr → ℕ → Met → Type 0
+Meets before after endpoint now (Face face) =
+    NoneIsIdle before now × Knows before after endpoint now face
+Meets before after endpoint now (Opening face) =
+    NoneIsIdle before now × IsNewcomer before endpoint
+    × (((known_count before < MAX_FACES) × OpensNew before after endpoint now face)
+    ⊎ ((MAX_FACES ≤ known_count before) × NoneGivesWay before now × OpensNone before after face))
+Meets before after endpoint now (Closing face) =
+    ((client : Client) × (rows : List Client) × IsIdle before.clients.idle now client
+    × HearsInTime before.clients.idle before.clients.rows rows endpoint now
+    × Closes before rows after client face)
+    ⊎ (NoneIsIdle before now × IsNewcomer before endpoint × (MAX_FACES ≤ known_count before)
+    × ((client : Client) × GivesWay before.clients.idle now client
+    × Closes before before.clients.rows after client face))
