@@ -1,15 +1,11 @@
 -- What a datagram meets.
-use Rattle.std.proofs.Common.{◌≡◌, ℕ, ◌≤◌, List, take, remove, slice_get, length-take, arith, sym, ap, ◌∙◌}
+use Rattle.std.proofs.Common.{◌≡◌, ℕ, ◌≤◌, List, take, length-take, arith, ap}
 use Rattle.std.specs.Prelude.{Option, None, Some}
 use Rattle.std.specs.Option.{option_map}
 use Rattle.std.proofs.lemmas.List.{take_all}
 use Rattle.node_core.specs.declared.ports.TheConstants.{FRAME_ROOM}
-use Rattle.node_core.specs.declared.ports.clients.Client.{Client}
-use Rattle.node_core.specs.declared.ports.known_endpoints.KnownEndpoints.{KnownEndpoints}
 use Rattle.node_core.specs.declared.ports.udp.Waiting.{Waiting}
 use Rattle.node_core.specs.Udp.{Datagram}
-use Rattle.node_core.specs.Clients.{ClientsState, IsSilentLongest}
-use Rattle.node_core.specs.KnownEndpoints.{Closes}
 
 -- octets that were cut once
 pub cut_once : (len : ℕ) (octets : List ℕ) → len ≤ FRAME_ROOM → take FRAME_ROOM (take len octets) ≡ take len octets

@@ -117,6 +117,15 @@ pub trait Ports {
         ensures failed { OnErr result ((taken self.new ≡ taken self.old)
             × (failures self.new ≡ one_more (failures self.old))) };
 
+    /// Is told what became of the arrival that was given last, whose octets begin the buffer, once
+    /// its packets were sent. These are the rules in force then. A port that keeps a log writes it
+    /// there; nothing else changes.
+    fn note(&mut self, _turn: &Turn, _octets: &[u8], _rules: &Rules)
+        ensures gives_none { coming self.new ≡ coming self.old }
+        ensures takes_none { taken self.new ≡ taken self.old }
+        ensures works { failures self.new ≡ failures self.old }
+    {}
+
     /// How many calls failed. The count stops at the greatest u64.
     fn failures(&self) -> u64
         ensures { result ≡ failures self.now };

@@ -67,9 +67,7 @@ impl Peers {
         ensures first { result ≡ position (is_at endpoint) self.now }
         ensures small { IfSome result (λ place. place < MAX_FACES) }
     {
-        self.as_slice()
-            .iter()
-            .position(|known| *known == endpoint)
+        self.as_slice().iter().position(|known| *known == endpoint)
     }
 }
 

@@ -160,8 +160,29 @@ pub fn serve_turn_soon<P: Ports>(
     Some(handle(node, ports, arrival, buffer, outbox))
 }
 
-// Lets a node handle what a port gave.
+// Lets a node handle what a port gave, and tells the port.
 fn handle<P: Ports>(
+    node: &mut Node,
+    ports: &mut P,
+    arrival: Arrival,
+    buffer: &[u8; FRAME_ROOM],
+    outbox: &mut Outbox,
+) -> Turn
+    requires fits { LiesWithin FRAME_ROOM arrival }
+    requires empty { outbox.old ≡ [] }
+    ensures { (before : Option (List PlainEvent))
+        → Gives before (P.coming ports.old) FRAME_ROOM (arrived arrival buffer.now)
+        → IsTurn node.old node.new
+        (shown (P.failures ports.old) before (P.taken ports.old))
+        (shown (P.failures ports.new) (P.coming ports.new) (P.taken ports.new)) outbox.new result }
+{
+    let turn = answer(node, ports, arrival, buffer, outbox);
+    ports.note(&turn, buffer, node.rules());
+    turn
+}
+
+// Lets a node answer what a port gave.
+fn answer<P: Ports>(
     node: &mut Node,
     ports: &mut P,
     arrival: Arrival,

@@ -8,8 +8,7 @@ pub loop-place-preserved : goal.loop-place-preserved
 loop-place-preserved c =
     let ports = c.args.ports.now in
     let endpoints = c.loop-place.endpoints in
-    let place = c.loop-place.place in
-    (
+    let place = c.loop-place.place in (
       length-set endpoints place c.loopback.result ∙ c.loop-place.invariant.0,
       ArePut-more ports endpoints place c.loopback.result c.loop-place.invariant.1 (omega (arith, c.loop-place.invariant.0)) c.loopback.ensures,
     )
