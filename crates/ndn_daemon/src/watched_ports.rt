@@ -130,7 +130,7 @@ impl<P: Ports + Drop, S: RuleSource> Ports for WatchedPorts<P, S> {
 }
 
 /// The moment of what arrived; none at the end.
-fn moment_of(arrival: &Arrival) -> Option<u64> {
+pub fn moment_of(arrival: &Arrival) -> Option<u64> {
     match arrival {
         Arrival::End => None,
         Arrival::Packet { now, .. }

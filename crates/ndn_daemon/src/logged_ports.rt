@@ -1,0 +1,189 @@
+//! Ports with a log of what came, and of what became of it.
+ghost use Rattle.std.specs.Prelude.{◌≡◌, ◌∷◌, [], None, length, IfOk, IfSome, OnErr, OnOk};
+ghost use Rattle.node_core.specs.Ports.{Gives, LiesWithin, Takes, arrived, one_more};
+
+use crate::event_log::{EventLog, LogSink};
+use crate::watched_ports::moment_of;
+use info_rules::Rules;
+use ndn_log::{Came, Entry};
+use ndn_tlv::Memory;
+use node_core::{Arrival, PortFault, Ports, Scope, Turn, Verdict};
+use std::net::SocketAddr;
+
+/// Ports that know where their faces lead.
+pub trait HasEndpoints {
+    /// The endpoint of a face, where there is one.
+    fn endpoint_of(&self, face: u64) -> Option<SocketAddr>;
+
+    /// How many datagrams of strangers were dropped.
+    fn strangers(&self) -> u64;
+}
+
+/// What arrived, without its octets.
+#[derive(Clone, Copy)]
+enum Seen {
+    Packet { face: u64, len: usize },
+    Opened { face: u64, scope: Scope },
+    Closed { face: u64 },
+    Tick,
+    NewRules,
+}
+
+/// Ports with a log. What they give and take is what the ports below do. Lines are written where
+/// nothing comes soon, before anything is waited for.
+#[derive(Drop)]
+pub struct LoggedPorts<P: Ports + HasEndpoints + Drop, S: LogSink> {
+    ports: P,
+    log: EventLog<S>,
+    // What arrived last, and when.
+    seen: Option<Seen>,
+    moment: u64,
+}
+
+impl<P: Ports + HasEndpoints + Drop, S: LogSink> LoggedPorts<P, S> {
+    /// These ports with this log.
+    pub fn new(ports: P, log: EventLog<S>) -> LoggedPorts<P, S>
+        ensures { result.ports ≡ ports }
+    {
+        LoggedPorts {
+            ports,
+            log,
+            seen: None,
+            moment: 0,
+        }
+    }
+
+    /// Writes what is left of the log, with what was counted.
+    pub fn finish(&mut self)
+        ensures { self.new.ports ≡ self.old.ports }
+    {
+        self.log.put_counts_now(self.moment, self.ports.strangers());
+        self.log.write_out();
+    }
+
+    /// Notes what arrived.
+    fn see(&mut self, arrival: &Arrival)
+        ensures { self.new.ports ≡ self.old.ports }
+    {
+        self.seen = seen_in(arrival);
+        if let Some(Seen::Closed { .. }) = self.seen {
+            self.log.count_closed();
+        }
+        if let Some(moment) = moment_of(arrival) {
+            self.moment = moment;
+        }
+    }
+
+    /// Notes what became of what arrived, whose octets begin the buffer.
+    fn put_event(&mut self, seen: Seen, turn: &Turn, octets: &[u8], rules: &Rules)
+        ensures { self.new.ports ≡ self.old.ports }
+    {
+        let Some(outcome) = outcome_of(turn) else {
+            return;
+        };
+        let came = came_of(seen, octets);
+        let entry = Entry {
+            moment: self.moment,
+            endpoint: face_of(&came).and_then(|face| self.ports.endpoint_of(face)),
+            came,
+        };
+        self.log.put_event(&entry, &outcome, rules);
+        self.log.put_counts(self.moment, self.ports.strangers());
+        self.log.write_long();
+    }
+}
+
+impl<P: Ports + HasEndpoints + Drop, S: LogSink> Ports for LoggedPorts<P, S> {
+    ghost failures = { λ l. P.failures l.ports };
+
+    ghost coming = { λ l. P.coming l.ports };
+
+    ghost taken = { λ l. P.taken l.ports };
+
+    fn next(&mut self, buffer: &mut [u8]) -> Result<Arrival, PortFault> {
+        if !self.log.is_empty() {
+            if let Some(arrival) = self.ports.next_soon(buffer) {
+                self.see(&arrival);
+                return Ok(arrival);
+            }
+            self.log.write_out();
+        }
+        let arrival = self.ports.next(buffer)?;
+        self.see(&arrival);
+        Ok(arrival)
+    }
+
+    fn next_soon(&mut self, buffer: &mut [u8]) -> Option<Arrival> {
+        let arrival = self.ports.next_soon(buffer)?;
+        self.see(&arrival);
+        Some(arrival)
+    }
+
+    fn send(&mut self, face: u64, octets: &[u8]) -> Result<(), PortFault> {
+        let sent = self.ports.send(face, octets);
+        if sent.is_err() {
+            let endpoint = self.ports.endpoint_of(face);
+            self.log.put_failed_send(self.moment, face, endpoint, octets);
+        }
+        sent
+    }
+
+    fn note(&mut self, turn: &Turn, octets: &[u8], rules: &Rules) {
+        if let Some(seen) = self.seen.take() {
+            self.put_event(seen, turn, octets, rules);
+        }
+    }
+
+    fn failures(&self) -> u64 {
+        self.ports.failures()
+    }
+}
+
+fn seen_in(arrival: &Arrival) -> Option<Seen> {
+    match arrival {
+        Arrival::End => None,
+        Arrival::Packet { face, len, .. } => Some(Seen::Packet {
+            face: *face,
+            len: *len,
+        }),
+        Arrival::FaceUp { face, scope, .. } => Some(Seen::Opened {
+            face: *face,
+            scope: *scope,
+        }),
+        Arrival::FaceDown { face, .. } => Some(Seen::Closed { face: *face }),
+        Arrival::Tick { .. } => Some(Seen::Tick),
+        Arrival::NewRules { .. } => Some(Seen::NewRules),
+    }
+}
+
+/// The same with its octets, which begin a buffer.
+fn came_of(seen: Seen, octets: &[u8]) -> Came<'_> {
+    match seen {
+        Seen::Packet { face, len } => Came::Packet {
+            face,
+            octets: &octets[..len.min(octets.len())],
+        },
+        Seen::Opened { face, scope } => Came::Opened { face, scope },
+        Seen::Closed { face } => Came::Closed { face },
+        Seen::Tick => Came::Tick,
+        Seen::NewRules => Came::NewRules,
+    }
+}
+
+fn face_of(came: &Came<'_>) -> Option<u64> {
+    match came {
+        Came::Packet { face, .. } | Came::Opened { face, .. } | Came::Closed { face } => {
+            Some(*face)
+        }
+        Came::Tick | Came::NewRules => None,
+    }
+}
+
+/// What became of an event; none where nothing came.
+fn outcome_of(turn: &Turn) -> Option<Result<Verdict, Memory>> {
+    match turn {
+        Turn::Done { verdict, .. } => Some(Ok(*verdict)),
+        Turn::Refused => Some(Err(Memory)),
+        Turn::End => None,
+    }
+}
