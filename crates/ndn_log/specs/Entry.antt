@@ -1,0 +1,32 @@
+-- Events as a log shows them.
+use Rattle.std.specs.Prelude.{ℕ, List, [], Bool, true, false, Result, Ok, Err}
+use Rattle.ndn_tlv.specs.declared.memory.Memory.{Memory}
+use Rattle.forwarder.specs.declared.verdict.Verdict.{Verdict}
+use Rattle.forwarder.specs.declared.verdict.Verdict.TheVariants.{Passed, Allowed, DataAllowed, Denied, NoRule, Dropped}
+use Rattle.ndn_log.specs.declared.entry.Came.{Came}
+use Rattle.ndn_log.specs.declared.entry.Came.TheVariants.{Packet, Opened, Closed, Tick, NewRules}
+
+-- the octets that came; none where no packet came
+abbrev pub octets_in : Came → List ℕ
+octets_in (Packet face octets) = octets.now
+octets_in (Opened face scope) = []
+octets_in (Closed face) = []
+octets_in Tick = []
+octets_in NewRules = []
+
+abbrev pub is_plain_outcome : Result Verdict Memory → Bool
+is_plain_outcome (Ok Passed) = true
+is_plain_outcome (Ok (Allowed rule status)) = false
+is_plain_outcome (Ok (DataAllowed rule)) = true
+is_plain_outcome (Ok (Denied kind rule reason)) = false
+is_plain_outcome (Ok (NoRule kind)) = false
+is_plain_outcome (Ok (Dropped why)) = false
+is_plain_outcome (Err _) = false
+
+-- plain forwarding
+abbrev pub is_plain : Came → Result Verdict Memory → Bool
+is_plain (Packet face octets) outcome = is_plain_outcome outcome
+is_plain (Opened face scope) outcome = is_plain_outcome outcome
+is_plain (Closed face) outcome = is_plain_outcome outcome
+is_plain Tick outcome = is_plain_outcome outcome
+is_plain NewRules outcome = false

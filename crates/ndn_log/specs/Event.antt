@@ -1,0 +1,38 @@
+-- Events in words.
+use Rattle.std.specs.Prelude.{ℕ, List, ◌++◌, codes, Option, Result}
+use Rattle.std.specs.declared.net.socket_addr.SocketAddr.{SocketAddr}
+use Rattle.ndn_tlv.specs.declared.memory.Memory.{Memory}
+use Rattle.ndn_packets.specs.Packet.{PlainFrame}
+use Rattle.info_rules.specs.Rule.{PlainRule}
+use Rattle.forwarder.specs.declared.event.Scope as code_scope
+use Rattle.forwarder.specs.declared.event.Scope.TheVariants.{Local, Far}
+use Rattle.forwarder.specs.declared.verdict.Verdict as code
+use Rattle.ndn_log.specs.declared.entry.Came.{Came}
+use Rattle.ndn_log.specs.declared.entry.Came.TheVariants.{Packet, Opened, Closed, Tick, NewRules}
+use Rattle.ndn_log.specs.declared.entry.Entry.{Entry}
+use Rattle.ndn_log.specs.Entry.{octets_in}
+use Rattle.ndn_log.specs.Packet.{frame_in, packet_words}
+use Rattle.ndn_log.specs.Verdict.{outcome_words}
+use Rattle.ndn_log.specs.Words.{face_words}
+
+abbrev pub scope_word : code_scope.Scope → List ℕ
+scope_word Local = codes "local"
+scope_word Far = codes "far"
+
+-- the face with its endpoint, and what came on it or of it, where octets hold this
+abbrev pub came_words : Option SocketAddr → Option PlainFrame → Came → List ℕ
+came_words endpoint frame (Packet face octets) =
+    face_words face endpoint ++ (codes " " ++ packet_words frame)
+came_words endpoint frame (Opened face scope) =
+    face_words face endpoint ++ (codes " opened, " ++ scope_word scope)
+came_words endpoint frame (Closed face) = face_words face endpoint ++ codes " closed"
+came_words endpoint frame Tick = codes "tick"
+came_words endpoint frame NewRules = codes "rules replaced"
+
+-- what came, and what became of it by these rules
+abbrev pub event_words : List PlainRule → Entry → Result code.Verdict Memory → List ℕ
+event_words rules entry outcome =
+    let octets = octets_in entry.came in
+    let frame = frame_in octets in
+    came_words entry.endpoint frame entry.came
+    ++ (codes ": " ++ outcome_words rules octets frame outcome)

@@ -1,0 +1,63 @@
+-- Packets in words.
+use Rattle.std.specs.Prelude.{ℕ, List, [], ◌++◌, codes, Option, None, Some, ◌==◌, if◌then◌else◌}
+use Rattle.std.specs.Fmt.{decimal}
+use Rattle.std.specs.Result.{result_ok}
+use Rattle.ndn_tlv.specs.Element.{Field}
+use Rattle.ndn_names.specs.Uri.{uri_of}
+use Rattle.ndn_packets.specs.declared.types.TheConstants.{CONGESTION, DUPLICATE, NO_ROUTE}
+use Rattle.ndn_packets.specs.Packet.{PlainLocator, Missing, KeyName, Digest, Other, PlainSignature, PlainFrame, AnInterest, AData, ANack, Idle}
+use Rattle.ndn_packets.specs.FrameReading.{frame_at}
+
+-- what octets hold, if they hold something
+abbrev pub frame_in : List ℕ → Option PlainFrame
+frame_in octets = result_ok (frame_at octets)
+
+-- the name of the reason of a Nack (NDNLPv2, "Network Nack"), and the number of another
+abbrev pub nack_reason : ℕ → List ℕ
+nack_reason reason =
+    if reason == CONGESTION then codes "Congestion" else (
+    if reason == DUPLICATE then codes "Duplicate" else (
+    if reason == NO_ROUTE then codes "NoRoute" else decimal reason))
+
+abbrev pub nack_words : ℕ → List Field → List ℕ
+nack_words reason name = codes "Nack " ++ (nack_reason reason ++ (codes " " ++ uri_of name))
+
+abbrev pub frame_words : PlainFrame → List ℕ
+frame_words (AnInterest whole i) = codes "Interest " ++ uri_of i.name
+frame_words (AData whole d) = codes "Data " ++ uri_of d.name
+frame_words (ANack reason whole i) = nack_words reason i.name
+frame_words Idle = codes "idle"
+
+-- of octets that hold nothing the word alone
+abbrev pub packet_words : Option PlainFrame → List ℕ
+packet_words None = codes "packet"
+packet_words (Some frame) = frame_words frame
+
+abbrev pub signature_in : Option PlainFrame → Option PlainSignature
+signature_in None = None
+signature_in (Some (AnInterest whole i)) = i.signature
+signature_in (Some (AData whole d)) = Some d.signature
+signature_in (Some (ANack reason whole i)) = i.signature
+signature_in (Some Idle) = None
+
+-- the name in a KeyLocator (NDN Packet Format 0.3, "KeyLocator")
+abbrev pub named_by : PlainLocator → Option (List Field)
+named_by Missing = None
+named_by (KeyName name) = Some name
+named_by Digest = None
+named_by Other = None
+
+abbrev pub signer_of : Option PlainSignature → Option (List Field)
+signer_of None = None
+signer_of (Some signature) = named_by signature.info.locator
+
+-- the name of the key that a packet says it was signed with
+abbrev pub key_of : Option PlainFrame → Option (List Field)
+key_of frame = signer_of (signature_in frame)
+
+abbrev pub named_words : Option (List Field) → List ℕ
+named_words None = []
+named_words (Some name) = codes ", key " ++ uri_of name
+
+abbrev pub key_words : Option PlainFrame → List ℕ
+key_words frame = named_words (key_of frame)

@@ -1,0 +1,30 @@
+-- Faces, counts and octets in words.
+use Rattle.std.specs.Prelude.{ℕ, List, [], ◌∷◌, ◌++◌, length, take, codes, Option, None, Some, ◌==◌, if◌then◌else◌}
+use Rattle.std.specs.Fmt.{decimal}
+use Rattle.std.specs.Net.Text.{socket_text}
+use Rattle.std.specs.declared.net.socket_addr.SocketAddr.{SocketAddr}
+use Rattle.hex.specs.Hex.{encode_lower}
+use Rattle.ndn_log.specs.declared.words.TheConstants.{SHOWN_OCTETS}
+
+-- with the endpoint of the face, where it is known
+abbrev pub face_words : ℕ → Option SocketAddr → List ℕ
+face_words face None = codes "face " ++ decimal face
+face_words face (Some endpoint) =
+    codes "face " ++ (decimal face ++ (codes " " ++ socket_text endpoint))
+
+abbrev pub plural_of : ℕ → List ℕ
+plural_of count = if count == 1 then [] else codes "s"
+
+-- a count of what the noun names
+abbrev pub counted : ℕ → List ℕ → List ℕ
+counted count noun = decimal count ++ (codes " " ++ (noun ++ plural_of count))
+
+-- the first octets in hexadecimal, if there are any
+abbrev pub beginning_words : List ℕ → List ℕ
+beginning_words [] = []
+beginning_words (o ∷ octets) =
+    codes " beginning " ++ encode_lower (take SHOWN_OCTETS (o ∷ octets))
+
+-- how many octets there are, and the first 32
+abbrev pub octets_words : List ℕ → List ℕ
+octets_words octets = counted (length octets) (codes "octet") ++ beginning_words octets

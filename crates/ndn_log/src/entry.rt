@@ -1,0 +1,64 @@
+//! Events as a log shows them.
+
+ghost use Rattle.std.specs.Prelude.{◌≡◌};
+ghost use Rattle.ndn_log.specs.Entry.{is_plain, is_plain_outcome, octets_in};
+
+use forwarder::{Scope, Verdict};
+use ndn_tlv::Memory;
+use std::net::SocketAddr;
+
+/// What a node was handed as one event.
+#[derive(Clone, Copy, Debug)]
+pub enum Came<'a> {
+    /// Octets came on a face.
+    Packet { face: u64, octets: &'a [u8] },
+    /// A face was opened.
+    Opened { face: u64, scope: Scope },
+    /// A face was closed.
+    Closed { face: u64 },
+    /// Time passed.
+    Tick,
+    /// Rules and keys took the place of those in force.
+    NewRules,
+}
+
+/// An event as a log shows it.
+#[derive(Clone, Copy, Debug)]
+pub struct Entry<'a> {
+    /// The moment, in milliseconds since 1970.
+    pub moment: u64,
+    /// The endpoint of the face, where it is known.
+    pub endpoint: Option<SocketAddr>,
+    pub came: Came<'a>,
+}
+
+/// Whether an event was plain forwarding, which a log may leave out: it passed, or a Data was
+/// allowed. New rules never are.
+pub fn is_plain(entry: &Entry<'_>, outcome: &Result<Verdict, Memory>) -> bool
+    ensures { result ≡ is_plain entry.now.came outcome.now }
+{
+    match entry.came {
+        Came::NewRules => false,
+        _ => is_plain_outcome(outcome),
+    }
+}
+
+fn is_plain_outcome(outcome: &Result<Verdict, Memory>) -> bool
+    ensures { result ≡ is_plain_outcome outcome.now }
+{
+    match outcome {
+        Ok(Verdict::Passed) => true,
+        Ok(Verdict::DataAllowed(_)) => true,
+        _ => false,
+    }
+}
+
+/// The octets that came; none where no packet came.
+pub(crate) fn octets_in<'a>(entry: &Entry<'a>) -> &'a [u8]
+    ensures { result.now ≡ octets_in entry.now.came }
+{
+    match entry.came {
+        Came::Packet { octets, .. } => octets,
+        _ => &[],
+    }
+}

@@ -1,0 +1,87 @@
+//! Lines of events.
+
+ghost use Rattle.std.specs.Prelude.{◌≡◌, ◌++◌, drop, vec_len, option_map, IfOk, OnErr, OnOk};
+ghost use Rattle.ndn_packets.specs.View.{plain_frame};
+ghost use Rattle.ndn_log.specs.Event.{came_words, event_words, scope_word};
+ghost use Rattle.ndn_log.specs.Line.{IsLogged, IsOneLine};
+
+use crate::entry::{Came, Entry, octets_in};
+use crate::line::put_line;
+use crate::packet::{frame_in, put_packet};
+use crate::verdict::put_outcome;
+use crate::words::{put_face, put_word};
+use forwarder::{Scope, Verdict};
+use info_rules::Rules;
+use ndn_packets::Frame;
+use ndn_tlv::Memory;
+use std::alloc::Global;
+
+/// Appends the line of an event: its time, the face and the endpoint, what came with the packet's
+/// name, and what became of it, by the rules in force. Where memory is refused, nothing is appended.
+pub fn put_event(
+    alloc: Global,
+    text: &mut Vec<u8>,
+    entry: &Entry<'_>,
+    outcome: &Result<Verdict, Memory>,
+    rules: &Rules,
+) -> Result<(), Memory>
+    ensures ok { OnOk result (IsLogged text.old.items text.new.items entry.now.moment
+        (event_words rules.now entry.now outcome.now)) }
+    // No terminal acts on it, whatever the packet and the rule file hold.
+    ensures one_line { OnOk result (IsOneLine (drop (vec_len text.old) text.new.items)) }
+    ensures err { OnErr result (text.new.items ≡ text.old.items) }
+{
+    let words = event_words(alloc, entry, outcome, rules)?;
+    put_line(alloc, text, entry.moment, &words)
+}
+
+fn event_words(
+    alloc: Global,
+    entry: &Entry<'_>,
+    outcome: &Result<Verdict, Memory>,
+    rules: &Rules,
+) -> Result<Vec<u8>, Memory>
+    ensures { IfOk result (λ words. words.items ≡ event_words rules.now entry.now outcome.now) }
+{
+    let octets = octets_in(entry);
+    let frame = frame_in(octets);
+    let mut words = Vec::new(alloc);
+    put_came(&mut words, entry, &frame)?;
+    put_word(&mut words, ": ")?;
+    put_outcome(alloc, &mut words, rules, octets, &frame, outcome)?;
+    Ok(words)
+}
+
+/// Appends what came, with what its octets are. After `Memory` some of it may have been appended.
+fn put_came(text: &mut Vec<u8>, entry: &Entry<'_>, frame: &Option<Frame<'_>>) -> Result<(), Memory>
+    ensures { OnOk result (text.new.items ≡ text.old.items ++ came_words entry.now.endpoint
+        (option_map plain_frame frame.now) entry.now.came) }
+{
+    match entry.came {
+        Came::Packet { face, .. } => {
+            put_face(text, face, entry.endpoint)?;
+            put_word(text, " ")?;
+            put_packet(text, frame)
+        }
+        Came::Opened { face, scope } => {
+            put_face(text, face, entry.endpoint)?;
+            put_word(text, " opened, ")?;
+            put_word(text, scope_word(scope))
+        }
+        Came::Closed { face } => {
+            put_face(text, face, entry.endpoint)?;
+            put_word(text, " closed")
+        }
+        Came::Tick => put_word(text, "tick"),
+        Came::NewRules => put_word(text, "rules replaced"),
+    }
+}
+
+fn scope_word(scope: Scope) -> &'static str
+    ensures { result.now ≡ scope_word scope }
+{
+    match scope {
+        Scope::Local => "local",
+        Scope::Far => "far",
+    }
+}

@@ -1,0 +1,18 @@
+//! A log for people: the lines of what a node did.
+#![tactic(auto)]
+
+mod entry;
+mod event;
+mod line;
+mod notes;
+mod packet;
+mod time;
+mod verdict;
+mod words;
+
+pub use entry::{Came, Entry, is_plain};
+pub use event::put_event;
+pub use notes::{put_closed_idle, put_failed_send, put_strangers};
+
+#[cfg(test)]
+mod tests;

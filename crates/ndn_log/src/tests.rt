@@ -1,0 +1,102 @@
+//! Lines as people read them.
+
+use super::*;
+use forwarder::{DropReason, Verdict};
+use info_rules::{InfoTree, Kind, Reason, RuleNo, Rules};
+use ndn_packets::PacketFault;
+use std::alloc::Global;
+use std::net::{Ipv4Addr, Ipv6Addr, SocketAddr, SocketAddrV4, SocketAddrV6};
+
+/// 2026-11-27T22:10:00.123Z in milliseconds since 1970.
+const MOMENT: u64 = 1_795_817_400_123;
+
+/// A Nack of reason 150 for the Interest `/a`.
+const NACK: &str = "6418fd032005fd03210196500d050b07030801610a0401020304";
+
+/// The Data `/a`, whose KeyLocator is the name `/k`.
+const DATA: &str = "06150703080161160a1b01041c05070308016b1702abcd";
+
+/// An element of 1 octet, and 37 octets after it.
+const BROKEN: &str =
+    "0501ffffffffffffffffffffffffffffffffffffffffffffffffffffffffffffffffffffffffffff";
+
+/// One rule, whose id has letters beyond ASCII.
+const RULES: &str =
+    "rule\n{\n  id sonde-\u{e9}t\u{e9}\n  for data\n  checker\n  {\n    type customized\n    sig-type sha256\n  }\n}\n";
+
+/// Whether this is the line of a packet on face 2, of 192.0.2.7:6363, with a verdict.
+fn is_line(alloc: Global, packet: &str, verdict: Verdict, line: &str) -> bool {
+    shown(alloc, packet, verdict).is_some_and(|text| text.as_slice() == line.as_bytes())
+}
+
+fn shown(alloc: Global, packet: &str, verdict: Verdict) -> Option<Vec<u8>> {
+    let tree = InfoTree::read(alloc, RULES).ok()?;
+    let rules = Rules::read(alloc, &tree).ok()?;
+    let octets = hex::decode(alloc, packet).ok()?;
+    let entry = Entry {
+        moment: MOMENT,
+        endpoint: Some(SocketAddr::V4(SocketAddrV4::new(Ipv4Addr::new(192, 0, 2, 7), 6363))),
+        came: Came::Packet {
+            face: 2,
+            octets: &octets,
+        },
+    };
+    let mut text = Vec::new(alloc);
+    put_event(alloc, &mut text, &entry, &Ok(verdict), &rules).ok()?;
+    Some(text)
+}
+
+/// The lines of faces that closed at the last moment that has a date and at the next, of a failed
+/// send, and of a stranger.
+fn shown_notes(alloc: Global) -> Option<Vec<u8>> {
+    let mut text = Vec::new(alloc);
+    put_closed_idle(alloc, &mut text, 253_402_207_200_999, 1).ok()?;
+    put_closed_idle(alloc, &mut text, 253_402_207_201_000, 2).ok()?;
+    let ip = Ipv6Addr::new(0x2001, 0xdb8, 0, 0, 0, 0, 0, 1);
+    let endpoint = Some(SocketAddr::V6(SocketAddrV6::new(ip, 6363, 0, 0)));
+    put_failed_send(alloc, &mut text, MOMENT, 3, endpoint, b"\x06\x82").ok()?;
+    put_strangers(alloc, &mut text, MOMENT, 1).ok()?;
+    Some(text)
+}
+
+const NOTES: &str = "9999-12-30T22:00:00.999Z 1 face closed idle
+253402207201000 2 faces closed idle
+2026-11-27T22:10:00.123Z send to face 3 [2001:db8::1]:6363 failed: 2 octets beginning 0682
+2026-11-27T22:10:00.123Z 1 datagram of strangers
+";
+
+#[test]
+fn lines_of_events(rt: HostRuntime) {
+    let alloc = rt.alloc();
+    assert!(rt;
+        is_line(
+            alloc,
+            NACK,
+            Verdict::Passed,
+            "2026-11-27T22:10:00.123Z face 2 192.0.2.7:6363 Nack NoRoute /a: passed\n",
+        )
+    );
+    assert!(rt;
+        is_line(
+            alloc,
+            DATA,
+            Verdict::Denied(Kind::Data, RuleNo(0), Reason::SigType),
+            "2026-11-27T22:10:00.123Z face 2 192.0.2.7:6363 Data /a: \
+         denied by rule sonde-%C3%A9t%C3%A9, SigType, key /k\n",
+        )
+    );
+    assert!(rt;
+        is_line(
+            alloc,
+            BROKEN,
+            Verdict::Dropped(DropReason::Malformed(PacketFault::BadField)),
+            "2026-11-27T22:10:00.123Z face 2 192.0.2.7:6363 packet: dropped, Malformed BadField, \
+         40 octets beginning 0501ffffffffffffffffffffffffffffffffffffffffffffffffffffffffffff\n",
+        )
+    );
+}
+
+#[test]
+fn lines_of_notes(rt: HostRuntime) {
+    assert!(rt; shown_notes(rt.alloc()).is_some_and(|text| text.as_slice() == NOTES.as_bytes()));
+}

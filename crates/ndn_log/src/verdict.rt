@@ -1,0 +1,125 @@
+//! Verdicts in words.
+
+ghost use Rattle.std.specs.Prelude.{◌≡◌, ◌++◌, OnOk, option_map};
+ghost use Rattle.ndn_packets.specs.FaultName.{packet_name};
+ghost use Rattle.ndn_packets.specs.View.{plain_frame};
+ghost use Rattle.info_rules.specs.Names.{reason_name};
+ghost use Rattle.forwarder.specs.Commands.{id_of};
+ghost use Rattle.forwarder.specs.Verdict.{reason_of, verdict_of};
+ghost use Rattle.ndn_log.specs.Verdict.{denial_words, drop_words, fault_words, outcome_words, verdict_words};
+
+use crate::packet::put_key;
+use crate::words::{put_octets, put_word};
+use forwarder::{DropReason, Verdict, id_of};
+use info_rules::{Reason, RuleNo, Rules};
+use ndn_packets::{Frame, PacketFault};
+use ndn_tlv::Memory;
+use std::alloc::Global;
+use std::io::Write;
+
+/// Appends what became of an event, with what its octets are. After `Memory` some of it may have
+/// been appended.
+pub fn put_outcome(
+    alloc: Global,
+    text: &mut Vec<u8>,
+    rules: &Rules,
+    octets: &[u8],
+    frame: &Option<Frame<'_>>,
+    outcome: &Result<Verdict, Memory>,
+) -> Result<(), Memory>
+    ensures { OnOk result (text.new.items ≡ text.old.items ++ outcome_words rules.now octets.now
+        (option_map plain_frame frame.now) outcome.now) }
+{
+    match outcome {
+        Ok(verdict) => put_verdict(alloc, text, rules, octets, frame, *verdict),
+        Err(_) => put_word(text, "out of memory"),
+    }
+}
+
+fn put_verdict(
+    alloc: Global,
+    text: &mut Vec<u8>,
+    rules: &Rules,
+    octets: &[u8],
+    frame: &Option<Frame<'_>>,
+    verdict: Verdict,
+) -> Result<(), Memory>
+    ensures { OnOk result (text.new.items ≡ text.old.items ++ verdict_words rules.now octets.now
+        (option_map plain_frame frame.now) (verdict_of verdict)) }
+{
+    match verdict {
+        Verdict::Passed => put_word(text, "passed"),
+        Verdict::Allowed(rule, status) => {
+            write!(
+                text,
+                "allowed by rule {}, status {status}",
+                id_of(rules, rule)
+            )
+            .map_err(|_| Memory)
+        }
+        Verdict::DataAllowed(rule) => {
+            write!(text, "allowed by rule {}", id_of(rules, rule)).map_err(|_| Memory)
+        }
+        Verdict::Denied(_, rule, reason) => {
+            put_denial(text, rules, rule, reason)?;
+            put_key(text, frame)
+        }
+        Verdict::NoRule(_) => {
+            put_word(text, "denied, no rule applies")?;
+            put_key(text, frame)
+        }
+        Verdict::Dropped(reason) => {
+            put_word(text, "dropped, ")?;
+            put_drop(alloc, text, octets, reason)
+        }
+    }
+}
+
+fn put_denial(text: &mut Vec<u8>, rules: &Rules, rule: RuleNo, reason: Reason) -> Result<(), Memory>
+    ensures { OnOk result (text.new.items ≡ text.old.items ++ denial_words rules.now rule.0 reason) }
+{
+    write!(
+        text,
+        "denied by rule {}, {}",
+        id_of(rules, rule),
+        reason.name()
+    )
+    .map_err(|_| Memory)
+}
+
+fn put_drop(
+    alloc: Global,
+    text: &mut Vec<u8>,
+    octets: &[u8],
+    reason: DropReason,
+) -> Result<(), Memory>
+    ensures { OnOk result (text.new.items ≡ text.old.items
+        ++ drop_words octets.now (reason_of reason)) }
+{
+    match reason {
+        DropReason::NoFace => put_word(text, "NoFace"),
+        DropReason::Malformed(fault) => put_fault(alloc, text, octets, fault),
+        DropReason::Idle => put_word(text, "Idle"),
+        DropReason::HopLimit => put_word(text, "HopLimit"),
+        DropReason::Scope => put_word(text, "Scope"),
+        DropReason::Loop => put_word(text, "Loop"),
+        DropReason::PitFull => put_word(text, "PitFull"),
+        DropReason::NoPending => put_word(text, "NoPending"),
+        DropReason::NoSegment => put_word(text, "NoSegment"),
+        DropReason::BadFace => put_word(text, "BadFace"),
+        DropReason::FaceOpen => put_word(text, "FaceOpen"),
+        DropReason::FacesFull => put_word(text, "FacesFull"),
+    }
+}
+
+fn put_fault(
+    alloc: Global,
+    text: &mut Vec<u8>,
+    octets: &[u8],
+    fault: PacketFault,
+) -> Result<(), Memory>
+    ensures { OnOk result (text.new.items ≡ text.old.items ++ fault_words octets.now fault) }
+{
+    write!(text, "Malformed {}, ", fault.name()).map_err(|_| Memory)?;
+    put_octets(alloc, text, octets)
+}

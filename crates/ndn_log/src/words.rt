@@ -1,0 +1,73 @@
+//! Faces, counts and octets in words.
+
+ghost use Rattle.std.specs.Prelude.{◌≡◌, ◌++◌, OnOk, take};
+ghost use Rattle.ndn_log.specs.Words.{beginning_words, counted, face_words, octets_words, plural_of};
+
+use ndn_tlv::Memory;
+use std::alloc::Global;
+use std::io::Write;
+use std::net::SocketAddr;
+
+/// How many octets of a packet a line shows.
+const SHOWN_OCTETS: usize = 32;
+
+/// Appends a word, or nothing.
+pub fn put_word(text: &mut Vec<u8>, word: &str) -> Result<(), Memory>
+    ensures { OnOk result (text.new.items ≡ text.old.items ++ word.now) }
+{
+    text.extend_from_slice(word.as_bytes())?;
+    Ok(())
+}
+
+/// Appends a face, with its endpoint where that is known. After `Memory` some of it may have been
+/// appended.
+pub fn put_face(text: &mut Vec<u8>, face: u64, endpoint: Option<SocketAddr>) -> Result<(), Memory>
+    ensures { OnOk result (text.new.items ≡ text.old.items ++ face_words face endpoint) }
+{
+    match endpoint {
+        Some(endpoint) => write!(text, "face {face} {endpoint}").map_err(|_| Memory),
+        None => write!(text, "face {face}").map_err(|_| Memory),
+    }
+}
+
+/// Appends a count of what a noun names. After `Memory` some of it may have been appended.
+pub fn put_count(text: &mut Vec<u8>, count: u64, noun: &str) -> Result<(), Memory>
+    ensures { OnOk result (text.new.items ≡ text.old.items ++ counted count noun.now) }
+{
+    write!(text, "{count} {noun}{}", plural_of(count)).map_err(|_| Memory)
+}
+
+fn plural_of(count: u64) -> &'static str
+    ensures { result.now ≡ plural_of count }
+{
+    if count == 1 { "" } else { "s" }
+}
+
+/// Appends the number of octets, and the first 32 of them. After `Memory` some of it may have been
+/// appended.
+pub fn put_octets(alloc: Global, text: &mut Vec<u8>, octets: &[u8]) -> Result<(), Memory>
+    ensures { OnOk result (text.new.items ≡ text.old.items ++ octets_words octets.now) }
+{
+    put_count(text, octets.len() as u64, "octet")?;
+    put_beginning(alloc, text, octets)
+}
+
+fn put_beginning(alloc: Global, text: &mut Vec<u8>, octets: &[u8]) -> Result<(), Memory>
+    ensures { OnOk result (text.new.items ≡ text.old.items ++ beginning_words octets.now) }
+{
+    if octets.is_empty() {
+        return Ok(());
+    }
+    let digits = hex::encode(alloc, first_octets(octets))?;
+    write!(text, " beginning {digits}").map_err(|_| Memory)
+}
+
+fn first_octets(octets: &[u8]) -> &[u8]
+    ensures { result.now ≡ take SHOWN_OCTETS octets.now }
+{
+    if octets.len() > SHOWN_OCTETS {
+        &octets[..SHOWN_OCTETS]
+    } else {
+        octets
+    }
+}
