@@ -1,3 +1,4 @@
+pub mod EventLog
 pub mod Fault
 pub mod Files
 pub mod Options

@@ -1,9 +1,9 @@
 //! The log of a node on a port: which lines it has, and where they go.
-ghost use Rattle.std.specs.Prelude.{◌≡◌, [], false, true, IfSome, MatchOption};
+ghost use Rattle.std.specs.Prelude.{◌≡◌, ◌-◌, ℕ, List, [], true};
 ghost use Rattle.ndn_log.specs.Entry.{is_plain};
 ghost use Rattle.ndn_log.specs.Event.{event_words};
-ghost use Rattle.ndn_log.specs.Notes.{failed_send_words};
-ghost use Rattle.ndn_daemon.specs.EventLog.{MayLog, MayLogCounts, is_left_out};
+ghost use Rattle.ndn_log.specs.Notes.{closed_idle_words, failed_send_words, stranger_words};
+ghost use Rattle.ndn_daemon.specs.EventLog.{MayLog, is_left_out};
 
 use info_rules::Rules;
 use ndn_log::{Entry, is_plain, put_closed_idle, put_event, put_failed_send, put_strangers};
@@ -128,12 +128,32 @@ impl<S: LogSink> EventLog<S> {
     }
 
     /// The same, however old the last are.
-    pub fn put_counts_now(&mut self, moment: u64, strangers: u64) {
+    pub fn put_counts_now(&mut self, moment: u64, strangers: u64)
+        ensures { (mid : List ℕ)
+            × MayLog self.old.text.items mid moment (closed_idle_words self.old.closed)
+            × MayLog mid self.new.text.items moment
+            (stranger_words (strangers - self.old.strangers)) }
+    {
+        self.put_closed(moment);
+        self.put_strangers(moment, strangers);
+    }
+
+    fn put_closed(&mut self, moment: u64)
+        ensures text { MayLog self.old.text.items self.new.text.items moment
+            (closed_idle_words self.old.closed) }
+        ensures others { self.new.strangers ≡ self.old.strangers }
+    {
         if self.closed > 0 {
             let _put = put_closed_idle(self.alloc, &mut self.text, moment, self.closed);
             self.closed = 0;
             self.counted = moment;
         }
+    }
+
+    fn put_strangers(&mut self, moment: u64, strangers: u64)
+        ensures { MayLog self.old.text.items self.new.text.items moment
+            (stranger_words (strangers - self.old.strangers)) }
+    {
         if strangers > self.strangers {
             let more = strangers - self.strangers;
             let _put = put_strangers(self.alloc, &mut self.text, moment, more);

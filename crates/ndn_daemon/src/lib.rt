@@ -2,8 +2,10 @@
 #![tactic(auto)]
 
 mod command;
+mod event_log;
 mod fault;
 mod files;
+mod logged_ports;
 mod options;
 mod port;
 mod rule_files;
@@ -11,8 +13,10 @@ mod udp_options;
 mod watched_ports;
 
 pub use command::{Request, request_of};
+pub use event_log::{EventLog, LogSink, StandardError};
 pub use fault::Fault;
 pub use files::{read_key_file, read_keys, read_rule_file, read_rules};
+pub use logged_ports::{HasEndpoints, LoggedPorts};
 pub use options::Options;
 pub use port::{MachineClock, run_on_port};
 pub use rule_files::RuleFiles;
