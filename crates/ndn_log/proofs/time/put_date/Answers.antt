@@ -1,4 +1,4 @@
-use Rattle.std.proofs.Common.{◌≡◌, ap, ◌∙◌, false, Some, arith, rules}
+use Rattle.std.proofs.Common.{◌≡◌, ap, ◌∙◌, false, Some, rules}
 use Rattle.ndn_log.proofs.time.put_date.Goals as goal
 
 pub returns : goal.returns

@@ -1,4 +1,4 @@
-use Rattle.std.proofs.Common.{◌≡◌, ◌≤◌, ◌<◌, ◌*ℤ◌, pos, ℕ, ℤ, List, Result, Ok, Err, OnOk, subst, arith}
+use Rattle.std.proofs.Common.{◌≡◌, ◌≤◌, ◌*ℤ◌, pos, ℕ, ℤ, List, Result, Ok, Err, OnOk, subst, arith}
 use Rattle.ndn_tlv.specs.declared.memory.Memory.{Memory}
 use Rattle.ndn_log.specs.declared.time.TheConstants.{LAST_DATED}
 use Rattle.ndn_log.specs.Time.{IsDateText, IsDatePut, IsTimePut}
