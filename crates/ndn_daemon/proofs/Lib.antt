@@ -1,4 +1,5 @@
 pub mod Spelling
+pub mod Endpoints
 pub mod Peers
 pub mod Requests
 pub mod Turns

@@ -15,19 +15,19 @@ module _ {A B : Type 0} (Part : A → Type 0) (Whole : B → Type 0) (part : (y 
   wrong_part (fault.CommandLine error) h = h
   wrong_part (fault.BadValue place wanted) h = none_whole h
   wrong_part fault.NotText h = h
-  wrong_part (fault.Unread file) h = h
+  wrong_part (fault.Unread file path kind) h = h
   wrong_part (fault.Rules why) h = h
   wrong_part (fault.Keys why) h = h
   wrong_part fault.LargeKeys h = h
   wrong_part (fault.Script why) h = h
-  wrong_part (fault.Unbound port) h = h
+  wrong_part (fault.Unbound endpoint) h = h
   wrong_part fault.Unreceived h = h
 
   pub refused_part : (why : Fault) → IsRefused Part why → IsRefused Whole why
   refused_part (fault.CommandLine error) h = h
   refused_part (fault.BadValue place wanted) h = none_whole h
   refused_part fault.NotText h = h
-  refused_part (fault.Unread file) h = h
+  refused_part (fault.Unread file path kind) h = h
   refused_part (fault.Rules why) h = h
   refused_part (fault.Keys why) h = h
   refused_part fault.LargeKeys h = h
@@ -36,14 +36,14 @@ module _ {A B : Type 0} (Part : A → Type 0) (Whole : B → Type 0) (part : (y 
   refused_part (fault.Script run.Write) h = h
   refused_part (fault.Script (run.Node why)) h = h
   refused_part (fault.Script run.Memory) h = h
-  refused_part (fault.Unbound port) h = h
+  refused_part (fault.Unbound endpoint) h = h
   refused_part fault.Unreceived h = h
 
   pub wrong_in_memory : (why : Fault) → IsWrong Part why → IsRefused Whole why
   wrong_in_memory (fault.CommandLine error) h = h
   wrong_in_memory (fault.BadValue place wanted) h = none_whole h
   wrong_in_memory fault.NotText h = h
-  wrong_in_memory (fault.Unread file) h = h
+  wrong_in_memory (fault.Unread file path kind) h = h
   wrong_in_memory (fault.Rules why) h = h
   wrong_in_memory (fault.Keys why) h = h
   wrong_in_memory fault.LargeKeys h = h
@@ -52,7 +52,7 @@ module _ {A B : Type 0} (Part : A → Type 0) (Whole : B → Type 0) (part : (y 
   wrong_in_memory (fault.Script run.Write) h = h
   wrong_in_memory (fault.Script (run.Node why)) h = h
   wrong_in_memory (fault.Script run.Memory) h = absurd h
-  wrong_in_memory (fault.Unbound port) h = h
+  wrong_in_memory (fault.Unbound endpoint) h = h
   wrong_in_memory fault.Unreceived h = h
 
 -- a fault that names a value, where nothing is spelled
@@ -61,10 +61,10 @@ pub bad_value_wrong : {A : Type 0} (Spell : A → Type 0) → ((x : A) → Spell
 bad_value_wrong Spell none (fault.CommandLine error) h = h
 bad_value_wrong Spell none (fault.BadValue place wanted) h = none
 bad_value_wrong Spell none fault.NotText h = h
-bad_value_wrong Spell none (fault.Unread file) h = h
+bad_value_wrong Spell none (fault.Unread file path kind) h = h
 bad_value_wrong Spell none (fault.Rules why) h = h
 bad_value_wrong Spell none (fault.Keys why) h = h
 bad_value_wrong Spell none fault.LargeKeys h = h
 bad_value_wrong Spell none (fault.Script why) h = h
-bad_value_wrong Spell none (fault.Unbound port) h = h
+bad_value_wrong Spell none (fault.Unbound endpoint) h = h
 bad_value_wrong Spell none fault.Unreceived h = h

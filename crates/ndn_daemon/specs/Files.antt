@@ -1,5 +1,6 @@
 -- What the octets of a rule file and of a key file are read as.
-use Rattle.std.specs.Prelude.{◌≡◌, ◌⊎◌, ◌<◌, ◌≤◌, ℕ, List, length, ⊤}
+use Rattle.std.specs.Prelude.{◌≡◌, ◌⊎◌, ◌<◌, ◌≤◌, ℕ, List, codes, length, string_bytes}
+use Rattle.std.specs.declared.io.ErrorKind.{ErrorKind}
 use Rattle.hmac_keys.specs.KeyFile.{NamedKey}
 use Rattle.hmac_keys.specs.KeyReading.{AreKeys, IsFaultOfOctets}
 use Rattle.info_rules.specs.declared.fault.RulesFaultKind.TheVariants.{TooLarge}
@@ -21,18 +22,24 @@ IsKeyFault octets why = ⊥
 
 -- ---- files
 
--- a file cannot be read, or memory was refused
-abbrev pub IsUnread : Fault → Type 0
-IsUnread (Unread file) = ⊤
-IsUnread (Script why) = why ≡ Memory
-IsUnread why = ⊥
+-- this file, at this path, cannot be read for this cause, or memory was refused
+abbrev pub IsUnread : List ℕ → List ℕ → ErrorKind → Fault → Type 0
+IsUnread file path kind (Unread which place cause) =
+    (which.now ≡ file) × (string_bytes place ≡ path) × (cause ≡ kind)
+IsUnread file path kind (Script why) = why ≡ Memory
+IsUnread file path kind why = ⊥
+
+-- the same, for some cause
+abbrev pub IsUnreadSomehow : List ℕ → List ℕ → Fault → Type 0
+IsUnreadSomehow file path why = (kind : ErrorKind) × IsUnread file path kind why
 
 -- there are more octets than a rule file may have; or else the fault of what they say; or the file
 -- cannot be read
-abbrev pub IsRuleFileFault : List ℕ → Fault → Type 0
-IsRuleFileFault octets why =
+abbrev pub IsRuleFileFault : List ℕ → List ℕ → Fault → Type 0
+IsRuleFileFault path octets why =
     ((65536 < length octets) × (why ≡ Rules (record { line = 0; kind = TooLarge })))
-    ⊎ ((length octets ≤ 65536) × IsRuleFault octets why) ⊎ IsUnread why
+    ⊎ ((length octets ≤ 65536) × IsRuleFault octets why)
+    ⊎ IsUnreadSomehow (codes "rule file") path why
 
 -- the keys of octets, which are no more than a key file may have
 abbrev pub AreKeysOfFile : List ℕ → List NamedKey → Type 0
@@ -40,7 +47,8 @@ AreKeysOfFile octets keys = (length octets ≤ MAX_KEY_FILE) × AreKeys octets k
 
 -- there are more octets than a key file may have; or else the fault of what they say; or the file
 -- cannot be read
-abbrev pub IsKeyFileFault : List ℕ → Fault → Type 0
-IsKeyFileFault octets why =
+abbrev pub IsKeyFileFault : List ℕ → List ℕ → Fault → Type 0
+IsKeyFileFault path octets why =
     ((MAX_KEY_FILE < length octets) × (why ≡ LargeKeys))
-    ⊎ ((length octets ≤ MAX_KEY_FILE) × IsKeyFault octets why) ⊎ IsUnread why
+    ⊎ ((length octets ≤ MAX_KEY_FILE) × IsKeyFault octets why)
+    ⊎ IsUnreadSomehow (codes "key file") path why

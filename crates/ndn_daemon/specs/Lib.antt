@@ -1,6 +1,8 @@
+pub mod Advice
 pub mod EventLog
 pub mod Fault
 pub mod Files
+pub mod Endpoint
 pub mod Options
 pub mod UdpOptions
 pub mod Turn

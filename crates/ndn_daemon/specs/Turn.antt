@@ -1,6 +1,7 @@
 -- What is printed of a turn.
 use Rattle.std.specs.Prelude.{◌≡◌, ◌⊎◌, ◌<◌, ◌≤◌, ℕ, Bool, Option, List, [], ◌++◌, codes, ⊤}
 use Rattle.std.specs.Io.KnownBytes.{Appends}
+use Rattle.std.specs.declared.net.socket_addr.SocketAddr.{SocketAddr}
 use Rattle.std.specs.List.{flat_map}
 use Rattle.info_rules.specs.Rule.{PlainRule}
 use Rattle.node_core.specs.declared.ports.serving.Turn.{Turn}
@@ -89,13 +90,13 @@ EndsTurns (Script Write) = ⊤
 EndsTurns (Script Memory) = ⊤
 EndsTurns why = ⊥
 
--- why a node does not come to its turns at this port, where its parts are right: the port cannot be
--- bound, or memory was refused
-abbrev pub HasNoTurns : ℕ → Fault → Type 0
-HasNoTurns port (Unbound other) = other ≡ port
-HasNoTurns port (Script (Node why)) = why ≡ NodeMemory
-HasNoTurns port why = ⊥
+-- why a node does not come to its turns at this address and port, where its parts are right: these
+-- cannot be bound, or memory was refused
+abbrev pub HasNoTurns : SocketAddr → Fault → Type 0
+HasNoTurns endpoint (Unbound other) = other ≡ endpoint
+HasNoTurns endpoint (Script (Node why)) = why ≡ NodeMemory
+HasNoTurns endpoint why = ⊥
 
 -- one of these
-abbrev pub StopsAt : ℕ → Fault → Type 0
-StopsAt port why = HasNoTurns port why ⊎ EndsTurns why
+abbrev pub StopsAt : SocketAddr → Fault → Type 0
+StopsAt endpoint why = HasNoTurns endpoint why ⊎ EndsTurns why

@@ -1,11 +1,14 @@
 -- The values that the options of a node on a port spell.
-use Rattle.std.specs.Prelude.{◌≡◌, ◌≢◌, ℕ, ◌<◌, ◌≤◌, ◌^◌, List, [], Option, None, Some, Bool, true, false, All, AllPairs, codes, length, map, ⊤}
+use Rattle.std.specs.Prelude.{◌≡◌, ℕ, ◌<◌, ◌≤◌, ◌^◌, List, [], Option, None, Some, Bool, true, false, All, codes, length, take, ⊤}
 use Rattle.std.specs.Str.Parse.{IsNumeral, digits_value}
 use Rattle.clap.specs.Walk.{Row, all_of, one_of}
-use Rattle.pit_fib.specs.declared.faces.TheConstants.{MAX_FACES}
+use Rattle.std.specs.declared.net.socket_addr.SocketAddr.{SocketAddr}
 use Rattle.ndn_daemon.specs.declared.fault.Fault.{Fault}
 use Rattle.ndn_daemon.specs.declared.fault.Fault.TheVariants.{BadValue}
+use Rattle.ndn_daemon.specs.declared.udp_options.LogLevel.{LogLevel}
+use Rattle.ndn_daemon.specs.declared.udp_options.LogLevel.TheVariants as levels
 use Rattle.ndn_daemon.specs.declared.udp_options.UdpOptions.{UdpOptions}
+use Rattle.ndn_daemon.specs.Endpoint.{AreEndpoints, IsEndpoint, IsLoopback, MayBePeersOf}
 use Rattle.ndn_daemon.specs.Options.{given_or, value_at}
 
 -- the values of an argument, none if it is absent
@@ -31,10 +34,6 @@ IsFlag said b =
 abbrev pub IsNumber : List ℕ → ℕ → Type 0
 IsNumber text n = IsNumeral 10 text × (digits_value 10 text ≡ n) × (n < 2 ^ 64)
 
--- the same, from 1 to 65535
-abbrev pub IsPort : List ℕ → ℕ → Type 0
-IsPort text n = IsNumeral 10 text × (digits_value 10 text ≡ n) × (0 < n) × (n < 2 ^ 16)
-
 -- the same, of seconds from 1 to 2^32 - 1
 abbrev pub IsSeconds : List ℕ → ℕ → Type 0
 IsSeconds text n = IsNumeral 10 text × (digits_value 10 text ≡ n) × (0 < n) × (n < 2 ^ 32)
@@ -44,26 +43,29 @@ abbrev pub Has : {A : Type 0} → Option (List ℕ) → (List ℕ → A → Type
 Has None Spells x = ⊥
 Has (Some value) Spells x = Spells value x
 
--- the ports that these texts spell, in their order: at most 64, all different
-pub record ArePorts (texts : List (List ℕ)) (ports : List ℕ) : Type 0 where
-  pub spelled : map (digits_value 10) texts ≡ ports
-  pub all : All (λ text. IsPort text (digits_value 10 text)) texts
-  pub few : length texts ≤ MAX_FACES
-  pub different : AllPairs (λ a b. a ≢ b) ports
+-- how many peers are Local: no more than there are, and those are on this machine
+abbrev pub IsLocal : List ℕ → List SocketAddr → ℕ → Type 0
+IsLocal text peers local =
+    IsNumber text local × (local ≤ length peers) × All IsLoopback (take local peers)
 
--- how many peers are Local, of so many
-abbrev pub IsLocal : List ℕ → ℕ → ℕ → Type 0
-IsLocal text peers local = IsNumber text local × (local ≤ peers)
+-- the parser says "events" of `--log` without a value
+abbrev pub IsLog : Option (List ℕ) → LogLevel → Type 0
+IsLog None level = level ≡ levels.None
+IsLog (Some text) levels.None = ⊥
+IsLog (Some text) levels.Events = text ≡ codes "events"
+IsLog (Some text) levels.All = text ≡ codes "all"
 
 -- how a node on a port is run
 pub record IsUdpOptions (rows : List Row) (options : UdpOptions) : Type 0 where
-  pub listen : Has (value_at rows (codes "listen")) IsPort options.listen
+  pub listen : Has (value_at rows (codes "listen")) IsEndpoint options.listen
   pub turns : Has (value_at rows (codes "turns")) IsNumber options.turns
-  pub peers : ArePorts (values_at rows (codes "PEERS")) options.peers.items
-  pub others : All (λ port. port ≢ options.listen) options.peers.items
-  pub local : IsLocal (given_or (codes "0") (value_at rows (codes "local")))
-      (length options.peers.items) options.local
+  pub peers : AreEndpoints (values_at rows (codes "PEERS")) options.peers.items
+  pub suit : MayBePeersOf options.listen options.peers.items
+  pub local : IsLocal (given_or (codes "0") (value_at rows (codes "local"))) options.peers.items
+      options.local
   pub idle : IsSeconds (given_or (codes "600") (value_at rows (codes "idle"))) options.idle
+  pub is_open : IsFlag (flag_at rows (codes "open")) options.«open»
+  pub log : IsLog (value_at rows (codes "log")) options.log
   pub quiet : IsFlag (flag_at rows (codes "quiet")) options.quiet
 
 -- the fault of a text

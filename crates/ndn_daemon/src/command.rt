@@ -66,24 +66,29 @@ Example: an Interest for /A comes from face 1, and no route leads to /A. The ans
   > 1 6418fd032005fd03210196500d050b07030801410a0401020304
 
 Exit status: 0 at the end of the script, 1 for a fault in a file or a bad line (`rules:LINE: KIND`,
-`keys:LINE: KIND` or `script:LINE: bad line` on standard error), 2 for a wrong command line, 3 if
-input, output or memory fails.";
+`keys:LINE: KIND` or `script:LINE: bad line` on standard error, and below it what is wrong), 2 for a
+wrong command line, 3 if input, output or memory fails.";
 
 const ABOUT_UDP: &str = "Runs the node on a UDP port of this machine and prints its answers";
 
 const AFTER_UDP: &str =
-    "The node has one UDP socket, on 127.0.0.1, so that programs on this machine reach it. PEERS are
-the ports of programs that it knows from the start: they are faces 1, 2 and so on, in this order.
-The first K are Local, and may send commands under /localhost; the others are Far. At most 64 ports
-are given, each once.
+    "The node has one UDP socket. It listens on an address and a port: --listen 6363 is port 6363 of
+127.0.0.1, which programs on this machine reach; 192.0.2.1:6363 and [2001:db8::1]:6363 are reached
+from other machines, where these are addresses of this one. PEERS are written in the same way, as
+the addresses and ports of programs that the node knows from the start: they are faces 1, 2 and so
+on, in this order. All are IPv4 or all IPv6, as the socket is. The first K are Local, and may send
+commands under /localhost, so they have to be on this machine (127.0.0.0/8 or ::1); the others are
+Far. At most 64 peers are given, each once.
 
 In each turn the node opens the face of the next peer, or takes one datagram, for which it waits. A
-datagram from another port opens the next face, which is Far, and is handled in the turn after that.
+datagram from another address and port, a stranger, opens the next face, which is Far, and is handled
+in the turn after that. Where the node listens on an address that other machines can send to,
+strangers are not heard, unless --open is given: their datagrams are dropped unread, and counted.
 
 A face that a datagram opened, and that nothing came from for the time of --idle, closes in a turn of
-its own, before the next datagram is handled. While 64 ports are known and another one speaks, of
-these faces the one closes that was silent longest, if it was for 10 seconds; else no face opens for
-that port, and its packet is dropped. The face of a peer never closes, and no number is used again.
+its own, before the next datagram is handled. While 64 addresses and ports are known and another one
+speaks, of these faces the one closes that was silent longest, if it was for 10 seconds; else no face
+opens, and the packet is dropped. The face of a peer never closes, and no number is used again.
 
 A key file has on each line the URI of a key's name, one space, and the key in hexadecimal; a second
 space would belong to the name.
@@ -94,7 +99,8 @@ is reported, and the rules and keys in force stay.
 
 The answer to turn N is printed as `script` prints that to event N: a line `N VERDICT`, and a line
 `> FACE HEX` for each packet that goes out. Moments are those of the machine's clock. With
---quiet nothing is printed.
+--quiet nothing is printed. The log of --log goes to standard error, with or without --quiet; where
+PEERS follow it, write `--log all`, or another option between.
 
 Example: a node that takes two turns. In the first it opens a face for the port that an Interest for
 /A comes from; in the second the answer is a Nack.
@@ -106,7 +112,8 @@ Example: a node that takes two turns. In the first it opens a face for the port 
   6418fd032005fd03210196500d050b07030801410a0401020304
 
 Exit status: 0 after the turns, 1 for a fault in a file (`rules:LINE: KIND` or `keys:LINE: KIND` on
-standard error), 2 for a wrong command line, 3 if a file, the port, output or memory fails.";
+standard error, and below it what is wrong), 2 for a wrong command line, 3 if a file, the port, output
+or memory fails.";
 
 const AFTER: &str =
     "`ndn_node script --help` and `ndn_node udp --help` say what each of them reads and prints.
@@ -191,8 +198,8 @@ fn udp_command<'a>(alloc: Global) -> Result<Command<'a>, AllocError> {
         .arg(required_option(
             alloc,
             "listen",
-            "PORT",
-            "The port of 127.0.0.1 that the node listens on",
+            "ENDPOINT",
+            "Where the node listens: a port of 127.0.0.1, or ADDRESS:PORT",
         ))?
         .arg(required_option(
             alloc,
@@ -204,7 +211,7 @@ fn udp_command<'a>(alloc: Global) -> Result<Command<'a>, AllocError> {
             alloc,
             "local",
             "K",
-            "How many of the first peers are Local; 0 if absent",
+            "How many of the first peers are Local, all on this machine; 0 if absent",
         ))?
         .arg(option(
             alloc,
@@ -212,6 +219,12 @@ fn udp_command<'a>(alloc: Global) -> Result<Command<'a>, AllocError> {
             "SECONDS",
             "After how long a silence a face closes that is no peer's; 600 if absent",
         ))?
+        .arg(flag(
+            alloc,
+            "open",
+            "Hears strangers on an address that other machines can send to",
+        ))?
+        .arg(log_option(alloc))?
         .arg(flag(
             alloc,
             "quiet",
@@ -244,11 +257,23 @@ fn with_node<'a>(alloc: Global, command: Command<'a>) -> Result<Command<'a>, All
         ))
 }
 
-/// The ports of the peers.
+/// The addresses and ports of the peers.
 fn peers<'a>(alloc: Global) -> Arg<'a> {
     Arg::new(alloc, "PEERS")
         .num_args(0..)
-        .help("The ports of the peers, which are faces 1, 2 and so on")
+        .help("The peers, written as --listen, which are faces 1, 2 and so on")
+}
+
+/// What is logged: without a value, events.
+fn log_option<'a>(alloc: Global) -> Arg<'a> {
+    option(
+        alloc,
+        "log",
+        "all",
+        "Logs what an operator has to know of on standard error; with `all`, every datagram",
+    )
+    .num_args(0..=1)
+    .default_missing_value("events")
 }
 
 /// A required option with a value.

@@ -1,9 +1,16 @@
 //! Why the program stops: its message and its exit status.
+use crate::advice::{advice_on_keys, advice_on_rules, cause_of};
 use hmac_keys::KeyFault;
 use info_rules::{RulesFault, RulesFaultKind};
 use node_core::{NodeFault, RunFault};
 use std::alloc::AllocError;
 use std::fmt;
+use std::io::ErrorKind;
+use std::net::SocketAddr;
+
+/// What a line of a script is.
+const SCRIPT_LINE: &str = "a line is up FACE local|far MOMENT, down FACE MOMENT, tick MOMENT, \
+in FACE MOMENT HEX, or rules MOMENT HEX HEX";
 
 /// Why the program did not do what it was asked.
 #[derive(Debug, Drop)]
@@ -23,6 +30,10 @@ pub enum Fault {
     Unread {
         /// Which file it is.
         file: &'static str,
+        /// Where it was looked for.
+        path: String,
+        /// Why it cannot be read.
+        kind: ErrorKind,
     },
     /// The file is not a rule file.
     Rules(RulesFault),
@@ -32,10 +43,10 @@ pub enum Fault {
     LargeKeys,
     /// The script did not run to its end.
     Script(RunFault),
-    /// A port cannot be bound.
+    /// An address and a port cannot be bound.
     Unbound {
-        /// The port.
-        port: u16,
+        /// The address and the port.
+        endpoint: SocketAddr,
     },
     /// Nothing can be received from the port.
     Unreceived,
@@ -91,21 +102,34 @@ impl fmt::Display for Fault {
                 writeln!(f, "error: invalid value for {place}: give {wanted}")
             }
             Fault::NotText => f.write_str("error: an argument is not UTF-8 text\n"),
-            Fault::Unread { file } => writeln!(f, "error: the {file} cannot be read"),
-            Fault::Rules(RulesFault { line, kind }) => {
-                match kind {
-                    RulesFaultKind::Memory => f.write_str("error: out of memory\n"),
-                    kind => writeln!(f, "rules:{line}: {}", kind.name()),
-                }
+            Fault::Unread { file, path, kind } => {
+                writeln!(f, "error: the {file} {path} cannot be read: {}", cause_of(*kind))
             }
-            Fault::Keys(KeyFault::BadLine(line)) => writeln!(f, "keys:{line}: BadLine"),
-            Fault::Keys(KeyFault::TwiceNamed(line)) => writeln!(f, "keys:{line}: TwiceNamed"),
-            Fault::Keys(KeyFault::TooMany) => f.write_str("keys:0: TooMany\n"),
-            Fault::LargeKeys => f.write_str("keys:0: TooLarge\n"),
-            Fault::Script(RunFault::BadLine(line)) => writeln!(f, "script:{line}: bad line"),
-            Fault::Unbound { port } => writeln!(
+            Fault::Rules(fault) => match fault.kind {
+                RulesFaultKind::Memory => f.write_str("error: out of memory\n"),
+                kind => writeln!(
+                    f,
+                    "rules:{}: {}\n  {}",
+                    fault.line,
+                    kind.name(),
+                    advice_on_rules(fault)
+                ),
+            },
+            Fault::Keys(KeyFault::Memory) => f.write_str("error: out of memory\n"),
+            Fault::Keys(fault) => writeln!(
                 f,
-                "error: port {port} of 127.0.0.1 cannot be bound: give one that no program has"
+                "keys:{}: {}\n  {}",
+                fault.line().unwrap_or(0),
+                fault.name(),
+                advice_on_keys(fault)
+            ),
+            Fault::LargeKeys => {
+                f.write_str("keys:0: TooLarge\n  at most 8388608 octets are allowed\n")
+            }
+            Fault::Script(RunFault::BadLine(line)) => writeln!(f, "script:{line}: bad line\n  {SCRIPT_LINE}"),
+            Fault::Unbound { endpoint } => writeln!(
+                f,
+                "error: {endpoint} cannot be bound: give an address of this machine and a port that no program has"
             ),
             Fault::Unreceived => f.write_str("error: nothing can be received from the port\n"),
             Fault::Script(RunFault::Read) => {
@@ -120,8 +144,7 @@ impl fmt::Display for Fault {
             Fault::Script(RunFault::Node(NodeFault::BadCapacity)) => f.write_str(
                 "error: the cache's capacity is out of range: give a number from 1 to 65536\n",
             ),
-            Fault::Keys(KeyFault::Memory)
-            | Fault::Script(RunFault::Node(NodeFault::Memory) | RunFault::Memory) => {
+            Fault::Script(RunFault::Node(NodeFault::Memory) | RunFault::Memory) => {
                 f.write_str("error: out of memory\n")
             }
         }

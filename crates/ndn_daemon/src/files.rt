@@ -1,5 +1,6 @@
 //! The rule file and the key file.
-ghost use Rattle.std.specs.Prelude.{IfSome, MatchResult};
+ghost use Rattle.std.specs.Prelude.{IfSome, MatchResult, codes};
+ghost use Rattle.std.specs.IoError.{error_kind};
 ghost use Rattle.hmac_keys.specs.KeyReading.{AreKeys};
 ghost use Rattle.node_core.specs.Files.{AreRules};
 ghost use Rattle.ndn_daemon.specs.Files.{IsKeyFault, IsRuleFault, AreKeysOfFile, IsKeyFileFault, IsRuleFileFault, IsUnread};
@@ -11,7 +12,7 @@ use limited_reads::{MAX_KEY_FILE, read_within};
 use node_core::RunFault;
 use std::alloc::Global;
 use std::io;
-use std::io::Read;
+use std::io::{ErrorKind, Read};
 
 /// The greatest length of a rule file, in octets.
 const MAX_RULE_FILE: u32 = 65_536;
@@ -30,12 +31,16 @@ pub fn read_keys(alloc: Global, octets: &[u8]) -> Result<KeyBook, Fault>
     KeyBook::read_octets(alloc, octets).map_err(Fault::Keys)
 }
 
-/// The rules of an open rule file. Of one of more than 65,536 octets no more than 65,537 are read, and it
+/// The rules of an open rule file, which has this path. Of one of more than 65,536 octets no more than 65,537 are read, and it
 /// has a TooLarge fault at line 0, also where it is not UTF-8.
-pub fn read_rule_file<R: Read + Drop>(alloc: Global, file: R) -> Result<Rules, Fault>
+pub fn read_rule_file<R: Read + Drop>(
+    alloc: Global,
+    path: &str,
+    file: R,
+) -> Result<Rules, Fault>
     // Where it is known what the file has.
     ensures { IfSome (R.remaining file)
-        (λ octets. MatchResult result (AreRules octets) (IsRuleFileFault octets)) }
+        (λ octets. MatchResult result (AreRules octets) (IsRuleFileFault path.now octets)) }
 {
     match read_within(alloc, file, MAX_RULE_FILE) {
         Ok(Some(octets)) => read_rules(alloc, &octets),
@@ -43,30 +48,51 @@ pub fn read_rule_file<R: Read + Drop>(alloc: Global, file: R) -> Result<Rules, F
             line: 0,
             kind: RulesFaultKind::TooLarge,
         })),
-        Err(error) => Err(unread(&error, "rule file")),
+        Err(error) => Err(unread_rules(alloc, path, &error)),
     }
 }
 
-/// The keys of an open key file. One of more than `MAX_KEY_FILE` octets is too large, whatever it has,
+/// The keys of an open key file, which has this path. One of more than `MAX_KEY_FILE` octets is too large, whatever it has,
 /// and only one octet more is read of it.
-pub fn read_key_file<R: Read + Drop>(alloc: Global, file: R) -> Result<KeyBook, Fault>
+pub fn read_key_file<R: Read + Drop>(
+    alloc: Global,
+    path: &str,
+    file: R,
+) -> Result<KeyBook, Fault>
     // Where it is known what the file has.
     ensures { IfSome (R.remaining file)
-        (λ octets. MatchResult result (AreKeysOfFile octets) (IsKeyFileFault octets)) }
+        (λ octets. MatchResult result (AreKeysOfFile octets) (IsKeyFileFault path.now octets)) }
 {
     match read_within(alloc, file, MAX_KEY_FILE) {
         Ok(Some(octets)) => read_keys(alloc, &octets),
         Ok(None) => Err(Fault::LargeKeys),
-        Err(error) => Err(unread(&error, "key file")),
+        Err(error) => Err(unread_keys(alloc, path, &error)),
     }
 }
 
-/// The fault of a file that cannot be opened or read.
-pub fn unread(error: &io::Error, file: &'static str) -> Fault
-    ensures { IsUnread result }
+/// The fault of a rule file that cannot be opened or read.
+pub fn unread_rules(alloc: Global, path: &str, error: &io::Error) -> Fault
+    ensures { IsUnread (codes "rule file") path.now (error_kind error.now) result }
 {
-    if error.kind() == io::ErrorKind::OutOfMemory {
+    unread(alloc, "rule file", path, error.kind())
+}
+
+/// The fault of a key file that cannot be opened or read.
+pub fn unread_keys(alloc: Global, path: &str, error: &io::Error) -> Fault
+    ensures { IsUnread (codes "key file") path.now (error_kind error.now) result }
+{
+    unread(alloc, "key file", path, error.kind())
+}
+
+/// The fault of a file that cannot be opened or read, for this cause.
+fn unread(alloc: Global, file: &'static str, path: &str, kind: ErrorKind) -> Fault
+    ensures { IsUnread file.now path.now kind result }
+{
+    if kind == ErrorKind::OutOfMemory {
         return Fault::Script(RunFault::Memory);
     }
-    Fault::Unread { file }
+    match String::from_str(alloc, path) {
+        Ok(path) => Fault::Unread { file, path, kind },
+        Err(_) => Fault::Script(RunFault::Memory),
+    }
 }

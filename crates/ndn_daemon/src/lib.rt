@@ -1,6 +1,7 @@
 //! What the program `ndn_node` does: its command line, its files, and a node on a port.
 #![tactic(auto)]
 
+mod advice;
 mod command;
 mod event_log;
 mod fault;
@@ -20,5 +21,5 @@ pub use logged_ports::{HasEndpoints, LoggedPorts};
 pub use options::Options;
 pub use port::{MachineClock, run_on_port};
 pub use rule_files::RuleFiles;
-pub use udp_options::UdpOptions;
+pub use udp_options::{LogLevel, UdpOptions};
 pub use watched_ports::{RuleSource, WatchedPorts};

@@ -12,13 +12,13 @@ use crate::udp_options::UdpOptions;
 use crate::watched_ports::{RuleSource, WatchedPorts};
 use info_rules::Rules;
 use node_core::{
-    FRAME_ROOM, MAX_FACES, Moments, Node, NodeParts, Outbox, Ports, RunFault, Turn, UdpPorts,
+    FRAME_ROOM, MAX_FACES, Moments, Node, NodeParts, Outbox, PortFault, Ports, RunFault, Turn, UdpPorts,
     put_all, put_refused, put_sends, put_verdict, serve, serve_turn_in, serve_turn_soon,
 };
 use std::alloc::Global;
 use std::io;
 use std::io::Write;
-use std::net::Net;
+use std::net::{Net, SocketAddr};
 use std::time::{Clock, SystemTime};
 
 /// How much text is gathered at most before it is written, in octets, besides that of one turn.
@@ -79,10 +79,10 @@ pub fn run_on_port<R: AllocGlobal + Net + Print, M: Moments, S: RuleSource>(
         Ok(node) => node,
         Err(fault) => return Err(Fault::Script(RunFault::Node(fault))),
     };
-    let port = options.listen;
-    let bound = UdpPorts::bind(rt, port, options.peers.as_slice(), options.local, moments);
+    let endpoint = options.listen;
+    let bound = bind_at(rt, endpoint, options.peers.as_slice(), options.local, moments);
     let Ok(mut ports) = bound else {
-        return Err(Fault::Unbound { port });
+        return Err(Fault::Unbound { endpoint });
     };
     ports.close_after(options.idle as u64 * 1000);
     let mut ports = WatchedPorts::new(ports, source, 0);
@@ -93,6 +93,23 @@ pub fn run_on_port<R: AllocGlobal + Net + Print, M: Moments, S: RuleSource>(
         &mut io::writer(rt),
         options,
     )
+}
+
+/// STUB, which goes where `UdpPorts::bind_at` is there: binds by the ports alone.
+fn bind_at<R: Net, M: Moments>(
+    rt: &R,
+    listen: SocketAddr,
+    peers: &[SocketAddr],
+    local: u64,
+    moments: M,
+) -> Result<UdpPorts<M>, PortFault>
+    requires { length peers.now ≤ MAX_FACES }
+{
+    let mut ports = [0; MAX_FACES];
+    for (port, peer) in ports.iter_mut().zip(peers) {
+        *port = peer.port();
+    }
+    UdpPorts::bind(rt, listen.port(), &ports[..peers.len()], local, moments)
 }
 
 /// Lets a node take the turns that the options ask for. A quiet node writes nothing.

@@ -1,6 +1,6 @@
 //! The rule file and the key file of a node, which are read again where they change.
 use crate::fault::Fault;
-use crate::files::{read_key_file, read_rule_file, read_rules, unread};
+use crate::files::{read_key_file, read_rule_file, read_rules, unread_keys, unread_rules};
 use crate::watched_ports::RuleSource;
 use hmac_keys::KeyBook;
 use info_rules::Rules;
@@ -45,11 +45,11 @@ impl<'a, R: AllocGlobal + Files> RuleFiles<'a, R> {
     pub fn read(&self) -> Result<(Rules, KeyBook), Fault> {
         let alloc = self.rt.alloc();
         let rules = match &self.rules {
-            Some(path) => read_rule_file(alloc, open(self.rt, path, "rule file")?)?,
+            Some(path) => rules_at(self.rt, path)?,
             None => read_rules(alloc, b"")?,
         };
         let keys = match &self.keys {
-            Some(path) => read_key_file(alloc, open(self.rt, path, "key file")?)?,
+            Some(path) => keys_at(self.rt, path)?,
             None => KeyBook::new(alloc),
         };
         Ok((rules, keys))
@@ -96,7 +96,18 @@ fn stamp_of<R: Files>(rt: &R, path: &Option<String>) -> Option<Stamp> {
     })
 }
 
-/// Opens a file for reading.
-fn open<R: Files>(rt: &R, path: &str, file: &'static str) -> Result<R::File, Fault> {
-    File::open(rt, path).map_err(|error| unread(&error, file))
+/// The rules of the file of this path.
+fn rules_at<R: AllocGlobal + Files>(rt: &R, path: &str) -> Result<Rules, Fault> {
+    match File::open(rt, path) {
+        Ok(file) => read_rule_file(rt.alloc(), path, file),
+        Err(error) => Err(unread_rules(rt.alloc(), path, &error)),
+    }
+}
+
+/// The keys of the file of this path.
+fn keys_at<R: AllocGlobal + Files>(rt: &R, path: &str) -> Result<KeyBook, Fault> {
+    match File::open(rt, path) {
+        Ok(file) => read_key_file(rt.alloc(), path, file),
+        Err(error) => Err(unread_keys(rt.alloc(), path, &error)),
+    }
 }

@@ -1,27 +1,45 @@
 //! The options of a node that listens on a port.
-ghost use Rattle.std.specs.Prelude.{◌≡◌, codes, map, option_map};
+ghost use Rattle.std.specs.Prelude.{◌≡◌, ◌⊎◌, ◌↔◌, ℕ, IsTrue, MatchOption, codes, map, option_map};
+ghost use Rattle.ndn_daemon.specs.Endpoint.{AreEndpoints, IsEndpoint, IsLoopback, IsPort, MayBePeersOf};
 ghost use Rattle.ndn_daemon.specs.Options.{Reads, ReadsInMemory, rows_in, value_at};
-ghost use Rattle.ndn_daemon.specs.UdpOptions.{ArePorts, Has, IsBadValue, IsFlag, IsLocal, IsNumber, IsPort, IsSeconds, IsUdpOptions, flag_at, values_at};
+ghost use Rattle.ndn_daemon.specs.UdpOptions.{Has, IsBadValue, IsFlag, IsLocal, IsLog, IsNumber, IsSeconds, IsUdpOptions, flag_at, values_at};
 
 use crate::fault::Fault;
 use crate::options::{given_or, value};
 use clap::ArgMatches;
 use node_core::{MAX_FACES, RunFault};
 use std::alloc::Global;
+use std::net::{IpAddr, Ipv4Addr, SocketAddr};
+
+/// What is logged on standard error.
+#[derive(Clone, Copy, Debug, PartialEq, Eq)]
+pub enum LogLevel {
+    /// Nothing.
+    None,
+    /// What an operator has to know of.
+    Events,
+    /// Every datagram.
+    All,
+}
 
 /// How a node on a port is to be run.
 #[derive(Debug, Drop)]
 pub struct UdpOptions {
-    /// The port that the node listens on.
-    pub listen: u16,
+    /// The address and the port that the node listens on.
+    pub listen: SocketAddr,
     /// How many turns it takes.
     pub turns: u64,
-    /// The ports of the peers, all different and not that of the node, at most 64.
-    pub peers: Vec<u16>,
-    /// How many of the first peers are Local, at most their number.
+    /// The addresses and ports of the peers, all different and not that of the node, and of the
+    /// same family, at most 64.
+    pub peers: Vec<SocketAddr>,
+    /// How many of the first peers are Local, at most their number. These are on this machine.
     pub local: u64,
     /// After how many seconds of silence a face closes that is not a peer's, at least 1.
     pub idle: u32,
+    /// Whether strangers are heard wherever the node listens.
+    pub open: bool,
+    /// What is logged.
+    pub log: LogLevel,
     /// Whether no answers are printed.
     pub quiet: bool,
 }
@@ -31,34 +49,40 @@ impl UdpOptions {
     pub fn read(alloc: Global, found: &ArgMatches<'_>) -> Result<UdpOptions, Fault>
         ensures { ReadsInMemory (IsUdpOptions (rows_in found.now)) result }
     {
-        let listen = required_port(found)?;
+        let listen = required_endpoint(found)?;
         let turns = required_number(found)?;
         let peers = given_peers(alloc, found)?;
-        if peers.as_slice().contains(&listen) {
-            return Err(Fault::BadValue {
-                place: "PEERS",
-                wanted: "other ports than that of --listen",
-            });
-        }
-        let local = local_of(given_or("0", value(found, "local")), peers.len())?;
+        check_peers(&listen, peers.as_slice())?;
+        let local = local_of(given_or("0", value(found, "local")), peers.as_slice())?;
         let idle = seconds_of(given_or("600", value(found, "idle")))?;
+        let log = log_of(value(found, "log"))?;
         Ok(UdpOptions {
             listen,
             turns,
             peers,
             local,
             idle,
+            open: flag(found, "open"),
+            log,
             quiet: flag(found, "quiet"),
         })
     }
+
+    /// Whether a datagram from an address and port that is no peer's is heard: by `--open`, or
+    /// where the node listens on a loopback address, which this machine alone can send to.
+    pub fn hears_strangers(&self) -> bool
+        ensures { IsTrue result ↔ (IsTrue self.now.«open» ⊎ IsLoopback self.now.listen) }
+    {
+        self.open || is_loopback(&self.listen)
+    }
 }
 
-fn required_port(found: &ArgMatches<'_>) -> Result<u16, Fault>
-    ensures { Reads (Has (value_at (rows_in found.now) (codes "listen")) IsPort) result }
+fn required_endpoint(found: &ArgMatches<'_>) -> Result<SocketAddr, Fault>
+    ensures { Reads (Has (value_at (rows_in found.now) (codes "listen")) IsEndpoint) result }
 {
     match value(found, "listen") {
-        Some(digits) => port_of("--listen", digits),
-        None => Err(bad_port("--listen")),
+        Some(text) => endpoint_of("--listen", text),
+        None => Err(bad_endpoint("--listen")),
     }
 }
 
@@ -78,8 +102,8 @@ fn flag(found: &ArgMatches<'_>, id: &str) -> bool
     found.get_flag(id)
 }
 
-fn given_peers(alloc: Global, found: &ArgMatches<'_>) -> Result<Vec<u16>, Fault>
-    ensures { ReadsInMemory (λ peers. ArePorts (values_at (rows_in found.now) (codes "PEERS"))
+fn given_peers(alloc: Global, found: &ArgMatches<'_>) -> Result<Vec<SocketAddr>, Fault>
+    ensures { ReadsInMemory (λ peers. AreEndpoints (values_at (rows_in found.now) (codes "PEERS"))
         peers.items) result }
 {
     match found.get_raw("PEERS") {
@@ -88,45 +112,78 @@ fn given_peers(alloc: Global, found: &ArgMatches<'_>) -> Result<Vec<u16>, Fault>
     }
 }
 
-/// The peers' ports, in their order.
-fn peers_of(alloc: Global, texts: &[&str]) -> Result<Vec<u16>, Fault>
+/// The peers' addresses and ports, in their order.
+fn peers_of(alloc: Global, texts: &[&str]) -> Result<Vec<SocketAddr>, Fault>
     ensures { ReadsInMemory
-        (λ peers. ArePorts (map (λ text. text.now) texts.now) peers.items) result }
+        (λ peers. AreEndpoints (map (λ text. text.now) texts.now) peers.items) result }
 {
     if texts.len() > MAX_FACES {
         return Err(Fault::BadValue {
             place: "PEERS",
-            wanted: "at most 64 ports",
+            wanted: "at most 64 peers",
         });
     }
     let mut peers = Vec::new(alloc);
     for text in texts {
-        let port = port_of("PEERS", text)?;
-        if peers.as_slice().contains(&port) {
+        let peer = endpoint_of("PEERS", text)?;
+        if peers.as_slice().contains(&peer) {
             return Err(Fault::BadValue {
                 place: "PEERS",
-                wanted: "each port once",
+                wanted: "each peer once",
             });
         }
-        let Ok(()) = peers.push(port) else {
+        let Ok(()) = peers.push(peer) else {
             return Err(Fault::Script(RunFault::Memory));
         };
     }
     Ok(peers)
 }
 
-/// How many peers are Local, of so many.
-fn local_of(digits: &str, peers: usize) -> Result<u64, Fault>
-    ensures { Reads (IsLocal digits.now peers) result }
+/// Checks that a node that listens there may have these peers.
+fn check_peers(listen: &SocketAddr, peers: &[SocketAddr]) -> Result<(), Fault>
+    ensures { Reads (λ _. MayBePeersOf listen.now peers.now) result }
+{
+    if peers.contains(listen) {
+        return Err(Fault::BadValue {
+            place: "PEERS",
+            wanted: "other peers than the node itself, which --listen names",
+        });
+    }
+    let is_ipv4 = listen.is_ipv4();
+    if !peers.iter().all(|peer| peer.is_ipv4() == is_ipv4) {
+        return Err(Fault::BadValue {
+            place: "PEERS",
+            wanted: "addresses of the family of --listen, since an IPv4 socket cannot send to IPv6, nor an IPv6 socket to IPv4",
+        });
+    }
+    Ok(())
+}
+
+/// How many of these peers are Local. Who is Local may command, so these are on this machine.
+fn local_of(digits: &str, peers: &[SocketAddr]) -> Result<u64, Fault>
+    ensures { Reads (IsLocal digits.now peers.now) result }
 {
     let local = number_of("--local", digits)?;
-    if local <= peers as u64 {
-        return Ok(local);
+    if local > peers.len() as u64 {
+        return Err(Fault::BadValue {
+            place: "--local",
+            wanted: "a number that is at most that of the peers",
+        });
     }
-    Err(Fault::BadValue {
-        place: "--local",
-        wanted: "a number that is at most that of the peers",
-    })
+    if !peers[..local as usize].iter().all(is_loopback) {
+        return Err(Fault::BadValue {
+            place: "--local",
+            wanted: "a number of first peers that are on this machine (127.0.0.0/8 or ::1), since a Local peer may command",
+        });
+    }
+    Ok(local)
+}
+
+/// Whether this is an address of this machine that no other machine can send from or to.
+fn is_loopback(endpoint: &SocketAddr) -> bool
+    ensures { IsTrue result ↔ IsLoopback endpoint.now }
+{
+    endpoint.ip().is_loopback()
 }
 
 /// The number of seconds from 1 to 2^32 - 1 that this text spells in decimal digits, with leading
@@ -146,18 +203,53 @@ fn seconds_of(digits: &str) -> Result<u32, Fault>
     })
 }
 
-/// The port that this text spells in decimal digits, with leading zeros allowed.
-fn port_of(place: &'static str, digits: &str) -> Result<u16, Fault>
-    ensures { Reads (IsPort digits.now) result }
+/// What is logged where `--log` has this value, or is absent.
+fn log_of(level: Option<&str>) -> Result<LogLevel, Fault>
+    ensures { Reads (IsLog (option_map (λ level. level.now) level.entry)) result }
+{
+    let Some(level) = level else {
+        return Ok(LogLevel::None);
+    };
+    if level == "events" {
+        Ok(LogLevel::Events)
+    } else if level == "all" {
+        Ok(LogLevel::All)
+    } else {
+        Err(Fault::BadValue {
+            place: "--log",
+            wanted: "all, or no value and the next option",
+        })
+    }
+}
+
+/// The address and port that this text spells. A port alone is one of 127.0.0.1.
+fn endpoint_of(place: &'static str, text: &str) -> Result<SocketAddr, Fault>
+    ensures { Reads (IsEndpoint text.now) result }
+{
+    if let Some(port) = port_of(text) {
+        return Ok(SocketAddr::new(IpAddr::V4(Ipv4Addr::LOCALHOST), port));
+    }
+    let Ok(endpoint) = text.parse::<SocketAddr>() else {
+        return Err(bad_endpoint(place));
+    };
+    if endpoint.port() == 0 {
+        return Err(bad_endpoint(place));
+    }
+    Ok(endpoint)
+}
+
+/// The port that this text spells in decimal digits, with leading zeros allowed, if it does.
+fn port_of(digits: &str) -> Option<u16>
+    ensures { MatchOption result ((n : ℕ) → IsPort digits.now n → ⊥) (IsPort digits.now) }
 {
     // The parser of numbers would accept a sign.
     if !digits.starts_with('+')
         && let Ok(port) = digits.parse::<u16>()
         && port > 0
     {
-        return Ok(port);
+        return Some(port);
     }
-    Err(bad_port(place))
+    None
 }
 
 /// The number below 2^64 that this text spells in decimal digits, with leading zeros allowed.
@@ -172,12 +264,12 @@ fn number_of(place: &'static str, digits: &str) -> Result<u64, Fault>
     Err(bad_number(place))
 }
 
-fn bad_port(place: &'static str) -> Fault
+fn bad_endpoint(place: &'static str) -> Fault
     ensures { IsBadValue result }
 {
     Fault::BadValue {
         place,
-        wanted: "a decimal port from 1 to 65535",
+        wanted: "a decimal port from 1 to 65535, or an address and a port, such as 192.0.2.1:6363 or [2001:db8::1]:6363",
     }
 }
 

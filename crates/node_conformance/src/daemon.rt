@@ -5,7 +5,8 @@ use info_rules::{RulesFault, RulesFaultKind};
 use ndn_daemon::*;
 use node_core::{NodeFault, RunFault};
 use std::alloc::Global;
-use std::io::{Read, Write, repeat};
+use std::io::{ErrorKind, Read, Write, repeat};
+use std::net::{IpAddr, Ipv4Addr, SocketAddr};
 use std::process::Abort;
 
 /// What a command asks for.
@@ -66,21 +67,26 @@ ndn_node script --cache 4294967296 => error: invalid value for --cache: give a d
 
 const UDP_HELP: &str = "
 ndn_node --help => udp     Runs the node on a UDP port
-ndn_node udp --help => Usage: ndn_node udp [OPTIONS] --listen <PORT> --turns <N> [PEERS]...
+ndn_node udp --help => Usage: ndn_node udp [OPTIONS] --listen <ENDPOINT> --turns <N> [PEERS]...
 ndn_node udp --help => --local <K>
 ndn_node udp --help => --idle <SECONDS>
+ndn_node udp --help => --open
+ndn_node udp --help => --log [<all>]
 ndn_node udp --help => --quiet
 ndn_node udp --help => --cache <N>
 ";
 
 const UDP_COMMAND_LINES: &str = "
 ndn_node udp => error: the following required arguments were not provided
-ndn_node udp --turns 1 => --listen <PORT>
+ndn_node udp --turns 1 => --listen <ENDPOINT>
 ndn_node udp --listen 6363 => --turns <N>
 ndn_node udp --listen 0 --turns 1 => error: invalid value for --listen: give a decimal port from 1 to 65535
 ndn_node udp --listen 65536 --turns 1 => error: invalid value for --listen: give a decimal port from 1 to 65535
 ndn_node udp --listen +1 --turns 1 => error: invalid value for --listen: give a decimal port from 1 to 65535
 ndn_node udp --listen 0x1 --turns 1 => error: invalid value for --listen: give a decimal port from 1 to 65535
+ndn_node udp --listen 192.0.2.1 --turns 1 => or an address and a port, such as 192.0.2.1:6363 or [2001:db8::1]:6363
+ndn_node udp --listen 192.0.2.1:0 --turns 1 => error: invalid value for --listen: give a decimal port from 1 to 65535
+ndn_node udp --listen ::1:6363 --turns 1 => error: invalid value for --listen: give a decimal port from 1 to 65535
 ndn_node udp --listen 1 --turns x => error: invalid value for --turns: give a decimal number below 2^64
 ndn_node udp --listen 1 --turns +1 => error: invalid value for --turns: give a decimal number below 2^64
 ndn_node udp --listen 1 --turns 18446744073709551616 => error: invalid value for --turns: give a decimal number below 2^64
@@ -90,8 +96,13 @@ ndn_node udp --listen 1 --turns 1 --local 3 7 8 => error: invalid value for --lo
 ndn_node udp --listen 1 --turns 1 7 0 => error: invalid value for PEERS: give a decimal port from 1 to 65535
 ndn_node udp --listen 1 --turns 1 7 65536 => error: invalid value for PEERS: give a decimal port from 1 to 65535
 ndn_node udp --listen 1 --turns 1 7 x => error: invalid value for PEERS: give a decimal port from 1 to 65535
-ndn_node udp --listen 1 --turns 1 7 8 07 => error: invalid value for PEERS: give each port once
-ndn_node udp --listen 7 --turns 1 8 07 => error: invalid value for PEERS: give other ports than that of --listen
+ndn_node udp --listen 1 --turns 1 7 8 07 => error: invalid value for PEERS: give each peer once
+ndn_node udp --listen 7 --turns 1 8 07 => error: invalid value for PEERS: give other peers than the node itself, which --listen names
+ndn_node udp --listen 127.0.0.1:7 --turns 1 8 7 => error: invalid value for PEERS: give other peers than the node itself
+ndn_node udp --listen 7 --turns 1 [::1]:8 => error: invalid value for PEERS: give addresses of the family of --listen
+ndn_node udp --listen [::1]:7 --turns 1 [::1]:8 9 => error: invalid value for PEERS: give addresses of the family of --listen
+ndn_node udp --listen 7 --turns 1 --local 2 8 192.0.2.1:8 => error: invalid value for --local: give a number of first peers that are on this machine
+ndn_node udp --listen 1 --turns 1 --log 7 => error: invalid value for --log: give all, or no value and the next option
 ndn_node udp --listen 1 --turns 1 --idle 0 => error: invalid value for --idle: give a decimal number of seconds from 1 to 4294967295
 ndn_node udp --listen 1 --turns 1 --idle +1 => error: invalid value for --idle: give a decimal number of seconds from 1 to 4294967295
 ndn_node udp --listen 1 --turns 1 --idle 4294967296 => error: invalid value for --idle: give a decimal number of seconds from 1 to 4294967295
@@ -116,7 +127,7 @@ fn runs(alloc: Global, peers: u16) -> bool {
 
 /// Whether a command of so many peers is wrong.
 fn is_wrong(alloc: Global, peers: u16) -> bool {
-    let part = "error: invalid value for PEERS: give at most 64 ports";
+    let part = "error: invalid value for PEERS: give at most 64 peers";
     command_of_peers(alloc, peers).is_some_and(|command| ends_with(
         alloc,
         command.as_str(),
@@ -145,11 +156,15 @@ fn udp_options_of(alloc: Global, command: &str) -> Option<String> {
         turns,
         local,
         idle,
+        log,
         ..
     } = &udp;
-    let mut text = format!(in alloc; "{cache} {listen} {turns} {local} {idle}").ok()?;
-    for port in udp.peers.as_slice() {
-        write!(text, " {port}").ok()?;
+    let mut text = format!(in alloc; "{cache} {listen} {turns} {local} {idle} {log:?}").ok()?;
+    for peer in udp.peers.as_slice() {
+        write!(text, " {peer}").ok()?;
+    }
+    if udp.hears_strangers() {
+        write!(text, " open").ok()?;
     }
     Some(text)
 }
@@ -163,12 +178,26 @@ fn is_quiet(alloc: Global, command: &str) -> bool {
 fn udp_options(rt: HostRuntime) {
     let alloc = rt.alloc();
     let absent = udp_options_of(alloc, "ndn_node udp --listen 6363 --turns 0");
-    assert!(rt; absent.as_deref() == Some("1024 6363 0 0 600"));
+    assert!(rt; absent.as_deref() == Some("1024 127.0.0.1:6363 0 0 600 None open"));
     let given = udp_options_of(
         alloc,
         "ndn_node udp 7 --cache 5 --turns 18446744073709551615 8 --listen 065535 --local 2 --idle 09 9",
     );
-    assert!(rt; given.as_deref() == Some("5 65535 18446744073709551615 2 9 7 8 9"));
+    let wanted = "5 127.0.0.1:65535 18446744073709551615 2 9 None 127.0.0.1:7 127.0.0.1:8 127.0.0.1:9 open";
+    assert!(rt; given.as_deref() == Some(wanted));
+    let loopbacks = udp_options_of(
+        alloc,
+        "ndn_node udp --listen 127.0.0.2:6363 --turns 1 --log --local 1 127.0.0.3:7 192.0.2.1:7",
+    );
+    let wanted = "1024 127.0.0.2:6363 1 1 600 Events 127.0.0.3:7 192.0.2.1:7 open";
+    assert!(rt; loopbacks.as_deref() == Some(wanted));
+    let six = "ndn_node udp --listen [2001:db8::1]:6363 --turns 1 --log all --local 1 [::1]:7";
+    let wanted = "1024 [2001:db8::1]:6363 1 1 600 All [::1]:7";
+    assert!(rt; udp_options_of(alloc, six).as_deref() == Some(wanted));
+    let here = udp_options_of(alloc, "ndn_node udp --turns 1 --listen [::1]:6363");
+    assert!(rt; here.as_deref() == Some("1024 [::1]:6363 1 0 600 None open"));
+    let opened = udp_options_of(alloc, "ndn_node udp --turns 1 --open --listen 0.0.0.0:6363");
+    assert!(rt; opened.as_deref() == Some("1024 0.0.0.0:6363 1 0 600 None open"));
     assert!(rt; is_quiet(alloc, "ndn_node udp --listen 1 --quiet --turns 1 7"));
     assert!(rt; !is_quiet(alloc, "ndn_node udp --listen 1 --turns 1 7"));
 }
@@ -223,41 +252,46 @@ fn refused_keys(alloc: Global, octets: &[u8]) -> Option<String> {
 fn rule_files(rt: HostRuntime) {
     let alloc = rt.alloc();
     assert!(rt; read_rules(alloc, b"").is_ok_and(|rules| rules.len() == 0));
-    assert!(rt; refused_rules(alloc, b"rule").as_deref() == Some("1 rules:1: BadValue\n"));
-    assert!(rt; refused_rules(alloc, b"\xff").as_deref() == Some("1 rules:0: Syntax\n"));
+    let bad = "1 rules:1: BadValue\n  the value or block of this key is wrong or missing, or it cannot stand beside another key\n";
+    assert!(rt; refused_rules(alloc, b"rule").as_deref() == Some(bad));
+    let binary = "1 rules:0: Syntax\n  the file is not UTF-8 text\n";
+    assert!(rt; refused_rules(alloc, b"\xff").as_deref() == Some(binary));
 }
 
 #[test]
 fn key_files(rt: HostRuntime) {
     let alloc = rt.alloc();
     assert!(rt; read_keys(alloc, b"/k 6b6579\n").is_ok_and(|keys| !keys.is_empty()));
-    assert!(rt; refused_keys(alloc, b"\n/k").as_deref() == Some("1 keys:2: BadLine\n"));
+    let bad = "1 keys:2: BadLine\n  a line is a name, one space, and 1 to 256 octets in hexadecimal: /ops/KEY/1 6b6579\n";
+    assert!(rt; refused_keys(alloc, b"\n/k").as_deref() == Some(bad));
+    let named = "1 keys:2: TwiceNamed\n  an earlier line has this name: give each name once\n";
     let twice = b"/k 6b6579\n/k 6b6579\n";
-    assert!(rt; refused_keys(alloc, twice).as_deref() == Some("1 keys:2: TwiceNamed\n"));
-    assert!(rt; refused_keys(alloc, b"\xff").as_deref() == Some("1 keys:0: BadLine\n"));
+    assert!(rt; refused_keys(alloc, twice).as_deref() == Some(named));
+    let binary = "1 keys:0: BadLine\n  the file is not UTF-8 text\n";
+    assert!(rt; refused_keys(alloc, b"\xff").as_deref() == Some(binary));
 }
 
 /// What a file of so many octets is refused with, where each is a semicolon, and then a letter of two octets.
 fn refused_comment(alloc: Global, count: u64) -> Option<String> {
     let file = repeat(b';').take(count).chain("é".as_bytes());
-    refused(alloc, read_rule_file(alloc, file))
+    refused(alloc, read_rule_file(alloc, "r", file))
 }
 
 /// What a key file of so many semicolons is refused with.
 fn refused_key_comment(alloc: Global, count: u64) -> Option<String> {
-    refused(alloc, read_key_file(alloc, repeat(b';').take(count)))
+    refused(alloc, read_key_file(alloc, "k", repeat(b';').take(count)))
 }
 
 /// A file may have as many octets as its limit and no more, and a file that is too long may end anywhere.
 #[test]
 fn large_files(rt: HostRuntime) {
     let alloc = rt.alloc();
-    let rules = "1 rules:0: TooLarge\n";
+    let rules = "1 rules:0: TooLarge\n  at most 65536 octets, 256 rules, and 16 filters and 16 checkers in a rule are allowed\n";
     assert!(rt; refused_comment(alloc, 65_534).is_none());
     assert!(rt; refused_comment(alloc, 65_535).as_deref() == Some(rules));
     assert!(rt; refused_comment(alloc, 65_536).as_deref() == Some(rules));
     assert!(rt; refused_comment(alloc, u64::MAX).as_deref() == Some(rules));
-    let keys = "1 keys:0: TooLarge\n";
+    let keys = "1 keys:0: TooLarge\n  at most 8388608 octets are allowed\n";
     assert!(rt; refused_key_comment(alloc, 8_388_608).is_none());
     assert!(rt; refused_key_comment(alloc, 8_388_609).as_deref() == Some(keys));
     assert!(rt; refused_key_comment(alloc, u64::MAX).as_deref() == Some(keys));
@@ -268,17 +302,21 @@ fn is_told(alloc: Global, fault: Fault, wanted: &str) -> bool {
     format!(in alloc; "{} {fault}", fault.exit_status()).is_ok_and(|told| told.as_str() == wanted)
 }
 
+/// Whether the fault of a file that may not be read names it and the cause.
+fn unread_is_told(alloc: Global) -> Option<bool> {
+    let fault = Fault::Unread {
+        file: "rule file",
+        path: String::from_str(alloc, "/etc/ndn/rules").ok()?,
+        kind: ErrorKind::PermissionDenied,
+    };
+    let wanted = "3 error: the rule file /etc/ndn/rules cannot be read: permission denied\n";
+    Some(is_told(alloc, fault, wanted))
+}
+
 #[test]
 fn faults(rt: HostRuntime) {
     let alloc = rt.alloc();
-    let file = "rule file";
-    assert!(rt;
-        is_told(
-            alloc,
-            Fault::Unread { file },
-            "3 error: the rule file cannot be read\n"
-        )
-    );
+    assert!(rt; unread_is_told(alloc).unwrap_or(false));
     assert!(rt;
         is_told(
             alloc,
@@ -286,7 +324,7 @@ fn faults(rt: HostRuntime) {
             "2 error: an argument is not UTF-8 text\n"
         )
     );
-    assert!(rt; is_told(alloc, Fault::Keys(KeyFault::TooMany), "1 keys:0: TooMany\n"));
+    assert!(rt; is_told(alloc, Fault::Keys(KeyFault::TooMany), "1 keys:0: TooMany\n  at most 256 keys are allowed\n"));
     assert!(rt;
         is_told(
             alloc,
@@ -300,13 +338,17 @@ fn faults(rt: HostRuntime) {
     });
     assert!(rt; is_told(alloc, no_memory, "3 error: out of memory\n"));
     let line = Fault::Script(RunFault::BadLine(7));
-    assert!(rt; is_told(alloc, line, "1 script:7: bad line\n"));
-    let unbound = Fault::Unbound { port: 6363 };
+    let wanted = "1 script:7: bad line\n  a line is up FACE local|far MOMENT, down FACE MOMENT, tick MOMENT, in FACE MOMENT HEX, or rules MOMENT HEX HEX\n";
+    assert!(rt; is_told(alloc, line, wanted));
+    let here = IpAddr::V4(Ipv4Addr::LOCALHOST);
+    let unbound = Fault::Unbound {
+        endpoint: SocketAddr::new(here, 6363),
+    };
     assert!(rt;
         is_told(
             alloc,
             unbound,
-            "3 error: port 6363 of 127.0.0.1 cannot be bound: give one that no program has\n"
+            "3 error: 127.0.0.1:6363 cannot be bound: give an address of this machine and a port that no program has\n"
         )
     );
     assert!(rt;

@@ -1,7 +1,7 @@
 use Rattle.std.proofs.Common.{codes, ◌∙◌}
 use Rattle.clap.specs.Words.{found_of}
 use Rattle.clap.proofs.WalkLemmas.{raw_values-rows}
-use Rattle.ndn_daemon.proofs.Peers.{no_ports}
+use Rattle.ndn_daemon.proofs.Peers.{no_endpoints}
 use Rattle.ndn_daemon.proofs.udp_options.given_peers.Goals as goal
 
 pub returns-in-Some : goal.returns-in-Some
@@ -12,4 +12,4 @@ returns-in-Some c =
 pub returns-in-None : goal.returns-in-None
 returns-in-None c =
     let e = c.in-None.ensures ∙ raw_values-rows (found_of c.args.found.now) (codes "PEERS") in
-    rw (← e, c.new.ensures.items) no_ports
+    rw (← e, c.new.ensures.items) no_endpoints

@@ -1,7 +1,9 @@
-use Rattle.std.proofs.Common.{◌≡◌, length, rules}
+use Rattle.std.proofs.Common.{◌≡◌, List, ap, sym, subst}
 use Rattle.std.proofs.lemmas.Result.{err_from_is_err_and}
+use Rattle.ndn_daemon.specs.Endpoint.{MayBePeersOf}
+use Rattle.ndn_daemon.specs.UdpOptions.{IsLocal}
 use Rattle.ndn_daemon.proofs.Spelling.{refused_part, wrong_in_memory}
-use Rattle.ndn_daemon.proofs.Peers.{own_port, same_local}
+use Rattle.ndn_daemon.proofs.Peers.{same_endpoint, same_endpoints}
 use Rattle.ndn_daemon.proofs.udp_options.UdpOptions.read.Goals as goal
 
 pub returns-in_err-peers : goal.returns-in_err-peers
@@ -11,13 +13,7 @@ returns-in_err-peers c =
 
 pub returns-in_err-local : goal.returns-in_err-local
 returns-in_err-local c =
-    let many : c.len.result ≡ length c.in_ok-peers.peers.items = search rules in
     let p = err_from_is_err_and c.from_residual-in_err-local.result c.from_residual-in_err-local.ensures.1 in
     rw (p.1, p.2) (wrong_in_memory _ _
-    (λ options h. (options.local, same_local _ options.peers.items c.in_ok-peers.peers.items h.peers c.in_ok-peers.ensures _ c.len.result options.local many h.local))
+    (λ options h. (options.local, subst (λ peers. IsLocal _ peers options.local) (same_endpoints options.listen _ options.peers.items c.in_ok-peers.peers.items h.peers c.in_ok-peers.ensures ∙ sym c.as_slice-2.ensures.value) h.local))
     c.in_err-local.field-0.0 (rw (c.given_or.ensures, c.value.ensures) at c.in_err-local.ensures))
-
-pub returns-then-contains : goal.returns-then-contains
-returns-then-contains c = λ x are.
-    own_port _ _ x.peers.items c.in_ok-peers.peers.items x.listen c.in_ok-listen.listen are.peers c.in_ok-peers.ensures are.listen c.in_ok-listen.ensures
-    (rw c.as_slice.ensures.value at c.if-contains.ensures.cases) are.others

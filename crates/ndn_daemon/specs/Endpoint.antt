@@ -1,0 +1,40 @@
+-- Addresses with a port, and which of them may be peers of a node.
+use Rattle.std.specs.Prelude.{◌≡◌, ◌≢◌, ◌⊎◌, ℕ, ◌<◌, ◌≤◌, ◌^◌, List, [], ◌∷◌, All, AllPairs, length, slice_index_or}
+use Rattle.std.specs.Str.Parse.{IsNumeral, digits_value}
+use Rattle.std.specs.Net.Addr.{IsLoopbackV4, IsLoopbackV6, MatchIp, ipv4_octets, is_ipv4}
+use Rattle.std.specs.Net.Grammar.{IsSocketText}
+use Rattle.std.specs.Net.Socket.{socket_ip, socket_port}
+use Rattle.std.specs.declared.net.socket_addr.SocketAddr.{SocketAddr}
+use Rattle.pit_fib.specs.declared.faces.TheConstants.{MAX_FACES}
+
+-- decimal digits of a port from 1 to 65535; leading zeros are allowed
+abbrev pub IsPort : List ℕ → ℕ → Type 0
+IsPort text n = IsNumeral 10 text × (digits_value 10 text ≡ n) × (0 < n) × (n < 2 ^ 16)
+
+-- the address is 127.0.0.1
+abbrev pub IsLocalhost : SocketAddr → Type 0
+IsLocalhost endpoint =
+    MatchIp (socket_ip endpoint) (λ ip. ipv4_octets ip ≡ 127 ∷ 0 ∷ 0 ∷ 1 ∷ []) (λ ip. ⊥)
+
+-- a port of 127.0.0.1, or an address and a port, where the port is not 0
+abbrev pub IsEndpoint : List ℕ → SocketAddr → Type 0
+IsEndpoint text endpoint =
+    (IsPort text (socket_port endpoint) × IsLocalhost endpoint)
+    ⊎ (IsSocketText text endpoint × (0 < socket_port endpoint))
+
+-- an address that this machine alone can send to or from: one of 127.0.0.0/8, or ::1
+abbrev pub IsLoopback : SocketAddr → Type 0
+IsLoopback endpoint = MatchIp (socket_ip endpoint) IsLoopbackV4 IsLoopbackV6
+
+-- the endpoints that these texts spell, in their order: at most 64, all different
+pub record AreEndpoints (texts : List (List ℕ)) (endpoints : List SocketAddr) : Type 0 where
+  pub many : length endpoints ≡ length texts
+  pub spelled : (k : ℕ) (d : SocketAddr) → k < length texts
+      → IsEndpoint (slice_index_or texts k []) (slice_index_or endpoints k d)
+  pub few : length texts ≤ MAX_FACES
+  pub different : AllPairs (λ a b. a ≢ b) endpoints
+
+-- none is the node itself, and all are of its family, IPv4 or IPv6
+pub record MayBePeersOf (listen : SocketAddr) (peers : List SocketAddr) : Type 0 where
+  pub others : All (λ peer. peer ≢ listen) peers
+  pub one_family : All (λ peer. is_ipv4 (socket_ip peer) ≡ is_ipv4 (socket_ip listen)) peers

@@ -1,0 +1,74 @@
+//! What is wrong where a file or a script has a fault, in words, and how it is right.
+ghost use Rattle.std.specs.Prelude.{◌≡◌};
+ghost use Rattle.ndn_daemon.specs.Advice.{advice_on_keys, advice_on_rules, cause_of};
+
+use info_rules::{RulesFault, RulesFaultKind};
+use hmac_keys::KeyFault;
+use std::io::ErrorKind;
+
+/// What a file that is no text has in common, whichever it is.
+const NOT_TEXT: &str = "the file is not UTF-8 text";
+
+/// What is wrong in a rule file.
+pub fn advice_on_rules(fault: &RulesFault) -> &'static str
+    ensures { result.now ≡ advice_on_rules fault.now.line fault.now.kind }
+{
+    match fault.kind {
+        RulesFaultKind::Syntax => {
+            if fault.line == 0 {
+                NOT_TEXT
+            } else {
+                "a word or brace stands where none may, or a quote or block is not closed"
+            }
+        }
+        RulesFaultKind::TooDeep => "blocks may nest at most 8 deep",
+        RulesFaultKind::TooLarge => {
+            "at most 65536 octets, 256 rules, and 16 filters and 16 checkers in a rule are allowed"
+        }
+        RulesFaultKind::UnknownKey => "no key of this name may stand in this block",
+        RulesFaultKind::Missing => "the block of this key lacks a key that it needs",
+        RulesFaultKind::BadValue => {
+            "the value or block of this key is wrong or missing, or it cannot stand beside another key"
+        }
+        RulesFaultKind::TwiceNamed => {
+            "this key stands in this block already, or an earlier rule has this id: give it once"
+        }
+        RulesFaultKind::Pattern => {
+            "no pattern, or no template for its pattern: <lab> is a component, <> any, <>* any number"
+        }
+        RulesFaultKind::AnyAnchor => {
+            "a trust anchor of type any would allow packets without a rule: write rules in its place"
+        }
+        RulesFaultKind::Memory => "out of memory",
+    }
+}
+
+/// What is wrong in a key file.
+pub fn advice_on_keys(fault: &KeyFault) -> &'static str
+    ensures { result.now ≡ advice_on_keys fault.now }
+{
+    match fault {
+        KeyFault::BadLine(0) => NOT_TEXT,
+        KeyFault::BadLine(_) => {
+            "a line is a name, one space, and 1 to 256 octets in hexadecimal: /ops/KEY/1 6b6579"
+        }
+        KeyFault::TwiceNamed(_) => "an earlier line has this name: give each name once",
+        KeyFault::TooMany => "at most 256 keys are allowed",
+        KeyFault::Memory => "out of memory",
+    }
+}
+
+/// Why a file cannot be read.
+pub fn cause_of(kind: ErrorKind) -> &'static str
+    ensures { result.now ≡ cause_of kind }
+{
+    match kind {
+        ErrorKind::NotFound => "there is no such file",
+        ErrorKind::PermissionDenied => "permission denied",
+        ErrorKind::IsADirectory => "it is a directory",
+        ErrorKind::NotADirectory => "a part of its path is not a directory",
+        ErrorKind::InvalidFilename => "its name is too long",
+        ErrorKind::FilesystemLoop => "its path has too many symbolic links",
+        _ => "the system refused it",
+    }
+}
