@@ -1,8 +1,9 @@
 -- The values that the options of a node on a port spell.
-use Rattle.std.specs.Prelude.{◌≡◌, ℕ, ◌<◌, ◌≤◌, ◌^◌, List, [], Option, None, Some, Bool, true, false, All, codes, length, take, ⊤}
+use Rattle.std.specs.Prelude.{◌≡◌, ◌↔◌, ◌⊎◌, ℕ, ◌*◌, ◌<◌, ◌≤◌, ◌^◌, List, [], Option, None, Some, Bool, true, false, IsTrue, All, codes, length, take, ⊤}
 use Rattle.std.specs.Str.Parse.{IsNumeral, digits_value}
 use Rattle.clap.specs.Walk.{Row, all_of, one_of}
 use Rattle.std.specs.declared.net.socket_addr.SocketAddr.{SocketAddr}
+use Rattle.node_core.specs.Udp.{UdpState, bound_to, closes_after}
 use Rattle.ndn_daemon.specs.declared.fault.Fault.{Fault}
 use Rattle.ndn_daemon.specs.declared.fault.Fault.TheVariants.{BadValue}
 use Rattle.ndn_daemon.specs.declared.udp_options.LogLevel.{LogLevel}
@@ -67,6 +68,15 @@ pub record IsUdpOptions (rows : List Row) (options : UdpOptions) : Type 0 where
   pub is_open : IsFlag (flag_at rows (codes "open")) options.«open»
   pub log : IsLog (value_at rows (codes "log")) options.log
   pub quiet : IsFlag (flag_at rows (codes "quiet")) options.quiet
+
+-- The ports of these options, at this moment: the peers' faces are to be opened, others close after
+-- the time of silence, and strangers are heard by `--open` or at a loopback address.
+pub record ArePortsOf (options : UdpOptions) (told : ℕ) (ports : UdpState) : Type 0 where
+  pub is_open : IsTrue ports.hears_strangers ↔ (IsTrue options.«open» ⊎ IsLoopback options.listen)
+  pub is : ports ≡ record (closes_after (options.idle * 1000)
+      (bound_to options.peers.items options.local told)) {
+        hears_strangers = ports.hears_strangers;
+      }
 
 -- the fault of a text
 abbrev pub IsBadValue : Fault → Type 0

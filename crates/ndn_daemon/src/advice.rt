@@ -2,8 +2,8 @@
 ghost use Rattle.std.specs.Prelude.{◌≡◌};
 ghost use Rattle.ndn_daemon.specs.Advice.{advice_on_keys, advice_on_rules, cause_of};
 
-use info_rules::{RulesFault, RulesFaultKind};
 use hmac_keys::KeyFault;
+use info_rules::{RulesFault, RulesFaultKind};
 use std::io::ErrorKind;
 
 /// What a file that is no text has in common, whichever it is.

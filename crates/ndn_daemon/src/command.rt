@@ -259,9 +259,9 @@ fn with_node<'a>(alloc: Global, command: Command<'a>) -> Result<Command<'a>, All
 
 /// The addresses and ports of the peers.
 fn peers<'a>(alloc: Global) -> Arg<'a> {
-    Arg::new(alloc, "PEERS")
-        .num_args(0..)
-        .help("The peers, written as --listen, which are faces 1, 2 and so on")
+    Arg::new(alloc, "PEERS").num_args(0..).help(
+        "The peers, written as --listen, which are faces 1, 2 and so on",
+    )
 }
 
 /// What is logged: without a value, events.

@@ -83,12 +83,7 @@ impl<S: LogSink> EventLog<S> {
     }
 
     /// Appends the line of an event, unless it is plain and not all are shown.
-    pub fn put_event(
-        &mut self,
-        entry: &Entry<'_>,
-        outcome: &Result<Verdict, Memory>,
-        rules: &Rules,
-    )
+    pub fn put_event(&mut self, entry: &Entry<'_>, outcome: &Result<Verdict, Memory>, rules: &Rules)
         ensures left_out { is_left_out self.old.shows_all entry.now.came outcome.now ≡ true
             → self.new.text.items ≡ self.old.text.items }
         ensures shown { MayLog self.old.text.items self.new.text.items entry.now.moment

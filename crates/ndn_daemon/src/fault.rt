@@ -103,7 +103,11 @@ impl fmt::Display for Fault {
             }
             Fault::NotText => f.write_str("error: an argument is not UTF-8 text\n"),
             Fault::Unread { file, path, kind } => {
-                writeln!(f, "error: the {file} {path} cannot be read: {}", cause_of(*kind))
+                writeln!(
+                    f,
+                    "error: the {file} {path} cannot be read: {}",
+                    cause_of(*kind)
+                )
             }
             Fault::Rules(fault) => match fault.kind {
                 RulesFaultKind::Memory => f.write_str("error: out of memory\n"),
@@ -126,7 +130,10 @@ impl fmt::Display for Fault {
             Fault::LargeKeys => {
                 f.write_str("keys:0: TooLarge\n  at most 8388608 octets are allowed\n")
             }
-            Fault::Script(RunFault::BadLine(line)) => writeln!(f, "script:{line}: bad line\n  {SCRIPT_LINE}"),
+            Fault::Script(RunFault::BadLine(line)) => writeln!(
+                f,
+                "script:{line}: bad line\n  {SCRIPT_LINE}"
+            ),
             Fault::Unbound { endpoint } => writeln!(
                 f,
                 "error: {endpoint} cannot be bound: give an address of this machine and a port that no program has"

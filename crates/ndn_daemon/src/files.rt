@@ -33,11 +33,7 @@ pub fn read_keys(alloc: Global, octets: &[u8]) -> Result<KeyBook, Fault>
 
 /// The rules of an open rule file, which has this path. Of one of more than 65,536 octets no more than 65,537 are read, and it
 /// has a TooLarge fault at line 0, also where it is not UTF-8.
-pub fn read_rule_file<R: Read + Drop>(
-    alloc: Global,
-    path: &str,
-    file: R,
-) -> Result<Rules, Fault>
+pub fn read_rule_file<R: Read + Drop>(alloc: Global, path: &str, file: R) -> Result<Rules, Fault>
     // Where it is known what the file has.
     ensures { IfSome (R.remaining file)
         (λ octets. MatchResult result (AreRules octets) (IsRuleFileFault path.now octets)) }
@@ -54,11 +50,7 @@ pub fn read_rule_file<R: Read + Drop>(
 
 /// The keys of an open key file, which has this path. One of more than `MAX_KEY_FILE` octets is too large, whatever it has,
 /// and only one octet more is read of it.
-pub fn read_key_file<R: Read + Drop>(
-    alloc: Global,
-    path: &str,
-    file: R,
-) -> Result<KeyBook, Fault>
+pub fn read_key_file<R: Read + Drop>(alloc: Global, path: &str, file: R) -> Result<KeyBook, Fault>
     // Where it is known what the file has.
     ensures { IfSome (R.remaining file)
         (λ octets. MatchResult result (AreKeysOfFile octets) (IsKeyFileFault path.now octets)) }

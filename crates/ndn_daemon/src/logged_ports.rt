@@ -7,7 +7,7 @@ use crate::watched_ports::moment_of;
 use info_rules::Rules;
 use ndn_log::{Came, Entry};
 use ndn_tlv::Memory;
-use node_core::{Arrival, PortFault, Ports, Scope, Turn, Verdict};
+use node_core::{Arrival, Moments, PortFault, Ports, Scope, Turn, UdpPorts, Verdict};
 use std::net::SocketAddr;
 
 /// Ports that know where their faces lead.
@@ -17,6 +17,16 @@ pub trait HasEndpoints {
 
     /// How many datagrams of strangers were dropped.
     fn strangers(&self) -> u64;
+}
+
+impl<M: Moments> HasEndpoints for UdpPorts<M> {
+    fn endpoint_of(&self, face: u64) -> Option<SocketAddr> {
+        UdpPorts::endpoint_of(self, face)
+    }
+
+    fn strangers(&self) -> u64 {
+        UdpPorts::strangers(self)
+    }
 }
 
 /// What arrived, without its octets.
@@ -123,7 +133,8 @@ impl<P: Ports + HasEndpoints + Drop, S: LogSink> Ports for LoggedPorts<P, S> {
         let sent = self.ports.send(face, octets);
         if sent.is_err() {
             let endpoint = self.ports.endpoint_of(face);
-            self.log.put_failed_send(self.moment, face, endpoint, octets);
+            self.log
+                .put_failed_send(self.moment, face, endpoint, octets);
         }
         sent
     }

@@ -5,20 +5,23 @@ ghost use Rattle.std.specs.Io.KnownBytes.{Appends};
 ghost use Rattle.forwarder.specs.Parts.{parts_fault};
 ghost use Rattle.node_core.specs.Ports.Serving.{IsTurn, shown};
 ghost use Rattle.node_core.specs.Script.Ending.{AppendsFront};
+ghost use Rattle.ndn_daemon.specs.UdpOptions.{ArePortsOf};
 ghost use Rattle.ndn_daemon.specs.Turn.{EndsTurns, HasNoTurns, StopsAt, StopsQuietTurns, StopsTurn, StopsTurns, TakesQuietTurns, TakesTurns, Writes, turn_text};
 
+use crate::event_log::{EventLog, LogSink, StandardError};
 use crate::fault::Fault;
-use crate::udp_options::UdpOptions;
+use crate::logged_ports::{HasEndpoints, LoggedPorts};
+use crate::udp_options::{LogLevel, UdpOptions};
 use crate::watched_ports::{RuleSource, WatchedPorts};
 use info_rules::Rules;
 use node_core::{
-    FRAME_ROOM, MAX_FACES, Moments, Node, NodeParts, Outbox, PortFault, Ports, RunFault, Turn, UdpPorts,
+    FRAME_ROOM, MAX_FACES, Moments, Node, NodeParts, Outbox, Ports, RunFault, Turn, UdpPorts,
     put_all, put_refused, put_sends, put_verdict, serve, serve_turn_in, serve_turn_soon,
 };
 use std::alloc::Global;
 use std::io;
 use std::io::Write;
-use std::net::{Net, SocketAddr};
+use std::net::Net;
 use std::time::{Clock, SystemTime};
 
 /// How much text is gathered at most before it is written, in octets, besides that of one turn.
@@ -58,9 +61,10 @@ fn milliseconds<R: Clock>(rt: &R) -> Option<u64> {
 }
 
 /// Runs a node on its port for its turns, and writes each answer to standard output as it comes, or
-/// none where it is quiet. Its rules and keys are replaced where their source has new ones. Parts
-/// that are wrong are reported before the port is bound.
-pub fn run_on_port<R: AllocGlobal + Net + Print, M: Moments, S: RuleSource>(
+/// none where it is quiet, and its log to standard error, where one is asked for. Its rules and keys
+/// are replaced where their source has new ones. Parts that are wrong are reported before the port
+/// is bound.
+pub fn run_on_port<R: AllocGlobal + Eprint + Net + Print, M: Moments, S: RuleSource>(
     rt: &R,
     parts: NodeParts,
     moments: M,
@@ -79,37 +83,57 @@ pub fn run_on_port<R: AllocGlobal + Net + Print, M: Moments, S: RuleSource>(
         Ok(node) => node,
         Err(fault) => return Err(Fault::Script(RunFault::Node(fault))),
     };
-    let endpoint = options.listen;
-    let bound = bind_at(rt, endpoint, options.peers.as_slice(), options.local, moments);
-    let Ok(mut ports) = bound else {
-        return Err(Fault::Unbound { endpoint });
+    let Some(ports) = bound_ports(rt, moments, options) else {
+        return Err(Fault::Unbound {
+            endpoint: options.listen,
+        });
     };
-    ports.close_after(options.idle as u64 * 1000);
-    let mut ports = WatchedPorts::new(ports, source, 0);
-    take_as_asked(
+    take_logged(
         rt.alloc(),
         &mut node,
-        &mut ports,
+        WatchedPorts::new(ports, source, 0),
+        StandardError::new(rt),
         &mut io::writer(rt),
         options,
     )
 }
 
-/// STUB, which goes where `UdpPorts::bind_at` is there: binds by the ports alone.
-fn bind_at<R: Net, M: Moments>(
-    rt: &R,
-    listen: SocketAddr,
-    peers: &[SocketAddr],
-    local: u64,
-    moments: M,
-) -> Result<UdpPorts<M>, PortFault>
-    requires { length peers.now ≤ MAX_FACES }
+/// The ports that the options ask for; none where the endpoint cannot be bound.
+fn bound_ports<M: Moments>(rt: &impl Net, moments: M, options: &UdpOptions) -> Option<UdpPorts<M>>
+    requires { length options.now.peers.items ≤ MAX_FACES }
+    ensures { IfSome result (ArePortsOf options.now (M.last moments)) }
 {
-    let mut ports = [0; MAX_FACES];
-    for (port, peer) in ports.iter_mut().zip(peers) {
-        *port = peer.port();
+    let peers = options.peers.as_slice();
+    let bound = UdpPorts::bind_at(rt, options.listen, peers, options.local, moments);
+    let mut ports = bound.ok()?;
+    ports.close_after(options.idle as u64 * 1000);
+    if !options.hears_strangers() {
+        ports.ignore_strangers();
     }
-    UdpPorts::bind(rt, listen.port(), &ports[..peers.len()], local, moments)
+    Some(ports)
+}
+
+/// Lets a node take the turns that the options ask for, with a log where they ask for one.
+fn take_logged<P: Ports + HasEndpoints + Drop, S: LogSink, W: Write>(
+    alloc: Global,
+    node: &mut Node,
+    mut ports: P,
+    sink: S,
+    writer: &mut W,
+    options: &UdpOptions,
+) -> Result<(), Fault>
+    ensures fault { IfErr result EndsTurns }
+    ensures none { options.now.turns ≡ 0 → IsOk result }
+    ensures quiet { options.now.quiet ≡ true → W.contents writer.new ≡ W.contents writer.old }
+{
+    if options.log == LogLevel::None {
+        return take_as_asked(alloc, node, &mut ports, writer, options);
+    }
+    let log = EventLog::new(alloc, sink, options.log == LogLevel::All);
+    let mut ports = LoggedPorts::new(ports, log);
+    let done = take_as_asked(alloc, node, &mut ports, writer, options);
+    ports.finish();
+    done
 }
 
 /// Lets a node take the turns that the options ask for. A quiet node writes nothing.

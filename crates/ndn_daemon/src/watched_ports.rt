@@ -2,9 +2,11 @@
 ghost use Rattle.std.specs.Prelude.{◌≡◌, ◌∷◌, [], None, length, IfOk, OnErr, OnOk};
 ghost use Rattle.node_core.specs.Ports.{Gives, LiesWithin, Takes, arrived, one_more};
 
+use crate::logged_ports::HasEndpoints;
 use hmac_keys::KeyBook;
 use info_rules::Rules;
 use node_core::{Arrival, FRAME_ROOM, PortFault, Ports};
+use std::net::SocketAddr;
 
 /// How long the source of rules is not asked again, in milliseconds.
 const LOOK_MILLISECONDS: u64 = 1000;
@@ -126,6 +128,16 @@ impl<P: Ports + Drop, S: RuleSource> Ports for WatchedPorts<P, S> {
 
     fn failures(&self) -> u64 {
         self.ports.failures()
+    }
+}
+
+impl<P: Ports + HasEndpoints + Drop, S: RuleSource> HasEndpoints for WatchedPorts<P, S> {
+    fn endpoint_of(&self, face: u64) -> Option<SocketAddr> {
+        self.ports.endpoint_of(face)
+    }
+
+    fn strangers(&self) -> u64 {
+        self.ports.strangers()
     }
 }
 
