@@ -17,7 +17,8 @@ use ndn_tlv::Memory;
 use std::alloc::Global;
 
 /// Appends the line of an event: its time, the face and the endpoint, what came with the packet's
-/// name, and what became of it, by the rules in force. Where memory is refused, nothing is appended.
+/// name, and what became of it, by the rules in force. Where memory is refused, nothing is
+/// appended.
 pub fn put_event(
     alloc: Global,
     text: &mut Vec<u8>,

@@ -21,8 +21,17 @@ const BROKEN: &str =
     "0501ffffffffffffffffffffffffffffffffffffffffffffffffffffffffffffffffffffffffffff";
 
 /// One rule, whose id has letters beyond ASCII.
-const RULES: &str =
-    "rule\n{\n  id sonde-\u{e9}t\u{e9}\n  for data\n  checker\n  {\n    type customized\n    sig-type sha256\n  }\n}\n";
+const RULES: &str = "rule
+{
+  id sonde-\u{e9}t\u{e9}
+  for data
+  checker
+  {
+    type customized
+    sig-type sha256
+  }
+}
+";
 
 /// Whether this is the line of a packet on face 2, of 192.0.2.7:6363, with a verdict.
 fn is_line(alloc: Global, packet: &str, verdict: Verdict, line: &str) -> bool {

@@ -1,10 +1,7 @@
 //! Verdicts in words.
 
 ghost use Rattle.std.specs.Prelude.{◌≡◌, ◌++◌, OnOk, option_map};
-ghost use Rattle.ndn_packets.specs.FaultName.{packet_name};
 ghost use Rattle.ndn_packets.specs.View.{plain_frame};
-ghost use Rattle.info_rules.specs.Names.{reason_name};
-ghost use Rattle.forwarder.specs.Commands.{id_of};
 ghost use Rattle.forwarder.specs.Verdict.{reason_of, verdict_of};
 ghost use Rattle.ndn_log.specs.Verdict.{denial_words, drop_words, fault_words, outcome_words, verdict_words};
 
@@ -76,7 +73,8 @@ fn put_verdict(
 }
 
 fn put_denial(text: &mut Vec<u8>, rules: &Rules, rule: RuleNo, reason: Reason) -> Result<(), Memory>
-    ensures { OnOk result (text.new.items ≡ text.old.items ++ denial_words rules.now rule.0 reason) }
+    ensures { OnOk result (text.new.items ≡ text.old.items
+        ++ denial_words rules.now rule.0 reason) }
 {
     write!(
         text,
