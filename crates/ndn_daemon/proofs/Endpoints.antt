@@ -1,11 +1,10 @@
 -- A text spells one endpoint at most.
-use Rattle.std.proofs.Common.{◌≡◌, ℕ, ◌<◌, ◌≤◌, ◌^◌, ◌+◌, List, [], ◌∷◌, ◌++◌, length, get_or, length-append, codes, true, false, refl, sym, ap, subst, ◌∙◌, arith, rules, inl, inr, lit≤}
-use Rattle.std.specs.Str.Parse.{IsNumeral, digits_value}
+use Rattle.std.proofs.Common.{◌≡◌, ℕ, ◌<◌, List, ◌∷◌, ◌++◌, length, get_or, length-append, codes, true, false, refl, ap, ◌∙◌, arith, rules, inl, inr}
+use Rattle.std.specs.Str.Parse.{IsNumeral}
 use Rattle.std.specs.Fmt.{digits}
 use Rattle.std.specs.Net.Text.{dotted_text}
-use Rattle.std.specs.Net.Addr.{ipv4_octets}
 use Rattle.std.specs.Net.Grammar.{IsSocketText}
-use Rattle.std.specs.Net.Socket.{socket_port, v4_ip, v4_port}
+use Rattle.std.specs.Net.Socket.{socket_port}
 use Rattle.std.specs.declared.net.socket_addr.SocketAddr.{SocketAddr}
 use Rattle.std.specs.declared.net.socket_addr.SocketAddr.TheVariants.{V4, V6}
 use Rattle.std.specs.contracts.net.socket_addr.SocketAddrPartialEq.TheImpl as socket

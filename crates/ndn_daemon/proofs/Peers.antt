@@ -1,6 +1,6 @@
 -- Peers that are read one after the other.
 use Rattle.std.proofs.Common.{◌≡◌, ◌≢◌, ℕ, ◌+◌, ◌<◌, ◌≤◌, List, [], ◌∷◌, ◌++◌, length, true, false, refl, sym, ap, subst, ◌∙◌, arith, below_more, length-append}
-use Rattle.std.specs.Prelude.{All, AllPairs, Option, None, Some, slice_index_or}
+use Rattle.std.specs.Prelude.{AllPairs, Option, None, Some, slice_index_or}
 use Rattle.std.specs.declared.net.socket_addr.SocketAddr.{SocketAddr}
 use Rattle.std.specs.contracts.net.socket_addr.SocketAddrPartialEq.TheImpl as socket
 use Rattle.std.proofs.Math.ListN.{get_or-append}
@@ -9,8 +9,12 @@ use Rattle.std.proofs.Math.Seq.{get_or-append_seam}
 use Rattle.std.proofs.lemmas.List.Quantifiers.{all_pairs_push}
 use Rattle.pit_fib.specs.declared.faces.TheConstants.{MAX_FACES}
 use Rattle.ndn_daemon.specs.Endpoint.{AreEndpoints, IsEndpoint, MayBePeersOf}
-use Rattle.ndn_daemon.specs.UdpOptions.{Has}
+use Rattle.ndn_daemon.specs.UdpOptions.{Has, IsLocal}
 use Rattle.ndn_daemon.proofs.Endpoints.{one_endpoint, same_socket, other_socket}
+
+some_item : (endpoints : List SocketAddr) → 0 < length endpoints → SocketAddr
+some_item [] some = absurd (omega (arith, some))
+some_item (endpoint ∷ endpoints) some = endpoint
 
 -- the endpoints of the first texts
 pub record SoFar (texts : List (List ℕ)) (i : ℕ) (endpoints : List SocketAddr) : Type 0 where
@@ -29,15 +33,21 @@ pub same_endpoint : (text : Option (List ℕ)) (a b : SocketAddr) → Has text I
 same_endpoint None a b first second = absurd first
 same_endpoint (Some text) a b first second = one_endpoint text a b first second
 
--- the node is one of its peers
-pub own_endpoint : (listen : SocketAddr) (peers : List SocketAddr) → (k : ℕ) × (k < length peers) × ((d : SocketAddr) → (socket.ghosts).eq (slice_index_or peers k d) listen ≡ true)
-    → MayBePeersOf listen peers → ⊥
-own_endpoint listen peers found may = may.others found.0 listen found.1 (same_socket _ _ (found.2 listen))
+-- what else the options say is of the same endpoints
+pub same_suit : (texts : List (List ℕ)) (text : Option (List ℕ)) (a b held : List SocketAddr) (n m : SocketAddr) → AreEndpoints texts a → AreEndpoints texts b → held ≡ b → Has text IsEndpoint n
+    → Has text IsEndpoint m → MayBePeersOf n a → MayBePeersOf m held
+same_suit texts text a b held n m first second holds heard spelled may =
+    let same : a ≡ held = same_endpoints n texts a b first second ∙ sym holds in
+    subst (λ ps. MayBePeersOf m ps) same (subst (λ e. MayBePeersOf e a) (same_endpoint text n m heard spelled) may)
+
+pub same_local : (texts : List (List ℕ)) (a b held : List SocketAddr) (d : SocketAddr) → AreEndpoints texts a → AreEndpoints texts b → held ≡ b → (text : List ℕ) (local : ℕ) → IsLocal text a local
+    → IsLocal text held local
+same_local texts a b held d first second holds text local h = subst (λ ps. IsLocal text ps local) (same_endpoints d texts a b first second ∙ sym holds) h
 
 module _ (texts : List (List ℕ)) (i : ℕ) (text : List ℕ) (is : (d : List ℕ) → slice_index_or texts i d ≡ text) (inside : i < length texts) where
   -- the endpoint that the text spells where all texts spell endpoints
-  pub endpoint_at : (d : SocketAddr) (endpoints : List SocketAddr) → AreEndpoints texts endpoints → (e : SocketAddr) × IsEndpoint text e
-  endpoint_at d endpoints are = (slice_index_or endpoints i d, subst (λ t. IsEndpoint t (slice_index_or endpoints i d)) (is []) (are.spelled i d inside))
+  pub endpoint_at : (endpoints : List SocketAddr) → AreEndpoints texts endpoints → (e : SocketAddr) × IsEndpoint text e
+  endpoint_at endpoints are = let d = some_item endpoints (omega (arith, are.many, inside)) in (slice_index_or endpoints i d, subst (λ t. IsEndpoint t (slice_index_or endpoints i d)) (is []) (are.spelled i d inside))
 
   -- an endpoint that was spelled before
   pub twice : (e : SocketAddr) (so_far : List SocketAddr) → SoFar texts i so_far → IsEndpoint text e

@@ -1,5 +1,5 @@
 -- What is said of a fault in a file, and of a file that cannot be read.
-use Rattle.std.specs.Prelude.{ℕ, zero, suc, List, codes}
+use Rattle.std.specs.Prelude.{ℕ, zero, suc, Bool, true, false, List, codes}
 use Rattle.std.specs.declared.io.ErrorKind.{ErrorKind}
 use Rattle.std.specs.declared.io.ErrorKind.TheVariants as kinds
 use Rattle.hmac_keys.specs.declared.fault.KeyFault.{KeyFault}
@@ -8,7 +8,7 @@ use Rattle.info_rules.specs.declared.fault.RulesFaultKind.{RulesFaultKind}
 use Rattle.info_rules.specs.declared.fault.RulesFaultKind.TheVariants as rules
 
 -- at line 0 the file is not UTF-8
-abbrev pub advice_on_rules : ℕ → RulesFaultKind → List ℕ
+unfoldable pub advice_on_rules : ℕ → RulesFaultKind → List ℕ
 advice_on_rules zero rules.Syntax = codes "the file is not UTF-8 text"
 advice_on_rules (suc line) rules.Syntax =
     codes "a word or brace stands where none may, or a quote or block is not closed"
@@ -28,7 +28,7 @@ advice_on_rules line rules.AnyAnchor =
 advice_on_rules line rules.Memory = codes "out of memory"
 
 -- the same of a key file
-abbrev pub advice_on_keys : KeyFault → List ℕ
+unfoldable pub advice_on_keys : KeyFault → List ℕ
 advice_on_keys (keys.BadLine zero) = codes "the file is not UTF-8 text"
 advice_on_keys (keys.BadLine (suc line)) =
     codes "a line is a name, one space, and 1 to 256 octets in hexadecimal: /ops/KEY/1 6b6579"
@@ -36,8 +36,13 @@ advice_on_keys (keys.TwiceNamed line) = codes "an earlier line has this name: gi
 advice_on_keys keys.TooMany = codes "at most 256 keys are allowed"
 advice_on_keys keys.Memory = codes "out of memory"
 
+-- memory was refused
+abbrev pub is_memory : RulesFaultKind → Bool
+is_memory rules.Memory = true
+is_memory kind = false
+
 -- why a file cannot be read
-abbrev pub cause_of : ErrorKind → List ℕ
+unfoldable pub cause_of : ErrorKind → List ℕ
 cause_of kinds.NotFound = codes "there is no such file"
 cause_of kinds.PermissionDenied = codes "permission denied"
 cause_of kinds.IsADirectory = codes "it is a directory"

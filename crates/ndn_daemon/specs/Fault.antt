@@ -1,8 +1,7 @@
 -- The message and the exit status of each fault of the program.
-use Rattle.std.specs.Prelude.{ℕ, List, ◌++◌, codes, Option, Some, None, string_bytes, unwrap_or}
+use Rattle.std.specs.Prelude.{ℕ, List, ◌++◌, codes, Option, Some, None, string_bytes, if◌then◌else◌}
 use Rattle.std.specs.Fmt.{decimal}
 use Rattle.std.specs.Net.Text.{socket_text}
-use Rattle.hmac_keys.specs.FaultName.{fault_line, fault_name as key_fault_name}
 use Rattle.hmac_keys.specs.declared.fault.KeyFault.{KeyFault}
 use Rattle.hmac_keys.specs.declared.fault.KeyFault.TheVariants.{BadLine as BadKey, TwiceNamed, TooMany, Memory as KeyMemory}
 use Rattle.info_rules.specs.Names.{fault_name}
@@ -11,7 +10,7 @@ use Rattle.info_rules.specs.declared.fault.RulesFaultKind.TheVariants as kinds
 use Rattle.forwarder.specs.declared.node.NodeFault.TheVariants.{BadRepoPrefix, BadCapacity, Memory as NodeMemory}
 use Rattle.node_core.specs.declared.script.RunFault.{RunFault}
 use Rattle.node_core.specs.declared.script.RunFault.TheVariants.{BadLine, Read, Write, Node, Memory}
-use Rattle.ndn_daemon.specs.Advice.{advice_on_keys, advice_on_rules, cause_of}
+use Rattle.ndn_daemon.specs.Advice.{advice_on_keys, advice_on_rules, cause_of, is_memory}
 use Rattle.ndn_daemon.specs.declared.fault.Fault.{Fault}
 use Rattle.ndn_daemon.specs.declared.fault.Fault.TheVariants.{CommandLine, BadValue, NotText, Unread, Rules, Keys, LargeKeys, Script, Unbound, Unreceived}
 
@@ -44,22 +43,23 @@ status_of Unreceived = 3
 
 -- the line and the kind of a fault, and below it what is wrong
 abbrev pub rules_fault_text : ℕ → RulesFaultKind → List ℕ
-rules_fault_text line kinds.Memory = codes "error: out of memory\n"
 rules_fault_text line kind =
-    codes "rules:" ++ decimal line ++ codes ": " ++ fault_name kind ++ codes "\n  "
+    if is_memory kind then codes "error: out of memory\n"
+    else codes "rules:" ++ decimal line ++ codes ": " ++ fault_name kind ++ codes "\n  "
     ++ advice_on_rules line kind ++ codes "\n"
 
 abbrev pub key_fault_text : KeyFault → List ℕ
+key_fault_text (BadKey line) = codes "keys:" ++ (decimal line ++ (codes ": BadLine\n  "
+    ++ (advice_on_keys (BadKey line) ++ codes "\n")))
+key_fault_text (TwiceNamed line) = codes "keys:" ++ (decimal line ++ (codes ": TwiceNamed\n  "
+    ++ (advice_on_keys (TwiceNamed line) ++ codes "\n")))
+key_fault_text TooMany = codes "keys:0: TooMany\n  " ++ advice_on_keys TooMany ++ codes "\n"
 key_fault_text KeyMemory = codes "error: out of memory\n"
-key_fault_text fault =
-    codes "keys:" ++ decimal (unwrap_or (fault_line fault) 0) ++ codes ": " ++ key_fault_name fault
-    ++ codes "\n  " ++ advice_on_keys fault ++ codes "\n"
 
 abbrev pub run_fault_text : RunFault → List ℕ
-run_fault_text (BadLine line) =
-    codes "script:" ++ decimal line ++ codes ": bad line\n  "
+run_fault_text (BadLine line) = codes "script:" ++ (decimal line ++ (codes ": bad line\n  "
     ++ codes "a line is up FACE local|far MOMENT, down FACE MOMENT, tick MOMENT, "
-    ++ codes "in FACE MOMENT HEX, or rules MOMENT HEX HEX\n"
+    ++ codes "in FACE MOMENT HEX, or rules MOMENT HEX HEX\n"))
 run_fault_text Read = codes "error: standard input cannot be read\n"
 run_fault_text Write = codes "error: standard output cannot be written\n"
 run_fault_text (Node BadRepoPrefix) =
@@ -76,9 +76,8 @@ text_of (CommandLine error) = None
 text_of (BadValue place wanted) = Some (
     codes "error: invalid value for " ++ place.now ++ codes ": give " ++ wanted.now ++ codes "\n")
 text_of NotText = Some (codes "error: an argument is not UTF-8 text\n")
-text_of (Unread file path kind) = Some (
-    codes "error: the " ++ file.now ++ codes " " ++ string_bytes path ++ codes " cannot be read: "
-    ++ cause_of kind ++ codes "\n")
+text_of (Unread file path kind) = Some (codes "error: the " ++ (file.now ++ (codes " "
+    ++ (string_bytes path ++ (codes " cannot be read: " ++ (cause_of kind ++ codes "\n"))))))
 text_of (Rules fault) = Some (rules_fault_text fault.line fault.kind)
 text_of (Keys fault) = Some (key_fault_text fault)
 text_of LargeKeys = Some (codes "keys:0: TooLarge\n  at most 8388608 octets are allowed\n")

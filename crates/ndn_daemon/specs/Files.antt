@@ -1,5 +1,5 @@
 -- What the octets of a rule file and of a key file are read as.
-use Rattle.std.specs.Prelude.{◌≡◌, ◌⊎◌, ◌<◌, ◌≤◌, ℕ, List, codes, length, string_bytes}
+use Rattle.std.specs.Prelude.{◌≡◌, ◌⊎◌, ◌<◌, ◌≤◌, ℕ, List, codes, length, string_bytes, ⊤}
 use Rattle.std.specs.declared.io.ErrorKind.{ErrorKind}
 use Rattle.hmac_keys.specs.KeyFile.{NamedKey}
 use Rattle.hmac_keys.specs.KeyReading.{AreKeys, IsFaultOfOctets}
@@ -22,16 +22,16 @@ IsKeyFault octets why = ⊥
 
 -- ---- files
 
--- this file, at this path, cannot be read for this cause, or memory was refused
-abbrev pub IsUnread : List ℕ → List ℕ → ErrorKind → Fault → Type 0
-IsUnread file path kind (Unread which place cause) =
-    (which.now ≡ file) × (string_bytes place ≡ path) × (cause ≡ kind)
-IsUnread file path kind (Script why) = why ≡ Memory
-IsUnread file path kind why = ⊥
+-- this file, at this path, cannot be read, or memory was refused
+abbrev pub IsUnread : List ℕ → List ℕ → Fault → Type 0
+IsUnread file path (Unread which place kind) = (which.now ≡ file) × (string_bytes place ≡ path)
+IsUnread file path (Script why) = why ≡ Memory
+IsUnread file path why = ⊥
 
--- the same, for some cause
-abbrev pub IsUnreadSomehow : List ℕ → List ℕ → Fault → Type 0
-IsUnreadSomehow file path why = (kind : ErrorKind) × IsUnread file path kind why
+-- a file that cannot be read has this cause
+abbrev pub HasCause : ErrorKind → Fault → Type 0
+HasCause kind (Unread file path cause) = cause ≡ kind
+HasCause kind why = ⊤
 
 -- there are more octets than a rule file may have; or else the fault of what they say; or the file
 -- cannot be read
@@ -39,7 +39,7 @@ abbrev pub IsRuleFileFault : List ℕ → List ℕ → Fault → Type 0
 IsRuleFileFault path octets why =
     ((65536 < length octets) × (why ≡ Rules (record { line = 0; kind = TooLarge })))
     ⊎ ((length octets ≤ 65536) × IsRuleFault octets why)
-    ⊎ IsUnreadSomehow (codes "rule file") path why
+    ⊎ IsUnread (codes "rule file") path why
 
 -- the keys of octets, which are no more than a key file may have
 abbrev pub AreKeysOfFile : List ℕ → List NamedKey → Type 0
@@ -51,4 +51,4 @@ abbrev pub IsKeyFileFault : List ℕ → List ℕ → Fault → Type 0
 IsKeyFileFault path octets why =
     ((MAX_KEY_FILE < length octets) × (why ≡ LargeKeys))
     ⊎ ((length octets ≤ MAX_KEY_FILE) × IsKeyFault octets why)
-    ⊎ IsUnreadSomehow (codes "key file") path why
+    ⊎ IsUnread (codes "key file") path why

@@ -1,22 +1,20 @@
-//! What is wrong where a file or a script has a fault, in words, and how it is right.
+//! What is wrong where a file has a fault, in words, and how it is right.
 ghost use Rattle.std.specs.Prelude.{◌≡◌};
-ghost use Rattle.ndn_daemon.specs.Advice.{advice_on_keys, advice_on_rules, cause_of};
+ghost use Rattle.ndn_daemon.specs.Advice.{advice_on_keys, advice_on_rules, cause_of, is_memory};
 
 use hmac_keys::KeyFault;
-use info_rules::{RulesFault, RulesFaultKind};
+use info_rules::RulesFaultKind;
 use std::io::ErrorKind;
 
-/// What a file that is no text has in common, whichever it is.
-const NOT_TEXT: &str = "the file is not UTF-8 text";
-
 /// What is wrong in a rule file.
-pub fn advice_on_rules(fault: &RulesFault) -> &'static str
-    ensures { result.now ≡ advice_on_rules fault.now.line fault.now.kind }
+#[tactic(auto, unfolding(crate::specs::Advice::advice_on_rules))]
+pub fn advice_on_rules(line: u32, kind: RulesFaultKind) -> &'static str
+    ensures { result.now ≡ advice_on_rules line kind }
 {
-    match fault.kind {
+    match kind {
         RulesFaultKind::Syntax => {
-            if fault.line == 0 {
-                NOT_TEXT
+            if line == 0 {
+                "the file is not UTF-8 text"
             } else {
                 "a word or brace stands where none may, or a quote or block is not closed"
             }
@@ -44,11 +42,12 @@ pub fn advice_on_rules(fault: &RulesFault) -> &'static str
 }
 
 /// What is wrong in a key file.
-pub fn advice_on_keys(fault: &KeyFault) -> &'static str
-    ensures { result.now ≡ advice_on_keys fault.now }
+#[tactic(auto, unfolding(crate::specs::Advice::advice_on_keys))]
+pub fn advice_on_keys(fault: KeyFault) -> &'static str
+    ensures { result.now ≡ advice_on_keys fault }
 {
     match fault {
-        KeyFault::BadLine(0) => NOT_TEXT,
+        KeyFault::BadLine(0) => "the file is not UTF-8 text",
         KeyFault::BadLine(_) => {
             "a line is a name, one space, and 1 to 256 octets in hexadecimal: /ops/KEY/1 6b6579"
         }
@@ -58,7 +57,15 @@ pub fn advice_on_keys(fault: &KeyFault) -> &'static str
     }
 }
 
+/// Whether memory was refused.
+pub fn is_memory(kind: RulesFaultKind) -> bool
+    ensures { result ≡ is_memory kind }
+{
+    matches!(kind, RulesFaultKind::Memory)
+}
+
 /// Why a file cannot be read.
+#[tactic(auto, unfolding(crate::specs::Advice::cause_of))]
 pub fn cause_of(kind: ErrorKind) -> &'static str
     ensures { result.now ≡ cause_of kind }
 {

@@ -1,5 +1,5 @@
 //! Why the program stops: its message and its exit status.
-use crate::advice::{advice_on_keys, advice_on_rules, cause_of};
+use crate::advice::{advice_on_keys, advice_on_rules, cause_of, is_memory};
 use hmac_keys::KeyFault;
 use info_rules::{RulesFault, RulesFaultKind};
 use node_core::{NodeFault, RunFault};
@@ -7,10 +7,6 @@ use std::alloc::AllocError;
 use std::fmt;
 use std::io::ErrorKind;
 use std::net::SocketAddr;
-
-/// What a line of a script is.
-const SCRIPT_LINE: &str = "a line is up FACE local|far MOMENT, down FACE MOMENT, tick MOMENT, \
-in FACE MOMENT HEX, or rules MOMENT HEX HEX";
 
 /// Why the program did not do what it was asked.
 #[derive(Debug, Drop)]
@@ -109,30 +105,34 @@ impl fmt::Display for Fault {
                     cause_of(*kind)
                 )
             }
-            Fault::Rules(fault) => match fault.kind {
-                RulesFaultKind::Memory => f.write_str("error: out of memory\n"),
-                kind => writeln!(
-                    f,
-                    "rules:{}: {}\n  {}",
-                    fault.line,
-                    kind.name(),
-                    advice_on_rules(fault)
-                ),
-            },
-            Fault::Keys(KeyFault::Memory) => f.write_str("error: out of memory\n"),
-            Fault::Keys(fault) => writeln!(
+            Fault::Rules(fault) if is_memory(fault.kind) => f.write_str("error: out of memory\n"),
+            Fault::Rules(RulesFault { line, kind }) => writeln!(
                 f,
-                "keys:{}: {}\n  {}",
-                fault.line().unwrap_or(0),
-                fault.name(),
-                advice_on_keys(fault)
+                "rules:{line}: {}\n  {}",
+                kind.name(),
+                advice_on_rules(*line, *kind)
             ),
+            Fault::Keys(KeyFault::BadLine(line)) => {
+                let advice = advice_on_keys(KeyFault::BadLine(*line));
+                writeln!(f, "keys:{line}: BadLine\n  {advice}")
+            }
+            Fault::Keys(KeyFault::TwiceNamed(line)) => {
+                let advice = advice_on_keys(KeyFault::TwiceNamed(*line));
+                writeln!(f, "keys:{line}: TwiceNamed\n  {advice}")
+            }
+            Fault::Keys(KeyFault::TooMany) => {
+                writeln!(
+                    f,
+                    "keys:0: TooMany\n  {}",
+                    advice_on_keys(KeyFault::TooMany)
+                )
+            }
             Fault::LargeKeys => {
                 f.write_str("keys:0: TooLarge\n  at most 8388608 octets are allowed\n")
             }
             Fault::Script(RunFault::BadLine(line)) => writeln!(
                 f,
-                "script:{line}: bad line\n  {SCRIPT_LINE}"
+                "script:{line}: bad line\n  a line is up FACE local|far MOMENT, down FACE MOMENT, tick MOMENT, in FACE MOMENT HEX, or rules MOMENT HEX HEX"
             ),
             Fault::Unbound { endpoint } => writeln!(
                 f,
@@ -151,7 +151,8 @@ impl fmt::Display for Fault {
             Fault::Script(RunFault::Node(NodeFault::BadCapacity)) => f.write_str(
                 "error: the cache's capacity is out of range: give a number from 1 to 65536\n",
             ),
-            Fault::Script(RunFault::Node(NodeFault::Memory) | RunFault::Memory) => {
+            Fault::Keys(KeyFault::Memory)
+            | Fault::Script(RunFault::Node(NodeFault::Memory) | RunFault::Memory) => {
                 f.write_str("error: out of memory\n")
             }
         }

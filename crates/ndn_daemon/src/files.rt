@@ -3,7 +3,7 @@ ghost use Rattle.std.specs.Prelude.{IfSome, MatchResult, codes};
 ghost use Rattle.std.specs.IoError.{error_kind};
 ghost use Rattle.hmac_keys.specs.KeyReading.{AreKeys};
 ghost use Rattle.node_core.specs.Files.{AreRules};
-ghost use Rattle.ndn_daemon.specs.Files.{IsKeyFault, IsRuleFault, AreKeysOfFile, IsKeyFileFault, IsRuleFileFault, IsUnread};
+ghost use Rattle.ndn_daemon.specs.Files.{HasCause, IsKeyFault, IsRuleFault, AreKeysOfFile, IsKeyFileFault, IsRuleFileFault, IsUnread};
 
 use crate::fault::Fault;
 use hmac_keys::KeyBook;
@@ -64,21 +64,24 @@ pub fn read_key_file<R: Read + Drop>(alloc: Global, path: &str, file: R) -> Resu
 
 /// The fault of a rule file that cannot be opened or read.
 pub fn unread_rules(alloc: Global, path: &str, error: &io::Error) -> Fault
-    ensures { IsUnread (codes "rule file") path.now (error_kind error.now) result }
+    ensures file { IsUnread (codes "rule file") path.now result }
+    ensures cause { HasCause (error_kind error.now) result }
 {
     unread(alloc, "rule file", path, error.kind())
 }
 
 /// The fault of a key file that cannot be opened or read.
 pub fn unread_keys(alloc: Global, path: &str, error: &io::Error) -> Fault
-    ensures { IsUnread (codes "key file") path.now (error_kind error.now) result }
+    ensures file { IsUnread (codes "key file") path.now result }
+    ensures cause { HasCause (error_kind error.now) result }
 {
     unread(alloc, "key file", path, error.kind())
 }
 
 /// The fault of a file that cannot be opened or read, for this cause.
 fn unread(alloc: Global, file: &'static str, path: &str, kind: ErrorKind) -> Fault
-    ensures { IsUnread file.now path.now kind result }
+    ensures file { IsUnread file.now path.now result }
+    ensures cause { HasCause kind result }
 {
     if kind == ErrorKind::OutOfMemory {
         return Fault::Script(RunFault::Memory);

@@ -183,7 +183,8 @@ fn udp_options(rt: HostRuntime) {
         alloc,
         "ndn_node udp 7 --cache 5 --turns 18446744073709551615 8 --listen 065535 --local 2 --idle 09 9",
     );
-    let wanted = "5 127.0.0.1:65535 18446744073709551615 2 9 None 127.0.0.1:7 127.0.0.1:8 127.0.0.1:9 open";
+    let wanted =
+        "5 127.0.0.1:65535 18446744073709551615 2 9 None 127.0.0.1:7 127.0.0.1:8 127.0.0.1:9 open";
     assert!(rt; given.as_deref() == Some(wanted));
     let loopbacks = udp_options_of(
         alloc,
@@ -252,7 +253,8 @@ fn refused_keys(alloc: Global, octets: &[u8]) -> Option<String> {
 fn rule_files(rt: HostRuntime) {
     let alloc = rt.alloc();
     assert!(rt; read_rules(alloc, b"").is_ok_and(|rules| rules.len() == 0));
-    let bad = "1 rules:1: BadValue\n  the value or block of this key is wrong or missing, or it cannot stand beside another key\n";
+    let bad =
+        "1 rules:1: BadValue\n  the value or block of this key is wrong or missing, or it cannot stand beside another key\n";
     assert!(rt; refused_rules(alloc, b"rule").as_deref() == Some(bad));
     let binary = "1 rules:0: Syntax\n  the file is not UTF-8 text\n";
     assert!(rt; refused_rules(alloc, b"\xff").as_deref() == Some(binary));
@@ -262,7 +264,8 @@ fn rule_files(rt: HostRuntime) {
 fn key_files(rt: HostRuntime) {
     let alloc = rt.alloc();
     assert!(rt; read_keys(alloc, b"/k 6b6579\n").is_ok_and(|keys| !keys.is_empty()));
-    let bad = "1 keys:2: BadLine\n  a line is a name, one space, and 1 to 256 octets in hexadecimal: /ops/KEY/1 6b6579\n";
+    let bad =
+        "1 keys:2: BadLine\n  a line is a name, one space, and 1 to 256 octets in hexadecimal: /ops/KEY/1 6b6579\n";
     assert!(rt; refused_keys(alloc, b"\n/k").as_deref() == Some(bad));
     let named = "1 keys:2: TwiceNamed\n  an earlier line has this name: give each name once\n";
     let twice = b"/k 6b6579\n/k 6b6579\n";
@@ -286,7 +289,8 @@ fn refused_key_comment(alloc: Global, count: u64) -> Option<String> {
 #[test]
 fn large_files(rt: HostRuntime) {
     let alloc = rt.alloc();
-    let rules = "1 rules:0: TooLarge\n  at most 65536 octets, 256 rules, and 16 filters and 16 checkers in a rule are allowed\n";
+    let rules =
+        "1 rules:0: TooLarge\n  at most 65536 octets, 256 rules, and 16 filters and 16 checkers in a rule are allowed\n";
     assert!(rt; refused_comment(alloc, 65_534).is_none());
     assert!(rt; refused_comment(alloc, 65_535).as_deref() == Some(rules));
     assert!(rt; refused_comment(alloc, 65_536).as_deref() == Some(rules));
@@ -324,7 +328,13 @@ fn faults(rt: HostRuntime) {
             "2 error: an argument is not UTF-8 text\n"
         )
     );
-    assert!(rt; is_told(alloc, Fault::Keys(KeyFault::TooMany), "1 keys:0: TooMany\n  at most 256 keys are allowed\n"));
+    assert!(rt;
+        is_told(
+            alloc,
+            Fault::Keys(KeyFault::TooMany),
+            "1 keys:0: TooMany\n  at most 256 keys are allowed\n"
+        )
+    );
     assert!(rt;
         is_told(
             alloc,
@@ -338,7 +348,8 @@ fn faults(rt: HostRuntime) {
     });
     assert!(rt; is_told(alloc, no_memory, "3 error: out of memory\n"));
     let line = Fault::Script(RunFault::BadLine(7));
-    let wanted = "1 script:7: bad line\n  a line is up FACE local|far MOMENT, down FACE MOMENT, tick MOMENT, in FACE MOMENT HEX, or rules MOMENT HEX HEX\n";
+    let wanted =
+        "1 script:7: bad line\n  a line is up FACE local|far MOMENT, down FACE MOMENT, tick MOMENT, in FACE MOMENT HEX, or rules MOMENT HEX HEX\n";
     assert!(rt; is_told(alloc, line, wanted));
     let here = IpAddr::V4(Ipv4Addr::LOCALHOST);
     let unbound = Fault::Unbound {

@@ -1,9 +1,9 @@
-use Rattle.std.proofs.Common.{◌≡◌, List, ap, sym, subst}
+use Rattle.std.proofs.Common.{codes}
 use Rattle.std.proofs.lemmas.Result.{err_from_is_err_and}
-use Rattle.ndn_daemon.specs.Endpoint.{MayBePeersOf}
-use Rattle.ndn_daemon.specs.UdpOptions.{IsLocal}
+use Rattle.ndn_daemon.specs.Options.{given_or, rows_in, value_at}
+use Rattle.ndn_daemon.specs.UdpOptions.{values_at}
 use Rattle.ndn_daemon.proofs.Spelling.{refused_part, wrong_in_memory}
-use Rattle.ndn_daemon.proofs.Peers.{same_endpoint, same_endpoints}
+use Rattle.ndn_daemon.proofs.Peers.{same_local, same_suit}
 use Rattle.ndn_daemon.proofs.udp_options.UdpOptions.read.Goals as goal
 
 pub returns-in_err-peers : goal.returns-in_err-peers
@@ -11,9 +11,31 @@ returns-in_err-peers c =
     let p = err_from_is_err_and c.from_residual-in_err-peers.result c.from_residual-in_err-peers.ensures.1 in
     rw (p.1, p.2) (refused_part _ _ (λ options h. (options.peers, h.peers)) c.in_err-peers.field-0.0 c.in_err-peers.ensures)
 
+pub returns-in_err-check_peers : goal.returns-in_err-check_peers
+returns-in_err-check_peers c =
+    let rows = rows_in c.args.found.now in
+    let p = err_from_is_err_and c.from_residual-in_err-check_peers.result c.from_residual-in_err-check_peers.ensures.1 in
+    rw (p.1, p.2) (wrong_in_memory _ _
+    (λ options h. (
+      tt,
+      same_suit (values_at rows (codes "PEERS")) (value_at rows (codes "listen")) options.peers.items c.in_ok-peers.peers.items c.as_slice.result.now options.listen c.in_ok-listen.listen h.peers
+          c.in_ok-peers.ensures c.as_slice.ensures.value h.listen c.in_ok-listen.ensures h.suit,
+    ))
+    c.in_err-check_peers.field-0.0 c.in_err-check_peers.ensures)
+
 pub returns-in_err-local : goal.returns-in_err-local
 returns-in_err-local c =
+    let rows = rows_in c.args.found.now in
     let p = err_from_is_err_and c.from_residual-in_err-local.result c.from_residual-in_err-local.ensures.1 in
     rw (p.1, p.2) (wrong_in_memory _ _
-    (λ options h. (options.local, subst (λ peers. IsLocal _ peers options.local) (same_endpoints options.listen _ options.peers.items c.in_ok-peers.peers.items h.peers c.in_ok-peers.ensures ∙ sym c.as_slice-2.ensures.value) h.local))
+    (λ options h. (
+      options.local,
+      same_local (values_at rows (codes "PEERS")) options.peers.items c.in_ok-peers.peers.items c.as_slice-2.result.now options.listen h.peers c.in_ok-peers.ensures c.as_slice-2.ensures.value
+          (given_or (codes "0") (value_at rows (codes "local"))) options.local h.local,
+    ))
     c.in_err-local.field-0.0 (rw (c.given_or.ensures, c.value.ensures) at c.in_err-local.ensures))
+
+pub returns-in_err-log : goal.returns-in_err-log
+returns-in_err-log c =
+    let p = err_from_is_err_and c.from_residual-in_err-log.result c.from_residual-in_err-log.ensures.1 in
+    rw (p.1, p.2) (wrong_in_memory _ _ (λ options h. (options.log, h.log)) c.in_err-log.field-0.0 (rw c.value-3.ensures at c.in_err-log.ensures))
