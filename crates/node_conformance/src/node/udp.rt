@@ -13,7 +13,7 @@ use std::net::{Ipv4Addr, Net, UdpSocket};
 
 /// A clock that stands at the moment that the commands of dialogues are signed for.
 #[derive(Drop)]
-struct Still;
+pub struct Still;
 
 impl Moments for Still {
     ghost last = { λ _. 1000000 };
