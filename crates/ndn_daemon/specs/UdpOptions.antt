@@ -49,7 +49,7 @@ abbrev pub IsLocal : List ℕ → List SocketAddr → ℕ → Type 0
 IsLocal text peers local =
     IsNumber text local × (local ≤ length peers) × All IsLoopback (take local peers)
 
--- the parser says "events" of `--log` without a value
+-- the parser says "events" of `--log` without a value, and the word may be written as well
 abbrev pub IsLog : Option (List ℕ) → LogLevel → Type 0
 IsLog None level = level ≡ levels.None
 IsLog (Some text) levels.None = ⊥
@@ -70,12 +70,12 @@ pub record IsUdpOptions (rows : List Row) (options : UdpOptions) : Type 0 where
   pub quiet : IsFlag (flag_at rows (codes "quiet")) options.quiet
 
 -- The ports of these options, at this moment: the peers' faces are to be opened, others close after
--- the time of silence, and strangers are heard by `--open` or at a loopback address.
+-- the time of silence, and strangers are accepted by `--open` or at a loopback address.
 pub record ArePortsOf (options : UdpOptions) (told : ℕ) (ports : UdpState) : Type 0 where
-  pub is_open : IsTrue ports.hears_strangers ↔ (IsTrue options.«open» ⊎ IsLoopback options.listen)
+  pub is_open : IsTrue ports.accepts_strangers ↔ (IsTrue options.«open» ⊎ IsLoopback options.listen)
   pub is : ports ≡ record (closes_after (options.idle * 1000)
       (bound_to options.peers.items options.local told)) {
-        hears_strangers = ports.hears_strangers;
+        accepts_strangers = ports.accepts_strangers;
       }
 
 -- the fault of a text

@@ -270,7 +270,7 @@ fn log_option<'a>(alloc: Global) -> Arg<'a> {
         alloc,
         "log",
         "all",
-        "Logs what an operator has to know of on standard error; with `all`, every datagram",
+        "Logs what an operator has to know of on standard error; with `all`, of every event",
     )
     .num_args(0..=1)
     .default_missing_value("events")

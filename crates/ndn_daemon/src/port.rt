@@ -107,7 +107,7 @@ fn bound_ports<M: Moments>(rt: &impl Net, moments: M, options: &UdpOptions) -> O
     let bound = UdpPorts::bind_at(rt, options.listen, peers, options.local, moments);
     let mut ports = bound.ok()?;
     ports.close_after(options.idle as u64 * 1000);
-    if !options.hears_strangers() {
+    if !options.accepts_strangers() {
         ports.ignore_strangers();
     }
     Some(ports)

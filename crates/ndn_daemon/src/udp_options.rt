@@ -18,7 +18,7 @@ pub enum LogLevel {
     None,
     /// What an operator has to know of.
     Events,
-    /// Every datagram.
+    /// Every event.
     All,
 }
 
@@ -36,7 +36,7 @@ pub struct UdpOptions {
     pub local: u64,
     /// After how many seconds of silence a face closes that is not a peer's, at least 1.
     pub idle: u32,
-    /// Whether strangers are heard wherever the node listens.
+    /// Whether datagrams of strangers are accepted wherever the node listens.
     pub open: bool,
     /// What is logged.
     pub log: LogLevel,
@@ -68,9 +68,9 @@ impl UdpOptions {
         })
     }
 
-    /// Whether a datagram from an address and port that is no peer's is heard: by `--open`, or
+    /// Whether a datagram from an address and port that is no peer's is accepted: by `--open`, or
     /// where the node listens on a loopback address, which this machine alone can send to.
-    pub fn hears_strangers(&self) -> bool
+    pub fn accepts_strangers(&self) -> bool
         ensures { IsTrue result ↔ (IsTrue self.now.«open» ⊎ IsLoopback self.now.listen) }
     {
         self.open || is_loopback(&self.listen)

@@ -163,7 +163,7 @@ fn udp_options_of(alloc: Global, command: &str) -> Option<String> {
     for peer in udp.peers.as_slice() {
         write!(text, " {peer}").ok()?;
     }
-    if udp.hears_strangers() {
+    if udp.accepts_strangers() {
         write!(text, " open").ok()?;
     }
     Some(text)

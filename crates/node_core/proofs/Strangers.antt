@@ -5,21 +5,21 @@ use Rattle.std.specs.declared.net.socket_addr.SocketAddr.{SocketAddr}
 use Rattle.std.proofs.lemmas.Bool.{cases_lt}
 use Rattle.std.proofs.lemmas.List.{get_or-set_same, get_or-set_other}
 use Rattle.std.proofs.lemmas.Option.{get_or_from_slice_get, slice_get_read}
-use Rattle.node_core.specs.Endpoints.{IsLoopbackAt}
+use Rattle.node_core.specs.Endpoints.{IsLocalhostAt}
 
 -- the first endpoints, so many, are these ports of 127.0.0.1
 abbrev pub ArePut : List ℕ → List SocketAddr → ℕ → Type 0
 ArePut ports endpoints count =
     (place port : ℕ) (endpoint : SocketAddr) → place < count → slice_get ports place ≡ Some port
-    → slice_get endpoints place ≡ Some endpoint → IsLoopbackAt port endpoint
+    → slice_get endpoints place ≡ Some endpoint → IsLocalhostAt port endpoint
 
 module _ (ports : List ℕ) (endpoints : List SocketAddr) (count : ℕ) (put : SocketAddr) where
-  here : (port : ℕ) (endpoint : SocketAddr) → count < length endpoints → IsLoopbackAt (slice_index_or ports count 0) put
-      → slice_get ports count ≡ Some port → slice_get (slice_set endpoints count put) count ≡ Some endpoint → IsLoopbackAt port endpoint
+  here : (port : ℕ) (endpoint : SocketAddr) → count < length endpoints → IsLocalhostAt (slice_index_or ports count 0) put
+      → slice_get ports count ≡ Some port → slice_get (slice_set endpoints count put) count ≡ Some endpoint → IsLocalhostAt port endpoint
   here port endpoint within is has_port has_endpoint =
       let one : put ≡ endpoint = sym (get_or-set_same endpoints count put endpoint within) ∙ get_or_from_slice_get (slice_set endpoints count put) count endpoint endpoint has_endpoint in
       let its : slice_index_or ports count 0 ≡ port = get_or_from_slice_get ports count port 0 has_port in
-      subst (λ (p : ℕ). IsLoopbackAt p endpoint) its (subst (λ (e : SocketAddr). IsLoopbackAt (slice_index_or ports count 0) e) one is)
+      subst (λ (p : ℕ). IsLocalhostAt p endpoint) its (subst (λ (e : SocketAddr). IsLocalhostAt (slice_index_or ports count 0) e) one is)
 
   earlier : (place : ℕ) (endpoint : SocketAddr) → place < count → count < length endpoints
       → slice_get (slice_set endpoints count put) place ≡ Some endpoint → slice_get endpoints place ≡ Some endpoint
@@ -33,7 +33,7 @@ module _ (ports : List ℕ) (endpoints : List SocketAddr) (count : ℕ) (put : S
     | inr g ↦ inr (omega (arith, h, g))
   ]
 
-  pub ArePut-more : ArePut ports endpoints count → count < length endpoints → IsLoopbackAt (slice_index_or ports count 0) put
+  pub ArePut-more : ArePut ports endpoints count → count < length endpoints → IsLocalhostAt (slice_index_or ports count 0) put
       → ArePut ports (slice_set endpoints count put) (count + 1)
   ArePut-more before within is place port endpoint below has_port has_endpoint = elim (split place below) [
     | inl l ↦ before place port endpoint l has_port (earlier place endpoint l within has_endpoint)

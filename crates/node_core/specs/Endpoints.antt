@@ -1,4 +1,5 @@
--- Where datagrams come from and go to: an address of IPv4 or IPv6, and a port.
+-- Where datagrams come from and go to: an address of IPv4 or IPv6, and a port. With an IPv6 address
+-- stands its scope, which says on which link a link-local address is.
 use Rattle.std.specs.Prelude.{◌≡◌, ℕ, ◌∷◌, [], Bool, List, length, slice_get, Some}
 use Rattle.std.specs.Net.Addr.{IsV4And, ipv4_octets}
 use Rattle.std.specs.Net.Socket.{socket_ip, socket_port}
@@ -10,13 +11,13 @@ abbrev pub is_at : SocketAddr → SocketAddr → Bool
 is_at endpoint known = (socket.ghosts).eq known endpoint
 
 -- an endpoint is this port of 127.0.0.1
-abbrev pub IsLoopbackAt : ℕ → SocketAddr → Type 0
-IsLoopbackAt port endpoint =
+abbrev pub IsLocalhostAt : ℕ → SocketAddr → Type 0
+IsLocalhostAt port endpoint =
     IsV4And (socket_ip endpoint) (λ ip. ipv4_octets ip ≡ 127 ∷ 0 ∷ 0 ∷ 1 ∷ [])
     × (socket_port endpoint ≡ port)
 
 -- endpoints are these ports of 127.0.0.1, in their order
-pub record AreLoopbackAt (ports : List ℕ) (endpoints : List SocketAddr) : Type 0 where
+pub record AreLocalhostAt (ports : List ℕ) (endpoints : List SocketAddr) : Type 0 where
   pub count : length endpoints ≡ length ports
   pub each : (place port : ℕ) (endpoint : SocketAddr) → slice_get ports place ≡ Some port
-      → slice_get endpoints place ≡ Some endpoint → IsLoopbackAt port endpoint
+      → slice_get endpoints place ≡ Some endpoint → IsLocalhostAt port endpoint

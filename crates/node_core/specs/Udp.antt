@@ -1,5 +1,5 @@
 -- What UDP ports hold, and what they give. What a socket gives or takes is not said.
-use Rattle.std.specs.Prelude.{◌≡◌, ◌≢◌, ℕ, ◌+◌, ◌<◌, ◌≤◌, ◌⊎◌, Bool, true, List, [], length, position, take, Option, None, Some, nat_le, if◌then◌else◌}
+use Rattle.std.specs.Prelude.{◌≡◌, ◌≢◌, ℕ, ◌+◌, ◌<◌, ◌≤◌, ◌==◌, ◌⊎◌, Bool, true, List, [], length, position, take, Option, None, Some, nat_le, if◌then◌else◌}
 use Rattle.std.specs.declared.net.socket_addr.SocketAddr.{SocketAddr}
 use Rattle.forwarder.specs.declared.event.Scope.{Scope}
 use Rattle.forwarder.specs.declared.event.Scope.TheVariants.{Local, Far}
@@ -32,9 +32,9 @@ pub record UdpState : Type 0 where
   pub waiting : Option Datagram
   -- the moment that the clock told last
   pub told : ℕ
-  -- whether endpoints are heard that are no peers
-  pub hears_strangers : Bool
-  -- how many datagrams of such endpoints were dropped, where they are not heard
+  -- whether datagrams of endpoints that are no peers are accepted
+  pub accepts_strangers : Bool
+  -- how many of them were dropped, where they are not
   pub strangers : ℕ
   -- how many calls failed
   pub failures : ℕ
@@ -52,7 +52,7 @@ bound_to peers local told = record {
   local = local;
   waiting = None;
   told = told;
-  hears_strangers = true;
+  accepts_strangers = true;
   strangers = 0;
   failures = 0;
 }
@@ -65,6 +65,15 @@ closes_after idle ports = record ports {
 
 abbrev pub scope_of_face : ℕ → ℕ → Scope
 scope_of_face local face = if nat_le face local then Local else Far
+
+-- the endpoint of the datagram that waits, if it waits for this face
+abbrev pub waiting_for : ℕ → SocketAddr → Option ℕ → Option SocketAddr
+waiting_for face endpoint None = None
+waiting_for face endpoint (Some other) = if other == face then Some endpoint else None
+
+abbrev pub waiting_at : ℕ → Option Datagram → Option SocketAddr
+waiting_at face None = None
+waiting_at face (Some datagram) = waiting_for face datagram.endpoint datagram.face
 
 -- every peer has its face
 abbrev pub HasOpened : UdpState → Type 0
@@ -138,32 +147,32 @@ Brings before after endpoint datagram buffer (NewRules rules keys now) = ⊥
 abbrev pub Listens : UdpState → Type 0
 Listens before = HasOpened before × (before.waiting ≡ None)
 
--- a datagram of this endpoint is heard: it is a peer's, or strangers are heard
-abbrev pub IsHeard : UdpState → SocketAddr → Type 0
-IsHeard before endpoint =
-    (before.hears_strangers ≡ true) ⊎ (position (is_at endpoint) before.known.peers ≢ None)
+-- a datagram of this endpoint is accepted: it is a peer's, or strangers are accepted
+abbrev pub IsAccepted : UdpState → SocketAddr → Type 0
+IsAccepted before endpoint =
+    (before.accepts_strangers ≡ true) ⊎ (position (is_at endpoint) before.known.peers ≢ None)
 
--- Datagrams of strangers were dropped unread and counted. None are dropped where strangers are
--- heard.
+-- Datagrams of strangers may have been dropped, which are counted. None are where strangers are
+-- accepted.
 pub record DropsStrangers (before after : UdpState) : Type 0 where
   pub count : ℕ
   pub is : after ≡ record before { strangers = count }
   pub more : before.strangers ≤ count
-  pub none : before.hears_strangers ≡ true → count ≡ before.strangers
+  pub none : before.accepts_strangers ≡ true → count ≡ before.strangers
 
--- after datagrams of strangers, one of an endpoint that is heard was received into the front of the
--- buffer
+-- after datagrams of strangers, one of an endpoint that is accepted was received into the front of
+-- the buffer
 abbrev pub GivesReceived : UdpState → UdpState → List ℕ → Arrival → Type 0
 GivesReceived before after buffer arrival =
     Listens before × ((mid : UdpState) × (endpoint : SocketAddr) × (len : ℕ)
-    × DropsStrangers before mid × IsHeard mid endpoint
+    × DropsStrangers before mid × IsAccepted mid endpoint
     × Brings mid after endpoint (take len buffer) buffer arrival)
 
--- the call failed, after datagrams of strangers
+-- the call failed, after datagrams of strangers: nothing was there without receiving
 abbrev pub FailsReceiving : UdpState → UdpState → Type 0
 FailsReceiving before after =
-    (mid : UdpState) × DropsStrangers before mid
-    × (after ≡ record mid { failures = one_more mid.failures })
+    Listens before × ((mid : UdpState) × DropsStrangers before mid
+    × (after ≡ record mid { failures = one_more mid.failures }))
 
 -- the datagram that waited while a face closed
 abbrev pub GoesOn : UdpState → UdpState → List ℕ → Arrival → Type 0

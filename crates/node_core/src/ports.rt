@@ -94,7 +94,7 @@ pub trait Ports {
         ensures failed { OnErr result ((coming self.new ≡ coming self.old)
             × (failures self.new ≡ one_more (failures self.old))) };
 
-    /// As `next`, where something comes at once or within some milliseconds. Else nothing changes.
+    /// As `next`, where something comes at once or within some milliseconds. Else nothing is given.
     /// A port that cannot wait for so short a time may say that nothing came.
     fn next_soon(&mut self, _buffer: &mut [u8]) -> Option<Arrival>
         ensures fits { IfSome result (LiesWithin (length _buffer.new)) }

@@ -94,7 +94,7 @@ fn endpoint_of_a_stranger(rt: HostRuntime) {
 }
 
 /// Whether a stranger is heard beside a peer where strangers are not ignored.
-fn hears_strangers(rt: &impl Net) -> Option<bool> {
+fn accepts_strangers(rt: &impl Net) -> Option<bool> {
     let (peer, _known) = heard_port(rt)?;
     let (_, stranger) = heard_port(rt)?;
     let listen = free_port(rt)?;
@@ -106,5 +106,5 @@ fn hears_strangers(rt: &impl Net) -> Option<bool> {
 
 #[test]
 fn endpoint_of_a_newcomer(rt: HostRuntime) {
-    assert!(rt; hears_strangers(&rt) == Some(true));
+    assert!(rt; accepts_strangers(&rt) == Some(true));
 }

@@ -22,7 +22,7 @@ pub enum Met {
 }
 
 /// The endpoints of the peers, which have the faces from 1 on, and those that opened their faces
-/// themselves. No number of a face is used again.
+/// themselves. No number of a face that opened is used again.
 #[derive(Drop)]
 pub struct KnownEndpoints {
     pub peers: Peers,

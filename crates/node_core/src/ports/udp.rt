@@ -1,10 +1,11 @@
 //! Ports by UDP.
 ghost use Rattle.std.specs.Prelude.{◌≡◌, ◌<◌, ◌≤◌, ◌↔◌, ℕ, List, None, Some, true, false, length, take, IfOk, IfSome, IsTrue, OnOk, OnErr};
+ghost use Rattle.std.specs.Option.{option_or};
 ghost use Rattle.std.specs.declared.net.socket_addr.SocketAddr.{SocketAddr};
-ghost use Rattle.node_core.specs.Endpoints.{AreLoopbackAt, IsLoopbackAt};
+ghost use Rattle.node_core.specs.Endpoints.{AreLocalhostAt, IsLocalhostAt};
 ghost use Rattle.node_core.specs.KnownEndpoints.{endpoint_at};
 ghost use Rattle.node_core.specs.Ports.{LiesWithin, one_more};
-ghost use Rattle.node_core.specs.Udp.{Brings, DropsStrangers, FailsReceiving, GivesWaiting, GoesOn, HasOpened, IsHeard, Listens, OpensPeer, UdpGives, bound_to, closes_after, kept};
+ghost use Rattle.node_core.specs.Udp.{Brings, DropsStrangers, FailsReceiving, GivesWaiting, GoesOn, HasOpened, IsAccepted, Listens, OpensPeer, UdpGives, bound_to, closes_after, kept, waiting_at};
 
 use crate::ports::known_endpoints::{KnownEndpoints, Met};
 use crate::ports::{Arrival, FRAME_ROOM, PortFault, Ports, put_front};
@@ -35,7 +36,7 @@ pub trait Moments: Drop {
 /// opens it. No number is used again, and nothing ends.
 ///
 /// By `close_after` faces close that were silent for too long. A peer's face never closes. By
-/// `ignore_strangers` the peers alone are heard.
+/// `ignore_strangers` datagrams of peers alone are accepted.
 #[derive(Drop)]
 pub struct UdpPorts<M: Moments> {
     socket: UdpSocket,
@@ -50,7 +51,7 @@ pub struct UdpPorts<M: Moments> {
     len: usize,
     // Whether receiving ends after a short time, in place of waiting as long as nothing comes.
     is_brief: bool,
-    hears_strangers: bool,
+    accepts_strangers: bool,
     strangers: u64,
     failures: u64,
 }
@@ -80,7 +81,7 @@ impl<M: Moments> Model for UdpPorts<M> {
         octets = take u.len u.octets;
       }) u.waiting;
       told = M.last u.moments;
-      hears_strangers = u.hears_strangers;
+      accepts_strangers = u.accepts_strangers;
       strangers = u.strangers;
       failures = u.failures;
     } };
@@ -99,19 +100,20 @@ impl<M: Moments> UdpPorts<M> {
     ) -> Result<UdpPorts<M>, PortFault>
         requires few { length peers.now ≤ MAX_FACES }
         ensures { IfOk result (λ ports. (endpoints : List SocketAddr)
-            × AreLoopbackAt peers.now endpoints
+            × AreLocalhostAt peers.now endpoints
             × (ports ≡ bound_to endpoints local (M.last moments))) }
     {
-        let mut endpoints = [loopback(0); MAX_FACES];
+        let mut endpoints = [localhost(0); MAX_FACES];
         let endpoints = &mut endpoints[..peers.len()];
-        put_loopback(peers, endpoints);
-        UdpPorts::bind_at(rt, loopback(listen), endpoints, local, moments)
+        put_localhost(peers, endpoints);
+        UdpPorts::bind_at(rt, localhost(listen), endpoints, local, moments)
     }
 
     /// Ports with the peers' faces to open, of which the first `local` are Local and the others
     /// Far. It takes one socket and no memory. There are at most 64 peers, of the family of the
-    /// address that is bound; of an endpoint that is named twice the first face alone hears. No
-    /// face closes, and strangers are heard. Its fault says that the endpoint cannot be bound.
+    /// address that is bound; of an endpoint that is named twice the first face alone gets what
+    /// comes. No face closes, and strangers are accepted. Whoever is Local may command, so let these be
+    /// loopback addresses. Its fault says that the endpoint cannot be bound.
     pub fn bind_at(
         rt: &impl Net,
         listen: SocketAddr,
@@ -135,7 +137,7 @@ impl<M: Moments> UdpPorts<M> {
             octets: [0; FRAME_ROOM],
             len: 0,
             is_brief: false,
-            hears_strangers: true,
+            accepts_strangers: true,
             strangers: 0,
             failures: 0,
         })
@@ -156,9 +158,9 @@ impl<M: Moments> UdpPorts<M> {
     /// Says that from now on a datagram of an endpoint that is no peer is dropped unread and
     /// counted.
     pub fn ignore_strangers(&mut self)
-        ensures { self.new ≡ record self.old { hears_strangers = false } }
+        ensures { self.new ≡ record self.old { accepts_strangers = false } }
     {
-        self.hears_strangers = false;
+        self.accepts_strangers = false;
     }
 
     /// How many datagrams were dropped so. The count stops at the greatest u64.
@@ -168,18 +170,33 @@ impl<M: Moments> UdpPorts<M> {
         self.strangers
     }
 
-    /// The endpoint of a face.
+    /// The endpoint of a face, or of the datagram that waits for a face of this number.
     pub fn endpoint_of(&self, face: u64) -> Option<SocketAddr>
-        ensures { result ≡ endpoint_at self.now.known face }
+        ensures { result ≡ option_or (endpoint_at self.now.known face)
+            (waiting_at face self.now.waiting) }
     {
-        self.known.endpoint_of(face)
+        match self.known.endpoint_of(face) {
+            Some(endpoint) => Some(endpoint),
+            None => self.waiting_at(face),
+        }
     }
 
-    /// Whether a datagram of this endpoint is heard.
-    fn hears(&self, endpoint: SocketAddr) -> bool
-        ensures { IsTrue result ↔ IsHeard self.now endpoint }
+    /// The endpoint of the datagram that waits for this face.
+    fn waiting_at(&self, face: u64) -> Option<SocketAddr>
+        ensures { result ≡ waiting_at face self.now.waiting }
     {
-        self.hears_strangers || self.known.peers.place_of(endpoint).is_some()
+        let waiting = self.waiting?;
+        if waiting.face == Some(face) {
+            return Some(waiting.endpoint);
+        }
+        None
+    }
+
+    /// Whether a datagram of this endpoint is accepted.
+    fn accepts(&self, endpoint: SocketAddr) -> bool
+        ensures { IsTrue result ↔ IsAccepted self.now endpoint }
+    {
+        self.accepts_strangers || self.known.peers.place_of(endpoint).is_some()
     }
 
     /// Counts a datagram of a stranger.
@@ -319,7 +336,7 @@ impl<M: Moments> UdpPorts<M> {
     }
 
     /// Receives a datagram, while none waits. None is given where the socket gives none. A datagram
-    /// of an endpoint that is not heard is counted, and then the next is received; where receiving
+    /// of an endpoint that is not accepted is counted, and then the next is received; where receiving
     /// is brief, none is given.
     fn receive(&mut self, buffer: &mut [u8], is_brief: bool) -> Option<Arrival>
         requires { Listens self.old }
@@ -333,7 +350,7 @@ impl<M: Moments> UdpPorts<M> {
         }
         for _ in 0..u64::MAX {
             let (len, from) = self.receive_one(buffer)?;
-            if self.hears(from) {
+            if self.accepts(from) {
                 return Some(self.arrive(from, len, buffer));
             }
             self.count_stranger();
@@ -355,7 +372,7 @@ impl<M: Moments> UdpPorts<M> {
     fn take(&mut self, buffer: &mut [u8], is_brief: bool) -> Option<Arrival>
         ensures fits { IfSome result (LiesWithin (length buffer.new)) }
         ensures gives { IfSome result (UdpGives self.old self.new buffer.new) }
-        ensures none { result ≡ None → DropsStrangers self.old self.new }
+        ensures none { result ≡ None → Listens self.old × DropsStrangers self.old self.new }
         ensures works { self.new.failures ≡ self.old.failures }
     {
         if self.opened < self.known.peers.len() {
@@ -395,7 +412,7 @@ impl<M: Moments> Ports for UdpPorts<M> {
         ensures fits { IfSome result (LiesWithin (length buffer.new)) }
         ensures works { self.new.failures ≡ self.old.failures }
         ensures gives { IfSome result (UdpGives self.old self.new buffer.new) }
-        ensures none { result ≡ None → DropsStrangers self.old self.new }
+        ensures none { result ≡ None → Listens self.old × DropsStrangers self.old self.new }
     {
         self.take(buffer, true)
     }
@@ -433,18 +450,18 @@ fn far_face(face: u64, now: u64) -> Arrival
 }
 
 /// This port of 127.0.0.1.
-fn loopback(port: u16) -> SocketAddr
-    ensures { IsLoopbackAt port result }
+fn localhost(port: u16) -> SocketAddr
+    ensures { IsLocalhostAt port result }
 {
     SocketAddr::V4(SocketAddrV4::new(Ipv4Addr::LOCALHOST, port))
 }
 
 /// Puts these ports of 127.0.0.1 into endpoints, of which there are as many.
-fn put_loopback(ports: &[u16], endpoints: &mut [SocketAddr])
+fn put_localhost(ports: &[u16], endpoints: &mut [SocketAddr])
     requires { length endpoints.old ≡ length ports.now }
-    ensures { AreLoopbackAt ports.now endpoints.new }
+    ensures { AreLocalhostAt ports.now endpoints.new }
 {
     for place in 0..ports.len() {
-        endpoints[place] = loopback(ports[place]);
+        endpoints[place] = localhost(ports[place]);
     }
 }

@@ -2,15 +2,15 @@ use Rattle.std.proofs.Common.{arith, ◌∙◌}
 use Rattle.std.proofs.lemmas.List.{length-set}
 use Rattle.std.proofs.lemmas.Option.{slice_get_within}
 use Rattle.node_core.proofs.Strangers.{ArePut-more}
-use Rattle.node_core.proofs.ports.udp.put_loopback.Goals as goal
+use Rattle.node_core.proofs.ports.udp.put_localhost.Goals as goal
 
 pub loop-place-preserved : goal.loop-place-preserved
 loop-place-preserved c =
     let ports = c.args.ports.now in
     let endpoints = c.loop-place.endpoints in
     let place = c.loop-place.place in (
-      length-set endpoints place c.loopback.result ∙ c.loop-place.invariant.0,
-      ArePut-more ports endpoints place c.loopback.result c.loop-place.invariant.1 (omega (arith, c.loop-place.invariant.0)) c.loopback.ensures,
+      length-set endpoints place c.localhost.result ∙ c.loop-place.invariant.0,
+      ArePut-more ports endpoints place c.localhost.result c.loop-place.invariant.1 (omega (arith, c.loop-place.invariant.0)) c.localhost.ensures,
     )
 
 pub returns : goal.returns
