@@ -1,5 +1,6 @@
 pub mod Advice
 pub mod EventLog
+pub mod LoggedPorts
 pub mod Fault
 pub mod Files
 pub mod Endpoint

@@ -1,12 +1,13 @@
 //! The log of a node on a port: which lines it has, and where they go.
-ghost use Rattle.std.specs.Prelude.{◌≡◌, ◌-◌, ℕ, List, [], true};
-ghost use Rattle.ndn_log.specs.Entry.{is_plain};
+ghost use Rattle.std.specs.Prelude.{◌≡◌, ◌++◌, ◌-◌, ◌⊎◌, ℕ, List, [], Option, None, true};
+ghost use Rattle.std.specs.Io.KnownBytes.{Appends};
+ghost use Rattle.node_core.specs.Ports.{one_more};
 ghost use Rattle.ndn_log.specs.Event.{event_words};
 ghost use Rattle.ndn_log.specs.Notes.{closed_idle_words, failed_send_words, stranger_words};
-ghost use Rattle.ndn_daemon.specs.EventLog.{MayLog, is_left_out};
+ghost use Rattle.ndn_daemon.specs.EventLog.{MayLog, SaysCount, closed_with, is_left_out};
 
 use info_rules::Rules;
-use ndn_log::{Entry, is_plain, put_closed_idle, put_event, put_failed_send, put_strangers};
+use ndn_log::{Came, Entry, is_plain, put_closed_idle, put_event, put_failed_send, put_strangers};
 use ndn_tlv::Memory;
 use node_core::Verdict;
 use std::alloc::Global;
@@ -15,13 +16,20 @@ use std::net::SocketAddr;
 /// How much text is gathered at most before it is written, in octets, besides one line.
 const MOST_GATHERED: usize = 65_536;
 
+/// How long a line waits at most before it is written, while more comes, in milliseconds.
+const WAIT_MILLISECONDS: u64 = 1_000;
+
 /// How often the log says what was counted, in milliseconds.
 const COUNT_MILLISECONDS: u64 = 60_000;
 
 /// Where the lines of a log go.
 pub trait LogSink: Drop {
-    /// Takes whole lines. What cannot be taken is lost, and the node goes on.
-    fn take(&mut self, lines: &[u8]);
+    // The lines that it was given, where it keeps them.
+    ghost given: { Self → Option (List ℕ) };
+
+    /// Takes whole lines. What cannot be written is lost, and the node goes on.
+    fn take(&mut self, lines: &[u8])
+        ensures { Appends (given self.old) (given self.new) lines.now };
 }
 
 /// Standard error.
@@ -38,6 +46,9 @@ impl<'a, R: Eprint> StandardError<'a, R> {
 }
 
 impl<'a, R: Eprint> LogSink for StandardError<'a, R> {
+    // What it has is not known.
+    ghost given = { λ _. None };
+
     fn take(&mut self, lines: &[u8]) {
         if let Ok(text) = str::from_utf8(lines) {
             let _printed = self.rt.eprint(text);
@@ -53,6 +64,10 @@ pub struct EventLog<S: LogSink> {
     sink: S,
     shows_all: bool,
     text: Vec<u8>,
+    // Lines of sends that failed, which follow the line of their event.
+    later: Vec<u8>,
+    // The moment of the first line that was not written yet.
+    since: u64,
     // How many faces closed that no line says.
     closed: u64,
     // How many datagrams of strangers the lines have said.
@@ -62,15 +77,21 @@ pub struct EventLog<S: LogSink> {
 }
 
 impl<S: LogSink> EventLog<S> {
-    /// A log without lines, which shows all events or those that are not plain forwarding.
+    /// A log without lines, which shows all events or leaves out what is plain.
     pub fn new(alloc: Global, sink: S, shows_all: bool) -> EventLog<S>
-        ensures { result.text.items ≡ [] }
+        ensures text { result.text.items ≡ [] }
+        ensures later { result.later.items ≡ [] }
+        ensures shows_all { result.shows_all ≡ shows_all }
+        ensures sink { result.sink ≡ sink }
+        ensures counts { (result.closed ≡ 0) × (result.strangers ≡ 0) }
     {
         EventLog {
             alloc,
             sink,
             shows_all,
             text: Vec::new(alloc),
+            later: Vec::new(alloc),
+            since: 0,
             closed: 0,
             strangers: 0,
             counted: 0,
@@ -82,20 +103,37 @@ impl<S: LogSink> EventLog<S> {
         self.text.is_empty()
     }
 
-    /// Appends the line of an event, unless it is plain and not all are shown.
+    /// Appends the line of an event, unless it is left out. A face that closes is then counted.
     pub fn put_event(&mut self, entry: &Entry<'_>, outcome: &Result<Verdict, Memory>, rules: &Rules)
         ensures left_out { is_left_out self.old.shows_all entry.now.came outcome.now ≡ true
             → self.new.text.items ≡ self.old.text.items }
         ensures shown { MayLog self.old.text.items self.new.text.items entry.now.moment
             (event_words rules.now entry.now outcome.now) }
+        ensures closed { self.new.closed ≡ closed_with
+            (is_left_out self.old.shows_all entry.now.came outcome.now) entry.now.came
+            self.old.closed }
+        ensures later { self.new.later.items ≡ self.old.later.items }
+        ensures sink { self.new.sink ≡ self.old.sink }
     {
         if !self.shows_all && is_plain(entry, outcome) {
+            self.count_closed(&entry.came);
             return;
         }
         let _put = put_event(self.alloc, &mut self.text, entry, outcome, rules);
     }
 
-    /// Appends the line of a send that failed.
+    /// Counts what came, if a face closed.
+    fn count_closed(&mut self, came: &Came<'_>)
+        ensures { self.new ≡ record self.old {
+          closed = closed_with true came.now self.old.closed;
+        } }
+    {
+        if let Came::Closed { .. } = came {
+            self.closed = self.closed.saturating_add(1);
+        }
+    }
+
+    /// Keeps the line of a send that failed for after that of its event.
     pub fn put_failed_send(
         &mut self,
         moment: u64,
@@ -103,15 +141,21 @@ impl<S: LogSink> EventLog<S> {
         endpoint: Option<SocketAddr>,
         octets: &[u8],
     )
-        ensures { MayLog self.old.text.items self.new.text.items moment
+        ensures later { MayLog self.old.later.items self.new.later.items moment
             (failed_send_words face endpoint octets.now) }
+        ensures text { self.new.text.items ≡ self.old.text.items }
     {
-        let _put = put_failed_send(self.alloc, &mut self.text, moment, face, endpoint, octets);
+        let _put = put_failed_send(self.alloc, &mut self.later, moment, face, endpoint, octets);
     }
 
-    /// Counts a face that closed.
-    pub fn count_closed(&mut self) {
-        self.closed = self.closed.saturating_add(1);
+    /// Appends the lines of sends that failed.
+    pub fn put_later(&mut self)
+        ensures text { (self.new.text.items ≡ self.old.text.items ++ self.old.later.items)
+            ⊎ (self.new.text.items ≡ self.old.text.items) }
+        ensures used { self.new.later.items ≡ [] }
+    {
+        let _put = self.text.extend_from_slice(&self.later);
+        self.later.clear();
     }
 
     /// Appends lines of what was counted, where the last are a minute old: faces that closed, and
@@ -125,50 +169,70 @@ impl<S: LogSink> EventLog<S> {
     /// The same, however old the last are.
     pub fn put_counts_now(&mut self, moment: u64, strangers: u64)
         ensures { (mid : List ℕ)
-            × MayLog self.old.text.items mid moment (closed_idle_words self.old.closed)
-            × MayLog mid self.new.text.items moment
-            (stranger_words (strangers - self.old.strangers)) }
+            × SaysCount self.old.text.items mid moment (closed_idle_words self.old.closed)
+            self.old.closed self.new.closed
+            × SaysCount mid self.new.text.items moment
+            (stranger_words (strangers - self.old.strangers))
+            (strangers - self.old.strangers) (strangers - self.new.strangers) }
     {
         self.put_closed(moment);
         self.put_strangers(moment, strangers);
     }
 
     fn put_closed(&mut self, moment: u64)
-        ensures text { MayLog self.old.text.items self.new.text.items moment
-            (closed_idle_words self.old.closed) }
+        ensures says { SaysCount self.old.text.items self.new.text.items moment
+            (closed_idle_words self.old.closed) self.old.closed self.new.closed }
         ensures others { self.new.strangers ≡ self.old.strangers }
     {
-        if self.closed > 0 {
-            let _put = put_closed_idle(self.alloc, &mut self.text, moment, self.closed);
+        if self.closed == 0 {
+            return;
+        }
+        let put = put_closed_idle(self.alloc, &mut self.text, moment, self.closed);
+        if put.is_ok() {
             self.closed = 0;
             self.counted = moment;
         }
     }
 
     fn put_strangers(&mut self, moment: u64, strangers: u64)
-        ensures { MayLog self.old.text.items self.new.text.items moment
-            (stranger_words (strangers - self.old.strangers)) }
+        ensures says { SaysCount self.old.text.items self.new.text.items moment
+            (stranger_words (strangers - self.old.strangers))
+            (strangers - self.old.strangers) (strangers - self.new.strangers) }
+        ensures others { self.new.closed ≡ self.old.closed }
     {
-        if strangers > self.strangers {
-            let more = strangers - self.strangers;
-            let _put = put_strangers(self.alloc, &mut self.text, moment, more);
+        if strangers <= self.strangers {
+            return;
+        }
+        let more = strangers - self.strangers;
+        let put = put_strangers(self.alloc, &mut self.text, moment, more);
+        if put.is_ok() {
             self.strangers = strangers;
             self.counted = moment;
         }
     }
 
     /// Writes the lines.
-    pub fn write_out(&mut self) {
-        if !self.text.is_empty() {
-            self.sink.take(&self.text);
-            self.text.clear();
+    pub fn write_out(&mut self)
+        ensures written { Appends (S.given self.old.sink) (S.given self.new.sink)
+            self.old.text.items }
+        ensures none { self.new.text.items ≡ [] }
+    {
+        if self.text.is_empty() {
+            return;
         }
+        self.sink.take(&self.text);
+        self.text.clear();
     }
 
-    /// Writes the lines, where they are long.
-    pub fn write_long(&mut self) {
-        if self.text.len() >= MOST_GATHERED {
+    /// Writes the lines, where there are many, or the first waits for a second at this moment.
+    pub fn write_old(&mut self, moment: u64) {
+        if self.text.is_empty() {
+            self.since = moment;
+        } else if self.text.len() >= MOST_GATHERED
+            || moment.abs_diff(self.since) >= WAIT_MILLISECONDS
+        {
             self.write_out();
+            self.since = moment;
         }
     }
 }

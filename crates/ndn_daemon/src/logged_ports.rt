@@ -1,6 +1,7 @@
 //! Ports with a log of what came, and of what became of it.
 ghost use Rattle.std.specs.Prelude.{◌≡◌, ◌∷◌, [], None, length, IfOk, IfSome, OnErr, OnOk};
 ghost use Rattle.node_core.specs.Ports.{Gives, LiesWithin, Takes, arrived, one_more};
+ghost use Rattle.ndn_daemon.specs.LoggedPorts.{IsCameOf, IsOutcomeOf, face_of, seen_in};
 
 use crate::event_log::{EventLog, LogSink};
 use crate::watched_ports::moment_of;
@@ -40,7 +41,7 @@ enum Seen {
 }
 
 /// Ports with a log. What they give and take is what the ports below do. Lines are written where
-/// nothing comes soon, before anything is waited for.
+/// nothing comes soon, before anything is waited for, and after a second while packets come.
 #[derive(Drop)]
 pub struct LoggedPorts<P: Ports + HasEndpoints + Drop, S: LogSink> {
     ports: P,
@@ -48,6 +49,9 @@ pub struct LoggedPorts<P: Ports + HasEndpoints + Drop, S: LogSink> {
     // What arrived last, and when.
     seen: Option<Seen>,
     moment: u64,
+    // The face that was opened last, or the number that was told in place of one, and its endpoint.
+    opened: u64,
+    endpoint: Option<SocketAddr>,
 }
 
 impl<P: Ports + HasEndpoints + Drop, S: LogSink> LoggedPorts<P, S> {
@@ -60,6 +64,8 @@ impl<P: Ports + HasEndpoints + Drop, S: LogSink> LoggedPorts<P, S> {
             log,
             seen: None,
             moment: 0,
+            opened: 0,
+            endpoint: None,
         }
     }
 
@@ -73,14 +79,25 @@ impl<P: Ports + HasEndpoints + Drop, S: LogSink> LoggedPorts<P, S> {
 
     /// Notes what arrived.
     fn see(&mut self, arrival: &Arrival)
-        ensures { self.new.ports ≡ self.old.ports }
+        ensures ports { self.new.ports ≡ self.old.ports }
+        ensures seen { self.new.seen ≡ seen_in arrival.now }
     {
         self.seen = seen_in(arrival);
-        if let Some(Seen::Closed { .. }) = self.seen {
-            self.log.count_closed();
+        if let Some(Seen::Opened { face, .. }) = self.seen {
+            self.opened = face;
+            self.endpoint = self.ports.endpoint_of(face);
         }
         if let Some(moment) = moment_of(arrival) {
             self.moment = moment;
+        }
+    }
+
+    /// The endpoint of a face, as far as it is known.
+    fn endpoint_of(&self, face: u64) -> Option<SocketAddr> {
+        match self.ports.endpoint_of(face) {
+            Some(endpoint) => Some(endpoint),
+            None if face == self.opened => self.endpoint,
+            None => None,
         }
     }
 
@@ -92,14 +109,19 @@ impl<P: Ports + HasEndpoints + Drop, S: LogSink> LoggedPorts<P, S> {
             return;
         };
         let came = came_of(seen, octets);
+        let endpoint = match face_of(&came) {
+            Some(face) => self.endpoint_of(face),
+            None => None,
+        };
         let entry = Entry {
             moment: self.moment,
-            endpoint: face_of(&came).and_then(|face| self.ports.endpoint_of(face)),
+            endpoint,
             came,
         };
         self.log.put_event(&entry, &outcome, rules);
+        self.log.put_later();
         self.log.put_counts(self.moment, self.ports.strangers());
-        self.log.write_long();
+        self.log.write_old(self.moment);
     }
 }
 
@@ -150,7 +172,9 @@ impl<P: Ports + HasEndpoints + Drop, S: LogSink> Ports for LoggedPorts<P, S> {
     }
 }
 
-fn seen_in(arrival: &Arrival) -> Option<Seen> {
+fn seen_in(arrival: &Arrival) -> Option<Seen>
+    ensures { result ≡ seen_in arrival.now }
+{
     match arrival {
         Arrival::End => None,
         Arrival::Packet { face, len, .. } => Some(Seen::Packet {
@@ -168,7 +192,9 @@ fn seen_in(arrival: &Arrival) -> Option<Seen> {
 }
 
 /// The same with its octets, which begin a buffer.
-fn came_of(seen: Seen, octets: &[u8]) -> Came<'_> {
+fn came_of(seen: Seen, octets: &[u8]) -> Came<'_>
+    ensures { IsCameOf seen octets.now result }
+{
     match seen {
         Seen::Packet { face, len } => Came::Packet {
             face,
@@ -181,7 +207,9 @@ fn came_of(seen: Seen, octets: &[u8]) -> Came<'_> {
     }
 }
 
-fn face_of(came: &Came<'_>) -> Option<u64> {
+fn face_of(came: &Came<'_>) -> Option<u64>
+    ensures { result ≡ face_of came.now }
+{
     match came {
         Came::Packet { face, .. } | Came::Opened { face, .. } | Came::Closed { face } => {
             Some(*face)
@@ -191,7 +219,9 @@ fn face_of(came: &Came<'_>) -> Option<u64> {
 }
 
 /// What became of an event; none where nothing came.
-fn outcome_of(turn: &Turn) -> Option<Result<Verdict, Memory>> {
+fn outcome_of(turn: &Turn) -> Option<Result<Verdict, Memory>>
+    ensures { IsOutcomeOf turn.now result }
+{
     match turn {
         Turn::Done { verdict, .. } => Some(Ok(*verdict)),
         Turn::Refused => Some(Err(Memory)),

@@ -1,9 +1,9 @@
 //! A node on a UDP port of this machine.
-ghost use Rattle.std.specs.Prelude.{◌≡◌, ◌↔◌, ◌≤◌, ◌+◌, ◌++◌, [], Err, None, length, true, vec_len, IsOk, IsTrue, IfErr, IfOk, IfSome, MatchOption, OnErr, OnOk};
+ghost use Rattle.std.specs.Prelude.{◌≡◌, ◌↔◌, ◌≤◌, ◌+◌, ◌++◌, [], Err, None, length, true, false, vec_len, IsOk, IsTrue, IfErr, IfOk, IfSome, MatchOption, OnErr, OnOk};
 ghost use Rattle.std.specs.Vec.{vec_capacity};
 ghost use Rattle.std.specs.Io.KnownBytes.{Appends};
 ghost use Rattle.forwarder.specs.Parts.{parts_fault};
-ghost use Rattle.node_core.specs.Ports.Serving.{IsTurn, shown};
+ghost use Rattle.node_core.specs.Ports.Serving.{IsTurn, Shown, shown};
 ghost use Rattle.node_core.specs.Script.Ending.{AppendsFront};
 ghost use Rattle.ndn_daemon.specs.UdpOptions.{ArePortsOf};
 ghost use Rattle.ndn_daemon.specs.Turn.{EndsTurns, HasNoTurns, StopsAt, StopsQuietTurns, StopsTurn, StopsTurns, TakesQuietTurns, TakesTurns, Writes, turn_text};
@@ -122,6 +122,13 @@ fn take_logged<P: Ports + HasEndpoints + Drop, S: LogSink, W: Write>(
     writer: &mut W,
     options: &UdpOptions,
 ) -> Result<(), Fault>
+    ensures printed { options.now.quiet ≡ false → OnOk result ((after : Shown)
+        × TakesTurns node.old node.new
+        (shown (P.failures ports) (P.coming ports) (P.taken ports)) after
+        options.now.turns (W.contents writer.old) (W.contents writer.new)) }
+    ensures served { options.now.quiet ≡ true → OnOk result ((after : Shown)
+        × TakesQuietTurns node.old node.new
+        (shown (P.failures ports) (P.coming ports) (P.taken ports)) after options.now.turns) }
     ensures fault { IfErr result EndsTurns }
     ensures none { options.now.turns ≡ 0 → IsOk result }
     ensures quiet { options.now.quiet ≡ true → W.contents writer.new ≡ W.contents writer.old }
@@ -144,6 +151,14 @@ fn take_as_asked<P: Ports, W: Write>(
     writer: &mut W,
     options: &UdpOptions,
 ) -> Result<(), Fault>
+    ensures printed { options.now.quiet ≡ false → OnOk result (TakesTurns node.old node.new
+        (shown (P.failures ports.old) (P.coming ports.old) (P.taken ports.old))
+        (shown (P.failures ports.new) (P.coming ports.new) (P.taken ports.new))
+        options.now.turns (W.contents writer.old) (W.contents writer.new)) }
+    ensures served { options.now.quiet ≡ true → OnOk result (TakesQuietTurns node.old node.new
+        (shown (P.failures ports.old) (P.coming ports.old) (P.taken ports.old))
+        (shown (P.failures ports.new) (P.coming ports.new) (P.taken ports.new))
+        options.now.turns) }
     ensures fault { IfErr result EndsTurns }
     ensures none { options.now.turns ≡ 0 → IsOk result }
     ensures quiet { options.now.quiet ≡ true → W.contents writer.new ≡ W.contents writer.old }

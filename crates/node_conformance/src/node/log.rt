@@ -17,6 +17,8 @@ struct Expected<'a> {
 }
 
 impl<'a> LogSink for Expected<'a> {
+    ghost given = { λ _. None };
+
     fn take(&mut self, lines: &[u8]) {
         if lines.starts_with(self.front.as_bytes()) && lines.ends_with(self.back.as_bytes()) {
             self.held.set(self.held.get().saturating_add(1));
