@@ -1,0 +1,5 @@
+pub mod Chosen
+pub mod Moments
+pub mod Moved
+pub mod Journals
+pub mod Beginnings

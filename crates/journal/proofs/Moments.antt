@@ -1,0 +1,35 @@
+-- What two policies are from a moment on.
+use Rattle.std.proofs.Common.{◌≡◌, ◌≤◌, ℕ, ◌+◌, ◌-◌, ◌^◌, arith, sym, ap, ◌∙◌}
+use Rattle.std.specs.Prelude.{max, min}
+use Rattle.pit_fib.specs.Fib.{due_count, left_at}
+use Rattle.repo_core.specs.Wants.{wants_after}
+use Rattle.forwarder.specs.Policy.{Policy, at_moment}
+use Rattle.forwarder.proofs.LaterMoments.{moments_in_a_row}
+use Rattle.journal.specs.Journal.{AreOneFrom}
+
+-- the policy with this time
+abbrev with_time : Policy → ℕ → Policy
+with_time p now = record p {
+  now = now;
+  table_number = min (p.table_number + due_count now p.routes) (2 ^ 64 - 1);
+  routes = left_at now p.routes;
+  held = record p.held { wants = wants_after now p.held.wants };
+}
+
+at_greatest : (p : Policy) (m : ℕ) → at_moment p (max p.now m) ≡ at_moment p m
+at_greatest p m =
+    let same : max p.now (max p.now m) ≡ max p.now m = omega arith in
+    ap (with_time p) same
+
+-- a moment comes to one of them
+pub one_later : (was q : Policy) (m : ℕ) → AreOneFrom was.now q was → AreOneFrom (max was.now m) q (at_moment was m)
+one_later was q m one n le =
+    let after : was.now ≤ n = omega arith in
+    let same : max m n ≡ n = omega arith in
+    one n after ∙ sym (moments_in_a_row was m n ∙ ap (at_moment was) same)
+
+-- the time of one comes to the other
+pub one_now : (was q : Policy) (m : ℕ) → AreOneFrom was.now q was → at_moment q (max was.now m) ≡ at_moment was m
+one_now was q m one =
+    let after : was.now ≤ max was.now m = omega arith in
+    one (max was.now m) after ∙ at_greatest was m

@@ -1,0 +1,52 @@
+ghost use Rattle.std.specs.Prelude.{◌≡◌, ◌≤◌, ◌++◌, ℕ, List, Bool, false};
+ghost use Rattle.hmac_keys.specs.KeyFile.{AreApart};
+ghost use Rattle.forwarder.specs.Event.{PlainEvent, moment};
+ghost use Rattle.forwarder.specs.Policy.{Policy, at_moment};
+ghost use Rattle.forwarder.specs.Effects.{IsAfter};
+ghost use Rattle.forwarder.specs.Runs.{Run, IsPolicyOf, KeysAreApart};
+ghost use Rattle.journal.specs.Journal.{AreOneFrom, IsJournalled, IsJournalOf, KeepsBeginning, events_of};
+
+/// Law: whether an event is journalled follows from the policy before it and the event, and an
+/// event that is not changes nothing but what its moment does.
+pub fn other_events_bring_their_moments()
+    ensures decided { (old : Policy) (event : PlainEvent) (a b : Bool) → AreApart old.keys
+        → IsJournalled old event a → IsJournalled old event b → a ≡ b }
+    ensures nothing { (old new : Policy) (event : PlainEvent) → AreApart old.keys
+        → IsJournalled old event false → IsAfter old event new
+        → new ≡ at_moment old (moment event) }
+{}
+
+/// Law: a run leaves one journal.
+pub fn journals_are_one()
+    ensures some { (first p : Policy) (past : Run) → IsPolicyOf first past p
+        → (journal : List PlainEvent) × IsJournalOf first past journal }
+    ensures one { (first : Policy) (past : Run) (a b : List PlainEvent) → KeysAreApart first past
+        → IsJournalOf first past a → IsJournalOf first past b → a ≡ b }
+{}
+
+/// Law: the events of a run's journal, handled anew from the first policy on, leave the policy of
+/// the run, but for a moment that the next event brings. They leave the same journal, so that a run
+/// may go on from there.
+pub fn journals_keep_policy()
+    ensures policy { (first p q : Policy) (past again : Run) (journal : List PlainEvent)
+        → KeysAreApart first past → IsPolicyOf first past p → IsJournalOf first past journal
+        → events_of again ≡ journal → IsPolicyOf first again q → AreOneFrom p.now q p }
+    ensures journal { (first p : Policy) (past again : Run) (journal : List PlainEvent)
+        → KeysAreApart first past → IsPolicyOf first past p → IsJournalOf first past journal
+        → events_of again ≡ journal → IsJournalOf first again journal }
+    // There is such a policy.
+    ensures some { (first p : Policy) (past again : Run) (journal : List PlainEvent)
+        → KeysAreApart first past → IsPolicyOf first past p → IsJournalOf first past journal
+        → events_of again ≡ journal → (q : Policy) × IsPolicyOf first again q }
+    // The next event that comes at no earlier moment has the same effect.
+    ensures next { (p q r : Policy) (event : PlainEvent) → AreOneFrom p.now q p
+        → p.now ≤ moment event → IsAfter p event r → IsAfter q event r }
+{}
+
+/// Law: the first events of a run's journal, which a crash leaves, are the journal of a beginning of
+/// the run, and lead to its policy. What had been written whole is in it.
+pub fn crashes_leave_a_beginning()
+    ensures { (first p : Policy) (past : Run) (journal left lost : List PlainEvent)
+        → KeysAreApart first past → IsPolicyOf first past p → IsJournalOf first past journal
+        → journal ≡ left ++ lost → KeepsBeginning first past left }
+{}

@@ -1,0 +1,9 @@
+//! The journal of a node: what it has to write down to be the same after a restart.
+#![tactic(auto)]
+
+mod law;
+
+pub use law::{
+    crashes_leave_a_beginning, journals_are_one, journals_keep_policy,
+    other_events_bring_their_moments,
+};
