@@ -3,3 +3,5 @@ pub mod Moments
 pub mod Moved
 pub mod Journals
 pub mod Beginnings
+pub mod Lines
+pub mod Texts

@@ -4,6 +4,8 @@ ghost use Rattle.forwarder.specs.Event.{PlainEvent, moment};
 ghost use Rattle.forwarder.specs.Policy.{Policy, at_moment};
 ghost use Rattle.forwarder.specs.Effects.{IsAfter};
 ghost use Rattle.forwarder.specs.Runs.{Run, IsPolicyOf, KeysAreApart};
+ghost use Rattle.node_core.specs.Script.{IsScriptSoFar};
+ghost use Rattle.journal.specs.Text.{IsCutTextOf, IsTextOf, Survives};
 ghost use Rattle.journal.specs.Journal.{AreOneFrom, IsJournalled, IsJournalOf, KeepsBeginning, events_of};
 
 /// Law: whether an event is journalled follows from the policy before it and the event, and an
@@ -49,4 +51,21 @@ pub fn crashes_leave_a_beginning()
     ensures { (first p : Policy) (past : Run) (journal left lost : List PlainEvent)
         → KeysAreApart first past → IsPolicyOf first past p → IsJournalOf first past journal
         → journal ≡ left ++ lost → KeepsBeginning first past left }
+{}
+
+/// Law: what may be left of a journal's text has one reading, and it is that of its whole lines as a
+/// script.
+pub fn journal_texts_have_one_reading()
+    ensures script { (text : List ℕ) (events : List PlainEvent) → IsCutTextOf events text
+        → IsScriptSoFar text events }
+    ensures one { (text : List ℕ) (a b : List PlainEvent) → IsCutTextOf a text
+        → IsScriptSoFar text b → a ≡ b }
+{}
+
+/// Law: whatever beginning a crash leaves of the text of a run's journal, its whole lines keep a
+/// beginning of the run.
+pub fn journals_survive_crashes()
+    ensures { (first p : Policy) (past : Run) (journal : List PlainEvent) (text left lost : List ℕ)
+        → KeysAreApart first past → IsPolicyOf first past p → IsJournalOf first past journal
+        → IsTextOf journal text → text ≡ left ++ lost → Survives first past left }
 {}
