@@ -5,3 +5,4 @@ pub mod Journals
 pub mod Beginnings
 pub mod Lines
 pub mod Texts
+pub mod Verdicts

@@ -3,8 +3,11 @@ ghost use Rattle.hmac_keys.specs.KeyFile.{AreApart};
 ghost use Rattle.forwarder.specs.Event.{PlainEvent, moment};
 ghost use Rattle.forwarder.specs.Policy.{Policy, at_moment};
 ghost use Rattle.forwarder.specs.Effects.{IsAfter};
+ghost use Rattle.forwarder.specs.Node.{NodeState, IsStep};
+ghost use Rattle.forwarder.specs.Verdict.{Answer};
 ghost use Rattle.forwarder.specs.Runs.{Run, IsPolicyOf, KeysAreApart};
 ghost use Rattle.node_core.specs.Script.{IsScriptSoFar};
+ghost use Rattle.journal.specs.Saying.{brings_wanted, is_journalled_by};
 ghost use Rattle.journal.specs.Text.{IsCutTextOf, IsTextOf, Survives};
 ghost use Rattle.journal.specs.Journal.{AreOneFrom, IsJournalled, IsJournalOf, KeepsBeginning, events_of};
 
@@ -16,6 +19,15 @@ pub fn other_events_bring_their_moments()
     ensures nothing { (old new : Policy) (event : PlainEvent) → AreApart old.keys
         → IsJournalled old event false → IsAfter old event new
         → new ≡ at_moment old (moment event) }
+{}
+
+/// Law: whether a step journals its event is read off its verdict and, for a Data, off whether the
+/// repository wants it at that moment.
+pub fn verdicts_say_what_is_journalled()
+    ensures { (old new : NodeState) (event : PlainEvent) (answer : Answer)
+        → IsStep old event answer new → let p = at_moment old.policy (moment event) in
+        IsJournalled old.policy event
+        (is_journalled_by event (brings_wanted p event) answer.verdict) }
 {}
 
 /// Law: a run leaves one journal.

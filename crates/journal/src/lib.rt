@@ -6,4 +6,5 @@ mod law;
 pub use law::{
     crashes_leave_a_beginning, journal_texts_have_one_reading, journals_are_one,
     journals_keep_policy, journals_survive_crashes, other_events_bring_their_moments,
+    verdicts_say_what_is_journalled,
 };
