@@ -1,3 +1,4 @@
 pub mod Journal
+pub mod Line
 pub mod Saying
 pub mod Text

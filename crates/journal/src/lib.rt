@@ -2,9 +2,11 @@
 #![tactic(auto)]
 
 mod law;
+mod line;
 
 pub use law::{
     crashes_leave_a_beginning, journal_texts_have_one_reading, journals_are_one,
     journals_keep_policy, journals_survive_crashes, other_events_bring_their_moments,
     verdicts_say_what_is_journalled,
 };
+pub use line::{Entry, line_of};

@@ -1,0 +1,35 @@
+-- The line of a journalled event, which is written before what the event sends.
+use Rattle.std.specs.Prelude.{◌≡◌, ℕ, List, ◌++◌, codes}
+use Rattle.std.specs.Fmt.{decimal}
+use Rattle.hmac_keys.specs.KeyFile.{NamedKey}
+use Rattle.hmac_keys.specs.KeyReading.{AreKeys}
+use Rattle.info_rules.specs.Rule.{PlainRule}
+use Rattle.forwarder.specs.Event.{PlainEvent, Packet, FaceUp, FaceDown, NewRules}
+use Rattle.node_core.specs.Files.{AreRules}
+use Rattle.node_core.specs.Script.Line.{scope_word}
+use Rattle.node_core.specs.Script.Writing.{hex_word}
+use Rattle.journal.specs.declared.line.Entry.{Entry}
+use Rattle.journal.specs.declared.line.Entry.TheVariants as entry
+
+-- the events that an entry is written for: of rules and keys it has the files
+abbrev pub IsEventOf : ℕ → Entry → PlainEvent → Type 0
+IsEventOf now (entry.Packet face octets) event = event ≡ Packet face now octets.now
+IsEventOf now (entry.FaceUp face scope) event = event ≡ FaceUp face scope now
+IsEventOf now (entry.FaceDown face) event = event ≡ FaceDown face now
+IsEventOf now (entry.NewRules rules keys) event =
+    (r : List PlainRule) × (k : List NamedKey)
+    × AreRules rules.now r × AreKeys keys.now k × (event ≡ NewRules r k now)
+
+-- its line, with its LF; hexadecimal in lower case
+abbrev pub entry_text : ℕ → Entry → List ℕ
+entry_text now (entry.Packet face octets) =
+    codes "in " ++ (decimal face ++ (codes " " ++ (decimal now ++ (codes " "
+    ++ (hex_word octets.now ++ codes "\n")))))
+entry_text now (entry.FaceUp face scope) =
+    codes "up " ++ (decimal face ++ (codes " " ++ (scope_word scope ++ (codes " "
+    ++ (decimal now ++ codes "\n")))))
+entry_text now (entry.FaceDown face) =
+    codes "down " ++ (decimal face ++ (codes " " ++ (decimal now ++ codes "\n")))
+entry_text now (entry.NewRules rules keys) =
+    codes "rules " ++ (decimal now ++ (codes " " ++ (hex_word rules.now ++ (codes " "
+    ++ (hex_word keys.now ++ codes "\n")))))
