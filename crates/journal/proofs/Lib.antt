@@ -6,3 +6,4 @@ pub mod Beginnings
 pub mod Lines
 pub mod Texts
 pub mod Verdicts
+pub mod LineTexts

@@ -1,9 +1,10 @@
 -- The line of a journalled event, which is written before what the event sends.
-use Rattle.std.specs.Prelude.{◌≡◌, ℕ, List, ◌++◌, codes}
+use Rattle.std.specs.Prelude.{◌≡◌, ◌<◌, ◌^◌, ℕ, List, ◌++◌, codes}
 use Rattle.std.specs.Fmt.{decimal}
 use Rattle.hmac_keys.specs.KeyFile.{NamedKey}
 use Rattle.hmac_keys.specs.KeyReading.{AreKeys}
 use Rattle.info_rules.specs.Rule.{PlainRule}
+use Rattle.ndn_packets.specs.Writing.{AreOctets}
 use Rattle.forwarder.specs.Event.{PlainEvent, Packet, FaceUp, FaceDown, NewRules}
 use Rattle.node_core.specs.Files.{AreRules}
 use Rattle.node_core.specs.Script.Line.{scope_word}
@@ -19,6 +20,13 @@ IsEventOf now (entry.FaceDown face) event = event ≡ FaceDown face now
 IsEventOf now (entry.NewRules rules keys) event =
     (r : List PlainRule) × (k : List NamedKey)
     × AreRules rules.now r × AreKeys keys.now k × (event ≡ NewRules r k now)
+
+-- its numbers are below 2 ^ 64, and its octets are octets
+abbrev pub HasOctets : Entry → Type 0
+HasOctets (entry.Packet face octets) = (face < 2 ^ 64) × AreOctets octets.now
+HasOctets (entry.FaceUp face scope) = face < 2 ^ 64
+HasOctets (entry.FaceDown face) = face < 2 ^ 64
+HasOctets (entry.NewRules rules keys) = AreOctets rules.now × AreOctets keys.now
 
 -- its line, with its LF; hexadecimal in lower case
 abbrev pub entry_text : ℕ → Entry → List ℕ

@@ -9,4 +9,4 @@ pub use law::{
     journals_keep_policy, journals_survive_crashes, other_events_bring_their_moments,
     verdicts_say_what_is_journalled,
 };
-pub use line::{Entry, line_of};
+pub use line::{Entry, LineFault, line_of};

@@ -1,11 +1,18 @@
-ghost use Rattle.std.specs.Prelude.{◌≡◌, IfOk};
+ghost use Rattle.std.specs.Prelude.{◌≡◌, ◌≤◌, ◌<◌, ◌∷◌, [], length, Err, IfOk, OnOk};
 ghost use Rattle.std.specs.String.{string_bytes};
+ghost use Rattle.ndn_packets.specs.Writing.{AreOctets};
+ghost use Rattle.forwarder.specs.Event.{PlainEvent};
 ghost use Rattle.node_core.specs.Script.Line.{scope_word as scope_word_of};
 ghost use Rattle.node_core.specs.Script.Writing.{hex_word as hex_word_of};
-ghost use Rattle.journal.specs.Line.{entry_text};
+ghost use Rattle.journal.specs.Line.{HasOctets, IsEventOf, entry_text};
+ghost use Rattle.journal.specs.Text.{IsTextOf};
 
 use forwarder::Scope;
 use std::alloc::{AllocError, Global};
+use thiserror::Error;
+
+/// The longest line, in octets and with the LF at its end.
+const LONGEST_LINE: usize = 20_001;
 
 /// What is journalled of an event, beside its moment.
 #[derive(Clone, Copy)]
@@ -20,9 +27,38 @@ pub enum Entry<'a> {
     NewRules { rules: &'a [u8], keys: &'a [u8] },
 }
 
+/// Why an entry has no line.
+#[derive(Clone, Copy, Debug, PartialEq, Eq, Error)]
+pub enum LineFault {
+    /// It would have more than 20,000 octets, without its LF.
+    #[error("a line of the journal would be too long")]
+    TooLong,
+    #[error("out of memory")]
+    Memory,
+}
+
 /// The line of a journal for an entry of this moment, with its LF.
-pub fn line_of(alloc: Global, now: u64, entry: &Entry<'_>) -> Result<String, AllocError>
+pub fn line_of(alloc: Global, now: u64, entry: &Entry<'_>) -> Result<String, LineFault>
     ensures text { IfOk result (λ line. string_bytes line ≡ entry_text now entry.now) }
+    // It is a line of a script, of the event at this moment.
+    ensures line { OnOk result
+        ((event : PlainEvent) → IsEventOf now entry.now event
+        → IsTextOf (event ∷ []) (entry_text now entry.now)) }
+    ensures long { result ≡ Err LineFault.TooLong → 20001 < length (entry_text now entry.now) }
+{
+    let Ok(line) = text_of(alloc, now, entry) else {
+        return Err(LineFault::Memory);
+    };
+    if line.len() > LONGEST_LINE {
+        return Err(LineFault::TooLong);
+    }
+    Ok(line)
+}
+
+/// The text of an entry, however long.
+fn text_of(alloc: Global, now: u64, entry: &Entry<'_>) -> Result<String, AllocError>
+    ensures text { IfOk result (λ line. string_bytes line ≡ entry_text now entry.now) }
+    ensures octets { OnOk result (HasOctets entry.now) }
 {
     match *entry {
         Entry::Packet { face, octets } => {
@@ -44,7 +80,8 @@ pub fn line_of(alloc: Global, now: u64, entry: &Entry<'_>) -> Result<String, All
 
 /// Octets in hexadecimal, or a dash for none.
 fn hex_word(alloc: Global, octets: &[u8]) -> Result<String, AllocError>
-    ensures { IfOk result (λ word. string_bytes word ≡ hex_word_of octets.now) }
+    ensures word { IfOk result (λ word. string_bytes word ≡ hex_word_of octets.now) }
+    ensures octets { AreOctets octets.now }
 {
     if octets.is_empty() {
         return format!(in alloc; "-");
