@@ -37,6 +37,11 @@ cut_script text events h =
 pub cut_text_once : (text : List ℕ) (a b : List PlainEvent) → IsCutTextOf a text → IsScriptSoFar text b → a ≡ b
 cut_text_once text a b h k = so_far_once text a b (cut_script text a h) k
 
+pub texts_join : (journal added : List PlainEvent) (text more : List ℕ) → IsTextOf journal text → IsTextOf added more → IsTextOf (journal ++ added) (text ++ more)
+texts_join [] added text more h k = subst (λ (t : List ℕ). IsTextOf added (t ++ more)) (sym h) k
+texts_join (event ∷ journal) added text more h k =
+    (h.0, h.1 ++ more, h.2, h.3, ap (λ (t : List ℕ). t ++ more) h.4 ∙ append_assoc (ended h.0) h.1 more, texts_join journal added h.1 more h.5 k)
+
 -- ---- a front of a text
 
 -- a front ends within a first line, or goes on after it

@@ -1,6 +1,6 @@
 -- What the verdict on an event says of the journal.
 use Rattle.std.proofs.Common.{◌≡◌, ℕ, Bool, true, false, List, [], ◌∷◌, refl, ap, ◌∙◌, Result, Ok, Err}
-use Rattle.std.specs.Prelude.{Option, Some, None, nat_le, length, not, ◌==◌, ◌&&◌, if◌then◌else◌}
+use Rattle.std.specs.Prelude.{Option, Some, None, max, nat_le, length, not, ◌==◌, ◌&&◌, if◌then◌else◌}
 use Rattle.sha2.specs.Sha256.{sha256}
 use Rattle.ndn_tlv.specs.Element.{Field}
 use Rattle.ndn_packets.specs.FrameReading.{frame_at, token_at}
@@ -23,7 +23,7 @@ use Rattle.repo_core.specs.Wants.{is_wanted}
 use Rattle.forwarder.specs.Event.{PlainEvent, Packet, FaceUp, FaceDown, Tick, NewRules, Token, moment, nacked_back, to_each}
 use Rattle.forwarder.specs.Faces.{is_open}
 use Rattle.forwarder.specs.Verdict.{Answer, Verdict, Passed, Allowed, DataAllowed, Denied, NoRule, Dropped, WhereTrue, BadFace, FaceOpen, FacesFull, Loop, NoFace, NoSegment, PitFull, Scope as OutOfScope, dropped, passed}
-use Rattle.forwarder.specs.Policy.{at_moment}
+use Rattle.forwarder.specs.Policy.{Policy, at_moment}
 use Rattle.forwarder.specs.Request.{Request, Refused, ForList, ForTables, ForRepository, ForData, is_command, is_out_of_scope, request_of}
 use Rattle.forwarder.specs.NextHops.{ask_from, choice_for, sent_on}
 use Rattle.forwarder.specs.Said.{IsSaid}
@@ -32,7 +32,8 @@ use Rattle.forwarder.specs.Datasets.{is_present, dataset_text, segment_answer, s
 use Rattle.forwarder.specs.Replies.{Seen, Replies, RepliesBySaid, RepliesForData, RepliesToCommand, RepliesToData, RepliesToNack, RepliesToPacket, RepliesToRequest, by_content_store, by_strategy, nack_answer, by_repository}
 use Rattle.forwarder.specs.Effects.{decided_packet, packet_to_decide}
 use Rattle.forwarder.specs.Node.{NodeState, IsStep, seen_in}
-use Rattle.journal.specs.Journal.{IsChosen, IsJournalled, is_journalled_as}
+use Rattle.forwarder.specs.Runs.{Run, Then, Stands}
+use Rattle.journal.specs.Journal.{IsChosen, IsJournalOf, IsJournalled, is_journalled_as, with_event, with_moment}
 use Rattle.journal.specs.Saying.{brings_wanted, is_journalled_by, is_wanted_packet}
 
 -- ---- which answers to packets allow nothing
@@ -185,3 +186,8 @@ by_verdict seen (NewRules rules keys now) answer h = ap (λ (a : Answer). is_jou
 pub step_says : (old new : NodeState) (event : PlainEvent) (answer : Answer) → IsStep old event answer new
     → IsJournalled old.policy event (is_journalled_by event (brings_wanted (at_moment old.policy (moment event)) event) answer.verdict)
 step_says old new event answer s = by_verdict (seen_in (at_moment old.policy (moment event)) s.waiting old.cache) event answer s.replies
+
+pub step_grows : (first : Policy) (past : Run) (old new : NodeState) (event : PlainEvent) (answer : Answer) (journal : List PlainEvent) → Stands first past old → IsStep old event answer new
+    → IsJournalOf first past journal → IsJournalOf first (Then past event answer) (with_event (is_journalled_by event (brings_wanted (at_moment old.policy (moment event)) event) answer.verdict) (with_moment (max old.policy.now (moment event)) event) journal)
+step_grows first past old new event answer journal stands step is =
+    (old.policy, journal, stands.policy, is, (is_journalled_by event (brings_wanted (at_moment old.policy (moment event)) event) answer.verdict, step_says old new event answer step, refl))

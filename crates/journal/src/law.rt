@@ -5,11 +5,11 @@ ghost use Rattle.forwarder.specs.Policy.{Policy, at_moment};
 ghost use Rattle.forwarder.specs.Effects.{IsAfter};
 ghost use Rattle.forwarder.specs.Node.{NodeState, IsStep};
 ghost use Rattle.forwarder.specs.Verdict.{Answer};
-ghost use Rattle.forwarder.specs.Runs.{Run, IsPolicyOf, KeysAreApart};
+ghost use Rattle.forwarder.specs.Runs.{Run, Then, IsPolicyOf, KeysAreApart, Stands};
 ghost use Rattle.node_core.specs.Script.{IsScriptSoFar};
 ghost use Rattle.journal.specs.Saying.{brings_wanted, is_journalled_by};
 ghost use Rattle.journal.specs.Text.{IsCutTextOf, IsTextOf, Survives};
-ghost use Rattle.journal.specs.Journal.{AreOneFrom, IsJournalled, IsJournalOf, KeepsBeginning, events_of};
+ghost use Rattle.journal.specs.Journal.{AreOneFrom, IsJournalled, IsJournalOf, KeepsBeginning, events_of, with_event, with_moment};
 
 /// Law: whether an event is journalled follows from the policy before it and the event, and an
 /// event that is not changes nothing but what its moment does.
@@ -28,6 +28,20 @@ pub fn verdicts_say_what_is_journalled()
         → IsStep old event answer new → let p = at_moment old.policy (moment event) in
         IsJournalled old.policy event
         (is_journalled_by event (brings_wanted p event) answer.verdict) }
+{}
+
+/// Law: where a node stands in a run, a step goes on with the run's journal and its text: with the
+/// event and its line where it is journalled, and with nothing else.
+pub fn journals_grow_by_steps()
+    ensures journal { (first : Policy) (past : Run) (old new : NodeState) (event : PlainEvent)
+        (answer : Answer) (journal : List PlainEvent) → Stands first past old
+        → IsStep old event answer new → IsJournalOf first past journal
+        → let p = at_moment old.policy (moment event) in
+        IsJournalOf first (Then past event answer)
+        (with_event (is_journalled_by event (brings_wanted p event) answer.verdict)
+        (with_moment p.now event) journal) }
+    ensures text { (journal added : List PlainEvent) (text more : List ℕ) → IsTextOf journal text
+        → IsTextOf added more → IsTextOf (journal ++ added) (text ++ more) }
 {}
 
 /// Law: a run leaves one journal.

@@ -6,7 +6,7 @@ mod line;
 
 pub use law::{
     crashes_leave_a_beginning, journal_texts_have_one_reading, journals_are_one,
-    journals_keep_policy, journals_survive_crashes, other_events_bring_their_moments,
-    verdicts_say_what_is_journalled,
+    journals_grow_by_steps, journals_keep_policy, journals_survive_crashes,
+    other_events_bring_their_moments, verdicts_say_what_is_journalled,
 };
 pub use line::{Entry, LineFault, line_of};
