@@ -11,7 +11,7 @@ use Rattle.info_rules.specs.Rule.{PlainRule}
 use Rattle.ndn_packets.specs.Writing.{AreOctets}
 use Rattle.forwarder.specs.declared.event.Scope.{Scope}
 use Rattle.forwarder.specs.declared.event.Scope.TheVariants.{Local, Far}
-use Rattle.forwarder.specs.Event.{PlainEvent, Packet, FaceUp, FaceDown, NewRules}
+use Rattle.forwarder.specs.Event.{PlainEvent, Packet, FaceUp, FaceDown, Tick, NewRules, moment}
 use Rattle.node_core.specs.Script.{ended}
 use Rattle.node_core.specs.Script.Line.{HexSpells, IsEventLine, LineSpells, Lacks, scope_word, words}
 use Rattle.node_core.specs.Script.Writing.{hex_word}
@@ -19,7 +19,9 @@ use Rattle.node_core.proofs.Lists.{Lacks-append, Lacks-from_test}
 use Rattle.node_core.proofs.Numbers.{decimal-Lacks}
 use Rattle.journal.specs.declared.line.Entry.{Entry}
 use Rattle.journal.specs.declared.line.Entry.TheVariants as entry
-use Rattle.journal.specs.Line.{HasOctets, IsEventOf, entry_text}
+use Rattle.journal.specs.Journal.{with_moment}
+use Rattle.journal.specs.Line.{HasOctets, IsEventOf, entry_text, is_change_entry}
+use Rattle.journal.specs.Saying.{is_change}
 use Rattle.journal.specs.Text.{IsTextOf}
 
 -- ---- words without an LF
@@ -86,9 +88,38 @@ line_text now (entry.FaceDown face) event fits has short is =
     ((has, fits), refl)
     (words_lack (codes "down" ∷ decimal face ∷ decimal now ∷ []) (Lacks-from_test 10 (codes "down") refl, (number_lacks face has, (number_lacks now fits, tt))))
     (ap (λ (t : List ℕ). codes "down " ++ t) (two_ended (decimal face) (decimal now))))
+line_text now entry.Tick event fits has short is =
+    subst (λ (x : PlainEvent). IsTextOf (x ∷ []) (entry_text now entry.Tick)) (sym is)
+    (one_line (Tick now) (words (codes "tick" ∷ decimal now ∷ [])) (entry_text now entry.Tick) short
+    (fits, refl)
+    (words_lack (codes "tick" ∷ decimal now ∷ []) (Lacks-from_test 10 (codes "tick") refl, (number_lacks now fits, tt)))
+    refl)
 line_text now (entry.NewRules rules keys) event fits has short is =
     subst (λ (x : PlainEvent). IsTextOf (x ∷ []) (entry_text now (entry.NewRules rules keys))) (sym is.4)
     (one_line (NewRules is.0 is.1 now) (words (codes "rules" ∷ decimal now ∷ hex_word rules.now ∷ hex_word keys.now ∷ [])) (entry_text now (entry.NewRules rules keys)) short
     (fits, (hex_word rules.now, hex_word keys.now, (rules.now, hex_spells rules.now has.0, is.2), (keys.now, hex_spells keys.now has.1, is.3), refl))
     (words_lack (codes "rules" ∷ decimal now ∷ hex_word rules.now ∷ hex_word keys.now ∷ []) (Lacks-from_test 10 (codes "rules") refl, (number_lacks now fits, (hex_lacks rules.now has.0, (hex_lacks keys.now has.1, tt)))))
     (ap (λ (t : List ℕ). codes "rules " ++ t) (three_ended (decimal now) (hex_word rules.now) (hex_word keys.now))))
+
+-- ---- an entry at another moment
+
+pub moved_entry : (t now : ℕ) (e : Entry) (event : PlainEvent) → IsEventOf now e event → IsEventOf t e (with_moment t event)
+moved_entry t now (entry.Packet face octets) event is = ap (with_moment t) is
+moved_entry t now (entry.FaceUp face scope) event is = ap (with_moment t) is
+moved_entry t now (entry.FaceDown face) event is = ap (with_moment t) is
+moved_entry t now entry.Tick event is = ap (with_moment t) is
+moved_entry t now (entry.NewRules rules keys) event is = (is.0, is.1, is.2, is.3, ap (with_moment t) is.4)
+
+pub entry_moment : (now : ℕ) (e : Entry) (event : PlainEvent) → IsEventOf now e event → moment event ≡ now
+entry_moment now (entry.Packet face octets) event is = ap moment is
+entry_moment now (entry.FaceUp face scope) event is = ap moment is
+entry_moment now (entry.FaceDown face) event is = ap moment is
+entry_moment now entry.Tick event is = ap moment is
+entry_moment now (entry.NewRules rules keys) event is = ap moment is.4
+
+entry_change : (now : ℕ) (e : Entry) (event : PlainEvent) → IsEventOf now e event → is_change event ≡ is_change_entry e
+entry_change now (entry.Packet face octets) event is = ap is_change is
+entry_change now (entry.FaceUp face scope) event is = ap is_change is
+entry_change now (entry.FaceDown face) event is = ap is_change is
+entry_change now entry.Tick event is = ap is_change is
+entry_change now (entry.NewRules rules keys) event is = ap is_change is.4

@@ -1,11 +1,11 @@
 -- The line of a journalled event, which is written before what the event sends.
-use Rattle.std.specs.Prelude.{◌≡◌, ◌<◌, ◌^◌, ℕ, List, ◌++◌, codes}
+use Rattle.std.specs.Prelude.{◌≡◌, ◌<◌, ◌^◌, ℕ, List, ◌++◌, codes, Bool, true, false, ⊤}
 use Rattle.std.specs.Fmt.{decimal}
 use Rattle.hmac_keys.specs.KeyFile.{NamedKey}
 use Rattle.hmac_keys.specs.KeyReading.{AreKeys}
 use Rattle.info_rules.specs.Rule.{PlainRule}
 use Rattle.ndn_packets.specs.Writing.{AreOctets}
-use Rattle.forwarder.specs.Event.{PlainEvent, Packet, FaceUp, FaceDown, NewRules}
+use Rattle.forwarder.specs.Event.{PlainEvent, Packet, FaceUp, FaceDown, Tick, NewRules}
 use Rattle.node_core.specs.Files.{AreRules}
 use Rattle.node_core.specs.Script.Line.{scope_word}
 use Rattle.node_core.specs.Script.Writing.{hex_word}
@@ -17,6 +17,7 @@ abbrev pub IsEventOf : ℕ → Entry → PlainEvent → Type 0
 IsEventOf now (entry.Packet face octets) event = event ≡ Packet face now octets.now
 IsEventOf now (entry.FaceUp face scope) event = event ≡ FaceUp face scope now
 IsEventOf now (entry.FaceDown face) event = event ≡ FaceDown face now
+IsEventOf now entry.Tick event = event ≡ Tick now
 IsEventOf now (entry.NewRules rules keys) event =
     (r : List PlainRule) × (k : List NamedKey)
     × AreRules rules.now r × AreKeys keys.now k × (event ≡ NewRules r k now)
@@ -26,6 +27,7 @@ abbrev pub HasOctets : Entry → Type 0
 HasOctets (entry.Packet face octets) = (face < 2 ^ 64) × AreOctets octets.now
 HasOctets (entry.FaceUp face scope) = face < 2 ^ 64
 HasOctets (entry.FaceDown face) = face < 2 ^ 64
+HasOctets entry.Tick = ⊤
 HasOctets (entry.NewRules rules keys) = AreOctets rules.now × AreOctets keys.now
 
 -- its line, with its LF; hexadecimal in lower case
@@ -38,6 +40,15 @@ entry_text now (entry.FaceUp face scope) =
     ++ (decimal now ++ codes "\n")))))
 entry_text now (entry.FaceDown face) =
     codes "down " ++ (decimal face ++ (codes " " ++ (decimal now ++ codes "\n")))
+entry_text now entry.Tick = codes "tick " ++ (decimal now ++ codes "\n")
 entry_text now (entry.NewRules rules keys) =
     codes "rules " ++ (decimal now ++ (codes " " ++ (hex_word rules.now ++ (codes " "
     ++ (hex_word keys.now ++ codes "\n")))))
+
+-- the entry is of an event that changes faces or rules
+abbrev pub is_change_entry : Entry → Bool
+is_change_entry (entry.Packet face octets) = false
+is_change_entry (entry.FaceUp face scope) = true
+is_change_entry (entry.FaceDown face) = true
+is_change_entry entry.Tick = false
+is_change_entry (entry.NewRules rules keys) = true

@@ -14,7 +14,7 @@ use thiserror::Error;
 /// The longest line, in octets and with the LF at its end.
 const LONGEST_LINE: usize = 20_001;
 
-/// What is journalled of an event, beside its moment.
+/// What a line says of an event, beside its moment.
 #[derive(Clone, Copy)]
 pub enum Entry<'a> {
     /// Octets came on a face.
@@ -23,6 +23,8 @@ pub enum Entry<'a> {
     FaceUp { face: u64, scope: Scope },
     /// A face was closed.
     FaceDown { face: u64 },
+    /// Time passed.
+    Tick,
     /// The octets of a rule file and of a key file, which take the place of those in force.
     NewRules { rules: &'a [u8], keys: &'a [u8] },
 }
@@ -70,6 +72,7 @@ fn text_of(alloc: Global, now: u64, entry: &Entry<'_>) -> Result<String, AllocEr
             format!(in alloc; "up {face} {scope} {now}\n")
         }
         Entry::FaceDown { face } => format!(in alloc; "down {face} {now}\n"),
+        Entry::Tick => format!(in alloc; "tick {now}\n"),
         Entry::NewRules { rules, keys } => {
             let rules = hex_word(alloc, rules)?;
             let keys = hex_word(alloc, keys)?;
