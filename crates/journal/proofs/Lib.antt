@@ -7,3 +7,4 @@ pub mod Lines
 pub mod Texts
 pub mod Verdicts
 pub mod LineTexts
+pub mod JournalSteps

@@ -1,19 +1,17 @@
 -- The text of an entry is a line of a script.
-use Rattle.std.proofs.Common.{◌≡◌, ◌≤◌, ◌<◌, ◌^◌, ◌+◌, ℕ, true, false, List, [], ◌∷◌, ◌++◌, length, length-append, arith, append_assoc, refl, sym, ap, subst, ◌∙◌, Ok, codes}
+use Rattle.std.proofs.Common.{◌≡◌, ◌≤◌, ◌<◌, ◌^◌, ℕ, true, false, List, [], ◌∷◌, ◌++◌, length, length-append, arith, append_assoc, refl, sym, ap, subst, ◌∙◌, codes}
 use Rattle.std.proofs.lemmas.List.{append-nil}
 use Rattle.std.proofs.lemmas.List.Elements.{All-head, All-tail}
 use Rattle.std.specs.Fmt.{decimal}
 use Rattle.std.specs.List.{AllByRecursion, AllPass}
 use Rattle.hex.specs.Hex.{is_hex_digit}
 use Rattle.hex.proofs.HexLemmas.{decode_of-encode_lower, decode_of-ok}
-use Rattle.hmac_keys.specs.KeyFile.{NamedKey}
-use Rattle.info_rules.specs.Rule.{PlainRule}
 use Rattle.ndn_packets.specs.Writing.{AreOctets}
 use Rattle.forwarder.specs.declared.event.Scope.{Scope}
 use Rattle.forwarder.specs.declared.event.Scope.TheVariants.{Local, Far}
 use Rattle.forwarder.specs.Event.{PlainEvent, Packet, FaceUp, FaceDown, Tick, NewRules, moment}
 use Rattle.node_core.specs.Script.{ended}
-use Rattle.node_core.specs.Script.Line.{HexSpells, IsEventLine, LineSpells, Lacks, scope_word, words}
+use Rattle.node_core.specs.Script.Line.{HexSpells, LineSpells, Lacks, scope_word, words}
 use Rattle.node_core.specs.Script.Writing.{hex_word}
 use Rattle.node_core.proofs.Lists.{Lacks-append, Lacks-from_test}
 use Rattle.node_core.proofs.Numbers.{decimal-Lacks}
@@ -117,7 +115,7 @@ entry_moment now (entry.FaceDown face) event is = ap moment is
 entry_moment now entry.Tick event is = ap moment is
 entry_moment now (entry.NewRules rules keys) event is = ap moment is.4
 
-entry_change : (now : ℕ) (e : Entry) (event : PlainEvent) → IsEventOf now e event → is_change event ≡ is_change_entry e
+pub entry_change : (now : ℕ) (e : Entry) (event : PlainEvent) → IsEventOf now e event → is_change event ≡ is_change_entry e
 entry_change now (entry.Packet face octets) event is = ap is_change is
 entry_change now (entry.FaceUp face scope) event is = ap is_change is
 entry_change now (entry.FaceDown face) event is = ap is_change is

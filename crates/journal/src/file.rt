@@ -1,0 +1,24 @@
+ghost use Rattle.std.specs.Prelude.{ℕ, List, Option, OnErr, OnOk};
+ghost use Rattle.std.specs.Io.KnownBytes.{Appends};
+ghost use Rattle.node_core.specs.Script.Ending.{AppendsFront};
+
+use thiserror::Error;
+
+/// A journal could not be written.
+#[derive(Clone, Copy, Debug, PartialEq, Eq, Error)]
+pub enum FileFault {
+    #[error("the journal cannot be written")]
+    Failed,
+}
+
+/// Where a journal is written: a file that octets are appended to.
+pub trait JournalFile {
+    // The octets of the file that no crash takes, where they are known.
+    ghost synced: { Self → Option (List ℕ) };
+
+    /// Appends octets, and returns once no crash takes them. Where it fails, a front of them may
+    /// have been appended.
+    fn append(&mut self, octets: &[u8]) -> Result<(), FileFault>
+        ensures done { OnOk result (Appends (synced self.old) (synced self.new) octets.now) }
+        ensures cut { OnErr result (AppendsFront (synced self.old) (synced self.new) octets.now) };
+}
