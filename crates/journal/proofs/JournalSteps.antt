@@ -2,16 +2,22 @@
 use Rattle.std.proofs.Common.{◌≡◌, ℕ, Bool, true, false, List, [], ◌∷◌, refl, sym, ap, subst, ◌∙◌}
 use Rattle.std.specs.Prelude.{max}
 use Rattle.forwarder.specs.Event.{PlainEvent, Send, moment}
+use Rattle.std.proofs.Common.{◌++◌}
+use Rattle.std.proofs.lemmas.List.{append-nil}
+use Rattle.forwarder.specs.Policy.{Policy, at_moment}
+use Rattle.forwarder.specs.Runs.{Run, Then, Stands}
 use Rattle.forwarder.specs.Node.{NodeState, IsStep}
 use Rattle.forwarder.specs.Verdict.{Verdict, Passed, Allowed, DataAllowed, Denied, NoRule, Dropped}
 use Rattle.forwarder.proofs.LaterMoments.{after_now}
 use Rattle.journal.specs.declared.line.Entry.{Entry}
-use Rattle.journal.specs.Journal.{with_event, with_moment}
+use Rattle.journal.specs.Journal.{IsJournalOf, with_event, with_moment}
 use Rattle.journal.specs.Line.{IsEventOf, entry_text}
-use Rattle.journal.specs.Saying.{is_journalled_by}
+use Rattle.journal.specs.Saying.{brings_wanted, is_journalled_by}
 use Rattle.journal.specs.Step.{Steps, added_text, is_journalled_entry}
 use Rattle.journal.specs.Text.{IsTextOf}
 use Rattle.journal.proofs.LineTexts.{entry_change, entry_moment, moved_entry}
+use Rattle.journal.proofs.Texts.{texts_join}
+use Rattle.journal.proofs.Verdicts.{step_grows}
 
 by_entry : (now : ℕ) (e : Entry) (event : PlainEvent) (wanted : Bool) (v : Verdict) → IsEventOf now e event → is_journalled_by event wanted v ≡ is_journalled_entry e wanted v
 by_entry now e event wanted Passed is = entry_change now e event is
@@ -47,3 +53,20 @@ module _ (old new : NodeState) (event : PlainEvent) (wanted : Bool) (v : Verdict
     step = step;
     text = subst (λ (c : Bool). IsTextOf (with_event c (with_moment (max old.policy.now (moment event)) event) []) []) (sym (by_entry now e event wanted v is ∙ chosen)) refl;
   }
+
+-- ---- a run's journal and its text
+
+at_end : (chosen : Bool) (event : PlainEvent) (journal : List PlainEvent) → journal ++ with_event chosen event [] ≡ with_event chosen event journal
+at_end true event journal = refl
+at_end false event journal = append-nil journal
+
+pub both_grow : (first : Policy) (past : Run) (old new : NodeState) (event : PlainEvent) (verdict : Verdict) (sends : List Send) (journal : List PlainEvent) (text added : List ℕ) → Stands first past old
+    → IsJournalOf first past journal → IsTextOf journal text → Steps old event (brings_wanted (at_moment old.policy (moment event)) event) verdict sends new added
+    → (longer : List PlainEvent) × IsJournalOf first (Then past event (record { verdict = verdict; sends = sends })) longer × IsTextOf longer (text ++ added)
+both_grow first past old new event verdict sends journal text added stands is lines s =
+    let chosen = is_journalled_by event (brings_wanted (at_moment old.policy (moment event)) event) verdict in
+    let dated = with_moment (max old.policy.now (moment event)) event in (
+      with_event chosen dated journal,
+      step_grows first past old new event (record { verdict = verdict; sends = sends }) journal stands s.step is,
+      subst (λ (events : List PlainEvent). IsTextOf events (text ++ added)) (at_end chosen dated journal) (texts_join journal (with_event chosen dated []) text added lines s.text),
+    )

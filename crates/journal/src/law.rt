@@ -1,13 +1,14 @@
 ghost use Rattle.std.specs.Prelude.{◌≡◌, ◌≤◌, ◌++◌, ℕ, List, Bool, false};
 ghost use Rattle.hmac_keys.specs.KeyFile.{AreApart};
-ghost use Rattle.forwarder.specs.Event.{PlainEvent, moment};
+ghost use Rattle.forwarder.specs.Event.{PlainEvent, Send, moment};
 ghost use Rattle.forwarder.specs.Policy.{Policy, at_moment};
 ghost use Rattle.forwarder.specs.Effects.{IsAfter};
 ghost use Rattle.forwarder.specs.Node.{NodeState, IsStep};
-ghost use Rattle.forwarder.specs.Verdict.{Answer};
+ghost use Rattle.forwarder.specs.Verdict.{Answer, Verdict};
 ghost use Rattle.forwarder.specs.Runs.{Run, Then, IsPolicyOf, KeysAreApart, Stands};
 ghost use Rattle.node_core.specs.Script.{IsScriptSoFar};
 ghost use Rattle.journal.specs.Saying.{brings_wanted, is_journalled_by};
+ghost use Rattle.journal.specs.Step.{Steps};
 ghost use Rattle.journal.specs.Text.{IsCutTextOf, IsTextOf, Survives};
 ghost use Rattle.journal.specs.Journal.{AreOneFrom, IsJournalled, IsJournalOf, KeepsBeginning, events_of, with_event, with_moment};
 
@@ -42,6 +43,16 @@ pub fn journals_grow_by_steps()
         (with_moment p.now event) journal) }
     ensures text { (journal added : List PlainEvent) (text more : List ℕ) → IsTextOf journal text
         → IsTextOf added more → IsTextOf (journal ++ added) (text ++ more) }
+    // So what `Journal::step` adds to the text of a run's journal makes it that of the longer run.
+    ensures both { (first : Policy) (past : Run) (old new : NodeState) (event : PlainEvent)
+        (verdict : Verdict) (sends : List Send) (journal : List PlainEvent) (text added : List ℕ)
+        → Stands first past old → IsJournalOf first past journal → IsTextOf journal text
+        → let wanted = brings_wanted (at_moment old.policy (moment event)) event in
+        Steps old event wanted verdict sends new added
+        → (longer : List PlainEvent)
+        × IsJournalOf first
+        (Then past event (record { verdict = verdict; sends = sends })) longer
+        × IsTextOf longer (text ++ added) }
 {}
 
 /// Law: a run leaves one journal.
