@@ -8,3 +8,4 @@ pub mod Texts
 pub mod Verdicts
 pub mod LineTexts
 pub mod JournalSteps
+pub mod FirstRules

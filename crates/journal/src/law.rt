@@ -1,7 +1,8 @@
-ghost use Rattle.std.specs.Prelude.{◌≡◌, ◌≤◌, ◌++◌, ℕ, List, Bool, false};
-ghost use Rattle.hmac_keys.specs.KeyFile.{AreApart};
-ghost use Rattle.forwarder.specs.Event.{PlainEvent, Send, moment};
-ghost use Rattle.forwarder.specs.Policy.{Policy, at_moment};
+ghost use Rattle.std.specs.Prelude.{◌≡◌, ◌≤◌, ◌∷◌, ◌++◌, ℕ, List, Bool, false};
+ghost use Rattle.hmac_keys.specs.KeyFile.{AreApart, NamedKey};
+ghost use Rattle.info_rules.specs.Rule.{PlainRule};
+ghost use Rattle.forwarder.specs.Event.{PlainEvent, NewRules, Send, moment};
+ghost use Rattle.forwarder.specs.Policy.{Policy, at_moment, with_rules};
 ghost use Rattle.forwarder.specs.Effects.{IsAfter};
 ghost use Rattle.forwarder.specs.Node.{NodeState, IsStep};
 ghost use Rattle.forwarder.specs.Verdict.{Answer, Verdict};
@@ -80,6 +81,14 @@ pub fn journals_keep_policy()
     // The next event that comes at no earlier moment has the same effect.
     ensures next { (p q r : Policy) (event : PlainEvent) → AreOneFrom p.now q p
         → p.now ≤ moment event → IsAfter p event r → IsAfter q event r }
+{}
+
+/// Law: where the first event brings rules and keys, it makes no difference which ones there were
+/// before. So a journal that begins with its rules is replayed alike whatever a node is made of.
+pub fn rules_at_the_start_are_the_first()
+    ensures { (first q : Policy) (r rules : List PlainRule) (k keys : List NamedKey) (now : ℕ)
+        (again : Run) (rest : List PlainEvent) → events_of again ≡ NewRules rules keys now ∷ rest
+        → IsPolicyOf (with_rules first r k) again q → IsPolicyOf first again q }
 {}
 
 /// Law: the first events of a run's journal, which a crash leaves, are the journal of a beginning of

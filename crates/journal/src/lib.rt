@@ -10,7 +10,8 @@ pub use file::{FileFault, JournalFile};
 pub use law::{
     crashes_leave_a_beginning, journal_texts_have_one_reading, journals_are_one,
     journals_grow_by_steps, journals_keep_policy, journals_survive_crashes,
-    other_events_bring_their_moments, verdicts_say_what_is_journalled,
+    other_events_bring_their_moments, rules_at_the_start_are_the_first,
+    verdicts_say_what_is_journalled,
 };
 pub use line::{Entry, LineFault, line_of};
 pub use step::{Coming, Journal, StepFault};
