@@ -86,8 +86,8 @@ abbrev pub events_of : Run → List PlainEvent
 events_of Start = []
 events_of (Then before event answer) = events_of before ++ (event ∷ [])
 
--- From this moment on the two are one. Before it they may differ in now, and in what is due by then:
--- wants, and routes with their count in the version of the lists.
+-- From this moment on the two are one. Before it they may differ in now, and in what is due by
+-- then: wants, and routes with their count in the version of the lists.
 abbrev pub AreOneFrom : ℕ → Policy → Policy → Type 0
 AreOneFrom now p q = (m : ℕ) → now ≤ m → at_moment p m ≡ at_moment q m
 

@@ -9,8 +9,8 @@ use Rattle.journal.specs.Line.{entry_text, is_change_entry}
 use Rattle.journal.specs.Saying.{is_journalled_by}
 use Rattle.journal.specs.Text.{IsTextOf}
 
--- A step was answered, and this text was added to the journal: the line of the event at the greatest
--- moment so far where it is journalled, and else nothing.
+-- A step was answered, and this text was added to the journal: the line of the event at the
+-- greatest moment so far where it is journalled, and else nothing.
 pub record Steps (old : NodeState) (event : PlainEvent) (wanted : Bool) (verdict : Verdict)
     (sends : List Send) (new : NodeState) (added : List ℕ) : Type 0 where
   pub step : IsStep old event (record { verdict = verdict; sends = sends }) new

@@ -91,16 +91,16 @@ pub fn rules_at_the_start_are_the_first()
         → IsPolicyOf (with_rules first r k) again q → IsPolicyOf first again q }
 {}
 
-/// Law: the first events of a run's journal, which a crash leaves, are the journal of a beginning of
-/// the run, and lead to its policy. What had been written whole is in it.
+/// Law: the first events of a run's journal, which a crash leaves, are the journal of a beginning
+/// of the run, and lead to its policy. What had been written whole is in it.
 pub fn crashes_leave_a_beginning()
     ensures { (first p : Policy) (past : Run) (journal left lost : List PlainEvent)
         → KeysAreApart first past → IsPolicyOf first past p → IsJournalOf first past journal
         → journal ≡ left ++ lost → KeepsBeginning first past left }
 {}
 
-/// Law: what may be left of a journal's text has one reading, and it is that of its whole lines as a
-/// script.
+/// Law: what may be left of a journal's text has one reading, and it is that of its whole lines as
+/// a script.
 pub fn journal_texts_have_one_reading()
     ensures script { (text : List ℕ) (events : List PlainEvent) → IsCutTextOf events text
         → IsScriptSoFar text events }

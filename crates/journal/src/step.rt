@@ -102,7 +102,8 @@ impl<F: JournalFile> Journal<F> {
         verdict: Verdict,
     ) -> Result<(), StepFault>
         ensures done { OnOk result (Appends (F.synced self.old.file) (F.synced self.new.file)
-            (added_text (is_journalled_entry coming.now.entry coming.now.is_wanted (verdict_of verdict))
+            (added_text
+            (is_journalled_entry coming.now.entry coming.now.is_wanted (verdict_of verdict))
             time coming.now.entry)) }
         ensures line { OnOk result (is_journalled_entry coming.now.entry coming.now.is_wanted
             (verdict_of verdict) ≡ true → (event : PlainEvent)
