@@ -23,7 +23,8 @@ is_plain_outcome (Ok (NoRule kind)) = false
 is_plain_outcome (Ok (Dropped why)) = false
 is_plain_outcome (Err _) = false
 
--- plain forwarding
+-- what a log leaves out that does not show all: events that passed and Data that were allowed, but
+-- no new rules
 abbrev pub is_plain : Came → Result Verdict Memory → Bool
 is_plain (Packet face octets) outcome = is_plain_outcome outcome
 is_plain (Opened face scope) outcome = is_plain_outcome outcome

@@ -1,5 +1,5 @@
 -- Events in words.
-use Rattle.std.specs.Prelude.{ℕ, List, ◌++◌, codes, Option, Result}
+use Rattle.std.specs.Prelude.{ℕ, List, [], ◌++◌, codes, Option, Result}
 use Rattle.std.specs.declared.net.socket_addr.SocketAddr.{SocketAddr}
 use Rattle.ndn_tlv.specs.declared.memory.Memory.{Memory}
 use Rattle.ndn_packets.specs.Packet.{PlainFrame}
@@ -12,7 +12,7 @@ use Rattle.ndn_log.specs.declared.entry.Came.TheVariants.{Packet, Opened, Closed
 use Rattle.ndn_log.specs.declared.entry.Entry.{Entry}
 use Rattle.ndn_log.specs.Entry.{octets_in}
 use Rattle.ndn_log.specs.Packet.{frame_in, packet_words}
-use Rattle.ndn_log.specs.Verdict.{outcome_words}
+use Rattle.ndn_log.specs.Verdict.{dropped_words, outcome_words}
 use Rattle.ndn_log.specs.Words.{face_words}
 
 abbrev pub scope_word : code_scope.Scope → List ℕ
@@ -24,15 +24,22 @@ abbrev pub came_words : Option SocketAddr → Option PlainFrame → Came → Lis
 came_words endpoint frame (Packet face octets) =
     face_words face endpoint ++ (codes " " ++ packet_words frame)
 came_words endpoint frame (Opened face scope) =
-    face_words face endpoint ++ (codes " opened, " ++ scope_word scope)
-came_words endpoint frame (Closed face) = face_words face endpoint ++ codes " closed"
+    face_words face endpoint ++ (codes " opens, " ++ scope_word scope)
+came_words endpoint frame (Closed face) = face_words face endpoint ++ codes " closes"
 came_words endpoint frame Tick = codes "tick"
 came_words endpoint frame NewRules = codes "rules replaced"
+
+-- the octets of a packet that was dropped; nothing where no packet came
+abbrev pub end_words : Came → Result code.Verdict Memory → List ℕ
+end_words (Packet face octets) outcome = dropped_words octets.now outcome
+end_words (Opened face scope) outcome = []
+end_words (Closed face) outcome = []
+end_words Tick outcome = []
+end_words NewRules outcome = []
 
 -- what came, and what became of it by these rules
 abbrev pub event_words : List PlainRule → Entry → Result code.Verdict Memory → List ℕ
 event_words rules entry outcome =
-    let octets = octets_in entry.came in
-    let frame = frame_in octets in
+    let frame = frame_in (octets_in entry.came) in
     came_words entry.endpoint frame entry.came
-    ++ (codes ": " ++ outcome_words rules octets frame outcome)
+    ++ (codes ": " ++ (outcome_words rules frame outcome ++ end_words entry.came outcome))

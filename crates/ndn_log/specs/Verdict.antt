@@ -1,37 +1,33 @@
 -- Verdicts in words.
-use Rattle.std.specs.Prelude.{ℕ, List, ◌++◌, codes, Option, Result, Ok, Err}
+use Rattle.std.specs.Prelude.{ℕ, List, [], ◌++◌, codes, Option, Result, Ok, Err}
 use Rattle.std.specs.Fmt.{decimal}
 use Rattle.ndn_tlv.specs.declared.memory.Memory.{Memory}
-use Rattle.ndn_packets.specs.declared.fault.PacketFault.{PacketFault}
 use Rattle.ndn_packets.specs.FaultName.{packet_name}
 use Rattle.ndn_packets.specs.Packet.{PlainFrame}
 use Rattle.info_rules.specs.declared.decision.Reason.{Reason}
 use Rattle.info_rules.specs.Names.{reason_name}
 use Rattle.info_rules.specs.Rule.{PlainRule}
 use Rattle.forwarder.specs.declared.verdict.Verdict as code
+use Rattle.forwarder.specs.declared.verdict.Verdict.TheVariants as outcomes
 use Rattle.forwarder.specs.Commands.{id_of}
 use Rattle.forwarder.specs.Verdict.{DropReason, NoFace, Malformed, Idle, HopLimit, Scope, Loop, PitFull, NoPending, NoSegment, BadFace, FaceOpen, FacesFull, Verdict, Passed, Allowed, DataAllowed, Denied, NoRule, Dropped, verdict_of}
 use Rattle.ndn_log.specs.Packet.{key_words}
 use Rattle.ndn_log.specs.Words.{octets_words}
 
--- what is wrong with octets, and how they begin
-abbrev pub fault_words : List ℕ → PacketFault → List ℕ
-fault_words octets fault =
-    codes "Malformed " ++ (packet_name fault ++ (codes ", " ++ octets_words octets))
-
-abbrev pub drop_words : List ℕ → DropReason → List ℕ
-drop_words octets NoFace = codes "NoFace"
-drop_words octets (Malformed fault) = fault_words octets fault
-drop_words octets Idle = codes "Idle"
-drop_words octets HopLimit = codes "HopLimit"
-drop_words octets Scope = codes "Scope"
-drop_words octets Loop = codes "Loop"
-drop_words octets PitFull = codes "PitFull"
-drop_words octets NoPending = codes "NoPending"
-drop_words octets NoSegment = codes "NoSegment"
-drop_words octets BadFace = codes "BadFace"
-drop_words octets FaceOpen = codes "FaceOpen"
-drop_words octets FacesFull = codes "FacesFull"
+-- why an event was dropped; of malformed octets with what is wrong with them
+abbrev pub drop_words : DropReason → List ℕ
+drop_words NoFace = codes "NoFace"
+drop_words (Malformed fault) = codes "Malformed " ++ packet_name fault
+drop_words Idle = codes "Idle"
+drop_words HopLimit = codes "HopLimit"
+drop_words Scope = codes "Scope"
+drop_words Loop = codes "Loop"
+drop_words PitFull = codes "PitFull"
+drop_words NoPending = codes "NoPending"
+drop_words NoSegment = codes "NoSegment"
+drop_words BadFace = codes "BadFace"
+drop_words FaceOpen = codes "FaceOpen"
+drop_words FacesFull = codes "FacesFull"
 
 -- the rule that denies a packet, and the reason
 abbrev pub denial_words : List PlainRule → ℕ → Reason → List ℕ
@@ -39,18 +35,26 @@ denial_words rules rule reason =
     codes "denied by rule " ++ (id_of rules rule ++ (codes ", " ++ reason_name reason))
 
 -- Rules stand by their ids. A denial ends with the key that the packet names.
-abbrev pub verdict_words : List PlainRule → List ℕ → Option PlainFrame → Verdict → List ℕ
-verdict_words rules octets frame Passed = codes "passed"
-verdict_words rules octets frame (Allowed rule status) =
+abbrev pub verdict_words : List PlainRule → Option PlainFrame → Verdict → List ℕ
+verdict_words rules frame Passed = codes "passed"
+verdict_words rules frame (Allowed rule status) =
     codes "allowed by rule " ++ (id_of rules rule ++ (codes ", status " ++ decimal status))
-verdict_words rules octets frame (DataAllowed rule) = codes "allowed by rule " ++ id_of rules rule
-verdict_words rules octets frame (Denied kind rule reason) =
+verdict_words rules frame (DataAllowed rule) = codes "allowed by rule " ++ id_of rules rule
+verdict_words rules frame (Denied kind rule reason) =
     denial_words rules rule reason ++ key_words frame
-verdict_words rules octets frame (NoRule kind) = codes "denied, no rule applies" ++ key_words frame
-verdict_words rules octets frame (Dropped why) = codes "dropped, " ++ drop_words octets why
+verdict_words rules frame (NoRule kind) = codes "denied, no rule applies" ++ key_words frame
+verdict_words rules frame (Dropped why) = codes "dropped, " ++ drop_words why
 
-abbrev pub outcome_words : List PlainRule → List ℕ → Option PlainFrame
-    → Result code.Verdict Memory → List ℕ
-outcome_words rules octets frame (Ok verdict) =
-    verdict_words rules octets frame (verdict_of verdict)
-outcome_words rules octets frame (Err _) = codes "out of memory"
+abbrev pub outcome_words : List PlainRule → Option PlainFrame → Result code.Verdict Memory → List ℕ
+outcome_words rules frame (Ok verdict) = verdict_words rules frame (verdict_of verdict)
+outcome_words rules frame (Err _) = codes "out of memory"
+
+-- the octets of a packet that was dropped; nothing of one that was not
+abbrev pub dropped_words : List ℕ → Result code.Verdict Memory → List ℕ
+dropped_words octets (Ok outcomes.Passed) = []
+dropped_words octets (Ok (outcomes.Allowed rule status)) = []
+dropped_words octets (Ok (outcomes.DataAllowed rule)) = []
+dropped_words octets (Ok (outcomes.Denied kind rule reason)) = []
+dropped_words octets (Ok (outcomes.NoRule kind)) = []
+dropped_words octets (Ok (outcomes.Dropped why)) = codes ", " ++ octets_words octets
+dropped_words octets (Err _) = []

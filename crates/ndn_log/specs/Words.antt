@@ -4,7 +4,7 @@ use Rattle.std.specs.Fmt.{decimal}
 use Rattle.std.specs.Net.Text.{socket_text}
 use Rattle.std.specs.declared.net.socket_addr.SocketAddr.{SocketAddr}
 use Rattle.hex.specs.Hex.{encode_lower}
-use Rattle.ndn_log.specs.declared.words.TheConstants.{SHOWN_OCTETS}
+use Rattle.ndn_log.specs.declared.words.TheConstants.{CUT_OCTETS, SHOWN_OCTETS}
 
 -- with the endpoint of the face, where it is known
 abbrev pub face_words : ℕ → Option SocketAddr → List ℕ
@@ -25,6 +25,11 @@ beginning_words [] = []
 beginning_words (o ∷ octets) =
     codes " beginning " ++ encode_lower (take SHOWN_OCTETS (o ∷ octets))
 
+-- a packet of more than 9,000 octets comes cut to 9,001
+abbrev pub more_words : ℕ → List ℕ
+more_words count = if count == CUT_OCTETS then codes " or more" else []
+
 -- how many octets there are, and the first 32
 abbrev pub octets_words : List ℕ → List ℕ
-octets_words octets = counted (length octets) (codes "octet") ++ beginning_words octets
+octets_words octets =
+    counted (length octets) (codes "octet") ++ (more_words (length octets) ++ beginning_words octets)

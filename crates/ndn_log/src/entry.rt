@@ -32,8 +32,8 @@ pub struct Entry<'a> {
     pub came: Came<'a>,
 }
 
-/// Whether an event was plain forwarding, which a log may leave out: it passed, or a Data was
-/// allowed. New rules never are.
+/// Whether a log that does not show all leaves this out: events that passed and Data that were
+/// allowed, but no new rules.
 pub fn is_plain(entry: &Entry<'_>, outcome: &Result<Verdict, Memory>) -> bool
     ensures { result ≡ is_plain entry.now.came outcome.now }
 {

@@ -2,13 +2,13 @@
 
 ghost use Rattle.std.specs.Prelude.{◌≡◌, ◌++◌, drop, vec_len, option_map, IfOk, OnErr, OnOk};
 ghost use Rattle.ndn_packets.specs.View.{plain_frame};
-ghost use Rattle.ndn_log.specs.Event.{came_words, event_words, scope_word};
+ghost use Rattle.ndn_log.specs.Event.{came_words, end_words, event_words, scope_word};
 ghost use Rattle.ndn_log.specs.Line.{IsLogged, IsOneLine};
 
 use crate::entry::{Came, Entry, octets_in};
 use crate::line::put_line;
 use crate::packet::{frame_in, put_packet};
-use crate::verdict::put_outcome;
+use crate::verdict::{put_dropped, put_outcome};
 use crate::words::{put_face, put_word};
 use forwarder::{Scope, Verdict};
 use info_rules::Rules;
@@ -17,8 +17,8 @@ use ndn_tlv::Memory;
 use std::alloc::Global;
 
 /// Appends the line of an event: its time, the face and the endpoint, what came with the packet's
-/// name, and what became of it, by the rules in force. Where memory is refused, nothing is
-/// appended.
+/// name, and what became of it, by the rules in force, with the octets of a packet that was
+/// dropped. Where memory is refused, nothing is appended.
 pub fn put_event(
     alloc: Global,
     text: &mut Vec<u8>,
@@ -44,13 +44,30 @@ fn event_words(
 ) -> Result<Vec<u8>, Memory>
     ensures { IfOk result (λ words. words.items ≡ event_words rules.now entry.now outcome.now) }
 {
-    let octets = octets_in(entry);
-    let frame = frame_in(octets);
+    let frame = frame_in(octets_in(entry));
     let mut words = Vec::new(alloc);
     put_came(&mut words, entry, &frame)?;
     put_word(&mut words, ": ")?;
-    put_outcome(alloc, &mut words, rules, octets, &frame, outcome)?;
+    put_outcome(&mut words, rules, &frame, outcome)?;
+    put_end(alloc, &mut words, entry, outcome)?;
     Ok(words)
+}
+
+/// Appends the octets of a packet that was dropped, or nothing. After `Memory` some of it may have
+/// been appended.
+fn put_end(
+    alloc: Global,
+    text: &mut Vec<u8>,
+    entry: &Entry<'_>,
+    outcome: &Result<Verdict, Memory>,
+) -> Result<(), Memory>
+    ensures { OnOk result (text.new.items ≡ text.old.items
+        ++ end_words entry.now.came outcome.now) }
+{
+    match entry.came {
+        Came::Packet { octets, .. } => put_dropped(alloc, text, octets, outcome),
+        _ => Ok(()),
+    }
 }
 
 /// Appends what came, with what its octets are. After `Memory` some of it may have been appended.
@@ -66,12 +83,12 @@ fn put_came(text: &mut Vec<u8>, entry: &Entry<'_>, frame: &Option<Frame<'_>>) ->
         }
         Came::Opened { face, scope } => {
             put_face(text, face, entry.endpoint)?;
-            put_word(text, " opened, ")?;
+            put_word(text, " opens, ")?;
             put_word(text, scope_word(scope))
         }
         Came::Closed { face } => {
             put_face(text, face, entry.endpoint)?;
-            put_word(text, " closed")
+            put_word(text, " closes")
         }
         Came::Tick => put_word(text, "tick"),
         Came::NewRules => put_word(text, "rules replaced"),

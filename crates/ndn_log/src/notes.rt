@@ -46,8 +46,8 @@ pub fn put_closed_idle(
     put_line(alloc, text, moment, &words)
 }
 
-/// Appends a line of how many datagrams came from ports that have no face and get none. Where
-/// memory is refused, nothing is appended.
+/// Appends a line of how many datagrams of strangers were dropped: endpoints that are no peers.
+/// Where memory is refused, nothing is appended.
 pub fn put_strangers(
     alloc: Global,
     text: &mut Vec<u8>,

@@ -1,7 +1,7 @@
 //! Lines as people read them.
 
 use super::*;
-use forwarder::{DropReason, Verdict};
+use forwarder::{DropReason, Scope, Verdict};
 use info_rules::{InfoTree, Kind, Reason, RuleNo, Rules};
 use ndn_packets::PacketFault;
 use std::alloc::Global;
@@ -12,6 +12,9 @@ const MOMENT: u64 = 1_795_817_400_123;
 
 /// A Nack of reason 150 for the Interest `/a`.
 const NACK: &str = "6418fd032005fd03210196500d050b07030801610a0401020304";
+
+/// The Interest `/a`.
+const INTEREST: &str = "050b07030801610a0401020304";
 
 /// The Data `/a`, whose KeyLocator is the name `/k`.
 const DATA: &str = "06150703080161160a1b01041c05070308016b1702abcd";
@@ -35,24 +38,54 @@ const RULES: &str = "rule
 
 /// Whether this is the line of a packet on face 2, of 192.0.2.7:6363, with a verdict.
 fn is_line(alloc: Global, packet: &str, verdict: Verdict, line: &str) -> bool {
-    shown(alloc, packet, verdict).is_some_and(|text| text.as_slice() == line.as_bytes())
-}
-
-fn shown(alloc: Global, packet: &str, verdict: Verdict) -> Option<Vec<u8>> {
-    let tree = InfoTree::read(alloc, RULES).ok()?;
-    let rules = Rules::read(alloc, &tree).ok()?;
-    let octets = hex::decode(alloc, packet).ok()?;
-    let entry = Entry {
-        moment: MOMENT,
-        endpoint: Some(SocketAddr::V4(SocketAddrV4::new(Ipv4Addr::new(192, 0, 2, 7), 6363))),
-        came: Came::Packet {
+    let Ok(octets) = hex::decode(alloc, packet) else {
+        return false;
+    };
+    is_event_line(
+        alloc,
+        Came::Packet {
             face: 2,
             octets: &octets,
         },
+        verdict,
+        line,
+    )
+}
+
+/// The same of what came at that endpoint.
+fn is_event_line(alloc: Global, came: Came<'_>, verdict: Verdict, line: &str) -> bool {
+    shown(alloc, came, verdict).is_some_and(|text| text.as_slice() == line.as_bytes())
+}
+
+fn shown(alloc: Global, came: Came<'_>, verdict: Verdict) -> Option<Vec<u8>> {
+    let tree = InfoTree::read(alloc, RULES).ok()?;
+    let rules = Rules::read(alloc, &tree).ok()?;
+    let entry = Entry {
+        moment: MOMENT,
+        endpoint: Some(SocketAddr::V4(SocketAddrV4::new(Ipv4Addr::new(192, 0, 2, 7), 6363))),
+        came,
     };
     let mut text = Vec::new(alloc);
     put_event(alloc, &mut text, &entry, &Ok(verdict), &rules).ok()?;
     Some(text)
+}
+
+/// Whether the line of a packet that is too long says that it may be longer than what is left of it.
+fn says_more(alloc: Global) -> bool {
+    let Ok(octets) = vec![in alloc; 5; 9_001] else {
+        return false;
+    };
+    is_event_line(
+        alloc,
+        Came::Packet {
+            face: 2,
+            octets: &octets,
+        },
+        Verdict::Dropped(DropReason::Malformed(PacketFault::TooLong)),
+        "2026-11-27T22:10:00.123Z face 2 192.0.2.7:6363 packet: dropped, Malformed TooLong, \
+         9001 octets or more beginning \
+         0505050505050505050505050505050505050505050505050505050505050505\n",
+    )
 }
 
 /// The lines of faces that closed at the last moment that has a date and at the next, of a failed
@@ -101,6 +134,27 @@ fn lines_of_events(rt: HostRuntime) {
             Verdict::Dropped(DropReason::Malformed(PacketFault::BadField)),
             "2026-11-27T22:10:00.123Z face 2 192.0.2.7:6363 packet: dropped, Malformed BadField, \
          40 octets beginning 0501ffffffffffffffffffffffffffffffffffffffffffffffffffffffffffff\n",
+        )
+    );
+    assert!(rt;
+        is_line(
+            alloc,
+            INTEREST,
+            Verdict::Dropped(DropReason::PitFull),
+            "2026-11-27T22:10:00.123Z face 2 192.0.2.7:6363 Interest /a: dropped, PitFull, \
+         13 octets beginning 050b07030801610a0401020304\n",
+        )
+    );
+    assert!(rt; says_more(alloc));
+    assert!(rt;
+        is_event_line(
+            alloc,
+            Came::Opened {
+                face: 65,
+                scope: Scope::Far,
+            },
+            Verdict::Dropped(DropReason::FacesFull),
+            "2026-11-27T22:10:00.123Z face 65 192.0.2.7:6363 opens, far: dropped, FacesFull\n",
         )
     );
 }

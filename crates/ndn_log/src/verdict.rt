@@ -3,13 +3,13 @@
 ghost use Rattle.std.specs.Prelude.{◌≡◌, ◌++◌, OnOk, option_map};
 ghost use Rattle.ndn_packets.specs.View.{plain_frame};
 ghost use Rattle.forwarder.specs.Verdict.{reason_of, verdict_of};
-ghost use Rattle.ndn_log.specs.Verdict.{denial_words, drop_words, fault_words, outcome_words, verdict_words};
+ghost use Rattle.ndn_log.specs.Verdict.{denial_words, drop_words, dropped_words, outcome_words, verdict_words};
 
 use crate::packet::put_key;
 use crate::words::{put_octets, put_word};
 use forwarder::{DropReason, Verdict, id_of};
 use info_rules::{Reason, RuleNo, Rules};
-use ndn_packets::{Frame, PacketFault};
+use ndn_packets::Frame;
 use ndn_tlv::Memory;
 use std::alloc::Global;
 use std::io::Write;
@@ -17,31 +17,47 @@ use std::io::Write;
 /// Appends what became of an event, with what its octets are. After `Memory` some of it may have
 /// been appended.
 pub fn put_outcome(
-    alloc: Global,
     text: &mut Vec<u8>,
     rules: &Rules,
-    octets: &[u8],
     frame: &Option<Frame<'_>>,
     outcome: &Result<Verdict, Memory>,
 ) -> Result<(), Memory>
-    ensures { OnOk result (text.new.items ≡ text.old.items ++ outcome_words rules.now octets.now
+    ensures { OnOk result (text.new.items ≡ text.old.items ++ outcome_words rules.now
         (option_map plain_frame frame.now) outcome.now) }
 {
     match outcome {
-        Ok(verdict) => put_verdict(alloc, text, rules, octets, frame, *verdict),
+        Ok(verdict) => put_verdict(text, rules, frame, *verdict),
         Err(_) => put_word(text, "out of memory"),
     }
 }
 
-fn put_verdict(
+/// Appends the octets of a packet that was dropped, after a comma; nothing of one that was not.
+/// After `Memory` some of it may have been appended.
+pub fn put_dropped(
     alloc: Global,
     text: &mut Vec<u8>,
-    rules: &Rules,
     octets: &[u8],
+    outcome: &Result<Verdict, Memory>,
+) -> Result<(), Memory>
+    ensures { OnOk result (text.new.items ≡ text.old.items
+        ++ dropped_words octets.now outcome.now) }
+{
+    match outcome {
+        Ok(Verdict::Dropped(_)) => {
+            put_word(text, ", ")?;
+            put_octets(alloc, text, octets)
+        }
+        _ => Ok(()),
+    }
+}
+
+fn put_verdict(
+    text: &mut Vec<u8>,
+    rules: &Rules,
     frame: &Option<Frame<'_>>,
     verdict: Verdict,
 ) -> Result<(), Memory>
-    ensures { OnOk result (text.new.items ≡ text.old.items ++ verdict_words rules.now octets.now
+    ensures { OnOk result (text.new.items ≡ text.old.items ++ verdict_words rules.now
         (option_map plain_frame frame.now) (verdict_of verdict)) }
 {
     match verdict {
@@ -67,7 +83,7 @@ fn put_verdict(
         }
         Verdict::Dropped(reason) => {
             put_word(text, "dropped, ")?;
-            put_drop(alloc, text, octets, reason)
+            put_drop(text, reason)
         }
     }
 }
@@ -85,18 +101,14 @@ fn put_denial(text: &mut Vec<u8>, rules: &Rules, rule: RuleNo, reason: Reason) -
     .map_err(|_| Memory)
 }
 
-fn put_drop(
-    alloc: Global,
-    text: &mut Vec<u8>,
-    octets: &[u8],
-    reason: DropReason,
-) -> Result<(), Memory>
-    ensures { OnOk result (text.new.items ≡ text.old.items
-        ++ drop_words octets.now (reason_of reason)) }
+fn put_drop(text: &mut Vec<u8>, reason: DropReason) -> Result<(), Memory>
+    ensures { OnOk result (text.new.items ≡ text.old.items ++ drop_words (reason_of reason)) }
 {
     match reason {
         DropReason::NoFace => put_word(text, "NoFace"),
-        DropReason::Malformed(fault) => put_fault(alloc, text, octets, fault),
+        DropReason::Malformed(fault) => {
+            write!(text, "Malformed {}", fault.name()).map_err(|_| Memory)
+        }
         DropReason::Idle => put_word(text, "Idle"),
         DropReason::HopLimit => put_word(text, "HopLimit"),
         DropReason::Scope => put_word(text, "Scope"),
@@ -108,16 +120,4 @@ fn put_drop(
         DropReason::FaceOpen => put_word(text, "FaceOpen"),
         DropReason::FacesFull => put_word(text, "FacesFull"),
     }
-}
-
-fn put_fault(
-    alloc: Global,
-    text: &mut Vec<u8>,
-    octets: &[u8],
-    fault: PacketFault,
-) -> Result<(), Memory>
-    ensures { OnOk result (text.new.items ≡ text.old.items ++ fault_words octets.now fault) }
-{
-    write!(text, "Malformed {}, ", fault.name()).map_err(|_| Memory)?;
-    put_octets(alloc, text, octets)
 }

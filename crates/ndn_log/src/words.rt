@@ -1,8 +1,9 @@
 //! Faces, counts and octets in words.
 
 ghost use Rattle.std.specs.Prelude.{◌≡◌, ◌++◌, OnOk, take};
-ghost use Rattle.ndn_log.specs.Words.{beginning_words, counted, face_words, octets_words, plural_of};
+ghost use Rattle.ndn_log.specs.Words.{beginning_words, counted, face_words, more_words, octets_words, plural_of};
 
+use ndn_packets::MAX_FRAME;
 use ndn_tlv::Memory;
 use std::alloc::Global;
 use std::io::Write;
@@ -10,6 +11,9 @@ use std::net::SocketAddr;
 
 /// How many octets of a packet a line shows.
 const SHOWN_OCTETS: usize = 32;
+
+/// What is left of a packet that is longer than a frame may be: one octet more than that.
+const CUT_OCTETS: usize = MAX_FRAME + 1;
 
 /// Appends a word, or nothing.
 pub fn put_word(text: &mut Vec<u8>, word: &str) -> Result<(), Memory>
@@ -43,13 +47,20 @@ fn plural_of(count: u64) -> &'static str
     if count == 1 { "" } else { "s" }
 }
 
-/// Appends the number of octets, and the first 32 of them. After `Memory` some of it may have been
-/// appended.
+/// Appends the number of octets, and the first 32 of them. Of 9,001 octets it says that there may be
+/// more, since a longer packet comes cut to that. After `Memory` some of it may have been appended.
 pub fn put_octets(alloc: Global, text: &mut Vec<u8>, octets: &[u8]) -> Result<(), Memory>
     ensures { OnOk result (text.new.items ≡ text.old.items ++ octets_words octets.now) }
 {
     put_count(text, octets.len() as u64, "octet")?;
+    put_word(text, more_of(octets.len()))?;
     put_beginning(alloc, text, octets)
+}
+
+fn more_of(count: usize) -> &'static str
+    ensures { result.now ≡ more_words count }
+{
+    if count == CUT_OCTETS { " or more" } else { "" }
 }
 
 fn put_beginning(alloc: Global, text: &mut Vec<u8>, octets: &[u8]) -> Result<(), Memory>
