@@ -224,15 +224,19 @@ impl<S: LogSink> EventLog<S> {
         self.text.clear();
     }
 
-    /// Writes the lines, where there are many, or the first waits for a second at this moment.
-    pub fn write_old(&mut self, moment: u64) {
+    /// Notes the moment of the lines that follow, where all lines were written.
+    pub fn begin(&mut self, moment: u64)
+        ensures { self.new.text ≡ self.old.text }
+    {
         if self.text.is_empty() {
             self.since = moment;
-        } else if self.text.len() >= MOST_GATHERED
-            || moment.abs_diff(self.since) >= WAIT_MILLISECONDS
-        {
+        }
+    }
+
+    /// Writes the lines, where there are many, or the first waits for a second at this moment.
+    pub fn write_old(&mut self, moment: u64) {
+        if self.text.len() >= MOST_GATHERED || moment.abs_diff(self.since) >= WAIT_MILLISECONDS {
             self.write_out();
-            self.since = moment;
         }
     }
 }

@@ -118,6 +118,7 @@ impl<P: Ports + HasEndpoints + Drop, S: LogSink> LoggedPorts<P, S> {
             endpoint,
             came,
         };
+        self.log.begin(self.moment);
         self.log.put_event(&entry, &outcome, rules);
         self.log.put_later();
         self.log.put_counts(self.moment, self.ports.strangers());

@@ -1,5 +1,7 @@
 //! The log of a node on a port.
 
+ghost use Rattle.std.specs.Prelude.{None};
+
 use super::ports::node_of;
 use super::udp::{Still, free_port};
 use ndn_daemon::{EventLog, LogSink, LoggedPorts};
