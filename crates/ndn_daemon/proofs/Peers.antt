@@ -5,6 +5,7 @@ use Rattle.std.specs.declared.net.socket_addr.SocketAddr.{SocketAddr}
 use Rattle.std.specs.contracts.net.socket_addr.SocketAddrPartialEq.TheImpl as socket
 use Rattle.std.proofs.Math.ListN.{get_or-append}
 use Rattle.std.proofs.lemmas.List.{ext_get_or}
+use Rattle.std.proofs.lemmas.Option.{get_or_from_slice_get, slice_get-get_or, slice_get_within}
 use Rattle.std.proofs.Math.Seq.{get_or-append_seam}
 use Rattle.std.proofs.lemmas.List.Quantifiers.{all_pairs_push}
 use Rattle.pit_fib.specs.declared.faces.TheConstants.{MAX_FACES}
@@ -22,12 +23,30 @@ pub record SoFar (texts : List (List ℕ)) (i : ℕ) (endpoints : List SocketAdd
   pub spelled : (k : ℕ) (d : SocketAddr) → k < i → IsEndpoint (slice_index_or texts k []) (slice_index_or endpoints k d)
   pub different : AllPairs (λ a b. a ≢ b) endpoints
 
+-- all texts and their endpoints
+pub all_spelled : (texts : List (List ℕ)) (endpoints : List SocketAddr) → SoFar texts (length texts) endpoints → length texts ≤ MAX_FACES → AreEndpoints texts endpoints
+all_spelled texts endpoints so few = record {
+  many = so.many;
+  spelled = λ k text endpoint is_text is_endpoint.
+      subst (λ t. IsEndpoint t endpoint) (get_or_from_slice_get texts k text [] is_text)
+      (subst (IsEndpoint (slice_index_or texts k [])) (get_or_from_slice_get endpoints k endpoint endpoint is_endpoint)
+      (so.spelled k endpoint (slice_get_within texts k text is_text)));
+  few = few;
+  different = so.different;
+}
+
+-- a text at a place, and its endpoint
+spelled_at : (texts : List (List ℕ)) (endpoints : List SocketAddr) → AreEndpoints texts endpoints → (k : ℕ) (d : SocketAddr) → k < length texts
+    → IsEndpoint (slice_index_or texts k []) (slice_index_or endpoints k d)
+spelled_at texts endpoints are k d inside =
+    are.spelled k (slice_index_or texts k []) (slice_index_or endpoints k d) (slice_get-get_or texts k [] inside) (slice_get-get_or endpoints k d (omega (arith, inside, are.many)))
+
 -- the same texts spell the same endpoints
 pub same_endpoints : (d : SocketAddr) (texts : List (List ℕ)) (a b : List SocketAddr) → AreEndpoints texts a → AreEndpoints texts b → a ≡ b
 same_endpoints d texts a b first second =
     ext_get_or d a b (first.many ∙ sym second.many)
     (λ k inside. let below : k < length texts = omega (arith, inside, first.many) in
-    one_endpoint (slice_index_or texts k []) _ _ (first.spelled k d below) (second.spelled k d below))
+    one_endpoint (slice_index_or texts k []) _ _ (spelled_at texts a first k d below) (spelled_at texts b second k d below))
 
 pub same_endpoint : (text : Option (List ℕ)) (a b : SocketAddr) → Has text IsEndpoint a → Has text IsEndpoint b → a ≡ b
 same_endpoint None a b first second = absurd first
@@ -47,7 +66,7 @@ same_local texts a b held d first second holds text local h = subst (λ ps. IsLo
 module _ (texts : List (List ℕ)) (i : ℕ) (text : List ℕ) (is : (d : List ℕ) → slice_index_or texts i d ≡ text) (inside : i < length texts) where
   -- the endpoint that the text spells where all texts spell endpoints
   pub endpoint_at : (endpoints : List SocketAddr) → AreEndpoints texts endpoints → (e : SocketAddr) × IsEndpoint text e
-  endpoint_at endpoints are = let d = some_item endpoints (omega (arith, are.many, inside)) in (slice_index_or endpoints i d, subst (λ t. IsEndpoint t (slice_index_or endpoints i d)) (is []) (are.spelled i d inside))
+  endpoint_at endpoints are = let d = some_item endpoints (omega (arith, are.many, inside)) in (slice_index_or endpoints i d, subst (λ t. IsEndpoint t (slice_index_or endpoints i d)) (is []) (spelled_at texts endpoints are i d inside))
 
   -- an endpoint that was spelled before
   pub twice : (e : SocketAddr) (so_far : List SocketAddr) → SoFar texts i so_far → IsEndpoint text e
@@ -57,9 +76,9 @@ module _ (texts : List (List ℕ)) (i : ℕ) (text : List ℕ) (is : (d : List �
       let k = found.0 in
       let below : k < i = omega (arith, found.1, so.many) in
       let first : slice_index_or endpoints k e ≡ e =
-      one_endpoint (slice_index_or texts k []) _ _ (are.spelled k e (omega (arith, below, inside))) (so.spelled k e below) ∙ same_socket _ _ (found.2 e) in
+      one_endpoint (slice_index_or texts k []) _ _ (spelled_at texts endpoints are k e (omega (arith, below, inside))) (so.spelled k e below) ∙ same_socket _ _ (found.2 e) in
       let second : slice_index_or endpoints i e ≡ e =
-      one_endpoint text _ _ (subst (λ t. IsEndpoint t (slice_index_or endpoints i e)) (is []) (are.spelled i e inside)) spells in
+      one_endpoint text _ _ (subst (λ t. IsEndpoint t (slice_index_or endpoints i e)) (is []) (spelled_at texts endpoints are i e inside)) spells in
       are.different k i e below (omega (arith, are.many, inside)) (first ∙ sym second)
 
   -- an endpoint that was not
@@ -76,7 +95,7 @@ module _ (texts : List (List ℕ)) (i : ℕ) (text : List ℕ) (is : (d : List �
   }
 
 pub no_endpoints : AreEndpoints [] []
-no_endpoints = record { many = refl; spelled = λ k d h. absurd (omega (arith, h)); few = omega arith; different = λ i j d less h. absurd (omega (arith, h)) }
+no_endpoints = all_spelled [] [] (record { many = refl; spelled = λ k d h. absurd (omega (arith, h)); different = λ i j d less h. absurd (omega (arith, h)) }) (omega arith)
 
 pub few_endpoints : (texts : List (List ℕ)) (endpoints : List SocketAddr) → AreEndpoints texts endpoints → length endpoints ≤ MAX_FACES
 few_endpoints texts endpoints are = subst (λ (n : ℕ). n ≤ MAX_FACES) (sym are.many) are.few

@@ -9,14 +9,16 @@ use Rattle.info_rules.specs.declared.fault.RulesFaultKind.TheVariants as rules
 
 -- at line 0 the file is not UTF-8
 unfoldable pub advice_on_rules : ℕ → RulesFaultKind → List ℕ
-advice_on_rules zero rules.Syntax = codes "the file is not UTF-8 text"
+advice_on_rules zero rules.Syntax = codes "the file is not UTF-8 text: write it in UTF-8 or ASCII"
 advice_on_rules (suc line) rules.Syntax =
-    codes "a word or brace stands where none may, or a quote or block is not closed"
+    codes "a word, quote or brace is wrong: lines are KEY, KEY VALUE, { or }; close each quote and each {"
 advice_on_rules line rules.TooDeep = codes "blocks may nest at most 8 deep"
 advice_on_rules line rules.TooLarge =
     codes "at most 65536 octets, 256 rules, and 16 filters and 16 checkers in a rule are allowed"
-advice_on_rules line rules.UnknownKey = codes "no key of this name may stand in this block"
-advice_on_rules line rules.Missing = codes "the block of this key lacks a key that it needs"
+advice_on_rules line rules.UnknownKey =
+    codes "no key of this name may stand in this block: docs/RULES.md lists them"
+advice_on_rules line rules.Missing =
+    codes "this block lacks a key, as a rule its id or for, or a checker its type: see docs/RULES.md"
 advice_on_rules line rules.BadValue =
     codes "the value or block of this key is wrong or missing, or it cannot stand beside another key"
 advice_on_rules line rules.TwiceNamed =
@@ -29,11 +31,12 @@ advice_on_rules line rules.Memory = codes "out of memory"
 
 -- the same of a key file
 unfoldable pub advice_on_keys : KeyFault → List ℕ
-advice_on_keys (keys.BadLine zero) = codes "the file is not UTF-8 text"
+advice_on_keys (keys.BadLine zero) = codes "the file is not UTF-8 text: write it in UTF-8 or ASCII"
 advice_on_keys (keys.BadLine (suc line)) =
     codes "a line is a name, one space, and 1 to 256 octets in hexadecimal: /ops/KEY/1 6b6579"
 advice_on_keys (keys.TwiceNamed line) = codes "an earlier line has this name: give each name once"
-advice_on_keys keys.TooMany = codes "at most 256 keys are allowed"
+advice_on_keys keys.TooMany =
+    codes "at most 256 keys are allowed: leave out those that no rule asks for"
 advice_on_keys keys.Memory = codes "out of memory"
 
 -- memory was refused

@@ -1,7 +1,7 @@
 -- Addresses with a port, and which of them may be peers of a node.
-use Rattle.std.specs.Prelude.{◌≡◌, ◌≢◌, ◌⊎◌, ℕ, ◌<◌, ◌≤◌, ◌^◌, List, [], ◌∷◌, All, AllPairs, length, slice_index_or}
+use Rattle.std.specs.Prelude.{◌≡◌, ◌≢◌, ◌⊎◌, ℕ, ◌<◌, ◌≤◌, ◌^◌, List, [], ◌∷◌, Some, All, AllPairs, length, slice_get}
 use Rattle.std.specs.Str.Parse.{IsNumeral, digits_value}
-use Rattle.std.specs.Net.Addr.{IsLoopbackV4, IsLoopbackV6, MatchIp, ipv4_octets, is_ipv4}
+use Rattle.std.specs.Net.Addr.{IsLoopbackV4, IsLoopbackV6, IsUnspecifiedV4, IsUnspecifiedV6, MatchIp, ipv4_octets, is_ipv4}
 use Rattle.std.specs.Net.Grammar.{IsSocketText}
 use Rattle.std.specs.Net.Socket.{socket_ip, socket_port}
 use Rattle.std.specs.declared.net.socket_addr.SocketAddr.{SocketAddr}
@@ -26,15 +26,28 @@ IsEndpoint text endpoint =
 abbrev pub IsLoopback : SocketAddr → Type 0
 IsLoopback endpoint = MatchIp (socket_ip endpoint) IsLoopbackV4 IsLoopbackV6
 
+-- an address of no machine, 0.0.0.0 or ::; a node that listens on it listens on all of its machine
+abbrev pub IsUnspecified : SocketAddr → Type 0
+IsUnspecified endpoint = MatchIp (socket_ip endpoint) IsUnspecifiedV4 IsUnspecifiedV6
+
+-- A peer is the node itself: it has the node's port, and its address, in whatever scope, or where
+-- the node listens on the unspecified address, one of this machine.
+abbrev pub IsItself : SocketAddr → SocketAddr → Type 0
+IsItself listen peer =
+    (socket_port peer ≡ socket_port listen)
+    × ((socket_ip peer ≡ socket_ip listen) ⊎ (IsUnspecified listen × IsLoopback peer))
+
 -- the endpoints that these texts spell, in their order: at most 64, all different
 pub record AreEndpoints (texts : List (List ℕ)) (endpoints : List SocketAddr) : Type 0 where
   pub many : length endpoints ≡ length texts
-  pub spelled : (k : ℕ) (d : SocketAddr) → k < length texts
-      → IsEndpoint (slice_index_or texts k []) (slice_index_or endpoints k d)
+  pub spelled : (place : ℕ) (text : List ℕ) (endpoint : SocketAddr)
+      → slice_get texts place ≡ Some text → slice_get endpoints place ≡ Some endpoint
+      → IsEndpoint text endpoint
   pub few : length texts ≤ MAX_FACES
   pub different : AllPairs (λ a b. a ≢ b) endpoints
 
--- none is the node itself, and all are of its family, IPv4 or IPv6
+-- none is the node itself, each is on some machine, and all are of the node's family, IPv4 or IPv6
 pub record MayBePeersOf (listen : SocketAddr) (peers : List SocketAddr) : Type 0 where
-  pub others : All (λ peer. peer ≢ listen) peers
+  pub others : All (λ peer. ¬ (IsItself listen peer)) peers
+  pub specified : All (λ peer. ¬ (IsUnspecified peer)) peers
   pub one_family : All (λ peer. is_ipv4 (socket_ip peer) ≡ is_ipv4 (socket_ip listen)) peers

@@ -14,17 +14,21 @@ pub fn advice_on_rules(line: u32, kind: RulesFaultKind) -> &'static str
     match kind {
         RulesFaultKind::Syntax => {
             if line == 0 {
-                "the file is not UTF-8 text"
+                "the file is not UTF-8 text: write it in UTF-8 or ASCII"
             } else {
-                "a word or brace stands where none may, or a quote or block is not closed"
+                "a word, quote or brace is wrong: lines are KEY, KEY VALUE, { or }; close each quote and each {"
             }
         }
         RulesFaultKind::TooDeep => "blocks may nest at most 8 deep",
         RulesFaultKind::TooLarge => {
             "at most 65536 octets, 256 rules, and 16 filters and 16 checkers in a rule are allowed"
         }
-        RulesFaultKind::UnknownKey => "no key of this name may stand in this block",
-        RulesFaultKind::Missing => "the block of this key lacks a key that it needs",
+        RulesFaultKind::UnknownKey => {
+            "no key of this name may stand in this block: docs/RULES.md lists them"
+        }
+        RulesFaultKind::Missing => {
+            "this block lacks a key, as a rule its id or for, or a checker its type: see docs/RULES.md"
+        }
         RulesFaultKind::BadValue => {
             "the value or block of this key is wrong or missing, or it cannot stand beside another key"
         }
@@ -47,12 +51,12 @@ pub fn advice_on_keys(fault: KeyFault) -> &'static str
     ensures { result.now ≡ advice_on_keys fault }
 {
     match fault {
-        KeyFault::BadLine(0) => "the file is not UTF-8 text",
+        KeyFault::BadLine(0) => "the file is not UTF-8 text: write it in UTF-8 or ASCII",
         KeyFault::BadLine(_) => {
             "a line is a name, one space, and 1 to 256 octets in hexadecimal: /ops/KEY/1 6b6579"
         }
         KeyFault::TwiceNamed(_) => "an earlier line has this name: give each name once",
-        KeyFault::TooMany => "at most 256 keys are allowed",
+        KeyFault::TooMany => "at most 256 keys are allowed: leave out those that no rule asks for",
         KeyFault::Memory => "out of memory",
     }
 }

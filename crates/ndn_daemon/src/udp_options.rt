@@ -1,6 +1,6 @@
 //! The options of a node that listens on a port.
 ghost use Rattle.std.specs.Prelude.{◌≡◌, ◌⊎◌, ◌↔◌, ℕ, IsTrue, MatchOption, codes, map, option_map};
-ghost use Rattle.ndn_daemon.specs.Endpoint.{AreEndpoints, IsEndpoint, IsLoopback, IsPort, MayBePeersOf};
+ghost use Rattle.ndn_daemon.specs.Endpoint.{AreEndpoints, IsEndpoint, IsItself, IsLoopback, IsPort, IsUnspecified, MayBePeersOf};
 ghost use Rattle.ndn_daemon.specs.Options.{Reads, ReadsInMemory, rows_in, value_at};
 ghost use Rattle.ndn_daemon.specs.UdpOptions.{Has, IsBadValue, IsFlag, IsLocal, IsLog, IsNumber, IsSeconds, IsUdpOptions, flag_at, values_at};
 
@@ -29,8 +29,8 @@ pub struct UdpOptions {
     pub listen: SocketAddr,
     /// How many turns it takes.
     pub turns: u64,
-    /// The addresses and ports of the peers, all different and not that of the node, and of the
-    /// same family, at most 64.
+    /// The addresses and ports of the peers, all different, none of them the node's own or of no
+    /// machine, and of the node's family, at most 64.
     pub peers: Vec<SocketAddr>,
     /// How many of the first peers are Local, at most their number. These are on this machine.
     pub local: u64,
@@ -143,10 +143,16 @@ fn peers_of(alloc: Global, texts: &[&str]) -> Result<Vec<SocketAddr>, Fault>
 fn check_peers(listen: &SocketAddr, peers: &[SocketAddr]) -> Result<(), Fault>
     ensures { Reads (λ _. MayBePeersOf listen.now peers.now) result }
 {
-    if peers.contains(listen) {
+    if peers.iter().any(|peer| is_itself(listen, peer)) {
         return Err(Fault::BadValue {
             place: "PEERS",
             wanted: "other peers than the node itself, which --listen names",
+        });
+    }
+    if peers.iter().any(is_unspecified) {
+        return Err(Fault::BadValue {
+            place: "PEERS",
+            wanted: "addresses of machines, since 0.0.0.0 and :: are those of none",
         });
     }
     let is_ipv4 = listen.is_ipv4();
@@ -157,6 +163,14 @@ fn check_peers(listen: &SocketAddr, peers: &[SocketAddr]) -> Result<(), Fault>
         });
     }
     Ok(())
+}
+
+/// Whether a peer is the node itself, which listens there: a datagram to the peer would come back.
+fn is_itself(listen: &SocketAddr, peer: &SocketAddr) -> bool
+    ensures { IsTrue result ↔ IsItself listen.now peer.now }
+{
+    peer.port() == listen.port()
+        && (peer.ip() == listen.ip() || (is_unspecified(listen) && is_loopback(peer)))
 }
 
 /// How many of these peers are Local. Who is Local may command, so these are on this machine.
@@ -184,6 +198,13 @@ fn is_loopback(endpoint: &SocketAddr) -> bool
     ensures { IsTrue result ↔ IsLoopback endpoint.now }
 {
     endpoint.ip().is_loopback()
+}
+
+/// Whether this is the address of no machine, 0.0.0.0 or ::.
+fn is_unspecified(endpoint: &SocketAddr) -> bool
+    ensures { IsTrue result ↔ IsUnspecified endpoint.now }
+{
+    endpoint.ip().is_unspecified()
 }
 
 /// The number of seconds from 1 to 2^32 - 1 that this text spells in decimal digits, with leading

@@ -99,6 +99,14 @@ ndn_node udp --listen 1 --turns 1 7 x => error: invalid value for PEERS: give a 
 ndn_node udp --listen 1 --turns 1 7 8 07 => error: invalid value for PEERS: give each peer once
 ndn_node udp --listen 7 --turns 1 8 07 => error: invalid value for PEERS: give other peers than the node itself, which --listen names
 ndn_node udp --listen 127.0.0.1:7 --turns 1 8 7 => error: invalid value for PEERS: give other peers than the node itself
+ndn_node udp --listen [::1]:7 --turns 1 [::1%3]:7 => error: invalid value for PEERS: give other peers than the node itself
+ndn_node udp --listen [fe80::1%2]:7 --turns 1 [fe80::1]:7 => error: invalid value for PEERS: give other peers than the node itself
+ndn_node udp --listen 0.0.0.0:7 --turns 1 8 7 => error: invalid value for PEERS: give other peers than the node itself
+ndn_node udp --listen 0.0.0.0:7 --turns 1 127.0.0.9:7 => error: invalid value for PEERS: give other peers than the node itself
+ndn_node udp --listen [::]:7 --turns 1 [::1]:7 => error: invalid value for PEERS: give other peers than the node itself
+ndn_node udp --listen 0.0.0.0:7 --turns 1 0.0.0.0:7 => error: invalid value for PEERS: give other peers than the node itself
+ndn_node udp --listen 7 --turns 1 0.0.0.0:8 => error: invalid value for PEERS: give addresses of machines, since 0.0.0.0 and :: are those of none
+ndn_node udp --listen [::1]:7 --turns 1 [::]:8 => error: invalid value for PEERS: give addresses of machines
 ndn_node udp --listen 7 --turns 1 [::1]:8 => error: invalid value for PEERS: give addresses of the family of --listen
 ndn_node udp --listen [::1]:7 --turns 1 [::1]:8 9 => error: invalid value for PEERS: give addresses of the family of --listen
 ndn_node udp --listen 7 --turns 1 --local 2 8 192.0.2.1:8 => error: invalid value for --local: give a number of first peers that are on this machine
@@ -199,6 +207,11 @@ fn udp_options(rt: HostRuntime) {
     assert!(rt; here.as_deref() == Some("1024 [::1]:6363 1 0 600 None open"));
     let opened = udp_options_of(alloc, "ndn_node udp --turns 1 --open --listen 0.0.0.0:6363");
     assert!(rt; opened.as_deref() == Some("1024 0.0.0.0:6363 1 0 600 None open"));
+    let all = udp_options_of(
+        alloc,
+        "ndn_node udp --turns 1 --listen 0.0.0.0:7 8 192.0.2.1:7",
+    );
+    assert!(rt; all.as_deref() == Some("1024 0.0.0.0:7 1 0 600 None 127.0.0.1:8 192.0.2.1:7"));
     assert!(rt; is_quiet(alloc, "ndn_node udp --listen 1 --quiet --turns 1 7"));
     assert!(rt; !is_quiet(alloc, "ndn_node udp --listen 1 --turns 1 7"));
 }
@@ -256,7 +269,7 @@ fn rule_files(rt: HostRuntime) {
     let bad =
         "1 rules:1: BadValue\n  the value or block of this key is wrong or missing, or it cannot stand beside another key\n";
     assert!(rt; refused_rules(alloc, b"rule").as_deref() == Some(bad));
-    let binary = "1 rules:0: Syntax\n  the file is not UTF-8 text\n";
+    let binary = "1 rules:0: Syntax\n  the file is not UTF-8 text: write it in UTF-8 or ASCII\n";
     assert!(rt; refused_rules(alloc, b"\xff").as_deref() == Some(binary));
 }
 
@@ -270,7 +283,7 @@ fn key_files(rt: HostRuntime) {
     let named = "1 keys:2: TwiceNamed\n  an earlier line has this name: give each name once\n";
     let twice = b"/k 6b6579\n/k 6b6579\n";
     assert!(rt; refused_keys(alloc, twice).as_deref() == Some(named));
-    let binary = "1 keys:0: BadLine\n  the file is not UTF-8 text\n";
+    let binary = "1 keys:0: BadLine\n  the file is not UTF-8 text: write it in UTF-8 or ASCII\n";
     assert!(rt; refused_keys(alloc, b"\xff").as_deref() == Some(binary));
 }
 
@@ -332,7 +345,7 @@ fn faults(rt: HostRuntime) {
         is_told(
             alloc,
             Fault::Keys(KeyFault::TooMany),
-            "1 keys:0: TooMany\n  at most 256 keys are allowed\n"
+            "1 keys:0: TooMany\n  at most 256 keys are allowed: leave out those that no rule asks for\n"
         )
     );
     assert!(rt;
