@@ -1,5 +1,5 @@
 //! The log of a node on a port: which lines it has, and where they go.
-ghost use Rattle.std.specs.Prelude.{◌≡◌, ◌++◌, ◌-◌, ◌⊎◌, ℕ, List, [], Option, None, true};
+ghost use Rattle.std.specs.Prelude.{◌≡◌, ◌↔◌, ◌++◌, ◌-◌, ◌⊎◌, ℕ, List, [], Option, None, true, IsTrue};
 ghost use Rattle.std.specs.Io.KnownBytes.{Appends};
 ghost use Rattle.node_core.specs.Ports.{one_more};
 ghost use Rattle.ndn_log.specs.Event.{event_words};
@@ -99,7 +99,9 @@ impl<S: LogSink> EventLog<S> {
     }
 
     /// Whether all lines were written.
-    pub fn is_empty(&self) -> bool {
+    pub fn is_empty(&self) -> bool
+        ensures { IsTrue result ↔ (self.now.text.items ≡ []) }
+    {
         self.text.is_empty()
     }
 
@@ -112,8 +114,10 @@ impl<S: LogSink> EventLog<S> {
         ensures closed { self.new.closed ≡ closed_with
             (is_left_out self.old.shows_all entry.now.came outcome.now) entry.now.came
             self.old.closed }
-        ensures later { self.new.later.items ≡ self.old.later.items }
-        ensures sink { self.new.sink ≡ self.old.sink }
+        ensures others { self.new ≡ record self.old {
+          text = self.new.text;
+          closed = self.new.closed;
+        } }
     {
         if !self.shows_all && is_plain(entry, outcome) {
             self.count_closed(&entry.came);
@@ -143,7 +147,7 @@ impl<S: LogSink> EventLog<S> {
     )
         ensures later { MayLog self.old.later.items self.new.later.items moment
             (failed_send_words face endpoint octets.now) }
-        ensures text { self.new.text.items ≡ self.old.text.items }
+        ensures others { self.new ≡ record self.old { later = self.new.later } }
     {
         let _put = put_failed_send(self.alloc, &mut self.later, moment, face, endpoint, octets);
     }
@@ -153,6 +157,10 @@ impl<S: LogSink> EventLog<S> {
         ensures text { (self.new.text.items ≡ self.old.text.items ++ self.old.later.items)
             ⊎ (self.new.text.items ≡ self.old.text.items) }
         ensures used { self.new.later.items ≡ [] }
+        ensures others { self.new ≡ record self.old {
+          text = self.new.text;
+          later = self.new.later;
+        } }
     {
         let _put = self.text.extend_from_slice(&self.later);
         self.later.clear();
@@ -160,7 +168,14 @@ impl<S: LogSink> EventLog<S> {
 
     /// Appends lines of what was counted, where the last are a minute old: faces that closed, and
     /// datagrams of strangers, of which there were so many in all.
-    pub fn put_counts(&mut self, moment: u64, strangers: u64) {
+    pub fn put_counts(&mut self, moment: u64, strangers: u64)
+        ensures others { self.new ≡ record self.old {
+          text = self.new.text;
+          closed = self.new.closed;
+          strangers = self.new.strangers;
+          counted = self.new.counted;
+        } }
+    {
         if moment.abs_diff(self.counted) >= COUNT_MILLISECONDS {
             self.put_counts_now(moment, strangers);
         }
@@ -168,7 +183,13 @@ impl<S: LogSink> EventLog<S> {
 
     /// The same, however old the last are.
     pub fn put_counts_now(&mut self, moment: u64, strangers: u64)
-        ensures { (mid : List ℕ)
+        ensures others { self.new ≡ record self.old {
+          text = self.new.text;
+          closed = self.new.closed;
+          strangers = self.new.strangers;
+          counted = self.new.counted;
+        } }
+        ensures says { (mid : List ℕ)
             × SaysCount self.old.text.items mid moment (closed_idle_words self.old.closed)
             self.old.closed self.new.closed
             × SaysCount mid self.new.text.items moment
@@ -182,7 +203,12 @@ impl<S: LogSink> EventLog<S> {
     fn put_closed(&mut self, moment: u64)
         ensures says { SaysCount self.old.text.items self.new.text.items moment
             (closed_idle_words self.old.closed) self.old.closed self.new.closed }
-        ensures others { self.new.strangers ≡ self.old.strangers }
+        ensures strangers { self.new.strangers ≡ self.old.strangers }
+        ensures others { self.new ≡ record self.old {
+          text = self.new.text;
+          closed = self.new.closed;
+          counted = self.new.counted;
+        } }
     {
         if self.closed == 0 {
             return;
@@ -198,7 +224,12 @@ impl<S: LogSink> EventLog<S> {
         ensures says { SaysCount self.old.text.items self.new.text.items moment
             (stranger_words (strangers - self.old.strangers))
             (strangers - self.old.strangers) (strangers - self.new.strangers) }
-        ensures others { self.new.closed ≡ self.old.closed }
+        ensures closed { self.new.closed ≡ self.old.closed }
+        ensures others { self.new ≡ record self.old {
+          text = self.new.text;
+          strangers = self.new.strangers;
+          counted = self.new.counted;
+        } }
     {
         if strangers <= self.strangers {
             return;
@@ -216,6 +247,10 @@ impl<S: LogSink> EventLog<S> {
         ensures written { Appends (S.given self.old.sink) (S.given self.new.sink)
             self.old.text.items }
         ensures none { self.new.text.items ≡ [] }
+        ensures others { self.new ≡ record self.old {
+          text = self.new.text;
+          sink = self.new.sink;
+        } }
     {
         if self.text.is_empty() {
             return;
@@ -226,7 +261,8 @@ impl<S: LogSink> EventLog<S> {
 
     /// Notes the moment of the lines that follow, where all lines were written.
     pub fn begin(&mut self, moment: u64)
-        ensures { self.new.text ≡ self.old.text }
+        ensures first { self.old.text.items ≡ [] → self.new.since ≡ moment }
+        ensures others { self.new ≡ record self.old { since = self.new.since } }
     {
         if self.text.is_empty() {
             self.since = moment;
@@ -234,7 +270,10 @@ impl<S: LogSink> EventLog<S> {
     }
 
     /// Writes the lines, where there are many, or the first waits for a second at this moment.
-    pub fn write_old(&mut self, moment: u64) {
+    pub fn write_old(&mut self, moment: u64)
+        ensures { (self.new ≡ self.old) ⊎ ((self.new.text.items ≡ [])
+            × Appends (S.given self.old.sink) (S.given self.new.sink) self.old.text.items) }
+    {
         if self.text.len() >= MOST_GATHERED || moment.abs_diff(self.since) >= WAIT_MILLISECONDS {
             self.write_out();
         }
