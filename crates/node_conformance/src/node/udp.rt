@@ -280,7 +280,12 @@ pub fn brings_face<M: Moments>(ports: &mut UdpPorts<M>, opened: u64, at: u64) ->
 }
 
 /// Whether the next arrival is a packet of so many octets on this face at this moment.
-pub fn brings_packet<M: Moments>(ports: &mut UdpPorts<M>, from: u64, at: u64, count: usize) -> bool {
+pub fn brings_packet<M: Moments>(
+    ports: &mut UdpPorts<M>,
+    from: u64,
+    at: u64,
+    count: usize,
+) -> bool {
     matches!(
         ports.next(&mut [0; 100]),
         Ok(Arrival::Packet { face, now, len }) if face == from && now == at && len == count
