@@ -10,7 +10,8 @@ use Rattle.info_rules.specs.declared.fault.RulesFaultKind.TheVariants as kinds
 use Rattle.forwarder.specs.declared.node.NodeFault.TheVariants.{BadRepoPrefix, BadCapacity, Memory as NodeMemory}
 use Rattle.node_core.specs.declared.script.RunFault.{RunFault}
 use Rattle.node_core.specs.declared.script.RunFault.TheVariants.{BadLine, Read, Write, Node, Memory}
-use Rattle.ndn_daemon.specs.Advice.{advice_on_keys, advice_on_rules, cause_of, is_memory}
+use Rattle.file_faults.specs.Advice.{advice_on_keys, cause_of}
+use Rattle.ndn_daemon.specs.Advice.{advice_on_rules, is_memory}
 use Rattle.ndn_daemon.specs.declared.fault.Fault.{Fault}
 use Rattle.ndn_daemon.specs.declared.fault.Fault.TheVariants.{CommandLine, BadValue, NotText, Unread, Rules, Keys, LargeKeys, Script, Unbound, Unreceived}
 

@@ -1,5 +1,6 @@
 //! Why the program stops: its message and its exit status.
-use crate::advice::{advice_on_keys, advice_on_rules, cause_of, is_memory};
+use crate::advice::{advice_on_rules, is_memory};
+use file_faults::{advice_on_keys, cause_of};
 use hmac_keys::KeyFault;
 use info_rules::{RulesFault, RulesFaultKind};
 use node_core::{NodeFault, RunFault};

@@ -1,0 +1,26 @@
+-- What is said of a fault in a key file, and of a file that cannot be read.
+use Rattle.std.specs.Prelude.{ℕ, zero, suc, List, codes}
+use Rattle.std.specs.declared.io.ErrorKind.{ErrorKind}
+use Rattle.std.specs.declared.io.ErrorKind.TheVariants as kinds
+use Rattle.hmac_keys.specs.declared.fault.KeyFault.{KeyFault}
+use Rattle.hmac_keys.specs.declared.fault.KeyFault.TheVariants as keys
+
+-- at line 0 the file is not UTF-8
+unfoldable pub advice_on_keys : KeyFault → List ℕ
+advice_on_keys (keys.BadLine zero) = codes "the file is not UTF-8 text: write it in UTF-8 or ASCII"
+advice_on_keys (keys.BadLine (suc line)) =
+    codes "a line is a name, one space, and 1 to 256 octets in hexadecimal: /ops/KEY/1 6b6579"
+advice_on_keys (keys.TwiceNamed line) = codes "an earlier line has this name: give each name once"
+advice_on_keys keys.TooMany =
+    codes "at most 256 keys are allowed: leave out those that no rule asks for"
+advice_on_keys keys.Memory = codes "out of memory"
+
+-- why a file cannot be read
+unfoldable pub cause_of : ErrorKind → List ℕ
+cause_of kinds.NotFound = codes "there is no such file"
+cause_of kinds.PermissionDenied = codes "permission denied"
+cause_of kinds.IsADirectory = codes "it is a directory"
+cause_of kinds.NotADirectory = codes "a part of its path is not a directory"
+cause_of kinds.InvalidFilename = codes "its name is too long"
+cause_of kinds.FilesystemLoop = codes "its path has too many symbolic links"
+cause_of kind = codes "the system refused it"
