@@ -7,25 +7,20 @@ use Rattle.std.proofs.lemmas.List.{append-nil}
 use Rattle.forwarder.specs.Policy.{Policy, at_moment}
 use Rattle.forwarder.specs.Runs.{Run, Then, Stands}
 use Rattle.forwarder.specs.Node.{NodeState, IsStep}
-use Rattle.forwarder.specs.Verdict.{Verdict, Passed, Allowed, DataAllowed, Denied, NoRule, Dropped}
+use Rattle.forwarder.specs.Verdict.{Verdict}
 use Rattle.forwarder.proofs.LaterMoments.{after_now}
 use Rattle.journal.specs.declared.line.Entry.{Entry}
 use Rattle.journal.specs.Journal.{IsJournalOf, with_event, with_moment}
 use Rattle.journal.specs.Line.{IsEventOf, entry_text}
-use Rattle.journal.specs.Saying.{brings_wanted, is_journalled_by}
+use Rattle.journal.specs.Saying.{brings_wanted, is_journalled_by, is_journalled_where}
 use Rattle.journal.specs.Step.{Steps, added_text, is_journalled_entry}
 use Rattle.journal.specs.Text.{IsTextOf}
 use Rattle.journal.proofs.LineTexts.{entry_change, entry_moment, moved_entry}
 use Rattle.journal.proofs.Texts.{texts_join}
 use Rattle.journal.proofs.Verdicts.{step_grows}
 
-by_entry : (now : ℕ) (e : Entry) (event : PlainEvent) (wanted : Bool) (v : Verdict) → IsEventOf now e event → is_journalled_by event wanted v ≡ is_journalled_entry e wanted v
-by_entry now e event wanted Passed is = entry_change now e event is
-by_entry now e event wanted (Allowed rule status) is = refl
-by_entry now e event wanted (DataAllowed rule) is = refl
-by_entry now e event wanted (Denied kind rule reason) is = refl
-by_entry now e event wanted (NoRule kind) is = refl
-by_entry now e event wanted (Dropped reason) is = refl
+pub by_entry : (now : ℕ) (e : Entry) (event : PlainEvent) (wanted : Bool) (v : Verdict) → IsEventOf now e event → is_journalled_by event wanted v ≡ is_journalled_entry e wanted v
+by_entry now e event wanted v is = ap (λ (changes : Bool). is_journalled_where changes wanted v) (entry_change now e event is)
 
 -- the time after it
 pub time_after : (old new : NodeState) (event : PlainEvent) (v : Verdict) (sends : List Send) (now : ℕ) (e : Entry) → IsEventOf now e event

@@ -1,5 +1,5 @@
--- The journal of a node: of the events of a run those that change more than the moment. From them
--- alone follows the policy that the run leaves.
+-- The journal of a node: of the events of a run those that may change more than the moment. From
+-- them alone follows the policy that the run leaves.
 use Rattle.std.specs.Prelude.{◌≡◌, ◌⊎◌, ◌≤◌, ℕ, Bool, true, false, List, [], ◌∷◌, ◌++◌, Option, None, Some, max}
 use Rattle.sha2.specs.Sha256.{sha256}
 use Rattle.ndn_packets.specs.Packet.{PlainFrame, AnInterest, AData, ANack, Idle}
@@ -43,8 +43,8 @@ IsChosen p event chosen None = chosen ≡ is_journalled_undecided p event
 IsChosen p event chosen (Some packet) =
     (said : Decision) × IsSaid p packet said × (chosen ≡ is_journalled_as p packet said)
 
--- Whether an event is journalled, at the policy before it. It is a function of the two, since of
--- each packet one decision is said.
+-- Whether an event is journalled, at the policy before it. It is a function of the two where the
+-- keys of the policy have different names: of each packet one decision is then said.
 abbrev pub IsJournalled : Policy → PlainEvent → Bool → Type 0
 IsJournalled old event chosen =
     let p = at_moment old (moment event) in

@@ -34,11 +34,15 @@ is_change (FaceDown face now) = true
 is_change (Tick now) = false
 is_change (NewRules rules keys now) = true
 
--- by the verdict on it, and whether it brought a Data that was wanted
+-- by whether it changes faces or rules, whether it brought a Data that was wanted, and the verdict
+-- on it
+abbrev pub is_journalled_where : Bool → Bool → Verdict → Bool
+is_journalled_where changes wanted Passed = changes
+is_journalled_where changes wanted (Allowed rule status) = true
+is_journalled_where changes wanted (DataAllowed rule) = wanted
+is_journalled_where changes wanted (Denied kind rule reason) = false
+is_journalled_where changes wanted (NoRule kind) = false
+is_journalled_where changes wanted (Dropped reason) = false
+
 abbrev pub is_journalled_by : PlainEvent → Bool → Verdict → Bool
-is_journalled_by event wanted Passed = is_change event
-is_journalled_by event wanted (Allowed rule status) = true
-is_journalled_by event wanted (DataAllowed rule) = wanted
-is_journalled_by event wanted (Denied kind rule reason) = false
-is_journalled_by event wanted (NoRule kind) = false
-is_journalled_by event wanted (Dropped reason) = false
+is_journalled_by event wanted verdict = is_journalled_where (is_change event) wanted verdict

@@ -11,9 +11,11 @@ pub enum FileFault {
     Failed,
 }
 
-/// Where a journal is written: a file that octets are appended to.
+/// Where a journal is written: a file that octets are appended to. It holds the octets of key
+/// files, which are secrets.
 pub trait JournalFile {
-    // The octets of the file that no crash takes, where they are known.
+    // The octets of the file that no crash takes, where they are known. Where this is none, as of a
+    // file of the system, no contract says what the file keeps.
     ghost synced: { Self → Option (List ℕ) };
 
     /// Appends octets, and returns once no crash takes them. Where it fails, a front of them may

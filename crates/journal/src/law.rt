@@ -84,7 +84,8 @@ pub fn journals_keep_policy()
 {}
 
 /// Law: where the first event brings rules and keys, it makes no difference which ones there were
-/// before. So a journal that begins with its rules is replayed alike whatever a node is made of.
+/// before. So a journal that begins with its rules is replayed alike whatever rules and keys a node
+/// is made of. The repository's prefix has to be the same.
 pub fn rules_at_the_start_are_the_first()
     ensures { (first q : Policy) (r rules : List PlainRule) (k keys : List NamedKey) (now : ℕ)
         (again : Run) (rest : List PlainEvent) → events_of again ≡ NewRules rules keys now ∷ rest
@@ -109,7 +110,8 @@ pub fn journal_texts_have_one_reading()
 {}
 
 /// Law: whatever beginning a crash leaves of the text of a run's journal, its whole lines keep a
-/// beginning of the run.
+/// beginning of the run. What a crash leaves of a file whose `synced` is none, as of a file of the
+/// system, no contract says.
 pub fn journals_survive_crashes()
     ensures { (first p : Policy) (past : Run) (journal : List PlainEvent) (text left lost : List ℕ)
         → KeysAreApart first past → IsPolicyOf first past p → IsJournalOf first past journal

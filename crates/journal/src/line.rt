@@ -25,7 +25,8 @@ pub enum Entry<'a> {
     FaceDown { face: u64 },
     /// Time passed.
     Tick,
-    /// The octets of a rule file and of a key file, which take the place of those in force.
+    /// The octets of a rule file and of a key file, which take the place of those in force. Keys
+    /// are secrets, and their line holds them.
     NewRules { rules: &'a [u8], keys: &'a [u8] },
 }
 
@@ -35,7 +36,7 @@ pub enum LineFault {
     /// It would have more than 20,000 octets, without its LF.
     #[error("a line of the journal would be too long")]
     TooLong,
-    #[error("out of memory")]
+    #[error("no memory for the line of the journal")]
     Memory,
 }
 

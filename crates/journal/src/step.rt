@@ -1,13 +1,15 @@
-ghost use Rattle.std.specs.Prelude.{◌≡◌, ◌≢◌, ℕ, List, [], ◌∷◌, Err, IfOk, IfErr, OnErr, OnOk, max, true};
+ghost use Rattle.std.specs.Prelude.{◌≡◌, ◌≢◌, ◌<◌, ℕ, List, [], ◌∷◌, length, Err, IfOk, IfErr, OnErr, OnOk, max, true};
 ghost use Rattle.std.specs.Io.KnownBytes.{Appends};
 ghost use Rattle.forwarder.specs.Event.{PlainEvent, moment, plain};
-ghost use Rattle.forwarder.specs.Node.{Unharmed};
+ghost use Rattle.forwarder.specs.Node.{AsksNoMemory, Unharmed};
 ghost use Rattle.forwarder.specs.Policy.{at_moment};
+ghost use Rattle.forwarder.specs.Runs.{BringsKeysApart};
+ghost use Rattle.forwarder.specs.Sends.{BringsOctets};
 ghost use Rattle.forwarder.specs.Verdict.{verdict_of};
 ghost use Rattle.node_core.specs.Script.Ending.{AppendsFront};
 ghost use Rattle.journal.specs.Line.{IsEventOf, entry_text, is_change_entry};
 ghost use Rattle.journal.specs.Saying.{brings_wanted};
-ghost use Rattle.journal.specs.Step.{Steps, added_text, is_journalled_entry};
+ghost use Rattle.journal.specs.Step.{Steps, StepsWithFault, added_text, is_journalled_entry};
 ghost use Rattle.journal.specs.Text.{IsTextOf};
 
 use crate::file::JournalFile;
@@ -31,9 +33,10 @@ pub struct Coming<'a> {
 #[derive(Clone, Copy, Debug, PartialEq, Eq, Error)]
 pub enum StepFault {
     /// The step had no memory. The event counts as not having come.
-    #[error("out of memory")]
-    Refused,
-    /// The event has no line. Nothing was written or is sent, and the node has to end.
+    #[error("out of memory; the event counts as not having come")]
+    Memory,
+    /// There is no line for the event. Nothing of it was written or is sent, and the node has to
+    /// end.
     #[error("{0}")]
     Line(LineFault),
     /// The file failed. Nothing of the event is sent, and the node has to end.
@@ -49,8 +52,8 @@ pub struct Journal<F> {
 }
 
 impl<F: JournalFile> Journal<F> {
-    /// Lets a node handle one event. Where it is journalled, its line is in the file before its
-    /// sends are in the outbox for others to send.
+    /// Lets a node handle one event. Where it is journalled, its line is in the file before `step`
+    /// returns.
     pub fn step(
         &mut self,
         alloc: Global,
@@ -69,15 +72,29 @@ impl<F: JournalFile> Journal<F> {
             outbox.new node.new added
             × Appends (F.synced self.old.file) (F.synced self.new.file) added) }
         ensures time { OnOk result (self.new.time ≡ node.new.policy.now) }
-        ensures refused { result ≡ Err StepFault.Refused
+        ensures memory { result ≡ Err StepFault.Memory
             → Unharmed node.old node.new × (self.new ≡ self.old) }
+        ensures without_memory { AsksNoMemory node.old (plain event.entry)
+            → result ≢ Err StepFault.Memory }
+        // Another fault comes only where the event is journalled.
+        ensures failed { IfErr result (λ fault. fault ≢ StepFault.Memory
+            → StepsWithFault node.old (plain event.entry) coming.now.is_wanted node.new) }
         // Where there is a fault, nothing is sent, and a front of the line may have been written.
         ensures unsent { OnErr result (outbox.new ≡ []) }
         ensures cut { OnErr result (AppendsFront (F.synced self.old.file) (F.synced self.new.file)
             (entry_text (max node.old.policy.now coming.now.moment) coming.now.entry)) }
+        ensures still { OnErr result (self.new.time ≡ self.old.time) }
+        // Where there is no line, nothing was written.
+        ensures unwritten { (fault : LineFault) → result ≡ Err (StepFault.Line fault)
+            → self.new ≡ self.old }
+        ensures long { result ≡ Err (StepFault.Line LineFault.TooLong) → 20001 < length
+            (entry_text (max node.old.policy.now coming.now.moment) coming.now.entry) }
+        // So it is of every event.
+        ensures octets { BringsOctets (plain event.entry) }
+        ensures keys { BringsKeysApart (plain event.entry) }
     {
         let Ok(verdict) = node.step(event, outbox) else {
-            return Err(StepFault::Refused);
+            return Err(StepFault::Memory);
         };
         let time = self.time.max(coming.moment);
         let noted = self.note(alloc, time, coming, verdict);
@@ -109,14 +126,21 @@ impl<F: JournalFile> Journal<F> {
             (verdict_of verdict) ≡ true → (event : PlainEvent)
             → IsEventOf time coming.now.entry event
             → IsTextOf (event ∷ []) (entry_text time coming.now.entry)) }
+        ensures journalled { OnErr result (is_journalled_entry coming.now.entry
+            coming.now.is_wanted (verdict_of verdict) ≡ true) }
         ensures cut { OnErr result (AppendsFront (F.synced self.old.file) (F.synced self.new.file)
             (entry_text time coming.now.entry)) }
-        ensures fault { IfErr result (λ fault. fault ≢ StepFault.Refused) }
+        ensures still { self.new.time ≡ self.old.time }
+        ensures fault { IfErr result (λ fault. fault ≢ StepFault.Memory) }
+        ensures unwritten { (fault : LineFault) → result ≡ Err (StepFault.Line fault)
+            → self.new ≡ self.old }
+        ensures long { result ≡ Err (StepFault.Line LineFault.TooLong)
+            → 20001 < length (entry_text time coming.now.entry) }
     {
-        if is_journalled(coming, verdict) {
-            return self.put(alloc, time, &coming.entry);
+        if !is_journalled(coming, verdict) {
+            return Ok(());
         }
-        Ok(())
+        self.put(alloc, time, &coming.entry)
     }
 
     /// Appends the line of an entry of this moment.
@@ -128,7 +152,12 @@ impl<F: JournalFile> Journal<F> {
             → IsTextOf (event ∷ []) (entry_text time entry.now)) }
         ensures cut { OnErr result (AppendsFront (F.synced self.old.file) (F.synced self.new.file)
             (entry_text time entry.now)) }
-        ensures fault { IfErr result (λ fault. fault ≢ StepFault.Refused) }
+        ensures still { self.new.time ≡ self.old.time }
+        ensures fault { IfErr result (λ fault. fault ≢ StepFault.Memory) }
+        ensures unwritten { (fault : LineFault) → result ≡ Err (StepFault.Line fault)
+            → self.new ≡ self.old }
+        ensures long { result ≡ Err (StepFault.Line LineFault.TooLong)
+            → 20001 < length (entry_text time entry.now) }
     {
         let line = match line_of(alloc, time, entry) {
             Ok(line) => line,
