@@ -1,8 +1,9 @@
 -- The message and the exit status of each fault of the program.
-use Rattle.std.specs.Prelude.{ℕ, List, ◌++◌, codes, Option, Some}
+use Rattle.std.specs.Prelude.{ℕ, List, ◌++◌, codes, Option, Some, string_bytes}
 use Rattle.std.specs.Fmt.{decimal}
 use Rattle.hmac_keys.specs.declared.fault.KeyFault.{KeyFault}
 use Rattle.hmac_keys.specs.declared.fault.KeyFault.TheVariants.{BadLine, TwiceNamed, TooMany, Memory as KeyMemory}
+use Rattle.file_faults.specs.Advice.{advice_on_keys, cause_of}
 use Rattle.ndn_jobs.specs.Fault.{out_of_memory, tool_status, tool_text}
 use Rattle.ndn_requests.specs.Fault.{silence_text, failure_text}
 use Rattle.ndn_client.specs.declared.fault.Fault.{Fault}
@@ -22,19 +23,22 @@ status_of fault.NoKeyFile = 1
 status_of fault.NotText = 2
 status_of (fault.Keys why) = key_status why
 status_of fault.LargeKeys = 1
-status_of fault.Read = 3
+status_of (fault.Unread path kind) = 3
 status_of fault.Clock = 3
 status_of fault.Write = 3
 status_of fault.Input = 3
 status_of fault.Send = 3
-status_of fault.From = 3
+status_of (fault.Unbound port) = 3
 status_of (fault.Silent why) = 3
 status_of (fault.NotDone why) = 1
 
+-- the line and the kind of a fault, and below it what is wrong
 abbrev pub key_text : KeyFault → List ℕ
-key_text (BadLine line) = codes "keys:" ++ decimal line ++ codes ": BadLine\n"
-key_text (TwiceNamed line) = codes "keys:" ++ decimal line ++ codes ": TwiceNamed\n"
-key_text TooMany = codes "keys:0: TooMany\n"
+key_text (BadLine line) = codes "keys:" ++ (decimal line ++ (codes ": BadLine\n  "
+    ++ (advice_on_keys (BadLine line) ++ codes "\n")))
+key_text (TwiceNamed line) = codes "keys:" ++ (decimal line ++ (codes ": TwiceNamed\n  "
+    ++ (advice_on_keys (TwiceNamed line) ++ codes "\n")))
+key_text TooMany = codes "keys:0: TooMany\n  " ++ advice_on_keys TooMany ++ codes "\n"
 key_text KeyMemory = out_of_memory
 
 -- the message for standard error, with its LF
@@ -43,13 +47,14 @@ text_of (fault.Tool why) = tool_text why
 text_of fault.NoKeyFile = Some (codes "key not found\ngive --keys\n")
 text_of fault.NotText = Some (codes "error: an argument is not UTF-8 text\n")
 text_of (fault.Keys why) = Some (key_text why)
-text_of fault.LargeKeys = Some (codes "keys:0: TooLarge\n")
-text_of fault.Read = Some (codes "error: the key file cannot be read\n")
+text_of fault.LargeKeys = Some (codes "keys:0: TooLarge\n  at most 8388608 octets are allowed\n")
+text_of (fault.Unread path kind) = Some (codes "error: the key file " ++ (string_bytes path
+    ++ (codes " cannot be read: " ++ (cause_of kind ++ codes "\n"))))
 text_of fault.Clock = Some (codes "error: the clock cannot be read\n")
 text_of fault.Write = Some (codes "error: standard output cannot be written\n")
 text_of fault.Input = Some (codes "error: standard input cannot be read as UTF-8 text\n")
 text_of fault.Send = Some (codes "error: the packet cannot be sent to this port\n")
-text_of fault.From =
-    Some (codes "error: the port of --from cannot be taken; another program has it\n")
+text_of (fault.Unbound port) = Some (codes "error: 127.0.0.1:" ++ (decimal port
+    ++ codes " cannot be bound: give --from a port that no program has\n"))
 text_of (fault.Silent why) = silence_text why
 text_of (fault.NotDone why) = failure_text why

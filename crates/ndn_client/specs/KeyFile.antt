@@ -1,11 +1,12 @@
 -- The fault of what the octets of a key file are read as.
-use Rattle.std.specs.Prelude.{◌≡◌, ◌⊎◌, ◌<◌, ◌≤◌, ℕ, List, length, ⊤}
+use Rattle.std.specs.Prelude.{◌≡◌, ◌⊎◌, ◌<◌, ◌≤◌, ℕ, List, length, string_bytes, ⊤}
+use Rattle.std.specs.declared.io.ErrorKind.{ErrorKind}
 use Rattle.hmac_keys.specs.KeyFile.{NamedKey}
 use Rattle.hmac_keys.specs.KeyReading.{AreKeys, IsFaultOfOctets}
 use Rattle.limited_reads.specs.declared.TheConstants.{MAX_KEY_FILE}
 use Rattle.ndn_jobs.specs.declared.fault.ToolFault.TheVariants.{Memory}
 use Rattle.ndn_client.specs.declared.fault.Fault.{Fault}
-use Rattle.ndn_client.specs.declared.fault.Fault.TheVariants.{Keys, LargeKeys, Read, Tool}
+use Rattle.ndn_client.specs.declared.fault.Fault.TheVariants.{Keys, LargeKeys, Unread, Tool}
 
 abbrev pub IsFileFault : List ℕ → Fault → Type 0
 IsFileFault octets (Keys why) = IsFaultOfOctets octets why
@@ -15,15 +16,20 @@ IsFileFault octets why = ⊥
 abbrev pub AreKeysOfFile : List ℕ → List NamedKey → Type 0
 AreKeysOfFile octets keys = (length octets ≤ MAX_KEY_FILE) × AreKeys octets keys
 
--- a key file cannot be read, or memory was refused
-abbrev pub IsUnreadFile : Fault → Type 0
-IsUnreadFile Read = ⊤
-IsUnreadFile (Tool why) = why ≡ Memory
-IsUnreadFile why = ⊥
+-- the key file at this path cannot be read, or memory was refused
+abbrev pub IsUnread : List ℕ → Fault → Type 0
+IsUnread path (Unread place kind) = string_bytes place ≡ path
+IsUnread path (Tool why) = why ≡ Memory
+IsUnread path why = ⊥
+
+-- a file that cannot be read has this cause
+abbrev pub HasCause : ErrorKind → Fault → Type 0
+HasCause kind (Unread path cause) = cause ≡ kind
+HasCause kind why = ⊤
 
 -- there are more octets than a key file may have; or else the fault of what they say; or the file
 -- cannot be read
-abbrev pub IsKeyFileFault : List ℕ → Fault → Type 0
-IsKeyFileFault octets why =
+abbrev pub IsKeyFileFault : List ℕ → List ℕ → Fault → Type 0
+IsKeyFileFault path octets why =
     ((MAX_KEY_FILE < length octets) × (why ≡ LargeKeys))
-    ⊎ ((length octets ≤ MAX_KEY_FILE) × IsFileFault octets why) ⊎ IsUnreadFile why
+    ⊎ ((length octets ≤ MAX_KEY_FILE) × IsFileFault octets why) ⊎ IsUnread path why

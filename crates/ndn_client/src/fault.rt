@@ -1,4 +1,5 @@
 //! Why the program stops: its message and its exit status.
+use file_faults::{advice_on_keys, cause_of};
 use hmac_keys::KeyFault;
 use ndn_jobs::ToolFault;
 use ndn_packets::WriteFault;
@@ -6,6 +7,7 @@ use ndn_requests::{Failure, Silence};
 use ndn_tlv::Memory;
 use std::alloc::AllocError;
 use std::fmt;
+use std::io::ErrorKind;
 
 /// Why the program did not do what it was asked.
 #[derive(Debug, Drop)]
@@ -21,7 +23,12 @@ pub enum Fault {
     /// The file has more octets than a key file may have.
     LargeKeys,
     /// The key file cannot be read.
-    Read,
+    Unread {
+        /// Where it was looked for.
+        path: String,
+        /// Why it cannot be read.
+        kind: ErrorKind,
+    },
     /// The clock cannot be read.
     Clock,
     /// Standard output cannot be written.
@@ -30,8 +37,11 @@ pub enum Fault {
     Input,
     /// The packet cannot be sent.
     Send,
-    /// The port to send from cannot be taken.
-    From,
+    /// The port to send from cannot be bound.
+    Unbound {
+        /// The port of 127.0.0.1.
+        port: u16,
+    },
     /// No answer came to a packet that was sent as it is.
     Silent(Silence),
     /// A request was sent, and was not done.
@@ -56,12 +66,12 @@ impl Fault {
             | Fault::NoKeyFile
             | Fault::NotDone(_) => 1,
             Fault::Keys(KeyFault::Memory)
-            | Fault::Read
+            | Fault::Unread { .. }
             | Fault::Clock
             | Fault::Write
             | Fault::Input
             | Fault::Send
-            | Fault::From
+            | Fault::Unbound { .. }
             | Fault::Silent(_) => 3,
         }
     }
@@ -78,19 +88,40 @@ impl fmt::Display for Fault {
             Fault::Tool(fault) => fault.fmt(f),
             Fault::NoKeyFile => f.write_str("key not found\ngive --keys\n"),
             Fault::NotText => f.write_str("error: an argument is not UTF-8 text\n"),
-            Fault::Keys(KeyFault::BadLine(line)) => writeln!(f, "keys:{line}: BadLine"),
-            Fault::Keys(KeyFault::TwiceNamed(line)) => writeln!(f, "keys:{line}: TwiceNamed"),
-            Fault::Keys(KeyFault::TooMany) => f.write_str("keys:0: TooMany\n"),
-            Fault::LargeKeys => f.write_str("keys:0: TooLarge\n"),
+            Fault::Keys(KeyFault::BadLine(line)) => {
+                let advice = advice_on_keys(KeyFault::BadLine(*line));
+                writeln!(f, "keys:{line}: BadLine\n  {advice}")
+            }
+            Fault::Keys(KeyFault::TwiceNamed(line)) => {
+                let advice = advice_on_keys(KeyFault::TwiceNamed(*line));
+                writeln!(f, "keys:{line}: TwiceNamed\n  {advice}")
+            }
+            Fault::Keys(KeyFault::TooMany) => {
+                writeln!(
+                    f,
+                    "keys:0: TooMany\n  {}",
+                    advice_on_keys(KeyFault::TooMany)
+                )
+            }
+            Fault::LargeKeys => {
+                f.write_str("keys:0: TooLarge\n  at most 8388608 octets are allowed\n")
+            }
             Fault::Keys(KeyFault::Memory) => f.write_str("error: out of memory\n"),
-            Fault::Read => f.write_str("error: the key file cannot be read\n"),
+            Fault::Unread { path, kind } => {
+                writeln!(
+                    f,
+                    "error: the key file {path} cannot be read: {}",
+                    cause_of(*kind)
+                )
+            }
             Fault::Clock => f.write_str("error: the clock cannot be read\n"),
             Fault::Write => f.write_str("error: standard output cannot be written\n"),
             Fault::Input => f.write_str("error: standard input cannot be read as UTF-8 text\n"),
             Fault::Send => f.write_str("error: the packet cannot be sent to this port\n"),
-            Fault::From => {
-                f.write_str("error: the port of --from cannot be taken; another program has it\n")
-            }
+            Fault::Unbound { port } => writeln!(
+                f,
+                "error: 127.0.0.1:{port} cannot be bound: give --from a port that no program has"
+            ),
             Fault::Silent(silence) => silence.fmt(f),
             Fault::NotDone(failure) => failure.fmt(f),
         }

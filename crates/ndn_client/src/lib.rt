@@ -10,7 +10,7 @@ mod plan;
 
 pub use fault::Fault;
 pub use input::{packet_in, read_input_line, read_packet_input};
-pub use key_file::{read_book, read_key_file};
+pub use key_file::{read_book, read_key_file, unread_keys};
 pub use ndn_explain::put_input;
 pub use ndn_jobs::{
     AskJob, CommandJob, DataJob, ExplainJob, InterestJob, Job, KeyChoice, LinkJob, Ports, SendJob,

@@ -8,6 +8,7 @@ use hmac_keys::KeyBook;
 use ndn_client::{
     Exchange, Fault, InputForm, Job, Outcome, Plan, Progress, ToolFault, fault_of_silence,
     input_form, parse_words, plan_of, read_input_line, read_key_file, read_packet_input,
+    unread_keys,
 };
 use std::env::Env;
 use std::fs::File;
@@ -177,10 +178,9 @@ fn next_answer<R: Clock + AllocGlobal + Eprint + Print>(
 /// A socket between these ports of 127.0.0.1, from a new port if none is named.
 fn socket_of<R: Net>(rt: &R, from: Option<u16>, to: u16) -> Result<UdpSocket, Fault> {
     let Ok(socket) = UdpSocket::bind(rt, (Ipv4Addr::LOCALHOST, from.unwrap_or(0))) else {
-        return Err(if from.is_some() {
-            Fault::From
-        } else {
-            Fault::Send
+        return Err(match from {
+            Some(port) => Fault::Unbound { port },
+            None => Fault::Send,
         });
     };
     socket
@@ -244,11 +244,8 @@ fn book_of<R: AllocGlobal + Files>(rt: &R, job: &Job) -> Result<KeyBook, Fault> 
         return Ok(KeyBook::new(rt.alloc()));
     };
     match File::open(rt, path) {
-        Ok(file) => read_key_file(rt.alloc(), file),
-        Err(error) if error.kind() == io::ErrorKind::OutOfMemory => {
-            Err(Fault::Tool(ToolFault::Memory))
-        }
-        Err(_) => Err(Fault::Read),
+        Ok(file) => read_key_file(rt.alloc(), path, file),
+        Err(error) => Err(unread_keys(rt.alloc(), path, &error)),
     }
 }
 

@@ -1060,16 +1060,14 @@ fn reads_keys(alloc: Global, octets: &[u8], len: usize) -> bool {
 /// Key files as the program reads them.
 #[test]
 fn key_files(rt: HostRuntime) {
-    assert!(rt; refuses_keys(rt.alloc(), b"/a 6b\xff", "keys:0: BadLine\n"));
-    assert!(rt; refuses_keys(rt.alloc(), b"/a 6b\r\n", "keys:1: BadLine\n"));
-    assert!(rt;
-        refuses_keys(
-            rt.alloc(),
-            b"; a\n\n/a 6b\n/%61 6b\n",
-            "keys:4: TwiceNamed\n"
-        )
-    );
-    assert!(rt; refuses_keys(rt.alloc(), b"/a\n", "keys:1: BadLine\n"));
+    let not_text = "keys:0: BadLine\n  the file is not UTF-8 text\n";
+    assert!(rt; refuses_keys(rt.alloc(), b"/a 6b\xff", not_text));
+    let bad_line =
+        "keys:1: BadLine\n  a line is a name, one space, and 1 to 256 octets in hexadecimal: /ops/KEY/1 6b6579\n";
+    assert!(rt; refuses_keys(rt.alloc(), b"/a 6b\r\n", bad_line));
+    let twice = "keys:4: TwiceNamed\n  an earlier line has this name: give each name once\n";
+    assert!(rt; refuses_keys(rt.alloc(), b"; a\n\n/a 6b\n/%61 6b\n", twice));
+    assert!(rt; refuses_keys(rt.alloc(), b"/a\n", bad_line));
     assert!(rt; reads_keys(rt.alloc(), b"", 0));
     assert!(rt; reads_keys(rt.alloc(), OPS.as_bytes(), 1));
 }
@@ -1082,7 +1080,10 @@ fn refused<T: Drop>(alloc: Global, read: Result<T, Fault>) -> Option<String> {
 
 /// What a key file of so many semicolons is refused with.
 fn refused_key_file(alloc: Global, count: u64) -> Option<String> {
-    refused(alloc, read_key_file(alloc, repeat(b';').take(count)))
+    refused(
+        alloc,
+        read_key_file(alloc, "large.keys", repeat(b';').take(count)),
+    )
 }
 
 /// What a packet of so many digits is refused with.
@@ -1103,7 +1104,7 @@ fn refused_line(alloc: Global, count: u64) -> Option<String> {
 #[test]
 fn large_input(rt: HostRuntime) {
     let alloc = rt.alloc();
-    let keys = "1 keys:0: TooLarge\n";
+    let keys = "1 keys:0: TooLarge\n  at most 8388608 octets are allowed\n";
     assert!(rt; refused_key_file(alloc, 8_388_608).is_none());
     assert!(rt; refused_key_file(alloc, 8_388_609).as_deref() == Some(keys));
     let packet =
@@ -1129,11 +1130,35 @@ fn has_key_file(rt: &HostRuntime, command: &str, path: Option<&str>, status: u8)
         && key_file_status(rt, &job) == status)
 }
 
+/// What the key file of a command is refused with: the status and the text.
+fn refused_keys_of(rt: &HostRuntime, command: &str) -> Option<String> {
+    let job = job_of(rt.alloc(), command).ok()?;
+    refused(rt.alloc(), book_of(rt, &job))
+}
+
 /// A key file that is not there cannot be read.
 #[test]
 fn unreadable_key_file(rt: HostRuntime) {
-    let path = Some("no/such/file");
-    assert!(rt; has_key_file(&rt, "ndn_tool data /A --keys no/such/file", path, 3));
+    let said = refused_keys_of(&rt, "ndn_tool data /A --keys no/such/file");
+    let wanted = "3 error: the key file no/such/file cannot be read: there is no such file\n";
+    assert!(rt; said.as_deref() == Some(wanted));
+}
+
+/// Whether a port to send from that another socket has is refused, with the status and the text.
+fn refuses_taken_port(rt: &HostRuntime) -> Option<bool> {
+    let other = UdpSocket::bind(rt, (Ipv4Addr::LOCALHOST, 0)).ok()?;
+    let port = other.local_addr().ok()?.port();
+    let said = refused(rt.alloc(), socket_of(rt, Some(port), port))?;
+    let wanted = format!(in rt.alloc();
+        "3 error: 127.0.0.1:{port} cannot be bound: give --from a port that no program has\n"
+    ).ok()?;
+    Some(said.as_str() == wanted.as_str())
+}
+
+/// A port to send from that another program has cannot be bound.
+#[test]
+fn taken_port(rt: HostRuntime) {
+    assert!(rt; refuses_taken_port(&rt) == Some(true));
 }
 
 /// The job names its key file, and without one it has no keys.
@@ -1154,12 +1179,11 @@ fn statuses(rt: HostRuntime) {
         place: "HEX",
         wanted: "octets",
     };
-    assert!(rt; ends_with(Fault::Read, 3));
     assert!(rt; ends_with(Fault::Clock, 3));
     assert!(rt; ends_with(Fault::Write, 3));
     assert!(rt; ends_with(Fault::Input, 3));
     assert!(rt; ends_with(Fault::Send, 3));
-    assert!(rt; ends_with(Fault::From, 3));
+    assert!(rt; ends_with(Fault::Unbound { port: 6401 }, 3));
     assert!(rt; ends_with(Fault::Silent(Silence::Late), 3));
     assert!(rt; ends_with(Fault::NotDone(Failure::Refused), 1));
     assert!(rt; ends_with(Fault::NotDone(Failure::NoStatus), 1));
