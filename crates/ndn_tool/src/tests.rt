@@ -1060,7 +1060,7 @@ fn reads_keys(alloc: Global, octets: &[u8], len: usize) -> bool {
 /// Key files as the program reads them.
 #[test]
 fn key_files(rt: HostRuntime) {
-    let not_text = "keys:0: BadLine\n  the file is not UTF-8 text\n";
+    let not_text = "keys:0: BadLine\n  the file is not UTF-8 text: write it in UTF-8 or ASCII\n";
     assert!(rt; refuses_keys(rt.alloc(), b"/a 6b\xff", not_text));
     let bad_line =
         "keys:1: BadLine\n  a line is a name, one space, and 1 to 256 octets in hexadecimal: /ops/KEY/1 6b6579\n";
