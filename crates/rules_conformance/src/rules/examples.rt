@@ -8,36 +8,47 @@ use std::alloc::Global;
 use test_support::{KEYS, SAMPLE};
 
 /// The whole file of `docs/RULES.md`.
-const WHOLE: &str = r"; Who may change routes and strategies.
-rule {
+const WHOLE: &str = r#"; Changes of routes, strategies and the cache: signed by the key /ops/KEY/1.
+rule
+{
   id operators
   for interest
-  filter {
+  filter
+  {
     type name
     name /localhost/nfd
     relation is-prefix-of
   }
-  checker {
+  checker
+  {
     type customized
-    key-locator {
+    sig-type hmac-sha256
+    key-locator
+    {
       type name
-      regex ^<ops><KEY><>$
+      name /ops/KEY/1
+      relation equal
     }
   }
 }
 
-; Who may delete from the repository: one key. This rule stands before the next one.
-rule {
+; Deletions from the repository: one key. This rule has to come before the next one.
+rule
+{
   id archive-delete
   for interest
-  filter {
+  filter
+  {
     type name
     name /repo/delete
     relation is-prefix-of
   }
-  checker {
+  checker
+  {
     type customized
-    key-locator {
+    sig-type hmac-sha256
+    key-locator
+    {
       type name
       name /archive/KEY/1
       relation equal
@@ -45,59 +56,121 @@ rule {
   }
 }
 
-; Who may insert and check: any key of the laboratory.
-rule {
+; The other commands of the repository: any key of the laboratory.
+rule
+{
   id archive-use
   for interest
-  filter {
+  filter
+  {
     type name
     name /repo
     relation is-prefix-of
   }
-  checker {
+  checker
+  {
     type customized
-    key-locator {
+    sig-type hmac-sha256
+    key-locator
+    {
       type name
       regex ^<lab><>*<KEY><>$
     }
   }
 }
 
-; Data of the sensors: /sensors/roof/KEY/7 signs what is under /sensors/roof, and nothing else.
-rule {
-  id sensors
+; Data of the rooms: the key /keys/roof/KEY/7 signs Data under /lab/roof.
+rule
+{
+  id rooms
   for data
-  filter {
+  filter
+  {
+    type name
+    regex ^<lab><>+$
+  }
+  checker
+  {
+    type customized
+    key-locator
+    {
+      type name
+      hyper-relation
+      {
+        k-regex ^<keys>(<>*)<KEY><>$
+        k-expand \1
+        h-relation is-prefix-of
+        p-regex ^<lab>(<>*)$
+        p-expand \1
+      }
+    }
+  }
+}
+
+; Data of producers: the key /sensors/roof/KEY/7 signs Data under /sensors/roof.
+rule
+{
+  id producers
+  for data
+  filter
+  {
     type name
     name /sensors
     relation is-prefix-of
   }
-  checker {
+  filter
+  {
+    type name
+    name /cameras
+    relation is-strict-prefix-of
+  }
+  checker
+  {
     type hierarchical
+    sig-type hmac-sha256
   }
 }
 
-; All other Data. A digest shows damaged octets, and not who made them.
-rule {
+; All other Data: a digest. ECDSA is not verified, so no packet passes the second checker.
+rule
+{
   id others
   for data
-  checker {
+  checker
+  {
     type customized
     sig-type sha256
   }
+  checker
+  {
+    type hierarchical
+    sig-type ecdsa-sha256
+  }
 }
-";
+
+; Trust anchors, which files of ndn-cxx have, are skipped.
+trust-anchor
+{
+  type file
+  file-name "certificates/lab root.ndncert"   ; quoted, as it has a space
+}
+"#;
 
 const OF_WHOLE: &str = r"
 interest /localhost/nfd/fib/add-nexthop/P by /ops/KEY/1 key → allowed 0
 interest /localhost/nfd/fib/add-nexthop/P by digest → denied 0 SigType
+interest /localhost/nfd/fib/add-nexthop/P by /archive/KEY/1 key → denied 0 KeyLocator
 interest /repo/delete/P by /archive/KEY/1 key → allowed 1
 interest /repo/delete/P by /lab/roof/KEY/7 key → denied 1 KeyLocator
 interest /repo/insert/P by /lab/roof/KEY/7 key → allowed 2
 interest /elsewhere by /ops/KEY/1 key → no rule
-data /sensors/roof/1 by /sensors/roof/KEY/7 key → allowed 3
-data /sensors/roof/1 by digest → denied 3 SigType
-data /A by digest → allowed 4
+data /lab/roof/wind by /keys/roof/KEY/7 key → allowed 3
+data /lab/cellar/wind by /keys/roof/KEY/7 key → denied 3 KeyLocator
+data /lab by digest → allowed 5
+data /sensors/roof/1 by /sensors/roof/KEY/7 key → allowed 4
+data /sensors/roof/1 by digest → denied 4 SigType
+data /cameras by digest → allowed 5
+data /A by digest → allowed 5
 ";
 
 #[test]
@@ -105,7 +178,7 @@ fn a_whole_file(rt: HostRuntime) {
     assert_right(&rt, first_wrong_under(rt.alloc(), WHOLE, OF_WHOLE));
 }
 
-/// The first part in `docs/RULES.md`.
+/// The rule `operators` of `docs/RULES.md`.
 const OPERATORS: &str = r"rule
 {
   id operators
@@ -141,7 +214,7 @@ fn only_operators_change_routes(rt: HostRuntime) {
     assert_right(&rt, first_wrong_under(rt.alloc(), OPERATORS, OF_OPERATORS));
 }
 
-/// The second part in `docs/RULES.md`.
+/// The rules of the repository in `docs/RULES.md`.
 const ARCHIVE: &str = r"rule
 {
   id archive-delete
@@ -201,7 +274,7 @@ fn one_key_deletes(rt: HostRuntime) {
     assert_right(&rt, first_wrong_under(rt.alloc(), ARCHIVE, OF_ARCHIVE));
 }
 
-/// The third part in `docs/RULES.md`.
+/// The rules `producers` and `others` of `docs/RULES.md`, each with its first filter and checker.
 const PRODUCERS: &str = r"rule
 {
   id producers
@@ -260,7 +333,7 @@ fn digests_need_no_key(rt: HostRuntime) {
     assert_right(&rt, first_wrong_under(rt.alloc(), DIGESTS, OF_DIGESTS));
 }
 
-/// The hyper-relation of `docs/RULES.md` in a rule.
+/// The rule `rooms` of `docs/RULES.md`, without its filter.
 const SHARED_PART: &str = r"rule
 {
   id rooms
