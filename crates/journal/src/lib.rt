@@ -15,3 +15,6 @@ pub use law::{
 };
 pub use line::{Entry, LineFault, line_of};
 pub use step::{Coming, Journal, StepFault};
+
+#[cfg(test)]
+mod tests;

@@ -45,6 +45,7 @@ pub enum StepFault {
 }
 
 /// A file with a node's journal, and the node's time.
+#[derive(Drop)]
 pub struct Journal<F> {
     pub file: F,
     /// The greatest moment so far, in milliseconds since 1970.
