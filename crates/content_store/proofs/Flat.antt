@@ -5,7 +5,7 @@ use Rattle.std.proofs.lemmas.List.{length-append, get_or_append_left, get_or-app
 use Rattle.std.proofs.lemmas.List.Edits.{insert-append_left, insert-append_right, remove-append_left, remove-append_right}
 use Rattle.content_store.specs.declared.places.Block.{Block}
 use Rattle.content_store.specs.Uses.{without_range}
-use Rattle.content_store.specs.Places.{AreLaid, IsIn, IsLaid, flat}
+use Rattle.content_store.specs.PlaceBlocks.{AreLaid, IsIn, IsLaid, flat}
 
 pub flat-append : (xs ys : List Block) → flat (xs ++ ys) ≡ flat xs ++ flat ys
 unfolding flat

@@ -4,7 +4,7 @@ use Rattle.std.specs.Prelude.{None, Some, nat_eq}
 use Rattle.lru.specs.LruCache.{LruCache, lru_cache, promoted}
 use Rattle.ndn_packets.specs.Key.{PlainKey}
 use Rattle.content_store.specs.declared.rows.Row.{Row}
-use Rattle.content_store.specs.Store.{CachedData, StoreState, IsStore, IsLeast, CanServe, Gives, Finds, with_used}
+use Rattle.content_store.specs.Store.{CachedData, StoreState, IsStore, IsLeast, CanServe, GivesData, Finds, with_used}
 use Rattle.content_store.specs.Rows.{Placed, FirstWith, held_at}
 use Rattle.content_store.specs.Uses.{IsHeld, UsesAt, cached_in}
 use Rattle.content_store.proofs.Least.{held_store, none_serves, first_is_least}
@@ -15,7 +15,7 @@ abbrev pub seen : List Placed → LruCache ℕ ℕ → ℕ → StoreState
 seen rows used capacity = record { cached = cached_in rows used.entries; capacity = capacity }
 
 module _ (rows : List Placed) (used used' : LruCache ℕ ℕ) (capacity next : ℕ) (h : IsHeld rows used capacity next) (key : PlainKey) (now : ℕ) (s : StoreState) (is : seen rows used capacity ≡ s) where
-  pub gives_none : FirstWith (CanServe key now) rows None → Gives key now s.cached None × IsStore s × Finds key now s None s
+  pub gives_none : FirstWith (CanServe key now) rows None → GivesData key now s.cached None × IsStore s × Finds key now s None s
   gives_none first =
       let none : All (λ d. CanServe key now d → ⊥) s.cached =
       subst (λ (t : StoreState). All (λ d. CanServe key now d → ⊥) t.cached) is (none_serves (CanServe key now) rows used.entries next h.sound first) in
@@ -35,7 +35,7 @@ module _ (rows : List Placed) (used used' : LruCache ℕ ℕ) (capacity next : �
         subst (λ (v : LruCache ℕ ℕ). IsHeld rows v capacity next) (sym u) (held_used rows used capacity next at r.0 h first.0 (r.1 r.0))
 
     pub gives_some : (row : Row) (octets : List ℕ) → ((d : Placed) → (get_or rows at d).1 ≡ row) → octets ≡ row.entry.octets
-        → Gives key now s.cached (Some octets) × IsStore (seen rows used' capacity) × Finds key now s (Some octets) (seen rows used' capacity)
+        → GivesData key now s.cached (Some octets) × IsStore (seen rows used' capacity) × Finds key now s (Some octets) (seen rows used' capacity)
     gives_some row octets stands o =
         let r = stands_at rows at first.0 in
         let u : used' ≡ lru_cache (promoted (nat_eq r.0.1.serial) used.entries) used.cap =

@@ -1,8 +1,8 @@
 pub mod Store
 pub mod Entry
 pub mod Sought
-pub mod Places
+pub mod PlaceBlocks
 pub mod Rows
 pub mod Blocks
 pub mod Uses
-pub mod Find
+pub mod Lending

@@ -67,14 +67,14 @@ pub record IsStore (s : StoreState) : Type 0 where
 
 -- fresh while now is less than its arrival plus its FreshnessPeriod; the sum stops at the greatest
 -- moment
-abbrev pub IsFresh : CachedData → ℕ → Type 0
-IsFresh c now = now < min (c.arrival + c.freshness) (2 ^ 64 - 1)
+abbrev pub IsFreshData : CachedData → ℕ → Type 0
+IsFreshData c now = now < min (c.arrival + c.freshness) (2 ^ 64 - 1)
 
 -- it answers the Interest of this key, and is fresh where that has MustBeFresh
 abbrev pub CanServe : PlainKey → ℕ → CachedData → Type 0
 CanServe key now c =
     Answers c.name c.digest key.name key.can_be_prefix
-    × (key.must_be_fresh ≡ true → IsFresh c now)
+    × (key.must_be_fresh ≡ true → IsFreshData c now)
 
 -- of what is held and has P, it has the least full name in canonical order
 pub record IsLeast (P : CachedData → Type 0) (cs : List CachedData) (c : CachedData) : Type 0 where
@@ -103,9 +103,9 @@ with_used s c = record s { cached = c ∷ without (full_name_of c) s.cached }
 
 -- What a store gives for a key: nothing where nothing can serve it, and else the octets of the
 -- least full name that can.
-abbrev pub Gives : PlainKey → ℕ → List CachedData → Option (List ℕ) → Type 0
-Gives key now cached None = All (λ c. ¬ CanServe key now c) cached
-Gives key now cached (Some octets) =
+abbrev pub GivesData : PlainKey → ℕ → List CachedData → Option (List ℕ) → Type 0
+GivesData key now cached None = All (λ c. ¬ CanServe key now c) cached
+GivesData key now cached (Some octets) =
     (c : CachedData) × IsLeast (CanServe key now) cached c × (octets ≡ c.octets)
 
 -- The same, and what the store is then: what it gave is the most recently used.

@@ -7,7 +7,7 @@ ghost use Rattle.ndn_names.specs.View.{components};
 ghost use Rattle.ndn_packets.specs.Answers.{full_name};
 ghost use Rattle.ndn_packets.specs.FullName.{is_near};
 ghost use Rattle.ndn_packets.specs.Key.{plain_key};
-ghost use Rattle.content_store.specs.Store.{cached_at, full_name_of, IsFresh, CanServe};
+ghost use Rattle.content_store.specs.Store.{cached_at, full_name_of, IsFreshData, CanServe};
 ghost use Rattle.content_store.specs.Blocks.{fresh_until};
 
 use crate::full_name::{HEAD_LEN, compare_full_names, compare_heads, compare_with_name};
@@ -166,7 +166,7 @@ impl Entry {
 
     /// Whether the FreshnessPeriod since the arrival is not over.
     fn is_fresh(&self, now: u64) -> bool
-        ensures { IsTrue result ↔ IsFresh self.now now }
+        ensures { IsTrue result ↔ IsFreshData self.now now }
     {
         now < self.fresh_until()
     }

@@ -1,6 +1,6 @@
 ghost use Rattle.std.specs.Prelude.{◌≡◌, ◌+◌, ◌-◌, ◌<◌, ◌≤◌, ◌++◌, [], length, insert, slice_index, IfOk, OnErr, OnOk};
 ghost use Rattle.std.specs.List.{remove};
-ghost use Rattle.content_store.specs.Places.{flat, IsLaid, IsIn};
+ghost use Rattle.content_store.specs.PlaceBlocks.{flat, IsLaid, IsIn};
 ghost use Rattle.content_store.specs.Uses.{without_range};
 
 use ndn_tlv::Memory;
@@ -26,7 +26,7 @@ pub struct Places {
 
 impl Model for Places {
     ghost use Rattle.std.specs.Prelude.{List, ℕ};
-    ghost use Rattle.content_store.specs.Places.{flat, IsLaid};
+    ghost use Rattle.content_store.specs.PlaceBlocks.{flat, IsLaid};
 
     ghost Value = { List ℕ };
 

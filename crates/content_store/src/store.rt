@@ -3,7 +3,7 @@ ghost use Rattle.std.specs.Option.{option_map};
 ghost use Rattle.std.specs.List.{All, Contains};
 ghost use Rattle.ndn_names.specs.View.{components};
 ghost use Rattle.ndn_packets.specs.Key.{plain_key};
-ghost use Rattle.content_store.specs.Store.{CachedData, IsLeast, IsStore, CanServe, Gives, Finds, Erases, LosesSome, StoreState, cached_at, full_name_of, with_cached};
+ghost use Rattle.content_store.specs.Store.{CachedData, IsLeast, IsStore, CanServe, GivesData, Finds, Erases, LosesSome, StoreState, cached_at, full_name_of, with_cached};
 ghost use Rattle.content_store.specs.Rows.{Placed, Rising, name_at};
 ghost use Rattle.content_store.specs.Uses.{UsesAt, Sound, PutsNew, Renews};
 ghost use Rattle.content_store.specs.declared.fault.StoreFault.TheVariants as faults;
@@ -60,7 +60,7 @@ impl Model for Store {
 
 impl Store {
     ghost use Rattle.std.specs.Borrow.{sem};
-    ghost use Rattle.content_store.specs.Find.{EndsWith};
+    ghost use Rattle.content_store.specs.Lending.{EndsWith};
 
     /// An empty store that holds at most `capacity` Data, from 1 to 65,536: `BadCapacity` for any
     /// other, and else `Memory` where there is too little of it.
@@ -156,7 +156,7 @@ impl Store {
     /// since 1970: the least full name that answers and, with MustBeFresh, whose period since its
     /// arrival is not over. It is then the most recently used.
     pub fn find(&mut self, key: Key<'_>, now: u64) -> Option<&[u8]>
-        ensures found { Gives (plain_key key.entry) now self.old.cached
+        ensures found { GivesData (plain_key key.entry) now self.old.cached
             (option_map (λ o. o.now) result) }
         ensures* used { sem 𝓛 (EndsWith self.entry (λ after. IsStore after
             × Finds (plain_key key.entry) now self.old (option_map (λ o. o.now) result) after)) }
@@ -173,7 +173,7 @@ impl Store {
     /// Interest's name adds one to `steps`, at most 17.
     pub fn find_counted(&mut self, key: Key<'_>, now: u64, steps: &mut u64) -> Option<&[u8]>
         requires { steps.old ≤ 2 ^ 64 - 1 - 17 }
-        ensures found { Gives (plain_key key.entry) now self.old.cached
+        ensures found { GivesData (plain_key key.entry) now self.old.cached
             (option_map (λ o. o.now) result) }
         ensures counted { steps.old ≤ steps.new }
         ensures few { steps.new ≤ steps.old + 17 }
@@ -200,7 +200,7 @@ impl Store {
     /// As `find`, without its halving where `place_for` gave this place for this key, and the store
     /// is as it was then.
     pub fn serve_at(&mut self, place: usize, key: Key<'_>, now: u64) -> Option<&[u8]>
-        ensures found { Gives (plain_key key.entry) now self.old.cached
+        ensures found { GivesData (plain_key key.entry) now self.old.cached
             (option_map (λ o. o.now) result) }
         ensures* used { sem 𝓛 (EndsWith self.entry (λ after. IsStore after
             × Finds (plain_key key.entry) now self.old (option_map (λ o. o.now) result) after)) }

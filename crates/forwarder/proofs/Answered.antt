@@ -26,11 +26,11 @@ use Rattle.forwarder.specs.Event.{Send, Token}
 use Rattle.forwarder.specs.Verdict.{DataAllowed, Denied, NoRule, Scope, dropped}
 use Rattle.forwarder.specs.Policy.{Policy}
 use Rattle.forwarder.specs.Request.{is_out_of_scope}
-use Rattle.forwarder.specs.Said.{IsSaid}
+use Rattle.forwarder.specs.Deciding.{IsDecidedAs}
 use Rattle.forwarder.specs.Replies.{IsSentToAskers}
 use Rattle.forwarder.specs.Handling.{HandlesPacket, IsAnswered, IsHandled, IsPacketEffect, seen_by}
 use Rattle.forwarder.specs.Cache.{CacheAfter, Inserts, MayForget, held_from}
-use Rattle.forwarder.specs.Node.{NodeState, Unharmed}
+use Rattle.forwarder.specs.Node.{NodeState, ChangesCacheOnly}
 use Rattle.forwarder.specs.State.{IsLater, state_of}
 use Rattle.forwarder.proofs.Handled.{where_true, where_false}
 
@@ -38,7 +38,7 @@ use Rattle.forwarder.proofs.Handled.{where_true, where_false}
 
 -- a packet for which memory was refused
 pub refused_packet : {old new : State} {before after : List Send} {face : ℕ} {token : Token} {moment : ℕ} {packet : PlainFrame} (r : Result code.Verdict Memory) → IsErr r
-    → Unharmed (state_of old) (state_of new) × (after ≡ before) → HandlesPacket old new before after face token moment packet r
+    → ChangesCacheOnly (state_of old) (state_of new) × (after ≡ before) → HandlesPacket old new before after face token moment packet r
 refused_packet (Ok verdict) refused kept = absurd (false≢true refused)
 refused_packet (Err memory) refused kept = record { handled = tt; memory = kept }
 
@@ -48,7 +48,7 @@ pub sure_packet : {old new : State} {before after : List Send} {face : ℕ} {tok
 sure_packet (Ok verdict) done handled = record { handled = handled; memory = tt }
 sure_packet (Err memory) done handled = absurd (false≢true done)
 
-pub unharmed : (old new : NodeState) → new.policy ≡ old.policy → new.pending ≡ old.pending → new.cache ≡ old.cache → Unharmed old new
+pub unharmed : (old new : NodeState) → new.policy ≡ old.policy → new.pending ≡ old.pending → new.cache ≡ old.cache → ChangesCacheOnly old new
 unharmed old new policy pending cache = record {
   policy = policy;
   pending = pending;
@@ -69,7 +69,7 @@ still_wanted now name digest wants some =
 
 module _ (was new : NodeState) (face : ℕ) (token : Token) (whole : List ℕ) (d : PlainData) where
   module _ (sends : List Send) (rule : RuleNo) (here : is_out_of_scope was.policy face d.name ≡ false)
-      (said : IsSaid was.policy (AData whole d) (decided.Allowed rule)) where
+      (said : IsDecidedAs was.policy (AData whole d) (decided.Allowed rule)) where
     pub data_delivered : IsSentToAskers (seen_by was) face whole d sends
         → new.policy ≡ record was.policy { held = after_offer d.name (sha256 whole) whole was.policy.held }
         → Follows (Satisfied d.name (sha256 whole)) was.pending new.pending → HoldsTheLiving new.pending
@@ -94,7 +94,7 @@ module _ (was : NodeState) (face : ℕ) (token : Token) (whole : List ℕ) (d : 
   }
 
   module _ (here : is_out_of_scope was.policy face d.name ≡ false) where
-    pub data_denied : (rule : RuleNo) (reason : Reason) → IsSaid was.policy (AData whole d) (decided.Denied rule reason)
+    pub data_denied : (rule : RuleNo) (reason : Reason) → IsDecidedAs was.policy (AData whole d) (decided.Denied rule reason)
         → IsAnswered was face token (AData whole d) (record { verdict = Denied kinds.Data rule.0 reason; sends = [] }) was
     data_denied rule reason said = record {
       replies = where_false _ _ (is_out_of_scope was.policy face d.name) here (decided.Denied rule reason, said, refl);
@@ -104,7 +104,7 @@ module _ (was : NodeState) (face : ℕ) (token : Token) (whole : List ℕ) (d : 
       cache = refl;
     }
 
-    pub data_by_no_rule : IsSaid was.policy (AData whole d) decided.NoRule
+    pub data_by_no_rule : IsDecidedAs was.policy (AData whole d) decided.NoRule
         → IsAnswered was face token (AData whole d) (record { verdict = NoRule kinds.Data; sends = [] }) was
     data_by_no_rule said = record {
       replies = where_false _ _ (is_out_of_scope was.policy face d.name) here (decided.NoRule, said, refl);

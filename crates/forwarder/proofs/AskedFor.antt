@@ -26,7 +26,7 @@ use Rattle.repo_core.specs.Objects.{Objects, first_octets, full_name_answers, if
 use Rattle.repo_core.proofs.FullNames.{as_data}
 use Rattle.repo_core.proofs.Kept.{entries-kept, get-kept}
 use Rattle.forwarder.specs.Event.{PlainEvent, Packet, FaceUp, FaceDown, Tick, NewRules, moment, Send, Token, sent_back, token_in}
-use Rattle.forwarder.specs.Faces.{is_open}
+use Rattle.forwarder.specs.OpenFaces.{is_open}
 use Rattle.forwarder.specs.Verdict.{Answer, Dropped, NoSegment, Passed, dropped, passed}
 use Rattle.forwarder.specs.Policy.{Policy, at_moment}
 use Rattle.forwarder.specs.Request.{is_decided}
@@ -35,7 +35,7 @@ use Rattle.forwarder.specs.Effects.{decided_packet, packet_to_decide}
 use Rattle.forwarder.specs.Runs.{Run, Start, Then, IsRun, MayReply, now_of, records_of, seen_after}
 use Rattle.forwarder.specs.Allowed.{AllowedIn}
 use Rattle.forwarder.specs.AskedFor.{AnswersItself, BringsPacketOn, IsOwnAnswer, WasAskedFor}
-use Rattle.forwarder.specs.Sends.{BringsOctets, IsAtHand, IsExplained, IsForwardedData, IsReply, is_data}
+use Rattle.forwarder.specs.DataSends.{BringsOctets, IsAtHand, IsExplained, IsForwardedData, IsReply, is_data}
 use Rattle.forwarder.proofs.CachedRuns.{allowed_then, cached_came_allowed}
 use Rattle.mgmt_core.specs.Writing.{segment_at}
 use Rattle.forwarder.specs.Datasets.{dataset_text, is_present, segment_answer, segment_data, segment_name}

@@ -10,13 +10,13 @@ use Rattle.info_rules.specs.declared.decision.Decision.TheVariants as decided
 use Rattle.pit_fib.specs.Records.{Pending}
 use Rattle.content_store.specs.Store.{CachedData}
 use Rattle.forwarder.specs.Event.{PlainEvent, Packet, FaceUp, FaceDown, Tick, NewRules}
-use Rattle.forwarder.specs.Faces.{is_open}
+use Rattle.forwarder.specs.OpenFaces.{is_open}
 use Rattle.forwarder.specs.Event.{moment}
-use Rattle.forwarder.specs.Verdict.{Answer, DropReason, DataAllowed, Dropped, WhereTrue, NoFace, Scope as OutOfScope, dropped}
+use Rattle.forwarder.specs.Verdict.{Answer, DropReason, DataAllowed, Dropped, IfTrueElse, NoFace, Scope as OutOfScope, dropped}
 use Rattle.forwarder.specs.Policy.{Policy, at_moment}
 use Rattle.forwarder.specs.Request.{is_out_of_scope}
-use Rattle.forwarder.specs.Said.{IsSaid}
-use Rattle.forwarder.specs.Replies.{Seen, Replies, RepliesBySaid, RepliesToData, RepliesToPacket}
+use Rattle.forwarder.specs.Deciding.{IsDecidedAs}
+use Rattle.forwarder.specs.Replies.{Seen, Replies, RepliesByDecision, RepliesToData, RepliesToPacket}
 use Rattle.forwarder.specs.Effects.{decided_packet, packet_to_decide}
 use Rattle.forwarder.specs.Outcome.{outcome_of}
 use Rattle.forwarder.specs.Cache.{Inserts, cache_use}
@@ -39,7 +39,7 @@ module _ (was : Policy) (past : Run) (waiting : Pending) (face now : ℕ) (octet
   seen = seen_after past q waiting
 
   data_said : (whole : List ℕ) (d : PlainData) (said : Decision) → (packet_to_decide q face (Ok (AData whole d)) ≡ Some (AData whole d)) → (decided_packet q arrival ≡ Some (AData whole d))
-      → IsSaid q (AData whole d) said → RepliesBySaid seen face whole d answer said → Allows was arrival (AData whole d)
+      → IsDecidedAs q (AData whole d) said → RepliesByDecision seen face whole d answer said → Allows was arrival (AData whole d)
   data_said whole d (decided.Allowed n) heard brings s h = record { rule = n; brings = brings; said = s }
   data_said whole d (decided.Denied n reason) heard brings s h = absurd (let e = ap (λ (a : Answer). a.verdict) h in cc (e, v))
   data_said whole d decided.NoRule heard brings s h = absurd (let e = ap (λ (a : Answer). a.verdict) h in cc (e, v))
@@ -50,7 +50,7 @@ module _ (was : Policy) (past : Run) (waiting : Pending) (face now : ℕ) (octet
   data_allowed : (whole : List ℕ) (d : PlainData) → frame_at octets ≡ Ok (AData whole d) → is_open face q.faces ≡ true → RepliesToData seen face whole d answer → Allows was arrival (AData whole d)
   data_allowed whole d read open' h = by_scope (is_out_of_scope q face d.name) refl h
     where
-      by_scope : (b : Bool) → is_out_of_scope q face d.name ≡ b → WhereTrue b (answer ≡ dropped OutOfScope) ((said : Decision) × IsSaid q (AData whole d) said × RepliesBySaid seen face whole d answer said)
+      by_scope : (b : Bool) → is_out_of_scope q face d.name ≡ b → IfTrueElse b (answer ≡ dropped OutOfScope) ((said : Decision) × IsDecidedAs q (AData whole d) said × RepliesByDecision seen face whole d answer said)
           → Allows was arrival (AData whole d)
       by_scope true e h = never OutOfScope h
       by_scope false e h =
@@ -62,7 +62,7 @@ module _ (was : Policy) (past : Run) (waiting : Pending) (face now : ℕ) (octet
   came_in : (whole : List ℕ) (d : PlainData) → frame_at octets ≡ Ok (AData whole d) → Replies seen arrival answer → Allows was arrival (AData whole d)
   came_in whole d read h = by_open (is_open face q.faces) refl h
     where
-      by_open : (o : Bool) → is_open face q.faces ≡ o → WhereTrue o (RepliesToPacket seen face (token_at octets) (frame_at octets) answer) (answer ≡ dropped NoFace) → Allows was arrival (AData whole d)
+      by_open : (o : Bool) → is_open face q.faces ≡ o → IfTrueElse o (RepliesToPacket seen face (token_at octets) (frame_at octets) answer) (answer ≡ dropped NoFace) → Allows was arrival (AData whole d)
       by_open true e h = data_allowed whole d read e (subst (λ (r : Result PlainFrame PacketFault). RepliesToPacket seen face (token_at octets) r answer) read h)
       by_open false e h = never NoFace h
 

@@ -31,16 +31,16 @@ use Rattle.repo_core.specs.Reading.{RepoCommand, repo_command_at}
 use Rattle.repo_core.specs.Repo.{Held, IsCommandPrepared, RepoState, is_insert, reply_to}
 use Rattle.repo_core.specs.Writing.{repo_response}
 use Rattle.repo_core.proofs.Texts.{known_is_bounded, reply_has_text}
-use Rattle.pit_fib.specs.declared.faces.TheConstants.{MAX_FACES}
+use Rattle.pit_fib.specs.declared.face_set.TheConstants.{MAX_FACES}
 use Rattle.forwarder.specs.Event.{Token}
 use Rattle.forwarder.specs.Policy.{Policy, with_next_version}
 use Rattle.forwarder.specs.Request.{ForRepository, ForTables}
-use Rattle.forwarder.specs.Said.{recorded_of}
+use Rattle.forwarder.specs.Deciding.{recorded_of}
 use Rattle.forwarder.specs.Commands.{after_repository, after_tables, fetch_sends, replied, repository_content, repository_reply, tables_reply, tables_status, with_record}
 use Rattle.pit_fib.specs.Records.{Pending}
 use Rattle.forwarder.specs.Cache.{CacheAfter, Erases, Untouched, command_use}
 use Rattle.forwarder.specs.Node.{NodeState}
-use Rattle.forwarder.specs.Commanding.{IsCommanded}
+use Rattle.forwarder.specs.CommandStep.{IsCommanded}
 
 module _ (was new : NodeState) (face : ℕ) (token : Token) (status : ℕ) (i : PlainInterest) (content : List ℕ) where
   -- a command on the tables, where this is read off its name

@@ -30,7 +30,7 @@ use Rattle.ndn_packets.proofs.WrittenLinks.{lp_nack_read}
 use Rattle.forwarder.specs.Causes.{is_nack, is_nack_frame, is_nacked}
 use Rattle.forwarder.specs.Event.{Token, to_each}
 use Rattle.forwarder.specs.NextHops.{sent_on}
-use Rattle.forwarder.specs.Sends.{carries_data, holds_data, is_data, is_data_frame}
+use Rattle.forwarder.specs.DataSends.{carries_data, holds_data, is_data, is_data_frame}
 
 -- whether the first octet is this one
 abbrev pub begins : ℕ → List ℕ → Bool

@@ -17,19 +17,19 @@ use Rattle.strategies.specs.declared.strategy.Choice.{Choice}
 use Rattle.strategies.specs.declared.strategy.Choice.TheVariants as choices
 use Rattle.mgmt_core.specs.Writing.{segment_at}
 use Rattle.repo_core.specs.Objects.{served}
-use Rattle.pit_fib.specs.declared.faces.TheConstants.{MAX_FACES}
+use Rattle.pit_fib.specs.declared.face_set.TheConstants.{MAX_FACES}
 use Rattle.forwarder.specs.Event.{PlainEvent, Packet, FaceUp, FaceDown, Tick, NewRules, Token, nacked_back}
-use Rattle.forwarder.specs.Faces.{is_open}
+use Rattle.forwarder.specs.OpenFaces.{is_open}
 use Rattle.forwarder.specs.Event.{to_each}
-use Rattle.forwarder.specs.Verdict.{Answer, Dropped, WhereTrue, BadFace, FaceOpen, FacesFull, Loop, NoFace, NoSegment, PitFull, Scope as OutOfScope, dropped, passed}
+use Rattle.forwarder.specs.Verdict.{Answer, Dropped, IfTrueElse, BadFace, FaceOpen, FacesFull, Loop, NoFace, NoSegment, PitFull, Scope as OutOfScope, dropped, passed}
 use Rattle.forwarder.specs.Policy.{Policy}
 use Rattle.forwarder.specs.Request.{ListAsked, Request, Refused, ForList, ForTables, ForRepository, ForData, is_command, is_out_of_scope, request_of}
 use Rattle.forwarder.specs.NextHops.{ask_from, choice_for, sent_on}
-use Rattle.forwarder.specs.Said.{IsSaid}
+use Rattle.forwarder.specs.Deciding.{IsDecidedAs}
 use Rattle.forwarder.specs.Commands.{command_answer}
 use Rattle.forwarder.specs.Datasets.{is_present, list_answer, dataset_text, segment_answer, segment_name}
-use Rattle.forwarder.specs.Replies.{Seen, Replies, RepliesBySaid, RepliesForData, RepliesToData, RepliesToPacket, RepliesToRequest, by_content_store, by_strategy, nack_answer, opening_answer, by_repository}
-use Rattle.forwarder.specs.Effects.{IsEffect, after_said, decided_packet, packet_to_decide}
+use Rattle.forwarder.specs.Replies.{Seen, Replies, RepliesByDecision, RepliesForData, RepliesToData, RepliesToPacket, RepliesToRequest, by_content_store, by_strategy, nack_answer, opening_answer, by_repository}
+use Rattle.forwarder.specs.Effects.{IsEffect, after_decision, decided_packet, packet_to_decide}
 use Rattle.forwarder.specs.Runs.{is_denied}
 use Rattle.forwarder.proofs.OneEffect.{one_said}
 use Rattle.forwarder.proofs.RunSteps.{seen_with}
@@ -74,7 +74,7 @@ mild_cache seen face token whole i None = mild_unserved seen face token whole i 
 pub mild_data : (seen : Seen) (face : ℕ) (token : Token) (whole : List ℕ) (i : PlainInterest) (answer : Answer) → RepliesForData seen face token whole i answer → Mild answer
 mild_data seen face token whole i answer h = by_loop (loops (seen.records (key_of i)) face i.nonce) h
   where
-    by_loop : (b : Bool) → WhereTrue b (answer ≡ record { verdict = Dropped Loop; sends = nacked_back face token DUPLICATE whole ∷ [] }) ((given : Option (List ℕ)) × seen.MayGive (key_of i) given × (answer ≡ by_content_store seen face token whole i given)) → Mild answer
+    by_loop : (b : Bool) → IfTrueElse b (answer ≡ record { verdict = Dropped Loop; sends = nacked_back face token DUPLICATE whole ∷ [] }) ((given : Option (List ℕ)) × seen.MayGive (key_of i) given × (answer ≡ by_content_store seen face token whole i given)) → Mild answer
     by_loop true e = mild_is answer _ e refl
     by_loop false h = mild_is answer _ h.2 (mild_cache seen face token whole i h.0)
 
@@ -100,7 +100,7 @@ mild_closing false = refl
 
 -- where this is said, nothing changes
 abbrev IsIdle : Policy → ℕ → PlainFrame → Decision → Type 0
-IsIdle p face packet said = after_said p face packet said ≡ p
+IsIdle p face packet said = after_decision p face packet said ≡ p
 
 module _ (p : Policy) (records : PlainKey → Records) (full : Bool) (G : PlainKey → Option (List ℕ) → Type 0) (apart : AreApart p.keys) (answer : Answer)
     (denied : is_denied answer.verdict ≡ true) where
@@ -110,7 +110,7 @@ module _ (p : Policy) (records : PlainKey → Records) (full : Bool) (G : PlainK
   never : {A : Type 0} → Mild answer → A
   never m = cc (m, denied)
 
-  by_decision : (face : ℕ) (packet : PlainFrame) (said other : Decision) → IsSaid p packet said → IsSaid p packet other → IsIdle p face packet said → IsIdle p face packet other
+  by_decision : (face : ℕ) (packet : PlainFrame) (said other : Decision) → IsDecidedAs p packet said → IsDecidedAs p packet other → IsIdle p face packet said → IsIdle p face packet other
   by_decision face packet said other h k idle =
       subst (λ (d : Decision). IsIdle p face packet d) (one_said p packet said other apart h k) idle
 
@@ -119,22 +119,22 @@ module _ (p : Policy) (records : PlainKey → Records) (full : Bool) (G : PlainK
   command_idle face token whole i (decided.Denied rule reason) e = refl
   command_idle face token whole i decided.NoRule e = refl
 
-  data_idle : (face : ℕ) (whole : List ℕ) (d : PlainData) (said : Decision) → RepliesBySaid seen face whole d answer said → IsIdle p face (AData whole d) said
+  data_idle : (face : ℕ) (whole : List ℕ) (d : PlainData) (said : Decision) → RepliesByDecision seen face whole d answer said → IsIdle p face (AData whole d) said
   data_idle face whole d (decided.Allowed rule) h = never (ap is_denied h.0)
   data_idle face whole d (decided.Denied rule reason) h = refl
   data_idle face whole d decided.NoRule h = refl
 
   -- a packet that is decided is idle, whatever is said of it
   abbrev Idles : ℕ → Option PlainFrame → Type 0
-  Idles face packet = (found : PlainFrame) (said : Decision) → packet ≡ Some found → IsSaid p found said → IsIdle p face found said
+  Idles face packet = (found : PlainFrame) (said : Decision) → packet ≡ Some found → IsDecidedAs p found said → IsIdle p face found said
 
   none_idles : (face : ℕ) → Idles face None
   none_idles face found said e h = cc e
 
-  some_idles : (face : ℕ) (packet : PlainFrame) (said : Decision) → IsSaid p packet said → IsIdle p face packet said → Idles face (Some packet)
+  some_idles : (face : ℕ) (packet : PlainFrame) (said : Decision) → IsDecidedAs p packet said → IsIdle p face packet said → Idles face (Some packet)
   some_idles face packet said h idle found other e k =
       let is : packet ≡ found = cc e in
-      subst (λ (f : PlainFrame). IsIdle p face f other) is (by_decision face packet said other h (subst (λ (f : PlainFrame). IsSaid p f other) (sym is) k) idle)
+      subst (λ (f : PlainFrame). IsIdle p face f other) is (by_decision face packet said other h (subst (λ (f : PlainFrame). IsDecidedAs p f other) (sym is) k) idle)
 
   request_idles : (face : ℕ) (token : Token) (whole : List ℕ) (i : PlainInterest) (r : Request) → RepliesToRequest seen face token whole i answer r
       → Idles face (if is_command r then Some (AnInterest whole i) else None)
@@ -147,7 +147,7 @@ module _ (p : Policy) (records : PlainKey → Records) (full : Bool) (G : PlainK
   data_idles : (face : ℕ) (whole : List ℕ) (d : PlainData) → RepliesToData seen face whole d answer → Idles face (if not (is_out_of_scope p face d.name) then Some (AData whole d) else None)
   data_idles face whole d h = by_scope (is_out_of_scope p face d.name) h
     where
-      by_scope : (b : Bool) → WhereTrue b (answer ≡ dropped OutOfScope) ((said : Decision) × IsSaid p (AData whole d) said × RepliesBySaid seen face whole d answer said)
+      by_scope : (b : Bool) → IfTrueElse b (answer ≡ dropped OutOfScope) ((said : Decision) × IsDecidedAs p (AData whole d) said × RepliesByDecision seen face whole d answer said)
           → Idles face (if not b then Some (AData whole d) else None)
       by_scope true h = none_idles face
       by_scope false h = some_idles face (AData whole d) h.0 h.1 (data_idle face whole d h.0 h.2)
@@ -166,7 +166,7 @@ module _ (p : Policy) (records : PlainKey → Records) (full : Bool) (G : PlainK
   pub denied_effect : (event : PlainEvent) → Replies seen event answer → (new : Policy) → IsEffect p event new (decided_packet p event) → new ≡ p
   denied_effect (Packet face now octets) h new e = by_open (is_open face p.faces) h e
     where
-      by_open : (b : Bool) → WhereTrue b (RepliesToPacket seen face (token_at octets) (frame_at octets) answer) (answer ≡ dropped NoFace)
+      by_open : (b : Bool) → IfTrueElse b (RepliesToPacket seen face (token_at octets) (frame_at octets) answer) (answer ≡ dropped NoFace)
           → IsEffect p (Packet face now octets) new (if b then packet_to_decide p face (frame_at octets) else None) → new ≡ p
       by_open true h e = by_packet face now octets (packet_to_decide p face (frame_at octets)) (packet_idles face (token_at octets) (frame_at octets) h) new e
       by_open false h e = never (mild_is answer (dropped NoFace) h refl)

@@ -18,7 +18,7 @@ use Rattle.info_rules.specs.declared.decision.Decision.{Decision}
 use Rattle.info_rules.specs.declared.decision.Decision.TheVariants as decided
 use Rattle.pit_fib.specs.declared.nacked.Nacked.{Nacked}
 use Rattle.pit_fib.specs.declared.nacked.Nacked.TheVariants as nacks
-use Rattle.pit_fib.specs.Faces.{has_face}
+use Rattle.pit_fib.specs.FaceSet.{has_face}
 use Rattle.pit_fib.specs.Pit.{loops, moments, nacked_answer}
 use Rattle.pit_fib.specs.Records.{InRecord, InRecords, is_alive}
 use Rattle.pit_fib.specs.Tokens.{IsTokenFor}
@@ -27,19 +27,19 @@ use Rattle.strategies.specs.declared.strategy.Choice.TheVariants as choices
 use Rattle.mgmt_core.specs.Writing.{segment_at}
 use Rattle.repo_core.specs.declared.reply.Want.{Want}
 use Rattle.repo_core.specs.Objects.{served}
-use Rattle.pit_fib.specs.declared.faces.TheConstants.{MAX_FACES}
+use Rattle.pit_fib.specs.declared.face_set.TheConstants.{MAX_FACES}
 use Rattle.forwarder.specs.Event.{PlainEvent, Packet, FaceUp, FaceDown, Tick, NewRules, Send, Token, nacked_back, sent_back}
-use Rattle.forwarder.specs.Faces.{is_open}
+use Rattle.forwarder.specs.OpenFaces.{is_open}
 use Rattle.forwarder.specs.Event.{to_each}
-use Rattle.forwarder.specs.Verdict.{Answer, DropReason, Dropped, WhereTrue, BadFace, FaceOpen, FacesFull, Idle as IsIdle, Loop, Malformed, NoFace, NoSegment, PitFull, Scope as OutOfScope, dropped, passed}
+use Rattle.forwarder.specs.Verdict.{Answer, DropReason, Dropped, IfTrueElse, BadFace, FaceOpen, FacesFull, Idle as IsIdle, Loop, Malformed, NoFace, NoSegment, PitFull, Scope as OutOfScope, dropped, passed}
 use Rattle.forwarder.specs.Request.{ListAsked, Request, Refused, ForList, ForTables, ForRepository, ForData, is_command, is_out_of_scope, list_asked, request_of}
 use Rattle.forwarder.specs.NextHops.{ask_for, ask_from, choice_for, sent_on}
-use Rattle.forwarder.specs.Said.{IsSaid}
+use Rattle.forwarder.specs.Deciding.{IsDecidedAs}
 use Rattle.forwarder.specs.Effects.{decided_packet, packet_to_decide}
 use Rattle.forwarder.specs.Commands.{repository_reply, allowed_reply, command_answer, fetch_sends, fetch_text, is_unwritable, reply_content, to_chosen}
 use Rattle.forwarder.specs.Datasets.{is_present, list_answer, dataset_text, segment_answer, segment_data, segment_name}
-use Rattle.forwarder.specs.Replies.{Seen, Replies, RepliesBySaid, RepliesForData, RepliesToData, RepliesToNack, RepliesToPacket, RepliesToRequest, by_content_store, by_strategy, nack_answer, opening_answer, by_repository, Askers, faces_of, sent_to}
-use Rattle.forwarder.specs.Sends.{BringsOctets, EachIsExplained, IsAtHand, IsExplained}
+use Rattle.forwarder.specs.Replies.{Seen, Replies, RepliesByDecision, RepliesForData, RepliesToData, RepliesToNack, RepliesToPacket, RepliesToRequest, by_content_store, by_strategy, nack_answer, opening_answer, by_repository, Askers, faces_of, sent_to}
+use Rattle.forwarder.specs.DataSends.{BringsOctets, EachIsExplained, IsAtHand, IsExplained}
 use Rattle.forwarder.proofs.Contents.{begins, begins_interest, interest_is_neither, nack_is_no_data, read_begins, sent_on_begins}
 use Rattle.forwarder.proofs.Origins.{AllFit, FitsLink, token_fits}
 use Rattle.forwarder.proofs.NackSteps.{all_entries}
@@ -85,7 +85,7 @@ module _ (seen : Seen) (face now : ℕ) (octets whole : List ℕ) (i : PlainInte
   hand : (text : List ℕ) → IsAtHand seen face whole i text → IsExplained seen event (sent_back face token text)
   hand text h = inr (inl (record { now = now; octets = octets; whole = whole; interest = i; brings = refl; read = read; packet = text; at_hand = h; answered = refl }))
 
-  reply_explained : is_command (request_of seen.policy face i) ≡ true → (said : Decision) → IsSaid seen.policy (AnInterest whole i) said
+  reply_explained : is_command (request_of seen.policy face i) ≡ true → (said : Decision) → IsDecidedAs seen.policy (AnInterest whole i) said
       → IsExplained seen event (sent_back face token (reply_text i.name (reply_content seen.policy face i said)))
   reply_explained is said says = hand _ (inr (inr (inl (is, (said, says, refl)))))
 
@@ -109,7 +109,7 @@ module _ (seen : Seen) (face now : ℕ) (octets whole : List ℕ) (i : PlainInte
   fetches_explained ForRepository = fetch_explained (repository_reply seen.policy i).fetch
   fetches_explained ForData = All-nil (IsExplained seen event)
 
-  command_explained : is_command (request_of seen.policy face i) ≡ true → (said : Decision) → IsSaid seen.policy (AnInterest whole i) said
+  command_explained : is_command (request_of seen.policy face i) ≡ true → (said : Decision) → IsDecidedAs seen.policy (AnInterest whole i) said
       → EachIsExplained seen event (command_answer seen.policy face token i said)
   command_explained is (decided.Allowed rule) says =
       let reply = allowed_reply seen.policy face i (request_of seen.policy face i) in
@@ -160,7 +160,7 @@ module _ (seen : Seen) (face now : ℕ) (octets whole : List ℕ) (i : PlainInte
   data_explained : (answer : Answer) → RepliesForData seen face token whole i answer → EachIsExplained seen event answer
   data_explained answer h = by_loop (loops (seen.records (key_of i)) face i.nonce) h
     where
-      by_loop : (b : Bool) → WhereTrue b (answer ≡ record { verdict = Dropped Loop; sends = nacked_back face token DUPLICATE whole ∷ [] })
+      by_loop : (b : Bool) → IfTrueElse b (answer ≡ record { verdict = Dropped Loop; sends = nacked_back face token DUPLICATE whole ∷ [] })
           ((given : Option (List ℕ)) × seen.MayGive (key_of i) given × (answer ≡ by_content_store seen face token whole i given)) → EachIsExplained seen event answer
       by_loop true e =
           each_is seen event answer _ e (one_send (IsExplained seen event) (nacked_back face token DUPLICATE whole) (nack_explained seen event face token DUPLICATE whole is_token short))
@@ -195,8 +195,8 @@ module _ (seen : Seen) (face now : ℕ) (octets : List ℕ) (fits : AreOctets oc
   abbrev arrival : PlainEvent
   arrival = Packet face now octets
 
-  said_explained : (whole : List ℕ) (d : PlainData) → frame_at octets ≡ Ok (AData whole d) → decided_packet seen.policy arrival ≡ Some (AData whole d) → (said : Decision) → IsSaid seen.policy (AData whole d) said
-      → RepliesBySaid seen face whole d answer said → EachIsExplained seen arrival answer
+  said_explained : (whole : List ℕ) (d : PlainData) → frame_at octets ≡ Ok (AData whole d) → decided_packet seen.policy arrival ≡ Some (AData whole d) → (said : Decision) → IsDecidedAs seen.policy (AData whole d) said
+      → RepliesByDecision seen face whole d answer said → EachIsExplained seen arrival answer
   said_explained whole d read heard (decided.Allowed rule) said h =
       let sent = h.1 in
       subst (All (IsExplained seen arrival)) (sym sent.4)
@@ -224,7 +224,7 @@ module _ (seen : Seen) (face now : ℕ) (octets : List ℕ) (fits : AreOctets oc
   forwarding_explained : (whole : List ℕ) (d : PlainData) → frame_at octets ≡ Ok (AData whole d) → is_open face seen.policy.faces ≡ true → RepliesToData seen face whole d answer → EachIsExplained seen arrival answer
   forwarding_explained whole d read open' h = by_scope (is_out_of_scope seen.policy face d.name) refl h
     where
-      by_scope : (b : Bool) → is_out_of_scope seen.policy face d.name ≡ b → WhereTrue b (answer ≡ dropped OutOfScope) ((said : Decision) × IsSaid seen.policy (AData whole d) said × RepliesBySaid seen face whole d answer said)
+      by_scope : (b : Bool) → is_out_of_scope seen.policy face d.name ≡ b → IfTrueElse b (answer ≡ dropped OutOfScope) ((said : Decision) × IsDecidedAs seen.policy (AData whole d) said × RepliesByDecision seen face whole d answer said)
           → EachIsExplained seen arrival answer
       by_scope true out e = no_sends seen arrival answer OutOfScope e
       by_scope false here h =
@@ -249,7 +249,7 @@ module _ (seen : Seen) (face now : ℕ) (octets : List ℕ) (fits : AreOctets oc
   nack_explains : (reason : ℕ) (i : PlainInterest) → RepliesToNack seen face reason i answer → EachIsExplained seen arrival answer
   nack_explains reason i h = by_scope (is_out_of_scope seen.policy face i.name) h
     where
-      by_scope : (b : Bool) → WhereTrue b (answer ≡ dropped OutOfScope) (answer ≡ nack_answer (seen.records (key_of i)).in_records (nacked_answer (seen.records (key_of i)) face i.nonce reason))
+      by_scope : (b : Bool) → IfTrueElse b (answer ≡ dropped OutOfScope) (answer ≡ nack_answer (seen.records (key_of i)).in_records (nacked_answer (seen.records (key_of i)) face i.nonce reason))
           → EachIsExplained seen arrival answer
       by_scope true e = no_sends seen arrival answer OutOfScope e
       by_scope false e =
@@ -266,7 +266,7 @@ module _ (seen : Seen) (face now : ℕ) (octets : List ℕ) (fits : AreOctets oc
 pub all_explained : (seen : Seen) (event : PlainEvent) (answer : Answer) → AllFit seen.records → BringsOctets event → Replies seen event answer → EachIsExplained seen event answer
 all_explained seen (Packet face now octets) answer linked fits h = by_open (is_open face seen.policy.faces) refl h
   where
-    by_open : (b : Bool) → is_open face seen.policy.faces ≡ b → WhereTrue b (RepliesToPacket seen face (token_at octets) (frame_at octets) answer) (answer ≡ dropped NoFace) → EachIsExplained seen (Packet face now octets) answer
+    by_open : (b : Bool) → is_open face seen.policy.faces ≡ b → IfTrueElse b (RepliesToPacket seen face (token_at octets) (frame_at octets) answer) (answer ≡ dropped NoFace) → EachIsExplained seen (Packet face now octets) answer
     by_open true is h = packet_explained seen face now octets fits answer linked (frame_at octets) refl is h
     by_open false is e = no_sends seen (Packet face now octets) answer NoFace e
 all_explained seen (FaceUp face scope now) answer linked fits h = each_is seen (FaceUp face scope now) answer (opening_answer seen.policy face) h

@@ -4,11 +4,11 @@ use Rattle.std.proofs.lemmas.Bool.{eq-eqb, lt-leb, le-leb}
 use Rattle.pit_fib.specs.Cause.{Closed, Follows}
 use Rattle.pit_fib.specs.Fib.{without_face}
 use Rattle.pit_fib.specs.Records.{HoldsTheLiving, records_at}
-use Rattle.pit_fib.specs.declared.faces.TheConstants.{MAX_FACES}
+use Rattle.pit_fib.specs.declared.face_set.TheConstants.{MAX_FACES}
 use Rattle.forwarder.specs.declared.event.Scope.{Scope}
 use Rattle.forwarder.specs.Effects.{with_open, with_closed}
 use Rattle.forwarder.specs.Event.{FaceUp, FaceDown}
-use Rattle.forwarder.specs.Faces.{is_open, with_face, without_entry}
+use Rattle.forwarder.specs.OpenFaces.{is_open, with_face, without_entry}
 use Rattle.forwarder.specs.Node.{NodeState, IsStep}
 use Rattle.forwarder.specs.Policy.{Policy, with_next_version}
 use Rattle.forwarder.specs.Replies.{opening_answer}

@@ -13,7 +13,7 @@ use Rattle.ndn_packets.specs.Grammar.{IsInterest}
 use Rattle.ndn_packets.specs.Link.{IsToken}
 use Rattle.ndn_packets.specs.Writing.{AreOctets, lp_text}
 use Rattle.pit_fib.specs.Cause.{Cause, Arrives, SentTo, Withdrawn, changed, settled, same_key, sent_at, records_after, Follows}
-use Rattle.pit_fib.specs.Faces.{IsRising, has_face, with_face}
+use Rattle.pit_fib.specs.FaceSet.{IsRising, has_face, with_face}
 use Rattle.pit_fib.specs.Pit.{HasRecord, HasRoomFor, moments}
 use Rattle.pit_fib.specs.declared.hops.Hop.{Hop}
 use Rattle.pit_fib.specs.Tables.{ByFace}
@@ -26,11 +26,11 @@ use Rattle.mgmt_core.specs.Tables.{AllAreUp}
 use Rattle.strategies.specs.Choice.{faces_of}
 use Rattle.strategies.specs.declared.strategy.Choice.TheVariants.{NoRoute, Send as SendTo}
 use Rattle.strategies.specs.Eligible.{eligible, is_eligible}
-use Rattle.pit_fib.specs.declared.faces.TheConstants.{MAX_FACES}
+use Rattle.pit_fib.specs.declared.face_set.TheConstants.{MAX_FACES}
 use Rattle.forwarder.specs.Causes.{after_causes, in_record_for, interest_causes, is_answered, is_nack, is_nacked, sent_causes}
 use Rattle.forwarder.proofs.Contents.{begins, interest_is_neither, nack_is_nack, none_nacked, sent_on_begins, spelled_begins}
 use Rattle.forwarder.specs.Event.{Send, to_each, Token, nacked_back}
-use Rattle.forwarder.specs.Faces.{FaceEntry, is_open, numbers}
+use Rattle.forwarder.specs.OpenFaces.{FaceEntry, is_open, numbers}
 use Rattle.forwarder.specs.Forwarding.{choice_from}
 use Rattle.forwarder.specs.NextHops.{ask_from, hops_for, selection_of, sent_on, strategy_for}
 use Rattle.forwarder.specs.Policy.{Policy, open_faces}

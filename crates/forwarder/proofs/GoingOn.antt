@@ -8,7 +8,7 @@ use Rattle.info_rules.specs.Rule.{PlainRule}
 use Rattle.pit_fib.specs.Records.{Pending, HoldsTheLiving, records_at}
 use Rattle.forwarder.specs.declared.verdict.Verdict as code
 use Rattle.forwarder.specs.Event.{PlainEvent, NewRules, Send, Tick}
-use Rattle.forwarder.specs.Node.{NodeState, IsStep, Unharmed}
+use Rattle.forwarder.specs.Node.{NodeState, IsStep, ChangesCacheOnly}
 use Rattle.forwarder.specs.Policy.{Policy, with_rules}
 use Rattle.forwarder.specs.Runs.{Run, Then, IsRun, Stands}
 use Rattle.forwarder.specs.State.{IsLater, IsSound}
@@ -18,7 +18,7 @@ use Rattle.forwarder.proofs.Soundness.{step_sound}
 use Rattle.forwarder.proofs.Standing.{step_goes_on}
 
 -- what was refused memory is as sound as before
-unharmed_sound : (old new : NodeState) → IsSound old → Unharmed old new → IsSound new
+unharmed_sound : (old new : NodeState) → IsSound old → ChangesCacheOnly old new → IsSound new
 unharmed_sound old new sound unharmed =
     subst (λ (p : Policy). IsSound (record { policy = p; pending = new.pending; cache = new.cache })) (sym unharmed.policy)
     (subst (λ (t : Pending). IsSound (record { policy = old.policy; pending = t; cache = new.cache })) (sym unharmed.pending) (record {
@@ -29,18 +29,18 @@ unharmed_sound old new sound unharmed =
     }))
 
 pub sound_after : (old new : NodeState) (before after : List Send) (event : PlainEvent) (r : Result code.Verdict Memory) → IsSound old
-    → IfOk r (StepsBy old new before after event) → OnErr r (Unharmed old new × (after ≡ before)) → IsSound new
+    → IfOk r (StepsBy old new before after event) → OnErr r (ChangesCacheOnly old new × (after ≡ before)) → IsSound new
 sound_after old new before after event (Ok verdict) sound (sends, is, step) none = step_sound old new event (record { verdict = verdict_of verdict; sends = sends }) sound step
 sound_after old new before after event (Err memory) sound none (unharmed, is) = unharmed_sound old new sound unharmed
 
-abbrev pub GoesOn : NodeState → NodeState → List Send → PlainEvent → code.Verdict → Type 0
-GoesOn old new sends event verdict =
+abbrev pub ExtendsRunsByEvent : NodeState → NodeState → List Send → PlainEvent → code.Verdict → Type 0
+ExtendsRunsByEvent old new sends event verdict =
     (first : Policy) (past : Run) → first.now ≡ 0 → IsRun first past → Stands first past old
     → IsRun first (Then past event (record { verdict = verdict_of verdict; sends = sends }))
     × Stands first (Then past event (record { verdict = verdict_of verdict; sends = sends })) new
 
 pub goes_on : (old new : NodeState) (before after : List Send) (event : PlainEvent) (verdict : code.Verdict) → StepsBy old new before after event verdict
-    → GoesOn old new (drop (length before) after) event verdict
+    → ExtendsRunsByEvent old new (drop (length before) after) event verdict
 goes_on old new before after event verdict (sends, is, step) first past begins is_run stands =
     let same : drop (length before) after ≡ sends = ap (drop (length before)) is ∙ drop_at before sends (length before) refl in
     subst (λ (s : List Send). IsRun first (Then past event (record { verdict = verdict_of verdict; sends = s }))

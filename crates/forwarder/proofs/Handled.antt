@@ -12,8 +12,8 @@ use Rattle.ndn_packets.specs.Packet.{PlainFrame, Idle as AnIdle}
 use Rattle.ndn_packets.specs.declared.fault.PacketFault.{PacketFault}
 use Rattle.content_store.specs.Store.{StoreState}
 use Rattle.forwarder.specs.Event.{PlainEvent, Packet, Send, Token}
-use Rattle.forwarder.specs.Faces.{is_open}
-use Rattle.forwarder.specs.Verdict.{WhereTrue, Answer, DropReason, Dropped, dropped, Malformed, Idle, NoFace, reason_of, verdict_of}
+use Rattle.forwarder.specs.OpenFaces.{is_open}
+use Rattle.forwarder.specs.Verdict.{IfTrueElse, Answer, DropReason, Dropped, dropped, Malformed, Idle, NoFace, reason_of, verdict_of}
 use Rattle.forwarder.specs.Policy.{Policy, at_moment}
 use Rattle.forwarder.specs.Request.{is_decided}
 use Rattle.forwarder.specs.Effects.{IsAfter, IsEffect, decided_packet, packet_to_decide}
@@ -26,11 +26,11 @@ use Rattle.forwarder.specs.Node.{NodeState, FollowAll, IsStep, NeedsNoMemory, se
 use Rattle.forwarder.specs.State.{IsLater, state_of}
 use Rattle.forwarder.proofs.Uses.{dropped_outcome}
 
-pub where_true : (A B : Type 0) (b : Bool) → b ≡ true → A → WhereTrue b A B
+pub where_true : (A B : Type 0) (b : Bool) → b ≡ true → A → IfTrueElse b A B
 where_true A B true e a = a
 where_true A B false e a = absurd cc
 
-pub where_false : (A B : Type 0) (b : Bool) → b ≡ false → B → WhereTrue b A B
+pub where_false : (A B : Type 0) (b : Bool) → b ≡ false → B → IfTrueElse b A B
 where_false A B true e a = absurd cc
 where_false A B false e a = a
 

@@ -12,14 +12,14 @@ use Rattle.ndn_packets.specs.declared.fault.PacketFault.{PacketFault}
 use Rattle.info_rules.specs.declared.decision.Decision.{Decision}
 use Rattle.info_rules.specs.declared.decision.Decision.TheVariants as decided
 use Rattle.forwarder.specs.Event.{PlainEvent, Packet, FaceUp, FaceDown, Tick, NewRules, Token}
-use Rattle.forwarder.specs.Faces.{is_open}
+use Rattle.forwarder.specs.OpenFaces.{is_open}
 use Rattle.forwarder.specs.Event.{moment}
-use Rattle.forwarder.specs.Verdict.{Answer, WhereTrue, NoFace, Scope as OutOfScope, dropped}
+use Rattle.forwarder.specs.Verdict.{Answer, IfTrueElse, NoFace, Scope as OutOfScope, dropped}
 use Rattle.forwarder.specs.Policy.{Policy, at_moment}
 use Rattle.forwarder.specs.Request.{Request, Refused, ForList, ForTables, ForRepository, ForData, is_out_of_scope, request_of}
-use Rattle.forwarder.specs.Said.{IsSaid}
+use Rattle.forwarder.specs.Deciding.{IsDecidedAs}
 use Rattle.forwarder.specs.Commands.{command_answer}
-use Rattle.forwarder.specs.Replies.{Replies, RepliesBySaid, RepliesToCommand, RepliesToData, RepliesToPacket, RepliesToRequest}
+use Rattle.forwarder.specs.Replies.{Replies, RepliesByDecision, RepliesToCommand, RepliesToData, RepliesToPacket, RepliesToRequest}
 use Rattle.forwarder.specs.Effects.{IsAfter}
 use Rattle.forwarder.specs.Runs.{Run, Start, Then, BringsData, BringsRequest, HaveOneHistory, IsDataPacket, IsPolicyOf, KeysAreApart, IsRequestPacket, MayCache, MayReply, is_request, seen_after}
 use Rattle.forwarder.proofs.LaterMoments.{policy_apart}
@@ -64,8 +64,8 @@ module _ (p : Policy) (r s : PlainKey → Records) (f g : Bool) (G H : PlainKey 
   pub one_answer : (event : PlainEvent) → BringsRequest p event → Replies (seen_with p r f G) event a → Replies (seen_with p s g H) event b → a ≡ b
   one_answer (Packet face now octets) is h k = by_open (is_open face p.faces) h k
     where
-      by_open : (o : Bool) → WhereTrue o (RepliesToPacket (seen_with p r f G) face (token_at octets) (frame_at octets) a) (a ≡ dropped NoFace)
-          → WhereTrue o (RepliesToPacket (seen_with p s g H) face (token_at octets) (frame_at octets) b) (b ≡ dropped NoFace) → a ≡ b
+      by_open : (o : Bool) → IfTrueElse o (RepliesToPacket (seen_with p r f G) face (token_at octets) (frame_at octets) a) (a ≡ dropped NoFace)
+          → IfTrueElse o (RepliesToPacket (seen_with p s g H) face (token_at octets) (frame_at octets) b) (b ≡ dropped NoFace) → a ≡ b
       by_open true h k = one_to_packet face (token_at octets) (frame_at octets) is h k
       by_open false h k = h ∙ sym k
   one_answer (FaceUp face scope now) is h k = absurd is
@@ -73,8 +73,8 @@ module _ (p : Policy) (r s : PlainKey → Records) (f g : Bool) (G H : PlainKey 
   one_answer (Tick now) is h k = absurd is
   one_answer (NewRules rules keys now) is h k = absurd is
 
-  by_said : (face : ℕ) (whole : List ℕ) (d : PlainData) (said : Decision) → RepliesBySaid (seen_with p r f G) face whole d a said
-      → RepliesBySaid (seen_with p s g H) face whole d b said → a.verdict ≡ b.verdict
+  by_said : (face : ℕ) (whole : List ℕ) (d : PlainData) (said : Decision) → RepliesByDecision (seen_with p r f G) face whole d a said
+      → RepliesByDecision (seen_with p s g H) face whole d b said → a.verdict ≡ b.verdict
   by_said face whole d (decided.Allowed rule) h k = h.0 ∙ sym k.0
   by_said face whole d (decided.Denied rule reason) h k = ap (λ (x : Answer). x.verdict) (h ∙ sym k)
   by_said face whole d decided.NoRule h k = ap (λ (x : Answer). x.verdict) (h ∙ sym k)
@@ -83,12 +83,12 @@ module _ (p : Policy) (r s : PlainKey → Records) (f g : Bool) (G H : PlainKey 
       → a.verdict ≡ b.verdict
   one_of_data face whole d h k = by_scope (is_out_of_scope p face d.name) h k
     where
-      by_scope : (o : Bool) → WhereTrue o (a ≡ dropped OutOfScope) ((said : Decision) × IsSaid p (AData whole d) said × RepliesBySaid (seen_with p r f G) face whole d a said)
-          → WhereTrue o (b ≡ dropped OutOfScope) ((said : Decision) × IsSaid p (AData whole d) said × RepliesBySaid (seen_with p s g H) face whole d b said) → a.verdict ≡ b.verdict
+      by_scope : (o : Bool) → IfTrueElse o (a ≡ dropped OutOfScope) ((said : Decision) × IsDecidedAs p (AData whole d) said × RepliesByDecision (seen_with p r f G) face whole d a said)
+          → IfTrueElse o (b ≡ dropped OutOfScope) ((said : Decision) × IsDecidedAs p (AData whole d) said × RepliesByDecision (seen_with p s g H) face whole d b said) → a.verdict ≡ b.verdict
       by_scope true h k = ap (λ (x : Answer). x.verdict) (h ∙ sym k)
       by_scope false h k =
           by_said face whole d h.0 h.2
-          (subst (λ (said : Decision). RepliesBySaid (seen_with p s g H) face whole d b said) (one_said p (AData whole d) k.0 h.0 apart k.1 h.1) k.2)
+          (subst (λ (said : Decision). RepliesByDecision (seen_with p s g H) face whole d b said) (one_said p (AData whole d) k.0 h.0 apart k.1 h.1) k.2)
 
   one_verdict_of : (face : ℕ) (token : Token) (read : Result PlainFrame PacketFault) → IsDataPacket read → RepliesToPacket (seen_with p r f G) face token read a
       → RepliesToPacket (seen_with p s g H) face token read b → a.verdict ≡ b.verdict
@@ -101,8 +101,8 @@ module _ (p : Policy) (r s : PlainKey → Records) (f g : Bool) (G H : PlainKey 
   pub one_verdict : (event : PlainEvent) → BringsData event → Replies (seen_with p r f G) event a → Replies (seen_with p s g H) event b → a.verdict ≡ b.verdict
   one_verdict (Packet face now octets) is h k = by_open (is_open face p.faces) h k
     where
-      by_open : (o : Bool) → WhereTrue o (RepliesToPacket (seen_with p r f G) face (token_at octets) (frame_at octets) a) (a ≡ dropped NoFace)
-          → WhereTrue o (RepliesToPacket (seen_with p s g H) face (token_at octets) (frame_at octets) b) (b ≡ dropped NoFace) → a.verdict ≡ b.verdict
+      by_open : (o : Bool) → IfTrueElse o (RepliesToPacket (seen_with p r f G) face (token_at octets) (frame_at octets) a) (a ≡ dropped NoFace)
+          → IfTrueElse o (RepliesToPacket (seen_with p s g H) face (token_at octets) (frame_at octets) b) (b ≡ dropped NoFace) → a.verdict ≡ b.verdict
       by_open true h k = one_verdict_of face (token_at octets) (frame_at octets) is h k
       by_open false h k = ap (λ (x : Answer). x.verdict) (h ∙ sym k)
   one_verdict (FaceUp face scope now) is h k = absurd is

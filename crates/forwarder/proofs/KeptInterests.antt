@@ -14,7 +14,7 @@ use Rattle.ndn_packets.specs.declared.types.TheConstants.{DUPLICATE}
 use Rattle.info_rules.specs.declared.decision.Decision.{Decision}
 use Rattle.info_rules.specs.declared.decision.Decision.TheVariants as decided
 use Rattle.pit_fib.specs.Cause.{Cause, Expires, Arrives, SentTo, Satisfied, NackCame, Withdrawn, Removed, Closed, same_key, records_after}
-use Rattle.pit_fib.specs.Faces.{has_face}
+use Rattle.pit_fib.specs.FaceSet.{has_face}
 use Rattle.pit_fib.specs.Past.{in_record_after, in_record_of as in_record_of_causes}
 use Rattle.pit_fib.specs.Pit.{loops, moments}
 use Rattle.pit_fib.specs.Records.{InRecord, is_alive}
@@ -24,8 +24,8 @@ use Rattle.strategies.specs.declared.strategy.Choice.TheVariants as choices
 use Rattle.mgmt_core.specs.Writing.{segment_at}
 use Rattle.repo_core.specs.Objects.{served}
 use Rattle.forwarder.specs.Event.{PlainEvent, Packet, FaceUp, FaceDown, Tick, NewRules, Send, moment, to_each, Token, nacked_back, sent_back, token_in}
-use Rattle.forwarder.specs.Faces.{is_open}
-use Rattle.forwarder.specs.Verdict.{Answer, Verdict, WhereTrue, Passed, Allowed, DataAllowed, Denied, NoRule, Dropped, Loop, NoFace, NoSegment, PitFull, dropped, passed}
+use Rattle.forwarder.specs.OpenFaces.{is_open}
+use Rattle.forwarder.specs.Verdict.{Answer, Verdict, IfTrueElse, Passed, Allowed, DataAllowed, Denied, NoRule, Dropped, Loop, NoFace, NoSegment, PitFull, dropped, passed}
 use Rattle.forwarder.specs.Request.{ListAsked, Request, Refused, ForList, ForTables, ForRepository, ForData, list_asked, request_of}
 use Rattle.forwarder.specs.NextHops.{ask_from, choice_for, sent_on}
 use Rattle.forwarder.specs.Commands.{command_answer}
@@ -34,8 +34,8 @@ use Rattle.forwarder.specs.Causes.{in_record_for, before_earlier, causes_by, cau
 use Rattle.forwarder.specs.Outcome.{packet_outcome, read_outcome, outcome_of}
 use Rattle.forwarder.specs.Replies.{Seen, Replies, RepliesForData, RepliesToPacket, RepliesToRequest, by_content_store, by_strategy, by_repository}
 use Rattle.forwarder.specs.Runs.{Run, Then, now_of, past_causes, records_of}
-use Rattle.forwarder.specs.Sends.{BringsOctets, IsAtHand}
-use Rattle.forwarder.specs.Kept.{IsAnswered, IsKept, IsPassed, IsSentOn}
+use Rattle.forwarder.specs.DataSends.{BringsOctets, IsAtHand}
+use Rattle.forwarder.specs.Kept.{IsSentBack, IsKept, IsPassed, IsSentOn}
 use Rattle.forwarder.proofs.Chosen.{chosen_hop}
 use Rattle.forwarder.proofs.Contents.{interest_is_neither, none_nacked, read_begins, sent_on_begins}
 use Rattle.pit_fib.proofs.PendingPast.{asks_of_run}
@@ -264,13 +264,13 @@ module _ (seen : Seen) (event : PlainEvent) (answer : Answer) (face : ℕ) (whol
   abbrev token : Token
   token = token_at is.octets
 
-  abbrev GoesOn : List Send → Type 0
-  GoesOn sends = IsSentOn face whole i sends ⊎ IsAnswered seen face token whole i sends
+  abbrev IsSentOnOrBack : List Send → Type 0
+  IsSentOnOrBack sends = IsSentOn face whole i sends ⊎ IsSentBack seen face token whole i sends
 
   never : {A : Type 0} (v : Verdict) → answer.verdict ≡ v → (v ≡ Passed → ⊥) → A
   never v e other = absurd (other (sym e ∙ is.passed))
 
-  hand : (packet : List ℕ) → answer ≡ passed (sent_back face token packet ∷ []) → IsAtHand seen face whole i packet → GoesOn answer.sends
+  hand : (packet : List ℕ) → answer ≡ passed (sent_back face token packet ∷ []) → IsAtHand seen face whole i packet → IsSentOnOrBack answer.sends
   hand packet e h = inr (inr (packet, ap (λ (a : Answer). a.sends) e, h))
 
   -- the answer to an Interest for a list, by whether its version is the present one
@@ -278,19 +278,19 @@ module _ (seen : Seen) (event : PlainEvent) (answer : Answer) (face : ℕ) (whol
   by_present t asked b =
       cond b (segment_answer face t (segment_name asked.kind seen.policy.table_number asked.segment) (segment_at (dataset_text seen.policy asked.kind) asked.segment)) (dropped NoSegment)
 
-  on_list : (asked : ListAsked) → list_asked i ≡ Some asked → answer ≡ list_answer seen.policy face token asked → GoesOn answer.sends
+  on_list : (asked : ListAsked) → list_asked i ≡ Some asked → answer ≡ list_answer seen.policy face token asked → IsSentOnOrBack answer.sends
   on_list asked found e = by_version (is_present seen.policy asked.version) refl
     where
       by_part : (part : Option (List ℕ × ℕ)) → list_answer seen.policy face token asked ≡ segment_answer face token (segment_name asked.kind seen.policy.table_number asked.segment) part
-          → list_answer seen.policy face None asked ≡ segment_answer face None (segment_name asked.kind seen.policy.table_number asked.segment) part → GoesOn answer.sends
+          → list_answer seen.policy face None asked ≡ segment_answer face None (segment_name asked.kind seen.policy.table_number asked.segment) part → IsSentOnOrBack answer.sends
       by_part None is bare = never (Dropped NoSegment) (ap (λ (a : Answer). a.verdict) (e ∙ is)) (λ f. cc f)
       by_part (Some part) is bare = hand _ (e ∙ is) (inr (inr (inr (asked, found, bare))))
 
-      by_version : (b : Bool) → is_present seen.policy asked.version ≡ b → GoesOn answer.sends
+      by_version : (b : Bool) → is_present seen.policy asked.version ≡ b → IsSentOnOrBack answer.sends
       by_version true is = by_part (segment_at (dataset_text seen.policy asked.kind) asked.segment) (ap (by_present token asked) is) (ap (by_present None asked) is)
       by_version false is = never (Dropped NoSegment) (ap (λ (a : Answer). a.verdict) (e ∙ ap (by_present token asked) is)) (λ f. cc f)
 
-  on_command : (said : Decision) → answer ≡ command_answer seen.policy face token i said → GoesOn answer.sends
+  on_command : (said : Decision) → answer ≡ command_answer seen.policy face token i said → IsSentOnOrBack answer.sends
   on_command (decided.Allowed rule) e = never _ (ap (λ (a : Answer). a.verdict) e) (λ f. cc f)
   on_command (decided.Denied rule reason) e = never _ (ap (λ (a : Answer). a.verdict) e) (λ f. cc f)
   on_command decided.NoRule e = never _ (ap (λ (a : Answer). a.verdict) e) (λ f. cc f)
@@ -307,42 +307,42 @@ module _ (seen : Seen) (event : PlainEvent) (answer : Answer) (face : ℕ) (whol
           let eligible = h.2 in cc (asker, eligible)
 
   on_choice : (choice : Choice) → choice_for seen.policy i.name (moments (seen.records (key_of i)).out_records) (ask_from seen.policy face i) ≡ choice
-      → answer ≡ by_strategy seen (key_of i) whole i face token choice → GoesOn answer.sends
+      → answer ≡ by_strategy seen (key_of i) whole i face token choice → IsSentOnOrBack answer.sends
   on_choice choices.NoRoute chosen e = inr (inl (ap (λ (a : Answer). a.sends) e))
   on_choice (choices.Send faces) chosen e = by_room (not (is_alive (seen.records (key_of i))) && seen.is_full) e
     where
-      by_room : (b : Bool) → answer ≡ cond b (dropped PitFull) (passed (to_each faces (sent_on whole i.hop_limit))) → GoesOn answer.sends
+      by_room : (b : Bool) → answer ≡ cond b (dropped PitFull) (passed (to_each faces (sent_on whole i.hop_limit))) → IsSentOnOrBack answer.sends
       by_room true e = never (Dropped PitFull) (ap (λ (a : Answer). a.verdict) e) (λ f. cc f)
       by_room false e = inl (faces, not_asker faces chosen, ap (λ (a : Answer). a.sends) e)
 
-  on_object : (object : Option (List ℕ)) → served i.name i.can_be_prefix seen.policy.held.objects ≡ object → answer ≡ by_repository seen face token whole i object → GoesOn answer.sends
+  on_object : (object : Option (List ℕ)) → served i.name i.can_be_prefix seen.policy.held.objects ≡ object → answer ≡ by_repository seen face token whole i object → IsSentOnOrBack answer.sends
   on_object (Some octets) stored e = hand octets e (inr (inl stored))
   on_object None stored e = on_choice (choice_for seen.policy i.name (moments (seen.records (key_of i)).out_records) (ask_from seen.policy face i)) refl e
 
-  on_given : (given : Option (List ℕ)) → seen.MayGive (key_of i) given → answer ≡ by_content_store seen face token whole i given → GoesOn answer.sends
+  on_given : (given : Option (List ℕ)) → seen.MayGive (key_of i) given → answer ≡ by_content_store seen face token whole i given → IsSentOnOrBack answer.sends
   on_given (Some octets) gives e = hand octets e (inl gives)
   on_given None gives e = on_object (served i.name i.can_be_prefix seen.policy.held.objects) refl e
 
-  on_data : RepliesForData seen face token whole i answer → GoesOn answer.sends
+  on_data : RepliesForData seen face token whole i answer → IsSentOnOrBack answer.sends
   on_data h = by_loop (loops (seen.records (key_of i)) face i.nonce) h
     where
-      by_loop : (b : Bool) → WhereTrue b (answer ≡ record { verdict = Dropped Loop; sends = nacked_back face token DUPLICATE whole ∷ [] })
-          ((given : Option (List ℕ)) × seen.MayGive (key_of i) given × (answer ≡ by_content_store seen face token whole i given)) → GoesOn answer.sends
+      by_loop : (b : Bool) → IfTrueElse b (answer ≡ record { verdict = Dropped Loop; sends = nacked_back face token DUPLICATE whole ∷ [] })
+          ((given : Option (List ℕ)) × seen.MayGive (key_of i) given × (answer ≡ by_content_store seen face token whole i given)) → IsSentOnOrBack answer.sends
       by_loop true e = never (Dropped Loop) (ap (λ (a : Answer). a.verdict) e) (λ f. cc f)
       by_loop false h = on_given h.0 h.1 h.2
 
-  on_request : (r : Request) → request_of seen.policy face i ≡ r → RepliesToRequest seen face token whole i answer r → GoesOn answer.sends
+  on_request : (r : Request) → request_of seen.policy face i ≡ r → RepliesToRequest seen face token whole i answer r → IsSentOnOrBack answer.sends
   on_request (Refused reason) e h = never (Dropped reason) (ap (λ (a : Answer). a.verdict) h) (λ f. cc f)
   on_request (ForList asked) e h = on_list asked (for_list seen.policy face i asked e) h
   on_request ForTables e h = on_command h.0 h.2
   on_request ForRepository e h = on_command h.0 h.2
   on_request ForData e h = on_data h
 
-  goes_on : Replies seen event answer → GoesOn answer.sends
+  goes_on : Replies seen event answer → IsSentOnOrBack answer.sends
   goes_on replies =
       by_open (is_open face seen.policy.faces) (subst (λ (e : PlainEvent). Replies seen e answer) is.brings replies)
     where
-      by_open : (b : Bool) → WhereTrue b (RepliesToPacket seen face token (frame_at is.octets) answer) (answer ≡ dropped NoFace) → GoesOn answer.sends
+      by_open : (b : Bool) → IfTrueElse b (RepliesToPacket seen face token (frame_at is.octets) answer) (answer ≡ dropped NoFace) → IsSentOnOrBack answer.sends
       by_open true h = on_request (request_of seen.policy face i) refl (subst (λ (r : Result PlainFrame PacketFault). RepliesToPacket seen face token r answer) is.read h)
       by_open false h = never (Dropped NoFace) (ap (λ (a : Answer). a.verdict) h) (λ f. cc f)
 
@@ -351,12 +351,12 @@ none_to face [] octets = refl
 none_to face (f ∷ faces) octets = ap (λ (b : Bool). (f == face) || b) (none_to face faces octets)
 
 pub kept_or_answered : (seen : Seen) (now : ℕ) (event : PlainEvent) (answer : Answer) (face : ℕ) (whole : List ℕ) (i : PlainInterest) → BringsOctets event → Replies seen event answer
-    → IsPassed event answer face whole i → (IsKept now event answer (key_of i) face (in_record_for now (token_in event) whole i) × IsSentOn face whole i answer.sends) ⊎ IsAnswered seen face (token_in event) whole i answer.sends
+    → IsPassed event answer face whole i → (IsKept now event answer (key_of i) face (in_record_for now (token_in event) whole i) × IsSentOn face whole i answer.sends) ⊎ IsSentBack seen face (token_in event) whole i answer.sends
 kept_or_answered seen now event answer face whole i fits replies is =
-    by_way (subst (λ (t : Token). IsSentOn face whole i answer.sends ⊎ IsAnswered seen face t whole i answer.sends) (sym (ap token_in is.brings)) (goes_on seen event answer face whole i is replies))
+    by_way (subst (λ (t : Token). IsSentOn face whole i answer.sends ⊎ IsSentBack seen face t whole i answer.sends) (sym (ap token_in is.brings)) (goes_on seen event answer face whole i is replies))
   where
-    by_way : (IsSentOn face whole i answer.sends ⊎ IsAnswered seen face (token_in event) whole i answer.sends)
-        → (IsKept now event answer (key_of i) face (in_record_for now (token_in event) whole i) × IsSentOn face whole i answer.sends) ⊎ IsAnswered seen face (token_in event) whole i answer.sends
+    by_way : (IsSentOn face whole i answer.sends ⊎ IsSentBack seen face (token_in event) whole i answer.sends)
+        → (IsKept now event answer (key_of i) face (in_record_for now (token_in event) whole i) × IsSentOn face whole i answer.sends) ⊎ IsSentBack seen face (token_in event) whole i answer.sends
     by_way (inr back) = inr back
     by_way (inl on) =
         let octets = subst BringsOctets is.brings fits in

@@ -21,15 +21,15 @@ use Rattle.repo_core.specs.Wants.{WantKey, Wants, want_cmp-antisymmetric, want_c
 use Rattle.repo_core.proofs.Kept.{get-kept}
 use Rattle.forwarder.specs.declared.event.Scope.{Scope}
 use Rattle.forwarder.specs.Event.{PlainEvent, Packet, FaceUp, FaceDown, Tick, NewRules}
-use Rattle.forwarder.specs.Faces.{is_open}
+use Rattle.forwarder.specs.OpenFaces.{is_open}
 use Rattle.forwarder.specs.Event.{moment, rules_after}
 use Rattle.forwarder.specs.Verdict.{Answer}
-use Rattle.forwarder.specs.Faces.{with_face, without_entry}
+use Rattle.forwarder.specs.OpenFaces.{with_face, without_entry}
 use Rattle.forwarder.specs.Policy.{Policy, at_moment, with_next_version}
 use Rattle.forwarder.specs.Request.{Request, Refused, ForList, ForTables, ForRepository, ForData, request_of}
-use Rattle.forwarder.specs.Said.{recorded_of}
+use Rattle.forwarder.specs.Deciding.{recorded_of}
 use Rattle.forwarder.specs.Commands.{after_request, after_tables, with_record}
-use Rattle.forwarder.specs.Effects.{IsEffect, IsAfter, after_packet, after_said, can_open, decided_packet, with_closed, with_open}
+use Rattle.forwarder.specs.Effects.{IsEffect, IsAfter, after_packet, after_decision, can_open, decided_packet, with_closed, with_open}
 use Rattle.forwarder.specs.Runs.{Run, Start, Then, AreLastRules, BringsKeysApart, BringsNoRules, HasNoNewRules, IsPolicyOf, KeysAreApart, events_back, now_of}
 use Rattle.forwarder.proofs.LeftRoutes.{due_twice, left_twice}
 
@@ -74,7 +74,7 @@ packet_keeps p face (AData whole d) = refl
 packet_keeps p face (ANack reason whole i) = refl
 packet_keeps p face Idle = refl
 
-said_keeps : (p : Policy) (face : ℕ) (packet : PlainFrame) (said : Decision) → lasting (after_said p face packet said) ≡ lasting p
+said_keeps : (p : Policy) (face : ℕ) (packet : PlainFrame) (said : Decision) → lasting (after_decision p face packet said) ≡ lasting p
 said_keeps p face packet (Allowed rule) = packet_keeps p face packet
 said_keeps p face packet (Denied rule reason) = refl
 said_keeps p face packet NoRule = refl

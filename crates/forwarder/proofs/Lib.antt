@@ -33,7 +33,7 @@ pub mod Tokens
 pub mod Origins
 mod AskedFor
 pub mod Asking
-pub mod Saying
+pub mod Deciding
 pub mod ReplyLengths
 pub mod ForwardSteps
 pub mod Openness

@@ -4,9 +4,9 @@ use Rattle.std.specs.Prelude.{filter, ◌||◌}
 use Rattle.std.specs.List.{list_any, AllByRecursion}
 use Rattle.std.proofs.lemmas.Bool.{eqb-true, eqb-false, ne_eqb, ltb-false, ltb-true}
 use Rattle.forwarder.specs.declared.event.Scope.{Scope}
-use Rattle.pit_fib.specs.Faces.{IsRising}
-use Rattle.forwarder.specs.Faces.{FaceEntry, is_open, find_scope, numbers}
-use Rattle.forwarder.specs.Faces.{with_face, without_entry}
+use Rattle.pit_fib.specs.FaceSet.{IsRising}
+use Rattle.forwarder.specs.OpenFaces.{FaceEntry, is_open, find_scope, numbers}
+use Rattle.forwarder.specs.OpenFaces.{with_face, without_entry}
 
 -- is one of the list
 abbrev pub IsIn : {A : Type 0} → A → List A → Type 0

@@ -20,7 +20,7 @@ use Rattle.ndn_packets.specs.Packet.{PlainInterest, ANack}
 use Rattle.ndn_packets.specs.Reading.{is_nil}
 use Rattle.pit_fib.specs.declared.nacked.Nacked.TheVariants.{NoPending, All}
 use Rattle.pit_fib.specs.Cause.{Cause, Expires, NackCame, Removed, changed, settled, same_key, until_after, with_reason, records_after, Follows}
-use Rattle.pit_fib.specs.Faces.{IsRising, has_face}
+use Rattle.pit_fib.specs.FaceSet.{IsRising, has_face}
 use Rattle.pit_fib.specs.Pit.{nacked_answer, was_sent}
 use Rattle.pit_fib.specs.Records.{InRecord, InRecords, OutRecords, OutRecord, Pending, Records, HoldsTheLiving, no_records, is_alive, records_at}
 use Rattle.pit_fib.specs.Tokens.{HaveNoTokens}

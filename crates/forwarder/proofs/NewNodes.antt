@@ -5,13 +5,13 @@ use Rattle.std.specs.Ordering.{nat_cmp}
 use Rattle.std.specs.FinMap as fin
 use Rattle.std.specs.FinMap.{get-empty}
 use Rattle.ndn_packets.specs.Key.{key_cmp}
-use Rattle.pit_fib.specs.Faces.{IsRising}
+use Rattle.pit_fib.specs.FaceSet.{IsRising}
 use Rattle.pit_fib.specs.declared.route.RouteKey.{RouteKey}
 use Rattle.pit_fib.specs.Fib.{LeadsTo, Routes}
 use Rattle.pit_fib.specs.Pit.{HasRecord}
 use Rattle.pit_fib.specs.Records.{Pending, Records, no_records}
-use Rattle.pit_fib.specs.declared.faces.TheConstants.{MAX_FACES}
-use Rattle.forwarder.specs.Faces.{FaceEntry, numbers}
+use Rattle.pit_fib.specs.declared.face_set.TheConstants.{MAX_FACES}
+use Rattle.forwarder.specs.OpenFaces.{FaceEntry, numbers}
 use Rattle.forwarder.specs.Node.{NodeState}
 use Rattle.forwarder.specs.State.{IsSound}
 use Rattle.forwarder.proofs.RouteChanges.{cost_in, cost_nowhere, route_in, route_nowhere}

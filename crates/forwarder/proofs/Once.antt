@@ -13,19 +13,19 @@ use Rattle.info_rules.specs.declared.decision.Decision.{Decision}
 use Rattle.info_rules.specs.declared.decision.Decision.TheVariants as decided
 use Rattle.info_rules.proofs.Signers.{signer_named}
 use Rattle.replay_guard.specs.Freshness.{Signer, Recorded, AreNear, IsNewer, NumberRises}
-use Rattle.replay_guard.specs.Guard.{Latest, Table, IsAfter as IsLater, IsFresh, raised, signer_cmp, table_of, with_recorded}
+use Rattle.replay_guard.specs.Guard.{Latest, Table, IsAfterLatest as IsLater, IsFresh, raised, signer_cmp, table_of, with_recorded}
 use Rattle.replay_guard.proofs.Past.{fresh_by_table, one_more}
 use Rattle.replay_guard.proofs.Signers.{signer_cmp-total}
 use Rattle.mgmt_core.specs.Reading.{PlainCommand, command_at}
 use Rattle.forwarder.specs.Event.{PlainEvent, Packet, FaceUp, FaceDown, Tick, NewRules}
-use Rattle.forwarder.specs.Faces.{is_open}
+use Rattle.forwarder.specs.OpenFaces.{is_open}
 use Rattle.forwarder.specs.Verdict.{Answer}
 use Rattle.forwarder.specs.Event.{moment}
 use Rattle.forwarder.specs.Policy.{Policy, at_moment}
 use Rattle.forwarder.specs.Request.{Request, Refused, ForList, ForTables, ForRepository, ForData, request_of}
-use Rattle.forwarder.specs.Said.{IsFreshCommand, IsSaid, recorded_of, recorded_with, signer_in}
+use Rattle.forwarder.specs.Deciding.{IsFreshCommand, IsDecidedAs, recorded_of, recorded_with, signer_in}
 use Rattle.forwarder.specs.Commands.{after_request, after_tables, with_record}
-use Rattle.forwarder.specs.Effects.{IsAfter, IsEffect, after_packet, after_said, can_open, decided_packet, face_in, undecided_effect}
+use Rattle.forwarder.specs.Effects.{IsAfter, IsEffect, after_packet, after_decision, can_open, decided_packet, face_in, undecided_effect}
 use Rattle.forwarder.specs.Runs.{Run, Start, Then, IsPolicyOf, KeysAreApart}
 use Rattle.forwarder.specs.Allowed.{Allows, AllowedIn}
 use Rattle.forwarder.proofs.Histories.{one_history, one_policy}
@@ -84,8 +84,8 @@ packet_guard p face (ANack reason whole i) = inl refl
 packet_guard p face Idle = inl refl
 
 -- the packet was decided, and this is its effect
-said_guard : (p : Policy) (face : ℕ) (packet : PlainFrame) (said : Decision) → ((after_said p face packet said).guard ≡ p.guard)
-    ⊎ (Records p packet (after_said p face packet said).guard × ((rule : RuleNo) × (said ≡ decided.Allowed rule)))
+said_guard : (p : Policy) (face : ℕ) (packet : PlainFrame) (said : Decision) → ((after_decision p face packet said).guard ≡ p.guard)
+    ⊎ (Records p packet (after_decision p face packet said).guard × ((rule : RuleNo) × (said ≡ decided.Allowed rule)))
 said_guard p face packet (decided.Allowed rule) = by_packet (packet_guard p face packet)
   where
     by_packet : (((after_packet p face packet).guard ≡ p.guard) ⊎ Records p packet (after_packet p face packet).guard)
@@ -128,10 +128,10 @@ GuardAfter was event new =
 guard_after : (was new : Policy) (event : PlainEvent) → IsAfter was event new → GuardAfter was event new
 guard_after was new event h = by_packet (decided_packet (at_moment was (moment event)) event) refl h
   where
-    by_said : (packet : PlainFrame) (said : Decision) → decided_packet (at_moment was (moment event)) event ≡ Some packet → IsSaid (at_moment was (moment event)) packet said
-        → new ≡ after_said (at_moment was (moment event)) (face_in event) packet said
-        → (((after_said (at_moment was (moment event)) (face_in event) packet said).guard ≡ was.guard)
-        ⊎ (Records (at_moment was (moment event)) packet (after_said (at_moment was (moment event)) (face_in event) packet said).guard × ((rule : RuleNo) × (said ≡ decided.Allowed rule))))
+    by_said : (packet : PlainFrame) (said : Decision) → decided_packet (at_moment was (moment event)) event ≡ Some packet → IsDecidedAs (at_moment was (moment event)) packet said
+        → new ≡ after_decision (at_moment was (moment event)) (face_in event) packet said
+        → (((after_decision (at_moment was (moment event)) (face_in event) packet said).guard ≡ was.guard)
+        ⊎ (Records (at_moment was (moment event)) packet (after_decision (at_moment was (moment event)) (face_in event) packet said).guard × ((rule : RuleNo) × (said ≡ decided.Allowed rule))))
         → GuardAfter was event new
     by_said packet said d s e (inl same) = inl (ap (λ (p : Policy). p.guard) e ∙ same)
     by_said packet said d s e (inr (records, (rule, allowed))) = inr (
@@ -141,8 +141,8 @@ guard_after was new event h = by_packet (decided_packet (at_moment was (moment e
       record {
         rule = rule;
         brings = d ∙ ap (λ (f : PlainFrame). Some f) records.is_packet;
-        said = subst (λ (f : PlainFrame). IsSaid (at_moment was (moment event)) f (decided.Allowed rule)) records.is_packet
-            (subst (λ (x : Decision). IsSaid (at_moment was (moment event)) packet x) allowed s);
+        said = subst (λ (f : PlainFrame). IsDecidedAs (at_moment was (moment event)) f (decided.Allowed rule)) records.is_packet
+            (subst (λ (x : Decision). IsDecidedAs (at_moment was (moment event)) packet x) allowed s);
       },
       records.is_recorded,
       ap (λ (p : Policy). p.guard) e ∙ records.is_new,
@@ -163,11 +163,11 @@ seen_when_allowed : (was new : Policy) (event : PlainEvent) (whole : List ℕ) (
 seen_when_allowed was new event whole i r apart allows is h =
     let q = at_moment was (moment event) in
     let f = face_in event in
-    let effect : (said : Decision) × IsSaid q (AnInterest whole i) said × (new ≡ after_said q f (AnInterest whole i) said) = subst (λ (o : Option PlainFrame). IsEffect q event new o) allows.brings h in
+    let effect : (said : Decision) × IsDecidedAs q (AnInterest whole i) said × (new ≡ after_decision q f (AnInterest whole i) said) = subst (λ (o : Option PlainFrame). IsEffect q event new o) allows.brings h in
     let one : effect.0 ≡ decided.Allowed allows.rule = one_said q (AnInterest whole i) effect.0 (decided.Allowed allows.rule) apart effect.1 allows.said in
     let base = after_request q f i (request_of q f i) in
     let new_is : new ≡ with_record base (Some r) =
-    effect.2 ∙ ap (λ (said : Decision). after_said q f (AnInterest whole i) said) one ∙ ap (λ (o : Option Recorded). with_record base o) is in
+    effect.2 ∙ ap (λ (said : Decision). after_decision q f (AnInterest whole i) said) one ∙ ap (λ (o : Option Recorded). with_record base o) is in
     let guard : new.guard ≡ with_recorded was.guard r = ap (λ (p : Policy). p.guard) new_is ∙ ap (λ (t : Table). with_recorded t r) (request_guard q f i (request_of q f i)) in
     subst (λ (t : Table). HasSeen t r) (sym guard) (seen_now was.guard r)
 

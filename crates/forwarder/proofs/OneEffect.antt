@@ -8,12 +8,12 @@ use Rattle.info_rules.specs.declared.decision.Decision.TheVariants.{Allowed, Den
 use Rattle.info_rules.proofs.OneDecision.{one_decision}
 use Rattle.forwarder.specs.Event.{PlainEvent}
 use Rattle.forwarder.specs.Policy.{Policy}
-use Rattle.forwarder.specs.Said.{IsSaid}
-use Rattle.forwarder.specs.Effects.{IsEffect, IsAfter, after_said, decided_packet, face_in}
+use Rattle.forwarder.specs.Deciding.{IsDecidedAs}
+use Rattle.forwarder.specs.Effects.{IsEffect, IsAfter, after_decision, decided_packet, face_in}
 use Rattle.forwarder.specs.Policy.{at_moment}
 use Rattle.forwarder.specs.Event.{moment}
 
-pub one_said : (p : Policy) (packet : PlainFrame) (a b : Decision) → AreApart p.keys → IsSaid p packet a → IsSaid p packet b → a ≡ b
+pub one_said : (p : Policy) (packet : PlainFrame) (a b : Decision) → AreApart p.keys → IsDecidedAs p packet a → IsDecidedAs p packet b → a ≡ b
 one_said p packet (Allowed m) (Allowed n) apart x y = one_decision p.rules p.keys packet (Allowed m) (Allowed n) apart x.0 y.0
 one_said p packet (Allowed m) (Denied n reason) apart x (inl y) = one_decision p.rules p.keys packet (Allowed m) (Denied n reason) apart x.0 y
 one_said p packet (Allowed m) (Denied n reason) apart x (inr y) = absurd (y.2 x.1)
@@ -40,7 +40,7 @@ one_said p packet NoRule NoRule apart x y = one_decision p.rules p.keys packet N
 one_of : (p new other : Policy) (event : PlainEvent) (packet : Option PlainFrame) → AreApart p.keys → IsEffect p event new packet → IsEffect p event other packet → new ≡ other
 one_of p new other event None apart x y = x ∙ sym y
 one_of p new other event (Some packet) apart x y =
-    x.2 ∙ ap (λ (said : Decision). after_said p (face_in event) packet said) (one_said p packet x.0 y.0 apart x.1 y.1) ∙ sym y.2
+    x.2 ∙ ap (λ (said : Decision). after_decision p (face_in event) packet said) (one_said p packet x.0 y.0 apart x.1 y.1) ∙ sym y.2
 
 pub one_effect : (old new other : Policy) (event : PlainEvent) → AreApart old.keys → IsAfter old event new → IsAfter old event other → new ≡ other
 one_effect old new other event apart x y =

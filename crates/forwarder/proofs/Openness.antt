@@ -4,13 +4,13 @@ use Rattle.std.specs.Prelude.{filter, slice_get, ◌||◌, ◌&&◌}
 use Rattle.std.specs.List.{AllByRecursion}
 use Rattle.std.proofs.lemmas.Bool.{eqb-true, eqb-false, ne_eqb, eq-eqb, ltb-true, lt-ltb, le-ltb, lt-leb}
 use Rattle.std.proofs.lemmas.List.{append-nil}
-use Rattle.pit_fib.specs.Faces.{IsRising, has_face, adding}
-use Rattle.pit_fib.specs.Faces as numbers_of
+use Rattle.pit_fib.specs.FaceSet.{IsRising, has_face, adding}
+use Rattle.pit_fib.specs.FaceSet as numbers_of
 use Rattle.pit_fib.proofs.RisingFaces.{with_rises}
-use Rattle.pit_fib.specs.declared.faces.TheConstants.{MAX_FACES}
+use Rattle.pit_fib.specs.declared.face_set.TheConstants.{MAX_FACES}
 use Rattle.forwarder.specs.declared.event.Scope.{Scope}
 use Rattle.forwarder.specs.declared.event.Scope.TheVariants.{Local, Far}
-use Rattle.forwarder.specs.Faces.{FaceEntry, is_open, find_scope, numbers, with_face, without_entry, scope_in, entries_of, AreOpen}
+use Rattle.forwarder.specs.OpenFaces.{FaceEntry, is_open, find_scope, numbers, with_face, without_entry, scope_in, entries_of, AreOpen}
 use Rattle.forwarder.specs.Policy.{is_local_scope, is_far_scope}
 
 -- ---- filters

@@ -3,7 +3,7 @@ use Rattle.std.proofs.Common.{◌≡◌, ℕ, List, [], ◌∷◌, refl}
 use Rattle.std.specs.Prelude.{max}
 use Rattle.ndn_packets.specs.Key.{PlainKey}
 use Rattle.pit_fib.specs.Cause.{Cause, Expires, records_after}
-use Rattle.pit_fib.specs.Past.{records_of as records_of_causes}
+use Rattle.pit_fib.specs.Past.{records_after_all as records_of_causes}
 use Rattle.pit_fib.specs.Records.{Records}
 use Rattle.forwarder.specs.Event.{PlainEvent, moment}
 use Rattle.forwarder.specs.Causes.{after_causes, before_earlier, causes_of}

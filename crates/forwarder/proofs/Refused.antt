@@ -18,15 +18,15 @@ use Rattle.forwarder.specs.Event.{Send, Token}
 use Rattle.forwarder.specs.Verdict.{Allowed, Answer, Denied, NoRule}
 use Rattle.forwarder.specs.Policy.{Policy}
 use Rattle.forwarder.specs.Request.{Request, Refused, ForList, ForTables, ForRepository, ForData, is_command, request_named, request_of}
-use Rattle.forwarder.specs.Said.{IsSaid, recorded_of}
+use Rattle.forwarder.specs.Deciding.{IsDecidedAs, recorded_of}
 use Rattle.forwarder.specs.Commands.{after_request, allowed_reply, command_answer, denial_text, refused_content, replied, with_record}
 use Rattle.mgmt_core.specs.Reading.{command_at}
-use Rattle.forwarder.specs.Commanding.{IsCarriedOut, IsCommanded, request_use}
+use Rattle.forwarder.specs.CommandStep.{IsCarriedOut, IsCommanded, request_use}
 use Rattle.forwarder.specs.Cache.{CacheAfter, CacheUse, command_use}
-use Rattle.forwarder.specs.Effects.{after_said}
+use Rattle.forwarder.specs.Effects.{after_decision}
 use Rattle.forwarder.specs.Replies.{RepliesToCommand, RepliesToRequest}
 use Rattle.forwarder.specs.Handling.{IsAnswered, IsHandled, IsPacketEffect, packet_causes, packet_use, seen_by}
-use Rattle.forwarder.specs.Node.{FollowAll, NodeState, Unharmed}
+use Rattle.forwarder.specs.Node.{FollowAll, NodeState, ChangesCacheOnly}
 use Rattle.forwarder.specs.State.{IsLater, policy_of, state_of}
 use Rattle.forwarder.proofs.Answered.{unharmed}
 use Rattle.forwarder.proofs.Uses.{commanded_use}
@@ -34,17 +34,17 @@ use Rattle.forwarder.proofs.Uses.{commanded_use}
 -- what is said of a command at this moment
 abbrev pub SaysAt : Policy → ℕ → List ℕ → PlainInterest → Decision → Type 0
 SaysAt old now whole i said =
-    (p : Policy) → p.rules ≡ old.rules → p.keys ≡ old.keys → p.guard ≡ old.guard → p.now ≡ max old.now now → IsSaid p (AnInterest whole i) said
+    (p : Policy) → p.rules ≡ old.rules → p.keys ≡ old.keys → p.guard ≡ old.guard → p.now ≡ max old.now now → IsDecidedAs p (AnInterest whole i) said
 
 pub said_as : (old : Policy) (now moment : ℕ) (whole : List ℕ) (i : PlainInterest) (given said : Decision) → moment ≡ max old.now now → given ≡ said
-    → ((p : Policy) → p.rules ≡ old.rules → p.keys ≡ old.keys → p.guard ≡ old.guard → p.now ≡ moment → IsSaid p (AnInterest whole i) given)
+    → ((p : Policy) → p.rules ≡ old.rules → p.keys ≡ old.keys → p.guard ≡ old.guard → p.now ≡ moment → IsDecidedAs p (AnInterest whole i) given)
     → SaysAt old now whole i said
 said_as old now moment whole i given said at is says =
-    λ p rules keys guard then. subst (λ (d : Decision). IsSaid p (AnInterest whole i) d) is (says p rules keys guard (then ∙ sym at))
+    λ p rules keys guard then. subst (λ (d : Decision). IsDecidedAs p (AnInterest whole i) d) is (says p rules keys guard (then ∙ sym at))
 
 -- it is so once the moment has come
 said_then : (old was : NodeState) (now : ℕ) (whole : List ℕ) (i : PlainInterest) (said : Decision) → IsLater old now was
-    → SaysAt old.policy now whole i said → IsSaid was.policy (AnInterest whole i) said
+    → SaysAt old.policy now whole i said → IsDecidedAs was.policy (AnInterest whole i) said
 said_then old was now whole i said later says =
     says was.policy (ap (λ (p : Policy). p.rules) later.policy) (ap (λ (p : Policy). p.keys) later.policy)
     (ap (λ (p : Policy). p.guard) later.policy) (ap (λ (p : Policy). p.now) later.policy)
@@ -61,7 +61,7 @@ pub with_guard : (n : NodeState) (guard : Table) → guard ≡ n.policy.guard �
 with_guard n guard g = λ j. record n { policy = record n.policy { guard = g j } }
 
 -- a node that is as before is unharmed
-pub kept_unharmed : (old new : NodeState) (before after : List Send) → (new ≡ old) × (after ≡ before) → Unharmed old new × (after ≡ before)
+pub kept_unharmed : (old new : NodeState) (before after : List Send) → (new ≡ old) × (after ≡ before) → ChangesCacheOnly old new × (after ≡ before)
 kept_unharmed old new before after (same, sent) =
     (unharmed old new (ap (λ (n : NodeState). n.policy) same) (ap (λ (n : NodeState). n.pending) same) (ap (λ (n : NodeState). n.cache) same), sent)
 
@@ -86,8 +86,8 @@ module _ (was new : NodeState) (face : ℕ) (token : Token) (whole : List ℕ) (
   no_causes decided.NoRule now = refl
 
   -- a command of which this is said
-  command_answered : (said : Decision) (answer : Answer) → command_answer was.policy face token i said ≡ answer → IsSaid was.policy (AnInterest whole i) said
-      → new.policy ≡ after_said was.policy face (AnInterest whole i) said → new.pending ≡ was.pending
+  command_answered : (said : Decision) (answer : Answer) → command_answer was.policy face token i said ≡ answer → IsDecidedAs was.policy (AnInterest whole i) said
+      → new.policy ≡ after_decision was.policy face (AnInterest whole i) said → new.pending ≡ was.pending
       → CacheAfter was.policy.now was.pending (packet_use was.policy.now face (AnInterest whole i) answer.verdict) was.cache new.cache → IsAnswered was face token (AnInterest whole i) answer new
   command_answered said answer given says policy pending cache = record {
     replies = subst (λ (r : Request). RepliesToRequest (seen_by was) face token whole i answer r) (sym is) (replies_by answer (said, says, sym given) request command);
@@ -99,7 +99,7 @@ module _ (was new : NodeState) (face : ℕ) (token : Token) (whole : List ℕ) (
     cache = cache;
   }
 
-  allowed_answered : (rule : RuleNo) (status : ℕ) (sends : List Send) → IsSaid was.policy (AnInterest whole i) (decided.Allowed rule)
+  allowed_answered : (rule : RuleNo) (status : ℕ) (sends : List Send) → IsDecidedAs was.policy (AnInterest whole i) (decided.Allowed rule)
       → IsCommanded was face token i request status sends new
       → IsAnswered was face token (AnInterest whole i) (record { verdict = Allowed rule.0 status; sends = sends }) new
   allowed_answered rule status sends says done =
@@ -117,14 +117,14 @@ module _ (was new : NodeState) (face : ℕ) (token : Token) (whole : List ℕ) (
 module _ (was : NodeState) (face : ℕ) (token : Token) (whole : List ℕ) (i : PlainInterest) (request : Request) (is : request_of was.policy face i ≡ request)
     (command : is_command request ≡ true) (living : HoldsTheLiving was.pending) where
   command_denied : (rule : RuleNo) (reason : Reason) (text : List ℕ) → text ≡ denial_text was.policy rule.0 reason
-      → IsSaid was.policy (AnInterest whole i) (decided.Denied rule reason)
+      → IsDecidedAs was.policy (AnInterest whole i) (decided.Denied rule reason)
       → IsAnswered was face token (AnInterest whole i) (record { verdict = Denied kinds.Interest rule.0 reason; sends = replied face token i (refused_content request text) ∷ [] }) was
   command_denied rule reason text written says =
       let same = ap (λ (r : Request). refused_content r (denial_text was.policy rule.0 reason)) is ∙ ap (refused_content request) (sym written) in
       command_answered was was face token whole i request is command living (decided.Denied rule reason) _
       (λ j. record { verdict = Denied kinds.Interest rule.0 reason; sends = replied face token i (same j) ∷ [] }) says refl refl refl
 
-  command_by_no_rule : IsSaid was.policy (AnInterest whole i) decided.NoRule
+  command_by_no_rule : IsDecidedAs was.policy (AnInterest whole i) decided.NoRule
       → IsAnswered was face token (AnInterest whole i) (record { verdict = NoRule kinds.Interest; sends = replied face token i (refused_content request (codes "no rule")) ∷ [] }) was
   command_by_no_rule says =
       let same = ap (λ (r : Request). refused_content r (codes "no rule")) is in

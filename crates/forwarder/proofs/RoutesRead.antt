@@ -18,15 +18,15 @@ use Rattle.mgmt_core.specs.Reading.{PlainCommand, command_at}
 use Rattle.mgmt_core.specs.Tables.{routes_after}
 use Rattle.mgmt_core.specs.Writing.{segment_at}
 use Rattle.forwarder.specs.Event.{PlainEvent, Packet, FaceUp, FaceDown, Tick, NewRules}
-use Rattle.forwarder.specs.Faces.{is_open, with_face, without_entry}
-use Rattle.forwarder.specs.Verdict.{Answer, Verdict, Passed, Allowed, DataAllowed, Denied, NoRule, Dropped, WhereTrue, NoFace, NoSegment, dropped, passed}
+use Rattle.forwarder.specs.OpenFaces.{is_open, with_face, without_entry}
+use Rattle.forwarder.specs.Verdict.{Answer, Verdict, Passed, Allowed, DataAllowed, Denied, NoRule, Dropped, IfTrueElse, NoFace, NoSegment, dropped, passed}
 use Rattle.forwarder.specs.Policy.{Policy, with_next_version}
 use Rattle.forwarder.specs.Request.{ListAsked, Request, ForTables, ForRepository, is_command, is_out_of_scope, management, request_of}
-use Rattle.forwarder.specs.Said.{recorded_of}
+use Rattle.forwarder.specs.Deciding.{recorded_of}
 use Rattle.forwarder.specs.Commands.{after_request, after_tables, allowed_reply, command_answer, tables_status, with_record}
 use Rattle.forwarder.specs.Datasets.{dataset_text, is_present, list_answer, segment_answer, segment_name}
 use Rattle.forwarder.specs.Replies.{Seen, Replies, RepliesToPacket, RepliesToRequest}
-use Rattle.forwarder.specs.Effects.{IsEffect, after_said, can_open, decided_packet, packet_to_decide}
+use Rattle.forwarder.specs.Effects.{IsEffect, after_decision, can_open, decided_packet, packet_to_decide}
 use Rattle.forwarder.specs.Outcome.{Outcome, Nothing, InterestPassed, CommandAllowed, DataCame, NackPassed, FaceClosed, closing_outcome, outcome_of, packet_outcome, read_outcome}
 use Rattle.forwarder.proofs.OneEffect.{one_said}
 use Rattle.forwarder.proofs.Requests.{by_request, no_command}
@@ -131,7 +131,7 @@ module _ {V : Type 0} (see : Routes → V) (q : Policy) (command : Result PlainC
           by_read (Err status) k b = same b was (command (Err status) from was) (unread status from was)
           by_read (Ok c) k b = absurd (no_command i.name c other k)
 
-      on_command : request_of q from i ≡ ForTables → (said : Decision) → answer ≡ command_answer q from (token_at octets) i said → new ≡ after_said q from (AnInterest whole i) said → IsRead answer.verdict
+      on_command : request_of q from i ≡ ForTables → (said : Decision) → answer ≡ command_answer q from (token_at octets) i said → new ≡ after_decision q from (AnInterest whole i) said → IsRead answer.verdict
       on_command is (decided.Allowed rule) a e =
           let r = command_at i.name in
           let verdict : answer.verdict ≡ Allowed rule.0 (tables_status q from r) = ap (λ (x : Answer). x.verdict) a ∙ ap (λ (x : Request). Allowed rule.0 (allowed_reply q from i x).status) is in
@@ -141,7 +141,7 @@ module _ {V : Type 0} (see : Routes → V) (q : Policy) (command : Result PlainC
       on_command is (decided.Denied rule reason) a e = no_effect e answer.verdict (ap (λ (x : Answer). is_done x.verdict) a)
       on_command is decided.NoRule a e = no_effect e answer.verdict (ap (λ (x : Answer). is_done x.verdict) a)
 
-      on_repository : request_of q from i ≡ ForRepository → (said : Decision) → new ≡ after_said q from (AnInterest whole i) said → new.routes ≡ q.routes
+      on_repository : request_of q from i ≡ ForRepository → (said : Decision) → new ≡ after_decision q from (AnInterest whole i) said → new.routes ≡ q.routes
       on_repository is (decided.Allowed rule) e =
           ap (λ (p : Policy). p.routes) e ∙ record_routes (after_request q from i (request_of q from i)) (recorded_of i) ∙ ap (λ (x : Request). (after_request q from i x).routes) is
       on_repository is (decided.Denied rule reason) e = ap (λ (p : Policy). p.routes) e
@@ -168,7 +168,7 @@ module _ {V : Type 0} (see : Routes → V) (q : Policy) (command : Result PlainC
           by_request q from i ReadsRequest
           (λ reason is h e. no_effect e answer.verdict (ap (λ (x : Answer). is_done x.verdict) h))
           (λ asked _ is h e. no_effect e answer.verdict (ap (λ (x : Answer). is_done x.verdict) h ∙ list_not_done asked))
-          (λ is h e. on_command is h.0 h.2 (e.2 ∙ ap (λ (said : Decision). after_said q from (AnInterest whole i) said) (one_said q (AnInterest whole i) e.0 h.0 apart e.1 h.1)))
+          (λ is h e. on_command is h.0 h.2 (e.2 ∙ ap (λ (said : Decision). after_decision q from (AnInterest whole i) said) (one_said q (AnInterest whole i) e.0 h.0 apart e.1 h.1)))
           (λ other is h e. other_name other (on_repository is e.0 e.2) answer.verdict)
           (λ other is h e. other_name other (ap (λ (p : Policy). p.routes) e) answer.verdict)
           refl replies effect
@@ -176,7 +176,7 @@ module _ {V : Type 0} (see : Routes → V) (q : Policy) (command : Result PlainC
     no_change : new ≡ q → see new.routes ≡ was
     no_change e = ap (λ (p : Policy). see p.routes) e
 
-    data_said : (from : ℕ) (whole : List ℕ) (d : PlainData) (said : Decision) → new ≡ after_said q from (AData whole d) said → see new.routes ≡ was
+    data_said : (from : ℕ) (whole : List ℕ) (d : PlainData) (said : Decision) → new ≡ after_decision q from (AData whole d) said → see new.routes ≡ was
     data_said from whole d (decided.Allowed rule) e = ap (λ (p : Policy). see p.routes) e
     data_said from whole d (decided.Denied rule reason) e = no_change e
     data_said from whole d decided.NoRule e = no_change e
@@ -196,7 +196,7 @@ module _ {V : Type 0} (see : Routes → V) (q : Policy) (command : Result PlainC
     pub event_read : (event : PlainEvent) → Replies seen event answer → IsEffect q event new (decided_packet q event) → see new.routes ≡ after (outcome_of event answer.verdict) was
     event_read (Packet from now octets) h e = by_open (is_open from q.faces) h e
       where
-        by_open : (b : Bool) → WhereTrue b (RepliesToPacket seen from (token_at octets) (frame_at octets) answer) (answer ≡ dropped NoFace)
+        by_open : (b : Bool) → IfTrueElse b (RepliesToPacket seen from (token_at octets) (frame_at octets) answer) (answer ≡ dropped NoFace)
             → IsEffect q (Packet from now octets) new (cond b (packet_to_decide q from (frame_at octets)) None) → see new.routes ≡ after (read_outcome from (frame_at octets) answer.verdict) was
         by_open true h e = packet_read from now octets (frame_at octets) h e
         by_open false h e =

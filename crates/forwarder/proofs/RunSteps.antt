@@ -11,11 +11,11 @@ use Rattle.pit_fib.specs.declared.pit.TheConstants.{MAX_PENDING}
 use Rattle.pit_fib.specs.Cause.{Expires, records_after}
 use Rattle.pit_fib.specs.Pit.{loops}
 use Rattle.pit_fib.specs.Records.{Records, records_at}
-use Rattle.content_store.specs.Store.{CachedData, Gives}
+use Rattle.content_store.specs.Store.{CachedData, GivesData}
 use Rattle.forwarder.specs.Event.{PlainEvent, Packet, FaceUp, FaceDown, Tick, NewRules, Token}
-use Rattle.forwarder.specs.Faces.{is_open}
+use Rattle.forwarder.specs.OpenFaces.{is_open}
 use Rattle.forwarder.specs.Event.{moment}
-use Rattle.forwarder.specs.Verdict.{Answer, WhereTrue}
+use Rattle.forwarder.specs.Verdict.{Answer, IfTrueElse}
 use Rattle.forwarder.specs.Policy.{Policy, at_moment}
 use Rattle.forwarder.specs.Request.{Request, Refused, ForList, ForTables, ForRepository, ForData, request_of}
 use Rattle.forwarder.specs.Replies.{Seen, Replies, RepliesToPacket, RepliesToRequest, RepliesForData}
@@ -25,7 +25,7 @@ use Rattle.forwarder.specs.Runs.{Run, Then, IsWaiting, MayCache, MayHold, MayRep
 use Rattle.forwarder.proofs.LaterMoments.{policy_now}
 use Rattle.forwarder.proofs.PastRecords.{records_then}
 
-either_map : (b : Bool) {A B C D : Type 0} → (A → C) → (B → D) → WhereTrue b A B → WhereTrue b C D
+either_map : (b : Bool) {A B C D : Type 0} → (A → C) → (B → D) → IfTrueElse b A B → IfTrueElse b C D
 either_map true f g h = f h
 either_map false f g h = g h
 
@@ -70,7 +70,7 @@ module _ (p : Policy) (records : PlainKey → Records) (full : Bool) (G H : Plai
 
 -- what the cache gives, it may give
 gives_held : (past : Run) (now : ℕ) (cached : List CachedData) → All (MayHold past) cached → (key : PlainKey) (given : Option (List ℕ))
-    → Gives key now cached given → MayCache past now key given
+    → GivesData key now cached given → MayCache past now key given
 gives_held past now cached held key None h = tt
 gives_held past now cached held key (Some octets) h =
     let c = h.0 in
@@ -98,7 +98,7 @@ module _ (first : Policy) (past : Run) (old new : NodeState) (event : PlainEvent
         is_policy = stands.policy;
         waiting = step.waiting;
         is_waiting = is_waiting;
-        replies = more_replies p (records_at step.waiting) (nat_le MAX_PENDING (map.len step.waiting)) (λ key given. Gives key p.now old.cache.cached given) (MayCache past p.now)
+        replies = more_replies p (records_at step.waiting) (nat_le MAX_PENDING (map.len step.waiting)) (λ key given. GivesData key p.now old.cache.cached given) (MayCache past p.now)
             (gives_held past p.now old.cache.cached stands.cache) event answer step.replies;
       }
 

@@ -12,7 +12,7 @@ use Rattle.info_rules.specs.Rule.{PlainRule}
 use Rattle.info_rules.specs.declared.decision.Decision.{Decision}
 use Rattle.info_rules.specs.declared.decision.Decision.TheVariants as decided
 use Rattle.pit_fib.specs.Cause.{Cause, Expires, Arrives, SentTo, Withdrawn, Closed, records_after, Follows}
-use Rattle.pit_fib.specs.Faces.{IsRising, has_face}
+use Rattle.pit_fib.specs.FaceSet.{IsRising, has_face}
 use Rattle.pit_fib.specs.Fib.{without_face}
 use Rattle.pit_fib.specs.Pit.{HasRecord, loops, moments}
 use Rattle.pit_fib.specs.Records.{Pending, Records, is_alive, records_at}
@@ -25,16 +25,16 @@ use Rattle.strategies.specs.declared.strategy.Choice.TheVariants as choices
 use Rattle.mgmt_core.specs.Reading.{PlainCommand, command_at}
 use Rattle.mgmt_core.specs.Tables.{AllAreUp}
 use Rattle.mgmt_core.proofs.OpenRoutes.{closing_leaves_up, command_leaves_up, expiry_leaves_up}
-use Rattle.pit_fib.specs.declared.faces.TheConstants.{MAX_FACES}
+use Rattle.pit_fib.specs.declared.face_set.TheConstants.{MAX_FACES}
 use Rattle.forwarder.specs.declared.event.Scope.{Scope}
 use Rattle.forwarder.specs.Event.{PlainEvent, Packet, FaceUp, FaceDown, Tick, NewRules, Send, to_each, Token, nacked_back}
-use Rattle.forwarder.specs.Faces.{FaceEntry, find_scope, is_open, numbers, with_face, without_entry}
-use Rattle.forwarder.specs.Verdict.{Verdict, WhereTrue, Passed, Allowed, DataAllowed, Denied, NoRule, Dropped, NoFace, NoSegment, PitFull, Loop, Answer, dropped, passed}
+use Rattle.forwarder.specs.OpenFaces.{FaceEntry, find_scope, is_open, numbers, with_face, without_entry}
+use Rattle.forwarder.specs.Verdict.{Verdict, IfTrueElse, Passed, Allowed, DataAllowed, Denied, NoRule, Dropped, NoFace, NoSegment, PitFull, Loop, Answer, dropped, passed}
 use Rattle.forwarder.specs.Policy.{Policy, at_moment, open_faces, with_next_version}
 use Rattle.forwarder.specs.Request.{Request, Refused, ForList, ForTables, ForRepository, ForData, ListAsked, request_of}
-use Rattle.forwarder.specs.Said.{recorded_of}
+use Rattle.forwarder.specs.Deciding.{recorded_of}
 use Rattle.forwarder.specs.Commands.{command_answer, after_request, after_tables, with_record}
-use Rattle.forwarder.specs.Effects.{after_packet, after_said, can_open, decided_packet, IsEffect}
+use Rattle.forwarder.specs.Effects.{after_packet, after_decision, can_open, decided_packet, IsEffect}
 use Rattle.forwarder.specs.Causes.{after_causes, causes_by, in_record_for, interest_causes, is_answered, is_nacked, nack_causes}
 use Rattle.forwarder.specs.Outcome.{closing_outcome, packet_outcome, read_outcome}
 use Rattle.forwarder.specs.Handling.{packet_causes}
@@ -231,7 +231,7 @@ module _ (seen : Seen) (P : ℕ → Type 0) (face : ℕ) (token : Token) (asker 
   cache_passes None answer is = unserved_passes (served i.name i.can_be_prefix seen.policy.held.objects) answer is
 
   data_passes : (b : Bool) (answer : Answer)
-      → WhereTrue b (answer ≡ record { verdict = Dropped Loop; sends = nacked_back face token DUPLICATE whole ∷ [] })
+      → IfTrueElse b (answer ≡ record { verdict = Dropped Loop; sends = nacked_back face token DUPLICATE whole ∷ [] })
       ((given : Option (List ℕ)) × seen.MayGive (key_of i) given × (answer ≡ by_content_store seen face token whole i given)) → PassesTo P answer
   data_passes true answer is e = absurd (never (sym (ap (λ (a : Answer). a.verdict) is) ∙ e))
     where
@@ -282,7 +282,7 @@ packet_keeps p face (AData whole d) = (refl, λ all. all)
 packet_keeps p face (ANack reason whole i) = keeps_itself p
 packet_keeps p face Idle = keeps_itself p
 
-said_keeps : (p : Policy) (face : ℕ) (packet : PlainFrame) (said : Decision) → KeepsOpen p (after_said p face packet said)
+said_keeps : (p : Policy) (face : ℕ) (packet : PlainFrame) (said : Decision) → KeepsOpen p (after_decision p face packet said)
 said_keeps p face packet (decided.Allowed rule) = packet_keeps p face packet
 said_keeps p face packet (decided.Denied rule reason) = keeps_itself p
 said_keeps p face packet decided.NoRule = keeps_itself p
@@ -405,7 +405,7 @@ module _ (old new : NodeState) (sound : IsSound old) where
         subst (λ (v : Verdict). AddOnly Open (causes_by p.now (token_at octets) sends (packet_outcome face packet v))) (sym is) tt
 
     adds : (b : Bool) → is_open face old.policy.faces ≡ b
-        → WhereTrue b (RepliesToPacket (seen_in p step.waiting old.cache) face (token_at octets) (frame_at octets) answer) (answer ≡ dropped NoFace)
+        → IfTrueElse b (RepliesToPacket (seen_in p step.waiting old.cache) face (token_at octets) (frame_at octets) answer) (answer ≡ dropped NoFace)
         → AddOnly Open (causes_by p.now (token_at octets) answer.sends (read_outcome face (frame_at octets) answer.verdict))
     adds true here replies = frame_adds (frame_at octets) here replies
     adds false closed is = none_added (frame_at octets) answer.verdict answer.sends (ap (λ (a : Answer). a.verdict) is)

@@ -7,7 +7,7 @@ use Rattle.std.proofs.lemmas.List.Elements.{All-nil}
 use Rattle.ndn_packets.specs.Key.{key_cmp}
 use Rattle.pit_fib.specs.Records.{Pending, Records, no_records, records_at}
 use Rattle.forwarder.specs.Event.{PlainEvent}
-use Rattle.forwarder.specs.Node.{NodeState, IsStep, Unharmed}
+use Rattle.forwarder.specs.Node.{NodeState, IsStep, ChangesCacheOnly}
 use Rattle.forwarder.specs.Policy.{Policy}
 use Rattle.forwarder.specs.Runs.{Run, Start, Then, IsPolicyOf, IsRun, MayHold, Stands}
 use Rattle.forwarder.specs.Verdict.{Answer}
@@ -32,7 +32,7 @@ step_goes_on first past old new event answer begins is_run stands step = (
 )
 
 -- a step that is refused memory stands still
-pub refused_stands : (first : Policy) (past : Run) (old new : NodeState) → Stands first past old → Unharmed old new → Stands first past new
+pub refused_stands : (first : Policy) (past : Run) (old new : NodeState) → Stands first past old → ChangesCacheOnly old new → Stands first past new
 refused_stands first past old new stands unharmed = record {
   policy = subst (λ (p : Policy). IsPolicyOf first past p) (sym unharmed.policy) stands.policy;
   pending = λ key. ap (λ (t : Pending). records_at t key) unharmed.pending ∙ stands.pending key;

@@ -25,14 +25,14 @@ use Rattle.repo_core.specs.Repo.{Held, want_key, after_delete, after_insert, aft
 use Rattle.repo_core.specs.Wants.{is_wanted, unfilled, want_deadline}
 use Rattle.repo_core.proofs.Kept.{get-kept}
 use Rattle.forwarder.specs.Event.{PlainEvent, Packet, FaceUp, FaceDown, Tick, NewRules}
-use Rattle.forwarder.specs.Faces.{is_open}
+use Rattle.forwarder.specs.OpenFaces.{is_open}
 use Rattle.forwarder.specs.Event.{moment}
-use Rattle.forwarder.specs.Faces.{with_face, without_entry}
+use Rattle.forwarder.specs.OpenFaces.{with_face, without_entry}
 use Rattle.forwarder.specs.Policy.{Policy, at_moment, with_next_version}
 use Rattle.forwarder.specs.Request.{Request, Refused, ForList, ForTables, ForRepository, ForData, request_of}
-use Rattle.forwarder.specs.Said.{IsSaid, recorded_of}
+use Rattle.forwarder.specs.Deciding.{IsDecidedAs, recorded_of}
 use Rattle.forwarder.specs.Commands.{after_request, after_tables, with_record}
-use Rattle.forwarder.specs.Effects.{IsAfter, IsEffect, after_said, can_open, decided_packet, face_in, undecided_effect}
+use Rattle.forwarder.specs.Effects.{IsAfter, IsEffect, after_decision, can_open, decided_packet, face_in, undecided_effect}
 use Rattle.forwarder.specs.Runs.{Run, Start, Then, IsPolicyOf}
 use Rattle.forwarder.specs.Allowed.{Allows, AllowedIn}
 
@@ -142,8 +142,8 @@ undecided_stored p (NewRules rules keys now) = refl
 stored_after : (was new : Policy) (event : PlainEvent) (name : List Field) (octets : List ℕ) → IsAfter was event new → Holds new.held.objects name octets → StoredAfter was event name octets
 stored_after was new event name octets h at = by_packet (decided_packet (at_moment was (moment event)) event) refl h
   where
-    by_said : (packet : PlainFrame) (said : Decision) → decided_packet (at_moment was (moment event)) event ≡ Some packet → IsSaid (at_moment was (moment event)) packet said
-        → Holds (after_said (at_moment was (moment event)) (face_in event) packet said).held.objects name octets → StoredAfter was event name octets
+    by_said : (packet : PlainFrame) (said : Decision) → decided_packet (at_moment was (moment event)) event ≡ Some packet → IsDecidedAs (at_moment was (moment event)) packet said
+        → Holds (after_decision (at_moment was (moment event)) (face_in event) packet said).held.objects name octets → StoredAfter was event name octets
     by_said (AnInterest whole i) (decided.Allowed rule) d s k =
         let q = at_moment was (moment event) in
         let base = after_request q (face_in event) i (request_of q (face_in event) i) in

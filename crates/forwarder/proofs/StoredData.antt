@@ -15,9 +15,9 @@ use Rattle.forwarder.specs.declared.verdict.Verdict as code
 use Rattle.forwarder.specs.Event.{PlainEvent, Send, moment, Token}
 use Rattle.forwarder.specs.Policy.{Policy, at_moment}
 use Rattle.forwarder.specs.Request.{Request, Refused, ForList, ForTables, ForRepository, ForData, is_decided, request_of}
-use Rattle.forwarder.specs.Said.{recorded_of}
+use Rattle.forwarder.specs.Deciding.{recorded_of}
 use Rattle.forwarder.specs.Commands.{after_request}
-use Rattle.forwarder.specs.Effects.{after_said, undecided_effect}
+use Rattle.forwarder.specs.Effects.{after_decision, undecided_effect}
 use Rattle.forwarder.specs.Handling.{HandlesPacket, IsHandled, IsPacketEffect}
 use Rattle.forwarder.specs.State.{IsLater, policy_of, state_of}
 use Rattle.forwarder.proofs.Stored.{record_stored, tables_stored, undecided_stored}
@@ -39,7 +39,7 @@ request_stores p face i ForTables h = subst (λ (s : Held). AreObjects s.objects
 request_stores p face i ForRepository h = command_objects p.held h p.repo i.name p.now
 request_stores p face i ForData h = h
 
-said_stores : (p : Policy) (face : ℕ) (packet : PlainFrame) (said : Decision) → IsReadAsData packet → StoresData p → StoresData (after_said p face packet said)
+said_stores : (p : Policy) (face : ℕ) (packet : PlainFrame) (said : Decision) → IsReadAsData packet → StoresData p → StoresData (after_decision p face packet said)
 said_stores p face (AnInterest whole i) (decided.Allowed rule) read h =
     let base = after_request p face i (request_of p face i) in
     subst (λ (s : Held). AreObjects s.objects) (sym (record_stored base (recorded_of i))) (request_stores p face i (request_of p face i) h)

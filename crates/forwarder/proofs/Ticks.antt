@@ -16,7 +16,7 @@ use Rattle.forwarder.specs.Replies.{Replies}
 use Rattle.forwarder.specs.Causes.{after_causes, causes_by}
 use Rattle.forwarder.specs.Outcome.{Outcome, outcome_of}
 use Rattle.forwarder.specs.Cache.{TakesAway, cache_use}
-use Rattle.forwarder.specs.Runs.{Run, Start, Then, HasTicksFor, IsPolicyOf, IsRun, IsWaiting, KeysAreApart, MayCache, MayHold, MayReply, is_denied, now_of, records_of, seen_after}
+use Rattle.forwarder.specs.Runs.{Run, Start, Then, HasTicksForDenied, IsPolicyOf, IsRun, IsWaiting, KeysAreApart, MayCache, MayHold, MayReply, is_denied, now_of, records_of, seen_after}
 use Rattle.forwarder.proofs.LaterMoments.{policy_apart}
 use Rattle.forwarder.proofs.Histories.{one_history, one_policy}
 use Rattle.forwarder.proofs.Denials.{denied_effect}
@@ -24,7 +24,7 @@ use Rattle.forwarder.proofs.PastRecords.{next_records, records_then}
 use Rattle.forwarder.proofs.Uses.{denied_outcome}
 use Rattle.forwarder.proofs.RunSteps.{more_replies}
 
-now_ticks : (past other : Run) → HasTicksFor past other → now_of other ≡ now_of past
+now_ticks : (past other : Run) → HasTicksForDenied past other → now_of other ≡ now_of past
 now_ticks Start Start t = refl
 now_ticks Start (Then other another reply) t = absurd t
 now_ticks (Then before event answer) Start t = absurd t
@@ -39,7 +39,7 @@ idle_records : (now : ℕ) (event : PlainEvent) (answer : Answer) (key : PlainKe
     → next_records now event answer key r ≡ records_after (Expires now) key r
 idle_records now event answer key r d = ap (λ (o : Outcome). after_causes (causes_by now (token_in event) answer.sends o) key (records_after (Expires now) key r)) (denied_outcome event answer.verdict d)
 
-records_ticks : (past other : Run) → HasTicksFor past other → (key : PlainKey) → records_of other key ≡ records_of past key
+records_ticks : (past other : Run) → HasTicksForDenied past other → (key : PlainKey) → records_of other key ≡ records_of past key
 records_ticks Start Start t key = refl
 records_ticks Start (Then other another reply) t key = absurd t
 records_ticks (Then before event answer) Start t key = absurd t
@@ -63,13 +63,13 @@ records_ticks (Then before event answer) (Then other another reply) (t, inr (d, 
     ∙ records_then before event answer key
 
 -- who waits is the same, at the same moment
-waiting_ticks : (past other : Run) → HasTicksFor past other → (now : ℕ) (waiting : Pending) → IsWaiting past now waiting → IsWaiting other now waiting
+waiting_ticks : (past other : Run) → HasTicksForDenied past other → (now : ℕ) (waiting : Pending) → IsWaiting past now waiting → IsWaiting other now waiting
 waiting_ticks past other t now waiting w = record {
   living = w.living;
   records = λ key. w.records key ∙ ap (λ (r : Records). records_after (Expires now) key r) (sym (records_ticks past other t key));
 }
 
-held_ticks : (past other : Run) → HasTicksFor past other → (c : CachedData) → MayHold past c → MayHold other c
+held_ticks : (past other : Run) → HasTicksForDenied past other → (c : CachedData) → MayHold past c → MayHold other c
 held_ticks Start Start t c h = absurd h
 held_ticks Start (Then other another reply) t c h = absurd t
 held_ticks (Then before event answer) Start t c h = absurd t
@@ -101,7 +101,7 @@ denied_after first before event answer was p apart reply d is after =
     subst (λ (w : Policy). Replies (seen_after before (at_moment w (moment event)) reply.waiting) event answer) e reply.replies in
     denied_effect q (records_at reply.waiting) (nat_le MAX_PENDING (map.len reply.waiting)) (MayCache before q.now) keys answer d event replies p after
 
-pub policy_ticks : (first : Policy) (past other : Run) → KeysAreApart first past → IsRun first past → HasTicksFor past other → (p : Policy) → IsPolicyOf first past p → IsPolicyOf first other p
+pub policy_ticks : (first : Policy) (past other : Run) → KeysAreApart first past → IsRun first past → HasTicksForDenied past other → (p : Policy) → IsPolicyOf first past p → IsPolicyOf first other p
 policy_ticks first Start Start apart is t p h = h
 policy_ticks first Start (Then other another reply) apart is t p h = absurd t
 policy_ticks first (Then before event answer) Start apart is t p h = absurd t
@@ -112,11 +112,11 @@ policy_ticks first (Then before event answer) (Then other another reply) apart i
     (h.0, policy_ticks first before other apart.0 is.0 t h.0 h.1, subst (λ (x : PlainEvent). IsAfter h.0 x p) (sym e) after)
 
 -- what the cache may give after the first run, it may after the second
-given_ticks : (past other : Run) → HasTicksFor past other → (now : ℕ) (key : PlainKey) (given : Option (List ℕ)) → MayCache past now key given → MayCache other now key given
+given_ticks : (past other : Run) → HasTicksForDenied past other → (now : ℕ) (key : PlainKey) (given : Option (List ℕ)) → MayCache past now key given → MayCache other now key given
 given_ticks past other t now key None h = tt
 given_ticks past other t now key (Some octets) h = (h.0, held_ticks past other t h.0 h.1, h.2, h.3)
 
-reply_ticks : (first : Policy) (past other : Run) (event : PlainEvent) (answer : Answer) → KeysAreApart first past → IsRun first past → HasTicksFor past other
+reply_ticks : (first : Policy) (past other : Run) (event : PlainEvent) (answer : Answer) → KeysAreApart first past → IsRun first past → HasTicksForDenied past other
     → MayReply first past event answer → MayReply first other event answer
 reply_ticks first past other event answer apart is t h =
     let p = at_moment h.was (moment event) in
@@ -129,7 +129,7 @@ reply_ticks first past other event answer apart is t h =
       replies = more_replies p (records_at h.waiting) (nat_le MAX_PENDING (map.len h.waiting)) (MayCache past p.now) (MayCache other p.now) (given_ticks past other t p.now) event answer h.replies;
     }
 
-tick_reply : (first : Policy) (past other : Run) (event : PlainEvent) (answer : Answer) → KeysAreApart first past → IsRun first past → HasTicksFor past other
+tick_reply : (first : Policy) (past other : Run) (event : PlainEvent) (answer : Answer) → KeysAreApart first past → IsRun first past → HasTicksForDenied past other
     → MayReply first past event answer → MayReply first other (Tick (moment event)) (passed [])
 tick_reply first past other event answer apart is t h =
     let n : max (now_of other) (moment event) ≡ max (now_of past) (moment event) = ap (λ (k : ℕ). max k (moment event)) (now_ticks past other t) in
@@ -141,7 +141,7 @@ tick_reply first past other event answer apart is t h =
       replies = refl;
     }
 
-pub run_ticks : (first : Policy) (past other : Run) → KeysAreApart first past → IsRun first past → HasTicksFor past other → IsRun first other
+pub run_ticks : (first : Policy) (past other : Run) → KeysAreApart first past → IsRun first past → HasTicksForDenied past other → IsRun first other
 run_ticks first Start Start apart is t = tt
 run_ticks first Start (Then other another reply) apart is t = absurd t
 run_ticks first (Then before event answer) Start apart is t = absurd t

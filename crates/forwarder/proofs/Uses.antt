@@ -18,7 +18,7 @@ use Rattle.forwarder.specs.Request.{ListAsked, is_command, list_asked, managemen
 use Rattle.forwarder.specs.Outcome.{Outcome, Nothing, InterestPassed, CommandAllowed, DataCame, NackPassed, FaceClosed, closing_outcome, outcome_of, packet_outcome, read_outcome}
 use Rattle.forwarder.specs.Cache.{Untouched, LooksUp, Inserts, Erases, cache_use, command_use, held_from}
 use Rattle.forwarder.specs.Runs.{is_denied}
-use Rattle.forwarder.specs.Commanding.{request_use}
+use Rattle.forwarder.specs.CommandStep.{request_use}
 use Rattle.forwarder.specs.Handling.{packet_use}
 use Rattle.forwarder.proofs.Requests.{by_request, no_command}
 

@@ -6,7 +6,7 @@ use Rattle.info_rules.specs.declared.decision.Decision.TheVariants.{Allowed}
 use Rattle.forwarder.specs.Event.{PlainEvent}
 use Rattle.forwarder.specs.Event.{moment}
 use Rattle.forwarder.specs.Policy.{Policy, at_moment}
-use Rattle.forwarder.specs.Said.{IsSaid}
+use Rattle.forwarder.specs.Deciding.{IsDecidedAs}
 use Rattle.forwarder.specs.Effects.{decided_packet}
 use Rattle.forwarder.specs.Runs.{Run, Start, Then, IsPolicyOf, now_of}
 
@@ -14,7 +14,7 @@ use Rattle.forwarder.specs.Runs.{Run, Start, Then, IsPolicyOf, now_of}
 pub record Allows (was : Policy) (event : PlainEvent) (packet : PlainFrame) : Type 0 where
   pub rule : RuleNo
   pub brings : decided_packet (at_moment was (moment event)) event ≡ Some packet
-  pub said : IsSaid (at_moment was (moment event)) packet (Allowed rule)
+  pub said : IsDecidedAs (at_moment was (moment event)) packet (Allowed rule)
 
 -- some event of the run brought this packet, and it was allowed then
 abbrev pub AllowedIn : Policy → Run → PlainFrame → Type 0

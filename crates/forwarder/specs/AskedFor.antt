@@ -12,7 +12,7 @@ use Rattle.forwarder.specs.Event.{PlainEvent, Packet, Send, moment, sent_back, t
 use Rattle.forwarder.specs.Policy.{Policy, at_moment}
 use Rattle.forwarder.specs.Allowed.{AllowedIn, Allows}
 use Rattle.forwarder.specs.Runs.{Run, now_of, records_of}
-use Rattle.forwarder.specs.Sends.{IsReplyToCommand, IsSegmentAskedFor}
+use Rattle.forwarder.specs.DataSends.{IsReplyToCommand, IsSegmentAskedFor}
 
 -- an Interest of the face is pending when this moment has come, and the Data answers it
 pub record IsPendingFor (past : Run) (now face : ℕ) (whole : List ℕ) (d : PlainData) : Type 0 where

@@ -34,7 +34,7 @@ use Rattle.repo_core.specs.Writing.{repo_response}
 use Rattle.forwarder.specs.Event.{Send, Token, sent_back, to_each}
 use Rattle.forwarder.specs.Policy.{Policy, open_faces, with_next_version}
 use Rattle.forwarder.specs.Request.{Request, Refused, ForList, ForTables, ForRepository, ForData, request_of}
-use Rattle.forwarder.specs.Said.{recorded_of}
+use Rattle.forwarder.specs.Deciding.{recorded_of}
 use Rattle.forwarder.specs.NextHops.{choice_for, ask_for}
 use Rattle.forwarder.specs.Verdict.{Answer, Allowed, Denied, NoRule}
 

@@ -9,15 +9,15 @@ use Rattle.info_rules.specs.declared.decision.Decision.{Decision}
 use Rattle.info_rules.specs.declared.decision.Decision.TheVariants.{Allowed, Denied, NoRule}
 use Rattle.pit_fib.specs.Fib.{without_face}
 use Rattle.repo_core.specs.Repo.{after_offer}
-use Rattle.pit_fib.specs.declared.faces.TheConstants.{MAX_FACES}
+use Rattle.pit_fib.specs.declared.face_set.TheConstants.{MAX_FACES}
 use Rattle.forwarder.specs.declared.event.Scope.{Scope}
 use Rattle.forwarder.specs.Event.{PlainEvent, Packet, FaceUp, FaceDown, Tick, NewRules}
-use Rattle.forwarder.specs.Faces.{is_open}
+use Rattle.forwarder.specs.OpenFaces.{is_open}
 use Rattle.forwarder.specs.Event.{moment}
-use Rattle.forwarder.specs.Faces.{with_face, without_entry}
+use Rattle.forwarder.specs.OpenFaces.{with_face, without_entry}
 use Rattle.forwarder.specs.Policy.{Policy, at_moment, with_next_version, with_rules}
 use Rattle.forwarder.specs.Request.{is_decided}
-use Rattle.forwarder.specs.Said.{IsSaid}
+use Rattle.forwarder.specs.Deciding.{IsDecidedAs}
 use Rattle.forwarder.specs.Commands.{after_allowed}
 
 abbrev pub can_open : Policy → ℕ → Bool
@@ -61,10 +61,10 @@ after_packet p face (ANack reason whole i) = p
 after_packet p face Idle = p
 
 -- what is denied changes nothing
-abbrev pub after_said : Policy → ℕ → PlainFrame → Decision → Policy
-after_said p face packet (Allowed rule) = after_packet p face packet
-after_said p face packet (Denied rule reason) = p
-after_said p face packet NoRule = p
+abbrev pub after_decision : Policy → ℕ → PlainFrame → Decision → Policy
+after_decision p face packet (Allowed rule) = after_packet p face packet
+after_decision p face packet (Denied rule reason) = p
+after_decision p face packet NoRule = p
 
 abbrev pub face_in : PlainEvent → ℕ
 face_in (Packet face now octets) = face
@@ -85,8 +85,8 @@ undecided_effect p (NewRules rules keys now) = with_rules p rules keys
 abbrev pub IsEffect : Policy → PlainEvent → Policy → Option PlainFrame → Type 0
 IsEffect p event new None = new ≡ undecided_effect p event
 IsEffect p event new (Some packet) =
-    (said : Decision) × IsSaid p packet said
-    × (new ≡ after_said p (face_in event) packet said)
+    (said : Decision) × IsDecidedAs p packet said
+    × (new ≡ after_decision p (face_in event) packet said)
 
 -- A moment comes, and then the event has its effect. It is a function of the old policy and the
 -- event, since of each packet one decision is said.

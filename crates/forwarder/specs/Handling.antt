@@ -17,23 +17,23 @@ use Rattle.repo_core.specs.Objects.{AreObjects}
 use Rattle.forwarder.specs.declared.state.State.{State}
 use Rattle.forwarder.specs.declared.verdict.Verdict as code
 use Rattle.forwarder.specs.Event.{Send, Token}
-use Rattle.forwarder.specs.Faces.{is_open}
+use Rattle.forwarder.specs.OpenFaces.{is_open}
 use Rattle.forwarder.specs.Verdict.{Answer, Verdict, verdict_of}
 use Rattle.forwarder.specs.Policy.{Policy}
 use Rattle.forwarder.specs.Request.{is_decided}
-use Rattle.forwarder.specs.Said.{IsSaid}
-use Rattle.forwarder.specs.Effects.{after_said}
+use Rattle.forwarder.specs.Deciding.{IsDecidedAs}
+use Rattle.forwarder.specs.Effects.{after_decision}
 use Rattle.forwarder.specs.Outcome.{packet_outcome}
 use Rattle.forwarder.specs.Causes.{causes_by}
 use Rattle.forwarder.specs.Cache.{CacheAfter, CacheUse, cache_use}
 use Rattle.forwarder.specs.Replies.{Seen, RepliesToPacket}
-use Rattle.forwarder.specs.Node.{NodeState, FollowAll, Unharmed, seen_in}
+use Rattle.forwarder.specs.Node.{NodeState, FollowAll, ChangesCacheOnly, seen_in}
 use Rattle.forwarder.specs.State.{IsLater, IsSound, state_of}
 
 -- what a packet changes, by whether rules decide it
 abbrev pub IsPacketEffect : Policy → ℕ → PlainFrame → Policy → Bool → Type 0
 IsPacketEffect p face packet new true =
-    (said : Decision) × IsSaid p packet said × (new ≡ after_said p face packet said)
+    (said : Decision) × IsDecidedAs p packet said × (new ≡ after_decision p face packet said)
 IsPacketEffect p face packet new false = new ≡ p
 
 abbrev pub seen_by : NodeState → Seen
@@ -93,4 +93,4 @@ pub record AwaitsPacket (s : State) (face : ℕ) (token : Token) : Type 0 where
 pub record HandlesPacket (old new : State) (before after : List Send) (face : ℕ) (token : Token)
     (moment : ℕ) (packet : PlainFrame) (result : Result code.Verdict Memory) : Type 0 where
   pub handled : IfOk result (IsHandled old new before after face token moment packet)
-  pub memory : OnErr result (Unharmed (state_of old) (state_of new) × (after ≡ before))
+  pub memory : OnErr result (ChangesCacheOnly (state_of old) (state_of new) × (after ≡ before))

@@ -5,14 +5,14 @@ use Rattle.ndn_packets.specs.FrameReading.{frame_at}
 use Rattle.ndn_packets.specs.Key.{PlainKey, key_of}
 use Rattle.ndn_packets.specs.Packet.{PlainInterest, AnInterest}
 use Rattle.ndn_packets.specs.declared.types.TheConstants.{NO_ROUTE}
-use Rattle.pit_fib.specs.Faces.{has_face}
+use Rattle.pit_fib.specs.FaceSet.{has_face}
 use Rattle.pit_fib.specs.Records.{InRecord}
 use Rattle.forwarder.specs.Event.{PlainEvent, Packet, Send, Token, nacked_back, sent_back, to_each, token_in}
 use Rattle.forwarder.specs.Verdict.{Answer, Passed}
 use Rattle.forwarder.specs.Causes.{in_record_for, is_answered, is_nacked}
 use Rattle.forwarder.specs.NextHops.{sent_on}
 use Rattle.forwarder.specs.Replies.{Seen}
-use Rattle.forwarder.specs.Sends.{IsAtHand}
+use Rattle.forwarder.specs.DataSends.{IsAtHand}
 
 -- the event brings this Interest on this face, and it is passed
 pub record IsPassed (event : PlainEvent) (answer : Answer) (face : ℕ) (whole : List ℕ)
@@ -44,8 +44,8 @@ IsSentOn face whole i sends =
 
 -- one packet goes back to its face with its token, and nothing to others: a Nack NoRoute, or a Data
 -- that the cache gives, the repository stores or the node makes
-abbrev pub IsAnswered : Seen → ℕ → Token → List ℕ → PlainInterest → List Send → Type 0
-IsAnswered seen face token whole i sends =
+abbrev pub IsSentBack : Seen → ℕ → Token → List ℕ → PlainInterest → List Send → Type 0
+IsSentBack seen face token whole i sends =
     (sends ≡ nacked_back face token NO_ROUTE whole ∷ [])
     ⊎ ((packet : List ℕ) × (sends ≡ sent_back face token packet ∷ [])
     × IsAtHand seen face whole i packet)

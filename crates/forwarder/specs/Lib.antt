@@ -1,10 +1,10 @@
 pub mod Event
-pub mod Faces
+pub mod OpenFaces
 pub mod Parts
 pub mod Outbox
 pub mod Policy
 pub mod Verdict
-pub mod Said
+pub mod Deciding
 pub mod Request
 pub mod NextHops
 pub mod Commands
@@ -16,7 +16,7 @@ pub mod Causes
 pub mod Cache
 pub mod Node
 pub mod Runs
-pub mod Sends
+pub mod DataSends
 pub mod Allowed
 pub mod AskedFor
 pub mod Hops
@@ -27,5 +27,5 @@ pub mod Coded
 pub mod Handling
 pub mod Forwarding
 pub mod NackRoom
-pub mod Sending
-pub mod Commanding
+pub mod SendSpace
+pub mod CommandStep

@@ -11,12 +11,12 @@ use Rattle.info_rules.specs.declared.rules.RuleNo.{RuleNo}
 use Rattle.pit_fib.specs.declared.pit.TheConstants.{MAX_PENDING}
 use Rattle.pit_fib.specs.Cause.{Cause, Expires, Follows}
 use Rattle.pit_fib.specs.Records.{Pending, HoldsTheLiving, records_at}
-use Rattle.content_store.specs.Store.{Gives, StoreState}
+use Rattle.content_store.specs.Store.{GivesData, StoreState}
 use Rattle.forwarder.specs.Event.{PlainEvent, Packet, FaceUp, FaceDown, Tick, NewRules, moment}
-use Rattle.forwarder.specs.Faces.{is_open}
+use Rattle.forwarder.specs.OpenFaces.{is_open}
 use Rattle.forwarder.specs.Policy.{Policy, at_moment}
 use Rattle.forwarder.specs.Request.{Refused, is_out_of_scope, request_of}
-use Rattle.forwarder.specs.Said.{IsSaid}
+use Rattle.forwarder.specs.Deciding.{IsDecidedAs}
 use Rattle.forwarder.specs.Replies.{Seen, Replies}
 use Rattle.forwarder.specs.Effects.{IsAfter}
 use Rattle.forwarder.specs.Outcome.{outcome_of}
@@ -42,7 +42,7 @@ seen_in p waiting cache = record {
   policy = p;
   records = records_at waiting;
   is_full = nat_le MAX_PENDING (map.len waiting);
-  MayGive = λ key given. Gives key p.now cache.cached given;
+  MayGive = λ key given. GivesData key p.now cache.cached given;
 }
 
 -- One step, octets to octets: time passes, then the event is answered and has its effect. What is
@@ -65,7 +65,7 @@ pub record IsStep (old : NodeState) (event : PlainEvent) (answer : Answer)
       old.cache new.cache
 
 -- a step that was refused memory changed nothing but what the cache holds
-pub record Unharmed (old new : NodeState) : Type 0 where
+pub record ChangesCacheOnly (old new : NodeState) : Type 0 where
   pub policy : new.policy ≡ old.policy
   pub pending : new.pending ≡ old.pending
   pub cache : MayForget old.cache new.cache
@@ -81,7 +81,7 @@ NeedsNoMemory p face (Ok (AnInterest whole i)) =
     (reason : DropReason) × (request_of p face i ≡ Refused reason)
 NeedsNoMemory p face (Ok (AData whole d)) =
     (is_out_of_scope p face d.name ≡ true)
-    ⊎ (((rule : RuleNo) → ¬ IsSaid p (AData whole d) (Allowed rule))
+    ⊎ (((rule : RuleNo) → ¬ IsDecidedAs p (AData whole d) (Allowed rule))
     × (¬ MayRefuse p.rules (AData whole d)))
 NeedsNoMemory p face (Ok (ANack reason whole i)) = is_out_of_scope p face i.name ≡ true
 NeedsNoMemory p face (Ok Idle) = ⊤

@@ -12,7 +12,7 @@ use Rattle.repo_core.specs.Repo.{Held}
 use Rattle.repo_core.specs.Wants.{wants_after}
 use Rattle.forwarder.specs.declared.event.Scope.{Scope}
 use Rattle.forwarder.specs.declared.event.Scope.TheVariants.{Local, Far}
-use Rattle.forwarder.specs.Faces.{FaceEntry, find_scope, numbers}
+use Rattle.forwarder.specs.OpenFaces.{FaceEntry, find_scope, numbers}
 
 pub record Policy : Type 0 where
   -- the greatest moment so far, in milliseconds since 1970

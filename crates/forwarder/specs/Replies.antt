@@ -15,20 +15,20 @@ use Rattle.info_rules.specs.declared.decision.Decision.TheVariants as decided
 use Rattle.info_rules.specs.declared.rule.Kind.TheVariants as kinds
 use Rattle.pit_fib.specs.declared.nacked.Nacked.{Nacked}
 use Rattle.pit_fib.specs.declared.nacked.Nacked.TheVariants as nacks
-use Rattle.pit_fib.specs.Faces.{IsRising, has_face}
+use Rattle.pit_fib.specs.FaceSet.{IsRising, has_face}
 use Rattle.pit_fib.specs.Pit.{loops, moments, nacked_answer}
 use Rattle.pit_fib.specs.Records.{InRecord, InRecords, Records, is_alive}
 use Rattle.pit_fib.specs.Tokens.{IsTokenFor}
 use Rattle.strategies.specs.declared.strategy.Choice.{Choice}
 use Rattle.strategies.specs.declared.strategy.Choice.TheVariants as choices
 use Rattle.repo_core.specs.Objects.{served}
-use Rattle.pit_fib.specs.declared.faces.TheConstants.{MAX_FACES}
+use Rattle.pit_fib.specs.declared.face_set.TheConstants.{MAX_FACES}
 use Rattle.forwarder.specs.Event.{PlainEvent, Packet, FaceUp, FaceDown, Tick, NewRules, Send, Token, nacked_back, sent_back, to_each}
-use Rattle.forwarder.specs.Faces.{is_open}
-use Rattle.forwarder.specs.Verdict.{WhereTrue, Answer, Dropped, NoFace, Malformed, Idle, Loop, PitFull, NoPending, BadFace, FaceOpen, FacesFull, Scope as OutOfScope, DataAllowed, Denied, NoRule, dropped, passed}
+use Rattle.forwarder.specs.OpenFaces.{is_open}
+use Rattle.forwarder.specs.Verdict.{IfTrueElse, Answer, Dropped, NoFace, Malformed, Idle, Loop, PitFull, NoPending, BadFace, FaceOpen, FacesFull, Scope as OutOfScope, DataAllowed, Denied, NoRule, dropped, passed}
 use Rattle.forwarder.specs.Policy.{Policy}
 use Rattle.forwarder.specs.Request.{Request, Refused, ForList, ForTables, ForRepository, ForData, request_of, is_out_of_scope}
-use Rattle.forwarder.specs.Said.{IsSaid}
+use Rattle.forwarder.specs.Deciding.{IsDecidedAs}
 use Rattle.forwarder.specs.Commands.{command_answer}
 use Rattle.forwarder.specs.Datasets.{list_answer}
 use Rattle.forwarder.specs.NextHops.{choice_for, ask_from, sent_on}
@@ -95,7 +95,7 @@ by_content_store seen face token whole i None = content_store_miss seen face tok
 -- a face is asked
 abbrev pub RepliesForData : Seen → ℕ → Token → List ℕ → PlainInterest → Answer → Type 0
 RepliesForData seen face token whole i answer =
-    WhereTrue (loops (seen.records (key_of i)) face i.nonce)
+    IfTrueElse (loops (seen.records (key_of i)) face i.nonce)
     (answer ≡ interest_loop face token whole)
     ((given : Option (List ℕ)) × seen.MayGive (key_of i) given
     × (answer ≡ by_content_store seen face token whole i given))
@@ -104,7 +104,7 @@ RepliesForData seen face token whole i answer =
 
 abbrev pub RepliesToCommand : Seen → ℕ → Token → List ℕ → PlainInterest → Answer → Type 0
 RepliesToCommand seen face token whole i answer =
-    (said : Decision) × IsSaid seen.policy (AnInterest whole i) said
+    (said : Decision) × IsDecidedAs seen.policy (AnInterest whole i) said
     × (answer ≡ command_answer seen.policy face token i said)
 
 abbrev pub RepliesToRequest : Seen → ℕ → Token → List ℕ → PlainInterest → Answer → Request
@@ -147,19 +147,19 @@ IsSentToAskers seen face whole d sends =
     × All (λ a. IsTokenFor seen.records d.name (sha256 whole) a.0 a.1) askers
     × (sends ≡ sent_to askers whole)
 
-abbrev pub RepliesBySaid : Seen → ℕ → List ℕ → PlainData → Answer → Decision → Type 0
-RepliesBySaid seen face whole d answer (decided.Allowed rule) =
+abbrev pub RepliesByDecision : Seen → ℕ → List ℕ → PlainData → Answer → Decision → Type 0
+RepliesByDecision seen face whole d answer (decided.Allowed rule) =
     (answer.verdict ≡ DataAllowed rule.0) × IsSentToAskers seen face whole d answer.sends
-RepliesBySaid seen face whole d answer (decided.Denied rule reason) =
+RepliesByDecision seen face whole d answer (decided.Denied rule reason) =
     answer ≡ record { verdict = Denied kinds.Data rule.0 reason; sends = [] }
-RepliesBySaid seen face whole d answer decided.NoRule =
+RepliesByDecision seen face whole d answer decided.NoRule =
     answer ≡ record { verdict = NoRule kinds.Data; sends = [] }
 
 abbrev pub RepliesToData : Seen → ℕ → List ℕ → PlainData → Answer → Type 0
 RepliesToData seen face whole d answer =
-    WhereTrue (is_out_of_scope seen.policy face d.name) (answer ≡ dropped OutOfScope)
-    ((said : Decision) × IsSaid seen.policy (AData whole d) said
-    × RepliesBySaid seen face whole d answer said)
+    IfTrueElse (is_out_of_scope seen.policy face d.name) (answer ≡ dropped OutOfScope)
+    ((said : Decision) × IsDecidedAs seen.policy (AData whole d) said
+    × RepliesByDecision seen face whole d answer said)
 
 -- a Nack of this reason around the Interest of each in-record, with its token, in rising order of the
 -- faces
@@ -177,7 +177,7 @@ nack_answer in_records (nacks.All reason) = passed (nacks_to in_records reason)
 abbrev pub RepliesToNack : Seen → ℕ → ℕ → PlainInterest → Answer → Type 0
 RepliesToNack seen face reason i answer =
     let r = seen.records (key_of i) in
-    WhereTrue (is_out_of_scope seen.policy face i.name) (answer ≡ dropped OutOfScope)
+    IfTrueElse (is_out_of_scope seen.policy face i.name) (answer ≡ dropped OutOfScope)
     (answer ≡ nack_answer r.in_records (nacked_answer r face i.nonce reason))
 
 -- the token of a Data or a Nack that comes is ignored
@@ -204,7 +204,7 @@ opening_answer p face =
 -- what may be answered to an event, where this is seen once its moment has come
 abbrev pub Replies : Seen → PlainEvent → Answer → Type 0
 Replies seen (Packet face now octets) answer =
-    WhereTrue (is_open face seen.policy.faces)
+    IfTrueElse (is_open face seen.policy.faces)
     (RepliesToPacket seen face (token_at octets) (frame_at octets) answer)
     (answer ≡ dropped NoFace)
 Replies seen (FaceUp face scope now) answer = answer ≡ opening_answer seen.policy face

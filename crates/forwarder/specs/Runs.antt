@@ -10,7 +10,7 @@ use Rattle.ndn_packets.specs.Packet.{PlainFrame, AnInterest, AData, ANack, Idle}
 use Rattle.ndn_packets.specs.declared.fault.PacketFault.{PacketFault}
 use Rattle.pit_fib.specs.declared.pit.TheConstants.{MAX_PENDING}
 use Rattle.pit_fib.specs.Cause.{Cause, Expires, records_after}
-use Rattle.pit_fib.specs.Past.{records_of as records_after_all}
+use Rattle.pit_fib.specs.Past.{records_after_all}
 use Rattle.pit_fib.specs.Records.{Records, Pending, HoldsTheLiving, records_at}
 use Rattle.content_store.specs.Store.{CachedData, CanServe}
 use Rattle.forwarder.specs.Event.{PlainEvent, Packet, FaceUp, FaceDown, Tick, NewRules, moment}
@@ -209,10 +209,10 @@ is_denied (NoRule kind) = true
 is_denied (Dropped reason) = false
 
 -- the second run has, in the place of some events that were denied, their moments alone
-abbrev pub HasTicksFor : Run → Run → Type 0
-HasTicksFor Start Start = ⊤
-HasTicksFor Start (Then other another reply) = ⊥
-HasTicksFor (Then before event answer) Start = ⊥
-HasTicksFor (Then before event answer) (Then other another reply) =
-    HasTicksFor before other × (((another ≡ event) × (reply ≡ answer))
+abbrev pub HasTicksForDenied : Run → Run → Type 0
+HasTicksForDenied Start Start = ⊤
+HasTicksForDenied Start (Then other another reply) = ⊥
+HasTicksForDenied (Then before event answer) Start = ⊥
+HasTicksForDenied (Then before event answer) (Then other another reply) =
+    HasTicksForDenied before other × (((another ≡ event) × (reply ≡ answer))
     ⊎ ((is_denied answer.verdict ≡ true) × (another ≡ Tick (moment event)) × (reply ≡ passed [])))

@@ -1,13 +1,13 @@
 -- What a node keeps, as its tables show it, and what is true of every node.
 use Rattle.std.specs.Prelude.{◌≡◌, ℕ, ◌≤◌, length, max, true}
 use Rattle.pit_fib.specs.Cause.{Expires, Follows}
-use Rattle.pit_fib.specs.Faces.{IsRising}
+use Rattle.pit_fib.specs.FaceSet.{IsRising}
 use Rattle.pit_fib.specs.Pit.{HasRecord}
 use Rattle.pit_fib.specs.Records.{HoldsTheLiving}
 use Rattle.mgmt_core.specs.Tables.{AllAreUp}
-use Rattle.pit_fib.specs.declared.faces.TheConstants.{MAX_FACES}
+use Rattle.pit_fib.specs.declared.face_set.TheConstants.{MAX_FACES}
 use Rattle.forwarder.specs.declared.state.State.{State}
-use Rattle.forwarder.specs.Faces.{is_open, numbers}
+use Rattle.forwarder.specs.OpenFaces.{is_open, numbers}
 use Rattle.forwarder.specs.Policy.{Policy, at_moment, open_faces}
 use Rattle.forwarder.specs.Node.{NodeState}
 

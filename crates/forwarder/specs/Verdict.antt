@@ -10,9 +10,9 @@ use Rattle.forwarder.specs.declared.verdict.Verdict.TheVariants as said
 use Rattle.forwarder.specs.Event.{Send}
 
 -- the first fact where a test passes, the second where it does not
-abbrev pub WhereTrue : Bool → Type 0 → Type 0 → Type 0
-WhereTrue true A B = A
-WhereTrue false A B = B
+abbrev pub IfTrueElse : Bool → Type 0 → Type 0 → Type 0
+IfTrueElse true A B = A
+IfTrueElse false A B = B
 
 -- why an event was dropped
 pub data DropReason : Type 0 where

@@ -4,16 +4,16 @@ ghost use Rattle.ndn_packets.specs.Link.{IsToken};
 ghost use Rattle.ndn_packets.specs.View.{plain_interest};
 ghost use Rattle.mgmt_core.specs.Reading.{asked, command_at};
 ghost use Rattle.replay_guard.specs.Guard.{IsPrepared};
-ghost use Rattle.forwarder.specs.Commanding.{IsCarriedOut};
+ghost use Rattle.forwarder.specs.CommandStep.{IsCarriedOut};
 ghost use Rattle.forwarder.specs.Commands.{fetch_sends, refused_content, replied};
 ghost use Rattle.forwarder.specs.Handling.{AwaitsPacket, HandlesPacket, interest_packet, token_of};
 ghost use Rattle.forwarder.specs.Request.{ForRepository, ForTables, is_command, request_named, request_of};
-ghost use Rattle.forwarder.specs.Said.{recorded_of};
+ghost use Rattle.forwarder.specs.Deciding.{recorded_of};
 ghost use Rattle.forwarder.specs.State.{IsLater, IsSound, policy_of, state_of};
 
 use crate::arrived::Arrived;
 use crate::denial::{denial_text, put_refusal};
-use crate::freshness::{prepare_record, record, said};
+use crate::freshness::{decide_command, prepare_record, record};
 use crate::reply::{put_repo_status, put_status, reply_room};
 use crate::request::NamedRequest;
 use crate::sends::Sends;
@@ -46,7 +46,7 @@ impl State {
             (interest_packet arrived.now.packet.now) result }
     {
         let moment = self.now.max(arrived.moment);
-        match said(
+        match decide_command(
             self.alloc,
             &self.rules,
             &self.keys,

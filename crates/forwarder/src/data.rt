@@ -14,12 +14,12 @@ ghost use Rattle.forwarder.specs.Node.{NeedsNoMemory};
 ghost use Rattle.forwarder.specs.Policy.{Policy};
 ghost use Rattle.forwarder.specs.Replies.{Askers, IsSentToAskers, faces_of, sent_to};
 ghost use Rattle.forwarder.specs.Request.{is_out_of_scope};
-ghost use Rattle.forwarder.specs.Said.{IsSaid};
-ghost use Rattle.forwarder.specs.Sending.{room_for_data};
+ghost use Rattle.forwarder.specs.Deciding.{IsDecidedAs};
+ghost use Rattle.forwarder.specs.SendSpace.{room_for_data};
 ghost use Rattle.forwarder.specs.State.{policy_of, state_of};
 
 use crate::arrived::Arrived;
-use crate::freshness::said_of_data;
+use crate::freshness::decide_data;
 use crate::open_faces::without_face;
 use crate::sends::{LINK_EXTRA, Sends};
 use crate::state::State;
@@ -48,7 +48,7 @@ impl State {
         if self.is_out_of_scope(arrived.face, arrived.packet.name) {
             return Ok(self.drop_packet(arrived.moment, DropReason::Scope));
         }
-        match said_of_data(self.alloc, &self.rules, &self.keys, arrived.packet)? {
+        match decide_data(self.alloc, &self.rules, &self.keys, arrived.packet)? {
             Decision::Allowed(rule) => self.receive_allowed(arrived, rule, out),
             Decision::Denied(rule, reason) => {
                 self.pass_time(arrived.moment);
@@ -71,7 +71,7 @@ impl State {
         requires scope { is_out_of_scope (policy_of self.old) arrived.now.face
             (components arrived.now.packet.now.name) ≡ false }
         requires allowed { (p : Policy) → p.rules ≡ self.old.rules → p.keys ≡ self.old.keys
-            → IsSaid p (data_packet arrived.now.packet.now) (said.Allowed rule) }
+            → IsDecidedAs p (data_packet arrived.now.packet.now) (said.Allowed rule) }
         ensures { HandlesPacket self.old self.new out.old.sends out.new.sends
             arrived.now.face (token_of arrived.now.token) arrived.now.moment
             (data_packet arrived.now.packet.now) result }

@@ -6,7 +6,7 @@ ghost use Rattle.ndn_packets.specs.View.{plain_data, plain_interest};
 ghost use Rattle.replay_guard.specs.Guard.{IsPrepared, signer_of};
 ghost use Rattle.forwarder.specs.Commands.{with_record};
 ghost use Rattle.forwarder.specs.Policy.{Policy};
-ghost use Rattle.forwarder.specs.Said.{IsFreshCommand, IsSaid, recorded_by, recorded_of, signer_in};
+ghost use Rattle.forwarder.specs.Deciding.{IsFreshCommand, IsDecidedAs, recorded_by, recorded_of, signer_in};
 
 use hmac_keys::KeyBook;
 use info_rules::{Decision, Packet, Reason, Rules};
@@ -65,7 +65,7 @@ fn is_fresh(guard: &Guard, interest: &Interest<'_>, now: u64) -> bool
 
 /// What is said of a command at this moment, in milliseconds since 1970: what the rules decide, but
 /// that a command is denied as a replay where they allow it and it is not fresh.
-pub(crate) fn said(
+pub(crate) fn decide_command(
     alloc: Global,
     rules: &Rules,
     keys: &KeyBook,
@@ -75,7 +75,7 @@ pub(crate) fn said(
 ) -> Result<Decision, Memory>
     ensures { IfOk result (λ said. (p : Policy) → p.rules ≡ rules.now → p.keys ≡ keys.now
         → p.guard ≡ guard.now.latest → p.now ≡ now
-        → IsSaid p (AnInterest interest.now.whole.now (plain_interest interest.now)) said) }
+        → IsDecidedAs p (AnInterest interest.now.whole.now (plain_interest interest.now)) said) }
 {
     let decision = rules.decide(alloc, keys, Packet::Interest(interest))?;
     let Decision::Allowed(rule) = decision else {
@@ -88,14 +88,14 @@ pub(crate) fn said(
 }
 
 /// What is said of a Data: what the rules decide.
-pub(crate) fn said_of_data(
+pub(crate) fn decide_data(
     alloc: Global,
     rules: &Rules,
     keys: &KeyBook,
     packet: &Data<'_>,
 ) -> Result<Decision, Memory>
     ensures said { IfOk result (λ said. (p : Policy) → p.rules ≡ rules.now → p.keys ≡ keys.now
-        → IsSaid p (AData packet.now.whole.now (plain_data packet.now)) said) }
+        → IsDecidedAs p (AData packet.now.whole.now (plain_data packet.now)) said) }
     ensures memory { OnErr result
         (MayRefuse rules.now (AData packet.now.whole.now (plain_data packet.now))) }
 {

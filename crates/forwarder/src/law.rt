@@ -11,9 +11,9 @@ ghost use Rattle.info_rules.specs.declared.decision.Decision.TheVariants as deci
 ghost use Rattle.info_rules.specs.declared.decision.Reason.{Reason};
 ghost use Rattle.info_rules.specs.declared.rule.Kind.{Kind};
 ghost use Rattle.info_rules.specs.declared.rules.RuleNo.{RuleNo};
-ghost use Rattle.forwarder.specs.Said.{IsFreshCommand, IsSaid, recorded_of};
+ghost use Rattle.forwarder.specs.Deciding.{IsFreshCommand, IsDecidedAs, recorded_of};
 ghost use Rattle.forwarder.specs.Verdict as verdicts;
-ghost use Rattle.forwarder.specs.Sends.{BringsOctets, EachIsExplained, is_data};
+ghost use Rattle.forwarder.specs.DataSends.{BringsOctets, EachIsExplained, is_data};
 ghost use Rattle.forwarder.specs.Allowed.{AllowedAt, AllowedIn, Allows};
 ghost use Rattle.forwarder.specs.AskedFor.{AnswersItself, WasAskedFor};
 ghost use Rattle.forwarder.specs.Commands.{IsDenial};
@@ -31,12 +31,12 @@ ghost use Rattle.sha2.specs.Sha256.{sha256};
 ghost use Rattle.replay_guard.specs.Freshness.{AreNear, NumberRises, Recorded};
 ghost use Rattle.replay_guard.specs.Guard.{table_of};
 ghost use Rattle.forwarder.specs.State.{IsSound};
-ghost use Rattle.forwarder.specs.Node.{NodeState, IsStep, Unharmed};
+ghost use Rattle.forwarder.specs.Node.{NodeState, IsStep, ChangesCacheOnly};
 ghost use Rattle.forwarder.specs.Causes.{in_record_for, causes_of};
 ghost use Rattle.forwarder.specs.Hops.{cost_of};
 ghost use Rattle.forwarder.specs.RouteReading.{route_of};
-ghost use Rattle.forwarder.specs.Kept.{IsAnswered, IsKept, IsPassed, IsSentOn};
-ghost use Rattle.forwarder.specs.Runs.{Run, Start, Then, AreLastRules, BringsData, BringsKeysApart, BringsRequest, HasNoNewRules, HasTicksFor, HaveOneHistory, IsPolicyOf, IsRun, KeysAreApart, MayHold, MayReply, Stands, now_of, past_causes, events_back, records_of, seen_after};
+ghost use Rattle.forwarder.specs.Kept.{IsSentBack, IsKept, IsPassed, IsSentOn};
+ghost use Rattle.forwarder.specs.Runs.{Run, Start, Then, AreLastRules, BringsData, BringsKeysApart, BringsRequest, HasNoNewRules, HasTicksForDenied, HaveOneHistory, IsPolicyOf, IsRun, KeysAreApart, MayHold, MayReply, Stands, now_of, past_causes, events_back, records_of, seen_after};
 
 /// Law: what follows from events alone is a function of them, where the keys of a book have
 /// different names.
@@ -87,7 +87,7 @@ pub fn new_nodes_stand_in_the_empty_run()
 /// Law: a step that was refused memory leaves the node where it stands.
 pub fn refused_steps_stand_still()
     ensures { (first : Policy) (past : Run) (old new : NodeState) → Stands first past old
-        → Unharmed old new → Stands first past new }
+        → ChangesCacheOnly old new → Stands first past new }
 {}
 
 /// Law: two runs of the same events leave the same policy, and of one more event they allow one
@@ -110,9 +110,9 @@ pub fn histories_decide()
 /// run, and leaves the same policy.
 pub fn denied_events_change_nothing()
     ensures run { (first : Policy) (past other : Run) → KeysAreApart first past → IsRun first past
-        → HasTicksFor past other → IsRun first other }
+        → HasTicksForDenied past other → IsRun first other }
     ensures policy { (first p : Policy) (past other : Run) → KeysAreApart first past
-        → IsRun first past → HasTicksFor past other → IsPolicyOf first past p
+        → IsRun first past → HasTicksForDenied past other → IsPolicyOf first past p
         → IsPolicyOf first other p }
 {}
 
@@ -253,7 +253,7 @@ pub fn unanswered_interests_wait()
         let seen = seen_after past (at_moment reply.was (moment event)) reply.waiting in
         (IsKept now event answer (key_of i) face (in_record_for now (token_in event) whole i)
         × IsSentOn face whole i answer.sends)
-        ⊎ IsAnswered seen face (token_in event) whole i answer.sends }
+        ⊎ IsSentBack seen face (token_in event) whole i answer.sends }
 {}
 
 /// Law: the cost of a hop of the routes after a run is that of the last add-nexthop of its name and
@@ -288,7 +288,7 @@ pub fn denials_name_their_rule()
         → answer.verdict ≡ verdicts.Denied kind rule reason
         → (packet : PlainFrame) × (n : RuleNo)
         × (decided_packet (at_moment reply.was (moment event)) event ≡ Some packet)
-        × IsSaid (at_moment reply.was (moment event)) packet (decided.Denied n reason)
+        × IsDecidedAs (at_moment reply.was (moment event)) packet (decided.Denied n reason)
         × (rule ≡ n.0) × IsDenial (at_moment reply.was (moment event)) (face_in event)
         (token_in event) packet
         (decided.Denied n reason) answer }
@@ -297,7 +297,7 @@ pub fn denials_name_their_rule()
         → answer.verdict ≡ verdicts.NoRule kind
         → (packet : PlainFrame)
         × (decided_packet (at_moment reply.was (moment event)) event ≡ Some packet)
-        × IsSaid (at_moment reply.was (moment event)) packet decided.NoRule
+        × IsDecidedAs (at_moment reply.was (moment event)) packet decided.NoRule
         × IsDenial (at_moment reply.was (moment event)) (face_in event)
         (token_in event) packet decided.NoRule
         answer }

@@ -7,7 +7,7 @@ mod data;
 mod dataset;
 mod denial;
 mod event;
-mod faces;
+mod face_events;
 mod freshness;
 mod interest;
 mod law;

@@ -3,7 +3,7 @@ ghost use Rattle.std.specs.FinMap as map;
 ghost use Rattle.ndn_packets.specs.Key.{plain_key};
 ghost use Rattle.ndn_packets.specs.Packet.{ANack};
 ghost use Rattle.ndn_packets.specs.View.{plain_interest};
-ghost use Rattle.forwarder.specs.Faces.{is_open, numbers};
+ghost use Rattle.forwarder.specs.OpenFaces.{is_open, numbers};
 ghost use Rattle.forwarder.specs.Handling.{AwaitsPacket, HandlesPacket, token_of};
 ghost use Rattle.forwarder.specs.NackRoom.{in_records_at, nack_room};
 ghost use Rattle.forwarder.specs.Node.{NeedsNoMemory};

@@ -1,10 +1,10 @@
 ghost use Rattle.std.specs.Prelude.{◌≡◌, ◌++◌, List, length, drop, Err, IfOk, IfErr, OnErr, IsOk, MatchOption};
 ghost use Rattle.forwarder.specs.Event.{plain, Send};
-ghost use Rattle.forwarder.specs.Node.{AsksNoMemory, IsStep, Unharmed};
+ghost use Rattle.forwarder.specs.Node.{AsksNoMemory, IsStep, ChangesCacheOnly};
 ghost use Rattle.forwarder.specs.Parts.{first_node, is_bad_prefix as is_bad_prefix_of, parts_fault};
 ghost use Rattle.forwarder.specs.Policy.{Policy};
 ghost use Rattle.forwarder.specs.Runs.{Run, Start, Then, BringsKeysApart, IsRun, Stands};
-ghost use Rattle.forwarder.specs.Sends.{BringsOctets};
+ghost use Rattle.forwarder.specs.DataSends.{BringsOctets};
 ghost use Rattle.forwarder.specs.State.{IsSound};
 ghost use Rattle.forwarder.specs.Verdict.{verdict_of};
 
@@ -173,7 +173,7 @@ impl Node {
             (record { verdict = verdict_of verdict; sends = sends }))
             × Stands first (Then past (plain event.entry)
             (record { verdict = verdict_of verdict; sends = sends })) self.new) }
-        ensures memory { OnErr result (Unharmed self.old self.new × (outbox.new ≡ outbox.old)) }
+        ensures memory { OnErr result (ChangesCacheOnly self.old self.new × (outbox.new ≡ outbox.old)) }
         ensures without_memory { AsksNoMemory self.old (plain event.entry) → IsOk result }
         // So it is of every event.
         ensures octets { BringsOctets (plain event.entry) }

@@ -1,6 +1,6 @@
 ghost use Rattle.std.specs.Prelude.{◌≡◌, ◌≤◌, ◌<◌, ◌==◌, [], false, length, filter, not, slice_get};
-ghost use Rattle.pit_fib.specs.Faces.{IsRising};
-ghost use Rattle.forwarder.specs.Faces.{find_scope, is_open, numbers, with_face, without_entry};
+ghost use Rattle.pit_fib.specs.FaceSet.{IsRising};
+ghost use Rattle.forwarder.specs.OpenFaces.{find_scope, is_open, numbers, with_face, without_entry};
 ghost use Rattle.forwarder.specs.Policy.{is_far_scope, is_local_scope};
 
 use crate::event::Scope;
@@ -18,8 +18,8 @@ pub struct OpenFaces {
 
 impl Model for OpenFaces {
     ghost use Rattle.std.specs.Prelude.{List};
-    ghost use Rattle.pit_fib.specs.Faces.{IsRising};
-    ghost use Rattle.forwarder.specs.Faces.{FaceEntry, entries_of, AreOpen};
+    ghost use Rattle.pit_fib.specs.FaceSet.{IsRising};
+    ghost use Rattle.forwarder.specs.OpenFaces.{FaceEntry, entries_of, AreOpen};
 
     ghost Value = { List FaceEntry };
 

@@ -9,7 +9,7 @@ ghost use Rattle.forwarder.specs.Event.{Send, nacked_back, sent_back, to_each};
 ghost use Rattle.forwarder.specs.Handling.{token_of};
 ghost use Rattle.forwarder.specs.NextHops.{sent_on};
 ghost use Rattle.forwarder.specs.Outbox.{placed};
-ghost use Rattle.forwarder.specs.Sending.{fetched};
+ghost use Rattle.forwarder.specs.SendSpace.{fetched};
 
 use ndn_names::Name;
 use ndn_packets::{Interest, InterestWriter, WriteFault, hop_limit_mut, put_lp, put_reply, wrap};
@@ -42,7 +42,7 @@ impl Model for Sends {
     ghost use Rattle.std.specs.Prelude.{◌-◌, vec_len};
     ghost use Rattle.std.specs.Vec.{vec_capacity};
     ghost use Rattle.forwarder.specs.Outbox.{sends_of, AreOctetsOf};
-    ghost use Rattle.forwarder.specs.Sending.{SendsState};
+    ghost use Rattle.forwarder.specs.SendSpace.{SendsState};
 
     ghost Value = { SendsState };
 

@@ -123,7 +123,7 @@ StartsOff None nodes = Unit {0}
 StartsOff (Some line) nodes = BeginsOff line nodes
 
 -- where no entry is pending
-record IsFresh (closed : Option ℕ) (depth : ℕ) (ended : List PlainEntry) (tokens : List (ℕ × Token)) (entries : List PlainEntry) : Type 0 where
+record IsBetweenEntries (closed : Option ℕ) (depth : ℕ) (ended : List PlainEntry) (tokens : List (ℕ × Token)) (entries : List PlainEntry) : Type 0 where
   levels : Levels
   spelled : tokens ≡ level_tokens levels
   starts : StartsOff closed (top levels)
@@ -158,7 +158,7 @@ record IsGoing (entry : PlainEntry) (depth : ℕ) (ended : List PlainEntry) (tok
   listed : entries ≡ ended ++ finished entry value tail ∷ (tail_outline depth tail ++ level_outline depth levels)
 
 abbrev Means : Option PlainEntry → PlainDraft → List (ℕ × Token) → List PlainEntry → Type 0
-Means None draft tokens entries = IsFresh draft.closed draft.depth draft.ended tokens entries
+Means None draft tokens entries = IsBetweenEntries draft.closed draft.depth draft.ended tokens entries
 Means (Some entry) draft tokens entries = IsGoing entry draft.depth draft.ended tokens entries
 
 -- entries after the pending one, if there is one
@@ -249,7 +249,7 @@ value_step entry depth ended word tokens entries first going = by_value going.va
         }
 
 open_step : (entry : PlainEntry) (depth line : ℕ) (ended : List PlainEntry) (tokens : List (ℕ × Token)) (entries : List PlainEntry) → depth < 8
-    → IsFresh None (depth + 1) (ended ++ (record entry { has_block = true }) ∷ []) tokens entries → IsGoing entry depth ended ((line, Open) ∷ tokens) entries
+    → IsBetweenEntries None (depth + 1) (ended ++ (record entry { has_block = true }) ∷ []) tokens entries → IsGoing entry depth ended ((line, Open) ∷ tokens) entries
 open_step entry depth line ended tokens entries shallow fresh = by_levels fresh.levels fresh.spelled fresh.fits fresh.listed
   where
     by_levels : (levels : Levels) → tokens ≡ level_tokens levels → AreLevels (depth + 1) levels → entries ≡ (ended ++ (record entry { has_block = true }) ∷ []) ++ level_outline (depth + 1) levels
@@ -291,7 +291,7 @@ starts_nothing None = tt
 starts_nothing (Some line) = tt
 
 close_step : (draft : PlainDraft) (line : ℕ) (tokens : List (ℕ × Token)) (entries : List PlainEntry) → draft.depth ≢ 0
-    → IsFresh (Some line) (draft.depth - 1) (entries_of draft) tokens entries → Means draft.pending draft ((line, Close) ∷ tokens) entries
+    → IsBetweenEntries (Some line) (draft.depth - 1) (entries_of draft) tokens entries → Means draft.pending draft ((line, Close) ∷ tokens) entries
 close_step draft line tokens entries some fresh =
     further draft ((line, Close) ∷ tokens) entries (Inside NoNode line fresh.levels) draft.pending refl
     (ap (λ (t : List (ℕ × Token)). (line, Close) ∷ t) fresh.spelled ∙ ap (λ (t : List (ℕ × Token)). t ++ (line, Close) ∷ level_tokens fresh.levels) (sym nothing_spelled))
@@ -383,7 +383,7 @@ whole_found line draft entries e = by_depth (eqb draft.depth 0) refl (ok_unless 
     by_depth true is e = let p = by_deep draft.deep e in (eqb-true draft.depth 0 is, p.0, p.1)
     by_depth false is e = absurd cc
 
-fresh_tree : (tokens : List (ℕ × Token)) (entries : List PlainEntry) → IsFresh None 0 [] tokens entries → IsTree tokens entries
+fresh_tree : (tokens : List (ℕ × Token)) (entries : List PlainEntry) → IsBetweenEntries None 0 [] tokens entries → IsTree tokens entries
 fresh_tree tokens entries fresh = by_levels fresh.levels fresh.spelled fresh.fits fresh.listed
   where
     by_levels : (levels : Levels) → tokens ≡ level_tokens levels → AreLevels 0 levels → entries ≡ level_outline 0 levels → IsTree tokens entries

@@ -11,10 +11,10 @@ use Rattle.info_rules.proofs.OneDecision.{one_decision}
 use Rattle.repo_core.specs.Repo.{Held}
 use Rattle.repo_core.specs.Wants.{is_wanted}
 use Rattle.forwarder.specs.Event.{PlainEvent, Packet, FaceUp, FaceDown, Tick, NewRules, moment}
-use Rattle.forwarder.specs.Faces.{is_open}
+use Rattle.forwarder.specs.OpenFaces.{is_open}
 use Rattle.forwarder.specs.Policy.{Policy, at_moment}
-use Rattle.forwarder.specs.Said.{IsSaid}
-use Rattle.forwarder.specs.Effects.{IsAfter, IsEffect, after_packet, after_said, can_open, decided_packet, face_in, undecided_effect}
+use Rattle.forwarder.specs.Deciding.{IsDecidedAs}
+use Rattle.forwarder.specs.Effects.{IsAfter, IsEffect, after_packet, after_decision, can_open, decided_packet, face_in, undecided_effect}
 use Rattle.journal.specs.Journal.{IsChosen, IsJournalled, is_journalled_as, is_journalled_packet, is_journalled_undecided}
 
 -- ---- where one decision allows a packet, so does each
@@ -24,7 +24,7 @@ is_allowed (Allowed rule) = true
 is_allowed (Denied rule reason) = false
 is_allowed NoRule = false
 
-both_allow : (p : Policy) (packet : PlainFrame) (rule : RuleNo) (other : Decision) → AreApart p.keys → IsSaid p packet (Allowed rule) → IsSaid p packet other → is_allowed other ≡ true
+both_allow : (p : Policy) (packet : PlainFrame) (rule : RuleNo) (other : Decision) → AreApart p.keys → IsDecidedAs p packet (Allowed rule) → IsDecidedAs p packet other → is_allowed other ≡ true
 both_allow p packet rule (Allowed n) apart x y = refl
 both_allow p packet rule (Denied n reason) apart x (inl y) = sym (ap is_allowed (one_decision p.rules p.keys packet (Allowed rule) (Denied n reason) apart x.0 y))
 both_allow p packet rule (Denied n reason) apart x (inr y) = absurd (y.2 x.1)
@@ -36,7 +36,7 @@ allowed_as p packet (Allowed rule) is = refl
 allowed_as p packet (Denied rule reason) is = cc is
 allowed_as p packet NoRule is = cc is
 
-one_as : (p : Policy) (packet : PlainFrame) (a b : Decision) → AreApart p.keys → IsSaid p packet a → IsSaid p packet b → is_journalled_as p packet a ≡ is_journalled_as p packet b
+one_as : (p : Policy) (packet : PlainFrame) (a b : Decision) → AreApart p.keys → IsDecidedAs p packet a → IsDecidedAs p packet b → is_journalled_as p packet a ≡ is_journalled_as p packet b
 one_as p packet (Allowed m) b apart x y = sym (allowed_as p packet b (both_allow p packet m b apart x y))
 one_as p packet a (Allowed n) apart x y = allowed_as p packet a (both_allow p packet n a apart y x)
 one_as p packet (Denied m why) (Denied n reason) apart x y = refl
@@ -65,8 +65,8 @@ idle_packet p face (AData whole d) is = ap (λ (held : Held). record p { held = 
 idle_packet p face (ANack reason whole i) is = refl
 idle_packet p face Idle is = refl
 
-idle_said : (p : Policy) (face : ℕ) (packet : PlainFrame) (a b : Decision) → AreApart p.keys → IsSaid p packet a → IsSaid p packet b → is_journalled_as p packet b ≡ false
-    → after_said p face packet a ≡ p
+idle_said : (p : Policy) (face : ℕ) (packet : PlainFrame) (a b : Decision) → AreApart p.keys → IsDecidedAs p packet a → IsDecidedAs p packet b → is_journalled_as p packet b ≡ false
+    → after_decision p face packet a ≡ p
 idle_said p face packet (Allowed rule) b apart x y is = idle_packet p face packet (one_as p packet (Allowed rule) b apart x y ∙ is)
 idle_said p face packet (Denied rule reason) b apart x y is = refl
 idle_said p face packet NoRule b apart x y is = refl

@@ -19,7 +19,7 @@ use Rattle.journal.specs.declared.line.Entry.{Entry}
 use Rattle.journal.specs.declared.line.Entry.TheVariants as entry
 use Rattle.journal.specs.Journal.{with_moment}
 use Rattle.journal.specs.Line.{HasOctets, IsEventOf, entry_text, is_change_entry}
-use Rattle.journal.specs.Saying.{is_change}
+use Rattle.journal.specs.Journalled.{is_change}
 use Rattle.journal.specs.Text.{IsTextOf}
 
 -- ---- words without an LF

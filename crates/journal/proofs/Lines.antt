@@ -2,7 +2,7 @@
 use Rattle.std.proofs.Common.{◌≡◌, inl, inr, ℕ, List, [], ◌∷◌, ◌++◌, append_assoc, arith, refl, sym, ap, subst, ◌∙◌}
 use Rattle.std.proofs.lemmas.List.{append-nil}
 use Rattle.forwarder.specs.Event.{PlainEvent}
-use Rattle.node_core.specs.Script.{AreLines, IsScript, IsScriptSoFar, Say, ended, joined}
+use Rattle.node_core.specs.Script.{AreLines, IsScript, IsScriptSoFar, SpellEvents, ended, joined}
 use Rattle.node_core.specs.Script.Line.{IsEventLine, IsSkipped, Lacks}
 use Rattle.node_core.proofs.Lists.{Lacks-no_cut, cut_once}
 use Rattle.node_core.proofs.OneReading.{whole_once}
@@ -20,7 +20,7 @@ joined_at_end (line ∷ lines) = append_assoc (ended line) (joined lines) (10 �
 skips_nothing : IsSkipped []
 skips_nothing = (omega arith, tt)
 
-say_at_end : (lines : List (List ℕ)) (events : List PlainEvent) → Say lines events → Say (lines ++ ([] ∷ [])) events
+say_at_end : (lines : List (List ℕ)) (events : List PlainEvent) → SpellEvents lines events → SpellEvents (lines ++ ([] ∷ [])) events
 say_at_end [] [] h = (skips_nothing, tt)
 say_at_end [] (event ∷ events) h = absurd h
 say_at_end (line ∷ lines) [] h = (h.0, say_at_end lines [] h.1)
@@ -28,11 +28,11 @@ say_at_end (line ∷ lines) (event ∷ events) (inl h) = inl (h.0, say_at_end li
 say_at_end (line ∷ lines) (event ∷ events) (inr h) = inr (h.0, say_at_end lines events h.1)
 
 -- whole lines are a script
-whole_script : (lines : List (List ℕ)) (events : List PlainEvent) → AreLines lines → Say lines events → IsScript (joined lines) events
+whole_script : (lines : List (List ℕ)) (events : List PlainEvent) → AreLines lines → SpellEvents lines events → IsScript (joined lines) events
 whole_script lines events are say =
     (lines ++ ([] ∷ []), (none_at_end lines are, joined_at_end lines ∙ sym (append-nil (joined (lines ++ ([] ∷ []))))), say_at_end lines events say)
 
-say_once : (lines : List (List ℕ)) (a b : List PlainEvent) → AreLines lines → Say lines a → Say lines b → a ≡ b
+say_once : (lines : List (List ℕ)) (a b : List PlainEvent) → AreLines lines → SpellEvents lines a → SpellEvents lines b → a ≡ b
 say_once lines a b are x y = whole_once (joined lines) a b (whole_script lines a are x) (whole_script lines b are y)
 
 -- a line is one event
@@ -61,4 +61,4 @@ lines_once (line ∷ a) (other ∷ b) r s x y lr ls e =
 pub so_far_once : (text : List ℕ) (a b : List PlainEvent) → IsScriptSoFar text a → IsScriptSoFar text b → a ≡ b
 so_far_once text a b h k =
     let same = lines_once h.0 k.0 h.1 k.1 h.2 k.2 h.3 k.3 (sym h.4 ∙ k.4) in
-    say_once k.0 a b k.2 (subst (λ (lines : List (List ℕ)). Say lines a) same h.5) k.5
+    say_once k.0 a b k.2 (subst (λ (lines : List (List ℕ)). SpellEvents lines a) same h.5) k.5

@@ -4,7 +4,7 @@ use Rattle.std.specs.Prelude.{Option, Some, None}
 use Rattle.ndn_packets.specs.Packet.{PlainFrame}
 use Rattle.forwarder.specs.Event.{PlainEvent, Packet, FaceUp, FaceDown, Tick, NewRules, moment}
 use Rattle.forwarder.specs.Policy.{Policy, at_moment}
-use Rattle.forwarder.specs.Effects.{IsAfter, IsEffect, after_said, decided_packet, face_in, undecided_effect}
+use Rattle.forwarder.specs.Effects.{IsAfter, IsEffect, after_decision, decided_packet, face_in, undecided_effect}
 use Rattle.forwarder.specs.Runs.{BringsKeysApart}
 use Rattle.journal.specs.Journal.{IsChosen, IsJournalled, is_journalled_undecided, with_moment}
 
@@ -62,7 +62,7 @@ module _ (p : Policy) (now : ℕ) where
 
   moved_effect : (event : PlainEvent) (new : Policy) (packet : Option PlainFrame) → IsEffect p event new packet → IsEffect p (with_moment now event) new packet
   moved_effect event new None h = h ∙ same_undecided event
-  moved_effect event new (Some packet) h = (h.0, h.1, h.2 ∙ ap (λ (face : ℕ). after_said p face packet h.0) (same_face event))
+  moved_effect event new (Some packet) h = (h.0, h.1, h.2 ∙ ap (λ (face : ℕ). after_decision p face packet h.0) (same_face event))
 
   moved_choice : (event : PlainEvent) (chosen : Bool) (packet : Option PlainFrame) → IsChosen p event chosen packet → IsChosen p (with_moment now event) chosen packet
   moved_choice event chosen None h = h ∙ same_choice event

@@ -3,7 +3,7 @@ use Rattle.std.proofs.Common.{◌≡◌, ◌≢◌, ◌⊎◌, inl, inr, ℕ, Li
 use Rattle.forwarder.specs.Event.{PlainEvent}
 use Rattle.forwarder.specs.Policy.{Policy}
 use Rattle.forwarder.specs.Runs.{Run, IsPolicyOf, KeysAreApart}
-use Rattle.node_core.specs.Script.{AreLines, IsScriptSoFar, Say, ended, joined}
+use Rattle.node_core.specs.Script.{AreLines, IsScriptSoFar, SpellEvents, ended, joined}
 use Rattle.node_core.specs.Script.Line.{IsEventLine, Lacks}
 use Rattle.node_core.proofs.Lists.{Lacks-no_cut, cut_once}
 use Rattle.journal.specs.Journal.{IsJournalOf}
@@ -17,7 +17,7 @@ pub record HasLines (events : List PlainEvent) (text : List ℕ) : Type 0 where
   pub lines : List (List ℕ)
   pub are_lines : AreLines lines
   pub joins : text ≡ joined lines
-  pub say : Say lines events
+  pub say : SpellEvents lines events
 
 text_lines : (events : List PlainEvent) (text : List ℕ) → IsTextOf events text → HasLines events text
 text_lines [] text h = record { lines = []; are_lines = tt; joins = h; say = tt }
@@ -45,12 +45,12 @@ texts_join (event ∷ journal) added text more h k =
 -- ---- a front of a text
 
 -- a front ends within a first line, or goes on after it
-pub record GoesOn (line rest left lost : List ℕ) : Type 0 where
+pub record HoldsLine (line rest left lost : List ℕ) : Type 0 where
   pub more : List ℕ
   pub front : left ≡ line ++ (10 ∷ more)
   pub back : rest ≡ more ++ lost
 
-front_of : (line rest left lost : List ℕ) → Lacks 10 line → line ++ (10 ∷ rest) ≡ left ++ lost → Lacks 10 left ⊎ GoesOn line rest left lost
+front_of : (line rest left lost : List ℕ) → Lacks 10 line → line ++ (10 ∷ rest) ≡ left ++ lost → Lacks 10 left ⊎ HoldsLine line rest left lost
 front_of line rest [] lost lacks e = inl tt
 front_of [] rest (o ∷ left) lost lacks e =
     let first : o ≡ 10 = cc in
@@ -74,7 +74,7 @@ pub record LeftOf (journal : List PlainEvent) (left : List ℕ) : Type 0 where
 none_left : (journal : List PlainEvent) (left : List ℕ) → Lacks 10 left → LeftOf journal left
 none_left journal left lacks = record { events = []; others = journal; is_front = refl; are_lines = ([], left, refl, refl, lacks) }
 
-one_left : (event : PlainEvent) (journal : List PlainEvent) (line rest left lost : List ℕ) → IsEventLine event line → Lacks 10 line → (g : GoesOn line rest left lost) → LeftOf journal g.more
+one_left : (event : PlainEvent) (journal : List PlainEvent) (line rest left lost : List ℕ) → IsEventLine event line → Lacks 10 line → (g : HoldsLine line rest left lost) → LeftOf journal g.more
     → LeftOf (event ∷ journal) left
 one_left event journal line rest left lost is lacks g l =
     let c = l.are_lines in record {

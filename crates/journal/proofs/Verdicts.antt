@@ -10,7 +10,7 @@ use Rattle.ndn_packets.specs.declared.fault.PacketFault.{PacketFault}
 use Rattle.ndn_packets.specs.declared.types.TheConstants.{DUPLICATE}
 use Rattle.info_rules.specs.declared.decision.Decision.{Decision}
 use Rattle.info_rules.specs.declared.decision.Decision.TheVariants as decided
-use Rattle.pit_fib.specs.declared.faces.TheConstants.{MAX_FACES}
+use Rattle.pit_fib.specs.declared.face_set.TheConstants.{MAX_FACES}
 use Rattle.pit_fib.specs.declared.nacked.Nacked.{Nacked}
 use Rattle.pit_fib.specs.declared.nacked.Nacked.TheVariants as nacks
 use Rattle.pit_fib.specs.Pit.{loops, moments, nacked_answer}
@@ -21,20 +21,20 @@ use Rattle.mgmt_core.specs.Writing.{segment_at}
 use Rattle.repo_core.specs.Objects.{served}
 use Rattle.repo_core.specs.Wants.{is_wanted}
 use Rattle.forwarder.specs.Event.{PlainEvent, Packet, FaceUp, FaceDown, Tick, NewRules, Token, moment, nacked_back, to_each}
-use Rattle.forwarder.specs.Faces.{is_open}
-use Rattle.forwarder.specs.Verdict.{Answer, Verdict, Passed, Allowed, DataAllowed, Denied, NoRule, Dropped, WhereTrue, BadFace, FaceOpen, FacesFull, Loop, NoFace, NoSegment, PitFull, Scope as OutOfScope, dropped, passed}
+use Rattle.forwarder.specs.OpenFaces.{is_open}
+use Rattle.forwarder.specs.Verdict.{Answer, Verdict, Passed, Allowed, DataAllowed, Denied, NoRule, Dropped, IfTrueElse, BadFace, FaceOpen, FacesFull, Loop, NoFace, NoSegment, PitFull, Scope as OutOfScope, dropped, passed}
 use Rattle.forwarder.specs.Policy.{Policy, at_moment}
 use Rattle.forwarder.specs.Request.{Request, Refused, ForList, ForTables, ForRepository, ForData, is_command, is_out_of_scope, request_of}
 use Rattle.forwarder.specs.NextHops.{ask_from, choice_for, sent_on}
-use Rattle.forwarder.specs.Said.{IsSaid}
+use Rattle.forwarder.specs.Deciding.{IsDecidedAs}
 use Rattle.forwarder.specs.Commands.{command_answer}
 use Rattle.forwarder.specs.Datasets.{is_present, dataset_text, segment_answer, segment_name}
-use Rattle.forwarder.specs.Replies.{Seen, Replies, RepliesBySaid, RepliesForData, RepliesToCommand, RepliesToData, RepliesToNack, RepliesToPacket, RepliesToRequest, by_content_store, by_strategy, nack_answer, by_repository}
+use Rattle.forwarder.specs.Replies.{Seen, Replies, RepliesByDecision, RepliesForData, RepliesToCommand, RepliesToData, RepliesToNack, RepliesToPacket, RepliesToRequest, by_content_store, by_strategy, nack_answer, by_repository}
 use Rattle.forwarder.specs.Effects.{decided_packet, packet_to_decide}
 use Rattle.forwarder.specs.Node.{NodeState, IsStep, seen_in}
 use Rattle.forwarder.specs.Runs.{Run, Then, Stands}
 use Rattle.journal.specs.Journal.{IsChosen, IsJournalOf, IsJournalled, is_journalled_as, with_event, with_moment}
-use Rattle.journal.specs.Saying.{brings_wanted, is_journalled_by, is_wanted_packet}
+use Rattle.journal.specs.Journalled.{brings_wanted, is_journalled_by, is_wanted_packet}
 
 -- ---- which answers to packets allow nothing
 
@@ -77,7 +77,7 @@ quiet_cached seen face token whole i None = quiet_stored seen face token whole i
 quiet_data : (seen : Seen) (face : ℕ) (token : Token) (whole : List ℕ) (i : PlainInterest) (answer : Answer) → RepliesForData seen face token whole i answer → Quiet answer
 quiet_data seen face token whole i answer h = by_loop (loops (seen.records (key_of i)) face i.nonce) h
   where
-    by_loop : (b : Bool) → WhereTrue b (answer ≡ record { verdict = Dropped Loop; sends = nacked_back face token DUPLICATE whole ∷ [] }) ((given : Option (List ℕ)) × seen.MayGive (key_of i) given × (answer ≡ by_content_store seen face token whole i given)) → Quiet answer
+    by_loop : (b : Bool) → IfTrueElse b (answer ≡ record { verdict = Dropped Loop; sends = nacked_back face token DUPLICATE whole ∷ [] }) ((given : Option (List ℕ)) × seen.MayGive (key_of i) given × (answer ≡ by_content_store seen face token whole i given)) → Quiet answer
     by_loop true e = quiet_is answer _ e refl
     by_loop false h = quiet_is answer _ h.2 (quiet_cached seen face token whole i h.0)
 
@@ -89,7 +89,7 @@ quiet_nacked asks (nacks.All reason) = refl
 quiet_nack : (seen : Seen) (face reason : ℕ) (i : PlainInterest) (answer : Answer) → RepliesToNack seen face reason i answer → Quiet answer
 quiet_nack seen face reason i answer h = by_scope (is_out_of_scope seen.policy face i.name) h
   where
-    by_scope : (b : Bool) → WhereTrue b (answer ≡ dropped OutOfScope) (answer ≡ nack_answer (seen.records (key_of i)).in_records (nacked_answer (seen.records (key_of i)) face i.nonce reason)) → Quiet answer
+    by_scope : (b : Bool) → IfTrueElse b (answer ≡ dropped OutOfScope) (answer ≡ nack_answer (seen.records (key_of i)).in_records (nacked_answer (seen.records (key_of i)) face i.nonce reason)) → Quiet answer
     by_scope true e = quiet_is answer _ e refl
     by_scope false e = quiet_is answer _ e (quiet_nacked (seen.records (key_of i)).in_records (nacked_answer (seen.records (key_of i)) face i.nonce reason))
 
@@ -127,7 +127,7 @@ module _ (seen : Seen) (answer : Answer) (face now : ℕ) (octets : List ℕ) wh
   says_request wanted token whole i ForRepository h = says_command wanted token whole i h
   says_request wanted token whole i ForData h = says_none wanted (quiet_data seen face token whole i answer h)
 
-  said_data : (whole : List ℕ) (d : PlainData) (said : Decision) → RepliesBySaid seen face whole d answer said
+  said_data : (whole : List ℕ) (d : PlainData) (said : Decision) → RepliesByDecision seen face whole d answer said
       → is_journalled_by (Packet face now octets) (is_wanted d.name (sha256 whole) seen.policy.held.wants) answer.verdict ≡ is_journalled_as seen.policy (AData whole d) said
   said_data whole d (decided.Allowed rule) h = ap (is_journalled_by (Packet face now octets) (is_wanted d.name (sha256 whole) seen.policy.held.wants)) h.0
   said_data whole d (decided.Denied rule reason) h = ap (λ (a : Answer). is_journalled_by (Packet face now octets) (is_wanted d.name (sha256 whole) seen.policy.held.wants) a.verdict) h
@@ -137,7 +137,7 @@ module _ (seen : Seen) (answer : Answer) (face now : ℕ) (octets : List ℕ) wh
       → Says (is_wanted d.name (sha256 whole) seen.policy.held.wants) (if not (is_out_of_scope seen.policy face d.name) then Some (AData whole d) else None)
   says_data whole d h = by_scope (is_out_of_scope seen.policy face d.name) h
     where
-      by_scope : (b : Bool) → WhereTrue b (answer ≡ dropped OutOfScope) ((said : Decision) × IsSaid seen.policy (AData whole d) said × RepliesBySaid seen face whole d answer said)
+      by_scope : (b : Bool) → IfTrueElse b (answer ≡ dropped OutOfScope) ((said : Decision) × IsDecidedAs seen.policy (AData whole d) said × RepliesByDecision seen face whole d answer said)
           → Says (is_wanted d.name (sha256 whole) seen.policy.held.wants) (if not b then Some (AData whole d) else None)
       by_scope true h = says_none (is_wanted d.name (sha256 whole) seen.policy.held.wants) (quiet_is answer _ h refl)
       by_scope false h = (h.0, h.1, said_data whole d h.0 h.2)
@@ -153,7 +153,7 @@ module _ (seen : Seen) (answer : Answer) (face now : ℕ) (octets : List ℕ) wh
   says_event : Replies seen (Packet face now octets) answer → Says (is_wanted_packet seen.policy (frame_at octets)) (decided_packet seen.policy (Packet face now octets))
   says_event h = by_open (is_open face seen.policy.faces) h
     where
-      by_open : (b : Bool) → WhereTrue b (RepliesToPacket seen face (token_at octets) (frame_at octets) answer) (answer ≡ dropped NoFace)
+      by_open : (b : Bool) → IfTrueElse b (RepliesToPacket seen face (token_at octets) (frame_at octets) answer) (answer ≡ dropped NoFace)
           → Says (is_wanted_packet seen.policy (frame_at octets)) (if b then packet_to_decide seen.policy face (frame_at octets) else None)
       by_open true h = says_packet (token_at octets) (frame_at octets) h
       by_open false h = says_none (is_wanted_packet seen.policy (frame_at octets)) (quiet_is answer _ h refl)

@@ -7,9 +7,9 @@ use Rattle.info_rules.specs.declared.decision.Decision.{Decision}
 use Rattle.info_rules.specs.declared.decision.Decision.TheVariants.{Allowed, Denied, NoRule}
 use Rattle.repo_core.specs.Wants.{is_wanted}
 use Rattle.forwarder.specs.Event.{PlainEvent, Packet, FaceUp, FaceDown, Tick, NewRules, moment}
-use Rattle.forwarder.specs.Faces.{is_open}
+use Rattle.forwarder.specs.OpenFaces.{is_open}
 use Rattle.forwarder.specs.Policy.{Policy, at_moment}
-use Rattle.forwarder.specs.Said.{IsSaid}
+use Rattle.forwarder.specs.Deciding.{IsDecidedAs}
 use Rattle.forwarder.specs.Effects.{can_open, decided_packet}
 use Rattle.forwarder.specs.Runs.{Run, Start, Then, IsPolicyOf}
 
@@ -41,7 +41,7 @@ is_journalled_undecided p (NewRules rules keys now) = true
 abbrev pub IsChosen : Policy → PlainEvent → Bool → Option PlainFrame → Type 0
 IsChosen p event chosen None = chosen ≡ is_journalled_undecided p event
 IsChosen p event chosen (Some packet) =
-    (said : Decision) × IsSaid p packet said × (chosen ≡ is_journalled_as p packet said)
+    (said : Decision) × IsDecidedAs p packet said × (chosen ≡ is_journalled_as p packet said)
 
 -- Whether an event is journalled, at the policy before it. It is a function of the two where the
 -- keys of the policy have different names: of each packet one decision is then said.

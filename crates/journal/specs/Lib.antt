@@ -1,5 +1,5 @@
 pub mod Journal
 pub mod Line
-pub mod Saying
+pub mod Journalled
 pub mod Text
 pub mod Step

@@ -6,7 +6,7 @@ use Rattle.forwarder.specs.Verdict.{Verdict}
 use Rattle.journal.specs.declared.line.Entry.{Entry}
 use Rattle.journal.specs.Journal.{with_event, with_moment}
 use Rattle.journal.specs.Line.{entry_text, is_change_entry}
-use Rattle.journal.specs.Saying.{is_journalled_by, is_journalled_where}
+use Rattle.journal.specs.Journalled.{is_journalled_by, is_journalled_where}
 use Rattle.journal.specs.Text.{IsTextOf}
 
 -- A step was answered, and this text was added to the journal: the line of the event at the

@@ -8,7 +8,7 @@ ghost use Rattle.forwarder.specs.Node.{NodeState, IsStep};
 ghost use Rattle.forwarder.specs.Verdict.{Answer, Verdict};
 ghost use Rattle.forwarder.specs.Runs.{Run, Then, IsPolicyOf, KeysAreApart, Stands};
 ghost use Rattle.node_core.specs.Script.{IsScriptSoFar};
-ghost use Rattle.journal.specs.Saying.{brings_wanted, is_journalled_by};
+ghost use Rattle.journal.specs.Journalled.{brings_wanted, is_journalled_by};
 ghost use Rattle.journal.specs.Step.{Steps};
 ghost use Rattle.journal.specs.Text.{IsCutTextOf, IsTextOf, Survives};
 ghost use Rattle.journal.specs.Journal.{AreOneFrom, IsJournalled, IsJournalOf, KeepsBeginning, events_of, with_event, with_moment};

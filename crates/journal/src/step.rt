@@ -1,14 +1,14 @@
 ghost use Rattle.std.specs.Prelude.{◌≡◌, ◌≢◌, ◌<◌, ℕ, List, [], ◌∷◌, length, Err, IfOk, IfErr, OnErr, OnOk, max, true};
 ghost use Rattle.std.specs.Io.KnownBytes.{Appends};
 ghost use Rattle.forwarder.specs.Event.{PlainEvent, moment, plain};
-ghost use Rattle.forwarder.specs.Node.{AsksNoMemory, Unharmed};
+ghost use Rattle.forwarder.specs.Node.{AsksNoMemory, ChangesCacheOnly};
 ghost use Rattle.forwarder.specs.Policy.{at_moment};
 ghost use Rattle.forwarder.specs.Runs.{BringsKeysApart};
-ghost use Rattle.forwarder.specs.Sends.{BringsOctets};
+ghost use Rattle.forwarder.specs.DataSends.{BringsOctets};
 ghost use Rattle.forwarder.specs.Verdict.{verdict_of};
 ghost use Rattle.node_core.specs.Script.Ending.{AppendsFront};
 ghost use Rattle.journal.specs.Line.{IsEventOf, entry_text, is_change_entry};
-ghost use Rattle.journal.specs.Saying.{brings_wanted};
+ghost use Rattle.journal.specs.Journalled.{brings_wanted};
 ghost use Rattle.journal.specs.Step.{Steps, StepsWithFault, added_text, is_journalled_entry};
 ghost use Rattle.journal.specs.Text.{IsTextOf};
 
@@ -74,7 +74,7 @@ impl<F: JournalFile> Journal<F> {
             × Appends (F.synced self.old.file) (F.synced self.new.file) added) }
         ensures time { OnOk result (self.new.time ≡ node.new.policy.now) }
         ensures memory { result ≡ Err StepFault.Memory
-            → Unharmed node.old node.new × (self.new ≡ self.old) }
+            → ChangesCacheOnly node.old node.new × (self.new ≡ self.old) }
         ensures without_memory { AsksNoMemory node.old (plain event.entry)
             → result ≢ Err StepFault.Memory }
         // Another fault comes only where the event is journalled.

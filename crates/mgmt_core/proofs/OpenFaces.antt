@@ -3,7 +3,7 @@ use Rattle.std.proofs.Common.{◌≡◌, ℕ, ◌<◌, ◌≤◌, true, List, []
 use Rattle.std.specs.Prelude.{◌⊎◌}
 use Rattle.std.specs.List.{AllByRecursion}
 use Rattle.std.proofs.lemmas.Bool.{cases_lt}
-use Rattle.pit_fib.specs.Faces.{IsRising, has_face}
+use Rattle.pit_fib.specs.FaceSet.{IsRising, has_face}
 use Rattle.pit_fib.specs.Fib.{HasRoomFor, LeadsTo, Routes}
 use Rattle.mgmt_core.specs.Tables.{AllAreUp}
 

@@ -12,7 +12,7 @@ use Rattle.ndn_packets.specs.declared.command_types.TheConstants.{FACE_ID, ORIGI
 use Rattle.ndn_packets.specs.declared.types.TheConstants.{NAME}
 use Rattle.mgmt_core.specs.Commands.{row_of, takes}
 use Rattle.mgmt_core.specs.Reading.{PlainCommand}
-use Rattle.mgmt_core.specs.Steps.{about_fields, said_fields}
+use Rattle.mgmt_core.specs.Steps.{about_fields, given_fields}
 use Rattle.mgmt_core.specs.Tables.{face_of}
 use Rattle.ndn_tlv.specs.Writing.{octets, number}
 use Rattle.mgmt_core.specs.Writing.{given, reply_fields, reply_body}
@@ -44,16 +44,16 @@ number_fits true asked face = by_face (nat_eq asked 0)
 
 -- what does not depend on the face
 abbrev other_fields : PlainCommand → List Field
-other_fields c = number ORIGIN (given c ORIGIN (Some c.origin)) ++ said_fields c
+other_fields c = number ORIGIN (given c ORIGIN (Some c.origin)) ++ given_fields c
 
 -- the fields in two parts
-pub in_two_parts : (c : PlainCommand) (face : ℕ) → octets (reply_fields c face) ≡ octets (about_fields c face) ++ octets (said_fields c)
+pub in_two_parts : (c : PlainCommand) (face : ℕ) → octets (reply_fields c face) ≡ octets (about_fields c face) ++ octets (given_fields c)
 in_two_parts c face =
     let name : List Field = (NAME, octets_of c.name) ∷ [] in
     let faces = number FACE_ID (given c FACE_ID (Some (face_of c face))) in
     let origins = number ORIGIN (given c ORIGIN (Some c.origin)) in
-    ap (λ (fields : List Field). octets (name ++ fields)) (sym (append_assoc faces origins (said_fields c)))
-    ∙ flat_map-append element (about_fields c face) (said_fields c)
+    ap (λ (fields : List Field). octets (name ++ fields)) (sym (append_assoc faces origins (given_fields c)))
+    ∙ flat_map-append element (about_fields c face) (given_fields c)
 
 parts : (c : PlainCommand) (face : ℕ) → length (octets (reply_fields c face))
     ≡ length (element (NAME, octets_of c.name)) + (length (octets (number FACE_ID (given c FACE_ID (Some (face_of c face))))) + length (octets (other_fields c)))

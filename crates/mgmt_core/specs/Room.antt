@@ -1,7 +1,7 @@
 -- What is prepared for a command.
 use Rattle.std.specs.Prelude.{◌≡◌, ℕ, ◌<◌, ◌≤◌, ◌^◌, ◌⊎◌, Option, None, Some, length, vec_capacity}
 use Rattle.mgmt_core.specs.declared.action.Action.TheVariants.{AddNexthop, Register, SetStrategy}
-use Rattle.mgmt_core.specs.declared.reply.ReplyRoom.{ReplyRoom}
+use Rattle.mgmt_core.specs.declared.reply_body.ReplyRoom.{ReplyRoom}
 use Rattle.mgmt_core.specs.declared.tables.Tables.{Tables}
 use Rattle.mgmt_core.specs.Reading.{PlainCommand}
 use Rattle.ndn_tlv.specs.Writing.{octets}

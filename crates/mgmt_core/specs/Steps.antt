@@ -9,7 +9,7 @@ use Rattle.ndn_packets.specs.declared.command_types.TheConstants.{COST, COUNT, E
 use Rattle.ndn_packets.specs.declared.types.TheConstants.{NAME}
 use Rattle.pit_fib.specs.declared.fib.TheConstants.{MAX_DEPTH}
 use Rattle.pit_fib.specs.declared.strategy_table.StrategyId.{StrategyId}
-use Rattle.pit_fib.specs.Faces.{has_face}
+use Rattle.pit_fib.specs.FaceSet.{has_face}
 use Rattle.pit_fib.specs.declared.route.RouteKey.{RouteKey}
 use Rattle.pit_fib.specs.Fib.{Routes, is_full_for_route}
 use Rattle.pit_fib.specs.StrategyTable.{Choices}
@@ -48,8 +48,8 @@ about_fields c face =
     ++ number ORIGIN (given c ORIGIN (Some c.origin)))
 
 -- and the others
-abbrev pub said_fields : PlainCommand → List Field
-said_fields c =
+abbrev pub given_fields : PlainCommand → List Field
+given_fields c =
     number COST (given c COST (Some c.cost))
     ++ (number FLAGS (given c FLAGS (Some c.flags))
     ++ (number EXPIRATION_PERIOD (given c EXPIRATION_PERIOD c.expires)

@@ -16,7 +16,7 @@ use Rattle.ndn_packets.specs.declared.command_types.TheConstants.{COST, COUNT, E
 use Rattle.ndn_packets.specs.declared.types.TheConstants.{NAME}
 use Rattle.mgmt_core.specs.declared.types.TheConstants.{OK}
 use Rattle.mgmt_core.specs.declared.dataset.TheConstants.{SEGMENT_LEN}
-use Rattle.mgmt_core.specs.declared.reply.TheConstants.{BODY_EXTRA, REPLY_EXTRA}
+use Rattle.mgmt_core.specs.declared.reply_body.TheConstants.{BODY_EXTRA, REPLY_EXTRA}
 use Rattle.mgmt_core.specs.Commands.{row_of, takes}
 use Rattle.mgmt_core.specs.Reading.{PlainCommand}
 use Rattle.mgmt_core.specs.Tables.{face_of, strategy_asked, strategy_name}

@@ -1,6 +1,6 @@
 ghost use Rattle.std.specs.Prelude.{◌≡◌, ◌≤◌, length, None, Some, IsOk, IfOk, OnOk, OnErr, true};
-ghost use Rattle.pit_fib.specs.declared.faces.TheConstants.{MAX_FACES};
-ghost use Rattle.pit_fib.specs.Faces.{IsRising, has_face};
+ghost use Rattle.pit_fib.specs.declared.face_set.TheConstants.{MAX_FACES};
+ghost use Rattle.pit_fib.specs.FaceSet.{IsRising, has_face};
 ghost use Rattle.mgmt_core.specs.Reading.{asked};
 ghost use Rattle.mgmt_core.specs.Room.{IsKeptOrEnded, IsPrepared};
 ghost use Rattle.mgmt_core.specs.declared.action.Action.TheVariants as actions;
@@ -12,8 +12,8 @@ ghost use Rattle.pit_fib.specs.Fib.{HasRoomFor, route_refusal, with_next_hop, wi
 ghost use Rattle.pit_fib.specs.Refusal.{refusal};
 
 use crate::action::Action;
-use crate::applied::{Applied, Octets};
 use crate::command::Command;
+use crate::outcome::{Applied, Octets};
 use crate::tables::Tables;
 use crate::types::{FACE_NOT_OPEN, OK, PREFIX_TOO_LONG, TABLE_FULL, UNKNOWN_STRATEGY};
 use ndn_tlv::Memory;

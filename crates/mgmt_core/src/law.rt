@@ -1,6 +1,6 @@
 ghost use Rattle.std.specs.Prelude.{◌≡◌, ◌≢◌, ◌+◌, ◌≤◌, ℕ, List, Some, IfErr, IsSome, length, true};
 ghost use Rattle.ndn_tlv.specs.Element.{Field};
-ghost use Rattle.pit_fib.specs.Faces.{adding, has_face};
+ghost use Rattle.pit_fib.specs.FaceSet.{adding, has_face};
 ghost use Rattle.pit_fib.specs.Fib.{Routes, left_at, without_face};
 ghost use Rattle.pit_fib.specs.StrategyTable.{Choices};
 ghost use Rattle.mgmt_core.specs.Commands.{text_of};

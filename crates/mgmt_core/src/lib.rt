@@ -3,21 +3,20 @@
 #![tactic(auto)]
 
 mod action;
-mod applied;
 mod command;
 mod dataset;
 mod effect;
 mod fields;
 mod law;
-mod reply;
-mod response;
+mod outcome;
+mod reply_body;
 mod strategy_name;
 mod tables;
 mod types;
+mod whole_reply;
 mod window;
 
 pub use action::Action;
-pub use applied::{Applied, Octets};
 pub use command::Command;
 pub use dataset::{
     SEGMENT_LEN, fib_dataset, fib_segment, segment_limit_is_as_promised, segment_of,
@@ -28,7 +27,8 @@ pub use law::{
     closings_leave_faces_up, commands_leave_faces_up, expiry_leaves_faces_up,
     openings_leave_faces_up, replies_are_bounded, statuses_have_texts,
 };
-pub use reply::{BODY_EXTRA, REPLY_EXTRA};
-pub use response::{put_response, status_text};
+pub use outcome::{Applied, Octets};
+pub use reply_body::{BODY_EXTRA, REPLY_EXTRA};
 pub use tables::Tables;
 pub use types::command_statuses_are_as_assigned;
+pub use whole_reply::{put_response, status_text};

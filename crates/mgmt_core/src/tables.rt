@@ -4,7 +4,7 @@ ghost use Rattle.mgmt_core.specs.Room.{IsPrepared};
 
 use crate::action::Action;
 use crate::command::Command;
-use crate::reply::ReplyRoom;
+use crate::reply_body::ReplyRoom;
 use content_store::Store;
 use ndn_tlv::Memory;
 use pit_fib::{Fib, StrategyTable};

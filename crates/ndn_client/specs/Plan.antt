@@ -3,7 +3,7 @@ use Rattle.std.specs.Prelude.{◌≡◌, ℕ, List, [], Option, None, Some, Bool
 use Rattle.std.specs.Option.{option_map}
 use Rattle.std.specs.Global.{Vec as Octets}
 use Rattle.hmac_keys.specs.KeyFile.{NamedKey}
-use Rattle.ndn_explain.specs.Input.{IsSaidInput}
+use Rattle.ndn_explain.specs.Input.{IsExplainedInput}
 use Rattle.ndn_requests.specs.declared.exchange.View.{View}
 use Rattle.ndn_requests.specs.declared.exchange.View.TheVariants.{Hexadecimal, Lines as AsLines}
 use Rattle.ndn_requests.specs.declared.exchange.Exchange.{Exchange}
@@ -49,7 +49,7 @@ view_of asked = AsLines
 -- ---- what is printed
 
 abbrev pub IsExplained : Bool → ExplainJob → List NamedKey → List ℕ → List ℕ → Type 0
-IsExplained true asked book input text = IsSaidInput (keys_given asked book) input text
+IsExplained true asked book input text = IsExplainedInput (keys_given asked book) input text
 IsExplained false asked book input text = IsAnswer (job.Explain asked) book text
 
 -- of lines of standard input where there is no packet, and else the answer

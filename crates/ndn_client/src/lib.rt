@@ -17,6 +17,6 @@ pub use ndn_jobs::{
     Stamp, TagJob, Token, ToolFault, Usage, parse_words,
 };
 pub use ndn_requests::{
-    Exchange, Failure, NodeList, Outcome, Progress, Silence, View, judge, put_said, silence_of,
+    Exchange, Failure, NodeList, Outcome, Progress, Silence, View, judge, put_explained, silence_of,
 };
 pub use plan::{InputForm, Plan, fault_of_silence, input_form, plan_of};

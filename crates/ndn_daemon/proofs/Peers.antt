@@ -8,7 +8,7 @@ use Rattle.std.proofs.lemmas.List.{ext_get_or}
 use Rattle.std.proofs.lemmas.Option.{get_or_from_slice_get, slice_get-get_or, slice_get_within}
 use Rattle.std.proofs.Math.Seq.{get_or-append_seam}
 use Rattle.std.proofs.lemmas.List.Quantifiers.{all_pairs_push}
-use Rattle.pit_fib.specs.declared.faces.TheConstants.{MAX_FACES}
+use Rattle.pit_fib.specs.declared.face_set.TheConstants.{MAX_FACES}
 use Rattle.ndn_daemon.specs.Endpoint.{AreEndpoints, IsEndpoint, MayBePeersOf}
 use Rattle.ndn_daemon.specs.UdpOptions.{Has, IsLocal}
 use Rattle.ndn_daemon.proofs.Endpoints.{one_endpoint, same_socket, other_socket}

@@ -5,7 +5,7 @@ use Rattle.clap.specs.declared.error.Error.{Error}
 use Rattle.clap.specs.declared.error.kind.ErrorKind.{ErrorKind}
 use Rattle.clap.specs.declared.error.kind.ErrorKind.TheVariants.{DisplayHelp, DisplayVersion, OutOfMemory}
 use Rattle.node_core.specs.declared.script.RunFault.TheVariants.{Memory}
-use Rattle.pit_fib.specs.declared.faces.TheConstants.{MAX_FACES}
+use Rattle.pit_fib.specs.declared.face_set.TheConstants.{MAX_FACES}
 use Rattle.ndn_daemon.specs.declared.command.Request.{Request}
 use Rattle.ndn_daemon.specs.declared.command.Request.TheVariants.{Help, Udp, Script as RunScript}
 use Rattle.ndn_daemon.specs.declared.fault.Fault.{Fault}

@@ -13,7 +13,7 @@ use Rattle.node_core.specs.Event.{Send}
 use Rattle.node_core.specs.Node.{NodeState}
 use Rattle.node_core.specs.Ports.Serving.{Shown, Serves, FailsNext, EndsAfter, StopsServing}
 use Rattle.node_core.specs.Script.Ending.{AppendsFront}
-use Rattle.node_core.specs.Script.Writing.{said_line, script_text, send_text, verdict_text}
+use Rattle.node_core.specs.Script.Writing.{numbered_line, script_text, send_text, verdict_text}
 use Rattle.node_core.specs.Verdict.{verdict_of}
 use Rattle.ndn_daemon.specs.declared.fault.Fault.{Fault}
 use Rattle.ndn_daemon.specs.declared.fault.Fault.TheVariants.{Script, Unbound, Unreceived}
@@ -21,9 +21,9 @@ use Rattle.ndn_daemon.specs.declared.fault.Fault.TheVariants.{Script, Unbound, U
 -- the line of the verdict, as of an event of a script, and one for each packet that goes out
 abbrev pub turn_text : ℕ → List PlainRule → Turn → List Send → List ℕ
 turn_text number rules (Done verdict failed) sends =
-    said_line number (verdict_text rules (verdict_of verdict)) ++ flat_map send_text sends
+    numbered_line number (verdict_text rules (verdict_of verdict)) ++ flat_map send_text sends
 turn_text number rules Refused sends =
-    said_line number (codes "memory") ++ flat_map send_text sends
+    numbered_line number (codes "memory") ++ flat_map send_text sends
 turn_text number rules End sends = []
 
 -- so many events came and had outcomes, of which a script prints this text

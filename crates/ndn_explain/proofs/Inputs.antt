@@ -6,7 +6,7 @@ use Rattle.hex.proofs.HexLemmas.{decode_of-digits, decode_of-ok}
 use Rattle.std.proofs.lemmas.List.Elements.{All-nil}
 use Rattle.hmac_keys.specs.KeyFile.{NamedKey, lines_of}
 use Rattle.hmac_keys.specs.KeyReading.{at_last_space}
-use Rattle.ndn_explain.specs.Input.{is_send, parts_of, repeated, IsSaidPacket, IsSaidPart, IsSaidLine, AreSaid, IsSaidInput}
+use Rattle.ndn_explain.specs.Input.{is_send, parts_of, repeated, IsExplainedPacket, IsExplainedPart, IsExplainedLine, AreExplained, IsExplainedInput}
 
 -- no octets are one empty line, and no digits
 no_lines : lines_of [] ≡ [] ∷ []
@@ -21,39 +21,39 @@ no_digits = let found = decode_of-digits [] refl (All-nil (λ (o : ℕ). is_hex_
     by (o ∷ octets) e = let len = (decode_of-ok [] (o ∷ octets) e).2 in absurd (omega (arith, len))
 
 -- of no octets nothing
-pub said_nothing : (keys : Option (List NamedKey)) → IsSaidInput keys [] []
+pub said_nothing : (keys : Option (List NamedKey)) → IsExplainedInput keys [] []
 said_nothing keys =
-    subst (λ (lines : List (List ℕ)). AreSaid keys lines []) (sym no_lines)
-    ([], [], subst (λ (r : Result (List ℕ) FromHexError). IsSaidPart keys [] [] r []) (sym no_digits) refl, refl, refl)
+    subst (λ (lines : List (List ℕ)). AreExplained keys lines []) (sym no_lines)
+    ([], [], subst (λ (r : Result (List ℕ) FromHexError). IsExplainedPart keys [] [] r []) (sym no_digits) refl, refl, refl)
 
-pub said_at_end : (keys : Option (List NamedKey)) (text : List ℕ) → length text ≡ 0 → IsSaidInput keys text []
+pub said_at_end : (keys : Option (List NamedKey)) (text : List ℕ) → length text ≡ 0 → IsExplainedInput keys text []
 said_at_end keys [] e = said_nothing keys
 said_at_end keys (o ∷ text) e = absurd (omega (arith, e))
 
-nothing_said : (keys : Option (List NamedKey)) (more : List ℕ) → IsSaidInput keys [] more → more ≡ []
+nothing_said : (keys : Option (List NamedKey)) (more : List ℕ) → IsExplainedInput keys [] more → more ≡ []
 nothing_said keys more h =
-    let line = subst (λ (lines : List (List ℕ)). AreSaid keys lines more) no_lines h in
-    let first = subst (λ (r : Result (List ℕ) FromHexError). IsSaidPart keys [] [] r line.0) no_digits line.2 in
+    let line = subst (λ (lines : List (List ℕ)). AreExplained keys lines more) no_lines h in
+    let first = subst (λ (r : Result (List ℕ) FromHexError). IsExplainedPart keys [] [] r line.0) no_digits line.2 in
     line.4 ∙ ap₂ (λ (a b : List ℕ). a ++ b) first line.3
 
 -- the first line of a text, and what follows it
 abbrev pub BeginsWith : List ℕ → List ℕ → List ℕ → Type 0
 BeginsWith text line after = (lines_of text ≡ line ∷ lines_of after) ⊎ ((lines_of text ≡ line ∷ []) × (after ≡ []))
 
-pub line_said : (keys : Option (List NamedKey)) (text line after first more : List ℕ) → BeginsWith text line after → IsSaidLine keys line first → IsSaidInput keys after more → IsSaidInput keys text (first ++ more)
+pub line_said : (keys : Option (List NamedKey)) (text line after first more : List ℕ) → BeginsWith text line after → IsExplainedLine keys line first → IsExplainedInput keys after more → IsExplainedInput keys text (first ++ more)
 line_said keys text line after first more (inl e) h others =
-    subst (λ (lines : List (List ℕ)). AreSaid keys lines (first ++ more)) (sym e) (first, more, h, others, refl)
+    subst (λ (lines : List (List ℕ)). AreExplained keys lines (first ++ more)) (sym e) (first, more, h, others, refl)
 line_said keys text line after first more (inr e) h others =
-    let none = nothing_said keys more (subst (λ (t : List ℕ). IsSaidInput keys t more) e.1 others) in
-    subst (λ (lines : List (List ℕ)). AreSaid keys lines (first ++ more)) (sym e.0) (first, more, h, none, refl)
+    let none = nothing_said keys more (subst (λ (t : List ℕ). IsExplainedInput keys t more) e.1 others) in
+    subst (λ (lines : List (List ℕ)). AreExplained keys lines (first ++ more)) (sym e.0) (first, more, h, none, refl)
 
 -- octets that there are
-pub octets_said : (keys : Option (List NamedKey)) (text head octets words : List ℕ) → octets ≢ [] → IsSaidPacket keys octets words → IsSaidPart keys text head (Ok octets) (repeated head ++ words)
+pub octets_said : (keys : Option (List NamedKey)) (text head octets words : List ℕ) → octets ≢ [] → IsExplainedPacket keys octets words → IsExplainedPart keys text head (Ok octets) (repeated head ++ words)
 octets_said keys text head [] words some h = absurd (some refl)
 octets_said keys text head (o ∷ octets) words some h = (words, h, refl)
 
-pub no_octets_said : (keys : Option (List NamedKey)) (text head octets : List ℕ) → octets ≡ [] → IsSaidPart keys text head (Ok octets) (repeated text)
-no_octets_said keys text head octets e = subst (λ (o : List ℕ). IsSaidPart keys text head (Ok o) (repeated text)) (sym e) refl
+pub no_octets_said : (keys : Option (List NamedKey)) (text head octets : List ℕ) → octets ≡ [] → IsExplainedPart keys text head (Ok octets) (repeated text)
+no_octets_said keys text head octets e = subst (λ (o : List ℕ). IsExplainedPart keys text head (Ok o) (repeated text)) (sym e) refl
 
 -- the parts of a line
 pub parts_found : (line head digits : List ℕ) → is_send line ≡ true → at_last_space line ≡ Some (head, digits) → (head, digits) ≡ parts_of line

@@ -32,31 +32,31 @@ repeated [] = []
 repeated (o ∷ text) = line (o ∷ text)
 
 -- octets in words, or why they are no packet
-abbrev pub IsSaidPacket : Option (List NamedKey) → List ℕ → List ℕ → Type 0
-IsSaidPacket keys octets said =
+abbrev pub IsExplainedPacket : Option (List NamedKey) → List ℕ → List ℕ → Type 0
+IsExplainedPacket keys octets said =
     ((framed : PlainFramed) × (check : Option TagCheck) × IsFramed octets framed
     × MayBeChecked framed.frame keys check × (said ≡ framed_explanation framed check))
     ⊎ ((why : PacketFault) × FaultOf octets why
     × (said ≡ named_line (codes "malformed") (packet_name why)))
 
 -- the octets of a packet, or a line without any
-abbrev pub IsSaidPart : Option (List NamedKey) → List ℕ → List ℕ
+abbrev pub IsExplainedPart : Option (List NamedKey) → List ℕ → List ℕ
     → Result (List ℕ) FromHexError → List ℕ → Type 0
-IsSaidPart keys text head (Err why) said = said ≡ repeated text
-IsSaidPart keys text head (Ok []) said = said ≡ repeated text
-IsSaidPart keys text head (Ok (o ∷ octets)) said =
-    (words : List ℕ) × IsSaidPacket keys (o ∷ octets) words × (said ≡ repeated head ++ words)
+IsExplainedPart keys text head (Err why) said = said ≡ repeated text
+IsExplainedPart keys text head (Ok []) said = said ≡ repeated text
+IsExplainedPart keys text head (Ok (o ∷ octets)) said =
+    (words : List ℕ) × IsExplainedPacket keys (o ∷ octets) words × (said ≡ repeated head ++ words)
 
-abbrev pub IsSaidLine : Option (List NamedKey) → List ℕ → List ℕ → Type 0
-IsSaidLine keys text said =
-    IsSaidPart keys text (parts_of text).0 (decode_of (parts_of text).1) said
+abbrev pub IsExplainedLine : Option (List NamedKey) → List ℕ → List ℕ → Type 0
+IsExplainedLine keys text said =
+    IsExplainedPart keys text (parts_of text).0 (decode_of (parts_of text).1) said
 
-abbrev pub AreSaid : Option (List NamedKey) → List (List ℕ) → List ℕ → Type 0
-AreSaid keys [] said = said ≡ []
-AreSaid keys (text ∷ texts) said =
-    (first : List ℕ) × (others : List ℕ) × IsSaidLine keys text first
-    × AreSaid keys texts others × (said ≡ first ++ others)
+abbrev pub AreExplained : Option (List NamedKey) → List (List ℕ) → List ℕ → Type 0
+AreExplained keys [] said = said ≡ []
+AreExplained keys (text ∷ texts) said =
+    (first : List ℕ) × (others : List ℕ) × IsExplainedLine keys text first
+    × AreExplained keys texts others × (said ≡ first ++ others)
 
 -- of all lines of a text, which LFs part
-abbrev pub IsSaidInput : Option (List NamedKey) → List ℕ → List ℕ → Type 0
-IsSaidInput keys text said = AreSaid keys (lines_of text) said
+abbrev pub IsExplainedInput : Option (List NamedKey) → List ℕ → List ℕ → Type 0
+IsExplainedInput keys text said = AreExplained keys (lines_of text) said

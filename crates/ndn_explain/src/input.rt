@@ -2,7 +2,7 @@
 
 ghost use Rattle.std.specs.Prelude.{◌≡◌, ◌≢◌, ◌<◌, ◌⊎◌, ◌++◌, ◌∷◌, [], List, ℕ, Ok, OnOk, codes, option_map, length};
 ghost use Rattle.hmac_keys.specs.KeyFile.{lines_of};
-ghost use Rattle.ndn_explain.specs.Input.{is_send, parts_of, repeated, IsSaidPacket, IsSaidPart, IsSaidLine, IsSaidInput};
+ghost use Rattle.ndn_explain.specs.Input.{is_send, parts_of, repeated, IsExplainedPacket, IsExplainedPart, IsExplainedLine, IsExplainedInput};
 ghost use Rattle.hex.specs.Hex.{decode_of};
 ghost use Rattle.ndn_packets.specs.FaultName.{packet_name};
 ghost use Rattle.ndn_explain.specs.Show.{named_line};
@@ -26,7 +26,7 @@ pub fn put_input(
     keys: Option<&KeyBook>,
 ) -> Result<(), Memory>
     ensures { OnOk result ((said : List ℕ)
-        × IsSaidInput (option_map (λ b. b.now) keys.entry) input.now said
+        × IsExplainedInput (option_map (λ b. b.now) keys.entry) input.now said
         × (text.new.items ≡ text.old.items ++ said)) }
 {
     let mut rest = input;
@@ -45,7 +45,7 @@ fn put_line(
     keys: Option<&KeyBook>,
 ) -> Result<(), Memory>
     ensures { OnOk result ((said : List ℕ)
-        × IsSaidLine (option_map (λ b. b.now) keys.entry) line.now said
+        × IsExplainedLine (option_map (λ b. b.now) keys.entry) line.now said
         × (text.new.items ≡ text.old.items ++ said)) }
 {
     let (head, digits) = parts_of(line);
@@ -62,7 +62,7 @@ fn put_digits(
     keys: Option<&KeyBook>,
 ) -> Result<(), Memory>
     ensures { OnOk result ((said : List ℕ)
-        × IsSaidPart (option_map (λ b. b.now) keys.entry) line.now head.now
+        × IsExplainedPart (option_map (λ b. b.now) keys.entry) line.now head.now
         (decode_of digits.now) said
         × (text.new.items ≡ text.old.items ++ said)) }
 {
@@ -83,7 +83,7 @@ fn put_octets(
     keys: Option<&KeyBook>,
 ) -> Result<(), Memory>
     ensures { OnOk result ((said : List ℕ)
-        × IsSaidPart (option_map (λ b. b.now) keys.entry) line.now head.now (Ok octets.now) said
+        × IsExplainedPart (option_map (λ b. b.now) keys.entry) line.now head.now (Ok octets.now) said
         × (text.new.items ≡ text.old.items ++ said)) }
 {
     if octets.is_empty() {
@@ -132,7 +132,7 @@ fn put_packet(
     keys: Option<&KeyBook>,
 ) -> Result<(), Memory>
     ensures { OnOk result ((said : List ℕ)
-        × IsSaidPacket (option_map (λ b. b.now) keys.entry) octets.now said
+        × IsExplainedPacket (option_map (λ b. b.now) keys.entry) octets.now said
         × (text.new.items ≡ text.old.items ++ said)) }
 {
     match read_lp(octets) {

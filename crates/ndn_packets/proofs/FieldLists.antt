@@ -22,9 +22,9 @@ Lacks kind schema = AllByRecursion (λ k. k ≢ kind) schema
 abbrev pub IsAfterNone : ℕ → List ℕ → Type 0
 IsAfterNone kind schema = (later : List ℕ) → Counts kind later schema → ⊥
 
-abbrev pub IsAfter : ℕ → List ℕ → Option (List ℕ) → Type 0
-IsAfter kind schema None = IsAfterNone kind schema
-IsAfter kind schema (Some later) = Counts kind later schema
+abbrev pub IsSchemaAfter : ℕ → List ℕ → Option (List ℕ) → Type 0
+IsSchemaAfter kind schema None = IsAfterNone kind schema
+IsSchemaAfter kind schema (Some later) = Counts kind later schema
 
 in_nothing : (kind : ℕ) → IsAfterNone kind []
 in_nothing kind later h = at_front h.0 h.1
@@ -47,20 +47,20 @@ past_first kind first later schema other h = at_front h.0 h.1 h.2 h.3
         let far : needs_previous_field kind ≡ true → ⊥ = λ follows. (let none = near follows in cc) in
         ((front, (cc), lacks.1, λ follows. absurd (far follows)), no_need (needs_previous_field kind) far)
 
-pub after_found : (kind : ℕ) (schema : List ℕ) → IsAfter kind schema (schema_after kind schema)
+pub after_found : (kind : ℕ) (schema : List ℕ) → IsSchemaAfter kind schema (schema_after kind schema)
 after_found kind [] = in_nothing kind
 after_found kind (first ∷ schema) =
-    elim (eqb first kind) as (λ b. eqb first kind ≡ b → IsAfter kind (first ∷ schema) (cond b (Some schema) (cond (needs_previous_field kind) None (schema_after kind schema)))) [
+    elim (eqb first kind) as (λ b. eqb first kind ≡ b → IsSchemaAfter kind (first ∷ schema) (cond b (Some schema) (cond (needs_previous_field kind) None (schema_after kind schema)))) [
       | true ↦ λ is. ([], ap (λ (k : ℕ). k ∷ schema) (eqb-true first kind is), tt, λ follows. refl)
       | false ↦ λ differs.
           let other : first ≢ kind = eqb-false first kind differs in
-          elim (needs_previous_field kind) as (λ b. needs_previous_field kind ≡ b → IsAfter kind (first ∷ schema) (cond b None (schema_after kind schema))) [
+          elim (needs_previous_field kind) as (λ b. needs_previous_field kind ≡ b → IsSchemaAfter kind (first ∷ schema) (cond b None (schema_after kind schema))) [
             | true ↦ λ follows later h. both_tests (needs_previous_field kind) (past_first kind first later schema other h).1 follows
             | false ↦ λ plain. following first other plain (schema_after kind schema) (after_found kind schema)
           ] refl
     ] refl
   where
-    following : (first : ℕ) → first ≢ kind → needs_previous_field kind ≡ false → (r : Option (List ℕ)) → IsAfter kind schema r → IsAfter kind (first ∷ schema) r
+    following : (first : ℕ) → first ≢ kind → needs_previous_field kind ≡ false → (r : Option (List ℕ)) → IsSchemaAfter kind schema r → IsSchemaAfter kind (first ∷ schema) r
     following first other plain None h = λ later before. h later (past_first kind first later schema other before).0
     following first other plain (Some later) h = (first ∷ h.0, ap (λ (ks : List ℕ). first ∷ ks) h.1, (other, h.2), λ follows. absurd (both_tests (needs_previous_field kind) plain follows))
 
@@ -85,7 +85,7 @@ after_again kind (first ∷ schema) later h =
 pub after_none : (kind : ℕ) (schema : List ℕ) → IsAfterNone kind schema → schema_after kind schema ≡ None
 after_none kind schema none = found (schema_after kind schema) (after_found kind schema)
   where
-    found : (r : Option (List ℕ)) → IsAfter kind schema r → r ≡ None
+    found : (r : Option (List ℕ)) → IsSchemaAfter kind schema r → r ≡ None
     found None h = refl
     found (Some later) h = absurd (none later h)
 
@@ -103,7 +103,7 @@ pub fields_found : {S : Type 0} (take : S → Field → Result S PacketFault) (i
 fields_found take ignores schema [] s t e = record { plain = []; fields = []; all = refl; recognised = refl; taken = e }
 fields_found take ignores schema (Err f ∷ elements) s t e = absurd (err_is_not_ok _ t e)
 fields_found take ignores schema (Ok x ∷ elements) s t e =
-    elim (schema_after x.0 schema) as (λ r. IsAfter x.0 schema r
+    elim (schema_after x.0 schema) as (λ r. IsSchemaAfter x.0 schema r
     → read_fields take s (on_option (λ later. Ok x ∷ fields_from ignores later elements) (cond (ignores x.0) (fields_from ignores schema elements) (Err CriticalUnknown ∷ [])) r) ≡ Ok t
     → FieldsRead take ignores schema (Ok x ∷ elements) s t) [
       | Some later ↦ λ before e.

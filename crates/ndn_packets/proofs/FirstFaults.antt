@@ -9,7 +9,7 @@ use Rattle.ndn_tlv.specs.Options.{on_option}
 use Rattle.ndn_packets.specs.Reading.{schema_after, fields_from, read_fields}
 use Rattle.ndn_packets.specs.FirstFault.{Passes, HasFault, FirstFault, TellsFirstFault}
 use Rattle.ndn_packets.proofs.Steps.{good, read}
-use Rattle.ndn_packets.proofs.FieldLists.{IsAfter, after_found, after_again, after_none}
+use Rattle.ndn_packets.proofs.FieldLists.{IsSchemaAfter, after_found, after_again, after_none}
 
 pub ok_is_not_err : {A : Type 0} (y : A) (d : PacketFault) → good y ≡ Err d → ⊥
 ok_is_not_err y d e = cc
@@ -22,7 +22,7 @@ err_is A d f e = cc
 
 -- the fault is that of the first element, or comes after it
 first_or_later : {S : Type 0} (take : S → Field → Result S PacketFault) (ignores : ℕ → Bool) (schema later : List ℕ) (s : S) (x : Field) (elements : List (Result Field TlvFault)) (fault : PacketFault)
-    → IsAfter x.0 schema (Some later) → (r : Result S PacketFault) → take s x ≡ r → (r >>= λ t. read_fields take t (fields_from ignores later elements)) ≡ Err fault
+    → IsSchemaAfter x.0 schema (Some later) → (r : Result S PacketFault) → take s x ≡ r → (r >>= λ t. read_fields take t (fields_from ignores later elements)) ≡ Err fault
     → ((t : S) → read_fields take t (fields_from ignores later elements) ≡ Err fault → FirstFault take ignores later t elements fault)
     → FirstFault take ignores schema s (Ok x ∷ elements) fault
 first_or_later take ignores schema later s x elements fault counts (Err d) is e rest =
@@ -46,7 +46,7 @@ fault_found take ignores schema [] s fault e = absurd (ok_is_not_err s fault e)
 fault_found {S} take ignores schema (Err f ∷ elements) s fault e =
     record { before = []; next = Err f; after = elements; later = schema; taken = s; elements_are = refl; passes = (refl, refl); faulty = err_is S (Tlv f) fault e }
 fault_found {S} take ignores schema (Ok x ∷ elements) s fault e =
-    elim (schema_after x.0 schema) as (λ r. IsAfter x.0 schema r
+    elim (schema_after x.0 schema) as (λ r. IsSchemaAfter x.0 schema r
     → read_fields take s (on_option (λ later. Ok x ∷ fields_from ignores later elements) (cond (ignores x.0) (fields_from ignores schema elements) (Err CriticalUnknown ∷ [])) r) ≡ Err fault
     → FirstFault take ignores schema s (Ok x ∷ elements) fault) [
       | Some later ↦ λ counts e.

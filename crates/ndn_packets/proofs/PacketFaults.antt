@@ -18,7 +18,7 @@ use Rattle.ndn_packets.specs.Reading.{schema_after, fields_from, read_fields, is
 use Rattle.ndn_packets.specs.FirstFault.{Passes, AllPass}
 use Rattle.ndn_packets.specs.PacketFaults.{InfoFault, Leads, NameFault, DigestFault, InterestEndsWrong, AfterInterestName, InterestFault, AfterDataName, DataFault}
 use Rattle.ndn_packets.proofs.Steps.{bind_ok, good, read, err_is_not_ok, ok_is, some_is, none_is_not_some, lead}
-use Rattle.ndn_packets.proofs.FieldLists.{IsAfter, after_found, after_again, after_none}
+use Rattle.ndn_packets.proofs.FieldLists.{IsSchemaAfter, after_found, after_again, after_none}
 use Rattle.ndn_packets.proofs.Digests.{digest_found, digest_again}
 use Rattle.ndn_packets.proofs.FirstFaults.{bad, err_is, ok_is_not_err, tells_first_fault}
 
@@ -38,7 +38,7 @@ pub all_passed : {S : Type 0} (take : S → Field → Result S PacketFault) (ign
 all_passed take ignores schema [] s t e = ([], (refl, (schema, (refl, sym (ok_is s t e)))))
 all_passed take ignores schema (Err f ∷ elements) s t e = absurd (err_is_not_ok _ t e)
 all_passed {S} take ignores schema (Ok x ∷ elements) s t e =
-    elim (schema_after x.0 schema) as (λ r. IsAfter x.0 schema r
+    elim (schema_after x.0 schema) as (λ r. IsSchemaAfter x.0 schema r
     → read_fields take s (on_option (λ later. Ok x ∷ fields_from ignores later elements) (cond (ignores x.0) (fields_from ignores schema elements) (Err CriticalUnknown ∷ [])) r) ≡ Ok t
     → (plain : List Field) × AllPass take ignores schema s (Ok x ∷ elements) plain t) [
       | Some later ↦ λ counts e.

@@ -21,11 +21,11 @@ abbrev pub fields_left : FieldReader → List (Result Field PacketFault)
 fields_left f = fields_from (ignored_by f.rules) f.schema.now (elements_of f.rest.now)
 
 -- what a step gives is what was left first: a field, the end or a fault
-abbrev pub Gives : FieldReader → FieldReader → Result (Option Element) PacketFault → Type 0
-Gives before after (Ok None) = fields_left before ≡ []
-Gives before after (Ok (Some e)) =
+abbrev pub IsNextField : FieldReader → FieldReader → Result (Option Element) PacketFault → Type 0
+IsNextField before after (Ok None) = fields_left before ≡ []
+IsNextField before after (Ok (Some e)) =
     fields_left before ≡ Ok (e.kind, e.value.now) ∷ fields_left after
-Gives before after (Err fault) = fields_left before ≡ Err fault ∷ []
+IsNextField before after (Err fault) = fields_left before ≡ Err fault ∷ []
 
 -- where the field e stands that a reader just gave: its octets and those after it; nothing before
 -- it is of a type that could still come

@@ -6,8 +6,8 @@ ghost use Rattle.ndn_packets.specs.Grammar.{IsInterest, IsData};
 ghost use Rattle.ndn_packets.specs.Covered.{from_first, Covered, EndsInDigest, EndsBeforeValue, EndsAtSignature};
 
 use crate::data::Data;
+use crate::field_writer::DIGEST_COMPONENT_LEN;
 use crate::interest::Interest;
-use crate::writing::DIGEST_COMPONENT_LEN;
 use ndn_tlv::first_element;
 
 /// The covered octets, which are the first ones and then the second ones.

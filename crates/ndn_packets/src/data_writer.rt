@@ -6,15 +6,15 @@ ghost use Rattle.ndn_tlv.specs.Writing.{octets, Puts, optional};
 ghost use Rattle.ndn_packets.specs.Writing.{last_fields, reply_text, reply_asked, reply_of, SignsReply, IsU64};
 
 use crate::fault::WriteFault;
+use crate::field_writer::{
+    DIGEST_LEN, element_len, info_len, name_element_len, number_field_len, optional_len, put_info,
+    put_optional,
+};
 use crate::frame::MAX_PACKET;
 use crate::signature::Sign;
 use crate::types::{
     CONTENT, DATA, FINAL_BLOCK_ID, FRESHNESS_PERIOD, META_INFO, NAME, SIGNATURE_INFO,
     SIGNATURE_VALUE,
-};
-use crate::writing::{
-    DIGEST_LEN, element_len, info_len, name_element_len, number_field_len, optional_len, put_info,
-    put_optional,
 };
 use ndn_names::Name;
 use ndn_names::component_type::SEGMENT;

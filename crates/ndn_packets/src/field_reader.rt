@@ -9,7 +9,7 @@ ghost use Rattle.ndn_packets.specs.FirstFault.{TellsFirstFault};
 ghost use Rattle.ndn_packets.specs.PacketFaults.{InfoFault, InterestFault, DataFault};
 ghost use Rattle.ndn_packets.specs.FrameReading.{take_nack_field};
 ghost use Rattle.ndn_packets.specs.Reading.{schema_after, fields_from, name_first, leading_name_at, nni_value_at, interest_at, data_at, info_at, take_interest_field, take_data_field, take_meta_field, take_info_field, no_fields_yet, nothing_yet, no_info_yet};
-ghost use Rattle.ndn_packets.specs.FieldReader.{ignored_by, fields_left, Gives, StandsHere, OthersAfter};
+ghost use Rattle.ndn_packets.specs.FieldReader.{ignored_by, fields_left, IsNextField, StandsHere, OthersAfter};
 
 use crate::fault::PacketFault;
 use crate::schema::{Rules, needs_previous_field};
@@ -47,7 +47,7 @@ impl<'a> FieldReader<'a> {
     /// The next field. Elements that are none are ignored or refused.
     #[inline(always)]
     pub fn next(&mut self) -> Result<Option<Element<'a>>, PacketFault>
-        ensures walk { Gives self.old self.new result }
+        ensures walk { IsNextField self.old self.new result }
         ensures place { IfOk result (λ next. IfSome next (λ e. StandsHere self.old self.new e)) }
         ensures progress { IfOk result
             (λ next. OnSome next (length self.new.rest.now < length self.old.rest.now)) }

@@ -9,7 +9,7 @@ ghost use Rattle.ndn_packets.specs.Answers.{begins_with};
 ghost use Rattle.ndn_packets.specs.FullName.{all_components, digest_in, is_near};
 
 use crate::data::Data;
-use crate::writing::{DIGEST_COMPONENT_LEN, DIGEST_LEN};
+use crate::field_writer::{DIGEST_COMPONENT_LEN, DIGEST_LEN};
 use ndn_names::Name;
 use ndn_names::component_type::{IMPLICIT_SHA256_DIGEST, PARAMETERS_SHA256_DIGEST};
 use ndn_tlv::{Memory, put_element};

@@ -8,15 +8,15 @@ ghost use Rattle.ndn_tlv.specs.Writing.{octets, Puts, optional, flag};
 ghost use Rattle.ndn_packets.specs.Writing.{IsLength};
 
 use crate::fault::WriteFault;
+use crate::field_writer::{
+    DIGEST_LEN, element_len, info_len, number_field_len, octets_len, optional_len, overwrite,
+    put_info, put_optional,
+};
 use crate::frame::MAX_PACKET;
 use crate::signature::Sign;
 use crate::types::{
     APPLICATION_PARAMETERS, CAN_BE_PREFIX, HOP_LIMIT, INTEREST, INTEREST_LIFETIME,
     INTEREST_SIGNATURE_INFO, INTEREST_SIGNATURE_VALUE, MUST_BE_FRESH, NAME, NONCE,
-};
-use crate::writing::{
-    DIGEST_LEN, element_len, info_len, number_field_len, octets_len, optional_len, overwrite,
-    put_info, put_optional,
 };
 use ndn_names::component_type::PARAMETERS_SHA256_DIGEST;
 use ndn_names::{MAX_COMPONENTS, Name};

@@ -9,6 +9,7 @@ mod data;
 mod data_writer;
 mod fault;
 mod field_reader;
+mod field_writer;
 mod frame;
 mod full_name;
 mod hop_limit;
@@ -20,7 +21,6 @@ mod meta_info;
 mod schema;
 mod signature;
 pub mod types;
-mod writing;
 
 pub use answers::answers_can_be_tested;
 pub use covered::{Parts, covered_octets_have_one_reading, signed_packets_have_covered_octets};

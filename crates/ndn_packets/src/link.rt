@@ -14,12 +14,12 @@ ghost use Rattle.ndn_packets.specs.Writing.{nack_field, nack_text, nack_headers,
 
 use crate::fault::PacketFault;
 use crate::field_reader::{FieldReader, number};
+use crate::field_writer::{element_len, optional_len, put_optional};
 use crate::frame::{Frame, Framed, nacked_of, only_element, packet_of};
 use crate::schema::Rules;
 use crate::types::{
     FRAG_COUNT, FRAG_INDEX, FRAGMENT, LINK_PACKET, NACK, NACK_REASON, PIT_TOKEN, SEQUENCE,
 };
-use crate::writing::{element_len, optional_len, put_optional};
 use ndn_tlv::{
     Element, Memory, element_len as tlv_len, first_element, nni_element_len, number_len,
     put_element, put_header, put_nni_element,

@@ -21,7 +21,7 @@ use Rattle.ndn_requests.specs.declared.exchange.Progress.TheVariants.{Ignored, N
 use Rattle.ndn_requests.specs.declared.exchange.Turn.{Turn}
 use Rattle.ndn_requests.specs.declared.fault.Silence.{Silence}
 use Rattle.ndn_requests.specs.declared.fault.Silence.TheVariants.{Changed}
-use Rattle.ndn_requests.specs.Reply.{Outcome, IsJudged, said_lines, silence_of}
+use Rattle.ndn_requests.specs.Reply.{Outcome, IsJudged, explained_lines, silence_of}
 use Rattle.ndn_requests.specs.Lists.{place_of, next_name, table}
 
 -- ---- requests
@@ -59,7 +59,7 @@ content_in (Err why) = []
 
 abbrev pub printed : View → List ℕ → List ℕ → List ℕ
 printed Content request datagram = content_in (frame_at datagram)
-printed view request datagram = said_lines request datagram (frame_at datagram)
+printed view request datagram = explained_lines request datagram (frame_at datagram)
 
 -- the exchange is over, with this text and this outcome
 abbrev pub IsDone : List ℕ → Outcome → Progress → Type 0
@@ -69,9 +69,9 @@ IsDone text outcome (Done said o) = (said.items ≡ text) × (o ≡ outcome)
 
 -- ---- one answer
 
-abbrev pub IsAnswered : View → List ℕ → List ℕ → Option Outcome → Progress → Type 0
-IsAnswered view request datagram None progress = progress ≡ Ignored
-IsAnswered view request datagram (Some outcome) progress =
+abbrev pub IsProgress : View → List ℕ → List ℕ → Option Outcome → Progress → Type 0
+IsProgress view request datagram None progress = progress ≡ Ignored
+IsProgress view request datagram (Some outcome) progress =
     IsDone (printed view request datagram) outcome progress
 
 -- ---- segments
@@ -122,7 +122,7 @@ abbrev pub IsSegment : Option Outcome → Exchange → NodeList → List ℕ →
 IsSegment None old list datagram new progress = (new ≡ old) × (progress ≡ Ignored)
 IsSegment (Some (Err failure)) old list datagram new progress =
     (new ≡ old)
-    × IsDone (said_lines old.request.items datagram (frame_at datagram)) (Err failure) progress
+    × IsDone (explained_lines old.request.items datagram (frame_at datagram)) (Err failure) progress
 IsSegment (Some (Ok done)) old list datagram new progress =
     IsTurned (turn_of (frame_at old.request.items)) old list datagram new progress
 
@@ -137,7 +137,7 @@ IsTakenBy (Table list) old book datagram new progress =
 IsTakenBy view old book datagram new progress =
     (new ≡ old) × (outcome : Option Outcome)
     × IsJudged old.request.items book datagram outcome
-    × IsAnswered view old.request.items datagram outcome progress
+    × IsProgress view old.request.items datagram outcome progress
 
 -- what the datagram comes to, and what the exchange is then
 abbrev pub IsTaken : Exchange → List NamedKey → List ℕ → Exchange → Progress → Type 0

@@ -159,9 +159,9 @@ long_lines (Ok Idle) datagram = []
 long_lines (Err why) datagram = []
 
 -- those of `explain`, also of a reply that is longer than packets are
-abbrev pub said_lines : List ℕ → List ℕ → Result PlainFrame PacketFault → List ℕ
-said_lines request datagram (Ok frame) = explanation frame None
-said_lines request datagram (Err why) = long_lines (frame_at request) datagram
+abbrev pub explained_lines : List ℕ → List ℕ → Result PlainFrame PacketFault → List ℕ
+explained_lines request datagram (Ok frame) = explanation frame None
+explained_lines request datagram (Err why) = long_lines (frame_at request) datagram
 
 -- ---- silence
 

@@ -9,7 +9,7 @@ ghost use Rattle.ndn_requests.specs.Exchange.{IsRequest, IsNoRequest, content_in
 
 use crate::fault::Silence;
 use crate::names::NodeList;
-use crate::reply::{Outcome, judge, put_said, silence_of};
+use crate::reply::{Outcome, judge, put_explained, silence_of};
 use hmac_keys::KeyBook;
 use ndn_explain::{Layout, hex_line, last_segment, put_entries, segment_of};
 use ndn_names::component_type::SEGMENT;
@@ -74,7 +74,7 @@ impl Exchange {
     ghost use Rattle.ndn_packets.specs.FrameReading.{frame_at};
     ghost use Rattle.ndn_requests.specs.Reply.{Outcome, IsJudged};
     ghost use Rattle.ndn_requests.specs.Lists.{next_name, place_of};
-    ghost use Rattle.ndn_requests.specs.Exchange.{IsTaken, IsNextRefusal, IsSegment, IsListed, IsTurned, IsPlaced, IsAnswered, printed, silence_in, turn_of};
+    ghost use Rattle.ndn_requests.specs.Exchange.{IsTaken, IsNextRefusal, IsSegment, IsListed, IsTurned, IsPlaced, IsProgress, printed, silence_in, turn_of};
 
     /// What comes of a datagram that was received. Where the request for the next segment of a list
     /// is to be sent, it is the one that stands in `request` then.
@@ -102,7 +102,7 @@ impl Exchange {
     fn answered(&self, alloc: Global, datagram: &[u8], book: &KeyBook) -> Result<Progress, Memory>
         ensures { IfOk result (λ progress. (outcome : Option Outcome)
             × IsJudged self.now.request.items book.now datagram.now outcome
-            × IsAnswered self.now.view self.now.request.items datagram.now outcome progress) }
+            × IsProgress self.now.view self.now.request.items datagram.now outcome progress) }
     {
         match judge(alloc, &self.request, datagram, book)? {
             None => Ok(Progress::Ignored),
@@ -118,7 +118,7 @@ impl Exchange {
         let mut text = Vec::new(alloc);
         match self.view {
             View::Content => text.extend_from_slice(content_in(datagram))?,
-            _ => put_said(alloc, &mut text, &self.request, datagram)?,
+            _ => put_explained(alloc, &mut text, &self.request, datagram)?,
         }
         Ok(text)
     }

@@ -5,7 +5,7 @@ ghost use Rattle.ndn_names.specs.View.{components, field_of};
 ghost use Rattle.ndn_packets.specs.View.{plain_frame, plain_interest, plain_data};
 ghost use Rattle.ndn_packets.specs.FrameReading.{frame_at};
 ghost use Rattle.ndn_explain.specs.Reply.{written_content};
-ghost use Rattle.ndn_requests.specs.Reply.{Outcome, code_in, is_insert, is_word, said_lines, long_lines, written_lines, silence_of, is_local, done_if, node_outcome, repository_outcome, is_of_repository, content_outcome, reply_outcome, is_command, is_right, data_outcome, is_same, is_same_name, frame_outcome, written_outcome, IsFrameJudged, IsDatagramJudged, IsJudged};
+ghost use Rattle.ndn_requests.specs.Reply.{Outcome, code_in, is_insert, is_word, explained_lines, long_lines, written_lines, silence_of, is_local, done_if, node_outcome, repository_outcome, is_of_repository, content_outcome, reply_outcome, is_command, is_right, data_outcome, is_same, is_same_name, frame_outcome, written_outcome, IsFrameJudged, IsDatagramJudged, IsJudged};
 
 use crate::fault::{Failure, Silence};
 use hmac_keys::KeyBook;
@@ -222,14 +222,14 @@ fn is_word(component: Option<Component<'_>>, word: &str) -> bool
 
 /// Appends the lines of `explain` of the answer to a request, also of a reply that is longer than
 /// packets are. After `Memory` some of them may have been appended.
-pub fn put_said(
+pub fn put_explained(
     alloc: Global,
     text: &mut Vec<u8>,
     request: &[u8],
     datagram: &[u8],
 ) -> Result<(), Memory>
     ensures { OnOk result (text.new.items ≡ text.old.items
-        ++ said_lines request.now datagram.now (frame_at datagram.now)) }
+        ++ explained_lines request.now datagram.now (frame_at datagram.now)) }
 {
     match read_frame(datagram) {
         Ok(frame) => put_explanation(alloc, text, &frame, None),

@@ -1,7 +1,8 @@
 use super::*;
 use hmac_keys::KeyFault;
 use ndn_client::{
-    Failure, Silence, Usage, View, judge, packet_in, put_input, put_said, read_book, silence_of,
+    Failure, Silence, Usage, View, judge, packet_in, put_explained, put_input, read_book,
+    silence_of,
 };
 use ndn_packets::{Frame, PacketFault, WriteFault, put_reply, read_frame};
 use std::alloc::Global;
@@ -1397,7 +1398,7 @@ fn long_says(alloc: Global, first: &str, last: &str) -> Option<bool> {
     let request = packet_in(alloc, request.as_bytes()).ok()?;
     let reply = long_reply(alloc, &request, 200)?;
     let mut text = Vec::new(alloc);
-    put_said(alloc, &mut text, &request, &reply).ok()?;
+    put_explained(alloc, &mut text, &request, &reply).ok()?;
     Some(text.starts_with(first.as_bytes()) && text.ends_with(last.as_bytes()))
 }
 

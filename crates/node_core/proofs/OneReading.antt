@@ -16,7 +16,7 @@ use Rattle.forwarder.specs.declared.event.Scope.{Scope}
 use Rattle.forwarder.specs.declared.event.Scope.TheVariants.{Local, Far}
 use Rattle.forwarder.specs.Event.{PlainEvent, Packet, FaceUp, FaceDown, Tick, NewRules}
 use Rattle.node_core.specs.Script.Line.{Lacks, scope_word, HexSpells, LineSpells, IsEventLine, IsSkipped, IsBadLine, SaysNothing, SpellsKeys, SpellsRules}
-use Rattle.node_core.specs.Script.{ended, joined, AreLines, Say, IsScript, IsBadAt}
+use Rattle.node_core.specs.Script.{ended, joined, AreLines, SpellEvents, IsScript, IsBadAt}
 use Rattle.node_core.proofs.Lists.{SameCut, cut_once}
 use Rattle.node_core.proofs.Words.{HexSpells-Lacks, decoded_length, scope_word-Lacks, number-Lacks, up_words, down_words, in_words, rules_words, tick_text}
 
@@ -112,21 +112,21 @@ not_skipped event line h k =
 
 -- ---- lines say one list of events
 
-Say_once : (lines : List (List ℕ)) (a b : List PlainEvent) → Say lines a → Say lines b → a ≡ b
-Say_once [] [] [] h k = refl
-Say_once [] [] (f ∷ b) h k = absurd k
-Say_once [] (e ∷ a) b h k = absurd h
-Say_once (l ∷ lines) [] [] h k = refl
-Say_once (l ∷ lines) [] (f ∷ b) h (inl k) = Say_once lines [] (f ∷ b) h.1 k.1
-Say_once (l ∷ lines) [] (f ∷ b) h (inr k) = absurd (not_skipped f l k.0 h.0)
-Say_once (l ∷ lines) (e ∷ a) [] (inl h) k = Say_once lines (e ∷ a) [] h.1 k.1
-Say_once (l ∷ lines) (e ∷ a) [] (inr h) k = absurd (not_skipped e l h.0 k.0)
-Say_once (l ∷ lines) (e ∷ a) (f ∷ b) (inl h) (inl k) = Say_once lines (e ∷ a) (f ∷ b) h.1 k.1
-Say_once (l ∷ lines) (e ∷ a) (f ∷ b) (inl h) (inr k) = absurd (not_skipped f l k.0 h.0)
-Say_once (l ∷ lines) (e ∷ a) (f ∷ b) (inr h) (inl k) = absurd (not_skipped e l h.0 k.0)
-Say_once (l ∷ lines) (e ∷ a) (f ∷ b) (inr h) (inr k) =
+SpellEvents_once : (lines : List (List ℕ)) (a b : List PlainEvent) → SpellEvents lines a → SpellEvents lines b → a ≡ b
+SpellEvents_once [] [] [] h k = refl
+SpellEvents_once [] [] (f ∷ b) h k = absurd k
+SpellEvents_once [] (e ∷ a) b h k = absurd h
+SpellEvents_once (l ∷ lines) [] [] h k = refl
+SpellEvents_once (l ∷ lines) [] (f ∷ b) h (inl k) = SpellEvents_once lines [] (f ∷ b) h.1 k.1
+SpellEvents_once (l ∷ lines) [] (f ∷ b) h (inr k) = absurd (not_skipped f l k.0 h.0)
+SpellEvents_once (l ∷ lines) (e ∷ a) [] (inl h) k = SpellEvents_once lines (e ∷ a) [] h.1 k.1
+SpellEvents_once (l ∷ lines) (e ∷ a) [] (inr h) k = absurd (not_skipped e l h.0 k.0)
+SpellEvents_once (l ∷ lines) (e ∷ a) (f ∷ b) (inl h) (inl k) = SpellEvents_once lines (e ∷ a) (f ∷ b) h.1 k.1
+SpellEvents_once (l ∷ lines) (e ∷ a) (f ∷ b) (inl h) (inr k) = absurd (not_skipped f l k.0 h.0)
+SpellEvents_once (l ∷ lines) (e ∷ a) (f ∷ b) (inr h) (inl k) = absurd (not_skipped e l h.0 k.0)
+SpellEvents_once (l ∷ lines) (e ∷ a) (f ∷ b) (inr h) (inr k) =
     let first = LineSpells_once e f l h.0.1 k.0.1 in
-    let rest = Say_once lines a b h.1 k.1 in cc (first, rest)
+    let rest = SpellEvents_once lines a b h.1 k.1 in cc (first, rest)
 
 -- ---- a text has one front of lines that say something
 
@@ -137,12 +137,12 @@ Tail r = (r ≡ []) ⊎ ((line rest : List ℕ) × (r ≡ ended line ++ rest) ×
 line_once : (x y a b : List ℕ) → Lacks 10 x → Lacks 10 y → ended x ++ a ≡ ended y ++ b → SameCut x a y b
 line_once x y a b lx ly h = cut_once 10 x a y b lx ly (sym (append_assoc x (10 ∷ []) a) ∙ h ∙ append_assoc y (10 ∷ []) b)
 
-said_not_bad : (line : List ℕ) (lines : List (List ℕ)) (events : List PlainEvent) → Say (line ∷ lines) events → IsBadLine line → ⊥
+said_not_bad : (line : List ℕ) (lines : List (List ℕ)) (events : List PlainEvent) → SpellEvents (line ∷ lines) events → IsBadLine line → ⊥
 said_not_bad line lines [] h bad = bad.0 h.0
 said_not_bad line lines (e ∷ events) (inl h) bad = bad.0 h.0
 said_not_bad line lines (e ∷ events) (inr h) bad = bad.1 e h.0
 
-said_rest : (line : List ℕ) (lines : List (List ℕ)) (events : List PlainEvent) → Say (line ∷ lines) events → (rest : List PlainEvent) × Say lines rest
+said_rest : (line : List ℕ) (lines : List (List ℕ)) (events : List PlainEvent) → SpellEvents (line ∷ lines) events → (rest : List PlainEvent) × SpellEvents lines rest
 said_rest line lines [] h = ([], h.1)
 said_rest line lines (e ∷ events) (inl h) = (e ∷ events, h.1)
 said_rest line lines (e ∷ events) (inr h) = (events, h.1)
@@ -154,7 +154,7 @@ not_in_tail r y more (inr bad) lacks good h =
     let same = line_once bad.0 y bad.1 more bad.3 lacks (sym bad.2 ∙ h) in
     good (subst IsBadLine same.front bad.4)
 
-one_front : (l m : List (List ℕ)) (r s : List ℕ) (a b : List PlainEvent) → AreLines l → AreLines m → Say l a → Say m b
+one_front : (l m : List (List ℕ)) (r s : List ℕ) (a b : List PlainEvent) → AreLines l → AreLines m → SpellEvents l a → SpellEvents m b
     → Tail r → Tail s → joined l ++ r ≡ joined m ++ s → (l ≡ m) × (r ≡ s)
 one_front [] [] r s a b la lb sa sb tr ts h = (refl, h)
 one_front [] (y ∷ m) r s a b la lb sa sb tr ts h =
@@ -172,13 +172,13 @@ one_front (x ∷ l) (y ∷ m) r s a b la lb sa sb tr ts h =
 pub whole_once : (text : List ℕ) (a b : List PlainEvent) → IsScript text a → IsScript text b → a ≡ b
 whole_once text a b h k =
     let same = one_front h.0 k.0 [] [] a b h.1.0 k.1.0 h.2 k.2 (inl refl) (inl refl) (sym h.1.1 ∙ k.1.1) in
-    Say_once k.0 a b (subst (λ (l : List (List ℕ)). Say l a) same.0 h.2) k.2
+    SpellEvents_once k.0 a b (subst (λ (l : List (List ℕ)). SpellEvents l a) same.0 h.2) k.2
 
 pub bad_once : (text : List ℕ) (m n : ℕ) (a b : List PlainEvent) → IsBadAt text m a → IsBadAt text n b → (m ≡ n) × (a ≡ b)
 bad_once text m n a b h k =
     let same = one_front h.0 k.0 (ended h.1 ++ h.2) (ended k.1 ++ k.2) a b h.3.0 k.3.0 h.6 k.6
     (inr (h.1, h.2, refl, h.4, h.7)) (inr (k.1, k.2, refl, k.4, k.7)) (sym h.3.1 ∙ k.3.1) in
-    (h.5 ∙ ap (λ (l : List (List ℕ)). length l + 1) same.0 ∙ sym k.5, Say_once k.0 a b (subst (λ (l : List (List ℕ)). Say l a) same.0 h.6) k.6)
+    (h.5 ∙ ap (λ (l : List (List ℕ)). length l + 1) same.0 ∙ sym k.5, SpellEvents_once k.0 a b (subst (λ (l : List (List ℕ)). SpellEvents l a) same.0 h.6) k.6)
 
 pub never_both : (text : List ℕ) (n : ℕ) (a b : List PlainEvent) → IsScript text a → IsBadAt text n b → ⊥
 never_both text n a b h k =

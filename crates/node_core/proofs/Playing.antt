@@ -9,7 +9,7 @@ use Rattle.ndn_tlv.specs.declared.memory.Memory.{Memory}
 use Rattle.info_rules.specs.Rule.{PlainRule}
 use Rattle.forwarder.specs.declared.verdict.Verdict.{Verdict}
 use Rattle.forwarder.specs.Event.{PlainEvent, Packet, FaceUp, FaceDown, Tick, NewRules, Send, rules_after}
-use Rattle.forwarder.specs.Node.{NodeState, IsStep, Unharmed, AsksNoMemory}
+use Rattle.forwarder.specs.Node.{NodeState, IsStep, ChangesCacheOnly, AsksNoMemory}
 use Rattle.forwarder.specs.Policy.{Policy}
 use Rattle.forwarder.specs.Verdict.{Answer, verdict_of}
 use Rattle.std.specs.Prelude.{IsOk}
@@ -17,8 +17,8 @@ use Rattle.std.proofs.lemmas.Result.{IfErr-weaker, on_ok_weaker}
 use Rattle.node_core.specs.Script.Ending.{AppendsFront}
 use Rattle.node_core.specs.Script.Line.{Lacks, IsSkipped, IsEventLine, IsBadLine}
 use Rattle.node_core.specs.Outcomes.{Outcome, Answered, NoMemory, IsEvent, IsOutcome, AreOutcomes}
-use Rattle.node_core.specs.Script.Writing.{said_text, lines_text, outcome_text, outcomes_text}
-use Rattle.node_core.specs.Script.{ended, joined, AreLines, Say}
+use Rattle.node_core.specs.Script.Writing.{result_text, lines_text, outcome_text, outcomes_text}
+use Rattle.node_core.specs.Script.{ended, joined, AreLines, SpellEvents}
 use Rattle.node_core.specs.Script.Play.{Place, IsPending, PlaysEvent, AddStops, LineFails, Plays, TurnsBad, FeedStops, LineStops}
 use Rattle.node_core.specs.declared.script.RunFault.{RunFault}
 use Rattle.node_core.specs.declared.script.RunFault.TheVariants as fault
@@ -31,14 +31,14 @@ use Rattle.node_core.proofs.Known.{Keeps-from_none, Appends-start, Appends-then,
 pub record HasOutcome (old new : NodeState) (event : PlainEvent) (outcome : Result Verdict Memory) (out : List Send) : Type 0 where
   pub done_as : Outcome
   pub handled : IsOutcome old event done_as new
-  pub text_is : (rules : List PlainRule) (n : ℕ) → lines_text n (said_text rules outcome) out ≡ outcome_text rules n done_as
+  pub text_is : (rules : List PlainRule) (n : ℕ) → lines_text n (result_text rules outcome) out ≡ outcome_text rules n done_as
 
 never_ok : (e : Memory) → IsOk {T = Verdict} {E = Memory} (Err e) → ⊥
 never_ok e h = cc
 
 pub outcome_from_step : (old new : NodeState) (event : PlainEvent) (outcome : Result Verdict Memory) (held out : List Send) → held ≡ []
     → IfOk outcome (λ verdict. (sends : List Send) × (out ≡ held ++ sends) × IsStep old event (record { verdict = verdict_of verdict; sends = sends }) new)
-    → OnErr outcome (Unharmed old new × (out ≡ held)) → (AsksNoMemory old event → IsOk outcome) → IsEvent event → HasOutcome old new event outcome out
+    → OnErr outcome (ChangesCacheOnly old new × (out ≡ held)) → (AsksNoMemory old event → IsOk outcome) → IsEvent event → HasOutcome old new event outcome out
 outcome_from_step old new event (Ok verdict) held out none ok err quiet is =
     let same : out ≡ ok.0 = ok.1 ∙ ap (λ (h : List Send). h ++ ok.0) none in
     record { done_as = Answered (record { verdict = verdict_of verdict; sends = ok.0 }); handled = (is, ok.2); text_is = λ rules n. rw same refl }
@@ -78,9 +78,9 @@ same_text old new event NoMemory n h = refl
 
 pub PlaysEvent-from_step : (from to : Place) (event : PlainEvent) (outcome : Result Verdict Memory) (rules : List PlainRule) (held out : List Send) → held ≡ []
     → IfOk outcome (λ verdict. (sends : List Send) × (out ≡ held ++ sends) × IsStep from.node event (record { verdict = verdict_of verdict; sends = sends }) to.node)
-    → OnErr outcome (Unharmed from.node to.node × (out ≡ held)) → (AsksNoMemory from.node event → IsOk outcome) → IsEvent event
+    → OnErr outcome (ChangesCacheOnly from.node to.node × (out ≡ held)) → (AsksNoMemory from.node event → IsOk outcome) → IsEvent event
     → rules ≡ to.node.policy.rules → to.lines ≡ from.lines → to.events ≡ from.events + 1
-    → PlaysEvent event from to (lines_text (from.events + 1) (said_text rules outcome) out)
+    → PlaysEvent event from to (lines_text (from.events + 1) (result_text rules outcome) out)
 PlaysEvent-from_step from to event outcome rules held out none ok err quiet is shown lines events =
     let r = outcome_from_step from.node to.node event outcome held out none ok err quiet is in
     let number = from.events + 1 in
@@ -140,13 +140,13 @@ AreLines-append : (a b : List (List ℕ)) → AreLines a → AreLines b → AreL
 AreLines-append [] b ha hb = hb
 AreLines-append (l ∷ a) b ha hb = (ha.0, AreLines-append a b ha.1 hb)
 
-Say-append : (a b : List (List ℕ)) (es fs : List PlainEvent) → Say a es → Say b fs → Say (a ++ b) (es ++ fs)
-Say-append [] b [] fs ha hb = hb
-Say-append [] b (e ∷ es) fs ha hb = absurd ha
-Say-append (l ∷ a) b [] [] ha hb = (ha.0, Say-append a b [] [] ha.1 hb)
-Say-append (l ∷ a) b [] (f ∷ fs) ha hb = inl (ha.0, Say-append a b [] (f ∷ fs) ha.1 hb)
-Say-append (l ∷ a) b (e ∷ es) fs (inl h) hb = inl (h.0, Say-append a b (e ∷ es) fs h.1 hb)
-Say-append (l ∷ a) b (e ∷ es) fs (inr h) hb = inr (h.0, Say-append a b es fs h.1 hb)
+SpellEvents-append : (a b : List (List ℕ)) (es fs : List PlainEvent) → SpellEvents a es → SpellEvents b fs → SpellEvents (a ++ b) (es ++ fs)
+SpellEvents-append [] b [] fs ha hb = hb
+SpellEvents-append [] b (e ∷ es) fs ha hb = absurd ha
+SpellEvents-append (l ∷ a) b [] [] ha hb = (ha.0, SpellEvents-append a b [] [] ha.1 hb)
+SpellEvents-append (l ∷ a) b [] (f ∷ fs) ha hb = inl (ha.0, SpellEvents-append a b [] (f ∷ fs) ha.1 hb)
+SpellEvents-append (l ∷ a) b (e ∷ es) fs (inl h) hb = inl (h.0, SpellEvents-append a b (e ∷ es) fs h.1 hb)
+SpellEvents-append (l ∷ a) b (e ∷ es) fs (inr h) hb = inr (h.0, SpellEvents-append a b es fs h.1 hb)
 
 pub outcomes_text-append : (old new : NodeState) (es : List PlainEvent) (rs : List Outcome) → AreOutcomes old es rs new → (n : ℕ) (fs : List PlainEvent) (ss : List Outcome)
     → outcomes_text old.policy.rules n (es ++ fs) (rs ++ ss) ≡ outcomes_text old.policy.rules n es rs ++ outcomes_text new.policy.rules (n + length rs) fs ss
@@ -185,7 +185,7 @@ Plays-then a b from mid to x y h k =
       events = h.events ++ k.events;
       outcomes = h.outcomes ++ k.outcomes;
       are_lines = AreLines-append a b h.are_lines k.are_lines;
-      say = Say-append a b h.events k.events h.say k.say;
+      say = SpellEvents-append a b h.events k.events h.say k.say;
       runs = AreOutcomes-append from.node mid.node to.node h.events k.events h.outcomes k.outcomes h.runs k.runs;
       text_is =
           ap (λ (t : List ℕ). t ++ y) h.text_is

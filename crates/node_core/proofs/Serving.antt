@@ -7,30 +7,30 @@ use Rattle.forwarder.specs.Event.{PlainEvent, Send}
 use Rattle.ndn_tlv.specs.declared.memory.Memory.{Memory}
 use Rattle.node_core.specs.declared.ports.TheConstants.{FRAME_ROOM}
 use Rattle.forwarder.specs.declared.verdict.Verdict.{Verdict}
-use Rattle.forwarder.specs.Node.{NodeState, IsStep, Unharmed, AsksNoMemory}
+use Rattle.forwarder.specs.Node.{NodeState, IsStep, ChangesCacheOnly, AsksNoMemory}
 use Rattle.forwarder.specs.Verdict.{Answer, verdict_of}
 use Rattle.node_core.specs.Outcomes.{Outcome, Answered, NoMemory, IsEvent, IsOutcome, AreOutcomes}
 use Rattle.node_core.specs.Ports.{Gives, Takes, count_of, cut_to, one_more}
-use Rattle.node_core.specs.Ports.Serving.{Shown, HasEnded, GivesAll, AreTakenOf, many_more, sends_of, all_sends, refused_count, GoesOn, Handles, EndsNext, Serves}
+use Rattle.node_core.specs.Ports.Serving.{Shown, HasEnded, GivesAll, AreSendsTaken, count_after, sends_of, all_sends, refused_count, ExtendsRuns, Handles, EndsNext, Serves}
 use Rattle.node_core.proofs.Outcomes.{AreOutcomes-append, runs_stand}
 
 -- ---- what was taken
 
-pub AreTakenOf-append : (a b : List Send) (m n : ℕ) (x y : List Send) → AreTakenOf a m x → AreTakenOf b n y → AreTakenOf (a ++ b) (m + n) (x ++ y)
-AreTakenOf-append [] b m n x y h k =
+pub AreSendsTaken-append : (a b : List Send) (m n : ℕ) (x y : List Send) → AreSendsTaken a m x → AreSendsTaken b n y → AreSendsTaken (a ++ b) (m + n) (x ++ y)
+AreSendsTaken-append [] b m n x y h k =
     let e : m + n ≡ n = omega (arith, h.0) in
     let f : x ++ y ≡ y = ap (λ (t : List Send). t ++ y) h.1 in
     rw (e, f) k
-AreTakenOf-append (s ∷ a) b m n x y (inl h) k =
-    inl (h.0 ++ y, ap (λ (t : List Send). t ++ y) h.1, AreTakenOf-append a b m n h.0 y h.2 k)
-AreTakenOf-append (s ∷ a) b m n x y (inr h) k =
-    inr (h.0 + n, omega (arith, h.1), AreTakenOf-append a b h.0 n x y h.2 k)
+AreSendsTaken-append (s ∷ a) b m n x y (inl h) k =
+    inl (h.0 ++ y, ap (λ (t : List Send). t ++ y) h.1, AreSendsTaken-append a b m n h.0 y h.2 k)
+AreSendsTaken-append (s ∷ a) b m n x y (inr h) k =
+    inr (h.0 + n, omega (arith, h.1), AreSendsTaken-append a b h.0 n x y h.2 k)
 
-pub AreTakenOf-one : (sent : Send) → AreTakenOf (sent ∷ []) 0 (sent ∷ [])
-AreTakenOf-one sent = inl ([], refl, (refl, refl))
+pub AreSendsTaken-one : (sent : Send) → AreSendsTaken (sent ∷ []) 0 (sent ∷ [])
+AreSendsTaken-one sent = inl ([], refl, (refl, refl))
 
-pub AreTakenOf-failed : (sent : Send) → AreTakenOf (sent ∷ []) 1 []
-AreTakenOf-failed sent = inr (0, refl, (refl, refl))
+pub AreSendsTaken-failed : (sent : Send) → AreSendsTaken (sent ∷ []) 1 []
+AreSendsTaken-failed sent = inr (0, refl, (refl, refl))
 
 pub Takes-same : (old new : Option (List Send)) → new ≡ old → Takes old new []
 Takes-same None new e = e
@@ -44,12 +44,12 @@ Takes-then (Some xs) b c x y h k =
 
 -- ---- failures
 
-pub many_more-add : (n a b : ℕ) → many_more (many_more n a) b ≡ many_more n (a + b)
-many_more-add n a zero = let e : a + 0 ≡ a = omega arith in rw e refl
-many_more-add n a (suc b) = let e : a + suc b ≡ suc (a + b) = omega arith in rw e (ap one_more (many_more-add n a b))
+pub count_after-add : (n a b : ℕ) → count_after (count_after n a) b ≡ count_after n (a + b)
+count_after-add n a zero = let e : a + 0 ≡ a = omega arith in rw e refl
+count_after-add n a (suc b) = let e : a + suc b ≡ suc (a + b) = omega arith in rw e (ap one_more (count_after-add n a b))
 
-pub many_more-one : (n a : ℕ) → one_more (many_more n a) ≡ many_more n (a + 1)
-many_more-one n a = rw (add-one a) refl
+pub count_after-one : (n a : ℕ) → one_more (count_after n a) ≡ count_after n (a + 1)
+count_after-one n a = rw (add-one a) refl
 
 -- ---- what came
 
@@ -100,7 +100,7 @@ refused_count-append [] b = sym (zero-add _)
 refused_count-append (Answered answer ∷ a) b = refused_count-append a b
 refused_count-append (NoMemory ∷ a) b = let e = refused_count-append a b in omega (arith, e)
 
-pub goes_on_from : (old new : NodeState) (events : List PlainEvent) (outcomes : List Outcome) → AreOutcomes old events outcomes new → GoesOn old events outcomes new
+pub goes_on_from : (old new : NodeState) (events : List PlainEvent) (outcomes : List Outcome) → AreOutcomes old events outcomes new → ExtendsRuns old events outcomes new
 goes_on_from old new events outcomes h = λ first past begins run stands. runs_stand first past old new events outcomes begins h run stands
 
 -- ---- turns
@@ -141,9 +141,9 @@ Serves-more old mid new before between after events refused failed more done_as 
         handled = handled;
         goes_on = goes_on_from old new arrivals outcomes handled;
         taken = h.taken ++ k.taken;
-        are_taken = rw sends (AreTakenOf-append (all_sends h.outcomes) (sends_of done_as) failed more h.taken k.taken h.are_taken k.are_taken);
+        are_taken = rw sends (AreSendsTaken-append (all_sends h.outcomes) (sends_of done_as) failed more h.taken k.taken h.are_taken k.are_taken);
         takes = Takes-then before.taken between.taken after.taken h.taken k.taken h.takes k.takes;
-        failures = k.failures ∙ ap (λ (n : ℕ). many_more n more) h.failures ∙ many_more-add before.failures failed more;
+        failures = k.failures ∙ ap (λ (n : ℕ). count_after n more) h.failures ∙ count_after-add before.failures failed more;
         events_is = let e = h.events_is in omega (arith, e, length-append h.arrivals (k.event ∷ []));
         refused_is = ap (λ (n : ℕ). n + refused_count (done_as ∷ [])) h.refused_is ∙ sym (refused_count-append h.outcomes (done_as ∷ []));
       },
@@ -190,11 +190,11 @@ take-next (y ∷ ys) (suc i) x h = ap (λ (t : List Send). y ∷ t) (take-next y
 
 -- the sends so far, and one more
 pub sent_next : (xs : List Send) (i failed more : ℕ) (x : Send) (y : List Send) (a b c : Option (List Send)) → slice_get xs i ≡ Some x
-    → ((taken : List Send) × AreTakenOf (take i xs) failed taken × Takes a b taken) → AreTakenOf (x ∷ []) more y → Takes b c y
-    → (taken : List Send) × AreTakenOf (take (i + 1) xs) (failed + more) taken × Takes a c taken
+    → ((taken : List Send) × AreSendsTaken (take i xs) failed taken × Takes a b taken) → AreSendsTaken (x ∷ []) more y → Takes b c y
+    → (taken : List Send) × AreSendsTaken (take (i + 1) xs) (failed + more) taken × Takes a c taken
 sent_next xs i failed more x y a b c is h one takes =
     let e : take (i + 1) xs ≡ take i xs ++ (x ∷ []) = rw (add-one i) (take-next xs i x is) in
-    (h.0 ++ y, rw e (AreTakenOf-append (take i xs) (x ∷ []) failed more h.0 y h.1 one), Takes-then a b c h.0 y h.2 takes)
+    (h.0 ++ y, rw e (AreSendsTaken-append (take i xs) (x ∷ []) failed more h.0 y h.1 one), Takes-then a b c h.0 y h.2 takes)
 
 pub when_err : {T E : Type 0} (P : Type 0) (r : Result T E) → is_err r ≡ true → OnErr r P → P
 when_err P (Ok t) e h = absurd cc
@@ -219,7 +219,7 @@ came_in_room before after size given event room is h =
     subst P room (subst Q (sym is) h)
 
 pub Handles-refused : (old new : NodeState) (before after : Shown) (size : ℕ) (given : Option PlainEvent) (event : PlainEvent) (e : Memory) → IsEvent event → size ≡ FRAME_ROOM → Some event ≡ given
-    → Gives before.coming after.coming size given → Unharmed old new → (AsksNoMemory old event → IsOk {T = Verdict} {E = Memory} (Err e))
+    → Gives before.coming after.coming size given → ChangesCacheOnly old new → (AsksNoMemory old event → IsOk {T = Verdict} {E = Memory} (Err e))
     → after.taken ≡ before.taken → after.failures ≡ before.failures → Handles old new before after NoMemory 0
 Handles-refused old new before after size given event e known room is gives unharmed quiet taken failures =
     let handled : IsOutcome old event NoMemory new = (known, unharmed, λ h. let ok = quiet h in cc) in
@@ -237,7 +237,7 @@ Handles-refused old new before after size given event e known room is gives unha
 pub Handles-answered : (old new : NodeState) (before mid after : Shown) (size : ℕ) (given : Option PlainEvent) (event : PlainEvent) (verdict : Verdict) (held out : List Send) (failed : ℕ) → IsEvent event → size ≡ FRAME_ROOM
     → Some event ≡ given → Gives before.coming mid.coming size given → mid.taken ≡ before.taken → mid.failures ≡ before.failures → held ≡ []
     → ((sends : List Send) × (out ≡ held ++ sends) × IsStep old event (record { verdict = verdict_of verdict; sends = sends }) new)
-    → ((taken : List Send) × AreTakenOf out failed taken × Takes mid.taken after.taken taken) → after.coming ≡ mid.coming → after.failures ≡ many_more mid.failures failed
+    → ((taken : List Send) × AreSendsTaken out failed taken × Takes mid.taken after.taken taken) → after.coming ≡ mid.coming → after.failures ≡ count_after mid.failures failed
     → Handles old new before after (Answered (record { verdict = verdict_of verdict; sends = out })) failed
 Handles-answered old new before mid after size given event verdict held out failed known room is gives taken failures none step sent coming counted =
     let all : out ≡ step.0 = step.1 ∙ ap (λ (h : List Send). h ++ step.0) none in
@@ -253,5 +253,5 @@ Handles-answered old new before mid after size given event verdict held out fail
       taken = sent.0;
       are_taken = sent.1;
       takes = subst Q taken sent.2;
-      failures = counted ∙ ap (λ (n : ℕ). many_more n failed) failures;
+      failures = counted ∙ ap (λ (n : ℕ). count_after n failed) failures;
     }

@@ -3,7 +3,7 @@
 use Rattle.std.specs.Prelude.{◌≡◌, ℕ, ◌+◌, ◌-◌, ◌<◌, ◌≤◌, ◌⊎◌, ◌==◌, List, [], ◌∷◌, ◌++◌, All, find, length, option_map, position, remove, slice_get, unwrap_or, Option, None, Some, if◌then◌else◌}
 use Rattle.std.specs.Option.{option_or}
 use Rattle.std.specs.declared.net.socket_addr.SocketAddr.{SocketAddr}
-use Rattle.pit_fib.specs.declared.faces.TheConstants.{MAX_FACES}
+use Rattle.pit_fib.specs.declared.face_set.TheConstants.{MAX_FACES}
 use Rattle.node_core.specs.declared.ports.clients.Client.{Client}
 use Rattle.node_core.specs.declared.ports.known_endpoints.KnownEndpoints.{KnownEndpoints}
 use Rattle.node_core.specs.declared.ports.known_endpoints.Met.{Met}

@@ -7,11 +7,11 @@ pub mod Udp
 pub mod Script
 pub mod Outcomes
 pub use Rattle.forwarder.specs.Event
-pub use Rattle.forwarder.specs.Faces
+pub use Rattle.forwarder.specs.OpenFaces
 pub use Rattle.forwarder.specs.Parts
 pub use Rattle.forwarder.specs.Policy
 pub use Rattle.forwarder.specs.Verdict
-pub use Rattle.forwarder.specs.Said
+pub use Rattle.forwarder.specs.Deciding
 pub use Rattle.forwarder.specs.Request
 pub use Rattle.forwarder.specs.NextHops
 pub use Rattle.forwarder.specs.Commands
@@ -21,7 +21,7 @@ pub use Rattle.forwarder.specs.Effects
 pub use Rattle.forwarder.specs.Causes
 pub use Rattle.forwarder.specs.Node
 pub use Rattle.forwarder.specs.Runs
-pub use Rattle.forwarder.specs.Sends
+pub use Rattle.forwarder.specs.DataSends
 pub use Rattle.forwarder.specs.Allowed
 pub use Rattle.forwarder.specs.Hops
 pub use Rattle.forwarder.specs.Kept

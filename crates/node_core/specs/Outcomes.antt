@@ -1,9 +1,9 @@
 -- What becomes of events that come one after another.
 use Rattle.std.specs.Prelude.{◌≡◌, List, [], ◌∷◌}
 use Rattle.forwarder.specs.Event.{PlainEvent}
-use Rattle.forwarder.specs.Node.{NodeState, IsStep, Unharmed, AsksNoMemory}
+use Rattle.forwarder.specs.Node.{NodeState, IsStep, ChangesCacheOnly, AsksNoMemory}
 use Rattle.forwarder.specs.Runs.{Run, Then, BringsKeysApart}
-use Rattle.forwarder.specs.Sends.{BringsOctets}
+use Rattle.forwarder.specs.DataSends.{BringsOctets}
 use Rattle.forwarder.specs.Verdict.{Answer}
 
 -- how an event was handled: answered, or refused for want of memory
@@ -20,7 +20,7 @@ IsEvent event = BringsOctets event × BringsKeysApart event
 abbrev pub IsOutcome : NodeState → PlainEvent → Outcome → NodeState → Type 0
 IsOutcome old event (Answered answer) new = IsEvent event × IsStep old event answer new
 IsOutcome old event NoMemory new =
-    IsEvent event × Unharmed old new × (AsksNoMemory old event → ⊥)
+    IsEvent event × ChangesCacheOnly old new × (AsksNoMemory old event → ⊥)
 
 -- the events are replied to in order
 abbrev pub AreOutcomes : NodeState → List PlainEvent → List Outcome → NodeState → Type 0

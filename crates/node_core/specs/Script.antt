@@ -24,12 +24,12 @@ abbrev pub AreLines : List (List ℕ) → Type 0
 AreLines lines = AllByRecursion (Lacks 10) lines
 
 -- the lines are these events in order, and skipped lines
-abbrev pub Say : List (List ℕ) → List PlainEvent → Type 0
-Say [] [] = Unit {0}
-Say [] (event ∷ events) = ⊥
-Say (line ∷ lines) [] = IsSkipped line × Say lines []
-Say (line ∷ lines) (event ∷ events) =
-    (IsSkipped line × Say lines (event ∷ events)) ⊎ (IsEventLine event line × Say lines events)
+abbrev pub SpellEvents : List (List ℕ) → List PlainEvent → Type 0
+SpellEvents [] [] = Unit {0}
+SpellEvents [] (event ∷ events) = ⊥
+SpellEvents (line ∷ lines) [] = IsSkipped line × SpellEvents lines []
+SpellEvents (line ∷ lines) (event ∷ events) =
+    (IsSkipped line × SpellEvents lines (event ∷ events)) ⊎ (IsEventLine event line × SpellEvents lines events)
 
 -- A text begins with these lines. Its last line ends with the text: an LF is put there, which
 -- makes no difference where one stands already, since an empty line is skipped.
@@ -38,25 +38,25 @@ BeginsWithLines text lines rest = AreLines lines × (ended text ≡ joined lines
 
 -- the text is these events
 abbrev pub IsScript : List ℕ → List PlainEvent → Type 0
-IsScript text events = (lines : List (List ℕ)) × BeginsWithLines text lines [] × Say lines events
+IsScript text events = (lines : List (List ℕ)) × BeginsWithLines text lines [] × SpellEvents lines events
 
 -- the first lines of the text are these events
 abbrev pub BeginsWithEvents : List ℕ → List PlainEvent → Type 0
 BeginsWithEvents text events =
-    (lines : List (List ℕ)) × (rest : List ℕ) × BeginsWithLines text lines rest × Say lines events
+    (lines : List (List ℕ)) × (rest : List ℕ) × BeginsWithLines text lines rest × SpellEvents lines events
 
 -- the whole lines of the text are these events, and after them comes less than a line
 abbrev pub IsScriptSoFar : List ℕ → List PlainEvent → Type 0
 IsScriptSoFar text events =
     (lines : List (List ℕ)) × (rest : List ℕ)
-    × AreLines lines × Lacks 10 rest × (text ≡ joined lines ++ rest) × Say lines events
+    × AreLines lines × Lacks 10 rest × (text ≡ joined lines ++ rest) × SpellEvents lines events
 
 -- line n, counted from 1, is the first bad one, and the lines before it are these events
 abbrev pub IsBadAt : List ℕ → ℕ → List PlainEvent → Type 0
 IsBadAt text n events =
     (lines : List (List ℕ)) × (line rest : List ℕ)
     × BeginsWithLines text lines (ended line ++ rest) × Lacks 10 line × (n ≡ length lines + 1)
-    × Say lines events × IsBadLine line
+    × SpellEvents lines events × IsBadLine line
 
 -- the text that the events write, from this node's first event on
 pub record IsTextOfRun (first : NodeState) (events : List PlainEvent) (text : List ℕ) : Type 0 where

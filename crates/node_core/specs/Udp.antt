@@ -175,8 +175,8 @@ FailsReceiving before after =
     × (after ≡ record mid { failures = one_more mid.failures }))
 
 -- the datagram that waited while a face closed
-abbrev pub GoesOn : UdpState → UdpState → List ℕ → Arrival → Type 0
-GoesOn before after buffer arrival =
+abbrev pub BringsAfterClosing : UdpState → UdpState → List ℕ → Arrival → Type 0
+BringsAfterClosing before after buffer arrival =
     (endpoint : SocketAddr) × (octets : List ℕ) × HasOpened before
     × (before.waiting ≡ Some (record { endpoint = endpoint; face = None; octets = octets }))
     × Brings before after endpoint octets buffer arrival
@@ -186,4 +186,4 @@ abbrev pub UdpGives : UdpState → UdpState → List ℕ → Arrival → Type 0
 UdpGives before after buffer arrival =
     OpensPeer before after arrival
     ⊎ (GivesWaiting before after buffer arrival
-    ⊎ (GoesOn before after buffer arrival ⊎ GivesReceived before after buffer arrival))
+    ⊎ (BringsAfterClosing before after buffer arrival ⊎ GivesReceived before after buffer arrival))

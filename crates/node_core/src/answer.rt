@@ -6,7 +6,7 @@ ghost use Rattle.hex.specs.Hex.{encode_lower, lower_digits};
 ghost use Rattle.ndn_tlv.specs.Writing.{Puts};
 ghost use Rattle.info_rules.specs.Names.{reason_name};
 ghost use Rattle.forwarder.specs.Commands.{id_of};
-ghost use Rattle.node_core.specs.Script.Writing.{drop_name, hex_word, kind_name as kind_name_of, lines_text, said_line, said_text, send_text, verdict_text};
+ghost use Rattle.node_core.specs.Script.Writing.{drop_name, hex_word, kind_name as kind_name_of, lines_text, numbered_line, result_text, send_text, verdict_text};
 ghost use Rattle.forwarder.specs.Verdict.{reason_of, verdict_of};
 
 use forwarder::{DropReason, Outbox, Verdict, id_of};
@@ -24,11 +24,11 @@ pub fn put_answer(
     outbox: &Outbox,
 ) -> Result<(), Memory>
     ensures ok { OnOk result (text.new.items ≡ text.old.items
-        ++ lines_text number (said_text rules.now outcome.now) outbox.now) }
+        ++ lines_text number (result_text rules.now outcome.now) outbox.now) }
     ensures err { OnErr result (text.new.items ≡ text.old.items) }
     // Where there is room, memory is not refused.
     ensures room { vec_len text.old
-        + length (lines_text number (said_text rules.now outcome.now) outbox.now)
+        + length (lines_text number (result_text rules.now outcome.now) outbox.now)
         ≤ vec_capacity text.old → IsOk result }
     ensures capacity { vec_capacity text.old ≤ vec_capacity text.new }
 {
@@ -50,11 +50,11 @@ pub fn put_verdict(
     rules: &Rules,
 ) -> Result<(), Memory>
     ensures ok { OnOk result (text.new.items ≡ text.old.items
-        ++ said_line number (verdict_text rules.now (verdict_of verdict.now))) }
+        ++ numbered_line number (verdict_text rules.now (verdict_of verdict.now))) }
     ensures err { OnErr result (text.new.items ≡ text.old.items) }
     // Where there is room, memory is not refused.
     ensures room { vec_len text.old
-        + length (said_line number (verdict_text rules.now (verdict_of verdict.now)))
+        + length (numbered_line number (verdict_text rules.now (verdict_of verdict.now)))
         ≤ vec_capacity text.old → IsOk result }
     ensures capacity { vec_capacity text.old ≤ vec_capacity text.new }
 {
@@ -70,10 +70,10 @@ pub fn put_verdict(
 /// is refused, nothing is appended.
 pub fn put_refused(text: &mut Vec<u8>, number: u64) -> Result<(), Memory>
     ensures ok { OnOk result
-        (text.new.items ≡ text.old.items ++ said_line number (codes "memory")) }
+        (text.new.items ≡ text.old.items ++ numbered_line number (codes "memory")) }
     ensures err { OnErr result (text.new.items ≡ text.old.items) }
     // Where there is room, memory is not refused.
-    ensures room { vec_len text.old + length (said_line number (codes "memory"))
+    ensures room { vec_len text.old + length (numbered_line number (codes "memory"))
         ≤ vec_capacity text.old → IsOk result }
     ensures capacity { vec_capacity text.old ≤ vec_capacity text.new }
 {
@@ -112,7 +112,7 @@ fn put_parts(
     outbox: &Outbox,
 ) -> Result<(), Memory>
     ensures { Puts text.old text.new result
-        (lines_text number (said_text rules.now outcome.now) outbox.now) }
+        (lines_text number (result_text rules.now outcome.now) outbox.now) }
 {
     put_outcome(text, number, rules, outcome)?;
     put_send_lines(text, outbox)
@@ -126,7 +126,7 @@ fn put_outcome(
     outcome: &Result<Verdict, Memory>,
 ) -> Result<(), Memory>
     ensures { Puts text.old text.new result
-        (said_line number (said_text rules.now outcome.now)) }
+        (numbered_line number (result_text rules.now outcome.now)) }
 {
     match outcome {
         Ok(verdict) => put_line(text, number, *verdict, rules),
@@ -137,17 +137,17 @@ fn put_outcome(
 /// Appends the line of an event that was answered, or some octets of it.
 fn put_line(text: &mut Vec<u8>, number: u64, verdict: Verdict, rules: &Rules) -> Result<(), Memory>
     ensures { Puts text.old text.new result
-        (said_line number (verdict_text rules.now (verdict_of verdict))) }
+        (numbered_line number (verdict_text rules.now (verdict_of verdict))) }
 {
     put_number(text, number)?;
     put_word(text, b" ")?;
-    put_said(text, rules, verdict)?;
+    put_verdict_text(text, rules, verdict)?;
     put_word(text, b"\n")
 }
 
 /// Appends the line of an event that had no memory, or some octets of it.
 fn put_refused_line(text: &mut Vec<u8>, number: u64) -> Result<(), Memory>
-    ensures { Puts text.old text.new result (said_line number (codes "memory")) }
+    ensures { Puts text.old text.new result (numbered_line number (codes "memory")) }
 {
     put_number(text, number)?;
     put_word(text, b" memory\n")
@@ -230,7 +230,7 @@ fn put_number(text: &mut Vec<u8>, number: u64) -> Result<(), Memory>
 }
 
 /// Appends what is said of an event, or some octets of it.
-fn put_said(text: &mut Vec<u8>, rules: &Rules, verdict: Verdict) -> Result<(), Memory>
+fn put_verdict_text(text: &mut Vec<u8>, rules: &Rules, verdict: Verdict) -> Result<(), Memory>
     ensures { Puts text.old text.new result (verdict_text rules.now (verdict_of verdict)) }
 {
     match verdict {

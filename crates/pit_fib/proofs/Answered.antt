@@ -16,7 +16,7 @@ use Rattle.ndn_packets.specs.Answers.{answers, begins_with, full_name}
 use Rattle.name_trie.specs.Taken.{changed_along, taken, taken_along}
 use Rattle.name_trie.proofs.Revised.{equal}
 use Rattle.pit_fib.specs.declared.flags.Flags.{Flags}
-use Rattle.pit_fib.specs.Faces.{AtMost64, IsRising, adding, has_face}
+use Rattle.pit_fib.specs.FaceSet.{AtMost64, IsRising, adding, has_face}
 use Rattle.pit_fib.specs.Flags.{flags}
 use Rattle.pit_fib.specs.Kept.{Kept, Row, changed_row, is_answered, kept_in, unanswered, with_answered, with_faces_of, with_asking}
 use Rattle.pit_fib.specs.Records.{InRecord}

@@ -13,7 +13,7 @@ use Rattle.ndn_packets.specs.Answers.{full_name}
 use Rattle.ndn_packets.specs.Key.{PlainKey}
 use Rattle.name_trie.specs.Taken.{taken as take_if, taken_along}
 use Rattle.name_trie.proofs.Revised.{equal}
-use Rattle.pit_fib.specs.Faces.{AtMost64, IsRising, has_face}
+use Rattle.pit_fib.specs.FaceSet.{AtMost64, IsRising, has_face}
 use Rattle.pit_fib.specs.Flags.{flags_of, key_at}
 use Rattle.pit_fib.specs.Kept.{Kept, Rows, kept_at, kept_in, pending_of, with_answered}
 use Rattle.pit_fib.specs.Pit.{HasRecord, WaitsFor}

@@ -4,7 +4,7 @@ use Rattle.std.specs.Prelude.{IsTrue, ◌||◌, nat_le}
 use Rattle.std.specs.List.{AllByRecursion, list_any}
 use Rattle.std.proofs.lemmas.Bool.{eqb-true}
 use Rattle.std.proofs.lemmas.Bool.Decides.{nat_tests}
-use Rattle.pit_fib.specs.Faces.{AtMost64, IsRising, has_face, with_face, adding}
+use Rattle.pit_fib.specs.FaceSet.{AtMost64, IsRising, has_face, with_face, adding}
 use Rattle.pit_fib.proofs.RisingFaces.{with_rises}
 use Rattle.pit_fib.proofs.PendingFaces.{at_most, room_in_list}
 

@@ -15,7 +15,7 @@ use Rattle.pit_fib.specs.declared.inheriting.Inheriting.{Inheriting}
 use Rattle.pit_fib.specs.declared.listing.AsHops.{AsHops}
 use Rattle.pit_fib.specs.declared.listing.AtName.{AtName}
 use Rattle.pit_fib.specs.Effective.{effective, entry_listed, listed}
-use Rattle.pit_fib.specs.Faces.{AtMost64}
+use Rattle.pit_fib.specs.FaceSet.{AtMost64}
 use Rattle.pit_fib.specs.Fib.{Entry, LeadsTo, Routes, entry_left_at, left_at}
 use Rattle.pit_fib.specs.Hops.{hops_of}
 use Rattle.pit_fib.specs.Inheriting.{past_entry}

@@ -23,7 +23,7 @@ use Rattle.pit_fib.specs.declared.inheriting.Inheriting.{Inheriting}
 use Rattle.pit_fib.specs.declared.route.Route.{Route}
 use Rattle.pit_fib.specs.declared.route.RouteKey.{RouteKey}
 use Rattle.pit_fib.specs.Effective.{effective, effective_of, handed_down, has_capture, least_costs, lesser, longest_costs, passed_on, prefer, with_lesser}
-use Rattle.pit_fib.specs.Faces.{AtMost64}
+use Rattle.pit_fib.specs.FaceSet.{AtMost64}
 use Rattle.pit_fib.specs.Fib.{Entry, LeadsTo, Routes, entry_at, entry_left_at, is_vacant, left_at, no_entry}
 use Rattle.pit_fib.specs.Inheriting.{counts_at, counts_for, has_capture_at, has_route_at, laid_over, least_within, past_entry}
 use Rattle.pit_fib.specs.Route.{Registered, is_capture, is_child_inherit, is_due, route_cmp, route_cmp-total, until_due}

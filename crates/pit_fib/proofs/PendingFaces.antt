@@ -13,7 +13,7 @@ use Rattle.std.proofs.lemmas.Bool.{eqb-true}
 use Rattle.std.proofs.lemmas.Bool.Decides.{nat_tests}
 use Rattle.ndn_packets.specs.Answers.{answers}
 use Rattle.ndn_packets.specs.Key.{PlainKey}
-use Rattle.pit_fib.specs.Faces.{AtMost64, IsRising, has_face, with_face}
+use Rattle.pit_fib.specs.FaceSet.{AtMost64, IsRising, has_face, with_face}
 use Rattle.pit_fib.specs.Records.{InRecord, OutRecord, Records, Pending, no_records, is_alive, records_at}
 use Rattle.pit_fib.specs.Cause.{Cause, Expires, Arrives, SentTo, Satisfied, NackCame, Withdrawn, Removed, Closed, changed, same_key, until_after, nacked_with, records_after, Follows}
 use Rattle.pit_fib.specs.Past.{in_record_after, out_record_after}

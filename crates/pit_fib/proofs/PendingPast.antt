@@ -13,7 +13,7 @@ use Rattle.ndn_packets.specs.Key.{PlainKey}
 use Rattle.name_trie.specs.ByName.{revise}
 use Rattle.pit_fib.specs.Records.{InRecord, OutRecord, InRecords, OutRecords, Records, no_records, is_alive}
 use Rattle.pit_fib.specs.Cause.{Cause, Expires, Arrives, SentTo, Satisfied, NackCame, Withdrawn, Removed, Closed, changed, settled, same_key, until_after, sent_at, nacked_with, with_reason, records_after}
-use Rattle.pit_fib.specs.Past.{records_of, in_record_of, in_record_after, out_record_of, out_record_after}
+use Rattle.pit_fib.specs.Past.{records_after_all, in_record_of, in_record_after, out_record_of, out_record_after}
 use Rattle.name_trie.proofs.Revised.{get-revise}
 use Rattle.pit_fib.proofs.PendingTables.{dead_none, dead_after_expiry}
 
@@ -59,10 +59,10 @@ get-changed (Closed face) k f r = get-remove nat_cmp_total r.in_records face f �
 
 -- ---- a run
 
-pub asks_of_run : (run : List Cause) (k : PlainKey) (f : ℕ) → get (records_of run k).in_records f ≡ in_record_of run k f
+pub asks_of_run : (run : List Cause) (k : PlainKey) (f : ℕ) → get (records_after_all run k).in_records f ≡ in_record_of run k f
 asks_of_run [] k f = get-empty nat_cmp f
 asks_of_run (cause ∷ before) k f =
-    get-settled (changed cause k (records_of before k)) f ∙ get-changed cause k f (records_of before k) ∙ ap (in_record_after cause k f) (asks_of_run before k f)
+    get-settled (changed cause k (records_after_all before k)) f ∙ get-changed cause k f (records_after_all before k) ∙ ap (in_record_after cause k f) (asks_of_run before k f)
 
 -- some face asks where the map of those who ask has one
 has_some : (m : InRecords) → ltb 0 (len m) ≡ true → (face : ℕ) × IsSome (get m face)
@@ -86,10 +86,10 @@ some_has m face some =
       | false ↦ λ t. absurd (differ (is_some (get m face)) some (ap (λ (m : InRecords). is_some (get m face)) (dead_is_empty m t) ∙ ap is_some (get-empty nat_cmp face)))
     ] refl
 
-pub alive_of_run : (run : List Cause) (k : PlainKey) → IsTrue (is_alive (records_of run k)) ↔ ((face : ℕ) × IsSome (in_record_of run k face))
+pub alive_of_run : (run : List Cause) (k : PlainKey) → IsTrue (is_alive (records_after_all run k)) ↔ ((face : ℕ) × IsSome (in_record_of run k face))
 alive_of_run run k = (
-  λ alive. let some = has_some (records_of run k).in_records alive in (some.0, subst (λ (o : Option InRecord). IsSome o) (asks_of_run run k some.0) some.1),
-  λ (face, some). some_has (records_of run k).in_records face (subst (λ (o : Option InRecord). IsSome o) (sym (asks_of_run run k face)) some),
+  λ alive. let some = has_some (records_after_all run k).in_records alive in (some.0, subst (λ (o : Option InRecord). IsSome o) (asks_of_run run k some.0) some.1),
+  λ (face, some). some_has (records_after_all run k).in_records face (subst (λ (o : Option InRecord). IsSome o) (sym (asks_of_run run k face)) some),
 )
 
 -- ---- the faces asked
@@ -140,15 +140,15 @@ alive-settled : (r : Records) → is_alive (settled r) ≡ is_alive r
 alive-settled r =
     elim (is_alive r) as (λ b. is_alive r ≡ b → is_alive (cond b r no_records) ≡ b) [ true ↦ λ a. a | false ↦ λ a. dead_none ] refl
 
-pub asked_of_run : (run : List Cause) (k : PlainKey) (g : ℕ) → get (records_of run k).out_records g ≡ out_record_of run k g
+pub asked_of_run : (run : List Cause) (k : PlainKey) (g : ℕ) → get (records_after_all run k).out_records g ≡ out_record_of run k g
 asked_of_run [] k g = get-empty nat_cmp g
 asked_of_run (cause ∷ before) k g =
-    elim (is_alive (changed cause k (records_of before k))) as (λ b. is_alive (changed cause k (records_of before k)) ≡ b
-    → get (cond b (changed cause k (records_of before k)) no_records).out_records g ≡ cond b (out_record_after cause k g (out_record_of before k g)) None) [
-      | true ↦ λ a. get-changed_asked cause k g (records_of before k) ∙ ap (out_record_after cause k g) (asked_of_run before k g)
+    elim (is_alive (changed cause k (records_after_all before k))) as (λ b. is_alive (changed cause k (records_after_all before k)) ≡ b
+    → get (cond b (changed cause k (records_after_all before k)) no_records).out_records g ≡ cond b (out_record_after cause k g (out_record_of before k g)) None) [
+      | true ↦ λ a. get-changed_asked cause k g (records_after_all before k) ∙ ap (out_record_after cause k g) (asked_of_run before k g)
       | false ↦ λ a. get-empty nat_cmp g
     ] refl
-    ∙ ap (λ b. cond b (out_record_after cause k g (out_record_of before k g)) None) (sym (alive-settled (changed cause k (records_of before k))))
+    ∙ ap (λ b. cond b (out_record_after cause k g (out_record_of before k g)) None) (sym (alive-settled (changed cause k (records_after_all before k))))
 
 -- ---- what is due at a moment was due at an earlier one, or is due now
 

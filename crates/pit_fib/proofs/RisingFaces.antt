@@ -5,7 +5,7 @@ use Rattle.std.specs.List.{AllByRecursion}
 use Rattle.std.proofs.lemmas.Bool.{lt-ltb, le-ltb, ltb-true, ltb-false, ne_eqb, eq-eqb, eqb-false}
 use Rattle.std.proofs.lemmas.List.{take-append-drop, take_all, take_more, append-nil}
 use Rattle.std.proofs.Math.Seq.{drop-cons}
-use Rattle.pit_fib.specs.Faces.{IsRising, has_face, with_face}
+use Rattle.pit_fib.specs.FaceSet.{IsRising, has_face, with_face}
 
 abbrev pub AllBelow : ℕ → List ℕ → Type 0
 AllBelow f faces = AllByRecursion (λ g. g < f) faces

@@ -3,7 +3,7 @@ use Rattle.std.specs.Prelude.{ℕ, Bool, true, false, refl, nat_lt, nat_le, if�
 use Rattle.std.specs.Coded.{Coded, code_by, coded×, coded_bool, coded_ℕ}
 use Rattle.std.specs.Ordering.{nat_cmp}
 use Rattle.std.specs.FinMap as map
-use Rattle.pit_fib.specs.declared.faces.TheConstants.{MAX_FACES}
+use Rattle.pit_fib.specs.declared.face_set.TheConstants.{MAX_FACES}
 use Rattle.pit_fib.specs.declared.room.TheConstants.{FEW}
 
 pub record Faced (X : Type 0) : Type 0 where

@@ -11,7 +11,7 @@ use Rattle.pit_fib.specs.declared.fault.TableFault.TheVariants.{TooDeep, TableFu
 use Rattle.pit_fib.specs.declared.fib.TheConstants.{MAX_DEPTH, MAX_ENTRIES, MAX_ROUTES}
 use Rattle.pit_fib.specs.declared.route.Route.{Route}
 use Rattle.pit_fib.specs.declared.route.RouteKey.{RouteKey}
-use Rattle.pit_fib.specs.Faces.{AtMost64}
+use Rattle.pit_fib.specs.FaceSet.{AtMost64}
 use Rattle.pit_fib.specs.Route.{Registered, registered_code, until_due}
 use Rattle.pit_fib.specs.Tables.{ByFace}
 

@@ -3,7 +3,7 @@ use Rattle.std.specs.Prelude.{◌≡◌, ◌↔◌, ℕ, List, [], ◌∷◌, Bo
 use Rattle.std.specs.List.{AllByRecursion, Contains}
 use Rattle.std.specs.FinMap.{entries, get}
 use Rattle.pit_fib.specs.declared.hops.Hop.{Hop}
-use Rattle.pit_fib.specs.Faces.{has_face}
+use Rattle.pit_fib.specs.FaceSet.{has_face}
 use Rattle.pit_fib.specs.Tables.{ByFace}
 
 -- by cost, then by face

@@ -7,11 +7,11 @@ use Rattle.ndn_packets.specs.Key.{PlainKey, key_cmp}
 use Rattle.name_trie.specs.ByName.{ByName, revise, with_entry}
 use Rattle.name_trie.specs.Flat.{flatten}
 use Rattle.name_trie.specs.Least.{nonempty, least}
-use Rattle.pit_fib.specs.declared.faces.TheConstants.{MAX_FACES}
+use Rattle.pit_fib.specs.declared.face_set.TheConstants.{MAX_FACES}
 use Rattle.pit_fib.specs.declared.flags.Flags.{Flags}
 use Rattle.pit_fib.specs.Flags.{flags, flags_cmp, same_flags, flags_of, key_at}
 use Rattle.pit_fib.specs.Faced.{Faced, set_in, none_in, has_place}
-use Rattle.pit_fib.specs.Faces.{adding}
+use Rattle.pit_fib.specs.FaceSet.{adding}
 use Rattle.pit_fib.specs.declared.nacked.Nacked.{Nacked}
 use Rattle.pit_fib.specs.declared.nacked.Nacked.TheVariants.{NoPending}
 use Rattle.pit_fib.specs.Pit.{all_nacked, least_reason, was_sent}

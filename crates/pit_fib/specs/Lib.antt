@@ -1,4 +1,4 @@
-pub mod Faces
+pub mod FaceSet
 pub mod Tables
 pub mod Hops
 pub mod Refusal

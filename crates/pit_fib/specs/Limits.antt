@@ -7,7 +7,7 @@ use Rattle.name_trie.specs.NameTable.{NameTable}
 use Rattle.pit_fib.specs.declared.fib.TheConstants.{MAX_DEPTH, MAX_ENTRIES, MAX_ROUTES}
 use Rattle.pit_fib.specs.declared.route.Route.{Route}
 use Rattle.pit_fib.specs.declared.route.RouteKey.{RouteKey}
-use Rattle.pit_fib.specs.Faces.{AtMost64}
+use Rattle.pit_fib.specs.FaceSet.{AtMost64}
 use Rattle.pit_fib.specs.Fib.{Entry, LeadsTo, Routes, is_vacant, registered_at, route_count}
 
 -- each name has at most 32 components

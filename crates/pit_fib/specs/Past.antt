@@ -8,9 +8,9 @@ use Rattle.pit_fib.specs.Records.{InRecord, OutRecord, Records, no_records, is_a
 use Rattle.pit_fib.specs.Cause.{Cause, Expires, Arrives, SentTo, Satisfied, NackCame, Withdrawn, Removed, Closed, same_key, until_after, sent_at, nacked_with, records_after}
 
 -- the records after these causes, the last cause first
-abbrev pub records_of : List Cause → PlainKey → Records
-records_of [] k = no_records
-records_of (cause ∷ before) k = records_after cause k (records_of before k)
+abbrev pub records_after_all : List Cause → PlainKey → Records
+records_after_all [] k = no_records
+records_after_all (cause ∷ before) k = records_after cause k (records_after_all before k)
 
 -- what one more cause does to the in-record of a face
 abbrev pub in_record_after : Cause → PlainKey → ℕ → Option InRecord → Option InRecord
@@ -48,6 +48,6 @@ out_record_after (Closed face) k g was = if g == face then None else was
 abbrev pub out_record_of : List Cause → PlainKey → ℕ → Option OutRecord
 out_record_of [] k g = None
 out_record_of (cause ∷ before) k g =
-    if is_alive (records_of (cause ∷ before) k)
+    if is_alive (records_after_all (cause ∷ before) k)
     then out_record_after cause k g (out_record_of before k g)
     else None

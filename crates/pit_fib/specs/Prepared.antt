@@ -5,8 +5,8 @@ use Rattle.std.specs.Vec.{vec_capacity}
 use Rattle.std.specs.FinMap as map
 use Rattle.ndn_packets.specs.Key.{PlainKey}
 use Rattle.name_trie.specs.NameTable.{NameTable}
-use Rattle.pit_fib.specs.Faces.{AtMost64}
-use Rattle.pit_fib.specs.declared.faces.TheConstants.{MAX_FACES}
+use Rattle.pit_fib.specs.FaceSet.{AtMost64}
+use Rattle.pit_fib.specs.declared.face_set.TheConstants.{MAX_FACES}
 use Rattle.pit_fib.specs.declared.pit.TheConstants.{MAX_PENDING}
 use Rattle.pit_fib.specs.declared.prepared.Ready.{Ready}
 use Rattle.pit_fib.specs.declared.prepared.Prepared.{Prepared}

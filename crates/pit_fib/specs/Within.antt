@@ -1,7 +1,7 @@
 -- What is set where there is room for it, for private contracts.
 use Rattle.std.specs.Prelude.{ℕ, nat_lt, ◌||◌, if◌then◌else◌}
 use Rattle.std.specs.FinMap as map
-use Rattle.pit_fib.specs.declared.faces.TheConstants.{MAX_FACES}
+use Rattle.pit_fib.specs.declared.face_set.TheConstants.{MAX_FACES}
 use Rattle.pit_fib.specs.declared.route.Route.{Route}
 use Rattle.pit_fib.specs.declared.route.RouteKey.{RouteKey}
 use Rattle.pit_fib.specs.Fib.{Entry}

@@ -3,12 +3,12 @@
 ghost use Rattle.std.specs.Prelude.{◌≡◌, ◌≤◌, Option, None, Some, unwrap_or};
 ghost use Rattle.std.specs.Option.{option_map};
 ghost use Rattle.std.specs.FinMap as map;
-ghost use Rattle.pit_fib.specs.declared.faces.TheConstants.{MAX_FACES};
+ghost use Rattle.pit_fib.specs.declared.face_set.TheConstants.{MAX_FACES};
 ghost use Rattle.pit_fib.specs.Kept.{new_in};
 ghost use Rattle.pit_fib.specs.declared.room.TheConstants.{FEW};
 
 use crate::entry::{Entry, InRecord, OutRecord};
-use crate::faces::MAX_FACES;
+use crate::face_set::MAX_FACES;
 use crate::flags::Flags;
 use crate::room::{FEW, Room};
 use crate::row::Row;

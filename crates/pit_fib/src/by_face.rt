@@ -4,7 +4,7 @@ ghost use Rattle.std.specs.Ordering.{nat_cmp, eq_by_cmp};
 ghost use Rattle.std.specs.FinMap as map;
 
 use crate::array_list::insert_at;
-use crate::faces::MAX_FACES;
+use crate::face_set::MAX_FACES;
 use std::cmp::Ordering;
 use std::marker::Model;
 
@@ -24,7 +24,7 @@ impl Model for Used {
     ghost use Rattle.std.specs.Coded.{coded_ℕ};
     ghost use Rattle.std.specs.FinMap as map;
     ghost use Rattle.pit_fib.specs.Tables.{ByFace};
-    ghost use Rattle.pit_fib.specs.declared.faces.TheConstants.{MAX_FACES};
+    ghost use Rattle.pit_fib.specs.declared.face_set.TheConstants.{MAX_FACES};
 
     ghost Value = { ByFace };
 

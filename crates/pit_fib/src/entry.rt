@@ -2,7 +2,7 @@ ghost use Rattle.std.specs.Prelude.{◌≡◌, ◌≤◌, ◌||◌, ◌&&◌, �
 ghost use Rattle.std.specs.List.{list_any};
 ghost use Rattle.std.specs.Option.{option_map, option_and_then};
 ghost use Rattle.std.specs.FinMap as map;
-ghost use Rattle.pit_fib.specs.declared.faces.TheConstants.{MAX_FACES};
+ghost use Rattle.pit_fib.specs.declared.face_set.TheConstants.{MAX_FACES};
 ghost use Rattle.pit_fib.specs.declared.room.TheConstants.{FEW};
 ghost use Rattle.pit_fib.specs.Faced.{has_place};
 ghost use Rattle.pit_fib.specs.Records.{is_alive, same_nonce};
@@ -14,7 +14,7 @@ ghost use Rattle.name_trie.specs.Least.{least};
 
 use crate::by_face::Used;
 use crate::face_map::FaceMap;
-use crate::faces::Faces;
+use crate::face_set::Faces;
 use crate::nacked::Nacked;
 use crate::room::Room;
 use std::marker::Model;

@@ -10,7 +10,7 @@ ghost use Rattle.pit_fib.specs.declared.room.TheConstants.{FEW};
 
 use crate::by_face::place_of;
 use crate::entry::InRecord;
-use crate::faces::MAX_FACES;
+use crate::face_set::MAX_FACES;
 use crate::room::{FEW, Room};
 use std::marker::Model;
 
@@ -28,7 +28,7 @@ impl<V> Model for FaceMap<V> {
     ghost use Rattle.std.specs.Ordering.{nat_cmp};
     ghost use Rattle.std.specs.FinMap as map;
     ghost use Rattle.pit_fib.specs.Faced.{Faced, faced_code};
-    ghost use Rattle.pit_fib.specs.declared.faces.TheConstants.{MAX_FACES};
+    ghost use Rattle.pit_fib.specs.declared.face_set.TheConstants.{MAX_FACES};
     ghost use Rattle.pit_fib.specs.declared.room.TheConstants.{FEW};
 
     ghost Value = { Faced V };

@@ -5,7 +5,7 @@ ghost use Rattle.ndn_names.specs.View.{components};
 ghost use Rattle.name_trie.specs.Shown.{shown_each};
 ghost use Rattle.pit_fib.specs.declared.fault.TableFault.TheVariants as faults;
 ghost use Rattle.pit_fib.specs.Effective.{effective, listed, longest_hops};
-ghost use Rattle.pit_fib.specs.Faces.{AtMost64};
+ghost use Rattle.pit_fib.specs.FaceSet.{AtMost64};
 ghost use Rattle.pit_fib.specs.Fib.{HasRoomFor, LeadsTo, due_count, is_full_for_route, left_at, registered_at, route_count, route_refusal, with_next_hop, with_route, without_face, without_next_hop, without_route};
 ghost use Rattle.pit_fib.specs.Hops.{hops_of};
 ghost use Rattle.pit_fib.specs.Limits.{AreShallow, HaveSome, IsTallied};

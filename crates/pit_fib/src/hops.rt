@@ -2,7 +2,7 @@ ghost use Rattle.std.specs.Prelude.{◌≡◌, [], ◌+◌, ◌<◌, ◌≤◌, 
 ghost use Rattle.pit_fib.specs.Hops.{with_hop, in_order, is_before as is_hop_before, marked};
 
 use crate::array_list::insert_at;
-use crate::faces::{Faces, MAX_FACES};
+use crate::face_set::{Faces, MAX_FACES};
 use std::marker::Model;
 
 /// A next hop (NFD Developer's Guide, "Forwarding Information Base").
@@ -34,7 +34,7 @@ pub struct Hops {
 impl Model for Hops {
     ghost use Rattle.std.specs.Prelude.{List, ◌≤◌, take};
     ghost use Rattle.pit_fib.specs.declared.hops.Hop.{Hop};
-    ghost use Rattle.pit_fib.specs.declared.faces.TheConstants.{MAX_FACES};
+    ghost use Rattle.pit_fib.specs.declared.face_set.TheConstants.{MAX_FACES};
 
     ghost Value = { List Hop };
 

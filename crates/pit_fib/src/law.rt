@@ -16,9 +16,9 @@ ghost use Rattle.pit_fib.specs.Cause.{Cause, Expires, records_after, with_reason
 ghost use Rattle.pit_fib.specs.Pit.{IsLeastReason, was_sent, nacked_answer};
 ghost use Rattle.pit_fib.specs.declared.nacked.Nacked.TheVariants as answers;
 ghost use Rattle.pit_fib.specs.Tokens.{IsTokenFor};
-ghost use Rattle.pit_fib.specs.Past.{records_of, in_record_of, out_record_of};
+ghost use Rattle.pit_fib.specs.Past.{records_after_all, in_record_of, out_record_of};
 
-use crate::faces::MAX_FACES;
+use crate::face_set::MAX_FACES;
 use crate::fib::{MAX_DEPTH, MAX_ENTRIES, MAX_ROUTES};
 use crate::pit::MAX_PENDING;
 
@@ -77,10 +77,10 @@ pub fn revising_changes_each_value<V, W>()
 /// break. Some face asks exactly where such an Interest is left.
 pub fn records_are_the_past()
     ensures in_records { (causes : List Cause) (key : PlainKey) (face : ℕ)
-        → map.get (records_of causes key).in_records face ≡ in_record_of causes key face }
+        → map.get (records_after_all causes key).in_records face ≡ in_record_of causes key face }
     ensures out_records { (causes : List Cause) (key : PlainKey) (face : ℕ)
-        → map.get (records_of causes key).out_records face ≡ out_record_of causes key face }
-    ensures alive { (causes : List Cause) (key : PlainKey) → IsTrue (is_alive (records_of causes key))
+        → map.get (records_after_all causes key).out_records face ≡ out_record_of causes key face }
+    ensures alive { (causes : List Cause) (key : PlainKey) → IsTrue (is_alive (records_after_all causes key))
         ↔ ((face : ℕ) × IsSome (in_record_of causes key face)) }
 {}
 

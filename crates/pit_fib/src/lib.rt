@@ -7,7 +7,7 @@ mod arrival;
 mod by_face;
 mod entry;
 mod face_map;
-mod faces;
+mod face_set;
 mod fault;
 mod fib;
 mod fib_entry;
@@ -31,7 +31,7 @@ mod strategy_table;
 mod tally;
 
 pub use by_face::Used;
-pub use faces::{Faces, MAX_FACES};
+pub use face_set::{Faces, MAX_FACES};
 pub use fault::{PitFault, TableFault};
 pub use fib::{Fib, MAX_DEPTH, MAX_ENTRIES, MAX_ROUTES};
 pub use hops::{Hop, Hops};

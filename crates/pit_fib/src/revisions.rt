@@ -1,7 +1,7 @@
 //! What each call of the pending Interest table makes of what is kept under a key.
 
 use crate::entry::Entry;
-use crate::faces::Faces;
+use crate::face_set::Faces;
 use crate::flags::Flags;
 use crate::row::Row;
 use crate::slots::Revision;

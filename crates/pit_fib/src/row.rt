@@ -5,7 +5,7 @@ ghost use Rattle.pit_fib.specs.Kept.{changed_row, with_answered};
 ghost use Rattle.pit_fib.specs.Last.{last_in};
 
 use crate::entry::{Entry, InRecord};
-use crate::faces::Faces;
+use crate::face_set::Faces;
 use crate::flags::Flags;
 use crate::slots::{Revision, Slots};
 use name_trie::{Change, Timed};

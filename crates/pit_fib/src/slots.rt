@@ -6,7 +6,7 @@ ghost use Rattle.pit_fib.specs.Kept.{deadline, row_of, with_answered};
 ghost use Rattle.pit_fib.specs.Last.{last_exact, last_in, last_prefix};
 
 use crate::entry::{Entry, InRecord, add_faces, in_record_of, later, lesser};
-use crate::faces::Faces;
+use crate::face_set::Faces;
 use crate::flags::Flags;
 use std::marker::Model;
 

@@ -6,7 +6,7 @@ use Rattle.std.specs.FinMap as map
 use Rattle.std.specs.FinMap.{get-insert, get-empty}
 use Rattle.std.specs.Ordering.{eq_by_cmp}
 use Rattle.replay_guard.specs.Freshness.{Signer, Recorded, NumberRises, IsNewer, Fresh}
-use Rattle.replay_guard.specs.Guard.{Latest, signer_cmp, greater_number, raised, table_of, IsAfter, IsFresh}
+use Rattle.replay_guard.specs.Guard.{Latest, signer_cmp, greater_number, raised, table_of, IsAfterLatest, IsFresh}
 use Rattle.replay_guard.proofs.Signers.{signer_cmp-total, one_signer, same_signer}
 
 number_after : (a b number : Option ℕ) → (NumberRises (greater_number a b) number → NumberRises a number × NumberRises b number) × (NumberRises a number → NumberRises b number → NumberRises (greater_number a b) number)
@@ -17,8 +17,8 @@ number_after (Some m) (Some n) (Some k) = (λ h. (omega (arith, h), omega (arith
 
 -- after one more command of the signer
 raised_after : (kept : Option Latest) (t : ℕ) (n : Option ℕ) (time : ℕ) (number : Option ℕ)
-    → (IsAfter (Some (raised kept t n)) time number → IsAfter kept time number × ((t < time) × NumberRises n number))
-    × (IsAfter kept time number → (t < time) × NumberRises n number → IsAfter (Some (raised kept t n)) time number)
+    → (IsAfterLatest (Some (raised kept t n)) time number → IsAfterLatest kept time number × ((t < time) × NumberRises n number))
+    × (IsAfterLatest kept time number → (t < time) × NumberRises n number → IsAfterLatest (Some (raised kept t n)) time number)
 raised_after None t n time number = (λ h. (tt, h), λ _ h. h)
 raised_after (Some l) t n time number =
     let both = number_after l.number n number in (
@@ -28,13 +28,13 @@ raised_after (Some l) t n time number =
 
 -- what one more command adds
 pub one_more : (table : Signer → Option Latest) (r : Recorded) (signer : Signer) (time : ℕ) (number : Option ℕ) (b : Bool) → eq_by_cmp signer_cmp signer r.signer ≡ b
-    → (IsAfter (cond b (Some (raised (table r.signer) r.time r.number)) (table signer)) time number → IsAfter (table signer) time number × IsNewer signer time number r)
-    × (IsAfter (table signer) time number → IsNewer signer time number r → IsAfter (cond b (Some (raised (table r.signer) r.time r.number)) (table signer)) time number)
+    → (IsAfterLatest (cond b (Some (raised (table r.signer) r.time r.number)) (table signer)) time number → IsAfterLatest (table signer) time number × IsNewer signer time number r)
+    × (IsAfterLatest (table signer) time number → IsNewer signer time number r → IsAfterLatest (cond b (Some (raised (table r.signer) r.time r.number)) (table signer)) time number)
 one_more table r signer time number true e =
     let one = one_signer signer r.signer e in
     let both = raised_after (table r.signer) r.time r.number time number in (
-      λ h. let p = both.0 h in (subst (λ s. IsAfter (table s) time number) (sym one) p.0, λ _. p.1),
-      λ h k. both.1 (subst (λ s. IsAfter (table s) time number) one h) (k (sym one)),
+      λ h. let p = both.0 h in (subst (λ s. IsAfterLatest (table s) time number) (sym one) p.0, λ _. p.1),
+      λ h k. both.1 (subst (λ s. IsAfterLatest (table s) time number) one h) (k (sym one)),
     )
 one_more table r signer time number false e = (
   λ h. (h, λ is. absurd (let tied = same_signer signer r.signer (sym is) in cc)),
@@ -42,17 +42,17 @@ one_more table r signer time number false e = (
 )
 
 after_all : (past : List Recorded) (signer : Signer) (time : ℕ) (number : Option ℕ)
-    → (IsAfter (map.get (table_of past) signer) time number → AllByRecursion (IsNewer signer time number) past)
-    × (AllByRecursion (IsNewer signer time number) past → IsAfter (map.get (table_of past) signer) time number)
+    → (IsAfterLatest (map.get (table_of past) signer) time number → AllByRecursion (IsNewer signer time number) past)
+    × (AllByRecursion (IsNewer signer time number) past → IsAfterLatest (map.get (table_of past) signer) time number)
 after_all [] signer time number =
-    (λ _. tt, λ _. subst (λ (o : Option Latest). IsAfter o time number) (sym (get-empty signer_cmp signer)) tt)
+    (λ _. tt, λ _. subst (λ (o : Option Latest). IsAfterLatest o time number) (sym (get-empty signer_cmp signer)) tt)
 after_all (r ∷ before) signer time number =
     let table = table_of before in
     let got = get-insert signer_cmp-total table r.signer (raised (map.get table r.signer) r.time r.number) signer in
     let step = one_more (map.get table) r signer time number (eq_by_cmp signer_cmp signer r.signer) refl in
     let rest = after_all before signer time number in (
-      λ h. let p = step.0 (subst (λ (o : Option Latest). IsAfter o time number) got h) in (p.1, rest.0 p.0),
-      λ h. subst (λ (o : Option Latest). IsAfter o time number) (sym got) (step.1 (rest.1 h.1) h.0),
+      λ h. let p = step.0 (subst (λ (o : Option Latest). IsAfterLatest o time number) got h) in (p.1, rest.0 p.0),
+      λ h. subst (λ (o : Option Latest). IsAfterLatest o time number) (sym got) (step.1 (rest.1 h.1) h.0),
     )
 
 pub fresh_by_table : (past : List Recorded) (signer : Signer) (time : ℕ) (number : Option ℕ) (now : ℕ)

@@ -7,7 +7,7 @@ use Rattle.std.specs.Ordering.{eq_by_cmp}
 use Rattle.std.proofs.lemmas.List.{get_or_default, take_all}
 use Rattle.replay_guard.specs.Freshness.{Signer}
 use Rattle.replay_guard.specs.Freshness.{AreNear}
-use Rattle.replay_guard.specs.Guard.{Latest, Table, signer_cmp, raised, with_recorded, IsAfter, IsFresh}
+use Rattle.replay_guard.specs.Guard.{Latest, Table, signer_cmp, raised, with_recorded, IsAfterLatest, IsFresh}
 use Rattle.replay_guard.specs.Rows.{Row, IsFirst}
 use Rattle.replay_guard.proofs.Signers.{signer_cmp-total, signer_cmp-antisymmetric, one_signer, same_signer}
 
@@ -100,17 +100,17 @@ other_spare spare k s b h e is other = (let one : k ≡ s = cc in let tied = sam
 
 -- freshness by the row of a signer, and without one
 pub fresh_found : (table : Table) (es : List Row) (at : ℕ) (row : Row) (s : Signer) (t : ℕ) (n : Option ℕ) (now : ℕ) (b : Bool) → from_entries es ≡ table → IsFirst s es at → row ≡ get_or es at row
-    → AreNear t now → (IsTrue b → IsAfter (Some row.1) t n) × (IsAfter (Some row.1) t n → IsTrue b) → (IsTrue b → IsFresh table s t n now) × (IsFresh table s t n now → IsTrue b)
+    → AreNear t now → (IsTrue b → IsAfterLatest (Some row.1) t n) × (IsAfterLatest (Some row.1) t n → IsTrue b) → (IsTrue b → IsFresh table s t n now) × (IsFresh table s t n now → IsTrue b)
 fresh_found table es at row s t n now b shown first is near both =
     let got : map.get table s ≡ Some row.1 = ap (λ (m : Table). map.get m s) (sym shown) ∙ get_first s es at row first is in (
-      λ h. (near, subst (λ (o : Option Latest). IsAfter o t n) (sym got) (both.0 h)),
-      λ h. both.1 (subst (λ (o : Option Latest). IsAfter o t n) got h.1),
+      λ h. (near, subst (λ (o : Option Latest). IsAfterLatest o t n) (sym got) (both.0 h)),
+      λ h. both.1 (subst (λ (o : Option Latest). IsAfterLatest o t n) got h.1),
     )
 
 pub fresh_new : (table : Table) (es : List Row) (s : Signer) (t : ℕ) (n : Option ℕ) (now : ℕ) → from_entries es ≡ table → find signer_cmp s es ≡ None → AreNear t now → IsFresh table s t n now
 fresh_new table es s t n now shown none near =
     let got : map.get table s ≡ None = ap (λ (m : Table). map.get m s) (sym shown) ∙ get_none s es none in
-    (near, subst (λ (o : Option Latest). IsAfter o t n) (sym got) tt)
+    (near, subst (λ (o : Option Latest). IsAfterLatest o t n) (sym got) tt)
 
 -- the table with one more command, by the row of its signer, and without one
 pub recorded_found : (table : Table) (es new : List Row) (at : ℕ) (row : Row) (s : Signer) (t : ℕ) (n : Option ℕ) → from_entries es ≡ table → IsFirst s es at → row ≡ get_or es at row

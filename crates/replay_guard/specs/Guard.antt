@@ -59,13 +59,13 @@ table_of [] = map.empty
 table_of (r ∷ before) = with_recorded (table_of before) r
 
 -- a command of this time and number is newer than what is kept of its signer
-abbrev pub IsAfter : Option Latest → ℕ → Option ℕ → Type 0
-IsAfter None time number = Unit {0}
-IsAfter (Some l) time number = (l.time < time) × NumberRises l.number number
+abbrev pub IsAfterLatest : Option Latest → ℕ → Option ℕ → Type 0
+IsAfterLatest None time number = Unit {0}
+IsAfterLatest (Some l) time number = (l.time < time) × NumberRises l.number number
 
 abbrev pub IsFresh : Table → Signer → ℕ → Option ℕ → ℕ → Type 0
 IsFresh table signer time number now =
-    AreNear time now × IsAfter (map.get table signer) time number
+    AreNear time now × IsAfterLatest (map.get table signer) time number
 
 abbrev pub signer_code : Coded Signer
 signer_code = coded_option name_code

@@ -1,6 +1,6 @@
 ghost use Rattle.std.specs.Prelude.{◌≡◌, ◌↔◌, IsTrue, IfOk, Some};
 ghost use Rattle.std.specs.Ordering.{eq_by_cmp};
-ghost use Rattle.replay_guard.specs.Guard.{signer_of, signer_cmp, raised, IsAfter};
+ghost use Rattle.replay_guard.specs.Guard.{signer_of, signer_cmp, raised, IsAfterLatest};
 
 use crate::signer::Signer;
 use ndn_names::NameBuf;
@@ -43,7 +43,7 @@ impl Row {
 
     /// Whether a command of this time and number is newer.
     pub fn is_before(&self, time: u64, number: Option<u64>) -> bool
-        ensures { IsTrue result ↔ IsAfter (Some self.now.1) time number }
+        ensures { IsTrue result ↔ IsAfterLatest (Some self.now.1) time number }
     {
         let rises = match (self.number, number) {
             (Some(m), Some(n)) => m < n,

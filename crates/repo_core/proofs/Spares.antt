@@ -8,7 +8,7 @@ use Rattle.std.specs.Cmp.{tied_itself}
 use Rattle.ndn_tlv.specs.Element.{Field}
 use Rattle.ndn_names.specs.Order.{name_cmp}
 use Rattle.ndn_names.specs.Key.{name_cmp-total}
-use Rattle.repo_core.specs.declared.spare.Names.{Names}
+use Rattle.repo_core.specs.declared.want_names.Names.{Names}
 
 -- spare names are of their name alone
 pub other_spare : (spare : Option Names) (k : Names) (name : List Field) → spare ≡ Some k → option_map (λ n. n.key) spare ≡ Some name → is_eq (name_cmp name k.key) ≡ false → ⊥

@@ -6,7 +6,7 @@ use Rattle.std.specs.declared.cmp.Ordering.TheVariants.{Greater}
 use Rattle.std.specs.FinMap as map
 use Rattle.std.specs.List.{AllByRecursion}
 use Rattle.ndn_names.specs.Key.{name_code}
-use Rattle.repo_core.specs.declared.spare.Names.{Names}
+use Rattle.repo_core.specs.declared.want_names.Names.{Names}
 use Rattle.repo_core.specs.Objects.{Objects}
 
 -- objects, and for how many more there is room

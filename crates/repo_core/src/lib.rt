@@ -8,10 +8,10 @@ mod object;
 mod objects;
 mod reply;
 mod repo;
-mod room;
-mod spare;
+mod row_insertion;
 mod types;
 mod verb;
+mod want_names;
 mod wants;
 
 pub use law::{

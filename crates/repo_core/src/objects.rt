@@ -11,7 +11,7 @@ ghost use Rattle.repo_core.specs.Objects.{answering, first_octets, number_answer
 ghost use Rattle.repo_core.specs.Room.{HasAt, IsPlace};
 
 use crate::object::Object;
-use crate::room::insert_row;
+use crate::row_insertion::insert_row;
 use ndn_names::Name;
 use ndn_tlv::Memory;
 use std::alloc::Global;

@@ -7,7 +7,7 @@ ghost use Rattle.repo_core.specs.Room.{HasAt, IsPlace};
 ghost use Rattle.repo_core.specs.Wants.{is_wanted, unfilled, want_cmp, wants_after};
 
 use crate::repo::MAX_WANTS;
-use crate::room::insert_row;
+use crate::row_insertion::insert_row;
 use ndn_names::{Name, NameBuf};
 use ndn_packets::Data;
 use ndn_tlv::Memory;

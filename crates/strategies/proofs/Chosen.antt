@@ -4,7 +4,7 @@ use Rattle.std.specs.Prelude.{◌↔◌, All, Contains}
 use Rattle.std.specs.List.{list_any}
 use Rattle.std.proofs.lemmas.List.Elements.{All-contains, All-contains_itself, All-filter, filter_passes}
 use Rattle.pit_fib.specs.declared.hops.Hop.{Hop}
-use Rattle.pit_fib.specs.Faces.{has_face}
+use Rattle.pit_fib.specs.FaceSet.{has_face}
 use Rattle.pit_fib.specs.Tables.{ByFace}
 use Rattle.strategies.specs.declared.strategy.Ask.{Ask}
 use Rattle.strategies.specs.declared.strategy.Choice.{Choice}

@@ -4,7 +4,7 @@ use Rattle.std.specs.Prelude.{not}
 use Rattle.std.proofs.lemmas.Bool.{lt-leb}
 use Rattle.std.specs.FinMap as map
 use Rattle.pit_fib.specs.declared.hops.Hop.{Hop}
-use Rattle.pit_fib.specs.Faces.{has_face, with_face, adding}
+use Rattle.pit_fib.specs.FaceSet.{has_face, with_face, adding}
 use Rattle.pit_fib.specs.Tables.{ByFace}
 use Rattle.strategies.specs.Selection.{multicast, was_recent}
 use Rattle.strategies.specs.Choice.{faces_of}

@@ -6,7 +6,7 @@ use mathlib.Core.Logic.{◌⊎◌, inl, inr, ⊎_elim}
 use Rattle.std.proofs.lemmas.Bool.{eqb-true, eq-eqb, or_cases}
 use Rattle.std.proofs.lemmas.List.Elements.{All-nil, All-cons, All-weaker, All-head, All-tail}
 use Rattle.pit_fib.specs.declared.hops.Hop.{Hop}
-use Rattle.pit_fib.specs.Faces.{has_face, with_face}
+use Rattle.pit_fib.specs.FaceSet.{has_face, with_face}
 use Rattle.strategies.specs.Choice.{faces_of}
 
 abbrev pub with_one : ℕ → List ℕ → List ℕ

@@ -2,7 +2,7 @@
 use Rattle.std.specs.Prelude.{ℕ, List, [], ◌∷◌, if◌then◌else◌}
 use Rattle.std.specs.List.{list_any}
 use Rattle.pit_fib.specs.declared.hops.Hop.{Hop}
-use Rattle.pit_fib.specs.Faces.{has_face, with_face}
+use Rattle.pit_fib.specs.FaceSet.{has_face, with_face}
 use Rattle.pit_fib.specs.Tables.{ByFace}
 use Rattle.strategies.specs.declared.strategy.Ask.{Ask}
 use Rattle.strategies.specs.declared.strategy.Choice.{Choice}

@@ -1,6 +1,6 @@
 ghost use Rattle.std.specs.Prelude.{◌≡◌, ◌↔◌, ℕ, List, [], true, Contains};
 ghost use Rattle.pit_fib.specs.declared.hops.Hop.{Hop};
-ghost use Rattle.pit_fib.specs.Faces.{has_face};
+ghost use Rattle.pit_fib.specs.FaceSet.{has_face};
 ghost use Rattle.pit_fib.specs.Tables.{ByFace};
 ghost use Rattle.strategies.specs.declared.strategy.Ask.{Ask};
 ghost use Rattle.strategies.specs.declared.strategy.Choice.TheVariants.{NoRoute, Send};

@@ -8,7 +8,7 @@ use Rattle.std.specs.FinMap as map
 use Rattle.std.specs.FinMap.{FinMap, get, len, empty, empty_of_len, get-empty}
 use Rattle.std.proofs.lemmas.Bool.Decides.{nat_tests}
 use Rattle.ndn_packets.specs.Key.{PlainKey, key_cmp}
-use Rattle.pit_fib.specs.Faces.{IsRising}
+use Rattle.pit_fib.specs.FaceSet.{IsRising}
 use Rattle.pit_fib.specs.Records.{InRecord, Records, Pending, is_alive, no_records, records_at}
 use Rattle.pit_fib.specs.Cause.{Cause, Follows}
 use Rattle.pit_fib.specs.Pit.{HasRecord, HasRoomFor}

@@ -14,7 +14,7 @@ use Rattle.name_trie.specs.ByName.{revise, with_value}
 use Rattle.name_trie.proofs.Revised.{equal, get-revise}
 use Rattle.pit_fib.specs.declared.route.Route.{Route}
 use Rattle.pit_fib.specs.declared.route.RouteKey.{RouteKey}
-use Rattle.pit_fib.specs.Faces.{IsRising}
+use Rattle.pit_fib.specs.FaceSet.{IsRising}
 use Rattle.pit_fib.specs.Fib.{Entry, Routes, HasRoomFor, LeadsTo, entry_at, entry_left_at, entry_with_hop, entry_with_route, entry_without_face, is_vacant, left_at, no_entry, unless_vacant, with_next_hop, with_route, without_face, without_next_hop, without_route}
 use Rattle.pit_fib.specs.Route.{route_cmp, route_cmp-antisymmetric, route_cmp-total, until_due}
 

@@ -39,16 +39,16 @@ GivesAll (Some old) new size events =
     × (new ≡ Some left)
 
 -- what was taken of some sends: these in order, without so many that failed
-abbrev pub AreTakenOf : List Send → ℕ → List Send → Type 0
-AreTakenOf [] failed taken = (failed ≡ 0) × (taken ≡ [])
-AreTakenOf (sent ∷ sends) failed taken =
-    ((rest : List Send) × (taken ≡ sent ∷ rest) × AreTakenOf sends failed rest)
-    ⊎ ((fewer : ℕ) × (failed ≡ fewer + 1) × AreTakenOf sends fewer taken)
+abbrev pub AreSendsTaken : List Send → ℕ → List Send → Type 0
+AreSendsTaken [] failed taken = (failed ≡ 0) × (taken ≡ [])
+AreSendsTaken (sent ∷ sends) failed taken =
+    ((rest : List Send) × (taken ≡ sent ∷ rest) × AreSendsTaken sends failed rest)
+    ⊎ ((fewer : ℕ) × (failed ≡ fewer + 1) × AreSendsTaken sends fewer taken)
 
 -- the count of a port's failures after so many more
-abbrev pub many_more : ℕ → ℕ → ℕ
-many_more count zero = count
-many_more count (suc n) = one_more (many_more count n)
+abbrev pub count_after : ℕ → ℕ → ℕ
+count_after count zero = count
+count_after count (suc n) = one_more (count_after count n)
 
 -- what an outcome sends
 abbrev pub sends_of : Outcome → List Send
@@ -66,8 +66,8 @@ refused_count (NoMemory ∷ outcomes) = refused_count outcomes + 1
 
 -- every run in which the old node stands goes on with the events and their outcomes, and the new
 -- node stands in it
-abbrev pub GoesOn : NodeState → List PlainEvent → List Outcome → NodeState → Type 0
-GoesOn old events outcomes new =
+abbrev pub ExtendsRuns : NodeState → List PlainEvent → List Outcome → NodeState → Type 0
+ExtendsRuns old events outcomes new =
     (first : Policy) (past : Run) → first.now ≡ 0 → IsRun first past → Stands first past old
     → IsRun first (run_from past events outcomes)
     × Stands first (run_from past events outcomes) new
@@ -78,11 +78,11 @@ pub record Handles (old new : NodeState) (before after : Shown) (done_as : Outco
   pub event : PlainEvent
   pub came : Gives before.coming after.coming FRAME_ROOM (Some event)
   pub handled : IsOutcome old event done_as new
-  pub goes_on : GoesOn old (event ∷ []) (done_as ∷ []) new
+  pub goes_on : ExtendsRuns old (event ∷ []) (done_as ∷ []) new
   pub taken : List Send
-  pub are_taken : AreTakenOf (sends_of done_as) failed taken
+  pub are_taken : AreSendsTaken (sends_of done_as) failed taken
   pub takes : Takes before.taken after.taken taken
-  pub failures : after.failures ≡ many_more before.failures failed
+  pub failures : after.failures ≡ count_after before.failures failed
 
 -- the call for the next arrival failed, and nothing else happened
 pub record FailsNext (before after : Shown) : Type 0 where
@@ -114,11 +114,11 @@ pub record Serves (old new : NodeState) (before after : Shown)
   pub outcomes : List Outcome
   pub came : GivesAll before.coming after.coming FRAME_ROOM arrivals
   pub handled : AreOutcomes old arrivals outcomes new
-  pub goes_on : GoesOn old arrivals outcomes new
+  pub goes_on : ExtendsRuns old arrivals outcomes new
   pub taken : List Send
-  pub are_taken : AreTakenOf (all_sends outcomes) failed taken
+  pub are_taken : AreSendsTaken (all_sends outcomes) failed taken
   pub takes : Takes before.taken after.taken taken
-  pub failures : after.failures ≡ many_more before.failures failed
+  pub failures : after.failures ≡ count_after before.failures failed
   pub events_is : events ≡ length arrivals
   pub refused_is : refused ≡ refused_count outcomes
 

@@ -7,7 +7,7 @@ use Rattle.node_core.specs.Outcomes.{Outcome, IsOutcome, AreOutcomes}
 use Rattle.forwarder.specs.Runs.{Start, Stands}
 use Rattle.node_core.specs.Script.Line.{Lacks, IsBadLine}
 use Rattle.node_core.specs.Script.Writing.{outcome_text, outcomes_text}
-use Rattle.node_core.specs.Script.{AreLines, Say, ended, joined}
+use Rattle.node_core.specs.Script.{AreLines, SpellEvents, ended, joined}
 use Rattle.node_core.specs.Script.Ending.{AppendsFront}
 use Rattle.node_core.specs.declared.script.player.Player.{Player}
 use Rattle.node_core.specs.declared.script.RunFault.{RunFault}
@@ -58,7 +58,7 @@ pub record Plays (lines : List (List ℕ)) (from to : Place) (text : List ℕ) :
   pub events : List PlainEvent
   pub outcomes : List Outcome
   pub are_lines : AreLines lines
-  pub say : Say lines events
+  pub say : SpellEvents lines events
   pub runs : AreOutcomes from.node events outcomes to.node
   pub text_is : text ≡ outcomes_text from.node.policy.rules (from.events + 1) events outcomes
   pub numbered : to.lines ≡ from.lines + length lines

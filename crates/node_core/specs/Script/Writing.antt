@@ -44,9 +44,9 @@ verdict_text rules (Denied kind rule reason) =
 verdict_text rules (NoRule kind) = codes "no-rule " ++ kind_name kind
 verdict_text rules (Dropped why) = codes "dropped " ++ drop_name why
 
-abbrev pub said_text : List PlainRule → Result code.Verdict Memory → List ℕ
-said_text rules (Ok said) = verdict_text rules (verdict_of said)
-said_text rules (Err _) = codes "memory"
+abbrev pub result_text : List PlainRule → Result code.Verdict Memory → List ℕ
+result_text rules (Ok said) = verdict_text rules (verdict_of said)
+result_text rules (Err _) = codes "memory"
 
 -- hexadecimal in lower case, or a dash for no octets
 abbrev pub hex_word : List ℕ → List ℕ
@@ -58,12 +58,12 @@ abbrev pub send_text : Send → List ℕ
 send_text sent = codes "> " ++ (decimal sent.0 ++ (32 ∷ (hex_word sent.1 ++ (10 ∷ []))))
 
 -- the line of an event, by its number
-abbrev pub said_line : ℕ → List ℕ → List ℕ
-said_line number said = decimal number ++ (32 ∷ (said ++ (10 ∷ [])))
+abbrev pub numbered_line : ℕ → List ℕ → List ℕ
+numbered_line number said = decimal number ++ (32 ∷ (said ++ (10 ∷ [])))
 
 -- the line of an event, and those of its sends
 abbrev pub lines_text : ℕ → List ℕ → List Send → List ℕ
-lines_text number said sends = said_line number said ++ flat_map send_text sends
+lines_text number said sends = numbered_line number said ++ flat_map send_text sends
 
 abbrev pub outcome_text : List PlainRule → ℕ → Outcome → List ℕ
 outcome_text rules number (Answered answer) =

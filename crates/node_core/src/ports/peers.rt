@@ -17,7 +17,7 @@ pub struct Peers {
 impl Model for Peers {
     ghost use Rattle.std.specs.Prelude.{List, ◌≤◌, take};
     ghost use Rattle.std.specs.declared.net.socket_addr.SocketAddr.{SocketAddr};
-    ghost use Rattle.pit_fib.specs.declared.faces.TheConstants.{MAX_FACES};
+    ghost use Rattle.pit_fib.specs.declared.face_set.TheConstants.{MAX_FACES};
 
     ghost Value = { List SocketAddr };
 

@@ -2,7 +2,7 @@ ghost use Rattle.std.specs.Prelude.{◌≡◌, ◌≤◌, [], ℕ, List, Option,
 ghost use Rattle.std.specs.Option.{option_map};
 ghost use Rattle.forwarder.specs.Event.{PlainEvent, Send, plain};
 ghost use Rattle.node_core.specs.Ports.{Gives, LiesWithin, Takes, arrived, count_of};
-ghost use Rattle.node_core.specs.Ports.Serving.{AreTakenOf, EndsAfter, FailsNext, IsTurn, Serves, StopsServing, many_more, shown};
+ghost use Rattle.node_core.specs.Ports.Serving.{AreSendsTaken, EndsAfter, FailsNext, IsTurn, Serves, StopsServing, count_after, shown};
 
 use crate::ports::{Arrival, FRAME_ROOM, Ports};
 use forwarder::{Event, Node, Outbox, Verdict};
@@ -230,10 +230,10 @@ fn event_of(arrival: Arrival, buffer: &[u8]) -> Option<Event<'_>>
 
 // Sends what the outbox holds, and counts the sends that failed.
 fn send_all<P: Ports>(ports: &mut P, outbox: &Outbox) -> u64
-    ensures sent { (taken : List Send) × AreTakenOf outbox.now result taken
+    ensures sent { (taken : List Send) × AreSendsTaken outbox.now result taken
         × Takes (P.taken ports.old) (P.taken ports.new) taken }
     ensures coming { P.coming ports.new ≡ P.coming ports.old }
-    ensures failures { P.failures ports.new ≡ many_more (P.failures ports.old) result }
+    ensures failures { P.failures ports.new ≡ count_after (P.failures ports.old) result }
 {
     let mut failed = 0;
     for i in 0..outbox.len() {

@@ -5,7 +5,7 @@ ghost use Rattle.std.specs.declared.net.socket_addr.SocketAddr.{SocketAddr};
 ghost use Rattle.node_core.specs.Endpoints.{AreLocalhostAt, IsLocalhostAt};
 ghost use Rattle.node_core.specs.KnownEndpoints.{endpoint_at};
 ghost use Rattle.node_core.specs.Ports.{LiesWithin, one_more};
-ghost use Rattle.node_core.specs.Udp.{Brings, DropsStrangers, FailsReceiving, GivesWaiting, GoesOn, HasOpened, IsAccepted, Listens, OpensPeer, UdpGives, bound_to, closes_after, kept, waiting_at};
+ghost use Rattle.node_core.specs.Udp.{Brings, DropsStrangers, FailsReceiving, GivesWaiting, BringsAfterClosing, HasOpened, IsAccepted, Listens, OpensPeer, UdpGives, bound_to, closes_after, kept, waiting_at};
 
 use crate::ports::known_endpoints::{KnownEndpoints, Met};
 use crate::ports::{Arrival, FRAME_ROOM, PortFault, Ports, put_front};
@@ -245,7 +245,7 @@ impl<M: Moments> UdpPorts<M> {
         requires waiting { (octets : List ℕ) × (self.old.waiting
             ≡ Some (record { endpoint = endpoint; face = None; octets = octets })) }
         ensures fits { LiesWithin (length buffer.new) result }
-        ensures gives { GoesOn self.old self.new buffer.new result }
+        ensures gives { BringsAfterClosing self.old self.new buffer.new result }
     {
         let now = self.now();
         match self.known.meet(endpoint, now) {

@@ -1,7 +1,7 @@
 use Rattle.std.proofs.Common.{◌≡◌, ℕ, suc, ◌+◌, ◌<◌, ◌≤◌, length, get_or, sym, subst, arith}
 use Rattle.std.proofs.lemmas.List.{get_or_default}
 use Rattle.content_store.specs.declared.places.Block.{Block}
-use Rattle.content_store.specs.Places.{flat}
+use Rattle.content_store.specs.PlaceBlocks.{flat}
 use Rattle.content_store.proofs.Flat.{ends_at, first_begins}
 use Rattle.content_store.proofs.places.block_at.Goals as goal
 use Rattle.content_store.proofs.places.block_at.Goals.{then-first-blocks+then-blocks-first, else-first-blocks, then-low-last+then-last-high+then-at-blocks, else-low-last}

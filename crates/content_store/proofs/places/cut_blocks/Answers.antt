@@ -1,5 +1,5 @@
 use Rattle.std.proofs.Common.{◌≡◌, ◌-◌, length, vec_len, ◌∙◌, arith, rules}
-use Rattle.content_store.specs.Places.{flat}
+use Rattle.content_store.specs.PlaceBlocks.{flat}
 use Rattle.content_store.specs.Uses.{without_range}
 use Rattle.content_store.proofs.Flat.{flat_cut}
 use Rattle.content_store.proofs.places.cut_blocks.Goals as goal

@@ -2,7 +2,7 @@ use Rattle.std.proofs.Common.{◌≡◌, ◌-◌, ◌<◌, [], length, vec_len, 
 use Rattle.std.proofs.lemmas.List.{nil_from_length}
 use Rattle.std.proofs.lemmas.List.Edits.{length-remove}
 use Rattle.content_store.specs.declared.places.Block.{Block}
-use Rattle.content_store.specs.Places.{flat}
+use Rattle.content_store.specs.PlaceBlocks.{flat}
 use Rattle.content_store.proofs.Flat.{flat_drop}
 use Rattle.content_store.proofs.places.drop_empty.Goals as goal
 

@@ -2,7 +2,7 @@ use Rattle.std.proofs.Common.{◌≡◌, ℕ, suc, ◌+◌, ◌<◌, ◌++◌, [
 use Rattle.std.specs.List.{remove}
 use Rattle.std.proofs.lemmas.List.{get_or_default, nil_from_length}
 use Rattle.content_store.specs.declared.places.Block.{Block}
-use Rattle.content_store.specs.Places.{flat}
+use Rattle.content_store.specs.PlaceBlocks.{flat}
 use Rattle.content_store.proofs.Flat.{flat_drop, flat_join}
 use Rattle.content_store.proofs.places.join.Goals as goal
 

@@ -1,7 +1,7 @@
 use Rattle.std.proofs.Common.{◌≡◌, ◌+◌, ◌<◌, List, length, vec_len, take, set, ap, sym, subst, ◌∙◌, refl, arith, rules}
 use Rattle.std.proofs.lemmas.List.{take_more_set, length-append, length-set, get_or-set_same}
 use Rattle.content_store.specs.declared.places.Block.{Block}
-use Rattle.content_store.specs.Places.{AreLaid, flat}
+use Rattle.content_store.specs.PlaceBlocks.{AreLaid, flat}
 use Rattle.content_store.proofs.Flat.{flat_none, flat_push, flat_set, laid_none, laid_push, length-flat_take}
 use Rattle.content_store.proofs.places.lay.Goals as goal
 use Rattle.content_store.proofs.places.lay.Goals.{After-len-start}

@@ -1,5 +1,5 @@
 use Rattle.std.proofs.Common.{◌≡◌, length, take}
-use Rattle.content_store.specs.Places.{AreLaid, flat}
+use Rattle.content_store.specs.PlaceBlocks.{AreLaid, flat}
 use Rattle.content_store.proofs.places.lay.Given as goal
 
 abbrev pub invariant-loop-index : goal.invariant-loop-index

@@ -1,7 +1,7 @@
 use Rattle.std.proofs.Common.{◌≡◌, ℕ, ◌++◌, List, length, vec_len, eqb-true, rules, ap, sym, subst, ◌∙◌, arith}
 use Rattle.std.proofs.lemmas.List.{append-nil, nil_from_length}
 use Rattle.content_store.specs.declared.places.Block.{Block}
-use Rattle.content_store.specs.Places.{AreLaid, flat}
+use Rattle.content_store.specs.PlaceBlocks.{AreLaid, flat}
 use Rattle.content_store.proofs.Flat.{flat_push, laid_push, nothing_laid}
 use Rattle.content_store.proofs.places.make_room.Goals as goal
 

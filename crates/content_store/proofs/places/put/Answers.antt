@@ -1,7 +1,7 @@
 use Rattle.std.proofs.Common.{◌≡◌, ◌-◌, ◌<◌, List, length, get_or, set, insert, ap, subst, ◌∙◌, arith, rules}
 use Rattle.std.proofs.lemmas.List.Edits.{length-insert}
 use Rattle.content_store.specs.declared.places.Block.{Block}
-use Rattle.content_store.specs.Places.{IsIn, flat}
+use Rattle.content_store.specs.PlaceBlocks.{IsIn, flat}
 use Rattle.content_store.proofs.Flat.{flat_set, laid_set, put_in, read_twice}
 use Rattle.content_store.proofs.places.put.Goals as goal
 use Rattle.content_store.proofs.places.put.Goals.{In_ok-insert}

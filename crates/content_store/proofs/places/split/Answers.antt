@@ -2,7 +2,7 @@ use Rattle.std.proofs.Common.{◌≡◌, ℕ, suc, ◌+◌, ◌-◌, ◌/◌, �
 use Rattle.std.proofs.lemmas.List.{get_or_default, take-append-drop, take_rest}
 use Rattle.std.proofs.lemmas.List.Edits.{get_or-insert_below}
 use Rattle.content_store.specs.declared.places.Block.{Block}
-use Rattle.content_store.specs.Places.{flat}
+use Rattle.content_store.specs.PlaceBlocks.{flat}
 use Rattle.content_store.proofs.Flat.{flat_split}
 use Rattle.content_store.proofs.places.split.Goals as goal
 use Rattle.content_store.proofs.places.split.Goals.{After-truncate}

@@ -4,7 +4,7 @@ use Rattle.ndn_names.specs.View.{components}
 use Rattle.ndn_packets.specs.Key.{plain_key}
 use Rattle.ndn_packets.specs.FullName.{is_near}
 use Rattle.content_store.specs.Rows.{Placed, shown, name_at, held_at}
-use Rattle.content_store.specs.Store.{CanServe, IsFresh, full_name_of}
+use Rattle.content_store.specs.Store.{CanServe, IsFreshData, full_name_of}
 use Rattle.content_store.specs.Blocks.{fresh_until}
 use Rattle.content_store.proofs.Shown.{length-shown, shown_at}
 use Rattle.content_store.proofs.Under.{under_not_less, under_served, serves_near, far_after}
@@ -38,7 +38,7 @@ passed c never k d lt within serves =
     ]
   where
     stale : (b : Bool) → c.args.key.must_be_fresh ≡ b → c.loop-at.at < k → fresh_until (held_at (get_or (shown (get c.args.entries.now) c.args.order.now) k d)) ≤ c.args.now
-        → (c.args.key.must_be_fresh ≡ true → IsFresh (held_at (get_or (shown (get c.args.entries.now) c.args.order.now) k d)) c.args.now) → ⊥
+        → (c.args.key.must_be_fresh ≡ true → IsFreshData (held_at (get_or (shown (get c.args.entries.now) c.args.order.now) k d)) c.args.now) → ⊥
     stale true e after over fresh = (let is = fresh e in omega (arith, over, is))
     stale false e after over fresh = (let one = c.next_place-at.ensures.next e in omega (arith, one, after, lt))
 

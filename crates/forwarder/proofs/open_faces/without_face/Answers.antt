@@ -1,6 +1,6 @@
 use Rattle.std.proofs.Common.{◌<◌, sym, ap, ◌∙◌, arith}
 use Rattle.std.proofs.lemmas.Bool.{eq-eqb, ne_eqb}
-use Rattle.pit_fib.specs.declared.faces.TheConstants.{MAX_FACES}
+use Rattle.pit_fib.specs.declared.face_set.TheConstants.{MAX_FACES}
 use Rattle.forwarder.proofs.Openness.{kept_here, left_out}
 use Rattle.forwarder.proofs.open_faces.without_face.Goals as goal
 use Rattle.forwarder.proofs.open_faces.without_face.Goals.{then-other-face, else-other-face}

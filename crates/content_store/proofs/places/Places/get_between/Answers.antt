@@ -1,7 +1,7 @@
 use Rattle.std.proofs.Common.{ℕ, ◌-◌, ◌<◌, List, length, get_or, ap, sym, subst, ◌∙◌, arith}
 use Rattle.std.proofs.lemmas.List.{get_or_default}
 use Rattle.content_store.specs.declared.places.Block.{Block}
-use Rattle.content_store.specs.Places.{IsIn, flat}
+use Rattle.content_store.specs.PlaceBlocks.{IsIn, flat}
 use Rattle.content_store.proofs.Flat.{inside, read, some_laid}
 use Rattle.content_store.proofs.places.Places.get_between.Goals as goal
 use Rattle.content_store.proofs.places.Places.get_between.Goals.{After-deref}

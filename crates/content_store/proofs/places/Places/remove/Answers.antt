@@ -2,7 +2,7 @@ use Rattle.std.proofs.Common.{◌≡◌, ℕ, ◌-◌, ◌<◌, List, length, se
 use Rattle.std.specs.List.{remove}
 use Rattle.std.proofs.lemmas.List.Edits.{length-remove}
 use Rattle.content_store.specs.declared.places.Block.{Block}
-use Rattle.content_store.specs.Places.{IsIn, flat}
+use Rattle.content_store.specs.PlaceBlocks.{IsIn, flat}
 use Rattle.content_store.proofs.Flat.{read_twice, some_laid, taken_out}
 use Rattle.content_store.proofs.places.Places.remove.Goals as goal
 use Rattle.content_store.proofs.places.Places.remove.Goals.{After-deref, After-remove}

@@ -1,5 +1,5 @@
 use Rattle.std.proofs.Common.{sym, ap, ◌∙◌}
-use Rattle.forwarder.specs.Faces.{is_open}
+use Rattle.forwarder.specs.OpenFaces.{is_open}
 use Rattle.forwarder.proofs.Openness.{open_in_entries}
 use Rattle.forwarder.proofs.open_faces.OpenFaces.contains.Goals as goal
 

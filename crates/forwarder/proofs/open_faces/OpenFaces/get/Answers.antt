@@ -1,6 +1,6 @@
 use Rattle.std.proofs.Common.{sym, ap, ◌∙◌}
 use Rattle.std.specs.Prelude.{slice_get}
-use Rattle.forwarder.specs.Faces.{numbers}
+use Rattle.forwarder.specs.OpenFaces.{numbers}
 use Rattle.forwarder.proofs.Openness.{numbers_of_entries}
 use Rattle.forwarder.proofs.open_faces.OpenFaces.get.Goals as goal
 

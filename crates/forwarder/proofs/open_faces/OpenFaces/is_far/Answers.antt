@@ -1,7 +1,7 @@
 use Rattle.std.proofs.Common.{not, sym, ap, ◌∙◌}
 use Rattle.std.specs.Prelude.{◌&&◌}
-use Rattle.pit_fib.specs.Faces.{has_face}
-use Rattle.forwarder.specs.Faces.{find_scope}
+use Rattle.pit_fib.specs.FaceSet.{has_face}
+use Rattle.forwarder.specs.OpenFaces.{find_scope}
 use Rattle.forwarder.specs.Policy.{is_far_scope}
 use Rattle.forwarder.proofs.Openness.{far_in_entries}
 use Rattle.forwarder.proofs.open_faces.OpenFaces.is_far.Goals as goal

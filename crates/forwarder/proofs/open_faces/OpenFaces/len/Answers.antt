@@ -1,6 +1,6 @@
 use Rattle.std.proofs.Common.{length, sym, ap, subst, ◌∙◌}
-use Rattle.pit_fib.specs.Faces.{IsRising}
-use Rattle.forwarder.specs.Faces.{FaceEntry, numbers}
+use Rattle.pit_fib.specs.FaceSet.{IsRising}
+use Rattle.forwarder.specs.OpenFaces.{FaceEntry, numbers}
 use Rattle.forwarder.proofs.Openness.{numbers_of_entries, length_of_entries}
 use Rattle.forwarder.proofs.open_faces.OpenFaces.len.Goals as goal
 

@@ -1,6 +1,6 @@
 use Rattle.std.proofs.Common.{sym, ap, ◌∙◌}
 use Rattle.std.specs.Prelude.{filter}
-use Rattle.forwarder.specs.Faces.{numbers}
+use Rattle.forwarder.specs.OpenFaces.{numbers}
 use Rattle.forwarder.specs.Policy.{is_local_scope}
 use Rattle.forwarder.proofs.Openness.{locals_in_entries}
 use Rattle.forwarder.proofs.open_faces.OpenFaces.locals.Goals as goal

@@ -1,5 +1,5 @@
 use Rattle.std.proofs.Common.{sym, ap, ◌∙◌}
-use Rattle.forwarder.specs.Faces.{numbers}
+use Rattle.forwarder.specs.OpenFaces.{numbers}
 use Rattle.forwarder.proofs.Openness.{numbers_of_entries}
 use Rattle.forwarder.proofs.open_faces.OpenFaces.numbers.Goals as goal
 

@@ -1,5 +1,5 @@
 use Rattle.std.proofs.Common.{◌==◌, not, sym, subst}
-use Rattle.pit_fib.specs.Faces.{IsRising}
+use Rattle.pit_fib.specs.FaceSet.{IsRising}
 use Rattle.forwarder.proofs.Members.{IsRising-filter}
 use Rattle.forwarder.proofs.Openness.{closed_shown, closed_are}
 use Rattle.forwarder.proofs.open_faces.OpenFaces.remove.Goals as goal

@@ -1,5 +1,5 @@
 use Rattle.std.proofs.Common.{◌≡◌, [], ◌∷◌, length, ap, arith}
-use Rattle.forwarder.specs.Sending.{SendsState}
+use Rattle.forwarder.specs.SendSpace.{SendsState}
 use Rattle.forwarder.proofs.Outboxes.{octets_placed, sends_placed}
 use Rattle.forwarder.proofs.sends.Sends.push.Goals as goal
 

@@ -3,7 +3,7 @@ use Rattle.std.specs.Result.{is_ok}
 use Rattle.ndn_packets.specs.declared.fault.WriteFault.{WriteFault}
 use Rattle.ndn_packets.specs.Writing.{interest_text, interest_refusal}
 use Rattle.forwarder.specs.Event.{to_each}
-use Rattle.forwarder.specs.Sending.{SendsState, unless_refused}
+use Rattle.forwarder.specs.SendSpace.{SendsState, unless_refused}
 use Rattle.forwarder.proofs.Outboxes.{octets_placed, sends_placed, ok_done, no_refusal}
 use Rattle.forwarder.proofs.sends.Sends.push_fetch.Goals as goal
 

@@ -2,7 +2,7 @@ use Rattle.std.proofs.Common.{◌≡◌, ℕ, List, [], ◌∷◌, length, ap, �
 use Rattle.std.proofs.lemmas.List.{length-append}
 use Rattle.ndn_packets.specs.Writing.{lp_text}
 use Rattle.forwarder.specs.Handling.{token_of}
-use Rattle.forwarder.specs.Sending.{SendsState}
+use Rattle.forwarder.specs.SendSpace.{SendsState}
 use Rattle.forwarder.proofs.LinkLengths.{link_is_short}
 use Rattle.forwarder.proofs.Outboxes.{octets_placed, sends_placed}
 use Rattle.forwarder.proofs.sends.Sends.push_lp.Goals as goal

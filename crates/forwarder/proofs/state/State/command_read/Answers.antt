@@ -12,7 +12,7 @@ use Rattle.forwarder.specs.Event.{Send}
 use Rattle.forwarder.specs.Cache.{CacheAfter, command_use}
 use Rattle.forwarder.specs.Node.{NodeState}
 use Rattle.forwarder.specs.Policy.{Policy, with_next_version}
-use Rattle.forwarder.specs.Said.{recorded_of}
+use Rattle.forwarder.specs.Deciding.{recorded_of}
 use Rattle.forwarder.specs.Handling.{token_of}
 use Rattle.forwarder.specs.State.{IsLater, policy_of, state_of}
 use Rattle.forwarder.proofs.CarriedOut.{after_applied, at_most, cache_applied, has_room, response_within, still_ready, tables_done, with_tables}

@@ -7,7 +7,7 @@ use Rattle.forwarder.specs.Commands.{fetch_sends, replied, repository_content, w
 use Rattle.forwarder.specs.Event.{Send}
 use Rattle.forwarder.specs.Node.{NodeState}
 use Rattle.forwarder.specs.Policy.{Policy}
-use Rattle.forwarder.specs.Said.{recorded_of}
+use Rattle.forwarder.specs.Deciding.{recorded_of}
 use Rattle.forwarder.specs.Handling.{token_of}
 use Rattle.forwarder.specs.State.{IsLater, state_of}
 use Rattle.forwarder.proofs.CarriedOut.{content_fits, has_packet_room, has_places, has_reply_room, has_room, repository_done, same_fetches, still_prepared, sum_is, with_repository}

@@ -8,7 +8,7 @@ use Rattle.pit_fib.specs.Tokens.{IsTokenFor}
 use Rattle.content_store.proofs.Losses.{loses_some-contained}
 use Rattle.forwarder.specs.State.{state_of}
 use Rattle.forwarder.specs.Replies.{sent_to}
-use Rattle.forwarder.specs.Sending.{SendsState}
+use Rattle.forwarder.specs.SendSpace.{SendsState}
 use Rattle.forwarder.specs.Event.{Send, Token, to_each}
 use Rattle.forwarder.proofs.Delivered.{all_bare, bare, bare_faces, bare_sends, cached, not_cached, sent_to_askers}
 use Rattle.forwarder.proofs.state.State.deliver.Goals as goal

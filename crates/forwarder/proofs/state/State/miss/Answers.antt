@@ -6,7 +6,7 @@ use Rattle.pit_fib.specs.Pit.{loops}
 use Rattle.pit_fib.specs.Records.{Pending, records_at}
 use Rattle.forwarder.specs.Handling.{token_of}
 use Rattle.forwarder.specs.Event.{Send, nacked_back}
-use Rattle.forwarder.specs.Sending.{SendsState}
+use Rattle.forwarder.specs.SendSpace.{SendsState}
 use Rattle.forwarder.specs.State.{IsLater, state_of}
 use Rattle.forwarder.proofs.Answered.{refused_packet, sure_packet, unharmed}
 use Rattle.forwarder.proofs.Answering.{forwards_handled, interest_is_short, later_sound, loop_answered, served_then, uncached_then}

@@ -3,7 +3,7 @@ use Rattle.std.specs.FinMap as map
 use Rattle.std.proofs.lemmas.List.{drop_all, length-map}
 use Rattle.ndn_packets.specs.Key.{plain_key}
 use Rattle.strategies.proofs.Places.{drop_past}
-use Rattle.forwarder.specs.Faces.{FaceEntry, numbers}
+use Rattle.forwarder.specs.OpenFaces.{FaceEntry, numbers}
 use Rattle.forwarder.specs.NackRoom.{in_records_at, nack_room, room_for}
 use Rattle.forwarder.proofs.NackSteps.{asker_room, no_asker, room_here}
 use Rattle.forwarder.proofs.state.State.nack_room.Goals as goal

@@ -1,6 +1,6 @@
 use Rattle.std.proofs.Common.{◌≡◌, ◌+◌, drop}
 use Rattle.ndn_packets.specs.Key.{plain_key}
-use Rattle.forwarder.specs.Faces.{numbers}
+use Rattle.forwarder.specs.OpenFaces.{numbers}
 use Rattle.forwarder.specs.NackRoom.{in_records_at, nack_room}
 use Rattle.forwarder.proofs.state.State.nack_room.Given as goal
 

@@ -1,6 +1,6 @@
 use Rattle.std.proofs.Common.{◌≤◌, ◌<◌, refl, sym, ◌∙◌, subst}
 use Rattle.std.proofs.lemmas.Bool.{ne_eqb}
-use Rattle.pit_fib.specs.declared.faces.TheConstants.{MAX_FACES}
+use Rattle.pit_fib.specs.declared.face_set.TheConstants.{MAX_FACES}
 use Rattle.forwarder.specs.State.{state_of}
 use Rattle.forwarder.proofs.FaceSteps.{opens, opens_no_zero, opens_no_twice, opens_no_more}
 use Rattle.forwarder.proofs.state.State.open.Goals as goal

@@ -5,7 +5,7 @@ use Rattle.ndn_packets.specs.Key.{plain_key}
 use Rattle.ndn_packets.specs.Link.{IsToken}
 use Rattle.strategies.proofs.Places.{drop_here, drop_past}
 use Rattle.forwarder.specs.Event.{Send, nacked_back}
-use Rattle.forwarder.specs.Faces.{FaceEntry, numbers}
+use Rattle.forwarder.specs.OpenFaces.{FaceEntry, numbers}
 use Rattle.forwarder.specs.Handling.{token_of}
 use Rattle.forwarder.specs.NackRoom.{in_records_at, nack_room}
 use Rattle.forwarder.proofs.NackSteps.{asker_nack, asker_room, nack_for, nacks_by, nacks_to_all, no_asker, room_here}

@@ -1,8 +1,8 @@
 use Rattle.std.proofs.Common.{◌≡◌, ◌+◌, ◌++◌, ◌≤◌, drop}
 use Rattle.std.specs.FinMap as map
 use Rattle.ndn_packets.specs.Key.{plain_key}
-use Rattle.pit_fib.specs.declared.faces.TheConstants.{MAX_FACES}
-use Rattle.forwarder.specs.Faces.{numbers}
+use Rattle.pit_fib.specs.declared.face_set.TheConstants.{MAX_FACES}
+use Rattle.forwarder.specs.OpenFaces.{numbers}
 use Rattle.forwarder.specs.NackRoom.{in_records_at, nack_room}
 use Rattle.forwarder.proofs.NackSteps.{nacks_by}
 use Rattle.forwarder.proofs.state.State.push_nacks.Given as goal

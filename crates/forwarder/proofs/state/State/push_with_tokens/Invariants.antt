@@ -3,7 +3,7 @@ use Rattle.sha2.specs.Sha256.{sha256}
 use Rattle.ndn_names.specs.View.{components}
 use Rattle.pit_fib.specs.Records.{records_at}
 use Rattle.pit_fib.specs.Tokens.{IsTokenFor}
-use Rattle.pit_fib.specs.declared.faces.TheConstants.{MAX_FACES}
+use Rattle.pit_fib.specs.declared.face_set.TheConstants.{MAX_FACES}
 use Rattle.forwarder.specs.Event.{Token}
 use Rattle.forwarder.specs.Replies.{Askers, faces_of, sent_to}
 use Rattle.forwarder.specs.declared.sends.TheConstants.{LINK_EXTRA}

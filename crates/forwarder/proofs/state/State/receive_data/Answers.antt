@@ -6,7 +6,7 @@ use Rattle.info_rules.specs.declared.decision.Decision.{Decision}
 use Rattle.forwarder.specs.Event.{Send}
 use Rattle.forwarder.specs.Handling.{IsAnswered, token_of}
 use Rattle.forwarder.specs.Policy.{Policy}
-use Rattle.forwarder.specs.Said.{IsSaid}
+use Rattle.forwarder.specs.Deciding.{IsDecidedAs}
 use Rattle.forwarder.specs.State.{policy_of, state_of}
 use Rattle.forwarder.specs.Verdict.{verdict_of}
 use Rattle.forwarder.specs.declared.verdict.Verdict as code
@@ -36,7 +36,7 @@ returns-in_err-rule-clause-handles c = refused_packet c.from_residual.result c.f
 
 pub receive_allowed-requires-clause-allowed : goal.receive_allowed-requires-clause-allowed
 receive_allowed-requires-clause-allowed c = λ p rules keys.
-    subst (λ (said : Decision). IsSaid p (AData c.args.arrived.now.packet.now.whole.now (plain_data c.args.arrived.now.packet.now)) said) c.in-Allowed.is (c.in_ok-rule.ensures.said p rules keys)
+    subst (λ (said : Decision). IsDecidedAs p (AData c.args.arrived.now.packet.now.whole.now (plain_data c.args.arrived.now.packet.now)) said) c.in-Allowed.is (c.in_ok-rule.ensures.said p rules keys)
 
 pub returns-in-Denied-clause-handles : goal.returns-in-Denied-clause-handles
 returns-in-Denied-clause-handles c = record {
@@ -53,7 +53,7 @@ returns-in-Denied-clause-handles c = record {
         data_denied was c.args.arrived.now.face (token_of c.args.arrived.now.token) whole d later.living
             (later_scope old was c.args.arrived.now.face c.args.arrived.now.moment d.name later ∙ sym c.is_out_of_scope.ensures ∙ c.if-is_out_of_scope.false)
             c.in-Denied.rule c.in-Denied.reason
-            (subst (λ (said : Decision). IsSaid was.policy (AData whole d) said) c.in-Denied.is
+            (subst (λ (said : Decision). IsDecidedAs was.policy (AData whole d) said) c.in-Denied.is
             (c.in_ok-rule.ensures.said was.policy (ap (λ (p : Policy). p.rules) later.policy) (ap (λ (p : Policy). p.keys) later.policy))),
       );
   memory = tt;
@@ -73,7 +73,7 @@ returns-in-NoRule-clause-handles c = record {
         later,
         data_by_no_rule was c.args.arrived.now.face (token_of c.args.arrived.now.token) whole d later.living
             (later_scope old was c.args.arrived.now.face c.args.arrived.now.moment d.name later ∙ sym c.is_out_of_scope.ensures ∙ c.if-is_out_of_scope.false)
-            (subst (λ (said : Decision). IsSaid was.policy (AData whole d) said) c.in-NoRule.is
+            (subst (λ (said : Decision). IsDecidedAs was.policy (AData whole d) said) c.in-NoRule.is
             (c.in_ok-rule.ensures.said was.policy (ap (λ (p : Policy). p.rules) later.policy) (ap (λ (p : Policy). p.keys) later.policy))),
       );
   memory = tt;
@@ -89,6 +89,6 @@ pub returns-in-Allowed-clause-without_memory : goal.returns-in-Allowed-clause-wi
 returns-in-Allowed-clause-without_memory c = λ needs. elim needs [
   | inl out ↦ let here = sym c.is_out_of_scope.ensures ∙ c.if-is_out_of_scope.false in cc (here, out)
   | inr (never, sure) ↦ absurd (never c.in-Allowed.rule
-      (subst (λ (said : Decision). IsSaid (policy_of c.args.self.now) (AData c.args.arrived.now.packet.now.whole.now (plain_data c.args.arrived.now.packet.now)) said) c.in-Allowed.is
+      (subst (λ (said : Decision). IsDecidedAs (policy_of c.args.self.now) (AData c.args.arrived.now.packet.now.whole.now (plain_data c.args.arrived.now.packet.now)) said) c.in-Allowed.is
       (c.in_ok-rule.ensures.said (policy_of c.args.self.now) refl refl)))
 ]

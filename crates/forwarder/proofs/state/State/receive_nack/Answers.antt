@@ -8,7 +8,7 @@ use Rattle.pit_fib.specs.Pit.{nacked_answer}
 use Rattle.pit_fib.specs.Records.{InRecords, Records, records_at}
 use Rattle.pit_fib.proofs.PendingFaces.{had_records}
 use Rattle.forwarder.specs.Event.{Send}
-use Rattle.forwarder.specs.Faces.{FaceEntry, is_open, numbers}
+use Rattle.forwarder.specs.OpenFaces.{FaceEntry, is_open, numbers}
 use Rattle.forwarder.specs.Handling.{IsAnswered, token_of}
 use Rattle.forwarder.specs.NackRoom.{in_records_at, nack_room}
 use Rattle.forwarder.specs.Policy.{Policy}

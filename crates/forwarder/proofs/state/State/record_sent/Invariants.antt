@@ -5,7 +5,7 @@ use Rattle.ndn_packets.specs.View.{plain_interest}
 use Rattle.pit_fib.specs.Pit.{HasRecord}
 use Rattle.pit_fib.specs.Records.{HoldsTheLiving, is_alive, records_at}
 use Rattle.forwarder.specs.Causes.{sent_causes}
-use Rattle.forwarder.specs.Faces.{is_open}
+use Rattle.forwarder.specs.OpenFaces.{is_open}
 use Rattle.forwarder.specs.Node.{FollowAll}
 use Rattle.forwarder.proofs.state.State.record_sent.Given as goal
 

@@ -8,7 +8,7 @@ use Rattle.pit_fib.specs.Records.{records_at}
 use Rattle.content_store.specs.Store.{Finds}
 use Rattle.forwarder.specs.Handling.{token_of}
 use Rattle.forwarder.specs.Event.{Send, nacked_back, sent_back}
-use Rattle.forwarder.specs.Sending.{SendsState}
+use Rattle.forwarder.specs.SendSpace.{SendsState}
 use Rattle.forwarder.specs.State.{IsLater, state_of}
 use Rattle.forwarder.proofs.Answered.{refused_packet, unharmed}
 use Rattle.forwarder.proofs.Answering.{CanGoBack, cache_answered, cached_goes_back, interest_is_short, least_then, loop_answered, nothing_served}

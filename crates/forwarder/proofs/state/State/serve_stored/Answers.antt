@@ -9,7 +9,7 @@ use Rattle.repo_core.specs.Objects.{AreObjects, served}
 use Rattle.forwarder.specs.Handling.{token_of}
 use Rattle.forwarder.specs.Event.{Send, nacked_back, sent_back}
 use Rattle.forwarder.specs.Policy.{Policy}
-use Rattle.forwarder.specs.Sending.{SendsState}
+use Rattle.forwarder.specs.SendSpace.{SendsState}
 use Rattle.forwarder.specs.State.{IsLater, state_of}
 use Rattle.forwarder.proofs.Answered.{refused_packet, unharmed}
 use Rattle.forwarder.proofs.Answering.{CanGoBack, interest_is_short, loop_answered, repository_answered, served_goes_back, uncached_then}

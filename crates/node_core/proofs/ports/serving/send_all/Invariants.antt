@@ -1,13 +1,13 @@
 use Rattle.std.proofs.Common.{◌≡◌, ◌≤◌, List, take}
 use Rattle.forwarder.specs.Event.{Send}
 use Rattle.node_core.specs.Ports.{Takes}
-use Rattle.node_core.specs.Ports.Serving.{AreTakenOf, many_more}
+use Rattle.node_core.specs.Ports.Serving.{AreSendsTaken, count_after}
 use Rattle.node_core.proofs.ports.serving.send_all.Given as goal
 
 abbrev pub invariant-loop-i : goal.invariant-loop-i
 invariant-loop-i g l = record {
   few : l.failed ≤ l.i;
-  sent : (taken : List Send) × AreTakenOf (take l.i l.outbox) l.failed taken × Takes (g.P.Ports.taken l.initial.ports) (g.P.Ports.taken l.ports) taken;
+  sent : (taken : List Send) × AreSendsTaken (take l.i l.outbox) l.failed taken × Takes (g.P.Ports.taken l.initial.ports) (g.P.Ports.taken l.ports) taken;
   coming : g.P.Ports.coming l.ports ≡ g.P.Ports.coming l.initial.ports;
-  failures : g.P.Ports.failures l.ports ≡ many_more (g.P.Ports.failures l.initial.ports) l.failed;
+  failures : g.P.Ports.failures l.ports ≡ count_after (g.P.Ports.failures l.initial.ports) l.failed;
 }

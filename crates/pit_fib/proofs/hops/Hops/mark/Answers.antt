@@ -1,7 +1,7 @@
 use Rattle.std.proofs.Common.{take, false}
 use Rattle.std.specs.Prelude.{◌||◌}
 use Rattle.pit_fib.specs.declared.hops.Hop.{Hop}
-use Rattle.pit_fib.specs.Faces.{has_face}
+use Rattle.pit_fib.specs.FaceSet.{has_face}
 use Rattle.pit_fib.proofs.Updates.{update_more}
 use Rattle.pit_fib.proofs.hops.Hops.mark.Goals as goal
 

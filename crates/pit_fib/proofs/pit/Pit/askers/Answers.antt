@@ -5,7 +5,7 @@ use Rattle.sha2.specs.Sha256.{sha256}
 use Rattle.ndn_names.specs.View.{components}
 use Rattle.ndn_packets.specs.Answers.{full_name}
 use Rattle.name_trie.specs.Taken.{taken, taken_along}
-use Rattle.pit_fib.specs.Faces.{has_face}
+use Rattle.pit_fib.specs.FaceSet.{has_face}
 use Rattle.pit_fib.specs.Records.{Pending}
 use Rattle.pit_fib.specs.Kept.{pending_of, with_answered}
 use Rattle.pit_fib.specs.Pit.{PitState, WaitsFor}

@@ -1,7 +1,7 @@
 -- The open faces of a node (NFD Developer's Guide, "Face Scope").
 use Rattle.std.specs.Prelude.{◌≡◌, ℕ, List, [], ◌∷◌, Option, None, Some, Bool, ◌==◌, if◌then◌else◌, nat_lt, not, filter, map}
 use Rattle.std.specs.List.{list_any}
-use Rattle.pit_fib.specs.Faces.{has_face}
+use Rattle.pit_fib.specs.FaceSet.{has_face}
 use Rattle.forwarder.specs.declared.event.Scope.{Scope}
 use Rattle.forwarder.specs.declared.event.Scope.TheVariants.{Local, Far}
 

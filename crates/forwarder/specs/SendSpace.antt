@@ -3,7 +3,7 @@ use Rattle.std.specs.Prelude.{ℕ, ◌+◌, ◌*◌, List, [], length, Bool, Opt
 use Rattle.ndn_packets.specs.declared.fault.WriteFault.{WriteFault}
 use Rattle.ndn_packets.specs.declared.interest_writer.InterestWriter.{InterestWriter}
 use Rattle.ndn_packets.specs.Writing.{interest_refusal, interest_text}
-use Rattle.pit_fib.specs.declared.faces.TheConstants.{MAX_FACES}
+use Rattle.pit_fib.specs.declared.face_set.TheConstants.{MAX_FACES}
 use Rattle.forwarder.specs.declared.sends.TheConstants.{LINK_EXTRA}
 use Rattle.forwarder.specs.Event.{Send, to_each}
 

@@ -2,7 +2,7 @@ use Rattle.std.proofs.lemmas.Grind.{common_steps}
 use Rattle.std.proofs.Common.{rules, arith, ap, length, refl}
 use Rattle.std.proofs.lemmas.List.{length-append}
 use Rattle.ndn_packets.proofs.Lengths.{info_parts, info_put}
-use Rattle.ndn_packets.proofs.writing.put_info.Goals as goal
+use Rattle.ndn_packets.proofs.field_writer.put_info.Goals as goal
 
 pub returns-in_err-put_nni_element : goal.returns-in_err-put_nni_element
 returns-in_err-put_nni_element c = record {

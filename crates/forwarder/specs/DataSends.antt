@@ -17,7 +17,7 @@ use Rattle.info_rules.specs.declared.decision.Decision.{Decision}
 use Rattle.info_rules.specs.declared.decision.Decision.TheVariants.{Allowed}
 use Rattle.repo_core.specs.Objects.{served}
 use Rattle.forwarder.specs.Event.{PlainEvent, Packet, FaceUp, FaceDown, Tick, NewRules, Send, Token, sent_back}
-use Rattle.forwarder.specs.Said.{IsSaid}
+use Rattle.forwarder.specs.Deciding.{IsDecidedAs}
 use Rattle.forwarder.specs.Commands.{reply_content}
 use Rattle.forwarder.specs.Datasets.{list_answer}
 use Rattle.forwarder.specs.Effects.{decided_packet}
@@ -39,7 +39,7 @@ pub record IsForwardedData (seen : Seen) (event : PlainEvent) (sent : Send) : Ty
   pub brings : event ≡ Packet face now octets
   pub read : frame_at octets ≡ Ok (AData whole packet)
   pub decided : decided_packet seen.policy event ≡ Some (AData whole packet)
-  pub allowed : IsSaid seen.policy (AData whole packet) (Allowed rule)
+  pub allowed : IsDecidedAs seen.policy (AData whole packet) (Allowed rule)
   pub other : sent.0 ≢ face
   pub waits : Waits seen packet.name (sha256 whole) sent.0
   pub token : Token
@@ -50,7 +50,7 @@ pub record IsForwardedData (seen : Seen) (event : PlainEvent) (sent : Send) : Ty
 abbrev pub IsReplyToCommand : Policy → ℕ → List ℕ → PlainInterest → List ℕ → Type 0
 IsReplyToCommand p face whole i octets =
     (is_command (request_of p face i) ≡ true)
-    × ((said : Decision) × IsSaid p (AnInterest whole i) said
+    × ((said : Decision) × IsDecidedAs p (AnInterest whole i) said
     × (octets ≡ reply_text i.name (reply_content p face i said)))
 
 -- the segment that is asked for, of the list as it is now

@@ -1,7 +1,7 @@
 use Rattle.std.proofs.Common.{◌≡◌, get_or, arith}
 use Rattle.std.proofs.lemmas.List.{get_or_default}
 use Rattle.pit_fib.proofs.RisingFaces.{face_absent, face_gap, end_absent, end_gap}
-use Rattle.pit_fib.proofs.faces.place_of.Goals as goal
+use Rattle.pit_fib.proofs.face_set.place_of.Goals as goal
 
 pub returns-then-face-other-clause-absent : goal.returns-then-face-other-clause-absent
 returns-then-face-other-clause-absent c =

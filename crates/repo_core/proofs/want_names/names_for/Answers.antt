@@ -1,8 +1,8 @@
 use Rattle.std.proofs.Common.{ap, sym, ◌∙◌}
 use Rattle.std.specs.Ordering.{is_eq}
 use Rattle.repo_core.proofs.Spares.{other_spare, no_spare}
-use Rattle.repo_core.proofs.spare.names_for.Goals as goal
-use Rattle.repo_core.proofs.spare.names_for.Goals.{in_default-via-in-Some+else-is_eq, in_default-via-in_default}
+use Rattle.repo_core.proofs.want_names.names_for.Goals as goal
+use Rattle.repo_core.proofs.want_names.names_for.Goals.{in_default-via-in-Some+else-is_eq, in_default-via-in_default}
 use Rattle.ndn_names.specs.View.{components}
 
 pub returns-in_default-clause-spared : goal.returns-in_default-clause-spared

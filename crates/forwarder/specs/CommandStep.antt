@@ -7,7 +7,7 @@ use Rattle.forwarder.specs.Event.{Send, Token}
 use Rattle.mgmt_core.specs.Reading.{command_at}
 use Rattle.forwarder.specs.Cache.{CacheAfter, CacheUse, Untouched, command_use}
 use Rattle.forwarder.specs.Request.{Request, Refused, ForList, ForTables, ForRepository, ForData}
-use Rattle.forwarder.specs.Said.{recorded_of}
+use Rattle.forwarder.specs.Deciding.{recorded_of}
 use Rattle.forwarder.specs.Commands.{after_request, allowed_reply, replied, with_record}
 use Rattle.forwarder.specs.Node.{NodeState}
 use Rattle.forwarder.specs.State.{IsLater, state_of}

@@ -1,5 +1,5 @@
 ghost use Rattle.std.specs.Prelude.{◌≡◌, [], ◌<◌, ◌≤◌, length, insert, slice_get, IfOk, IfErr, true, false};
-ghost use Rattle.pit_fib.specs.Faces.{IsRising, has_face, with_face, adding};
+ghost use Rattle.pit_fib.specs.FaceSet.{IsRising, has_face, with_face, adding};
 
 use crate::array_list::insert_at;
 use std::marker::Model;
@@ -16,8 +16,8 @@ pub struct Faces {
 
 impl Model for Faces {
     ghost use Rattle.std.specs.Prelude.{List, ℕ, ◌≤◌, take};
-    ghost use Rattle.pit_fib.specs.Faces.{IsRising};
-    ghost use Rattle.pit_fib.specs.declared.faces.TheConstants.{MAX_FACES};
+    ghost use Rattle.pit_fib.specs.FaceSet.{IsRising};
+    ghost use Rattle.pit_fib.specs.declared.face_set.TheConstants.{MAX_FACES};
 
     ghost Value = { List ℕ };
 

@@ -1,7 +1,7 @@
 use Rattle.std.proofs.Common.{arith, sym, subst, ◌∙◌}
-use Rattle.pit_fib.specs.Faces.{IsRising}
+use Rattle.pit_fib.specs.FaceSet.{IsRising}
 use Rattle.pit_fib.proofs.RisingFaces.{with_rises}
-use Rattle.pit_fib.proofs.faces.Faces.insert.Goals as goal
+use Rattle.pit_fib.proofs.face_set.Faces.insert.Goals as goal
 
 pub invariant_of-self : goal.invariant_of-self
 invariant_of-self c =

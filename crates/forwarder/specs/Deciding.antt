@@ -53,10 +53,10 @@ IsFreshPacket p Idle = ⊤
 
 -- The first rule that applies decides. A command that it allows and that is not fresh is denied by
 -- that rule, as a replay.
-abbrev pub IsSaid : Policy → PlainFrame → Decision → Type 0
-IsSaid p packet (Allowed rule) =
+abbrev pub IsDecidedAs : Policy → PlainFrame → Decision → Type 0
+IsDecidedAs p packet (Allowed rule) =
     Decides p.rules p.keys packet (Allowed rule) × IsFreshPacket p packet
-IsSaid p packet (Denied rule reason) =
+IsDecidedAs p packet (Denied rule reason) =
     Decides p.rules p.keys packet (Denied rule reason)
     ⊎ ((reason ≡ Replay) × Decides p.rules p.keys packet (Allowed rule) × ¬ IsFreshPacket p packet)
-IsSaid p packet NoRule = Decides p.rules p.keys packet NoRule
+IsDecidedAs p packet NoRule = Decides p.rules p.keys packet NoRule

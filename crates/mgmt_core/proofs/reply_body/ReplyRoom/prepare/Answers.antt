@@ -2,7 +2,7 @@ use Rattle.std.proofs.Common.{ap, arith, length, vec_len}
 use Rattle.std.specs.Vec.{vec_capacity}
 use Rattle.mgmt_core.specs.Reading.{asked}
 use Rattle.mgmt_core.proofs.Replies.{room_for_all}
-use Rattle.mgmt_core.proofs.reply.ReplyRoom.prepare.Goals as goal
+use Rattle.mgmt_core.proofs.reply_body.ReplyRoom.prepare.Goals as goal
 
 pub returns : goal.returns
 returns c =

@@ -1,7 +1,7 @@
 ghost use Rattle.std.specs.Prelude.{◌≡◌, ◌<◌, ◌≤◌, ◌+◌, ◌^◌, ◌++◌, length, vec_len, IsOk, IfOk, OnOk};
 ghost use Rattle.std.specs.Vec.{vec_capacity};
 ghost use Rattle.mgmt_core.specs.Reading.{asked};
-ghost use Rattle.mgmt_core.specs.Steps.{about_fields, said_fields};
+ghost use Rattle.mgmt_core.specs.Steps.{about_fields, given_fields};
 ghost use Rattle.mgmt_core.specs.Tables.{deadline_of, face_of, strategy_asked};
 ghost use Rattle.ndn_tlv.specs.Writing.{octets, optional};
 ghost use Rattle.mgmt_core.specs.Writing.{given, reply_body, reply_fields, reply_limit};
@@ -9,8 +9,8 @@ ghost use Rattle.mgmt_core.specs.Writing.{strategy_value};
 ghost use Rattle.std.specs.Option.{option_map};
 ghost use Rattle.mgmt_core.specs.Room.{HasRoomForReply};
 
-use crate::applied::Octets;
 use crate::command::Command;
+use crate::outcome::Octets;
 use crate::strategy_name::{strategy_named, strategy_value};
 use ndn_packets::command_types::{
     CONTROL_PARAMETERS, COST, COUNT, EXPIRATION_PERIOD, FACE_ID, FLAGS, ORIGIN, STRATEGY,
@@ -91,7 +91,7 @@ impl Command<'_> {
             ≤ vec_capacity out.old → IsOk result }
     {
         self.put_about(out, face)?;
-        self.put_said(out)
+        self.put_given(out)
     }
 
     /// Appends the fields that say what it is about, the name, the face and the origin, or some octets
@@ -111,10 +111,10 @@ impl Command<'_> {
     }
 
     /// Appends the other fields, or some octets of them.
-    fn put_said(&self, out: &mut Vec<u8>) -> Result<(), Memory>
+    fn put_given(&self, out: &mut Vec<u8>) -> Result<(), Memory>
         ensures ok { OnOk result
-            (out.new.items ≡ out.old.items ++ octets (said_fields (asked self.now))) }
-        ensures room { vec_len out.old + length (octets (said_fields (asked self.now)))
+            (out.new.items ≡ out.old.items ++ octets (given_fields (asked self.now))) }
+        ensures room { vec_len out.old + length (octets (given_fields (asked self.now)))
             ≤ vec_capacity out.old → IsOk result }
     {
         let cost = self.given_number(COST, Some(self.cost));

@@ -1,7 +1,7 @@
 use Rattle.ndn_packets.specs.Packet.{AnInterest}
 use Rattle.ndn_packets.specs.View.{plain_interest}
-use Rattle.forwarder.proofs.Saying.{said_otherwise}
-use Rattle.forwarder.proofs.freshness.said.Goals as goal
+use Rattle.forwarder.proofs.Deciding.{said_otherwise}
+use Rattle.forwarder.proofs.freshness.decide_command.Goals as goal
 
 pub returns-in_default : goal.returns-in_default
 returns-in_default c p r k g n =
