@@ -186,8 +186,8 @@ IsDenial p face token (AData whole d) (decided.Denied rule reason) answer =
     answer ≡ record { verdict = Denied kinds.Data rule.0 reason; sends = [] }
 IsDenial p face token (AData whole d) decided.NoRule answer =
     answer ≡ record { verdict = NoRule kinds.Data; sends = [] }
-IsDenial p face token (ANack reason whole i) said answer = ⊥
-IsDenial p face token Idle said answer = ⊥
+IsDenial p face token (ANack reason whole i) decision answer = ⊥
+IsDenial p face token Idle decision answer = ⊥
 
 -- the signer, time and number of an allowed command are recorded
 abbrev pub with_record : Policy → Option Recorded → Policy

@@ -50,8 +50,8 @@ pub record IsForwardedData (seen : Seen) (event : PlainEvent) (sent : Send) : Ty
 abbrev pub IsReplyToCommand : Policy → ℕ → List ℕ → PlainInterest → List ℕ → Type 0
 IsReplyToCommand p face whole i octets =
     (is_command (request_of p face i) ≡ true)
-    × ((said : Decision) × IsDecidedAs p (AnInterest whole i) said
-    × (octets ≡ reply_text i.name (reply_content p face i said)))
+    × ((decision : Decision) × IsDecidedAs p (AnInterest whole i) decision
+    × (octets ≡ reply_text i.name (reply_content p face i decision)))
 
 -- the segment that is asked for, of the list as it is now
 abbrev pub IsSegmentAskedFor : Policy → ℕ → PlainInterest → List ℕ → Type 0

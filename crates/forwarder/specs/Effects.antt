@@ -85,8 +85,8 @@ undecided_effect p (NewRules rules keys now) = with_rules p rules keys
 abbrev pub IsEffect : Policy → PlainEvent → Policy → Option PlainFrame → Type 0
 IsEffect p event new None = new ≡ undecided_effect p event
 IsEffect p event new (Some packet) =
-    (said : Decision) × IsDecidedAs p packet said
-    × (new ≡ after_decision p (face_in event) packet said)
+    (decision : Decision) × IsDecidedAs p packet decision
+    × (new ≡ after_decision p (face_in event) packet decision)
 
 -- A moment comes, and then the event has its effect. It is a function of the old policy and the
 -- event, since of each packet one decision is said.

@@ -33,7 +33,8 @@ use Rattle.forwarder.specs.State.{IsLater, IsSound, state_of}
 -- what a packet changes, by whether rules decide it
 abbrev pub IsPacketEffect : Policy → ℕ → PlainFrame → Policy → Bool → Type 0
 IsPacketEffect p face packet new true =
-    (said : Decision) × IsDecidedAs p packet said × (new ≡ after_decision p face packet said)
+    (decision : Decision) × IsDecidedAs p packet decision
+    × (new ≡ after_decision p face packet decision)
 IsPacketEffect p face packet new false = new ≡ p
 
 abbrev pub seen_by : NodeState → Seen

@@ -104,8 +104,8 @@ RepliesForData seen face token whole i answer =
 
 abbrev pub RepliesToCommand : Seen → ℕ → Token → List ℕ → PlainInterest → Answer → Type 0
 RepliesToCommand seen face token whole i answer =
-    (said : Decision) × IsDecidedAs seen.policy (AnInterest whole i) said
-    × (answer ≡ command_answer seen.policy face token i said)
+    (decision : Decision) × IsDecidedAs seen.policy (AnInterest whole i) decision
+    × (answer ≡ command_answer seen.policy face token i decision)
 
 abbrev pub RepliesToRequest : Seen → ℕ → Token → List ℕ → PlainInterest → Answer → Request
     → Type 0
@@ -158,8 +158,8 @@ RepliesByDecision seen face whole d answer decided.NoRule =
 abbrev pub RepliesToData : Seen → ℕ → List ℕ → PlainData → Answer → Type 0
 RepliesToData seen face whole d answer =
     IfTrueElse (is_out_of_scope seen.policy face d.name) (answer ≡ dropped OutOfScope)
-    ((said : Decision) × IsDecidedAs seen.policy (AData whole d) said
-    × RepliesByDecision seen face whole d answer said)
+    ((decision : Decision) × IsDecidedAs seen.policy (AData whole d) decision
+    × RepliesByDecision seen face whole d answer decision)
 
 -- a Nack of this reason around the Interest of each in-record, with its token, in rising order of the
 -- faces

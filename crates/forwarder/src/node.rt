@@ -173,7 +173,8 @@ impl Node {
             (record { verdict = verdict_of verdict; sends = sends }))
             × Stands first (Then past (plain event.entry)
             (record { verdict = verdict_of verdict; sends = sends })) self.new) }
-        ensures memory { OnErr result (ChangesCacheOnly self.old self.new × (outbox.new ≡ outbox.old)) }
+        ensures memory { OnErr result (ChangesCacheOnly self.old self.new
+            × (outbox.new ≡ outbox.old)) }
         ensures without_memory { AsksNoMemory self.old (plain event.entry) → IsOk result }
         // So it is of every event.
         ensures octets { BringsOctets (plain event.entry) }

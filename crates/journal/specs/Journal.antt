@@ -41,7 +41,8 @@ is_journalled_undecided p (NewRules rules keys now) = true
 abbrev pub IsChosen : Policy → PlainEvent → Bool → Option PlainFrame → Type 0
 IsChosen p event chosen None = chosen ≡ is_journalled_undecided p event
 IsChosen p event chosen (Some packet) =
-    (said : Decision) × IsDecidedAs p packet said × (chosen ≡ is_journalled_as p packet said)
+    (decision : Decision) × IsDecidedAs p packet decision
+    × (chosen ≡ is_journalled_as p packet decision)
 
 -- Whether an event is journalled, at the policy before it. It is a function of the two where the
 -- keys of the policy have different names: of each packet one decision is then said.

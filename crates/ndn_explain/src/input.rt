@@ -83,7 +83,8 @@ fn put_octets(
     keys: Option<&KeyBook>,
 ) -> Result<(), Memory>
     ensures { OnOk result ((said : List ℕ)
-        × IsExplainedPart (option_map (λ b. b.now) keys.entry) line.now head.now (Ok octets.now) said
+        × IsExplainedPart (option_map (λ b. b.now) keys.entry) line.now head.now
+        (Ok octets.now) said
         × (text.new.items ≡ text.old.items ++ said)) }
 {
     if octets.is_empty() {

@@ -29,7 +29,8 @@ SpellEvents [] [] = Unit {0}
 SpellEvents [] (event ∷ events) = ⊥
 SpellEvents (line ∷ lines) [] = IsSkipped line × SpellEvents lines []
 SpellEvents (line ∷ lines) (event ∷ events) =
-    (IsSkipped line × SpellEvents lines (event ∷ events)) ⊎ (IsEventLine event line × SpellEvents lines events)
+    (IsSkipped line × SpellEvents lines (event ∷ events))
+    ⊎ (IsEventLine event line × SpellEvents lines events)
 
 -- A text begins with these lines. Its last line ends with the text: an LF is put there, which
 -- makes no difference where one stands already, since an empty line is skipped.
@@ -38,12 +39,14 @@ BeginsWithLines text lines rest = AreLines lines × (ended text ≡ joined lines
 
 -- the text is these events
 abbrev pub IsScript : List ℕ → List PlainEvent → Type 0
-IsScript text events = (lines : List (List ℕ)) × BeginsWithLines text lines [] × SpellEvents lines events
+IsScript text events =
+    (lines : List (List ℕ)) × BeginsWithLines text lines [] × SpellEvents lines events
 
 -- the first lines of the text are these events
 abbrev pub BeginsWithEvents : List ℕ → List PlainEvent → Type 0
 BeginsWithEvents text events =
-    (lines : List (List ℕ)) × (rest : List ℕ) × BeginsWithLines text lines rest × SpellEvents lines events
+    (lines : List (List ℕ)) × (rest : List ℕ) × BeginsWithLines text lines rest
+    × SpellEvents lines events
 
 -- the whole lines of the text are these events, and after them comes less than a line
 abbrev pub IsScriptSoFar : List ℕ → List PlainEvent → Type 0
