@@ -10,7 +10,7 @@ use Rattle.ndn_names.specs.declared.fault.NameFault.{NameFault}
 use Rattle.ndn_names.specs.declared.fault.NameFault.TheVariants.{BadUri}
 use Rattle.ndn_names.specs.UriReading.{octets_in, hex_in}
 
--- the value of so many octets that a text says
+-- the value of this many octets that a text spells
 abbrev pub value_in : ℕ → ValueText → Result (List ℕ) NameFault
 value_in len (Plain octets) = Ok octets.now
 value_in len (Escaped text) = do
@@ -24,19 +24,19 @@ abbrev pub IsTextOf : Field → ComponentText → Type 0
 IsTextOf c text =
     (text.kind ≡ c.0) × (text.len ≡ length c.1) × (value_in text.len text.value ≡ Ok c.1)
 
--- the octets that stand in a text one after the other; those of a number do not
+-- the octets that a text spells one after the other; those of a number are not spelled so
 abbrev pub octets_said : ValueText → Result (List ℕ) NameFault
 octets_said (Plain octets) = Ok octets.now
 octets_said (Escaped text) = octets_in text.now
 octets_said (Hexadecimal text) = hex_in text.now
 octets_said (Number n) = Err BadUri
 
--- the text says these octets first, and then any others
+-- the text spells these octets first, and then any others
 abbrev pub SaysFirst : ValueText → List ℕ → Type 0
 SaysFirst value octets =
     (said : List ℕ) × (octets_said value ≡ Ok said) × (take (length octets) said ≡ octets)
 
--- the octets of a number stand in front of these
+-- the octets of a number come before these
 abbrev pub IsNumberIn : List ℕ → ValueText → Type 0
 IsNumberIn octets (Number n) = take (length (shortest_nni n)) octets ≡ shortest_nni n
 IsNumberIn octets (Plain text) = ⊤

@@ -1,4 +1,4 @@
--- Names as keys of maps: the laws that comparing and hashing them keep.
+-- Names as keys of maps: the laws that comparing and hashing them obey.
 use Rattle.std.specs.Prelude.{◌≡◌, true, List, length, refl}
 use mathlib.Core.Path.{ap}
 use Rattle.std.specs.Coded.{Coded, coded×, coded_list, coded_ℕ}

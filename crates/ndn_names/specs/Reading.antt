@@ -15,7 +15,7 @@ component_of c =
     if nat_le c.0 PARAMETERS_SHA256_DIGEST && not (length c.1 == 32) then Err BadDigestLength
     else Ok c)
 
--- an element, or what stands in its place, as a component
+-- an element, or why there is none, as a component
 abbrev pub component_at : Result Field TlvFault → Result Field NameFault
 component_at (Err fault) = Err BadComponent
 component_at (Ok c) = component_of c
@@ -39,7 +39,7 @@ IsFaultOrMemory found c fault = (found ≡ Err fault) ⊎ ((fault ≡ Memory) ×
 abbrev pub component_after : ℕ → Result Field TlvFault → Result Field NameFault
 component_after n e = if nat_lt n 64 then component_at e else Err TooManyComponents
 
--- the components of these elements, where n components stand before them
+-- the components of these elements, where n components come before them
 abbrev pub components_after : ℕ → List (Result Field TlvFault) → Result (List Field) NameFault
 components_after n [] = Ok []
 components_after n (e ∷ es) = do

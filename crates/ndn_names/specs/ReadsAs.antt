@@ -74,9 +74,9 @@ ReadsEach [] (c ∷ cs) = ⊥
 ReadsEach (piece ∷ pieces) [] = ⊥
 ReadsEach (piece ∷ pieces) (c ∷ cs) = ReadsComponent piece c × ReadsEach pieces cs
 
--- the text reads as the name of these components: the scheme may stand before it, and a slash after
--- it. No piece that reads as a component is empty or has a slash, so there is one way to take the
--- text apart.
+-- the text reads as the name of these components: it may begin with the scheme and end with a
+-- slash. No piece that reads as a component is empty or has a slash, so there is one way to take
+-- the text apart.
 abbrev pub ReadsAs : List ℕ → List Field → Type 0
 ReadsAs text cs =
     (start end : List ℕ) × (pieces : List (List ℕ)) × (text ≡ start ++ (path_of pieces ++ end))

@@ -1,4 +1,4 @@
--- Room in the tables that hold one row for each name or signer.
+-- Room in the tables that have one row for each name or signer.
 use Rattle.std.specs.Prelude.{ℕ, ◌<◌, Option, None, Some}
 
 -- while a call is prepared there is room for one more row

@@ -46,7 +46,7 @@ octets_in (a ∷ b ∷ c ∷ text) =
       before o (octets_in text))
     else before a (octets_in (b ∷ c ∷ text))
 
--- the value: three periods are taken off where nothing but periods stands
+-- the value: three periods are taken off where there are only periods
 abbrev pub unpadded : List ℕ → Result (List ℕ) NameFault
 unpadded octets =
     if not (is_periods octets) then Ok octets else (
@@ -82,8 +82,8 @@ numbered_in kind text = do
   n ← number_in text
   Ok (kind, shortest_nni n)
 
--- a component by what stands before and after its first equals sign, and the type that is named
--- before it
+-- a component by the text before and after its first equals sign, and the type that is named before
+-- it
 abbrev pub typed_in : List ℕ → List ℕ → Option ℕ → Result Field NameFault
 typed_in type_name text (Some kind) =
     if nat_le kind PARAMETERS_SHA256_DIGEST then digest_in kind text else numbered_in kind text
@@ -112,7 +112,7 @@ component_in piece = component_by_cut piece (cut_at 61 piece)
 abbrev pub piece_in : List ℕ → Result Field NameFault
 piece_in text = if list_any (λ o. o == 47) text then Err BadUri else component_in text
 
--- the components of these pieces, where n components stand before them
+-- the components of these pieces, where n components come before them
 abbrev pub components_in : ℕ → List (List ℕ) → Result (List Field) NameFault
 components_in n [] = Ok []
 components_in n (piece ∷ pieces) = do
@@ -130,11 +130,11 @@ abbrev pub pieces_of : List ℕ → List (List ℕ)
 pieces_of [] = []
 pieces_of (o ∷ text) = if o == 47 then [] ∷ pieces_of text else at_front o (pieces_of text)
 
--- the text after the scheme, if it stands there
+-- the text after the scheme, if it begins with it
 abbrev pub without_scheme : List ℕ → List ℕ
 without_scheme text = if bytes_eq (take 4 text) (codes "ndn:") then drop 4 text else text
 
--- the name that stands after a slash; a slash alone is the slash at the end of the empty name
+-- the name after a slash; a slash alone is the slash at the end of the empty name
 abbrev pub name_after_slash : List ℕ → Result (List Field) NameFault
 name_after_slash text = components_in 0 (if bytes_eq text (codes "/") then [] else pieces_of text)
 
@@ -165,6 +165,6 @@ AreCounted read count =
     (octets : List ℕ) × (read ≡ Ok octets) × (count.0 ≡ length octets)
     × (count.1 ≡ is_periods octets)
 
--- without the three periods that are taken off so many octets are left
+-- this many octets are left without the three periods that are taken off
 abbrev pub AreLeft : List ℕ → ℕ → Type 0
 AreLeft octets len = (unpadded octets ≡ Ok (take len octets)) × (len ≡ length (take len octets))

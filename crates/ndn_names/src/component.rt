@@ -28,7 +28,7 @@ pub(crate) fn component_kind(kind: u32, value: &[u8]) -> Result<u16, NameFault>
     kind_by_len(kind, value.len())
 }
 
-/// The type of a component of so many octets.
+/// The type of a component of this length, in octets.
 pub(crate) fn kind_by_len(kind: u32, len: usize) -> Result<u16, NameFault>
     ensures { (value : List ℕ) → len ≡ length value
         → on_result (λ k. Ok (k, value)) Err result ≡ component_of (kind, value) }

@@ -44,7 +44,7 @@ pub fn octet_of(high: u8, low: u8) -> Result<u8, NameFault>
     }
 }
 
-/// The octet that stands at the front, and the text after it.
+/// The octet at the front, and the text after it.
 #[inline(always)]
 pub fn first_octet<'a>(first: u8, after: &'a [u8]) -> Result<(u8, &'a [u8]), NameFault>
     ensures read { MatchResult result
@@ -78,7 +78,7 @@ fn count_octets(text: &[u8]) -> Result<(usize, bool), NameFault>
     Ok((count, has_periods_only))
 }
 
-/// The number of octets without the three periods that stand after periods only.
+/// The number of octets without the three periods, where there are only periods.
 fn unpadded_len(count: usize, has_periods_only: bool) -> Result<usize, NameFault>
     ensures shorter { IfOk result (λ len. len ≤ count) }
     ensures read { (octets : List ℕ) → count ≡ length octets

@@ -30,8 +30,8 @@ pub const TIMESTAMP: u16 = 56;
 /// SequenceNumNameComponent: the number of a collection's item.
 pub const SEQUENCE_NUM: u16 = 58;
 
-/// Law: these are the numbers that the standards assign (NDN Packet Format 0.3, "Name", for the first
-/// three; NDN Naming Conventions, revision 3, for the others).
+/// Law: these are the numbers that the standards assign (NDN Packet Format 0.3, "Name", for the
+/// first three; NDN Naming Conventions, revision 3, for the others).
 pub fn component_types_are_as_assigned()
     ensures digests { (IMPLICIT_SHA256_DIGEST ≡ 1) × (PARAMETERS_SHA256_DIGEST ≡ 2) }
     ensures generic { GENERIC ≡ 8 }

@@ -6,9 +6,9 @@ use std::alloc::{AllocError, AllocFailed};
 use thiserror::Error;
 
 /// Why octets or a text are not a name, or why a name cannot grow (NDN Packet Format 0.3, "Name").
-/// Components are read from left to right: the 65th is `TooManyComponents` whatever it holds, and
-/// of any other in octets the first fault in this enum's order is reported. `NameBuf::from_uri`
-/// says which fault of a text is reported.
+/// Components are read from left to right: the 65th is `TooManyComponents` whatever it is, and of
+/// any other in octets the first fault in this enum's order is reported. `NameBuf::from_uri`
+/// documents which fault of a text is reported.
 #[derive(Clone, Copy, Debug, PartialEq, Eq, Error)]
 pub enum NameFault {
     /// A component's type is 0 or above 65535, or it is not an element.

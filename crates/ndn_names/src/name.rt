@@ -64,7 +64,7 @@ impl<'a> Name<'a> {
         Ok(Name { octets: value })
     }
 
-    /// Reads as `read` does, and also gives the first component of this type.
+    /// Reads as `read` does, and also returns the first component of this type.
     #[inline(always)]
     pub fn read_finding(
         value: &'a [u8],
@@ -142,7 +142,7 @@ impl<'a> Name<'a> {
     /// The component at a place, counted from 0.
     pub fn component(&self, i: usize) -> Option<Component<'a>>
         ensures exact { option_map field_of result ≡ slice_get (components self.now) i }
-        // Where it stands in the name's octets.
+        // Its place in the name's octets.
         ensures place { IfSome result (λ c. octets_of (components self.now)
             ≡ octets_of (take i (components self.now))
             ++ (element (field_of c) ++ octets_of (drop (i + 1) (components self.now)))) }

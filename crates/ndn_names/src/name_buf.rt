@@ -62,7 +62,7 @@ impl NameBuf {
     /// Appends a component of a type and octets.
     ///
     /// Refuses it with the first fault in this order, and then changes nothing: `TooManyComponents`
-    /// where 64 stand, `BadComponent` at type 0, `BadDigestLength`, `Memory`.
+    /// where there are 64, `BadComponent` at type 0, `BadDigestLength`, `Memory`.
     pub fn append(&mut self, kind: u16, value: &[u8]) -> Result<(), NameFault>
         ensures ok { OnOk result (self.new ≡ self.old ++ (kind, value.now) ∷ []) }
         ensures err { OnErr result (self.new ≡ self.old) }

@@ -39,7 +39,7 @@ fn number_octets(value: ValueText<'_>) -> [u8; 8]
     }
 }
 
-/// The text of the octets of a value, which for a number stand in front of the array.
+/// The text of the octets of a value, which for a number are at the front of the array.
 fn spelled_out<'a>(component: ComponentText<'a>, number: &'a [u8; 8]) -> ValueText<'a>
     requires { IsNumberIn number.now component.value }
     ensures { (c : Field) → IsTextOf c component.entry → SaysFirst result c.1 }

@@ -20,20 +20,20 @@ const SPARE: usize = 16;
 /// Reads the URI text of one component, as `A` or `seg=5`: its type and its octets.
 ///
 /// Refuses it as `NameBuf::from_uri` refuses the component: `BadDigestLength` for `1=` or `2=` with
-/// other than 32 octets, and `BadUri` for all else, a text with a slash among it. `Memory` comes
-/// only where the text reads as a component.
+/// other than 32 octets, and `BadUri` for all else, a text with a slash among it. `Memory` is
+/// returned only where the text reads as a component.
 pub fn component_from_uri(alloc: Global, text: &str) -> Result<(u16, Vec<u8>), NameFault>
     // What is read is the component that the text reads as.
     ensures found { IfOk result
         (λ c. ReadsComponent text.now (c.0, c.1.items) × IsComponent (c.0, c.1.items)) }
-    // What reads as a component is read, unless memory is refused.
+    // What reads as a component is read, unless memory runs out.
     ensures only { (c : Field) → ReadsComponent text.now c → IsComponent c
         → MatchResult result (λ component. (component.0, component.1.items) ≡ c)
         (λ fault. fault ≡ NameFault.Memory) }
     // Which fault it is.
     ensures exact { MatchResult result (λ c. read.piece_in text.now ≡ Ok (c.0, c.1.items))
         (λ fault. read.IsFaultOf (read.piece_in text.now) fault) }
-    // Memory is refused only after all of the text was found to be right.
+    // `Memory` is returned only where all of the text is right.
     ensures memory { IfErr result (λ fault. fault ≡ NameFault.Memory
         → (c : Field) × ReadsComponent text.now c × IsComponent c) }
 {
@@ -53,7 +53,7 @@ fn read_component(alloc: Global, text: &str) -> Result<(u16, Vec<u8>), NameFault
     Ok((component.kind, value))
 }
 
-/// The text after the scheme, if it stands there.
+/// The text after the scheme, if it begins with it.
 fn without_scheme(text: &str) -> &str
     ensures { result.now ≡ read.without_scheme text.now }
 {
@@ -72,7 +72,7 @@ pub(crate) fn first_piece(text: &str) -> (&str, &str)
     }
 }
 
-/// Refuses pieces between slashes that are not a name's. Otherwise gives the number of the name's
+/// Refuses pieces between slashes that are not a name's. Otherwise returns the number of the name's
 /// components.
 fn count_pieces(text: &str) -> Result<usize, NameFault>
     ensures { let name_in = read.components_in 0 (read.pieces_of text.now) in
@@ -138,7 +138,7 @@ pub(crate) fn pieces_text(text: &str) -> Result<&str, NameFault>
     }
 }
 
-/// The name of the text, or its first fault, unless memory is refused before.
+/// The name of the text, or its first fault, unless memory runs out before.
 fn put_name(alloc: Global, text: &str) -> Result<NameBuf, NameFault>
     ensures { MatchResult result (λ name. read.name_in text.now ≡ Ok name)
         (read.IsFaultOf (read.name_in text.now)) }
@@ -149,7 +149,8 @@ fn put_name(alloc: Global, text: &str) -> Result<NameBuf, NameFault>
     Ok(NameBuf::from_octets(octets))
 }
 
-/// Where memory is refused, the text is read once more without it, so that its fault comes first.
+/// When memory runs out, the text is read once more without it, so that its fault is reported
+/// first.
 fn read_name(alloc: Global, text: &str) -> Result<NameBuf, NameFault>
     ensures { MatchResult result (λ name. read.name_in text.now ≡ Ok name)
         (read.IsFaultBeforeMemory (read.name_in text.now)) }
@@ -181,22 +182,22 @@ pub fn uri_len(text: &str) -> Result<usize, NameFault>
 }
 
 impl NameBuf {
-    /// Reads URI text, as `/A/seg=5`, from left to right. The scheme `ndn:` may stand before it,
-    /// and a slash after it.
+    /// Reads URI text, as `/A/seg=5`, from left to right. It may begin with the scheme `ndn:` and
+    /// end with a slash.
     ///
     /// Refuses it with the first fault in text order: `TooManyComponents` at the 65th component,
-    /// whatever it holds, `BadDigestLength` for `1=` or `2=` with other than 32 octets, and
-    /// `BadUri` for all else. `Memory` comes only where the text reads as a name.
+    /// whatever it is, `BadDigestLength` for `1=` or `2=` with other than 32 octets, and `BadUri`
+    /// for all else. `Memory` is returned only where the text reads as a name.
     pub fn from_uri(alloc: Global, text: &str) -> Result<NameBuf, NameFault>
         // What is read is the name that the text reads as.
         ensures found { IfOk result (λ name. ReadsAs text.now name) }
-        // What reads as a name is read, unless memory is refused.
+        // What reads as a name is read, unless memory runs out.
         ensures only { (cs : List Field) → ReadsAs text.now cs
             → MatchResult result (λ name. name ≡ cs) (λ fault. fault ≡ NameFault.Memory) }
         // Which fault it is.
         ensures exact { MatchResult result (λ name. read.name_in text.now ≡ Ok name)
             (λ fault. read.IsFaultOf (read.name_in text.now) fault) }
-        // Memory is refused only after all of the text was found to be right.
+        // `Memory` is returned only where all of the text is right.
         ensures memory { IfErr result (λ fault. fault ≡ NameFault.Memory
             → (cs : List Field) × ReadsAs text.now cs) }
     {

@@ -1,4 +1,4 @@
--- Elements one after another, as an iterator gives them.
+-- Elements one after another, as an iterator returns them.
 use Rattle.std.specs.Prelude.{ℕ, List, Result, Ok, Err}
 use Rattle.ndn_tlv.specs.declared.element.Element.{Element}
 use Rattle.ndn_tlv.specs.declared.elements.Elements.{Elements}

@@ -1,5 +1,5 @@
--- Fields by their types, as a value holds them: the first of a type counts, and what stands after an
--- element that cannot be read is not looked at (NFD Management, "Control Command").
+-- The fields of a value by their types: the first of a type counts, and what follows an element
+-- that cannot be read is ignored (NFD Management, "Control Command").
 use Rattle.std.specs.Prelude.{ℕ, List, [], ◌∷◌, Option, None, Some, Result, Ok, Err, ◌==◌, if◌then◌else◌}
 use Rattle.ndn_tlv.specs.declared.fault.TlvFault.{TlvFault}
 use Rattle.ndn_tlv.specs.Element.{Field}

@@ -13,7 +13,7 @@ abbrev pub ◌>>=◌ : {A B F : Type 0} → Result A F → (A → Result B F) �
 (Ok x) >>= f = f x
 (Err e) >>= f = Err e
 
--- what stands after 253, 254 or 255, where smaller numbers have a shorter form
+-- the number after 253, 254 or 255, where smaller numbers have a shorter form
 abbrev pub long_number_at : Width → ℕ → List ℕ → Result (ℕ × List ℕ) TlvFault
 long_number_at w least bytes =
     if nat_lt (length bytes) (byte_len w) then Err Truncated else (
@@ -72,12 +72,12 @@ elements_of bytes = elements_within (length bytes) bytes
 abbrev pub IsCutNumber : List ℕ → Type 0
 IsCutNumber bytes = (missing : List ℕ) × (n : ℕ) × (missing ≢ []) × IsForm (bytes ++ missing) n
 
--- a number stands at the front, in a form that is not its shortest
+-- the octets begin with a number in a form that is not its shortest
 abbrev pub BeginsTooLong : List ℕ → Type 0
 BeginsTooLong bytes =
     (text rest : List ℕ) × (n : ℕ) × (bytes ≡ text ++ rest) × IsForm text n × (Spells text n → ⊥)
 
--- what stands where a number cannot be read
+-- why no number can be read
 abbrev pub NumberFault : List ℕ → TlvFault → Type 0
 NumberFault bytes Truncated = IsCutNumber bytes
 NumberFault bytes NotShortest = BeginsTooLong bytes
@@ -96,7 +96,7 @@ abbrev pub IsCutValue : List ℕ → Type 0
 IsCutValue bytes =
     (text rest : List ℕ) × (n : ℕ) × (bytes ≡ text ++ rest) × Spells text n × (length rest < n)
 
--- what stands where an element cannot be read
+-- why no element can be read
 abbrev pub ElementFault : List ℕ → TlvFault → Type 0
 ElementFault bytes Truncated =
     IsCutNumber bytes ⊎ (AfterType bytes IsCutNumber ⊎ AfterType bytes IsCutValue)

@@ -9,8 +9,8 @@ use crate::fault::TlvFault;
 use crate::memory::Memory;
 use crate::number::{leading_number, put_number};
 
-/// An element that stands in some octets (NDN Packet Format 0.3, "Type-Length-Value (TLV)
-/// Encoding"), and where: it borrows them.
+/// A view of an element in a buffer, which it borrows (NDN Packet Format 0.3, "Type-Length-Value
+/// (TLV) Encoding").
 #[derive(Clone, Copy, Debug)]
 pub struct Element<'a> {
     /// The TLV-TYPE, from 1 on.
@@ -51,16 +51,16 @@ fn leading_field(octets: &[u8]) -> Result<(u32, &[u8], &[u8]), TlvFault>
     Ok((kind, value, rest))
 }
 
-/// Reads the element at the front of the octets, and gives the octets after it.
+/// Reads the element at the front of the octets, and returns the octets after it.
 ///
 /// Refuses octets that do not begin with an element, with the first fault from the left: see
 /// `TlvFault`.
 #[inline(always)]
 pub fn first_element<'a>(octets: &'a [u8]) -> Result<(Element<'a>, &'a [u8]), TlvFault>
-    // What is read stands in front.
+    // The octets begin with what is read.
     ensures found { IfOk result (λ x. IsElement x.0.whole.now x.0.kind x.0.value.now
         × (octets.now ≡ x.0.whole.now ++ x.1.now) × (length x.1.now < length octets.now)) }
-    // What stands in front is read.
+    // What the octets begin with is read.
     ensures only { (kind : ℕ) (value rest : List ℕ) → IsField (kind, value)
         → octets.now ≡ element (kind, value) ++ rest
         → IsOkAnd result (λ x. (x.0.kind ≡ kind) × (x.0.value.now ≡ value) × (x.1.now ≡ rest)) }
@@ -93,9 +93,9 @@ fn put_parts(out: &mut Vec<u8>, kind: u32, value: &[u8]) -> Result<(), Memory>
     Ok(())
 }
 
-/// Appends an element: the shortest forms of its type and of its value's length, and its value
-/// (NDN Packet Format 0.3, "Type-Length-Value (TLV) Encoding"). Where memory is refused, nothing
-/// is appended.
+/// Appends an element: the shortest forms of its type and of its value's length, and its value (NDN
+/// Packet Format 0.3, "Type-Length-Value (TLV) Encoding"). When memory runs out, nothing is
+/// appended.
 #[inline(always)]
 pub fn put_element(out: &mut Vec<u8>, kind: u32, value: &[u8]) -> Result<(), Memory>
     requires { 1 ≤ kind }
@@ -122,5 +122,6 @@ pub fn elements_have_one_reading()
         → ((elements_of text ≡ map (λ f. Ok f) fields) ↔ IsElements text fields) }
     ensures fault { (text : List ℕ) (fields : List Field) (fault : TlvFault)
         → ((i : ℕ) → slice_index text i < 256)
-        → elements_of text ≡ map (λ f. Ok f) fields ++ Err fault ∷ [] → EndsInFault text fields fault }
+        → elements_of text ≡ map (λ f. Ok f) fields ++ Err fault ∷ []
+        → EndsInFault text fields fault }
 {}

@@ -1,4 +1,4 @@
-//! Elements that hold numbers, and the lengths of elements.
+//! Elements whose values are numbers, and the lengths of elements.
 
 ghost use Rattle.std.specs.Prelude.{◌≡◌, ◌++◌, ◌+◌, ◌≤◌, ◌<◌, ◌^◌, length};
 ghost use Rattle.ndn_tlv.specs.Number.{shortest_nni, spelling};

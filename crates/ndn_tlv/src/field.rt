@@ -1,4 +1,4 @@
-//! Fields by their types, as parameters and replies hold them.
+//! The fields of parameters and replies, by their types.
 
 ghost use Rattle.std.specs.Prelude.{◌≡◌, ◌≤◌, IfSome, length};
 ghost use Rattle.std.specs.Option.{option_map};

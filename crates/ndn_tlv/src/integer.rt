@@ -32,7 +32,7 @@ pub fn nni_of(value: &[u8]) -> Result<u64, TlvFault>
 }
 
 /// Appends the shortest NonNegativeInteger of a number (NDN Packet Format 0.3, "Non-Negative
-/// Integer Encoding"): 1, 2, 4 or 8 octets. Where memory is refused, nothing is appended.
+/// Integer Encoding"): 1, 2, 4 or 8 octets. When memory runs out, nothing is appended.
 #[tactic(auto, unfolding(crate::specs::Number::shortest_nni))]
 #[inline(always)]
 pub fn put_nni(out: &mut Vec<u8>, number: u64) -> Result<(), Memory>

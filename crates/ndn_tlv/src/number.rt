@@ -68,16 +68,16 @@ pub(crate) fn leading_number(octets: &[u8]) -> Result<(u64, &[u8]), TlvFault>
     }
 }
 
-/// Reads the VAR-NUMBER at the front of the octets, and gives the octets after it (NDN Packet
+/// Reads the VAR-NUMBER at the front of the octets, and returns the octets after it (NDN Packet
 /// Format 0.3, "Type-Length-Value (TLV) Encoding").
 ///
 /// Refuses octets that end before the number does (`Truncated`, the empty text included), and a
 /// number that has a shorter form (`NotShortest`).
 pub fn number_of(octets: &[u8]) -> Result<(u64, &[u8]), TlvFault>
-    // What is read stands in front, in its shortest form.
+    // The octets begin with what is read, in its shortest form.
     ensures found { IfOk result
         (λ x. (text : List ℕ) × Spells text x.0 × (octets.now ≡ text ++ x.1.now)) }
-    // What stands in front in its shortest form is read.
+    // A number in its shortest form at the front is read.
     ensures only { (n : ℕ) (text rest : List ℕ) → Spells text n → octets.now ≡ text ++ rest
         → IsOkAnd result (λ x. (x.0 ≡ n) × (x.1.now ≡ rest)) }
     // Which fault it is.
@@ -115,7 +115,7 @@ fn put_long(out: &mut Vec<u8>, first: u8, others: &[u8]) -> Result<(), Memory>
 }
 
 /// Appends the shortest VAR-NUMBER of a number (NDN Packet Format 0.3, "Type-Length-Value (TLV)
-/// Encoding"): 1, 3, 5 or 9 octets. Where memory is refused, nothing is appended.
+/// Encoding"): 1, 3, 5 or 9 octets. When memory runs out, nothing is appended.
 #[tactic(auto, unfolding(crate::specs::Number::spelling))]
 #[inline(always)]
 pub fn put_number(out: &mut Vec<u8>, number: u64) -> Result<(), Memory>
