@@ -90,13 +90,13 @@ abbrev pub item_atoms : Item → List PlainAtom
 item_atoms (Alone atom) = atom ∷ []
 item_atoms (Group atoms) = atoms
 
--- the groups of items, where n atoms stand before them
+-- the groups of items, where n atoms come before them
 abbrev pub groups_from : ℕ → List Item → List (ℕ × ℕ)
 groups_from n [] = []
 groups_from n (Alone atom ∷ items) = groups_from (n + 1) items
 groups_from n (Group atoms ∷ items) = (n, n + length atoms) ∷ groups_from (n + length atoms) items
 
--- an anchor that stands at an end of the text, or the atom that is implied in its place
+-- an anchor at an end of the text, or the atom that is implied in its place
 abbrev pub IsAnchor : List ℕ → List ℕ → List PlainAtom → Type 0
 IsAnchor sign text atoms = ((text ≡ sign) × (atoms ≡ [])) ⊎ ((text ≡ []) × (atoms ≡ anything ∷ []))
 

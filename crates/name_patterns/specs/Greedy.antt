@@ -30,7 +30,7 @@ greatest can_take least (suc n) =
     if can_take (suc n) then Some (suc n) else greatest can_take least n)
 
 -- The count of the first atom in the greatest split: the greatest in its bounds after which the
--- other atoms have a split. Where there is no atom, 0 stands for the split of no components.
+-- other atoms have a split. Where there is no atom, 0 means the split of no components.
 unfoldable pub first_count : List PlainAtom → List Field → Option ℕ
 first_count [] [] = Some 0
 first_count [] (c ∷ cs) = None
@@ -71,7 +71,7 @@ IsRow [] cs row = AreSplit [] cs row.split
 IsRow (atom ∷ atoms) cs row = ArePassed atom.test cs row.passed × (row.passed < 2 ^ 64)
     × AreSplit (atom ∷ atoms) cs row.split
 
--- a table has a row for the atoms from each of them on, from the first that is asked for
+-- a table has a row for the atoms from each of them on, from the first that is needed
 abbrev pub IsTable : ℕ → List PlainAtom → List Field → List Row → Type 0
 IsTable first atoms cs rows =
     (i : ℕ) → first ≤ i → i ≤ length atoms → IsSomeAnd (slice_get rows i) (IsRow (drop i atoms) cs)

@@ -1,4 +1,4 @@
--- Which names a pattern matches, and what its groups then hold.
+-- Which names a pattern matches, and what its groups then capture.
 use Rattle.std.specs.Prelude.{◌≡◌, ℕ, ◌<◌, ◌≤◌, ◌⊎◌, List, [], ◌∷◌, length, take, drop, map, sum, Option, Some, None, ⊤}
 use Rattle.std.specs.List.{AllByRecursion}
 use Rattle.ndn_tlv.specs.Element.{Field}
@@ -21,8 +21,8 @@ IsAtMost count None = ⊤
 IsAtMost count (Some most) = count ≤ most
 
 -- A split of components gives each atom in turn a count of them. The count is within the atom's
--- bounds, so many components are there and each passes the atom's test. The atoms after it split
--- the components after those.
+-- bounds, the name has that many components, and each of them passes the atom's test. The atoms
+-- after it split the components after those.
 abbrev pub IsSplit : List PlainAtom → List Field → List ℕ → Type 0
 IsSplit [] cs counts = (cs ≡ []) × (counts ≡ [])
 IsSplit (atom ∷ atoms) cs [] = ⊥
@@ -50,7 +50,7 @@ group_places counts group = (sum (take group.0 counts), sum (take group.1 counts
 abbrev pub places_of : PlainPattern → List Field → List ℕ → List (ℕ × ℕ)
 places_of pattern cs counts = (0, length cs) ∷ map (group_places counts) pattern.groups
 
--- the pattern matches the name of these components, and its groups stand at these places
+-- the pattern matches the name of these components, and its groups are at these places
 abbrev pub Match : PlainPattern → List Field → List (ℕ × ℕ) → Type 0
 Match pattern cs places =
     (counts : List ℕ) × IsGreatestSplit pattern.atoms cs counts

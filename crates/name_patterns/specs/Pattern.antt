@@ -3,7 +3,7 @@ use Rattle.std.specs.Prelude.{ℕ, ◌≤◌, List, length, Option, Some, None}
 use Rattle.std.specs.List.{AllByRecursion}
 use Rattle.ndn_tlv.specs.Element.{Field}
 
--- what is asked of a component: nothing, to be one of these, to be none of these
+-- the test of a component: nothing, to be one of these, to be none of these
 pub data PlainTest : Type 0 where
   Anything : PlainTest
   OneOf : List Field → PlainTest
@@ -20,7 +20,7 @@ once = record { least = 1; most = Some 1 }
 abbrev pub any_number : Bounds
 any_number = record { least = 0; most = None }
 
--- so many components, each of which passes the test
+-- a number of components within bounds, each of which passes the test
 pub record PlainAtom : Type 0 where
   pub test : PlainTest
   pub bounds : Bounds

@@ -19,7 +19,7 @@ abbrev pub ◌>>=◌ : {A B : Type 0} → Option A → (A → Option B) → Opti
 None >>= f = None
 (Some x) >>= f = f x
 
--- a special sign stands in the text
+-- the text has a special sign
 abbrev pub has_special : List ℕ → Bool
 has_special text = list_any is_special text
 
@@ -27,7 +27,7 @@ has_special text = list_any is_special text
 abbrev pub text_in : List ℕ → Option Field
 text_in text = on_result (λ c. Some c) (λ _. None) (piece_in text)
 
--- a part of a pattern, whether a special sign stands in a text of it, and what stands after it
+-- a part of a pattern, whether a text of it has a special sign, and the text after it
 pub record FrontPart (A : Type 0) : Type 0 where
   pub part : A
   pub is_inner : Bool
@@ -90,7 +90,7 @@ count_in text =
     if all_ascii_digits text && (nat_lt 0 (length text) && nat_le (digits_value 10 text) 64)
     then Some (digits_value 10 text) else None
 
--- the range of what stands before and after a comma, not both of which are empty
+-- the range of the texts before and after a comma, not both of which are empty
 abbrev pub range_by_comma : List ℕ → List ℕ → Option Bounds
 range_by_comma low high =
     if length high == 0 then (do
@@ -107,7 +107,7 @@ range_by_cut text None = do
   n ← count_in text
   Some (record { least = n; most = Some n })
 
--- the range that stands between braces
+-- the range between braces
 unfoldable pub range_in : List ℕ → Option Bounds
 range_in text = range_by_cut text (cut_at 44 text)
 
@@ -123,7 +123,7 @@ braced_in text = do
   bounds ← range_in parts.0
   Some (bounds, parts.1)
 
--- a repeat at the front of the text, where none stands for one component
+-- a repeat at the front of the text, where no repeat means one component
 unfoldable pub repeat_in : List ℕ → Option (Bounds × List ℕ)
 repeat_in [] = Some (once, [])
 repeat_in (o ∷ text) =
@@ -152,7 +152,7 @@ pub record PlainDraft : Type 0 where
   pub groups : List (ℕ × ℕ)
   pub open_group : Option OpenGroup
 
--- an atom at this place, before which the draft stands
+-- an atom at this place, after the draft
 abbrev pub with_atom : PlainDraft → ℕ → List ℕ → Result (PlainDraft × List ℕ) PatternFault
 with_atom draft at text = on_result
     (λ found.
@@ -196,7 +196,7 @@ with_closed draft at text (Some group) =
       text,
     )
 
--- what stands at this place: a parenthesis, or an atom
+-- the item at this place: a parenthesis, or an atom
 abbrev pub with_item : PlainDraft → ℕ → List ℕ → Result (PlainDraft × List ℕ) PatternFault
 with_item draft at [] = with_atom draft at []
 with_item draft at (o ∷ text) =
@@ -204,8 +204,8 @@ with_item draft at (o ∷ text) =
     if o == 41 then with_closed draft at text draft.open_group else
     with_atom draft at (o ∷ text))
 
--- a parenthesis that closes stands in the text outside of all < and >; at first the text is inside
--- of them, or not
+-- the text has a closing parenthesis outside of all < and >; at first the text is inside of them,
+-- or not
 unfoldable pub is_closed : Bool → List ℕ → Bool
 is_closed is_inside [] = false
 is_closed is_inside (o ∷ text) =
@@ -259,7 +259,7 @@ pattern_after len (o ∷ text) =
 unfoldable pub pattern_in : List ℕ → Result PlainPattern PatternFault
 pattern_in text = pattern_after (length text) text
 
--- the limits that a draft keeps, of whose atoms at most so many are implied
+-- the limits that a draft obeys, at most this many of whose atoms are implied
 pub record IsDraft (implied : ℕ) (draft : PlainDraft) : Type 0 where
   pub few_written : draft.written ≤ 32
   pub few_atoms : length draft.atoms ≤ draft.written + implied

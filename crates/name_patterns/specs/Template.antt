@@ -17,27 +17,28 @@ abbrev pub IsPart : ℕ → List ℕ → PlainPart → Type 0
 IsPart groups text (OfGroup n) = (text ≡ 92 ∷ (48 + n) ∷ []) × (n ≤ 9) × (n ≤ groups)
 IsPart groups text (Single c) = IsQuoted text c
 
--- the text spells the template of these parts, for a pattern of so many groups
+-- the text spells the template of these parts, for a pattern with this many groups
 abbrev pub IsTemplate : ℕ → List ℕ → List PlainPart → Type 0
 IsTemplate groups text [] = text ≡ []
 IsTemplate groups text (part ∷ parts) =
     (front rest : List ℕ) × (text ≡ front ++ rest) × IsPart groups front part
     × IsTemplate groups rest parts
 
--- what stands in a list from one place up to another
+-- the part of a list from one place up to another
 abbrev pub between : List Field → ℕ × ℕ → List Field
 between cs places = take (places.1 - places.0) (drop places.0 cs)
 
--- what a part stands for
+-- the components of a part
 abbrev pub part_of : List (ℕ × ℕ) → List Field → PlainPart → List Field
 part_of captures cs (OfGroup n) = option_map_or (between cs) (slice_get captures n) []
 part_of captures cs (Single c) = c ∷ []
 
--- what the parts stand for, one after the other, where the groups hold these places of the name
+-- the components of the parts, one after the other, where the groups are at these places of the
+-- name
 abbrev pub expansion_of : List PlainPart → List (ℕ × ℕ) → List Field → List Field
 expansion_of parts captures cs = flat_map (part_of captures cs) parts
 
--- how many components a part stands for, by the places of its group
+-- how many components a part has, by the places of its group
 abbrev pub part_len : List (ℕ × ℕ) → PlainPart → ℕ
 part_len captures (OfGroup n) =
     option_map_or (λ places. places.1 - places.0) (slice_get captures n) 0
@@ -51,7 +52,7 @@ IsThere captures cs (Single c) = ⊤
 abbrev pub AreThere : List (ℕ × ℕ) → List Field → List PlainPart → Type 0
 AreThere captures cs parts = AllByRecursion (IsThere captures cs) parts
 
--- the parts need no more than so many groups
+-- the parts need no more than this many groups
 abbrev pub NeedsGroup : ℕ → PlainPart → Type 0
 NeedsGroup groups (OfGroup n) = n ≤ groups
 NeedsGroup groups (Single c) = ⊤
@@ -59,7 +60,7 @@ NeedsGroup groups (Single c) = ⊤
 abbrev pub NeedAtMost : ℕ → List PlainPart → Type 0
 NeedAtMost groups parts = AllByRecursion (NeedsGroup groups) parts
 
--- the parts that are components can stand in a name
+-- the parts that are components can be in a name
 abbrev pub CanStand : PlainPart → Type 0
 CanStand (OfGroup n) = ⊤
 CanStand (Single c) = IsComponent c

@@ -33,7 +33,7 @@ pub fn any_components() -> Atom
     }
 }
 
-/// The atom at the front of the text, which stands at a place.
+/// The atom at the front of the text, which is at this place of the pattern.
 pub fn read_atom(alloc: Global, at: usize, text: &str) -> Result<FrontPart<'_, Atom>, PatternFault>
     ensures read { let atom = read.atom_in text.now in
         MatchResult result (λ found. atom

@@ -1,4 +1,4 @@
-//! What the groups of a pattern hold.
+//! What the groups of a pattern capture.
 
 use std::marker::Model;
 
@@ -25,7 +25,7 @@ impl Model for Captures {
 impl Captures {
     ghost use Rattle.std.specs.Prelude.{◌≡◌, ◌<◌, ◌∷◌, ◌++◌, [], length, slice_get};
 
-    /// Group 0: the whole of a name of so many components.
+    /// Group 0: the whole of a name of this many components.
     pub(crate) fn of_name(len: usize) -> Captures
         ensures { result ≡ (0, len) ∷ [] }
     {

@@ -8,7 +8,7 @@ ghost use Rattle.name_patterns.specs.Shown.{field_of};
 use crate::text::Text;
 use ndn_names::Component;
 
-/// What is asked of a component.
+/// The test of a component.
 #[derive(Debug, Drop)]
 enum Choice {
     Anything,

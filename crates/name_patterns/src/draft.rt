@@ -56,7 +56,7 @@ impl Draft {
         Ok(())
     }
 
-    /// Adds the atom at the front of the text, which stands at a place; gives the text after it.
+    /// Adds the atom at the front of the text, which is at this place; returns the text after it.
     fn add_atom<'a>(
         &mut self,
         alloc: Global,
@@ -79,7 +79,7 @@ impl Draft {
         Ok(found.rest)
     }
 
-    /// Opens a group, whose parenthesis stands at a place and before this text.
+    /// Opens a group, whose parenthesis is at this place and before this text.
     fn open_group(&mut self, at: usize, text: &str) -> Result<(), PatternFault>
         ensures { let next = with_open (draft_of self.old) at text.now self.old.open_group in
             MatchResult result (λ _. next ≡ Ok (draft_of self.new, text.now)) (IsFaultOf next) }
@@ -97,7 +97,7 @@ impl Draft {
         Ok(())
     }
 
-    /// Closes the open group by a parenthesis at a place, which stands before this text.
+    /// Closes the open group by a parenthesis at this place and before this text.
     fn close_group(&mut self, at: usize, text: &str) -> Result<(), PatternFault>
         requires { at + 1 < 2 ^ 64 }
         ensures { let next = with_closed (draft_of self.old) at text.now self.old.open_group in
@@ -117,7 +117,7 @@ impl Draft {
         Ok(())
     }
 
-    /// Adds the item at the front of the text, which stands at a place; gives the text after it.
+    /// Adds the item at the front of the text, which is at this place; returns the text after it.
     pub fn add_item<'a>(
         &mut self,
         alloc: Global,

@@ -9,7 +9,7 @@ use thiserror::Error;
 /// but `Memory` may come in place of any.
 #[derive(Clone, Copy, Debug, PartialEq, Eq, Error)]
 pub enum PatternFault {
-    /// What stands here is not in the grammar, or is the 33rd atom.
+    /// The text here is not in the grammar, or is the 33rd atom.
     #[error("octet {0}: not part of a pattern")]
     Syntax(usize),
     /// A component's text has one of the signs ( ) [ ] { } * + ? ^ $ \ |, which are for patterns
@@ -22,7 +22,7 @@ pub enum PatternFault {
     /// A pattern's tenth group, or a group in a template that the pattern does not have.
     #[error("octet {0}: a group that does not exist, or one too many")]
     BadGroup(usize),
-    /// A growth of memory was refused.
+    /// Out of memory.
     #[error("out of memory")]
     Memory,
 }

@@ -44,14 +44,14 @@ impl Pattern {
         self.groups.len() as u8
     }
 
-    /// What the groups hold, if the pattern matches the name: in the first split of the name in
+    /// What the groups capture, if the pattern matches the name: in the first split of the name in
     /// which each atom in turn prefers more components. It takes no memory.
     pub fn matches(&self, name: Name<'_>) -> Option<Captures>
         // What is given is the match.
         ensures found { IfSome result (Match self.now (components name.entry)) }
         // Where nothing is given, there is no match.
         ensures none { IfNone result (HasNoSplit self.now.atoms (components name.entry)) }
-        // Templates for so many groups can be expanded.
+        // Templates for this many groups can be expanded.
         ensures there { IfSome result
             (λ captures. (parts : List PlainPart) → NeedAtMost (length self.now.groups) parts
             → AreThere captures (components name.entry) parts) }
@@ -77,7 +77,7 @@ impl Pattern {
         Some(self.captures(&starts, len))
     }
 
-    /// The places of the groups, by those in front of each atom, in a name of so many components.
+    /// The places of the groups, by those in front of each atom, in a name of this many components.
     fn captures(&self, starts: &Starts, len: usize) -> Captures
         ensures { result ≡ (0, len) ∷ map
             (λ group. (slice_index starts.now group.0, slice_index starts.now group.1))

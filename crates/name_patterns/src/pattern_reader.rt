@@ -12,7 +12,7 @@ use crate::fault::PatternFault;
 use crate::pattern::Pattern;
 use std::alloc::Global;
 
-/// Whether a parenthesis that closes stands outside of all `<` and `>`.
+/// Whether there is a closing parenthesis outside of all `<` and `>`.
 fn is_closed(text: &[u8]) -> bool
     ensures { result ≡ read.is_closed false text.now }
 {
@@ -86,8 +86,8 @@ impl Pattern {
     ///
     /// Refuses it by its leftmost faulty item: see `PatternFault`. An item is an atom with its
     /// repeat, a repeat that follows another or a group, a parenthesis, or an anchor elsewhere than
-    /// at its end. A group that is never closed is faulty at its parenthesis. `Memory` may come at
-    /// any text.
+    /// at its end. A group that is never closed is faulty at its parenthesis. `Memory` may be
+    /// returned for any text.
     pub fn read(alloc: Global, text: &str) -> Result<Pattern, PatternFault>
         // What is read, the text spells.
         ensures found { IfOk result (IsPattern text.now) }

@@ -38,7 +38,7 @@ fn count_of(text: &str) -> Option<u8>
     }
 }
 
-/// The range of what stands before and after a comma, where one of them may be empty.
+/// The range of the texts before and after a comma, one of which may be empty.
 fn range_by_comma(low: &str, high: &str) -> Option<Repeat>
     ensures { option_map bounds_of result ≡ read.range_by_comma low.now high.now }
 {
@@ -57,7 +57,7 @@ fn range_by_comma(low: &str, high: &str) -> Option<Repeat>
     })
 }
 
-/// The range of what stands between braces.
+/// The range of the text between braces.
 fn range_of(text: &str) -> Option<Repeat>
     ensures { option_map bounds_of result ≡ read.range_in text.now }
 {
@@ -73,7 +73,7 @@ fn range_of(text: &str) -> Option<Repeat>
     }
 }
 
-/// Whether one of the signs of repeats stands at the front.
+/// Whether the text begins with one of the signs of repeats.
 pub fn begins_repeat(text: &str) -> bool
     ensures { result ≡ read.begins_repeat text.now }
 {
@@ -93,8 +93,8 @@ fn braced_repeat(text: &str) -> Option<(Repeat, &str)>
     Some((range_of(range)?, rest))
 }
 
-/// The repeat at the front, which is one component where none stands there, and the text after it.
-/// Braces that hold no range are no repeat, and nothing else.
+/// The repeat at the front, which is one component where there is none, and the text after it.
+/// Braces without a range are no repeat, and nothing else.
 pub fn first_repeat(text: &str) -> Option<(Repeat, &str)>
     ensures read { option_map (λ found. (bounds_of found.0, found.1.now)) result
         ≡ read.repeat_in text.now }

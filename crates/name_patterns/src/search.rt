@@ -49,7 +49,7 @@ fn with_place(places: Places, place: usize, is_there: bool) -> Places
     }
 }
 
-/// The components that pass the test, in a name of so many components.
+/// The components that pass the test, in a name of this many components.
 fn passed(test: &Test, name: Name<'_>, len: usize, tests: &mut u64) -> Places
     requires len { (len ≡ length (components name)) × (len ≤ 64) }
     requires room { tests.old + 64 < 2 ^ 64 }
@@ -143,10 +143,10 @@ fn split_before(repeat: Repeat, passed: Places, after: Places) -> Places
     split
 }
 
-/// Fills the table from the last row back to that of the first atom that is left, for a name of so
-/// many components. Where an atom and those after it have no split from any place on, the atoms in
-/// front of it have none either: it stops there, and says no. Each atom is tested against each
-/// component once at most.
+/// Fills the table from the last row back to that of the first atom that is left, for a name of
+/// this many components. Where an atom and those after it have no split from any place on, the
+/// atoms in front of it have none either: it stops there, and answers false. Each atom is tested
+/// against each component once at most.
 fn fill(
     atoms: &[Atom],
     first: usize,
@@ -181,7 +181,7 @@ fn fill(
 }
 
 /// Lets the atoms in front that take one component each take theirs, until another atom comes. It
-/// needs no table, since these atoms have no choice. Gives their number, or nothing where one of
+/// needs no table, since these atoms have no choice. Returns their number, or nothing where one of
 /// them cannot take its component.
 fn take_singles(
     atoms: &[Atom],
@@ -217,8 +217,8 @@ fn take_singles(
     Some(atoms.len())
 }
 
-/// Lets the atoms from one on take their components, by a table, in a name of so many components.
-/// Gives the place after the last that is taken.
+/// Lets the atoms from one on take their components, by a table, in a name of this many components.
+/// Returns the place after the last that is taken.
 fn take_others(
     atoms: &[Atom],
     first: usize,

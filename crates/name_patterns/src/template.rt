@@ -15,7 +15,7 @@ use std::marker::Model;
 /// A part of a template.
 #[derive(Debug, Drop)]
 pub enum Part {
-    /// What a group holds, by its number.
+    /// What a group captures, by its number.
     Group(u8),
     /// A component.
     Single(Text),
@@ -26,7 +26,7 @@ impl Part {
     ghost use Rattle.name_patterns.specs.Template.{part_len};
     ghost use Rattle.name_patterns.specs.Shown.{part_of};
 
-    /// How many components the part stands for.
+    /// How many components the part has.
     fn len(&self, captures: &Captures) -> usize
         ensures { result ≡ part_len captures.now (part_of self.now) }
     {
@@ -65,9 +65,9 @@ impl Template {
     ghost use Rattle.ndn_names.specs.View.{components};
     ghost use Rattle.name_patterns.specs.Template.{expansion_of, part_len, AreThere};
 
-    /// The name that the template stands for, where the groups hold these places of a name.
+    /// The name that the template makes, where the groups are at these places of a name.
     ///
-    /// Refuses it as `TooManyComponents`, which is reported before memory is asked for, or as
+    /// Refuses it as `TooManyComponents`, which is reported before memory is needed, or as
     /// `Memory`.
     pub fn expand(
         &self,
@@ -94,7 +94,7 @@ impl Template {
         Ok(expanded)
     }
 
-    /// Whether the name that it stands for, where the groups hold these places, would have more than
+    /// Whether the name that it makes, where the groups are at these places, would have more than
     /// 64 components, which `expand` refuses. It takes no memory.
     pub fn is_too_long(&self, captures: &Captures) -> bool
         ensures { result ≡ nat_lt 64 (sum_by (part_len captures.now) self.now) }
@@ -111,7 +111,7 @@ impl Template {
     }
 }
 
-/// Appends what a part stands for.
+/// Appends the components of a part.
 fn append_part(
     expanded: &mut NameBuf,
     part: &Part,
@@ -121,7 +121,7 @@ fn append_part(
     ensures ok { OnOk result
         (expanded.new ≡ expanded.old ++ template.part_of captures.now (components name.entry)
         (part_of part.now)) }
-    // Where there is room, nothing but memory is refused.
+    // Where there is room, it fails only when memory runs out.
     ensures room { CanStand (part_of part.now)
         → length expanded.old + length
         (template.part_of captures.now (components name.entry) (part_of part.now)) ≤ 64
@@ -147,7 +147,7 @@ fn append_between(
 ) -> Result<(), NameFault>
     ensures ok { OnOk result
         (expanded.new ≡ expanded.old ++ between (components name.entry) (start, end)) }
-    // Where there is room, nothing but memory is refused.
+    // Where there is room, it fails only when memory runs out.
     ensures room { length expanded.old + length (between (components name.entry) (start, end)) ≤ 64
         → IfErr result (λ fault. fault ≡ NameFault.Memory) }
 {

@@ -39,8 +39,8 @@ fn read_group(at: usize, text: &str, groups: u8) -> Result<(Part, &str), Pattern
     Ok((Part::Group(group), rest))
 }
 
-/// The component of the text between `<` and `>` at the front, which stands at a place, and the
-/// text after it.
+/// The component of the text between `<` and `>` at the front, which is at this place, and the text
+/// after it.
 fn read_single(alloc: Global, at: usize, text: &str) -> Result<(Part, &str), PatternFault>
     ensures read { let single = read.single_part_in at text.now in
         MatchResult result (λ found. single ≡ Ok (part_of found.0, found.1.now))
@@ -57,7 +57,7 @@ fn read_single(alloc: Global, at: usize, text: &str) -> Result<(Part, &str), Pat
     Ok((Part::Single(single), rest))
 }
 
-/// The part at the front of the text, which stands at a place, and the text after it.
+/// The part at the front of the text, which is at this place, and the text after it.
 fn read_part(alloc: Global, at: usize, text: &str, groups: u8) -> Result<(Part, &str), PatternFault>
     ensures read { let part = read.part_in groups at text.now in
         MatchResult result (λ found. part ≡ Ok (part_of found.0, found.1.now)) (IsFaultOf part) }
@@ -85,11 +85,12 @@ fn read_parts(alloc: Global, text: &str, groups: u8) -> Result<Vec<Part>, Patter
 }
 
 impl Template {
-    /// Reads a template, for a pattern of so many groups: a row of `\0` to `\9`, each for what that
-    /// group holds, and of components' URI texts between `<` and `>`. `\0` is the whole name.
+    /// Reads a template, for a pattern with this many groups: a row of `\0` to `\9`, each for what
+    /// that group captures, and of components' URI texts between `<` and `>`. `\0` is the whole
+    /// name.
     ///
-    /// Refuses it by its leftmost faulty part: see `PatternFault`, of which `Nested` never comes.
-    /// `Memory` may come at any text.
+    /// Refuses it by its leftmost faulty part: see `PatternFault`, of which `Nested` never occurs.
+    /// `Memory` may be returned for any text.
     pub fn read(alloc: Global, text: &str, groups: u8) -> Result<Template, PatternFault>
         // What is read, the text spells.
         ensures found { IfOk result (IsTemplate groups text.now) }

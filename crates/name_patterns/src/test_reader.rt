@@ -17,7 +17,11 @@ fn read_texts(
     text: &str,
 ) -> Result<FrontPart<'_, Vec<Text>>, PatternFault>
     ensures read { let listed = read.listed_within (length text.now) text.now in
-        MatchResult result (λ found. listed ≡ Some (record { part = map field_of found.part.items; is_inner = found.is_inner; rest = found.rest.now }))
+        MatchResult result (λ found. listed ≡ Some (record {
+          part = map field_of found.part.items;
+          is_inner = found.is_inner;
+          rest = found.rest.now;
+        }))
         (IsFaultOf (read_at at listed)) }
     ensures shorter { IfOk result (λ found. length found.rest.now ≤ length text.now) }
 {
@@ -42,7 +46,11 @@ fn read_texts(
 /// The test of a list, after its first bracket.
 fn read_list(alloc: Global, at: usize, text: &str) -> Result<FrontPart<'_, Test>, PatternFault>
     ensures read { let listed = read.bracketed_in text.now in
-        MatchResult result (λ found. listed ≡ Some (record { part = test_of found.part; is_inner = found.is_inner; rest = found.rest.now }))
+        MatchResult result (λ found. listed ≡ Some (record {
+          part = test_of found.part;
+          is_inner = found.is_inner;
+          rest = found.rest.now;
+        }))
         (IsFaultOf (read_at at listed)) }
     ensures shorter { IfOk result (λ found. length found.rest.now ≤ length text.now) }
 {
@@ -74,7 +82,11 @@ fn read_list(alloc: Global, at: usize, text: &str) -> Result<FrontPart<'_, Test>
 /// The test of a text between `<` and `>`, which may be empty.
 fn read_quoted(alloc: Global, at: usize, text: &str) -> Result<FrontPart<'_, Test>, PatternFault>
     ensures read { let quoted = read.quoted_test_in text.now in
-        MatchResult result (λ found. quoted ≡ Some (record { part = test_of found.part; is_inner = found.is_inner; rest = found.rest.now }))
+        MatchResult result (λ found. quoted ≡ Some (record {
+          part = test_of found.part;
+          is_inner = found.is_inner;
+          rest = found.rest.now;
+        }))
         (IsFaultOf (read_at at quoted)) }
     ensures shorter { IfOk result (λ found. length found.rest.now < length text.now) }
 {
@@ -100,7 +112,11 @@ fn read_quoted(alloc: Global, at: usize, text: &str) -> Result<FrontPart<'_, Tes
 /// The test at the front of the text, in the item at a place.
 pub fn read_test(alloc: Global, at: usize, text: &str) -> Result<FrontPart<'_, Test>, PatternFault>
     ensures read { let test = read.test_in text.now in
-        MatchResult result (λ found. test ≡ Some (record { part = test_of found.part; is_inner = found.is_inner; rest = found.rest.now }))
+        MatchResult result (λ found. test ≡ Some (record {
+          part = test_of found.part;
+          is_inner = found.is_inner;
+          rest = found.rest.now;
+        }))
         (IsFaultOf (read_at at test)) }
     ensures shorter { IfOk result (λ found. length found.rest.now < length text.now) }
 {

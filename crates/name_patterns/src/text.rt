@@ -32,7 +32,7 @@ impl Text {
     }
 }
 
-/// What is read of a pattern, whether a special sign stands in a text of it, and the text after it.
+/// What is read of a pattern, whether a text of it has a special sign, and the text after it.
 #[derive(Debug, Drop)]
 pub struct FrontPart<'a, T> {
     pub part: T,
@@ -47,7 +47,7 @@ fn is_special(octet: u8) -> bool
     SPECIAL.contains(&octet)
 }
 
-/// Whether a special sign stands in the text.
+/// Whether the text has a special sign.
 pub fn has_special(text: &str) -> bool
     ensures { result ≡ read.has_special text.now }
 {
