@@ -1,4 +1,4 @@
--- What is said of a fault in a key file, and of a file that cannot be read.
+-- The messages for a fault in a key file, and for a file that cannot be read.
 use Rattle.std.specs.Prelude.{ℕ, zero, suc, List, codes}
 use Rattle.std.specs.declared.io.ErrorKind.{ErrorKind}
 use Rattle.std.specs.declared.io.ErrorKind.TheVariants as kinds

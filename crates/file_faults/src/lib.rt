@@ -1,4 +1,4 @@
-//! What the programs say of a fault in a key file, and of a file that cannot be read, in words.
+//! The messages of the programs for a fault in a key file, and for a file that cannot be read.
 #![tactic(auto)]
 
 ghost use Rattle.std.specs.Prelude.{◌≡◌};

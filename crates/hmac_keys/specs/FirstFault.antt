@@ -28,7 +28,7 @@ HasNameTwice lines n =
     (line : List ℕ) × (keys : List NamedKey) × IsReached lines n line keys
     × ((key : NamedKey) × IsKeyLine line key × ((octets : List ℕ) × IsAmong (key.0, octets) keys))
 
--- some line has a key of another name, and 256 keys stand before it
+-- some line has a key of another name, and 256 keys come before it
 abbrev pub HasTooMany : List (List ℕ) → Type 0
 HasTooMany lines =
     (n : ℕ) × (line : List ℕ) × (keys : List NamedKey) × IsReached lines n line keys
@@ -42,6 +42,6 @@ FaultIn lines (TwiceNamed n) = HasNameTwice lines n
 FaultIn lines TooMany = HasTooMany lines
 FaultIn lines Memory = ⊥
 
--- what stands in a text that is refused for this fault; Memory has no cause in it
+-- the cause of this fault in a text that is refused for it; Memory has no cause in the text
 abbrev pub FirstFault : List ℕ → KeyFault → Type 0
 FirstFault text fault = FaultIn (lines_of text) fault

@@ -23,7 +23,7 @@ lines_have_name name lines = list_any (line_has_name name) lines
 abbrev pub HaveNames : List (List ℕ) → List NamedKey → Type 0
 HaveNames lines keys = (name : List Field) → lines_have_name name lines ≡ has_name name keys
 
--- so many keys are read up to the end of a line, with so many lines and these keys before it
+-- this many keys are read up to the end of a line, after this many lines and these keys
 abbrev pub AreReadAfter : ℕ → List NamedKey → List ℕ → ℕ → Type 0
 AreReadAfter before keys line count =
     (all : List NamedKey) × (after_line (before + 1) keys line ≡ Ok all) × (count ≡ length all)

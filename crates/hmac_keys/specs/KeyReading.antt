@@ -11,7 +11,7 @@ use Rattle.hmac_keys.specs.declared.fault.KeyFault.{KeyFault}
 use Rattle.hmac_keys.specs.declared.fault.KeyFault.TheVariants.{BadLine, TwiceNamed, TooMany, Memory}
 use Rattle.hmac_keys.specs.KeyFile.{NamedKey, KeysOf, is_skipped, lines_of}
 
--- what stands before the last space and after it
+-- the text before the last space, and that after it
 unfoldable pub at_last_space : List ℕ → Option (List ℕ × List ℕ)
 at_last_space [] = None
 at_last_space (o ∷ line) =

@@ -6,7 +6,7 @@ use thiserror::Error;
 
 /// Why a key file is refused: its first faulty line, by number. All lines are counted from 1,
 /// skipped ones included. Of several faults of one line the first in this order is reported.
-/// `Memory` comes only where the file has no fault.
+/// `Memory` is returned only where the file has no fault.
 #[derive(Clone, Copy, Debug, PartialEq, Eq, Error)]
 pub enum KeyFault {
     /// A line is not the URI of a nonempty name, a space, and 1 to 256 octets in hexadecimal.

@@ -40,8 +40,8 @@ impl HmacKey {
         &self.octets
     }
 
-    /// The HMAC of two slices, one after the other, as `hmac_sha256` gives it (RFC 2104): 32 octets,
-    /// which are not shortened. It refuses nothing, and takes no memory.
+    /// The HMAC of two slices, one after the other, as `hmac_sha256` gives it (RFC 2104): 32
+    /// octets, which are not shortened. It never fails, and takes no memory.
     pub fn tag(&self, first: &[u8], second: &[u8]) -> [u8; 32]
         ensures { result ≡ Mac self.now (first.now ++ second.now) }
     {

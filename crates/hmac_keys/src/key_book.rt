@@ -90,8 +90,8 @@ impl KeyBook {
     /// and those that begin with `;`, are skipped, but are counted.
     ///
     /// Refuses it by its first faulty line, and then reads no key: see `KeyFault`. Two names are
-    /// one if their components are, however the URIs spell them. `Memory` comes only where the
-    /// text has no fault.
+    /// one if their components are, however the URIs spell them. `Memory` is returned only where
+    /// the text has no fault.
     pub fn read(alloc: Global, text: &str) -> Result<KeyBook, KeyFault>
         // What is read, the text spells.
         ensures found { IfOk result (KeysOf text.now) }
@@ -100,7 +100,7 @@ impl KeyBook {
             → (result ≡ Ok keys) ⊎ IsErrOf result KeyFault.Memory }
         // Which fault it is.
         ensures fault { IfErr result (IsFaultOf (keys_in text.now)) }
-        // Memory is refused only where all of the text is right.
+        // `Memory` is returned only where all of the text is right.
         ensures memory { IfErr result (λ fault. fault ≡ KeyFault.Memory
             → (keys : List NamedKey) × KeysOf text.now keys) }
     {
@@ -118,7 +118,7 @@ impl KeyBook {
         KeyBook::read(alloc, text)
     }
 
-    /// The keys of the lines, or the first fault, unless memory is refused before.
+    /// The keys of the lines, or the first fault, unless memory runs out before.
     fn read_lines(alloc: Global, text: &str) -> Result<KeyBook, KeyFault>
         ensures { MatchResult result (λ book. keys_in text.now ≡ Ok book)
             (IsFaultOf (keys_in text.now)) }
@@ -202,7 +202,7 @@ impl KeyBook {
     }
 }
 
-/// Where memory is refused, the lines are looked at once more without it, so that their fault comes
+/// When memory runs out, the lines are read once more without it, so that their fault is reported
 /// first.
 fn read_keys(alloc: Global, text: &str) -> Result<KeyBook, KeyFault>
     ensures { MatchResult result (λ book. keys_in text.now ≡ Ok book)
@@ -218,8 +218,8 @@ fn read_keys(alloc: Global, text: &str) -> Result<KeyBook, KeyFault>
     }
 }
 
-/// Law: a text spells the keys of one book at most, which `keys_in` reads, and it refuses a text for
-/// a fault exactly where that stands on the first faulty line.
+/// Law: a text spells the keys of one book at most, which `keys_in` reads, and it refuses a text
+/// for a fault exactly where the first faulty line has that fault.
 pub fn key_files_have_one_reading()
     ensures exact { (text : List ℕ) (keys : List NamedKey) → (keys_in text ≡ Ok keys)
         ↔ KeysOf text keys }

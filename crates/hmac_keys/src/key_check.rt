@@ -86,7 +86,7 @@ fn have_name(text: &str, lines: u64, uri: &str) -> bool
     false
 }
 
-/// The number of keys after a line of a text, where so many lines and keys stand before it.
+/// The number of keys after a line of a text, which comes after this many lines and keys.
 fn check_line(text: &str, before: u64, keys: usize, line: &str) -> Result<usize, KeyFault>
     requires short { before < length text.now }
     requires few { keys ≤ 256 }
@@ -109,7 +109,7 @@ fn check_line(text: &str, before: u64, keys: usize, line: &str) -> Result<usize,
     Ok(keys + 1)
 }
 
-/// Refuses a key file with its first fault. No name is kept: each line of a key is compared with
+/// Refuses a key file with its first fault. No name is stored: each line of a key is compared with
 /// the lines before it, of which 256 at most have a key.
 pub(crate) fn check_keys(text: &str) -> Result<(), KeyFault>
     ensures { MatchResult result (λ _. (keys : List NamedKey) × (keys_in text.now ≡ Ok keys))

@@ -40,8 +40,8 @@ fn readers(rt: HostRuntime) {
     assert!(rt; fails_in_the_middle(rt.alloc()));
 }
 
-/// Whether the lines of a text are these, with a limit of four octets; `-` stands for a line that is
-/// longer, and ends the text.
+/// Whether the lines of a text are these, with a limit of four octets; `-` stands for a line that
+/// is longer, and ends the text.
 fn lines_are(alloc: Global, text: &str, wanted: &str) -> Option<bool> {
     let mut reader = BufReader::new(alloc, text.as_bytes()).ok()?;
     let mut lines = Vec::new(alloc);
