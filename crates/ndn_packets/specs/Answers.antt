@@ -23,7 +23,7 @@ abbrev pub AnswersByName : List Field → List Field → Bool → Type 0
 AnswersByName name asked can_be_prefix =
     (asked ≡ name) ⊎ ((can_be_prefix ≡ true) × IsPrefix asked name)
 
--- the digest that a name asks for, where it is the Data's name and a digest after it
+-- the digest that a name requires, where it is the Data's name and a digest after it
 abbrev pub AsksFor : List Field → List Field → Option (List ℕ) → Type 0
 AsksFor name asked None = (digest : List ℕ) → asked ≡ full_name name digest → ⊥
 AsksFor name asked (Some digest) = asked ≡ full_name name digest

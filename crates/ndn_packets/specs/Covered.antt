@@ -10,8 +10,8 @@ use Rattle.ndn_names.specs.declared.first_of_type.FirstOfType.{FirstOfType}
 use Rattle.ndn_packets.specs.Packet.{PlainSignature, PlainFrame, AnInterest, AData, ANack, Idle}
 use Rattle.ndn_packets.specs.declared.types.TheConstants.{APPLICATION_PARAMETERS, DATA, INTEREST, INTEREST_SIGNATURE_INFO, INTEREST_SIGNATURE_VALUE, SIGNATURE_VALUE}
 
--- Octets are cut in front of the first element of this type: before it stand whole elements of
--- other types, after it anything.
+-- Octets are cut in front of the first element of this type: before it are whole elements of other
+-- types, after it anything.
 pub record IsCut (kind : ℕ) (octets before from : List ℕ) : Type 0 where
   pub others : List Field
   pub value : List ℕ

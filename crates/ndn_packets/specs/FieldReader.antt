@@ -20,21 +20,21 @@ ignored_by rules.SignatureInfo = is_ignored_in_signature_info
 abbrev pub fields_left : FieldReader → List (Result Field PacketFault)
 fields_left f = fields_from (ignored_by f.rules) f.schema.now (elements_of f.rest.now)
 
--- what a step gives is what was left first: a field, the end or a fault
+-- a step returns the first of what was left: a field, the end or a fault
 abbrev pub IsNextField : FieldReader → FieldReader → Result (Option Element) PacketFault → Type 0
 IsNextField before after (Ok None) = fields_left before ≡ []
 IsNextField before after (Ok (Some e)) =
     fields_left before ≡ Ok (e.kind, e.value.now) ∷ fields_left after
 IsNextField before after (Err fault) = fields_left before ≡ Err fault ∷ []
 
--- where the field e stands that a reader just gave: its octets and those after it; nothing before
--- it is of a type that could still come
+-- the place of the field e that a reader just returned: its octets and those after it; nothing
+-- before it is of a type that could still come
 pub record StandsHere (before after : FieldReader) (e : Element) : Type 0 where
   pub here : Ok ((e.kind, e.value.now), after.rest.now) ≡ element_at after.here.now
   pub schema : schema_after e.kind before.schema.now ≡ Some after.schema.now
   pub place : (kind : ℕ) → IsSome (schema_after kind before.schema.now)
       → from_first kind before.rest.now ≡ from_first kind after.here.now
 
--- after a Name stands the rest of the octets, with the first element of each other type
+-- the rest of the octets follows a Name, and has the first element of each other type
 abbrev pub OthersAfter : List ℕ → List ℕ → Type 0
 OthersAfter octets rest = (kind : ℕ) → kind ≢ NAME → from_first kind octets ≡ from_first kind rest

@@ -39,15 +39,15 @@ info_schema =
 abbrev pub needs_previous_field : ℕ → Bool
 needs_previous_field kind = kind == INTEREST_SIGNATURE_INFO || kind == INTEREST_SIGNATURE_VALUE
 
--- the type stands in the schema where it counts, and these types stand after it
+-- the type is in the schema where it counts, and these types come after it
 abbrev pub Counts : ℕ → List ℕ → List ℕ → Type 0
 Counts kind later schema =
     (front : List ℕ) × (schema ≡ front ++ kind ∷ later) × AllByRecursion (λ k. k ≢ kind) front
     × (needs_previous_field kind ≡ true → front ≡ [])
 
--- The fields of a schema among elements: an element is one where its type stands in the schema
--- after those of all fields before it, and a type that needs the previous field right after the
--- last of them. Every other element has to be one that is ignored.
+-- The fields of a schema among elements: an element is one where its type is in the schema after
+-- those of all fields before it, and a type that needs the previous field right after the last of
+-- them. Every other element has to be one that is ignored.
 abbrev pub Fields : (ℕ → Bool) → List ℕ → List Field → List Field → Type 0
 Fields ignores schema [] fields = fields ≡ []
 Fields ignores schema (e ∷ elements) fields =

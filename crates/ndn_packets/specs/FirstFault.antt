@@ -26,8 +26,8 @@ AllPass {S} take ignores schema s elements plain t =
     (elements ≡ map (λ e. Ok e) plain)
     × ((later : List ℕ) × Passes take ignores schema s plain later t)
 
--- The fault of what stands next: that it cannot be read comes before that its type is neither a
--- field's nor ignored, and this before what is wrong with its value.
+-- The fault of the next element: that it cannot be read is reported before that its type is neither
+-- a field's nor ignored, and this before what is wrong with its value.
 abbrev pub HasFault : {S : Type 0} → (S → Field → Result S PacketFault) → (ℕ → Bool) → List ℕ → S
     → Result Field TlvFault → PacketFault → Type 0
 HasFault take ignores schema s (Err unreadable) fault = fault ≡ Tlv unreadable

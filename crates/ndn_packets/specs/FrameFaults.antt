@@ -1,5 +1,5 @@
--- The first fault of octets of a link, by the elements that stand there, apart from the functions
--- that read them (NDNLPv2, "Packet Format", "Fragmentation", "Network Nack", "PIT Token").
+-- The first fault of a frame, defined by its elements, independently of the functions that read it
+-- (NDNLPv2, "Packet Format", "Fragmentation", "Network Nack", "PIT Token").
 use Rattle.std.specs.Prelude.{◌≡◌, ◌≢◌, ◌⊎◌, ℕ, ◌<◌, ◌≤◌, List, [], ◌∷◌, ◌++◌, length, map, Option, None, Some, IsSome, Result, Ok, Err, IsErr, false}
 use Rattle.std.specs.List.{AllByRecursion}
 use Rattle.ndn_tlv.specs.declared.fault.TlvFault.{TlvFault}
@@ -47,7 +47,7 @@ NoPacket text e fault =
 
 -- ---- link packets
 
--- what a Fragment holds beside a Nack, which has to be an Interest, or without one
+-- the content of a Fragment beside a Nack, which has to be an Interest, or without one
 abbrev pub NoneInside : Option ℕ → List ℕ → Field → PacketFault → Type 0
 NoneInside None text e fault = NoPacket text e fault
 NoneInside (Some reason) text e fault =
@@ -62,8 +62,8 @@ IsKnown kind =
     (kind ≡ SEQUENCE)
     ⊎ ((kind ≡ FRAG_INDEX) ⊎ ((kind ≡ FRAG_COUNT) ⊎ ((kind ≡ PIT_TOKEN) ⊎ (kind ≡ NACK))))
 
--- A header field may not stand after these: it is a known one that stands among them, a PitToken
--- not of 1 to 32 octets, or an unknown one that is not ignored.
+-- A header field may not follow these: it is a known one that is among them, a PitToken not of 1 to
+-- 32 octets, or an unknown one that is not ignored.
 abbrev pub IsRefused : List Field → Field → Type 0
 IsRefused before h =
     (IsKnown h.0 × (headers_of h.0 before ≢ []))
@@ -83,7 +83,7 @@ HeaderValueFault h fault =
     ⊎ ((h.0 ≡ NACK)
     × FirstFault take_nack_field is_even_high nack_schema 0 (elements_of h.1) fault))
 
--- That it may not stand there comes before what is wrong with its value.
+-- That it is not allowed there is reported before what is wrong with its value.
 abbrev pub HeaderFault : List Field → Field → PacketFault → Type 0
 HeaderFault before h fault =
     (IsRefused before h × (fault ≡ LpField))
@@ -96,7 +96,7 @@ FollowerFault (Err unreadable ∷ after) fault = fault ≡ Tlv unreadable
 FollowerFault (Ok e ∷ after) fault = fault ≡ LpField
 
 -- The fault of what follows header fields that have none, where these have a Nack of this reason or
--- none: a Nack needs a Fragment, and what a Fragment holds comes before what follows it.
+-- none: a Nack needs a Fragment, and a fault inside a Fragment is reported before one after it.
 abbrev pub AfterHeaders : List Field → Option ℕ → List (Result Field TlvFault) → PacketFault
     → Type 0
 AfterHeaders headers nack [] fault = IsSome nack × (fault ≡ BadField)

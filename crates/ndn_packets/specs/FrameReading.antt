@@ -70,7 +70,7 @@ no_headers_yet = record {
 abbrev pub is_token : List ℕ → Bool
 is_token value = nat_le 1 (length value) && nat_le (length value) 32
 
--- whether a header field may not stand here: a known one stands once, and a token has from 1 to 32
+-- whether a header field is not allowed here: a known one comes once, and a token has from 1 to 32
 -- octets
 abbrev pub is_refused_header : LinkSoFar → Field → Bool
 is_refused_header s h =
@@ -85,7 +85,7 @@ is_refused_header s h =
 abbrev pub at_most : ℕ → List ℕ → LinkSoFar → Result LinkSoFar PacketFault
 at_most limit value s = nni_value_at value >>= λ n. if nat_lt limit n then Err Fragmented else Ok s
 
--- with a header field that may stand here
+-- with a header field that is allowed here
 abbrev pub with_header : LinkSoFar → Field → Result LinkSoFar PacketFault
 with_header s h =
     if h.0 == SEQUENCE then Ok (record s { sequence = true }) else (
@@ -98,7 +98,7 @@ with_header s h =
 abbrev pub take_header : LinkSoFar → Field → Result LinkSoFar PacketFault
 take_header s h = if is_refused_header s h then Err LpField else with_header s h
 
--- what a Fragment holds, beside a Nack of this reason or without one
+-- the packet in a Fragment, beside a Nack of this reason or without one
 abbrev pub fragment_at : Option ℕ → List ℕ → Result PlainFrame PacketFault
 fragment_at None text = only_element text >>= packet_of text
 fragment_at (Some reason) text = only_element text >>= nacked_of reason text
@@ -114,7 +114,7 @@ abbrev pub no_fragment : Option (List ℕ) → Option ℕ → Result PlainFramed
 no_fragment token None = Ok (framed_with token Idle)
 no_fragment token (Some reason) = Err BadField
 
--- what a link packet holds, after these header fields
+-- the content of a link packet, after these header fields
 abbrev pub link_from : LinkSoFar → List (Result Field TlvFault) → Result PlainFramed PacketFault
 link_from s [] = no_fragment s.token s.nack
 link_from s (Err f ∷ elements) = Err (Tlv f)
@@ -128,7 +128,7 @@ link_at value = link_from no_headers_yet (elements_of value)
 
 -- ---- frames
 
--- what these octets hold, which are this element
+-- the content of these octets, which are this element
 abbrev pub outer_of : List ℕ → Field → Result PlainFramed PacketFault
 outer_of text outer =
     if outer.0 == LINK_PACKET then link_at outer.1

@@ -43,7 +43,7 @@ NamesKey value name =
 abbrev pub DigestsKey : List ℕ → Type 0
 DigestsKey value = (digest : List ℕ) × IsElement value KEY_DIGEST digest
 
--- what a KeyLocator that may be absent says of the key
+-- the key that a KeyLocator names, which may be absent
 abbrev pub IsLocator : Option (List ℕ) → PlainLocator → Type 0
 IsLocator None locator = locator ≡ Missing
 IsLocator (Some value) Missing = ⊥
@@ -52,7 +52,7 @@ IsLocator (Some value) Digest = DigestsKey value
 IsLocator (Some value) Other =
     ((name : List Field) → NamesKey value name → ⊥) × (DigestsKey value → ⊥)
 
--- MetaInfo = [ContentType] [FreshnessPeriod] [FinalBlockId], of which the FreshnessPeriod is kept,
+-- MetaInfo = [ContentType] [FreshnessPeriod] [FinalBlockId], of which the FreshnessPeriod is read,
 -- 0 where there is none
 pub record IsMetaInfo (text : List ℕ) (freshness : ℕ) : Type 0 where
   pub content_type : Option (List ℕ)

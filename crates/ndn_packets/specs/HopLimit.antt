@@ -1,4 +1,4 @@
--- Where the HopLimit of an Interest stands (NDN Packet Format 0.3, "Interest Packet", "HopLimit").
+-- The place of the HopLimit of an Interest (NDN Packet Format 0.3, "Interest Packet", "HopLimit").
 use Rattle.std.specs.Prelude.{◌≡◌, ℕ, ◌+◌, ◌-◌, List, length, Option, None, Some, Result, Ok, Err, is_some, slice_set, ◌==◌, ◌&&◌, if◌then◌else◌}
 use Rattle.std.specs.Borrow.{LendsIf, MutBor, Fml, Array, u8}
 use Rattle.ndn_tlv.specs.Reading.{on_result, element_at}
@@ -37,7 +37,8 @@ hop_place text = place_in text (frame_at text)
 abbrev pub with_octet : List ℕ → ℕ → List ℕ
 with_octet text octet = slice_set text (hop_place text) octet
 
--- that octet is lent: what is left there stands there afterwards, and all other octets stay
+-- that octet is borrowed: it has afterwards the value that the borrower left, and all other octets
+-- are unchanged
 abbrev pub LendsHopLimit : MutBor (List ℕ) → Option (MutBor ℕ) → Fml
 LendsHopLimit octets limit = LendsIf (Array u8 0) u8 octets limit (with_octet octets.now) octets.now
 

@@ -1,4 +1,4 @@
--- The keys of Interests: by them tables hold pending Interests (NFD Developer's Guide, "Pending
+-- The keys of Interests, by which tables store pending Interests (NFD Developer's Guide, "Pending
 -- Interest Table").
 use Rattle.std.specs.Prelude.{◌≡◌, Bool, true, false, List, ◌++◌, refl}
 use mathlib.Core.Path.{ap}

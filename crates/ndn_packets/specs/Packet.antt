@@ -42,8 +42,8 @@ pub record PlainData : Type 0 where
   pub content : Option (List ℕ)
   pub signature : PlainSignature
 
--- What octets of a link hold: a packet with its received octets, which are its own element without
--- what the link put around it, or nothing.
+-- The content of a frame: a packet with its received octets, which are its own element without what
+-- the link put around it, or nothing.
 pub data PlainFrame : Type 0 where
   AnInterest : (whole : List ℕ) (interest : PlainInterest) → PlainFrame
   AData : (whole : List ℕ) (packet : PlainData) → PlainFrame

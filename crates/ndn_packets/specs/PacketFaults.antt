@@ -1,4 +1,4 @@
--- The first fault of a packet and of a SignatureInfo, by the elements that stand there, apart from
+-- The first fault of a packet and of a SignatureInfo, defined by their elements, independently of
 -- the functions that read them (NDN Packet Format 0.3, "Interest Packet" and "Data Packet").
 use Rattle.std.specs.Prelude.{◌≡◌, ◌≢◌, ◌⊎◌, ℕ, List, [], ◌∷◌, Option, None, Some, Result, Ok, Err, IsErr}
 use Rattle.ndn_tlv.specs.declared.fault.TlvFault.{TlvFault}

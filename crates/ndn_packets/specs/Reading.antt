@@ -17,7 +17,7 @@ use Rattle.ndn_packets.specs.Fields.{is_even_high, is_ignored_in_meta_info, is_i
 use Rattle.ndn_packets.specs.Packet.{digests_in, PlainLocator, Missing, KeyName, Digest, Other, PlainSignatureInfo, PlainSignature, PlainInterest, PlainData}
 use Rattle.ndn_packets.specs.declared.types.TheConstants.{APPLICATION_PARAMETERS, CAN_BE_PREFIX, CONTENT, CONTENT_TYPE, FRESHNESS_PERIOD, HOP_LIMIT, INTEREST_LIFETIME, INTEREST_SIGNATURE_INFO, INTEREST_SIGNATURE_VALUE, KEY_DIGEST, KEY_LOCATOR, META_INFO, MUST_BE_FRESH, NAME, NONCE, SIGNATURE_INFO, SIGNATURE_SEQ_NUM, SIGNATURE_TIME, SIGNATURE_TYPE}
 
--- what of a schema stands after a type that counts in it
+-- the rest of a schema after a type that counts in it
 abbrev pub schema_after : ℕ → List ℕ → Option (List ℕ)
 schema_after kind [] = None
 schema_after kind (first ∷ schema) =
@@ -85,7 +85,8 @@ meta_at value =
     read_fields take_meta_field 0
     (fields_from is_ignored_in_meta_info meta_schema (elements_of value))
 
--- what a KeyLocator says: its first element, and the octets after it, of which there must be none
+-- the key that a KeyLocator names: its first element, and the octets after it, of which there must
+-- be none
 abbrev pub locator_of : Field → List ℕ → PlainLocator
 locator_of e rest =
     if not (is_nil rest) then Other else (

@@ -284,7 +284,7 @@ link_value token nack packet =
 abbrev pub link_text : Option (List ℕ) → Option ℕ → List ℕ → List ℕ
 link_text token nack packet = element (LINK_PACKET, link_value token nack packet)
 
--- what stands before a packet of this length in a link packet with this PIT token
+-- the octets before a packet of this length in a link packet with this PIT token
 abbrev pub link_start : List ℕ → ℕ → List ℕ
 link_start token packet_len =
     let token_field = element (PIT_TOKEN, token) in
@@ -331,6 +331,6 @@ pub record SoundInterest (w : InterestWriter) : Type 0 where
 
 -- ---- a name before its digest is known
 
--- zeros stand in the place of the digest
+-- zeros are in the place of the digest
 abbrev pub zeroed_name : InterestWriter → List Field
 zeroed_name w = name_with (replicate 32 0) (components w.name) (later_fields w w.sign)

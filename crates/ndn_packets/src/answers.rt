@@ -59,7 +59,7 @@ impl Data<'_> {
         }
     }
 
-    /// The implicit digest that this name asks for, where it is the Data's name and a digest after
+    /// The implicit digest that this name requires, where it is the Data's name and a digest after
     /// it, right or wrong. For no other name does an answer depend on the digest.
     pub fn asked_digest<'n>(&self, asked: Name<'n>) -> Option<&'n [u8]>
         ensures { AsksFor (components self.now.name) (components asked.entry)
@@ -88,8 +88,8 @@ impl Data<'_> {
     }
 }
 
-/// Law: what the tests `answers` and `begins_with` say. A name that is not the Data's with a digest
-/// after it is answered whatever the digest is.
+/// Law: what the tests `answers` and `begins_with` mean. A name that is not the Data's with a
+/// digest after it is answered whatever the digest is.
 pub fn answers_can_be_tested()
     ensures answers { (name asked : List Field) (digest : List ℕ) (can_be_prefix : Bool)
         → IsTrue (answers name digest asked can_be_prefix)

@@ -167,7 +167,7 @@ impl DataWriter<'_> {
         Ok(())
     }
 
-    /// Appends the Data, of any length. Where memory is refused, nothing is appended.
+    /// Appends the Data, of any length. When memory runs out, nothing is appended.
     fn put(&self, out: &mut Vec<u8>, value_len: usize) -> Result<(), Memory>
         requires { IsLength value_len (octets (fields_asked self.now)) }
         ensures ok { OnOk result (out.new.items ≡ out.old.items ++ data_text self.now) }
@@ -211,7 +211,7 @@ fn put_last(out: &mut Vec<u8>, last: Option<u64>) -> Result<(), Memory>
 }
 
 /// Appends a Data of a name and a Content, without MetaInfo, signed with DigestSha256, of any
-/// length. Where memory is refused, nothing is appended.
+/// length. When memory runs out, nothing is appended.
 pub fn put_reply(out: &mut Vec<u8>, name: Name<'_>, content: &[u8]) -> Result<(), Memory>
     ensures ok { OnOk result
         (out.new.items ≡ out.old.items ++ reply_text (components name.entry) content.now) }

@@ -26,8 +26,8 @@ pub enum PacketFault {
     CriticalUnknown,
     /// A field other than the Name and the Nonce is missing, or a field has a value that is not of
     /// its form; or the outer type is none of 5, 6 and 100, or octets follow the outer element; or
-    /// a Fragment holds something else than one packet, or beside a Nack than one Interest, or a
-    /// Nack has no Fragment.
+    /// a Fragment has something else than one packet, or beside a Nack than one Interest, or a Nack
+    /// has no Fragment.
     #[error("a field is missing, or its value is malformed")]
     BadField,
     /// An Interest has no Nonce.

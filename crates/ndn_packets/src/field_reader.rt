@@ -68,7 +68,7 @@ impl<'a> FieldReader<'a> {
     }
 }
 
-/// What of a schema stands after a type that counts in it.
+/// The rest of a schema after a type that counts in it.
 #[inline(always)]
 fn rest_of_schema(schema: &[u32], kind: u32) -> Option<&[u32]>
     ensures { option_map (λ s. s.now) result ≡ schema_after kind schema.now }
@@ -142,8 +142,8 @@ pub fn number(value: &[u8]) -> Result<u64, PacketFault>
     nni_of(value).map_err(|_| PacketFault::BadField)
 }
 
-/// Law: among the fields of packets, and of the values that hold fields, the first fault is told:
-/// before it stand fields whose values have none, and elements that are ignored.
+/// Law: among the fields of packets, and of the values that have fields, the first fault is
+/// reported: before it are fields whose values have none, and elements that are ignored.
 pub fn fields_tell_the_first_fault()
     ensures interest { TellsFirstFault take_interest_field is_even_high interest_schema
         no_fields_yet }
@@ -154,9 +154,9 @@ pub fn fields_tell_the_first_fault()
     ensures nack { TellsFirstFault take_nack_field is_even_high nack_schema 0 }
 {}
 
-/// Law: of the value of a packet or of a SignatureInfo the first fault is told: of an Interest and
-/// a Data that of the Name, then the first one among the fields, then a field that is missing, and
-/// of an Interest last the digest of its parameters.
+/// Law: of the value of a packet or of a SignatureInfo the first fault is reported: of an Interest
+/// and a Data that of the Name, then the first one among the fields, then a field that is missing,
+/// and of an Interest last the digest of its parameters.
 pub fn packets_tell_the_first_fault()
     ensures interest { (value : List ℕ) (fault : PacketFault) → (interest_at value ≡ Err fault)
         ↔ InterestFault (elements_of value) fault }

@@ -17,7 +17,7 @@ use crate::link::read_link;
 use crate::types::{DATA, INTEREST, LINK_PACKET};
 use ndn_tlv::{Element, first_element};
 
-/// What octets of a link hold (NDN Packet Format 0.3, "Interest Packet" and "Data Packet"; NDNLPv2,
+/// The content of a frame (NDN Packet Format 0.3, "Interest Packet" and "Data Packet"; NDNLPv2,
 /// "Network Nack"): a view of those octets, which takes no memory.
 #[derive(Clone, Copy, Debug, PartialEq, Eq)]
 pub enum Frame<'a> {
@@ -32,7 +32,7 @@ pub enum Frame<'a> {
         /// The Interest that is refused.
         interest: Interest<'a>,
     },
-    /// A link packet that holds no packet.
+    /// A link packet without a packet.
     Idle,
 }
 
@@ -41,7 +41,7 @@ pub enum Frame<'a> {
 pub struct Framed<'a> {
     /// The PIT token that a link packet carries, of 1 to 32 octets (NDNLPv2, "PIT Token").
     pub token: Option<&'a [u8]>,
-    /// What the octets hold.
+    /// The content of the octets.
     pub frame: Frame<'a>,
 }
 
@@ -53,13 +53,13 @@ pub const MAX_PACKET: usize = 8800;
 
 /// Reads octets of a link (NDN Packet Format 0.3, "Interest Packet" and "Data Packet"; NDNLPv2,
 /// "Packet Format"): one Interest or one Data of this profile, or a link packet around one. Fields
-/// stand in the order of the standard, and other elements among them are ignored where their types
+/// are in the order of the standard, and other elements among them are ignored where their types
 /// allow it. The digest of an Interest's ApplicationParameters has to be right. The octets are at
 /// most 9,000, and those of a packet at most 8,800. A packet's received octets are its own element,
 /// without the link packet's.
 ///
 /// Refuses all else with the first fault from the left: see `PacketFault`. No signature is
-/// verified, and a PIT token is read and dropped: `read_lp` tells it.
+/// verified, and a PIT token is read and dropped: `read_lp` returns it.
 pub fn read_frame(octets: &[u8]) -> Result<Frame<'_>, PacketFault>
     // What is read is in the grammar.
     ensures found { IfOk result (λ frame. IsFrame octets.now (plain_frame frame)) }
@@ -73,8 +73,8 @@ pub fn read_frame(octets: &[u8]) -> Result<Frame<'_>, PacketFault>
     frame_of(octets)
 }
 
-// A packet that stands alone is read at its place in the result, here and in `framed_of`: a call
-// of `packet_of` would copy it.
+// A packet without a link packet is read at its place in the result, here and in `framed_of`: a
+// call of `packet_of` would copy it.
 #[tactic(auto, unfolding(crate::specs::FrameReading::frame_at, crate::specs::FrameReading::framed_at))]
 #[inline(always)]
 fn frame_of(octets: &[u8]) -> Result<Frame<'_>, PacketFault>
@@ -92,10 +92,10 @@ fn frame_of(octets: &[u8]) -> Result<Frame<'_>, PacketFault>
     }
 }
 
-/// Reads octets of a link as `read_frame` does, and tells the PIT token beside what they hold
+/// Reads octets of a link as `read_frame` does, and returns the PIT token beside their content
 /// (NDNLPv2, "PIT Token"): 1 to 32 octets, which a link packet carries once at most, in any place
-/// among its header fields. A packet that stands alone has none. The token is a view of the octets,
-/// and nothing takes memory.
+/// among its header fields. A packet without a link packet has none. The token is a view of the
+/// octets, and nothing takes memory.
 ///
 /// Refuses all else with the first fault from the left: see `PacketFault`. A token of another
 /// length is an `LpField`, and so is a second one.
@@ -199,15 +199,15 @@ pub fn frames_have_one_reading()
         → ((framed_at text ≡ Ok framed) ↔ IsFramed text framed) }
 {}
 
-/// Law: of octets that are no frame the first fault is told: that they are too long, then that of
-/// the outer element, and then the first one of the packet or of the link packet.
+/// Law: of octets that are no frame the first fault is reported: that they are too long, then that
+/// of the outer element, and then the first one of the packet or of the link packet.
 pub fn frames_tell_the_first_fault()
     ensures { (text : List ℕ) (fault : PacketFault) → ((i : ℕ) → slice_index text i < 256)
         → ((frame_at text ≡ Err fault) ↔ FaultOf text fault) }
 {}
 
 /// Law: the received octets of every Interest and every Data in hand are that packet, also where it
-/// stood in a link packet: only `read_frame` and `read_lp` make them.
+/// came in a link packet: only `read_frame` and `read_lp` make them.
 pub fn packets_in_hand_are_read()
     ensures interest { (i : Interest) → IsReadInterest i }
     ensures data { (d : Data) → IsReadData d }

@@ -24,7 +24,7 @@ pub fn hop_limit_mut(octets: &mut [u8]) -> Option<&mut u8>
         → IsInterest (with_octet octets.entry.now limit) (with_limit i limit) }
 {
     let place = hop_place(octets);
-    // `get_mut` does not say what the slice ends as.
+    // The contract of `get_mut` does not define the slice after the borrow.
     if place >= octets.len() {
         return None;
     }

@@ -36,7 +36,7 @@ pub struct Interest<'a> {
     pub can_be_prefix: bool,
     /// Whether the packet has a MustBeFresh.
     pub must_be_fresh: bool,
-    /// The value of the Nonce, 4 octets as they stand.
+    /// The value of the Nonce, 4 octets as they are in the packet.
     pub nonce: [u8; 4],
     /// The InterestLifetime in milliseconds, 4000 where the packet has none.
     pub lifetime: u64,

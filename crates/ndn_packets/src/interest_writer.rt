@@ -30,7 +30,7 @@ pub struct InterestWriter<'a> {
     pub name: Name<'a>,
     pub can_be_prefix: bool,
     pub must_be_fresh: bool,
-    /// The value of the Nonce, 4 octets as they stand.
+    /// The value of the Nonce, 4 octets as they are in the packet.
     pub nonce: [u8; 4],
     /// The InterestLifetime in milliseconds.
     pub lifetime: Option<u64>,
@@ -129,7 +129,7 @@ impl InterestWriter<'_> {
         Some(count + usize::from(self.has_digest()))
     }
 
-    /// Whether there are ApplicationParameters, whose digest then stands in the name.
+    /// Whether there are ApplicationParameters, whose digest is then in the name.
     #[inline(always)]
     fn has_digest(&self) -> bool
         ensures { result ≡ not (is_nil (later_fields self.now self.now.sign)) }
@@ -251,8 +251,8 @@ impl InterestWriter<'_> {
         sign.value(self.name.as_octets(), covered)
     }
 
-    /// Appends the name's element, or some octets of it. Where a digest of parameters stands in it,
-    /// that is zeros yet.
+    /// Appends the name's element, or some octets of it. Where it has a digest of parameters, that
+    /// is still zeros.
     #[inline(always)]
     fn put_name(&self, out: &mut Vec<u8>, name_len: usize) -> Result<(), Memory>
         requires len { IsLength name_len (octets (interest_name self.now)) }

@@ -31,7 +31,7 @@ const MAX_IGNORED: u32 = 959;
 /// The greatest length of a PitToken, in octets.
 const MAX_TOKEN: usize = 32;
 
-/// The header fields that were read so far: which of those that may stand once, the PIT token, and
+/// The header fields that were read so far: which of those that may come once, the PIT token, and
 /// the reason of a Nack.
 #[derive(Clone, Copy)]
 struct Headers<'a> {
@@ -48,7 +48,7 @@ impl<'a> Headers<'a> {
     ghost use Rattle.ndn_packets.specs.FrameReading.{is_refused_header, with_header};
     ghost use Rattle.ndn_packets.specs.SoFar.{link_so_far};
 
-    /// Whether a header field may not stand after these.
+    /// Whether a header field is not allowed after these.
     fn refuse(self, field: Element<'_>) -> bool
         ensures { result
             ≡ is_refused_header (link_so_far self.entry) (field.entry.kind, field.entry.value.now) }
@@ -63,7 +63,7 @@ impl<'a> Headers<'a> {
         }
     }
 
-    /// These header fields and a further one that may stand after them.
+    /// These header fields and a further one that is allowed after them.
     fn with(self, field: Element<'a>) -> Result<Headers<'a>, PacketFault>
         ensures { on_result (λ h. Ok (link_so_far h)) Err result
             ≡ with_header (link_so_far self.entry) (field.entry.kind, field.entry.value.now) }
@@ -155,7 +155,7 @@ pub(crate) fn read_link(value: &[u8]) -> Result<Framed<'_>, PacketFault>
     }
 }
 
-/// What a Fragment holds, beside a Nack of this reason or without one.
+/// The packet in a Fragment, beside a Nack of this reason or without one.
 fn fragment_of(nack: Option<u64>, fragment: &[u8]) -> Result<Frame<'_>, PacketFault>
     ensures { on_result (λ f. Ok (plain_frame f)) Err result ≡ fragment_at nack fragment.now }
 {
@@ -181,8 +181,8 @@ fn check_last(after: &[u8]) -> Result<(), PacketFault>
 
 /// Appends a packet with a PIT token and with a Nack of a reason, those of both that are given: a
 /// link packet (NDNLPv2, "PIT Token", "Network Nack"), or the packet alone where neither is given.
-/// The token is 1 to 32 octets, and stands before the Nack. The NackReason is always written, 0 too.
-/// Where memory is refused, nothing is appended.
+/// The token is 1 to 32 octets, and comes before the Nack. The NackReason is always written, also
+/// 0. When memory runs out, nothing is appended.
 pub fn put_lp(
     out: &mut Vec<u8>,
     token: Option<&[u8]>,
@@ -216,8 +216,8 @@ pub fn put_lp(
 }
 
 /// Puts a link packet with this PIT token around the octets from a place on, which are a packet
-/// (NDNLPv2, "PIT Token"). The token is 1 to 32 octets. They stay bare where there is none. Where
-/// memory is refused, the octets stay as they were.
+/// (NDNLPv2, "PIT Token"). The token is 1 to 32 octets. They stay bare where there is none. When
+/// memory runs out, the octets stay as they were.
 pub fn wrap(out: &mut Vec<u8>, start: usize, token: Option<&[u8]>) -> Result<(), Memory>
     requires start { start ≤ vec_len out.old }
     requires is_token { IfSome token (λ t. IsToken t.now) }
@@ -258,8 +258,8 @@ fn wrap_with(out: &mut Vec<u8>, start: usize, token: &[u8]) -> Result<(), Memory
 }
 
 #[tactic(auto, using(crate::proofs::Wrapping::start_lengths))]
-/// Appends what stands before a packet of this length in a link packet with a PIT token, or some
-/// octets of it.
+/// Appends the octets before a packet of this length in a link packet with a PIT token, or some of
+/// them.
 fn put_link_start(out: &mut Vec<u8>, token: &[u8], packet_len: usize) -> Result<(), Memory>
     requires is_token { IsToken token.now }
     requires in_memory { packet_len < 2 ^ 63 }
@@ -273,7 +273,7 @@ fn put_link_start(out: &mut Vec<u8>, token: &[u8], packet_len: usize) -> Result<
 }
 
 /// Appends a Nack of a reason around an Interest's octets: a link packet (NDNLPv2, "Network Nack").
-/// The NackReason is always written, 0 too. Where memory is refused, nothing is appended.
+/// The NackReason is always written, also 0. When memory runs out, nothing is appended.
 pub fn put_nack(out: &mut Vec<u8>, reason: u64, interest: &[u8]) -> Result<(), Memory>
     ensures ok { OnOk result (out.new.items ≡ out.old.items ++ nack_text reason interest.now) }
     ensures err { OnErr result (out.new.items ≡ out.old.items) }

@@ -4,7 +4,7 @@ ghost use Rattle.ndn_packets.specs.FieldReader.{ignored_by};
 
 use crate::types::{INTEREST_SIGNATURE_INFO, INTEREST_SIGNATURE_VALUE, VALIDITY_PERIOD};
 
-/// Where fields stand: what of the elements among them is ignored (NDN Packet Format 0.3,
+/// Where fields are: which of the elements among them are ignored (NDN Packet Format 0.3,
 /// "Considerations for Evolvability of TLV-Based Encoding").
 #[derive(Clone, Copy)]
 pub enum Rules {

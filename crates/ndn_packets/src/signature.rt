@@ -17,7 +17,7 @@ use ndn_names::Name;
 use ndn_tlv::first_element;
 use sha2::{Digest, Sha256};
 
-/// What a SignatureInfo says of the key (NDN Packet Format 0.3, "KeyLocator").
+/// The key that a SignatureInfo names (NDN Packet Format 0.3, "KeyLocator").
 #[derive(Clone, Copy, Debug, PartialEq, Eq)]
 pub enum Locator<'a> {
     /// There is no KeyLocator.
@@ -30,7 +30,7 @@ pub enum Locator<'a> {
     Other,
 }
 
-/// A signature as it stands in a packet (NDN Packet Format 0.3, "Signature").
+/// A signature as it is in a packet (NDN Packet Format 0.3, "Signature").
 #[derive(Clone, Copy, Debug, PartialEq, Eq)]
 pub struct Signature<'a> {
     /// The SignatureType, any number below 2^64: none is refused as unknown.
@@ -128,7 +128,7 @@ const FIELDS: [u32; 5] = [
 ];
 
 #[tactic(auto, unfolding(crate::specs::Reading::locator_at))]
-/// What the value of a KeyLocator says.
+/// The key that the value of a KeyLocator names.
 fn locator_of(value: &[u8]) -> Locator<'_>
     ensures { plain_locator result ≡ locator_at value.now }
 {

@@ -56,8 +56,8 @@ pub const SIGNATURE_TIME: u32 = 40;
 
 pub const SIGNATURE_SEQ_NUM: u32 = 42;
 
-/// What a SignatureInfo may hold beside its fields (NDN Certificate Format 2.0, "ValidityPeriod"),
-/// and is ignored.
+/// An element that a SignatureInfo may have beside its fields (NDN Certificate Format 2.0,
+/// "ValidityPeriod"), which is ignored.
 pub const VALIDITY_PERIOD: u32 = 253;
 
 /// What a KeyLocator may be, beside a Name.
@@ -95,8 +95,8 @@ pub const DUPLICATE: u64 = 100;
 pub const NO_ROUTE: u64 = 150;
 
 /// Law: these are the numbers that the standards assign (NDN Packet Format 0.3, "TLV-TYPE Number
-/// Assignments" and "Signature"; NDNLPv2, "Packet Format" and "Network Nack"; NDN Certificate Format
-/// 2.0 for the ValidityPeriod).
+/// Assignments" and "Signature"; NDNLPv2, "Packet Format" and "Network Nack"; NDN Certificate
+/// Format 2.0 for the ValidityPeriod).
 pub fn packet_types_are_as_assigned()
     ensures packets { (INTEREST ≡ 5) × (DATA ≡ 6) × (NAME ≡ 7) }
     ensures interest { (CAN_BE_PREFIX ≡ 33) × (MUST_BE_FRESH ≡ 18) × (FORWARDING_HINT ≡ 30)
