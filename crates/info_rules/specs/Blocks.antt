@@ -41,7 +41,7 @@ pub data Takes : Type 0 where
   Value : ValueKind → Takes
   Inner : Takes
 
--- how often a key may stand in its block
+-- how often a key may come in its block
 pub data Times : Type 0 where
   Once : Times
   UpTo : ℕ → Times

@@ -52,7 +52,8 @@ abbrev pub has_locator : List Block → Found (Option CheckerType) → Found (Op
 has_locator keys type signature =
     not (needs_locator type signature) || is_there (codes "key-locator") keys
 
--- what is asked of the key's name, so far as it is there: of several key locators the first counts
+-- what is required of the key's name, so far as it is there: of several key locators the first
+-- counts
 abbrev pub locator_of : Bool → List Block → Found (Option LocatorTest)
 locator_of hierarchical keys =
     if hierarchical then Ok (Some locators.Hierarchical)
@@ -82,6 +83,6 @@ checker_of line keys = checker_by line keys
     (value_in BadValue checker_type_in (codes "type") keys)
     (value_in BadValue signature_type_in (codes "sig-type") keys)
 
--- what a `checker` asks of a signature
+-- what a `checker` requires of a signature
 unfoldable pub checker_in : Block → Found Checker
 checker_in key = block_in 2 checker_of key

@@ -1,5 +1,5 @@
--- What checkers say of a signed packet: the first of their reasons against it, or nothing where it
--- passes.
+-- The result of a checker for a signed packet: its first reason to deny it, or none where the
+-- packet passes.
 use Rattle.std.specs.Prelude.{◌≡◌, ◌⊎◌, ℕ, List, Option, None, Some}
 use Rattle.sha2.specs.Sha256.{sha256}
 use Rattle.ndn_tlv.specs.Element.{Field}
@@ -14,7 +14,7 @@ use Rattle.info_rules.specs.declared.decision.Reason.TheVariants as reasons
 use Rattle.info_rules.specs.Seen.{PlainSigned}
 use Rattle.info_rules.specs.Locator.{PassesLocator}
 
--- this reason is given unless the fact is true, and where it is, the rest says what is given
+-- the reason is this one unless the fact is true, and where it is, the rest decides
 abbrev pub Unless : Type 0 → Reason → Option Reason → Type 0 → Type 0
 Unless Fact reason given Rest = ((¬ Fact) × (given ≡ Some reason)) ⊎ (Fact × Rest)
 
@@ -28,7 +28,7 @@ ChecksKey keys name signed given =
     (((key : List ℕ) → IsAmong (name, key) keys → ⊥) × (given ≡ Some reasons.KeyUnknown))
     ⊎ ((key : List ℕ) × IsAmong (name, key) keys × ChecksTag (Mac key signed.covered) signed given)
 
--- the KeyLocator is the name of a key that is asked for
+-- the KeyLocator is the name of a key that is required
 abbrev pub ChecksLocator : List NamedKey → LocatorTest → PlainLocator → PlainSigned → Option Reason
     → Type 0
 ChecksLocator keys test (KeyName name) signed given =

@@ -37,13 +37,13 @@ IsGreater (Some earlier) reason greatest =
 abbrev pub IsPassed : List NamedKey → List Checker → PlainSigned → Type 0
 IsPassed keys all signed = Any (λ checker. Checks keys checker signed None) all
 
--- a checker's reason against the packet, which is no greater than this one
+-- a checker's reason to deny the packet, which is no greater than this one
 abbrev pub IsAtMost : List NamedKey → PlainSigned → Reason → Checker → Type 0
 IsAtMost keys signed reason checker =
     (given : Reason) × Checks keys checker signed (Some given)
     × (reason_number given ≤ reason_number reason)
 
--- The greatest reason that a checker has against the packet, which none passes. Where there is no
+-- The greatest reason of a checker to deny the packet, which none passes. Where there is no
 -- checker, no key is the right one.
 abbrev pub IsGreatest : List NamedKey → List Checker → PlainSigned → Reason → Type 0
 IsGreatest keys all signed reason =
@@ -60,7 +60,7 @@ abbrev pub DenyBy : List NamedKey → List Checker → SeenPacket → Reason →
 DenyBy keys all packet reason =
     (signed : PlainSigned) × IsSigned packet signed × IsGreatest keys all signed reason
 
--- it is not said when it was signed, or nothing is covered: in an Interest, since the digest of
+-- its time of signing is missing, or nothing is covered: in an Interest, since the digest of
 -- parameters is not the last component
 abbrev pub IsMisshaped : SeenPacket → PlainSignature → Type 0
 IsMisshaped packet signature =

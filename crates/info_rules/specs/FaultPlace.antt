@@ -1,21 +1,21 @@
--- Where the fault of a text stands that spells no entries.
+-- The line of the fault of a text that spells no entries.
 use Rattle.std.specs.Prelude.{◌≡◌, ◌⊎◌, ◌≤◌, ◌+◌, ℕ, List, [], ◌∷◌, ◌++◌}
 use Rattle.info_rules.specs.Tree.{PlainEntry}
 use Rattle.info_rules.specs.Words.{tokens_in, end_line}
 use Rattle.info_rules.specs.TreeGrammar.{IsTree}
 
--- so many lines, each with the LF that ends it
+-- this many lines, each with the LF that ends it
 abbrev pub AreLines : ℕ → List ℕ → Type 0
 AreLines n text =
     (end_line text ≡ n + 1) × ((text ≡ []) ⊎ ((inner : List ℕ) × (text ≡ inner ++ 10 ∷ [])))
 
--- something that stands after the text makes it spell entries
+-- with some text after it, the text spells entries
 abbrev pub BeginsSome : List ℕ → Type 0
 BeginsSome text =
     (rest : List ℕ) × (entries : List PlainEntry) × IsTree (tokens_in (text ++ rest)) entries
 
--- The line is one of the text. What stands before it begins entries, but what stands up to its end
--- begins none, whatever comes after it.
+-- The line is one of the text. The text before it begins entries, but the text up to its end begins
+-- none, whatever comes after it.
 pub record StandsAt (text : List ℕ) (line : ℕ) : Type 0 where
   pub first : 1 ≤ line
   pub last : line ≤ end_line text

@@ -14,6 +14,6 @@ unfoldable pub filter_of : ℕ → List Block → Found NameTest
 filter_of line keys = beside (after None (walk_faults Filter keys))
     (needed line (asked_in PacketName line keys))
 
--- what a `filter` asks of a packet's name
+-- what a `filter` requires of a packet's name
 unfoldable pub filter_in : Block → Found NameTest
 filter_in key = block_in 2 filter_of key

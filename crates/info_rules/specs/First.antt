@@ -8,7 +8,7 @@ use Rattle.info_rules.specs.declared.rule.NameTest.TheVariants as tests
 use Rattle.info_rules.specs.Rule.{PlainRule}
 use Rattle.info_rules.specs.Related.{Related}
 
--- the name is what is asked for
+-- the name is as required
 abbrev pub Passes : NameTest → List Field → Type 0
 Passes (tests.Related relation given) name = Related relation given name
 Passes (tests.Matching pattern) name = (places : List (ℕ × ℕ)) × Match pattern name places

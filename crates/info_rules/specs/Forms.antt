@@ -1,6 +1,6 @@
--- The forms in which blocks ask for a name.
+-- The forms in which blocks describe a name.
 
--- whose name a block asks for: a packet's, in a filter, or a key's, in a key locator
+-- whose name a block describes: a packet's, in a filter, or a key's, in a key locator
 pub data Tested : Type 0 where
   PacketName : Tested
   KeyName : Tested

@@ -5,7 +5,7 @@ use Rattle.name_patterns.specs.Template.{PlainPart, NeedAtMost}
 use Rattle.info_rules.specs.declared.rule.Relation.{Relation}
 
 -- two patterns, each with a template for a name that is made of what it matches, and how the key's
--- stands to the packet's
+-- is related to the packet's
 pub record PlainHyper : Type 0 where
   pub key_pattern : PlainPattern
   pub key_template : List PlainPart

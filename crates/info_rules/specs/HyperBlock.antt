@@ -72,7 +72,7 @@ parts_in keys = both
     (value_in BadValue relation_in (codes "h-relation") keys))
     (half_in (codes "p-regex") (codes "p-expand") keys)
 
--- the keys of a block, which are needed unless another form stands beside it
+-- the keys of a block, which are needed unless there is another form beside it
 unfoldable pub hyper_of : Bool → ℕ → List Block → Found (Option PlainHyper)
 hyper_of needed line keys = beside (after None (walk_faults blocks.Hyper keys))
     (beside (missing_unless (not needed || is_whole keys) line)

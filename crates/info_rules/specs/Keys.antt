@@ -36,7 +36,7 @@ value_of key = if key.0.has_block then None else key.0.value
 abbrev pub fault_at : RulesFaultKind → Block → RulesFault
 fault_at kind key = record { line = key.0.line; kind = kind }
 
--- more keys than so many are this word
+-- more keys than this many are this word
 abbrev pub many_faults : ℕ → List ℕ → List Block → List RulesFault
 many_faults most word keys =
     if nat_lt most (length (named word keys)) then record { line = 0; kind = TooLarge } ∷ [] else []

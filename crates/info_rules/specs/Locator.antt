@@ -21,7 +21,7 @@ pub record Makes (pattern : PlainPattern) (template : List PlainPart)
   pub expanded : made ≡ expansion_of template places name
   pub short : length made ≤ 64
 
--- what is made of the key's name stands so to what is made of the packet's
+-- the name made of the key's has this relation to the name made of the packet's
 abbrev pub IsHyperRelated : PlainHyper → List Field → List Field → Type 0
 IsHyperRelated hyper key packet =
     (a b : List Field) × Makes hyper.key_pattern hyper.key_template key a
@@ -53,7 +53,7 @@ pub record IsHierarchical (key packet : List Field) : Type 0 where
   pub longest : (other : List Field) → IsKeyOf other key → length other ≤ length prefix
   pub above : IsPrefix prefix packet
 
--- the key of this name is one that is asked for, where the packet has that name
+-- the key of this name is one that is required, where the packet has that name
 abbrev pub PassesLocator : LocatorTest → List Field → List Field → Type 0
 PassesLocator (tests.Name test) key packet = Passes test key
 PassesLocator (tests.Hyper hyper) key packet = IsHyperRelated hyper key packet

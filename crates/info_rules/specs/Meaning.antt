@@ -79,7 +79,7 @@ IsId text id =
 
 -- ---- names: what a filter asks of a packet's, and a key locator of a key's
 
--- a name and how it stands to the one asked about, or a pattern of that one
+-- a name and how it is related to the one that is tested, or a pattern of that one
 abbrev pub AsksOfName : List Block → NameTest → Type 0
 AsksOfName keys (tests.Related relation name) =
     HasOnly (codes "type" ∷ codes "name" ∷ codes "relation" ∷ []) keys
@@ -95,7 +95,7 @@ IsFilter key test = OpensBlock key × AsksOfName (blocks_of 2 key.1) test
 
 -- ---- checkers
 
--- two patterns, a template for the groups of each, and how the expanded names stand
+-- two patterns, a template for the groups of each, and how the expanded names are related
 abbrev pub AsksOfBoth : List Block → PlainHyper → Type 0
 AsksOfBoth keys hyper =
     HasOnly (codes "k-regex" ∷ codes "k-expand" ∷ codes "h-relation" ∷ codes "p-regex"
@@ -123,7 +123,7 @@ AsksOfKey keys locators.Hierarchical = ⊥
 abbrev pub IsLocator : Block → LocatorTest → Type 0
 IsLocator key test = OpensBlock key × AsksOfKey (blocks_of 3 key.1) test
 
--- the signatures that a checker takes: HMAC with SHA-256 where it does not say
+-- the signatures that a checker takes: HMAC with SHA-256 where it names none
 abbrev pub TakesHmac : List Block → Type 0
 TakesHmac keys = Lacks (codes "sig-type") keys
     ⊎ HasValue (codes "sig-type") keys (codes "hmac-sha256")
@@ -135,8 +135,8 @@ abbrev pub TakesAsymmetric : List Block → Type 0
 TakesAsymmetric keys = HasValue (codes "sig-type") keys (codes "rsa-sha256")
     ⊎ HasValue (codes "sig-type") keys (codes "ecdsa-sha256")
 
--- a checker of `type customized`: its key locator says which keys may make the HMAC; a digest has
--- no key, so it needs no locator, and one that stands beside it counts for nothing
+-- a checker of `type customized`: its key locator defines which keys may make the HMAC; a digest
+-- has no key, so it needs no locator, and one beside it is ignored
 abbrev pub AsksAsTold : List Block → Checker → Type 0
 AsksAsTold keys (checkers.HmacSha256 test) =
     TakesHmac keys × HasBlock IsLocator (codes "key-locator") keys test

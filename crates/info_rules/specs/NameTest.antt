@@ -1,4 +1,4 @@
--- What the blocks of filters and key locators ask of a name, in one of several forms.
+-- What the blocks of filters and key locators require of a name, in one of several forms.
 use Rattle.std.specs.Prelude.{ℕ, List, Option, None, Some, Bool, true, false, not, codes, ◌||◌, ◌&&◌, if◌then◌else◌}
 use Rattle.std.specs.List.{filter_map}
 use Rattle.std.specs.Result.{result_err}
@@ -101,7 +101,7 @@ test_with related None = related_of related.0 related.1
 abbrev pub test_of : Names → Option NameTest
 test_of names = test_with names.0 names.1
 
--- what is asked of a name, in one form, as far as it is there
+-- what is required of a name, in one form, as far as it is there
 unfoldable pub asked_in : Tested → ℕ → List Block → Found (Option NameTest)
 asked_in tested line keys = beside (form_fault tested line keys)
     (beside (result_err (needed line (value_in BadValue name_word_in (codes "type") keys)))

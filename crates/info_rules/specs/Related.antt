@@ -1,4 +1,4 @@
--- How names stand to each other.
+-- How names are related.
 use Rattle.std.specs.Prelude.{◌≡◌, List}
 use Rattle.ndn_tlv.specs.Element.{Field}
 use Rattle.ndn_names.specs.Name.{IsPrefix}
@@ -6,7 +6,8 @@ use Rattle.ndn_names.specs.Order.{IsProperPrefix}
 use Rattle.info_rules.specs.declared.rule.Relation.{Relation}
 use Rattle.info_rules.specs.declared.rule.Relation.TheVariants as relations
 
--- the first name stands so to the second; a prefix may be all of it, a strict one is shorter
+-- the first name has this relation to the second; a prefix may be all of it, a strict one is
+-- shorter
 abbrev pub Related : Relation → List Field → List Field → Type 0
 Related relations.Equal a b = a ≡ b
 Related relations.IsPrefixOf a b = IsPrefix a b

@@ -36,7 +36,7 @@ abbrev pub seen_data : List ℕ → PlainData → SeenPacket
 seen_data whole d =
     record { kind = kinds.Data; name = d.name; signature = Some d.signature; frame = AData whole d }
 
--- the signature of an Interest says when it was made; that of a Data need not
+-- the signature of an Interest has its time; that of a Data need not have one
 abbrev pub SaysWhen : Kind → PlainSignature → Type 0
 SaysWhen kinds.Interest signature = IsSome signature.info.time
 SaysWhen kinds.Data signature = ⊤

@@ -1,4 +1,4 @@
--- Who signed a packet, by what it says itself.
+-- The signer of a packet, as the packet names it.
 use Rattle.std.specs.Prelude.{◌≡◌, ◌⊎◌, ℕ, List, Some, IsSome}
 use Rattle.ndn_tlv.specs.Element.{Field}
 use Rattle.hmac_keys.specs.KeyFile.{NamedKey, IsAmong}
@@ -16,7 +16,7 @@ abbrev pub NamesSigner : List NamedKey → PlainSignature → Type 0
 NamesSigner keys signature =
     (signature.info.kind ≡ 0) ⊎ ((signature.info.kind ≡ 4) × NamesKey keys signature)
 
--- an Interest also says when it was signed
+-- an Interest also has its time of signing
 abbrev pub NamesItsSigner : List NamedKey → PlainFrame → Type 0
 NamesItsSigner keys (AnInterest whole i) =
     (signature : PlainSignature) × (i.signature ≡ Some signature) × IsSome signature.info.time

@@ -4,7 +4,7 @@ use Rattle.info_rules.specs.Blocks as blocks
 use Rattle.info_rules.specs.Blocks.{BlockKind, Times, Once, UpTo, AnyNumber, Takes, Value, Inner}
 use Rattle.info_rules.specs.Blocks.{Id, PacketKind, NameWord, Uri, Relation, Pattern, Template, CheckerType, SignatureType, AnchorType}
 
--- a key by its word, with what it takes, and how often it may stand in its block
+-- a key by its word, with what it takes, and how often it may come in its block
 pub record PlainForm : Type 0 where
   pub word : List ℕ
   pub takes : Takes

@@ -1,7 +1,7 @@
 -- Entries of rule files, and the blocks that they are in.
 use Rattle.std.specs.Prelude.{ℕ, List, [], ◌∷◌, Option, Bool, ◌==◌, if◌then◌else◌}
 
--- a key, and what stands after it
+-- a key, with its value and whether it has a block
 pub record PlainEntry : Type 0 where
   -- how many blocks it is in
   pub depth : ℕ

@@ -4,13 +4,13 @@ use Rattle.std.specs.Option.{option_map}
 use Rattle.info_rules.specs.Tree.{PlainEntry, Block}
 use Rattle.info_rules.specs.Words.{Token, Word, Open, Close, unescaped, tokens_in}
 
--- a key and at most one value on its line, as they stand in the text
+-- a key and at most one value on its line, as they are in the text
 pub record Head : Type 0 where
   pub line : ℕ
   pub key : List ℕ
   pub value : Option (List ℕ)
 
--- entries that stand one after the other in a block, or outside of all blocks
+-- entries one after the other in a block, or outside of all blocks
 pub data Nodes : Type 0 where
   NoNode : Nodes
   Leaf : Head → Nodes → Nodes
@@ -37,7 +37,7 @@ BeginsOff line NoNode = ⊤
 BeginsOff line (Leaf head others) = head.line ≢ line
 BeginsOff line (Branch head opened block closed others) = head.line ≢ line
 
--- each entry ends with its line: the next one of its block stands on another
+-- each entry ends with its line: the next one of its block is on another
 unfoldable pub IsApart : Nodes → Type 0
 IsApart NoNode = ⊤
 IsApart (Leaf head others) = BeginsOff head.line others × IsApart others

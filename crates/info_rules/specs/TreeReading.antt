@@ -138,6 +138,6 @@ unfoldable pub tree_in : List ℕ → Result (List PlainEntry) RulesFault
 tree_in text = if nat_lt 65536 (length text) then Err (record { line = 0; kind = TooLarge })
     else entries_in text
 
--- the fault of a reading, or that of refused memory, which has no cause in the text
+-- the fault of a reading, or `Memory`, which has no cause in the text
 abbrev pub IsTreeFaultOf : {A : Type 0} → Result A RulesFault → RulesFault → Type 0
 IsTreeFaultOf read fault = (read ≡ Err fault) ⊎ (fault ≡ memory_fault)

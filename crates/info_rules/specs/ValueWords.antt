@@ -1,4 +1,4 @@
--- Which values words stand for.
+-- The values of words.
 use Rattle.std.specs.Prelude.{ℕ, List, length, Option, None, Some, Bool, nat_le, bytes_eq, codes, ◌&&◌, ◌||◌, if◌then◌else◌}
 use Rattle.std.specs.List.{list_all}
 use Rattle.info_rules.specs.declared.rule.Kind.{Kind}

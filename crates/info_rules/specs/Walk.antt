@@ -1,5 +1,5 @@
--- What is wrong with the keys of a block, by the table: keys that are not in it, and keys that
--- stand there too often. The first key of each word is left to those who read it.
+-- What is wrong with the keys of a block, by the table: keys that are not in it, and keys that come
+-- too often. The first key of each word is checked by what reads it.
 use Rattle.std.specs.Prelude.{List, [], ◌∷◌, ◌++◌, false, if◌then◌else◌}
 use Rattle.std.specs.List.{flat_map, list_any}
 use Rattle.info_rules.specs.declared.fault.RulesFault.{RulesFault}
@@ -24,7 +24,7 @@ again_kind Inner key = TwiceNamed
 abbrev pub again_faults : Takes → Block → List RulesFault
 again_faults takes key = fault_at (again_kind takes key) key ∷ []
 
--- the keys of one word that stand there too often
+-- the keys of one word that come too often
 unfoldable pub times_faults : List Block → PlainForm → List RulesFault
 times_faults keys form = by_times form.times
   where

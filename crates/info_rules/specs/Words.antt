@@ -4,7 +4,7 @@ use Rattle.std.specs.List.{count_by}
 use Rattle.std.specs.Option.{option_map}
 
 pub data Token : Type 0 where
-  -- a word, or what stands between two quotes; with its backslashes
+  -- a word, or the text between two quotes; with its backslashes
   Word : List ℕ → Token
   Open : Token
   Close : Token
@@ -25,7 +25,7 @@ unfoldable pub word_token : List ℕ → Token
 word_token word =
     if is_alone 123 word then Open else (if is_alone 125 word then Close else Word word)
 
--- where the reading of a text stands
+-- the state of reading a text
 pub data Mode : Type 0 where
   Between : Mode
   InComment : Mode
@@ -39,7 +39,7 @@ unfoldable pub begun_by : ℕ → Mode
 begun_by o = if o == 34 then InQuotes false []
     else (if o == 59 then InComment else (if is_separator o then Between else InWord (o ∷ [])))
 
--- a quote closes a quoted text where no backslash stands directly before it
+-- a quote closes a quoted text where no backslash is directly before it
 unfoldable pub is_closing : Bool → ℕ → Bool
 is_closing escaped o = (o == 34) && not escaped
 
@@ -79,7 +79,7 @@ tokens_from mode line [] = with_ended line (ended_at_end mode) []
 tokens_from mode line (o ∷ text) =
     with_ended line (ended_by mode o) (tokens_from (mode_after mode o) (line_after line o) text)
 
--- what stands in front of the quote that closes a quoted text on its line
+-- the length of the text before the quote that closes a quoted text on its line
 unfoldable pub quoted_len : Bool → List ℕ → Option ℕ
 quoted_len escaped [] = None
 quoted_len escaped (o ∷ text) =
@@ -87,7 +87,7 @@ quoted_len escaped (o ∷ text) =
     else (if is_closing escaped o then Some 0
     else option_map (λ len. len + 1) (quoted_len (o == 92) text))
 
--- what stands from the end of the first line on
+-- the text from the end of the first line on
 unfoldable pub from_line_end : List ℕ → List ℕ
 from_line_end [] = []
 from_line_end (o ∷ text) = if o == 10 then o ∷ text else from_line_end text

@@ -30,7 +30,7 @@ fn is_hierarchical(checker_type: FoundType) -> bool
     matches!(checker_type, Ok(Some(CheckerType::Hierarchical)))
 }
 
-/// What a checker asks of the key's name, so far as it is there: a hierarchical one has no key
+/// What a checker requires of the key's name, so far as it is there: a hierarchical one has no key
 /// locator, and of several the first counts.
 #[tactic(auto, unfolding(crate::specs::LocatorBlock::locator_in))]
 fn read_test(alloc: Global, hierarchical: bool, keys: Keys<'_>) -> Read<Option<LocatorTest>>
@@ -65,8 +65,8 @@ fn has_locator(keys: Keys<'_>, checker_type: FoundType, signature: FoundSignatur
         || keys.has("key-locator")
 }
 
-/// What a checker of these parts asks of a signature: of one by HMAC, where no type of signature
-/// is given.
+/// What a checker of these parts requires of a signature: of one by HMAC, where no type of
+/// signature is given.
 fn made_of(
     line: u32,
     types: Found<(CheckerType, Option<SignatureType>)>,
@@ -84,7 +84,7 @@ fn made_of(
     }
 }
 
-/// Reads what checkers ask of a signature.
+/// Reads what checkers require of a signature.
 pub struct CheckerReader;
 
 impl BlockReader for CheckerReader {

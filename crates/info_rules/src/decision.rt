@@ -35,7 +35,7 @@ pub enum Reason {
     /// The signature is of another type.
     #[error("SigType: no checker takes this type of signature; sign with the rule's sig-type")]
     SigType,
-    /// The KeyLocator is not the name of a key that is asked for, or the rule has no checker.
+    /// The KeyLocator is not the name of a key that is required, or the rule has no checker.
     #[error("KeyLocator: not a key that the rule asks for; sign with one, or widen its key-locator")]
     KeyLocator,
     /// The key is not in the book.
@@ -117,12 +117,11 @@ impl Rules {
         None
     }
 
-    /// What the first rule that applies decides of a packet, by its received octets. An Interest
-    /// goes by its name without a digest of parameters at its end.
+    /// What the first rule that applies decides of a packet, by its received octets. The name of an
+    /// Interest counts without a digest of parameters at its end.
     ///
-    /// Memory is asked for only where a checker of that rule makes other names of the key's and of
-    /// the packet's, each of at most 64 components. A template that makes a longer name does not
-    /// pass.
+    /// Memory is needed only where a checker of that rule makes other names of the key's and of the
+    /// packet's, each of at most 64 components. A template that makes a longer name does not pass.
     pub fn decide(
         &self,
         alloc: Global,
@@ -164,7 +163,7 @@ fn reason_against(
     }
 }
 
-/// The greatest reason that a checker has against a packet, or `None` where one passes it.
+/// The greatest reason of a checker to deny a packet, or `None` where one passes it.
 fn greatest(alloc: Global, keys: &KeyBook, checkers: &[Checker], signed: &Signed<'_>) -> Checked
     ensures { MatchResult result
         (λ reason. MatchOption reason (IsPassed keys.now checkers.now (signed_of signed.now))
@@ -195,8 +194,8 @@ pub fn no_packet_is_undecided()
         → ¬ ((decision : Decision) → ¬ Decides rules keys packet decision) }
 {}
 
-/// Law: an allowed packet says who signed it: anybody, by DigestSha256, or the owner of a key of
-/// the book, by HMAC and the key's name. An Interest also says when.
+/// Law: an allowed packet names its signer: anybody, by DigestSha256, or the owner of a key of the
+/// book, by HMAC and the key's name. An Interest also has its time of signing.
 pub fn allowed_packets_name_their_signer()
     ensures { (rules : List PlainRule) (keys : List NamedKey) (packet : PlainFrame) (rule : RuleNo)
         → Decides rules keys packet (Decision.Allowed rule) → NamesItsSigner keys packet }

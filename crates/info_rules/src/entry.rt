@@ -1,7 +1,7 @@
 //! Entries of rule files.
 
-/// A key of a rule file, with what stands after it. The entries of its block, if it has one, are
-/// those after it that are deeper, up to the next that is not.
+/// A key of a rule file, with its value and whether it has a block. The entries of its block, if it
+/// has one, are those after it that are deeper, up to the next that is not.
 #[derive(Debug, Drop)]
 pub struct Entry {
     /// How many blocks the key is in.

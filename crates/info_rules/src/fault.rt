@@ -9,7 +9,7 @@ use thiserror::Error;
 /// What is wrong. Of several faults of one line the first in this order is reported.
 #[derive(Clone, Copy, Debug, PartialEq, Eq, Error)]
 pub enum RulesFaultKind {
-    /// A word or a brace that may not stand where it stands, a quote that no other closes on its
+    /// A word or a brace that is not allowed at its place, a quote that no other closes on its
     /// line, or a block that is never closed.
     #[error("Syntax: unexpected word or brace, or a quote or block that is not closed")]
     Syntax,
@@ -30,7 +30,7 @@ pub enum RulesFaultKind {
     /// that it cannot have, or begins a second form where one is allowed.
     #[error("BadValue: wrong or missing value or block, or a key that cannot stand with the others")]
     BadValue,
-    /// A key stands twice in a block where one is allowed, or two rules have one id.
+    /// A key comes twice in a block where one is allowed, or two rules have one id.
     #[error("TwiceNamed: this key or id was given before")]
     TwiceNamed,
     /// A pattern or a template that cannot be read.
@@ -39,7 +39,7 @@ pub enum RulesFaultKind {
     /// A trust anchor that would accept any packet.
     #[error("AnyAnchor: a trust anchor of type any would allow packets without a rule")]
     AnyAnchor,
-    /// A growth of memory was refused.
+    /// Out of memory.
     #[error("Memory: out of memory")]
     Memory,
 }

@@ -12,7 +12,7 @@ use crate::table::Block;
 use crate::walk::walk;
 use std::alloc::Global;
 
-/// Reads what filters ask of a packet's name.
+/// Reads what filters require of a packet's name.
 pub struct FilterReader;
 
 impl BlockReader for FilterReader {

@@ -1,8 +1,8 @@
-//! The forms of what is asked of a name.
+//! The forms of what is required of a name.
 
 use crate::keys::{Key, Keys};
 
-/// A form in which a block says what it asks of a name.
+/// A form in which a block defines what it requires of a name.
 #[derive(Clone, Copy, PartialEq, Eq)]
 pub enum Form {
     /// By `name` and `relation`.
@@ -13,7 +13,7 @@ pub enum Form {
     Hyper,
 }
 
-/// Whose name a block asks about.
+/// Whose name a block describes.
 #[derive(Clone, Copy)]
 pub enum Tested {
     /// A packet's, in a filter.

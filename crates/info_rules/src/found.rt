@@ -11,7 +11,7 @@ use ndn_tlv::Memory;
 /// A part of a file that was read, or the fault to report.
 pub type Found<A> = Result<A, RulesFault>;
 
-/// What is read, unless memory is refused.
+/// What is read, unless memory runs out.
 pub type Read<A> = Result<Found<A>, Memory>;
 
 impl RulesFaultKind {

@@ -34,7 +34,7 @@ impl<'a> Key<'a> {
         self.own.value.as_deref()
     }
 
-    /// The keys of its block, which are in so many blocks.
+    /// The keys of its block, which are in this many blocks.
     pub fn keys(self, depth: usize) -> Keys<'a>
         ensures { keys_of result ≡ blocks_of depth (key_of self.entry).1 }
     {

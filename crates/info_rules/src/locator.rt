@@ -23,11 +23,11 @@ const KEY: &[u8; 3] = b"KEY";
 /// The greatest number of components after that one; there is one at least.
 const MAX_AFTER_KEY: usize = 3;
 
-/// Whether a key passes, unless memory is refused.
+/// Whether a key passes, unless memory runs out.
 pub type Passed = Result<bool, Memory>;
 
-/// Whether the key of a name is one that is asked for, where the packet has that name. Memory is
-/// asked for by a hyper-relation alone.
+/// Whether the key of a name is one that is required, where the packet has that name. Only a
+/// hyper-relation needs memory.
 pub fn passes_locator(alloc: Global, test: &LocatorTest, key: Name<'_>, packet: Name<'_>) -> Passed
     ensures { MatchResult result
         (λ passed. IsTrue passed
@@ -41,7 +41,7 @@ pub fn passes_locator(alloc: Global, test: &LocatorTest, key: Name<'_>, packet: 
     }
 }
 
-/// Whether what is made of the key's name stands so to what is made of the packet's.
+/// Whether the name made of the key's has the relation to the name made of the packet's.
 fn is_hyper_related(alloc: Global, hyper: &HyperRelation, key: Name<'_>, packet: Name<'_>) -> Passed
     ensures { MatchResult result
         (λ related. IsTrue related
@@ -59,8 +59,8 @@ fn is_hyper_related(alloc: Global, hyper: &HyperRelation, key: Name<'_>, packet:
     Ok(is_related(hyper.relation, made_key.view(), made_packet.view()))
 }
 
-/// What the groups hold, if the pattern matches the name and the template does not make too long a
-/// name of it. It takes no memory.
+/// What the groups capture, if the pattern matches the name and the template does not make too long
+/// a name of it. It takes no memory.
 fn captured(pattern: &Pattern, template: &Template, name: Name<'_>) -> Option<Captures>
     requires { NeedAtMost (length pattern.now.groups) template.now }
     ensures none { IfNone result ((made : List Field)
@@ -130,8 +130,8 @@ fn is_key_component(component: Option<Component<'_>>) -> bool
     }
 }
 
-/// Law: a hierarchical key's name matches the pattern `^(<>*)<KEY><>{1,3}$`, and what group 1 holds
-/// is a prefix of the packet's name.
+/// Law: a hierarchical key's name matches the pattern `^(<>*)<KEY><>{1,3}$`, and what group 1
+/// captures is a prefix of the packet's name.
 pub fn hierarchical_keys_match_a_pattern()
     ensures { (key packet : List Field) → IsHierarchical key packet
         ↔ ((places : List (ℕ × ℕ)) × Match hierarchical_pattern key places

@@ -17,7 +17,7 @@ use crate::table::Block;
 use crate::walk::walk;
 use std::alloc::Global;
 
-/// Whether no key of another form stands beside a hyper-relation.
+/// Whether there is no key of another form beside a hyper-relation.
 #[tactic(auto, unfolding(crate::specs::LocatorBlock::is_hyper_alone))]
 fn is_hyper_alone(keys: Keys<'_>) -> bool
     ensures { result ≡ is_hyper_alone (keys_of keys.entry) }
@@ -25,7 +25,7 @@ fn is_hyper_alone(keys: Keys<'_>) -> bool
     first_other(Tested::KeyName, Some(Form::Hyper), keys).is_none()
 }
 
-/// What the first hyper-relation asks of a key's name, or else the names.
+/// What the first hyper-relation requires of a key's name, or else the names.
 fn made_of(
     line: u32,
     asked: Found<Asked>,
@@ -41,7 +41,7 @@ fn made_of(
     }
 }
 
-/// Reads what key locators ask of a key's name.
+/// Reads what key locators require of a key's name.
 pub struct LocatorReader;
 
 impl BlockReader for LocatorReader {

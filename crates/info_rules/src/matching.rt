@@ -8,7 +8,7 @@ ghost use Rattle.info_rules.specs.First.{Passes, Applies};
 use crate::rule::{Kind, NameTest, Relation, Rule};
 use ndn_names::Name;
 
-/// Whether a name stands so to the other.
+/// Whether a name has this relation to the other.
 pub fn is_related(relation: Relation, name: Name<'_>, other: Name<'_>) -> bool
     ensures { IsTrue result ↔ Related relation (components name.entry) (components other.entry) }
 {
@@ -19,7 +19,7 @@ pub fn is_related(relation: Relation, name: Name<'_>, other: Name<'_>) -> bool
     }
 }
 
-/// Whether a name is what is asked for. It takes no memory.
+/// Whether a name is as required. It takes no memory.
 pub fn passes(test: &NameTest, name: Name<'_>) -> bool
     ensures { IsTrue result ↔ Passes test.now (components name.entry) }
 {
@@ -29,7 +29,7 @@ pub fn passes(test: &NameTest, name: Name<'_>) -> bool
     }
 }
 
-/// Whether a name is what one of the tests asks for.
+/// Whether a name passes one of the tests.
 fn passes_any(tests: &[NameTest], name: Name<'_>) -> bool
     ensures { IsTrue result ↔ Any (λ test. Passes test (components name.entry)) tests.now }
 {

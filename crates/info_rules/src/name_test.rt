@@ -1,4 +1,4 @@
-//! What the blocks of filters and key locators ask of a name.
+//! What the blocks of filters and key locators require of a name.
 
 ghost use Rattle.std.specs.Prelude.{◌≡◌, IfOk};
 ghost use Rattle.info_rules.specs.Shown.{keys_of, tested_of, name_form_of};
@@ -18,7 +18,7 @@ use std::alloc::Global;
 /// A name, a relation and a pattern, so far as they are there.
 type Names = ((Option<NameBuf>, Option<Relation>), Option<Pattern>);
 
-/// What is asked of a name, as far as it is there.
+/// What is required of a name, as far as it is there.
 pub type Asked = Option<NameTest>;
 
 /// The fault of the first key of a second form, or else of what the first form lacks.
@@ -72,7 +72,7 @@ fn read_names(alloc: Global, keys: Keys<'_>) -> Read<Names>
     Ok(both(both(name, relation), pattern))
 }
 
-/// What the keys in the block of a key on this line ask of a name, in one form.
+/// What the keys in the block of a key on this line require of a name, in one form.
 #[tactic(auto, unfolding(crate::specs::NameTest::asked_in))]
 pub fn read_asked(alloc: Global, tested: Tested, line: u32, keys: Keys<'_>) -> Read<Asked>
     ensures { IfOk result

@@ -123,9 +123,9 @@ fn signed_data<'a>(packet: &'a Data<'a>, name: Name<'a>) -> Result<Signed<'a>, R
     })
 }
 
-/// Law: a Data that was read has a shape that checkers can look at, and so has a signed Interest
-/// but where it does not say when it was signed, or the digest of its parameters is not the last
-/// component of its name.
+/// Law: a Data that was read has a shape that checkers can look at, and so has a signed Interest,
+/// unless it has no time of signing, or the digest of its parameters is not the last component of
+/// its name.
 pub fn read_packets_have_a_shape()
     ensures data { (text : List ℕ) (d : PlainData) (reason : Reason) → IsData text d
         → ¬ IsUnfit (seen_data text d) reason }

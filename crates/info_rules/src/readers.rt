@@ -17,8 +17,7 @@ use name_patterns::{PatternFault, Template};
 use ndn_tlv::Memory;
 use std::alloc::Global;
 
-/// What the first key of this word stands for, if there is one. A text that stands for nothing is
-/// this fault.
+/// The value of the first key of this word, if there is one. A text that is no value is this fault.
 #[tactic(auto, unfolding(crate::specs::Values::value_in))]
 pub fn read_value<V: Value>(
     alloc: Global,
@@ -41,7 +40,7 @@ pub fn read_value<V: Value>(
     }
 }
 
-/// The template for so many groups that the first key of this word gives, if there is one.
+/// The template for this many groups that the first key of this word gives, if there is one.
 #[tactic(auto, unfolding(crate::specs::Values::value_in))]
 pub fn read_template(
     alloc: Global,

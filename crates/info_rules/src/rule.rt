@@ -1,4 +1,4 @@
-//! Rules: which packets they are for, and what they ask of them.
+//! Rules: which packets they are for, and what they require of them.
 
 use name_patterns::{Pattern, Template};
 use ndn_names::NameBuf;
@@ -11,7 +11,7 @@ pub enum Kind {
     Interest,
 }
 
-/// How a name that a rule gives stands to another name.
+/// How a name that a rule gives is related to another name.
 #[derive(Clone, Copy, Debug)]
 pub enum Relation {
     Equal,
@@ -21,17 +21,18 @@ pub enum Relation {
     IsStrictPrefixOf,
 }
 
-/// What is asked of a name.
+/// What is required of a name.
 #[derive(Debug, Drop)]
 pub enum NameTest {
-    /// That this name stands so to it.
+    /// That this name has this relation to it.
     Related(Relation, NameBuf),
     /// That the pattern matches it.
     Matching(Pattern),
 }
 
 /// What a key's name and a packet's name have in common: each is matched by a pattern and made into
-/// another name, and the one made of the key's name stands so to the one made of the packet's.
+/// another name, and the one made of the key's name has this relation to the one made of the
+/// packet's.
 #[derive(Debug, Drop)]
 pub struct HyperRelation {
     pub key_pattern: Pattern,
@@ -64,7 +65,7 @@ impl Model for HyperRelation {
         }) };
 }
 
-/// What is asked of the name of the key that signed a packet.
+/// What is required of the name of the key that signed a packet.
 #[derive(Debug, Drop)]
 pub enum LocatorTest {
     Name(NameTest),
@@ -74,7 +75,7 @@ pub enum LocatorTest {
     Hierarchical,
 }
 
-/// What is asked of a signature.
+/// What is required of a signature.
 #[derive(Debug, Drop)]
 pub enum Checker {
     /// DigestSha256, whatever the KeyLocator is.

@@ -15,7 +15,7 @@ pub enum Takes {
     Inner,
 }
 
-/// How often a key may stand in its block.
+/// How often a key may come in its block.
 #[derive(Clone, Copy)]
 pub enum Times {
     Once,
@@ -23,7 +23,7 @@ pub enum Times {
     AnyNumber,
 }
 
-/// A key of a block: its word, what it takes, and how often it may stand.
+/// A key of a block: its word, what it takes, and how often it may come.
 #[derive(Clone, Copy)]
 pub struct Form(pub &'static str, pub Takes, pub Times);
 

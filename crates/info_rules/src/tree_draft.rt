@@ -90,7 +90,7 @@ impl Draft {
         Ok(())
     }
 
-    /// Adds a word that stands on the line of the pending entry, which is this one.
+    /// Adds a word on the line of the pending entry, which is this one.
     fn add_value(&mut self, alloc: Global, line: u32, word: &str, entry: Entry) -> Added
         ensures { let next = read.with_value (draft_of self.old) line word.now (entry_of entry)
             (option_map string_bytes entry.value) in
@@ -154,7 +154,7 @@ impl Draft {
         Ok(())
     }
 
-    /// Adds the next token, which stands on a line.
+    /// Adds the next token, which is on this line.
     pub fn add_token(&mut self, alloc: Global, line: u32, token: Token<'_>) -> Added
         requires { self.old.depth + 1 < 2 ^ 64 }
         ensures { let next = read.with_token (draft_of self.old) line (token_of token.entry) in

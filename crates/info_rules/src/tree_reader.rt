@@ -53,16 +53,16 @@ impl InfoTree {
     /// configuration of ndn-cxx writes them (boost's INFO format without its directives).
     ///
     /// A word ends before a space, a tab, a CR, an LF or a semicolon; `{` and `}` alone are braces,
-    /// and a semicolon begins a comment up to the end of its line. A word that begins with `"` goes
-    /// on to the next `"` of its line that has no backslash directly before it. In words, quoted or
-    /// not, `\\` stands for a backslash and `\"` for a quote. An entry is a key, at most one value
-    /// on its line, and at most one block of entries between braces, of which the first may stand
-    /// on a later line. It ends with its line, or before a `}`.
+    /// and a semicolon begins a comment up to the end of its line. A word that begins with `"`
+    /// continues to the next `"` of its line that has no backslash directly before it. In words,
+    /// quoted or not, `\\` means a backslash and `\"` a quote. An entry is a key, at most one value
+    /// on its line, and at most one block of entries between braces, of which the first may be on a
+    /// later line. It ends with its line, or before a `}`.
     ///
     /// Refuses it by the first word that does not fit (`Syntax`), by a block that is not closed
     /// (`Syntax` at the line where the text ends), by the first block inside eight others
     /// (`TooDeep`; `Syntax` where a word of the same line does not fit), and before all these by
-    /// its length (`TooLarge`). `Memory` may come at any text.
+    /// its length (`TooLarge`). `Memory` may be returned for any text.
     pub fn read(alloc: Global, text: &str) -> Result<InfoTree, RulesFault>
         // What is read, the text spells.
         ensures found { IfOk result (TreeOf text.now) }
@@ -90,8 +90,8 @@ pub fn outlines_keep_blocks()
         ≡ keyed depth nodes }
 {}
 
-/// Law: the fault of a text that is not too large stands on one of its lines. The lines before that
-/// one begin some file without such a fault; those up to its end begin none.
+/// Law: the fault of a text that is not too large is on one of its lines. The lines before that one
+/// begin some file without such a fault; those up to its end begin none.
 pub fn faults_stand_at_their_line()
     ensures { (text : List ℕ) (fault : RulesFault) → tree_in text ≡ Err fault
         → fault.kind ≢ RulesFaultKind.TooLarge → StandsAt text fault.line }

@@ -35,7 +35,7 @@ pub enum ValueKind {
     AnchorType,
 }
 
-/// Whether a text stands for such a value.
+/// Whether a text is such a value.
 fn stands_for<V: Value>(alloc: Global, text: &str) -> Result<bool, Memory>
     ensures { IfOk result (λ right. right ≡ is_some (V.meant text.now)) }
 {

@@ -1,4 +1,4 @@
-//! What texts stand for as the values of keys.
+//! The values of keys, read from their texts.
 
 ghost use Rattle.std.specs.Prelude.{◌≡◌, ◌&&◌, IfOk, List, ℕ, Option, nat_le};
 ghost use Rattle.std.specs.List.{list_all};
@@ -16,10 +16,10 @@ use std::alloc::Global;
 /// The greatest length of a rule's id, in octets.
 const MAX_ID_LEN: usize = 100;
 
-/// What a checker asks of the key's name.
+/// What a checker requires of the key's name.
 #[derive(Clone, Copy)]
 pub enum CheckerType {
-    /// What its key locator says.
+    /// What its key locator defines.
     Customized,
     /// That it is one of the packet's hierarchy.
     Hierarchical,
@@ -34,11 +34,11 @@ pub enum SignatureType {
     Asymmetric,
 }
 
-/// What the text of a value stands for.
+/// A value that is read from its text.
 pub trait Value: Drop {
     ghost meant: { List ℕ → Option Self };
 
-    /// What this text stands for, if it is such a value. Only memory is refused.
+    /// The value that this text is, if it is one. It fails only when memory runs out.
     fn of_text(alloc: Global, text: &str) -> Result<Option<Self>, Memory>
         ensures { IfOk result (λ value. value ≡ meant text.now) };
 }

@@ -41,8 +41,8 @@ fn judge_unknown(forms: &[Form], keys: Keys<'_>, report: &mut Report)
     }
 }
 
-/// What is told of a second key: that it is one too many, unless it is wrong by itself. Those who
-/// read blocks judge each.
+/// The fault of a second key: that it is one too many, unless it is wrong by itself. What reads a
+/// block checks each key.
 fn again_kind(alloc: Global, takes: Takes, key: Key<'_>) -> Result<RulesFaultKind, Memory>
     ensures { IfOk result (λ kind. kind ≡ again_kind (takes_of takes) (key_of key.entry)) }
 {
@@ -78,7 +78,7 @@ fn judge_second(alloc: Global, form: &Form, keys: Keys<'_>, report: &mut Report)
     Ok(())
 }
 
-/// Notes the keys of a word that stand there too often.
+/// Notes the keys of a word that come too often.
 #[tactic(auto, using(crate::proofs::Reports::after_none), unfolding(crate::specs::Walk::times_faults, crate::specs::Faults::after))]
 fn judge_times(alloc: Global, form: &Form, keys: Keys<'_>, report: &mut Report) -> Judged
     ensures { OnOk result
@@ -95,7 +95,7 @@ fn judge_times(alloc: Global, form: &Form, keys: Keys<'_>, report: &mut Report) 
     Ok(())
 }
 
-/// Notes the keys that stand there too often.
+/// Notes the keys that come too often.
 #[tactic(auto, using(crate::proofs::Reports::after_first, crate::proofs::Reports::after_no))]
 fn judge_all_times(alloc: Global, forms: &[Form], keys: Keys<'_>, report: &mut Report) -> Judged
     ensures { OnOk result (report.new ≡ after report.old

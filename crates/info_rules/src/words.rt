@@ -6,10 +6,10 @@ ghost use Rattle.info_rules.specs.Words as words;
 ghost use Rattle.info_rules.specs.Words.{tokens_from, quoted_len, from_line_end};
 ghost use Rattle.info_rules.specs.Shown.{token_of};
 
-/// A word, a brace that stands alone, or a quoted text.
+/// A word, a brace alone, or a quoted text.
 #[derive(Clone, Copy)]
 pub enum Token<'a> {
-    /// A word, or what stands between two quotes. Backslashes are in it as they stand in the text.
+    /// A word, or the text between two quotes. Backslashes are in it as they are in the text.
     Word(&'a str),
     Open,
     Close,
@@ -142,7 +142,7 @@ fn first_quoted(line: u32, text: &str) -> NextToken<'_>
     }
 }
 
-/// The line of what stands after an octet of a line.
+/// The line of the text after an octet of a line.
 fn line_after(line: u32, octet: u8) -> u32
     requires { line + 1 < 2 ^ 32 }
     ensures { result ≡ words.line_after line octet }
