@@ -1,4 +1,4 @@
--- Finite maps from names to values, and what tables ask of them.
+-- Finite maps from names to values, and the look-ups of tables.
 use Rattle.std.specs.Prelude.{◌≡◌, ℕ, ◌<◌, ◌≤◌, zero, suc, List, [], ◌∷◌, Option, None, Some, IsSome, length, take}
 use Rattle.std.specs.declared.cmp.Ordering.{Ordering}
 use Rattle.std.specs.Option.{option_or}
@@ -11,12 +11,12 @@ abbrev pub with_entry : {K X : Type 0} → K → Option X → List (K × X) → 
 with_entry k None es = es
 with_entry k (Some x) es = (k, x) ∷ es
 
--- the entries with each value changed, or the entry gone
+-- the entries with each value changed, or its entry removed
 abbrev pub revised : {K X Y : Type 0} → (X → Option Y) → List (K × X) → List (K × Y)
 revised change [] = []
 revised change (e ∷ es) = with_entry e.0 (change e.1) (revised change es)
 
--- the map with each value changed, or its entry gone
+-- the map with each value changed, or its entry removed
 unfoldable pub revise : {K X Y : Type 0} {R : K → K → Ordering} → (X → Option Y) → FinMap R X
     → FinMap R Y
 revise change m = from_sorted (revised change (entries m))

@@ -8,12 +8,12 @@ use Rattle.name_trie.specs.ByName.{revise}
 use Rattle.name_trie.specs.Links.{unless, unless_is}
 use Rattle.name_trie.specs.Trie.{Heap, child, value, up, walk, lookup}
 
--- a node that holds nothing
+-- a node without a value and children
 abbrev pub bare : {V : Type 0} → Option ℕ → Node V
 bare parent = record { parent = parent; hint = tt; children = empty; value = None }
 
 module _ {V : Type 0} where
-  -- a bare node k hangs below a node now
+  -- a bare node k is below a node now
   pub record Joins (k at : ℕ) (c : Field) (h h' : Heap V) : Type 0 where
     pub node : Node V
     pub there : h at ≡ Some node
@@ -34,7 +34,7 @@ module _ {V : Type 0} where
     pub leaf : (c : Field) → child h k c ≡ None
     pub bare : value h k ≡ None
 
-  -- k, below o, is gone, and the links from o to it
+  -- k, below o, is removed, and the links from o to it
   pub record Cuts (k : ℕ) (o : Option ℕ) (h h' : Heap V) : Type 0 where
     pub was : up h k ≡ Some o
     pub gone : h' k ≡ None
@@ -50,7 +50,7 @@ module _ {V : Type 0} where
     pub here : h' k ≡ Some (record node { value = v })
     pub others : (j : ℕ) → j ≢ k → h' j ≡ h j
 
-  -- k held nothing, and is gone with the links to it
+  -- k had no value and no children, and is removed with the links to it
   pub record Lacks (k : ℕ) (h : Heap V) (root : Option ℕ) (h' : Heap V) (root' : Option ℕ)
       : Type 0 where
     pub roots : root' ≡ unless k root
@@ -74,7 +74,7 @@ module _ {V : Type 0} where
 abbrev pub HasRoomBelow : {V : Type 0} → Heap V → Option ℕ → ℕ → Type 0
 HasRoomBelow h root at = (front : List Field) × (length front < 64) × (walk h root front ≡ Some at)
 
--- the name of the prepared call leads to a node, which is kept
+-- the name of the prepared call leads to a node, which is not removed
 abbrev pub IsHeld : {V : Type 0} → Heap V → Option ℕ → Option (List Field × ℕ) → Type 0
 IsHeld h root None = Unit {0}
 IsHeld h root (Some p) = walk h root p.0 ≡ Some p.1
@@ -86,6 +86,6 @@ pub record Turns {V : Type 0} (k : ℕ) (v : Option V) (h h' : Heap V) : Type 0 
   pub here : value h' k ≡ v
   pub others : (a : ℕ) → a ≢ k → value h' a ≡ value h a
 
--- no node holds nothing but the one that is kept
+-- each node but the reserved one has a value or children
 abbrev pub IsTidy : {V : Type 0} → Heap V → Option ℕ → Type 0
 IsTidy h kept = (j : ℕ) → IsBare h j → kept ≡ Some j

@@ -1,4 +1,4 @@
--- Maps that go where nothing is left in them, and the least of their values' moments.
+-- Maps that are removed when they are empty, and the least of their values' moments.
 use Rattle.std.specs.Prelude.{ℕ, List, [], ◌∷◌, Option, None, Some, min, nat_eq, if◌then◌else◌}
 use Rattle.std.specs.declared.cmp.Ordering.{Ordering}
 use Rattle.std.specs.FinMap.{FinMap, len}
@@ -7,7 +7,7 @@ use Rattle.name_trie.specs.ByName.{revise}
 abbrev pub nonempty : {K X : Type 0} {R : K → K → Ordering} → FinMap R X → Option (FinMap R X)
 nonempty m = if nat_eq (len m) 0 then None else Some m
 
--- each value changed, or gone; and the map gone where none is left
+-- each value changed, or removed; and the map removed where no value is left
 abbrev pub each : {K X : Type 0} {R : K → K → Ordering} → (X → Option X) → FinMap R X
     → Option (FinMap R X)
 each change m = nonempty (revise change m)

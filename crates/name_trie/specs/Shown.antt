@@ -15,7 +15,7 @@ abbrev pub shown_known : {S W V : Type 0} → (S → List ℕ → W → S) → (
 shown_known {S} {W} {V} show known s es =
     fold {A = List Field × V} {B = S} (λ s e. show s (octets_of e.0) (known e.0)) s es
 
--- what s becomes where it is shown these names, one after the other, each with what stands beside it
+-- what s becomes where it is shown these names, one after the other, each with its value
 abbrev pub shown_each : {S X : Type 0} → (S → List ℕ → X → S) → S → List (List Field × X) → S
 shown_each {S} {X} show s es =
     fold {A = List Field × X} {B = S} (λ s e. show s (octets_of e.0) e.1) s es

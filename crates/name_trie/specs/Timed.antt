@@ -1,4 +1,4 @@
--- Values that have to be looked at at a moment, the timers for them, and their count.
+-- Values with deadlines, their timers, and their count.
 use Rattle.std.specs.Prelude.{◌≡◌, ◌<◌, ◌+◌, ◌%◌, ◌^◌, ℕ, Bool, true, false, ◌==◌, Option, None, Some}
 use Rattle.std.specs.Option.{option_map}
 use Rattle.std.specs.FinSet as set
@@ -11,7 +11,7 @@ use Rattle.name_trie.specs.Trie.{Heap, value, table_of}
 abbrev pub timer_at : {V : Type 0} → (V → ℕ) → Heap V → ℕ → Option ℕ
 timer_at timer h k = option_map timer (value h k)
 
--- whether something rings at this moment
+-- whether there is a timer for this moment
 abbrev pub rings : Option ℕ → ℕ → Bool
 rings None d = false
 rings (Some e) d = d == e
@@ -43,7 +43,7 @@ HasTimerRoom true w = set.len w.timers < w.capacity
 abbrev pub size_at : {V : Type 0} → (V → ℕ) → Heap V → ℕ → ℕ
 size_at size h k = size_of size (value h k)
 
--- a count, which wraps, goes along with a sum in which one size takes the place of another
+-- a count, which wraps, follows a sum in which one size replaces another
 abbrev pub Recounts : (was is len len' : ℕ) → Type 0
 Recounts was is len len' =
     (sum sum' : ℕ) → sum' + was ≡ sum + is → len ≡ sum % 2 ^ 64 → len' ≡ sum' % 2 ^ 64

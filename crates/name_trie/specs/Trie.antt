@@ -1,4 +1,4 @@
--- A trie of names whose nodes stand under keys: what a walk from its root finds.
+-- A trie of names, whose nodes are stored under keys: what a walk from its root finds.
 use Rattle.std.specs.Prelude.{◌≡◌, ◌≤◌, ℕ, zero, suc, List, [], ◌∷◌, ◌++◌, Option, None, Some, map, length}
 use Rattle.std.specs.Option.{option_and_then, option_map, option_or}
 use Rattle.std.specs.FinMap.{get, entries, from_entries}
@@ -49,7 +49,7 @@ module _ {V : Type 0} (h : Heap V) where
   abbrev pub lookup : Option ℕ → List Field → Option V
   lookup o name = option_and_then value (walk o name)
 
-  -- the names of less than so many components that lead to a value, in canonical order
+  -- the names of less than this many components that lead to a value, in canonical order
   unfoldable pub rows : ℕ → Option ℕ → List (List Field × V)
   rows zero o = []
   rows (suc n) None = []
@@ -65,7 +65,7 @@ last_on h None q best = best
 last_on h (Some k) [] best = option_or (value h k) best
 last_on h (Some k) (c ∷ cs) best = last_on h (child h k c) cs (option_or (value h k) best)
 
--- each node but the root hangs in one place, and each is reached
+-- each node but the root has one place, and each is reached
 pub record Sound {V : Type 0} (h : Heap V) (root : Option ℕ) : Type 0 where
   pub back : (a : ℕ) (c : Field) (k : ℕ) → child h a c ≡ Some k → up h k ≡ Some (Some a)
   pub once : (a : ℕ) (c d : Field) (k : ℕ) → child h a c ≡ Some k → child h a d ≡ Some k → c ≡ d
@@ -73,6 +73,6 @@ pub record Sound {V : Type 0} (h : Heap V) (root : Option ℕ) : Type 0 where
   pub reach : (k : ℕ) (u : Option ℕ) → up h k ≡ Some u
       → (q : List Field) × (length q ≤ 64) × (walk h root q ≡ Some k)
 
--- rows whose names go on from a first part
+-- rows whose names continue a first part
 abbrev pub named : {V : Type 0} → List Field → List (List Field × V) → List (List Field × V)
 named front rs = map (λ r. (front ++ r.0, r.1)) rs

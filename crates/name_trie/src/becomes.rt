@@ -15,7 +15,7 @@ pub trait Becomes<V> {
         ensures { result ≡ becomes self old };
 }
 
-/// Puts what a node's value, or none, becomes in its place. Answers whether it had none.
+/// Puts what a node's value, or none, becomes in its place. Returns whether it had none.
 pub fn put_at<V: Drop, B: Becomes<V> + Drop>(nodes: &mut Slab<Node<V>>, k: usize, how: B) -> bool
     requires { IsSome (get nodes.old k) }
     ensures turns { Turns k (Some (B.becomes how (value_in (get nodes.old) k)))

@@ -29,7 +29,7 @@ pub fn take_value<V>(nodes: &mut Slab<Node<V>>, k: usize) -> Option<V>
     nodes.get_mut(k)?.value.take()
 }
 
-/// Changes a node's value, if it has one. Answers whether the value went.
+/// Changes a node's value, if it has one. Returns whether the value was removed.
 pub fn change_at<V: Drop, C: Change<V>>(nodes: &mut Slab<Node<V>>, k: usize, how: &C) -> bool
     ensures turns { Turns k (option_and_then (C.change how.now) (value_in (get nodes.old) k))
         (get nodes.old) (get nodes.new) }
@@ -46,7 +46,7 @@ pub fn change_at<V: Drop, C: Change<V>>(nodes: &mut Slab<Node<V>>, k: usize, how
     false
 }
 
-/// Removes from each node on what holds nothing.
+/// Removes nodes without a value and children, from each node upward.
 pub fn prune_all<V: Drop>(nodes: &mut Slab<Node<V>>, root: &mut Option<usize>, kept: Option<usize>)
     requires { Sound (get nodes.old) root.old }
     ensures sound { Sound (get nodes.new) root.new }
@@ -61,7 +61,7 @@ pub fn prune_all<V: Drop>(nodes: &mut Slab<Node<V>>, root: &mut Option<usize>, k
     }
 }
 
-/// Changes all values. Answers how many went.
+/// Changes all values. Returns how many were removed.
 pub fn change_all<V: Drop, C: Change<V>>(
     nodes: &mut Slab<Node<V>>,
     root: &mut Option<usize>,

@@ -101,8 +101,8 @@ impl Children {
         Ok(())
     }
 
-    /// Removes a child, which stands under one component at most. It is looked for from where the
-    /// hint points.
+    /// Removes a child, which is under one component at most. The search begins where the hint
+    /// points.
     pub fn forget(&mut self, child: usize, hint: &Hint)
         requires { (c d : Field) → map.get self.old c ≡ Some child → map.get self.old d ≡ Some child
             → c ≡ d }
@@ -114,7 +114,7 @@ impl Children {
     }
 }
 
-/// The first row from which on the hint's may stand.
+/// The first row that may be the hint's.
 fn start_of(rows: &[(ComponentBuf, usize)], hint: &Hint) -> usize
     ensures { result ≤ length rows.now }
 {
@@ -162,7 +162,7 @@ fn row_of(rows: &[(ComponentBuf, usize)], child: usize, hint: &Hint) -> Option<u
     }
 }
 
-/// Where the child's row is, or where it would go.
+/// The place of the child's row, or the place to insert it at.
 #[inline(always)]
 fn place_of(rows: &[(ComponentBuf, usize)], component: Component<'_>) -> Result<usize, usize>
     requires { T (map.is_sorted component_cmp rows.now) }

@@ -15,7 +15,7 @@ use slab::Slab;
 use std::alloc::Global;
 use timers::Timers;
 
-/// Removes the nodes that only the held name needs, but not a node that is to be kept.
+/// Removes the nodes that only the reserved name needs, but not a node that has to stay.
 pub fn release<V: Drop>(
     nodes: &mut Slab<Node<V>>,
     root: &mut Option<usize>,
@@ -63,7 +63,7 @@ pub fn hold<V: Drop>(
     Ok((key, k))
 }
 
-/// The node that is held.
+/// The node that is reserved.
 pub fn held_node(held: &Option<(NameBuf, usize)>) -> Option<usize>
     ensures { result ≡ option_map (λ p. p.1) held.now }
 {
@@ -73,7 +73,7 @@ pub fn held_node(held: &Option<(NameBuf, usize)>) -> Option<usize>
     }
 }
 
-/// The node that is to be held, where it was made.
+/// The node to reserve, where it was made.
 pub fn node_held(made: &Result<(NameBuf, usize), Memory>) -> Option<usize>
     ensures ok { IfOk made.now (λ p. result ≡ Some p.1) }
     ensures err { OnErr made.now (result ≡ None) }
@@ -84,7 +84,7 @@ pub fn node_held(made: &Result<(NameBuf, usize), Memory>) -> Option<usize>
     }
 }
 
-/// The node that is held, where it is that of this name.
+/// The reserved node, where it is that of this name.
 fn held_for(held: &Option<(NameBuf, usize)>, name: Name<'_>) -> Option<usize>
     ensures yes { IfSome result (λ k. held.now ≡ Some (components name.entry, k)) }
     ensures no { result ≡ None → (k : ℕ) → held.now ≡ Some (components name.entry, k) → ⊥ }
@@ -97,7 +97,7 @@ fn held_for(held: &Option<(NameBuf, usize)>, name: Name<'_>) -> Option<usize>
     None
 }
 
-/// As `find`, without a walk where the name is the one that is held.
+/// As `find`, without a walk where the name is the reserved one.
 pub fn node_of<V>(
     nodes: &Slab<Node<V>>,
     root: Option<usize>,
@@ -113,7 +113,7 @@ pub fn node_of<V>(
     find(nodes, root, name)
 }
 
-/// Ends what is held, but for this name. Gives what is held then.
+/// Ends the reservation, unless it is for this name. Returns the reservation that is left.
 pub fn release_other<V: Drop>(
     nodes: &mut Slab<Node<V>>,
     root: &mut Option<usize>,
@@ -138,7 +138,7 @@ pub fn release_other<V: Drop>(
     None
 }
 
-/// As `make_path`, without a walk where a node is held, which is that of this name.
+/// As `make_path`, without a walk where a node is reserved, which is that of this name.
 fn path_to<V: Drop>(
     alloc: Global,
     nodes: &mut Slab<Node<V>>,
@@ -181,7 +181,7 @@ fn reserve_for<V>(nodes: &Slab<Node<V>>, timers: &mut Timers, k: usize) -> Resul
 }
 
 /// The node of a name, made where it is missing, and room for the timer of its value. The name is
-/// the one that is held, or none is held.
+/// the reserved one, or none is reserved.
 pub fn place_for<V: Drop>(
     alloc: Global,
     nodes: &mut Slab<Node<V>>,

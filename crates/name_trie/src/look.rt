@@ -8,9 +8,9 @@ use crate::node::{Node, child_of, value_of};
 use ndn_names::Name;
 use slab::Slab;
 
-/// What looks at the values of a name and of its prefixes, and may keep them.
+/// A visitor of the values of a name and of its prefixes, which may store references to them.
 pub trait Look<'a, V> {
-    /// What it becomes; `true` says that the value is the name's own.
+    /// What it becomes; `true` means that the value is the name's own.
     ghost seen: { Bool → Self → V → Self };
 
     /// Looks at a value, which is the name's own or that of a proper prefix.

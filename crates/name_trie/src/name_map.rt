@@ -62,8 +62,8 @@ impl<V: Drop> NameMap<V> {
         self.trie.get(name)
     }
 
-    /// Sets the value of a name. `Memory` comes only for a name that has none, and changes nothing
-    /// but that no call is prepared any more.
+    /// Sets the value of a name. It returns `Memory` only for a name that has none; then nothing
+    /// changes, but no call is prepared any more.
     pub fn put(&mut self, name: Name<'_>, value: V) -> Result<(), Memory>
         requires { IsSome (map.get self.old.table (components name))
             ⊎ (map.len self.old.table + 1 < 2 ^ 64) }
@@ -80,7 +80,7 @@ impl<V: Drop> NameMap<V> {
         Ok(())
     }
 
-    /// Prepares one `put` or `put_with` of this name, which is then not refused memory.
+    /// Prepares one `put` or `put_with` of this name, which then cannot run out of memory.
     pub fn prepare(&mut self, name: Name<'_>) -> Result<(), Memory>
         ensures table { self.new.table ≡ self.old.table }
         ensures ok { OnOk result (self.new.prepared ≡ Some (components name.entry)) }

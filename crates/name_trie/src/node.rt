@@ -73,7 +73,7 @@ pub fn set_value<V: Drop>(nodes: &mut Slab<Node<V>>, at: usize, value: Option<V>
     nodes[at].value = value;
 }
 
-/// Adds a child that holds nothing, for a component that has none.
+/// Adds a child without a value and children, for a component that has none.
 pub fn add_child<V: Drop>(
     alloc: Global,
     nodes: &mut Slab<Node<V>>,
@@ -100,7 +100,7 @@ pub fn add_child<V: Drop>(
     Ok(k)
 }
 
-/// Whether a node is there, and holds nothing.
+/// Whether a node is there, and has no value and no children.
 pub fn is_bare<V>(nodes: &Slab<Node<V>>, k: usize) -> bool
     ensures yes { IsTrue result → IsBare (get nodes.now) k }
     ensures no { IsBare (get nodes.now) k → IsTrue result }
@@ -111,7 +111,7 @@ pub fn is_bare<V>(nodes: &Slab<Node<V>>, k: usize) -> bool
     }
 }
 
-/// Adds a node without a parent that holds nothing.
+/// Adds a node without a parent, a value and children.
 pub fn add_root<V: Drop>(alloc: Global, nodes: &mut Slab<Node<V>>) -> Result<usize, Memory>
     ensures ok { IfOk result (λ k. Starts k (get nodes.old) (get nodes.new)) }
     ensures err { OnErr result (SameValues nodes.old nodes.new) }
@@ -125,7 +125,7 @@ pub fn add_root<V: Drop>(alloc: Global, nodes: &mut Slab<Node<V>>) -> Result<usi
     Ok(k)
 }
 
-/// Takes a node out, and the link to it. Gives its parent.
+/// Removes a node, and the link to it. Returns its parent.
 pub fn cut<V: Drop>(nodes: &mut Slab<Node<V>>, k: usize) -> Option<usize>
     requires there { IsSome (get nodes.old k) }
     requires once { (a : ℕ) (c d : Field) → child (get nodes.old) a c ≡ Some k
@@ -152,8 +152,8 @@ fn without(key: Option<usize>, k: usize) -> Option<usize>
     }
 }
 
-/// Removes a node, and then those above it, while they hold nothing: up to the root, or to a node
-/// that is to be kept.
+/// Removes a node, and then those above it, while they have no value and no children: up to the
+/// root, or to a node that has to stay.
 pub fn prune<V: Drop>(
     nodes: &mut Slab<Node<V>>,
     root: &mut Option<usize>,
@@ -229,8 +229,8 @@ fn step<V: Drop>(
     add_child(alloc, nodes, at, component)
 }
 
-/// The node that a name leads to. The missing nodes are made, empty; where memory is refused, those
-/// that were made go again.
+/// The node that a name leads to. The missing nodes are made, empty; when memory runs out, those
+/// that were made are removed again.
 pub fn make_path<V: Drop>(
     alloc: Global,
     nodes: &mut Slab<Node<V>>,

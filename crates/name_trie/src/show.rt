@@ -73,7 +73,7 @@ fn put_component(name: &mut Vec<u8>, component: Component<'_>) -> Result<(), Mem
 }
 
 /// Shows the names of a node and of those below it to a depth that have a value. The octets of the
-/// node's name stand in `name`.
+/// node's name are in `name`.
 fn show_below<V, W: Carry<V> + Drop, S: Show<W>>(
     nodes: &Slab<Node<V>>,
     at: usize,

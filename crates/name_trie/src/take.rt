@@ -18,7 +18,7 @@ use timers::Timers;
 
 /// What takes something out of the values of a name and of its prefixes.
 pub trait Take<V> {
-    /// What it becomes; `true` says that the value is the name's own.
+    /// What it becomes; `true` means that the value is the name's own.
     ghost taken: { Bool → Self → V → Self };
 
     /// What is left of the value.

@@ -13,7 +13,7 @@ use crate::node::{Node, prune, set_value, value_of};
 use slab::Slab;
 use timers::{Timer, Timers};
 
-/// A value that has to be looked at at a moment, and that counts for so many entries.
+/// A value with a deadline, which counts as a number of entries.
 pub trait Timed {
     ghost timer: { Self → ℕ };
 
@@ -26,7 +26,7 @@ pub trait Timed {
         ensures { result ≡ size self.now };
 }
 
-/// When a node's value has to be looked at.
+/// The deadline of a node's value.
 pub fn timer_at<V: Timed>(nodes: &Slab<Node<V>>, k: usize) -> Option<u64>
     ensures { result ≡ timer_in V.timer (get nodes.now) k }
 {
@@ -34,7 +34,7 @@ pub fn timer_at<V: Timed>(nodes: &Slab<Node<V>>, k: usize) -> Option<u64>
     Some(value.timer())
 }
 
-/// How many entries a node's value counts for.
+/// The number of entries that a node's value counts as.
 pub fn size_at<V: Timed>(nodes: &Slab<Node<V>>, k: usize) -> usize
     ensures { result ≡ size_in V.size (get nodes.now) k }
 {
@@ -51,7 +51,7 @@ pub fn recount(len: usize, was: usize, is: usize) -> usize
     len.wrapping_sub(was).wrapping_add(is)
 }
 
-/// Takes a key's timer out.
+/// Removes a key's timer.
 fn stop(timers: &mut Timers, key: usize, old: Option<u64>)
     ensures timers { timers.new.timers ≡ stopped key old timers.old.timers }
     ensures room { (d : ℕ) → old ≡ Some d
@@ -65,7 +65,7 @@ fn stop(timers: &mut Timers, key: usize, old: Option<u64>)
     }
 }
 
-/// Puts a key's timer in. There is room for it.
+/// Inserts a key's timer. There is room for it.
 fn start(timers: &mut Timers, key: usize, new: Option<u64>)
     requires { IsSome new → set.len timers.old.timers < timers.old.capacity }
     ensures timers { timers.new.timers ≡ started key new timers.old.timers }
@@ -76,7 +76,7 @@ fn start(timers: &mut Timers, key: usize, new: Option<u64>)
     }
 }
 
-/// Puts a key's new timer in place of its old one. What asks for none had one.
+/// Replaces a key's old timer by its new one. There was an old one if there is a new one.
 pub fn retime(timers: &mut Timers, key: usize, old: Option<u64>, new: Option<u64>)
     requires had { IsSome new → IsSome old }
     requires there { (d : ℕ) → old ≡ Some d
@@ -120,7 +120,8 @@ pub fn change_timed<V: Timed + Drop, C: Change<V>>(
     *len = recount(*len, was, is);
 }
 
-/// Changes each value that is due, and with it all those that change. Values that hold nothing go.
+/// Changes each value that is due, and with it all those that change. Values that become none are
+/// removed.
 pub fn expire<V: Timed + Drop, C: Change<V>>(
     nodes: &mut Slab<Node<V>>,
     root: &mut Option<usize>,

@@ -21,14 +21,14 @@ use std::alloc::Global;
 use std::marker::Model;
 use timers::Timers;
 
-/// Values by name, each with a moment at which it is looked at.
+/// Values by name, each with a deadline.
 #[derive(Drop)]
 pub struct TimedMap<V: Timed> {
     alloc: Global,
     nodes: Slab<Node<V>>,
     root: Option<usize>,
-    // The name that was prepared last, and its node, which stays: from it the calls of this name
-    // begin.
+    // The name that was prepared last, and its node, which is not removed: the calls of this name
+    // begin at it.
     held: Option<(NameBuf, usize)>,
     // Whether the call that was prepared is still to come.
     is_ready: bool,
@@ -150,7 +150,7 @@ impl<V: Timed + Drop> TimedMap<V> {
         Ok(())
     }
 
-    /// Prepares one `put_with` of this name, which is then not refused memory.
+    /// Prepares one `put_with` of this name, which then cannot run out of memory.
     pub fn prepare(&mut self, name: Name<'_>) -> Result<(), Memory>
         ensures table { self.new.table ≡ self.old.table }
         ensures ok { OnOk result (self.new.prepared ≡ Some (components name.entry)) }
@@ -222,8 +222,8 @@ impl<V: Timed + Drop> TimedMap<V> {
     }
 
     /// Takes from the values of a name's proper prefixes, the shortest first, and of the name, in
-    /// one walk. Answers whether the name may have values of names with one component more, of
-    /// this type or a lesser one.
+    /// one walk. Returns whether the name may have values of names with one component more, of this
+    /// type or a lesser one.
     pub fn take_along<T: Take<V>>(&mut self, name: Name<'_>, kind: u16, how: &mut T) -> bool
         ensures changed { (q : List Field) → map.get self.new.table q ≡ option_and_then
             (changed_along (T.left true) (T.left false) q (components name.entry))

@@ -31,7 +31,7 @@ pub struct NameTrie<V> {
     alloc: Global,
     nodes: Slab<Node<V>>,
     root: Option<usize>,
-    // The name of the call that is prepared, and its node, which stays.
+    // The name of the call that is prepared, and its node, which is not removed.
     held: Option<(NameBuf, usize)>,
 }
 
@@ -141,8 +141,8 @@ impl<V: Drop> NameTrie<V> {
         longest(&self.nodes, self.root, name)
     }
 
-    /// Sets the value of a name. `Memory` comes only for a name that has none, and changes nothing
-    /// but that no call is prepared any more. Answers whether the name had none.
+    /// Sets the value of a name. It returns `Memory` only for a name that has none; then nothing
+    /// changes, but no call is prepared any more. Returns whether the name had none.
     pub fn put(&mut self, name: Name<'_>, value: V) -> Result<bool, Memory>
         ensures added { IfOk result (λ is_new. is_new
             ≡ is_none (map.get self.old.table (components name.entry))) }
@@ -159,7 +159,7 @@ impl<V: Drop> NameTrie<V> {
         result
     }
 
-    /// Prepares one `put` or `put_with` of this name, which is then not refused memory.
+    /// Prepares one `put` or `put_with` of this name, which then cannot run out of memory.
     pub fn prepare(&mut self, name: Name<'_>) -> Result<(), Memory>
         ensures table { self.new.table ≡ self.old.table }
         ensures ok { OnOk result (self.new.prepared ≡ Some (components name.entry)) }
@@ -181,7 +181,7 @@ impl<V: Drop> NameTrie<V> {
         release(&mut self.nodes, &mut self.root, held, None);
     }
 
-    /// Removes the value of a name. Answers whether there was one.
+    /// Removes the value of a name. Returns whether there was one.
     pub fn remove(&mut self, name: Name<'_>) -> bool
         ensures removed { result ≡ is_some (map.get self.old.table (components name.entry)) }
         ensures table { self.new.table ≡ map.remove self.old.table (components name.entry) }
@@ -200,7 +200,7 @@ impl<V: Drop> NameTrie<V> {
 }
 
 impl<V: Drop> NameTrie<V> {
-    /// Changes the value of a name, if it has one. Answers whether the value went.
+    /// Changes the value of a name, if it has one. Returns whether the value was removed.
     pub fn change<C: Change<V>>(&mut self, name: Name<'_>, how: &C) -> bool
         ensures table { self.new.table ≡ with_value self.old.table (components name.entry)
             (option_and_then (C.change how.now) (map.get self.old.table (components name.entry))) }
@@ -216,7 +216,7 @@ impl<V: Drop> NameTrie<V> {
         went
     }
 
-    /// Changes all values. Answers how many went.
+    /// Changes all values. Returns how many were removed.
     pub fn change_all<C: Change<V>>(&mut self, how: &C) -> usize
         ensures table { self.new.table ≡ revise (C.change how.now) self.old.table }
         ensures prepared { self.new.prepared ≡ self.old.prepared }
@@ -226,7 +226,7 @@ impl<V: Drop> NameTrie<V> {
         change_all(&mut self.nodes, &mut self.root, kept, how)
     }
 
-    /// Puts what a name's value, or none, becomes in its place. Answers whether the name had none.
+    /// Puts what a name's value, or none, becomes in its place. Returns whether the name had none.
     pub fn put_with<B: Becomes<V> + Drop>(&mut self, name: Name<'_>, how: B) -> Result<bool, Memory>
         ensures added { IfOk result (λ is_new. is_new
             ≡ is_none (map.get self.old.table (components name.entry))) }

@@ -4,11 +4,11 @@ use Rattle.std.specs.Prelude.{◌≡◌, ℕ, ◌+◌, ◌<◌, ◌≤◌, List,
 use Rattle.std.specs.List.{AllByRecursion}
 use Rattle.ndn_tlv.specs.Element.{Field}
 
--- Whoever signs: none for DigestSha256, whose commands are all of one signer, or the name of a key.
+-- The signer: none for DigestSha256, whose commands are all of one signer, or the name of a key.
 abbrev pub Signer : Type 0
 Signer = Option (List Field)
 
--- a command that counted: its signer, its time in milliseconds since 1970, and its number, if any
+-- a recorded command: its signer, its time in milliseconds since 1970, and its number, if any
 pub record Recorded : Type 0 where
   pub signer : Signer
   pub time : ℕ

@@ -1,5 +1,5 @@
--- What a guard keeps of the commands that were recorded: of each signer the greatest time and the
--- greatest number.
+-- The state of a guard: of each signer the greatest time and the greatest number of its recorded
+-- commands.
 use Rattle.std.specs.Prelude.{◌≡◌, ◌⊎◌, ℕ, ◌<◌, List, [], ◌∷◌, Option, None, Some, IsSome, max, refl}
 use Rattle.std.specs.Coded.{Coded, code_by, coded×, coded_ℕ, coded_option}
 use Rattle.std.specs.declared.cmp.Ordering.{Ordering}
@@ -37,7 +37,7 @@ pub record GuardState : Type 0 where
 abbrev pub IsPrepared : GuardState → Signer → Type 0
 IsPrepared g signer = IsSome (map.get g.latest signer) ⊎ (g.prepared ≡ Some signer)
 
--- the greater of two numbers; a command without one forgets none
+-- the greater of two numbers; a command without a number leaves the number as it is
 abbrev pub greater_number : Option ℕ → Option ℕ → Option ℕ
 greater_number None number = number
 greater_number (Some m) None = Some m
@@ -58,7 +58,7 @@ abbrev pub table_of : List Recorded → Table
 table_of [] = map.empty
 table_of (r ∷ before) = with_recorded (table_of before) r
 
--- a command of this time and number is newer than what is kept of its signer
+-- a command of this time and number is newer than the state of its signer
 abbrev pub IsAfterLatest : Option Latest → ℕ → Option ℕ → Type 0
 IsAfterLatest None time number = Unit {0}
 IsAfterLatest (Some l) time number = (l.time < time) × NumberRises l.number number

@@ -74,8 +74,8 @@ impl Guard {
         place_of(&self.rows, signer).is_some()
     }
 
-    /// Records a command. `Memory` comes only for a signer of which nothing is recorded, and
-    /// changes nothing but that no call is prepared any more.
+    /// Records a command. It returns `Memory` only for a signer of which nothing is recorded; then
+    /// nothing changes, but no call is prepared any more.
     pub fn record(&mut self, signer: Signer<'_>, time: u64, seq: Option<u64>) -> Result<(), Memory>
         ensures ok { OnOk result (self.new.latest ≡ with_recorded self.old.latest
             (record { signer = signer_of signer.entry; time = time; number = seq })) }
@@ -108,8 +108,8 @@ impl Guard {
         Ok(())
     }
 
-    /// Prepares one `record` of this signer, which is then not refused memory. The next `record` or
-    /// `prepare`, of any signer and a refused one too, ends the preparation. A signer of which
+    /// Prepares one `record` of this signer, which then cannot run out of memory. The next `record`
+    /// or `prepare`, of any signer, ends the preparation, even if it fails. A signer of which
     /// something is recorded takes no memory.
     pub fn prepare(&mut self, signer: Signer<'_>) -> Result<(), Memory>
         ensures latest { self.new.latest ≡ self.old.latest }
@@ -163,7 +163,7 @@ fn place_of(rows: &[Row], signer: Signer<'_>) -> Option<usize>
     None
 }
 
-/// Takes a command into the row at this place.
+/// Records a command in the row at this place.
 fn raise_at(rows: &mut Vec<Row>, at: usize, time: u64, number: Option<u64>)
     requires { at < length rows.old.items }
     ensures { (row : PlainRow) → row ≡ slice_index_or rows.old.items at row

@@ -8,7 +8,7 @@ use ndn_tlv::Memory;
 use std::alloc::Global;
 use std::marker::Model;
 
-/// What is kept of a signer: the greatest time and the greatest number.
+/// The state of a signer: the greatest time and the greatest number.
 #[derive(Drop)]
 pub struct Row {
     key: Option<NameBuf>,
@@ -52,7 +52,7 @@ impl Row {
         self.time < time && rises
     }
 
-    /// Takes in a command of this time and number.
+    /// Records a command of this time and number.
     pub fn raise(&mut self, time: u64, number: Option<u64>)
         ensures { self.new ≡ (self.old.0, raised (Some self.old.1) time number) }
     {

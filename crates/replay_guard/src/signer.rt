@@ -1,6 +1,6 @@
 use ndn_names::Name;
 
-/// Whoever signs a command (NDN Packet Format 0.3, "Signature").
+/// The signer of a command (NDN Packet Format 0.3, "Signature").
 #[derive(Clone, Copy, Debug)]
 pub enum Signer<'a> {
     /// DigestSha256, which anybody can make: all such commands are of one signer.
