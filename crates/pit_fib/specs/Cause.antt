@@ -10,7 +10,7 @@ use Rattle.name_trie.specs.ByName.{revise}
 use Rattle.pit_fib.specs.Records.{InRecord, OutRecord, OutRecords, Records, Pending, no_records, is_alive, records_at, same_nonce}
 
 pub data Cause : Type 0 where
-  -- time passed: what has a deadline that is not after now ends
+  -- time passed: in-records whose deadline is not after now expire
   Expires : (now : ℕ) → Cause
   -- an Interest of a key came from a face
   Arrives : (key : PlainKey) (face : ℕ) (in_record : InRecord) → Cause
@@ -20,9 +20,9 @@ pub data Cause : Type 0 where
   Satisfied : (name : List Field) (digest : List ℕ) → Cause
   -- a Nack came from a face
   NackCame : (key : PlainKey) (face : ℕ) (nonce : List ℕ) (reason : ℕ) → Cause
-  -- the in-record of a face was taken out
+  -- the in-record of a face was removed
   Withdrawn : (key : PlainKey) (face : ℕ) → Cause
-  -- all records of a key were taken out
+  -- all records of a key were removed
   Removed : (key : PlainKey) → Cause
   -- a face closed
   Closed : (face : ℕ) → Cause
@@ -30,7 +30,7 @@ pub data Cause : Type 0 where
 abbrev pub same_key : PlainKey → PlainKey → Bool
 same_key = eq_by_cmp key_cmp
 
--- an Interest that waits after this moment
+-- an in-record that is still pending after this moment
 abbrev pub until_after : ℕ → InRecord → Option InRecord
 until_after now in_record = if nat_lt now in_record.deadline then Some in_record else None
 
@@ -74,7 +74,7 @@ changed (Closed face) k r =
       out_records = map.remove r.out_records face;
     }
 
--- where no in-record is left, the out-records end too
+-- where no in-record is left, the out-records are removed too
 abbrev pub settled : Records → Records
 settled r = if is_alive r then r else no_records
 

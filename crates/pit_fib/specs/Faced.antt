@@ -16,7 +16,7 @@ faced_code {X} x =
     code_by (map.FinMap nat_cmp X × Bool) (coded× (map.code coded_ℕ x) coded_bool)
     (λ f. (f.values, f.is_wide)) (λ p. record { values = p.0; is_wide = p.1 }) (λ _. refl)
 
--- no values yet, in memory for so many
+-- no values yet, in memory for this many
 abbrev pub none_in : {X : Type 0} → ℕ → Faced X
 none_in room = record { values = map.empty; is_wide = nat_le MAX_FACES room }
 
@@ -25,7 +25,7 @@ abbrev pub has_place : {X : Type 0} → Faced X → Bool
 has_place f = f.is_wide || nat_lt (map.len f.values) FEW
 
 -- Whether there can be memory for the value of one face more, and the values in it: in their own
--- memory, or in this, which has room for so many.
+-- memory, or in this, which has room for the given number.
 abbrev pub placed : {X : Type 0} → ℕ → Faced X → Bool × Faced X
 placed room f =
     if nat_le MAX_FACES (map.len f.values) then (false, f) else (

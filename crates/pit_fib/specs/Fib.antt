@@ -61,7 +61,7 @@ HasRoomFor routes face = AtMost64 (λ f. LeadsTo routes f ⊎ (f ≡ face))
 
 -- ---- what changes
 
--- an entry without next hops and routes goes
+-- an entry without next hops and routes is removed
 abbrev pub is_vacant : Entry → Bool
 is_vacant e = (map.len e.hops == 0) && (map.len e.registered == 0)
 
@@ -125,8 +125,8 @@ due_count now routes = route_count routes - route_count (left_at now routes)
 
 -- ---- what is refused
 
--- Why the table takes no route of the name: more than 32 components; a new name while 4,096 stand, or
--- a new route while 16,384 stand.
+-- Why the table takes no route of the name: more than 32 components; a new name in a table of
+-- 4,096, or a new route in one of 16,384.
 abbrev pub is_full_for_route : Routes → List Field → RouteKey → Bool
 is_full_for_route routes name key =
     (not (map.contains_key routes name) && nat_le MAX_ENTRIES (map.len routes))

@@ -1,4 +1,4 @@
--- What is kept under a key, and what the calls of the table make of it, for private contracts.
+-- The entry of a key, and what the calls of the table make of it, for private contracts.
 use Rattle.std.specs.Prelude.{ℕ, ◌-◌, ◌==◌, Bool, true, false, List, [], ◌∷◌, length, take, drop, Option, None, Some, nat_lt, min, unwrap_or, refl, ◌||◌, if◌then◌else◌}
 use Rattle.std.specs.Coded.{Coded, code_by, coded×, coded_bool}
 use Rattle.std.specs.Option.{option_map, option_and_then}
@@ -18,7 +18,7 @@ use Rattle.pit_fib.specs.Pit.{all_nacked, least_reason, was_sent}
 use Rattle.pit_fib.specs.Records.{InRecord, OutRecord, Records, Pending, no_records, is_alive, records_code}
 use Rattle.pit_fib.specs.Cause.{Cause, changed, until_after, with_reason}
 
--- the Interest in octets that end with its token, of so many octets
+-- the Interest in octets that end with its token of this length
 abbrev pub interest_in : ℕ → List ℕ → List ℕ
 interest_in token_len octets = take (length octets - token_len) octets
 
@@ -37,7 +37,7 @@ kept_code =
     code_by (Records × Bool) (coded× records_code coded_bool)
     (λ s. (s.records, s.is_wide)) (λ p. record { records = p.0; is_wide = p.1 }) (λ _. refl)
 
--- an entry without records, with memory for so many out-records
+-- an entry without records, with memory for this many out-records
 abbrev pub new_in : ℕ → Kept
 new_in room = record { records = no_records; is_wide = (none_in {X = OutRecord} room).is_wide }
 
@@ -92,19 +92,19 @@ nacked face nonce reason s = record s {
   };
 }
 
--- what is kept while some face asks
+-- the entry, while it has an in-record
 abbrev pub living : Kept → Option Kept
 living s = if is_alive s.records then Some s else None
 
--- what a cause leaves of what is kept under a key
+-- what a cause leaves of the entry of a key
 abbrev pub kept_after : Cause → PlainKey → Kept → Option Kept
 kept_after cause k s = living (record s { records = changed cause k s.records })
 
--- when what is kept has to be looked at
+-- the deadline of an entry
 abbrev pub deadline : Kept → ℕ
 deadline s = least (λ in_record. in_record.deadline) (map.entries s.records.in_records)
 
--- the faces, and those that ask
+-- the faces, and those with an in-record
 abbrev pub with_faces_of : List (ℕ × InRecord) → List ℕ → List ℕ
 with_faces_of [] faces = faces
 with_faces_of (e ∷ es) faces = with_faces_of es (adding e.0 faces).1
@@ -141,7 +141,7 @@ by_flags a b c d f =
     if f.can_be_prefix then (if f.must_be_fresh then d else c) else (
     if f.must_be_fresh then b else a)
 
--- each value changed, or gone; and the row gone where none is left
+-- each value changed, or removed; and the row removed where none is left
 abbrev pub changed_row : (Flags → Kept → Option Kept) → Row → Option Row
 changed_row change row = nonempty (row_of (λ f. option_and_then (change f) (map.get row f)))
 
@@ -149,20 +149,20 @@ changed_row change row = nonempty (row_of (λ f. option_and_then (change f) (map
 abbrev pub only : Flags → (Kept → Option Kept) → Flags → Kept → Option Kept
 only f change g s = if same_flags g f then change s else Some s
 
--- what is kept under the key of these flags, if the row is there
+-- the entry under the key of these flags, if the row is there
 abbrev pub kept_in : Option Row → Flags → Option Kept
 kept_in row f = option_and_then (λ r. map.get r f) row
 
--- the row with this kept under the key of these flags
+-- the row with this entry under the key of these flags
 abbrev pub with_kept : Flags → Kept → Option Row → Row
 with_kept f s row = map.insert (unwrap_or row map.empty) f s
 
--- the row after an Interest of a face came, where a new entry has memory for so many out-records
+-- the row after an Interest of a face came, where a new entry has memory for this many out-records
 abbrev pub row_arrived : Flags → ℕ → InRecord → ℕ → Option Row → Row
 row_arrived f face in_record room row =
     with_kept f (with_in_record face in_record (unwrap_or (kept_in row f) (new_in room))) row
 
--- the row where this is kept under the key of these flags, if anything is
+-- the row with this entry under the key of these flags, if it is one
 abbrev pub with_kept_if : Flags → Option Kept → Option Row → Row
 with_kept_if f None row = unwrap_or row map.empty
 with_kept_if f (Some s) row = with_kept f s row
@@ -172,15 +172,15 @@ abbrev pub row_sent : Flags → ℕ → OutRecord → ℕ → Option Row → Row
 row_sent f face out_record room row =
     with_kept_if f (option_map (sent_in room face out_record) (kept_in row f)) row
 
--- of the keys of a name, whether a Data answers them: all if it is the Data's name or full name, and
--- else, if it is a prefix of that, those with CanBePrefix
+-- of the keys of a name, whether a Data answers them: all if it is the Data's name or full name,
+-- and else, if it is a prefix of that, those with CanBePrefix
 abbrev pub is_answered : Bool → Flags → Bool
 is_answered is_own f = is_own || f.can_be_prefix
 
 abbrev pub unanswered : Bool → Flags → Kept → Option Kept
 unanswered is_own f s = if is_answered is_own f then None else Some s
 
--- the faces, and those that ask under the keys that are answered
+-- the faces, and those with an in-record under the keys that are answered
 abbrev pub with_answered : Bool → List ℕ → Row → List ℕ
 with_answered is_own faces row =
     with_asking (map.get row (flags true true)) (
@@ -193,7 +193,7 @@ with_answered is_own faces row =
 abbrev pub Rows : Type 0
 Rows = ByName Row
 
--- what is kept under a key
+-- the entry of a key
 abbrev pub kept_at : Rows → PlainKey → Option Kept
 kept_at rows k = option_and_then (λ r. map.get r (flags_of k)) (map.get rows k.name)
 
@@ -206,12 +206,12 @@ abbrev pub was_sent_in : Option Kept → ℕ → List ℕ → Bool
 was_sent_in None face nonce = false
 was_sent_in (Some s) face nonce = was_sent (map.get s.records.out_records face) nonce
 
--- what the Nacks of a key come to, of which one had this reason
+-- the result of the Nacks of a key, of which one had this reason
 abbrev pub answer_in : Option Kept → ℕ → Nacked
 answer_in None reason = NoPending
 answer_in (Some s) reason = all_nacked (least_reason reason (map.entries s.records.out_records))
 
--- whether the memory of what is kept has room for an out-record of this face
+-- whether the memory of the entry has room for an out-record of this face
 abbrev pub has_place_in : Option Kept → ℕ → Bool
 has_place_in None face = true
 has_place_in (Some s) face =

@@ -1,5 +1,5 @@
--- Which of a face's in-records is the last: that of the latest deadline, and of one deadline that of
--- the greatest key. And whether any in-record has a token. For private contracts.
+-- Which of a face's in-records is the last: that of the latest deadline, and of one deadline that
+-- of the greatest key. And whether any in-record has a token. For private contracts.
 use Rattle.std.specs.Prelude.{◌≡◌, ℕ, zero, suc, Bool, true, false, List, Option, None, Some, length, nat_lt, if◌then◌else◌, take}
 use Rattle.std.specs.Option.{option_and_then}
 use Rattle.std.specs.FinMap as map

@@ -32,14 +32,14 @@ pub record IsWithinFib (routes : Routes) : Type 0 where
   pub registered : route_count routes ≤ MAX_ROUTES
   pub faces : AtMost64 (LeadsTo routes)
 
--- no route ends before a moment
+-- no route expires before a moment
 abbrev pub NoneEndsBefore : ℕ → Routes → Type 0
 NoneEndsBefore moment routes =
     (name : List Field) (e : Entry) → map.get routes name ≡ Some e
     → (key : RouteKey) (r : Route) → map.get e.registered key ≡ Some r
     → (deadline : ℕ) → r.deadline ≡ Some deadline → moment ≤ deadline
 
--- there are so many routes, and none ends before a moment
+-- there are this many routes, and none expires before a moment
 pub record IsTallied (routes : Routes) (count next_due : ℕ) : Type 0 where
   pub counted : count ≡ route_count routes
   pub later : NoneEndsBefore next_due routes

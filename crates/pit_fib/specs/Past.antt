@@ -1,4 +1,4 @@
--- The records of a key as a reading of what happened, face by face (NFD Developer's Guide, "Pending
+-- The records of a key as a function of the past, face by face (NFD Developer's Guide, "Pending
 -- Interest Table").
 use Rattle.std.specs.Prelude.{ℕ, List, [], ◌∷◌, Option, None, Some, if◌then◌else◌, ◌==◌, ◌&&◌, option_and_then}
 use Rattle.std.specs.Option.{option_map}
@@ -25,12 +25,12 @@ in_record_after (Withdrawn key face) k f was = if same_key k key && (f == face) 
 in_record_after (Removed key) k f was = if same_key k key then None else was
 in_record_after (Closed face) k f was = if f == face then None else was
 
--- the in-record of a face: its last Interest under the key that nothing has ended since
+-- the in-record of a face: its last Interest under the key, if nothing has removed it since
 abbrev pub in_record_of : List Cause → PlainKey → ℕ → Option InRecord
 in_record_of [] k f = None
 in_record_of (cause ∷ before) k f = in_record_after cause k f (in_record_of before k f)
 
--- what one more cause does to the out-record of a face, where some face still asks after it
+-- what one more cause does to the out-record of a face, where an in-record is left after it
 abbrev pub out_record_after : Cause → PlainKey → ℕ → Option OutRecord → Option OutRecord
 out_record_after (Expires now) k g was = was
 out_record_after (Arrives key face in_record) k g was = was
@@ -44,7 +44,8 @@ out_record_after (Withdrawn key face) k g was = was
 out_record_after (Removed key) k g was = if same_key k key then None else was
 out_record_after (Closed face) k g was = if g == face then None else was
 
--- the out-record of a face: the last sending to it since some face has asked without a break
+-- the out-record of a face: the last sending to it since the key has had an in-record without a
+-- break
 abbrev pub out_record_of : List Cause → PlainKey → ℕ → Option OutRecord
 out_record_of [] k g = None
 out_record_of (cause ∷ before) k g =

@@ -18,7 +18,7 @@ use Rattle.pit_fib.specs.Cause.{with_reason}
 
 pub record PitState : Type 0 where
   pub pending : Pending
-  -- the key of the calls that are prepared: an `arrive` of an Interest and a token of at most so
+  -- the key of the calls that are prepared: an `arrive` of an Interest and a token of at most this
   -- many octets together, and the `sent` calls after it; with None the `sent` calls alone
   pub prepared : Option (PlainKey × Option ℕ)
 
@@ -54,7 +54,7 @@ token_len token = length (token_octets token)
 
 -- ---- answers
 
--- a face waits for Data of this name and implicit digest
+-- a face has a pending Interest that Data of this name and implicit digest answers
 abbrev pub WaitsFor : Pending → List Field → List ℕ → ℕ → Type 0
 WaitsFor pending name digest face =
     (key : PlainKey) × IsTrue (answers name digest key.name key.can_be_prefix)
@@ -98,7 +98,7 @@ pub record IsLeastReason (out_records : OutRecords) (least : ℕ) : Type 0 where
   pub one : (face : ℕ) × (out_record : OutRecord)
       × (map.get out_records face ≡ Some out_record) × (out_record.reason ≡ Some least)
 
--- what a Nack of this Nonce and reason from a face comes to
+-- the result of a Nack of this Nonce and reason from a face
 abbrev pub nacked_answer : Records → ℕ → List ℕ → ℕ → Nacked
 nacked_answer r face nonce reason =
     if was_sent (map.get r.out_records face) nonce then all_nacked (least_reason reason

@@ -18,7 +18,7 @@ use Rattle.pit_fib.specs.Pit.{HasRecord}
 abbrev pub room_of : Option Ready → Option ℕ
 room_of ready = option_map (λ r. r.size) ready
 
--- the calls that are prepared, as the table's state tells them
+-- the calls that are prepared, as a part of the table's state
 abbrev pub calls_of : Option Prepared → Option (PlainKey × Option ℕ)
 calls_of None = None
 calls_of (Some p) = Some (p.key, room_of p.arrival)
@@ -32,7 +32,8 @@ pub record IsReady (r : Ready) : Type 0 where
 abbrev pub HasNoArrival : Option Prepared → Type 0
 HasNoArrival prepared = IfSome prepared (λ p. p.arrival ≡ None)
 
--- There is memory for sendings to all faces under a key: the entry's, or spare memory for so many.
+-- There is memory for sendings to all faces under a key: the entry's, or spare memory for the given
+-- number.
 abbrev pub CanSend : Rows → PlainKey → ℕ → Type 0
 CanSend rows key spare =
     (MAX_FACES ≤ spare) ⊎ ((s : Kept) → kept_at rows key ≡ Some s → s.is_wide ≡ true)
@@ -43,7 +44,7 @@ HasMemory rows spare prepared =
     IfSome prepared (λ p. CanSend rows.table p.key spare × IfSome p.arrival (λ r.
     IsReady r × (MAX_FACES ≤ spare) × (rows.prepared ≡ Some p.key.name)))
 
--- under each key some face asks
+-- each key has an in-record
 abbrev pub AreAlive : Rows → Type 0
 AreAlive rows = (k : PlainKey) (s : Kept) → kept_at rows k ≡ Some s → is_alive s.records ≡ true
 

@@ -1,5 +1,6 @@
--- What is kept of pending Interests under one key (NFD Developer's Guide, "Pending Interest Table"):
--- an in-record for each face that asks, and an out-record for each face that was asked.
+-- The records of pending Interests under one key (NFD Developer's Guide, "Pending Interest Table"):
+-- an in-record for each face that sent such an Interest, and an out-record for each face that one
+-- was sent to.
 use Rattle.std.specs.Prelude.{◌≡◌, ℕ, Bool, List, Option, nat_eq, nat_lt, unwrap_or, refl}
 use Rattle.std.specs.Coded.{Coded, code_by, coded×, coded_list, coded_ℕ, coded_option}
 use Rattle.std.specs.Ordering.{nat_cmp}
@@ -7,8 +8,8 @@ use Rattle.std.specs.FinMap as map
 use lib.Pointwise.{pointwise}
 use Rattle.ndn_packets.specs.Key.{PlainKey, key_cmp}
 
--- the last Interest of a face as it came, until when it waits, in milliseconds since 1970, and the
--- PIT token that came with it, if any (NDNLPv2, "PIT Token")
+-- the last Interest of a face as it came, its deadline, in milliseconds since 1970, and the PIT
+-- token that came with it, if any (NDNLPv2, "PIT Token")
 pub record InRecord : Type 0 where
   pub interest : List ℕ
   pub nonce : List ℕ
@@ -37,7 +38,7 @@ pub record Records : Type 0 where
 abbrev pub no_records : Records
 no_records = record { in_records = map.empty; out_records = map.empty }
 
--- some face asks
+-- there is an in-record
 abbrev pub is_alive : Records → Bool
 is_alive r = nat_lt 0 (map.len r.in_records)
 
@@ -51,7 +52,7 @@ Pending = map.FinMap key_cmp Records
 abbrev pub records_at : Pending → PlainKey → Records
 records_at pending key = unwrap_or (map.get pending key) no_records
 
--- the table has the keys under which some face asks, and no other
+-- the table has the keys under which there is an in-record, and no other
 abbrev pub HoldsTheLiving : Pending → Type 0
 HoldsTheLiving pending =
     (key : PlainKey) → map.contains_key pending key ≡ is_alive (records_at pending key)

@@ -1,4 +1,4 @@
--- Which values a table by name refuses.
+-- Which values a table by name rejects.
 use Rattle.std.specs.Prelude.{List, Option, None, Some, length, nat_lt, nat_le, if◌then◌else◌}
 use Rattle.std.specs.FinMap as map
 use Rattle.ndn_tlv.specs.Element.{Field}
@@ -7,7 +7,7 @@ use Rattle.pit_fib.specs.declared.fib.TheConstants.{MAX_DEPTH, MAX_ENTRIES}
 use Rattle.pit_fib.specs.declared.fault.TableFault.{TableFault}
 use Rattle.pit_fib.specs.declared.fault.TableFault.TheVariants.{TooDeep, TableFull}
 
--- why a table takes no value of a name: more than 32 components, or a new name while 4,096 stand
+-- why a table takes no value of a name: more than 32 components, or a new name in a table of 4,096
 abbrev pub refusal : {X : Type 0} → ByName X → List Field → Option TableFault
 refusal table name =
     if nat_lt MAX_DEPTH (length name) then Some TooDeep else (

@@ -1,4 +1,4 @@
--- Which PIT token goes back to a face with a Data (NDNLPv2, "PIT Token").
+-- Which PIT token is sent back to a face with a Data (NDNLPv2, "PIT Token").
 use Rattle.std.specs.Prelude.{◌≡◌, ◌≢◌, ◌⊎◌, ◌<◌, ℕ, List, Option, None, Some, IsTrue}
 use Rattle.std.specs.declared.cmp.Ordering.TheVariants.{Greater}
 use Rattle.std.specs.FinMap as map
@@ -27,7 +27,7 @@ pub record IsLast (records : PlainKey → Records) (name : List Field) (digest :
   pub last : (other_key : PlainKey) (other : InRecord)
       → IsAsker records name digest face other_key other → IsNotAfter other_key other key in_record
 
--- the token that goes to a face with the Data: that of the last of its in-records that the Data
+-- the token that is sent to a face with the Data: that of the last of its in-records that the Data
 -- answers, or none where there is no such in-record
 abbrev pub IsTokenFor : (PlainKey → Records) → List Field → List ℕ → ℕ → Option (List ℕ) → Type 0
 IsTokenFor records name digest face token =

@@ -17,7 +17,7 @@ set_within costs face cost =
 abbrev pub entry_with_hop_within : ℕ → ℕ → Entry → Entry
 entry_with_hop_within face cost e = record e { hops = set_within e.hops face cost }
 
--- a route set in memory for so many
+-- a route set in memory for this many
 abbrev pub with_route_within : ℕ → RouteKey → Route → Registered → Registered
 with_route_within room key route registered =
     if nat_lt (map.len registered) room then map.insert registered key route else registered

@@ -1,4 +1,4 @@
-//! What a call of the pending Interest table makes of a row for which it brings memory.
+//! What a call of the pending Interest table makes of a row, with memory that it brings.
 
 ghost use Rattle.std.specs.Prelude.{◌≡◌, ◌≤◌, Option, None, Some, unwrap_or};
 ghost use Rattle.std.specs.Option.{option_map};
@@ -18,7 +18,7 @@ use ndn_tlv::Memory;
 use std::alloc::Global;
 
 /// Memory for the records of one arrival: those of a new entry, or the Interests of an entry whose
-/// own memory is full; and slots for a name under which nothing is kept.
+/// own memory is full; and slots for a name without entries.
 #[derive(Drop)]
 pub struct RecordRoom {
     in_records: Room<InRecord>,

@@ -81,8 +81,8 @@ impl Used {
         Some(*place)
     }
 
-    /// Sets the number of a face. Answers false, and changes nothing, for a new face while 64
-    /// stand.
+    /// Sets the number of a face. Returns false, and changes nothing, for a new face when there are
+    /// 64.
     pub fn insert(&mut self, face: u64, number: u64) -> bool
         ensures ok { IsTrue result → self.new ≡ map.insert self.old face number }
         ensures full { result ≡ false → (self.new ≡ self.old) × (map.get self.old face ≡ None)
@@ -121,7 +121,7 @@ impl Used {
     }
 }
 
-/// Of the first `len` places, moves those of other faces to the front, and gives their number.
+/// Of the first `len` places, moves those of other faces to the front, and returns their number.
 fn without_face(places: &mut [(u64, u64)], len: usize, face: u64) -> usize
     requires { len ≤ length places.old }
     ensures fewer { result ≤ len }
@@ -139,7 +139,7 @@ fn without_face(places: &mut [(u64, u64)], len: usize, face: u64) -> usize
     kept
 }
 
-/// Where the face is, or where it would go.
+/// The place of the face, or the place to insert it at.
 pub fn place_of<V>(places: &[(u64, V)], face: u64) -> Result<usize, usize>
     requires { T (map.is_sorted nat_cmp places.now) }
     ensures found { IfOk result (λ at. (at < length places.now)

@@ -50,7 +50,7 @@ impl Model for InRecord {
 }
 
 impl InRecord {
-    /// The Interest and the token in these octets, of which so many are the token's.
+    /// The Interest and the token in these octets, the last `token_len` of which are the token.
     pub fn new(octets: Vec<u8>, token_len: u8, nonce: [u8; 4], deadline: u64) -> InRecord
         requires { (token_len ≤ length octets.items) × (token_len ≤ 32) }
         ensures { result ≡ record {
@@ -86,7 +86,7 @@ impl InRecord {
         Some(&self.octets[self.octets.len() - usize::from(self.token_len)..])
     }
 
-    /// Until when it waits, in milliseconds since 1970.
+    /// Its deadline, in milliseconds since 1970.
     pub fn deadline(&self) -> u64
         ensures { result ≡ self.now.deadline }
     {
@@ -153,7 +153,7 @@ impl FaceMap<OutRecord> {
         }
     }
 
-    /// Keeps the reason of a Nack, where its Nonce was the last one sent to the face.
+    /// Records the reason of a Nack, where its Nonce was the last one sent to the face.
     fn nacked(&mut self, face: u64, nonce: [u8; 4], reason: u64)
         ensures { self.new ≡ record self.old {
           values = with_reason face nonce reason
@@ -201,7 +201,7 @@ pub fn lesser(a: Option<u64>, b: Option<u64>) -> Option<u64>
     }
 }
 
-/// What is kept under a key.
+/// The records of a key.
 #[derive(Drop)]
 pub struct Entry {
     in_records: FaceMap<InRecord>,
@@ -222,7 +222,7 @@ impl Model for Entry {
 }
 
 impl Entry {
-    /// An entry before anybody asks, in this memory.
+    /// An entry without records, in this memory.
     pub fn new(in_records: Room<InRecord>, out_records: Room<OutRecord>) -> Entry
         requires in_records { FEW ≤ in_records }
         requires out_records { FEW ≤ out_records }
@@ -234,14 +234,14 @@ impl Entry {
         }
     }
 
-    /// Whether some face asks.
+    /// Whether it has an in-record.
     fn is_alive(&self) -> bool
         ensures { result ≡ is_alive self.now.records }
     {
         !self.in_records.is_empty()
     }
 
-    /// The entry, while some face asks.
+    /// The entry, while it has an in-record.
     pub fn living(self) -> Option<Entry>
         ensures { result ≡ living self }
     {
@@ -353,7 +353,7 @@ impl Entry {
         self.out_records.was_sent(face, nonce)
     }
 
-    /// Keeps the reason of a Nack, where its Nonce was the last one sent to its face.
+    /// Records the reason of a Nack, where its Nonce was the last one sent to its face.
     pub fn nacked(&mut self, face: u64, nonce: [u8; 4], reason: u64)
         ensures { self.new ≡ nacked face nonce reason self.old }
     {
@@ -371,21 +371,21 @@ impl Entry {
         }
     }
 
-    /// Takes out the Interest of a face.
+    /// Removes the Interest of a face.
     pub fn withdraw(&mut self, face: u64)
         ensures { self.new ≡ withdrawn face self.old }
     {
         self.in_records.remove(face);
     }
 
-    /// Takes out the Interests whose deadline is not after this moment.
+    /// Removes the Interests whose deadline is not after this moment.
     pub fn expire(&mut self, now: u64)
         ensures { self.new ≡ expired now self.old }
     {
         self.in_records.expire(now);
     }
 
-    /// Takes out a face.
+    /// Removes a face.
     pub fn close_face(&mut self, face: u64)
         ensures { self.new ≡ without_face face self.old }
     {
@@ -413,7 +413,7 @@ pub fn later<'a>(a: Option<&'a InRecord>, b: Option<&'a InRecord>) -> Option<&'a
     }
 }
 
-/// The Interest of a face, if something is kept.
+/// The Interest of a face, if there is an entry.
 pub fn in_record_of(entry: &Option<Entry>, face: u64) -> Option<&InRecord>
     ensures { option_map (λ r. r.now) result ≡ ask_in face entry.now }
 {
@@ -423,7 +423,7 @@ pub fn in_record_of(entry: &Option<Entry>, face: u64) -> Option<&InRecord>
     }
 }
 
-/// Adds the faces that ask, if something is kept.
+/// Adds the faces with an in-record, if there is an entry.
 pub fn add_faces(entry: &Option<Entry>, faces: &mut Faces)
     ensures { faces.new ≡ with_asking entry.now faces.old }
 {

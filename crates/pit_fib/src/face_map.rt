@@ -87,8 +87,8 @@ impl<V: Drop> FaceMap<V> {
         self.rows.capacity() >= MAX_FACES || self.rows.len() < FEW
     }
 
-    /// Makes room for one value more, in the values' own memory or in this. Answers false where
-    /// neither has room, and where 64 stand.
+    /// Makes room for one value more, in the values' own memory or in this. Returns false where
+    /// neither has room, and where there are 64 values.
     fn make_place(&mut self, room: Room<V>) -> bool
         ensures { (result, self.new) ≡ placed room self.old }
     {

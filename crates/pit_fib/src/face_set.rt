@@ -7,7 +7,7 @@ use std::marker::Model;
 /// The greatest number of faces.
 pub const MAX_FACES: usize = 64;
 
-/// The numbers of at most 64 faces, in rising order. It takes no memory beside its own.
+/// The numbers of at most 64 faces, in rising order. It is an array, and never allocates.
 #[derive(Drop)]
 pub struct Faces {
     places: [u64; MAX_FACES],
@@ -37,8 +37,8 @@ impl Faces {
         }
     }
 
-    /// Adds a face, unless it is there. Answers false, and changes nothing, for a new face while 64
-    /// stand.
+    /// Adds a face, unless it is there. Returns false, and changes nothing, for a new face when
+    /// there are 64.
     pub fn insert(&mut self, face: u64) -> bool
         ensures { (result, self.new) ≡ adding face self.old }
     {
@@ -77,7 +77,7 @@ impl Faces {
     }
 }
 
-/// Where the face is, or where it would go.
+/// The place of the face, or the place to insert it at.
 fn place_of(faces: &[u64], face: u64) -> Result<usize, usize>
     requires { IsRising faces.now }
     ensures found { IfOk result (λ at. has_face face faces.now ≡ true) }

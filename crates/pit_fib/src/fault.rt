@@ -12,10 +12,10 @@ pub enum TableFault {
     /// The name has more than 32 components.
     #[error("the name has more than 32 components")]
     TooDeep,
-    /// The name is new, and 4,096 stand.
+    /// The name is new, and the table has 4,096.
     #[error("the table has 4096 names")]
     TableFull,
-    /// A growth of memory was refused.
+    /// Out of memory.
     #[error("out of memory")]
     Memory,
 }
@@ -31,10 +31,10 @@ impl From<NoMemory> for TableFault {
 /// Why the pending Interest table takes no Interest.
 #[derive(Clone, Copy, Debug, PartialEq, Eq, Error)]
 pub enum PitFault {
-    /// The key is new, and Interests wait under 4,096 others.
+    /// The key is new, and 4,096 others have pending Interests.
     #[error("Interests wait under 4096 keys")]
     PitFull,
-    /// A growth of memory was refused.
+    /// Out of memory.
     #[error("out of memory")]
     Memory,
 }

@@ -36,9 +36,9 @@ pub const MAX_DEPTH: usize = 32;
 /// The greatest number of registered routes.
 pub const MAX_ROUTES: usize = 16384;
 
-/// Where Interests go: next hops and registered routes by name (NFD Developer's Guide, "Forwarding
-/// Information Base", "Routing Information Base"). It has at most 4,096 names of at most 32
-/// components, each with next hops or routes, at most 16,384 routes, and at most 64 faces.
+/// Where Interests are sent: next hops and registered routes by name (NFD Developer's Guide,
+/// "Forwarding Information Base", "Routing Information Base"). It has at most 4,096 names of at
+/// most 32 components, each with next hops or routes, at most 16,384 routes, and at most 64 faces.
 #[derive(Drop)]
 pub struct Fib {
     alloc: Global,
@@ -63,7 +63,8 @@ impl Model for Fib {
 
     ghost view = { λ f. f.entries };
 
-    ghost invariant = { λ f. IsWithinFib f.entries.table × IsTallied f.entries.table f.count f.next_due
+    ghost invariant = { λ f. IsWithinFib f.entries.table
+        × IsTallied f.entries.table f.count f.next_due
         × HasRouteRoom f.entries (vec_capacity f.room) };
 }
 
@@ -94,11 +95,11 @@ impl Fib {
         self.entries.len()
     }
 
-    /// Adds a next hop, or sets its cost. The faces of all next hops and routes, and this one, are at
-    /// most 64.
+    /// Adds a next hop, or sets its cost. The faces of all next hops and routes, and this one, are
+    /// at most 64.
     ///
-    /// Refuses it by the first fault in the order of `TableFault`, and then changes nothing but
-    /// that no call is prepared any more. `Memory` never comes for a name that has an entry.
+    /// Returns the first fault in the order of `TableFault`; then nothing changes, but no call is
+    /// prepared any more. `Memory` never comes for a name that has an entry.
     pub fn add(&mut self, name: Name<'_>, face: u64, cost: u64) -> Result<(), TableFault>
         requires { HasRoomFor self.old.table face }
         ensures ok { OnOk result
@@ -137,13 +138,13 @@ impl Fib {
         Some(TableFault::TableFull)
     }
 
-    /// Registers a route, which ends at the deadline, if there is one: in milliseconds since 1970.
-    /// Of the flags, 1 is child-inherit and 2 is capture. It takes the place of the name's route of
-    /// this face and origin. The faces of all next hops and routes, and this one, are at most 64.
+    /// Registers a route, which expires at its deadline, if it has one, in milliseconds since 1970.
+    /// Of the flags, 1 is child-inherit and 2 is capture. It replaces the name's route of this face
+    /// and origin. The faces of all next hops and routes, and this one, are at most 64.
     ///
-    /// Refuses it by the first fault in the order of `TableFault`, and then changes nothing but
-    /// that no call is prepared any more. The table is full for a new name while 4,096 stand, and for
-    /// a new route while 16,384 stand.
+    /// Returns the first fault in the order of `TableFault`; then nothing changes, but no call is
+    /// prepared any more. The table is full for a new name when it has 4,096, and for a new route
+    /// when it has 16,384.
     pub fn register(
         &mut self,
         name: Name<'_>,
@@ -192,7 +193,7 @@ impl Fib {
         None
     }
 
-    /// Prepares one `add` or one `register` of this name, which is then not refused memory.
+    /// Prepares one `add` or one `register` of this name, which then cannot run out of memory.
     pub fn prepare(&mut self, name: Name<'_>) -> Result<(), Memory>
         ensures table { self.new.table ≡ self.old.table }
         ensures ok { OnOk result (self.new.prepared ≡ Some (components name.entry)) }
@@ -213,7 +214,8 @@ impl Fib {
         self.entries.forget_prepared();
     }
 
-    /// Removes the next hop of a face, if it is there. An entry without next hops and routes goes.
+    /// Removes the next hop of a face, if it is there. An entry without next hops and routes is
+    /// removed.
     pub fn remove(&mut self, name: Name<'_>, face: u64)
         ensures table { self.new.table
             ≡ without_next_hop self.old.table (components name.entry) face }
@@ -223,7 +225,7 @@ impl Fib {
     }
 
     /// Removes the route of a face and an origin, if it is there. An entry without next hops and
-    /// routes goes.
+    /// routes is removed.
     pub fn unregister(&mut self, name: Name<'_>, face: u64, origin: u64)
         ensures table { self.new.table ≡ without_route self.old.table (components name.entry)
             (record { face = face; origin = origin }) }
@@ -236,7 +238,7 @@ impl Fib {
         self.entries.change(name, &WithoutRoute { key });
     }
 
-    /// Removes the next hops and the routes of a face. Entries without any go.
+    /// Removes the next hops and the routes of a face. Entries without any are removed.
     pub fn close_face(&mut self, face: u64)
         ensures table { self.new.table ≡ without_face self.old.table face }
         ensures prepared { self.new.prepared ≡ self.old.prepared }
@@ -247,7 +249,8 @@ impl Fib {
         self.next_due = tally.next_due;
     }
 
-    /// Removes the routes that end by a moment, in milliseconds since 1970, and gives their number.
+    /// Removes the routes that expire by a moment, in milliseconds since 1970, and returns their
+    /// number.
     pub fn expire(&mut self, now: u64) -> u64
         ensures table { self.new.table ≡ left_at now self.old.table }
         ensures prepared { self.new.prepared ≡ self.old.prepared }
@@ -276,8 +279,8 @@ impl Fib {
         (self.count - left.count) as u64
     }
 
-    /// The effective next hops of the longest prefix of a name that has an entry. `local` is false in
-    /// each of them until `Hops::mark` sets it.
+    /// The effective next hops of the longest prefix of a name that has an entry. `local` is false
+    /// in each of them until `Hops::mark` sets it.
     pub fn longest(&self, name: Name<'_>) -> Hops
         ensures { result ≡ longest_hops self.now.table (components name.entry) }
     {
@@ -285,8 +288,8 @@ impl Fib {
         self.longest_counted(name, &mut steps)
     }
 
-    /// As `longest`. Adds one to the steps for each search among the children of a node. The clauses
-    /// say that it is at most one for each component of the name.
+    /// As `longest`. Adds one to the steps for each search among the children of a node. By the
+    /// clauses this is at most one for each component of the name.
     pub fn longest_counted(&self, name: Name<'_>, steps: &mut u64) -> Hops
         requires { steps.old + 64 < 2 ^ 64 }
         ensures exact { result ≡ longest_hops self.now.table (components name.entry) }
@@ -299,7 +302,7 @@ impl Fib {
     }
 
     /// All names in canonical order, each with its effective next hops, as they are once the routes
-    /// that end by this moment are gone.
+    /// that expire by this moment are removed.
     pub fn list(&self, alloc: Global, now: u64) -> Result<Vec<(NameBuf, Hops)>, Memory>
         ensures { IfOk result (λ list. list.items ≡ listed (left_at now self.now.table)) }
     {
@@ -314,7 +317,7 @@ impl Fib {
     }
 
     /// Shows all names in canonical order, each with its effective next hops, as they are once the
-    /// routes that end by this moment are gone.
+    /// routes that expire by this moment are removed.
     pub fn show_all<S: Show<Hops> + Drop>(&self, now: u64, show: S) -> Result<S, Memory>
         ensures { IfOk result
             (λ s. s ≡ shown_each S.shown show (listed (left_at now self.now.table))) }
@@ -356,7 +359,7 @@ impl Fib {
             || (self.count >= MAX_ROUTES && !self.has_route(name, key))
     }
 
-    /// Sets a route that nothing refuses.
+    /// Sets a route that is within the limits.
     fn put_route(&mut self, name: Name<'_>, key: RouteKey, route: Route) -> Result<(), Memory>
         requires room { HasRoomFor self.old.table key.face }
         requires taken { route_refusal self.old.table (components name) key ≡ None }
@@ -386,8 +389,8 @@ impl Fib {
         Ok(())
     }
 
-    /// The effective next hops of a name that has an entry, once the routes that end by this moment
-    /// are gone.
+    /// The effective next hops of a name that has an entry, once the routes that expire by this
+    /// moment are removed.
     fn hops_left_at(&self, name: Name<'_>, now: u64) -> Hops
         requires { IsSome (map.get (left_at now self.now.table) (components name)) }
         ensures { result
@@ -400,7 +403,7 @@ impl Fib {
     }
 }
 
-/// This memory, where it has room for one route more than so many, or other that has.
+/// This memory, where it has room for `len` routes and one more, or other that has.
 fn enough_room(
     alloc: Global,
     room: Vec<(RouteKey, Route)>,

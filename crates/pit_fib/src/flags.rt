@@ -4,7 +4,7 @@ ghost use Rattle.pit_fib.specs.Flags.{flags, flags_of, same_flags};
 
 use ndn_packets::Key;
 
-/// The two flags of a key, which tell the keys of one name apart.
+/// The two flags of a key, which distinguish the keys of one name.
 #[derive(Clone, Copy)]
 pub struct Flags {
     pub can_be_prefix: bool,

@@ -15,7 +15,7 @@ pub struct Hop {
 }
 
 impl Hop {
-    /// Whether it stands before another: by cost, and by face at one cost.
+    /// Whether it is less than another: by cost, and by face at one cost.
     pub fn is_before(self, other: Hop) -> bool
         ensures { result ≡ is_hop_before self other }
     {
@@ -91,7 +91,7 @@ impl Hops {
         self.as_slice().get(i).copied()
     }
 
-    /// Says that these faces are Local.
+    /// Marks these faces as Local.
     pub fn mark(&mut self, locals: &Faces)
         ensures { self.new ≡ marked locals.now self.old }
     {
@@ -102,7 +102,7 @@ impl Hops {
     }
 }
 
-/// Where a hop goes.
+/// The place to insert a hop at.
 fn place_of(hops: &[Hop], hop: Hop) -> usize
     ensures within { result ≤ length hops.now }
     ensures place { with_hop hop hops.now ≡ insert hops.now result hop }

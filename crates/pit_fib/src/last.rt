@@ -55,7 +55,7 @@ fn last_along<'a>(rows: &'a TimedMap<Row>, name: Name<'_>, face: u64) -> Option<
 }
 
 /// The last of a face's in-records that a Data answers. The Data's digest is computed only where a
-/// key asks for one.
+/// key has one.
 pub fn last_for<'a>(rows: &'a TimedMap<Row>, packet: &Data<'_>, face: u64) -> Option<&'a InRecord>
     ensures { option_map (λ r. r.now) result ≡ last_of rows.now.table face
         (components packet.now.name) (sha256 packet.now.whole.now) }

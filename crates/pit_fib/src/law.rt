@@ -22,8 +22,8 @@ use crate::face_set::MAX_FACES;
 use crate::fib::{MAX_DEPTH, MAX_ENTRIES, MAX_ROUTES};
 use crate::pit::MAX_PENDING;
 
-/// Law: of values by name, `longest` gives that of the longest prefix of a name that has one, and
-/// none where no prefix has one.
+/// Law: of values by name, `longest` is that of the longest prefix of a name that has one, and none
+/// where no prefix has one.
 pub fn longest_is_the_longest_prefix<V>()
     ensures found { (table : ByName V) (name : List Field) (n : ℕ) → IsLongest table name n
         → longest table name ≡ map.get table (take n name) }
@@ -32,8 +32,8 @@ pub fn longest_is_the_longest_prefix<V>()
         → longest table name ≡ None }
 {}
 
-/// Law: the hops of an entry stand by cost and then by face, they are exactly its faces with their
-/// costs, and no other list is both.
+/// Law: the hops of an entry are ordered by cost and then by face, they are exactly its faces with
+/// their costs, and no other list is both.
 pub fn hops_are_in_order()
     ensures sorted { (costs : ByFace) → AreInOrder (hops_of costs) }
     ensures same { (costs : ByFace) → AreHopsOf costs (hops_of costs) }
@@ -49,8 +49,8 @@ pub fn effective_hops_are_as_defined()
         → (map.get (effective routes name) face ≡ Some cost) ↔ IsEffective routes name face cost }
 {}
 
-/// Law: an Interest goes by the effective next hops of the longest prefix of its name that has an
-/// entry, and by none where no prefix has one.
+/// Law: an Interest is forwarded by the effective next hops of the longest prefix of its name that
+/// has an entry, and by none where no prefix has one.
 pub fn routes_are_those_of_the_longest_prefix()
     ensures found { (routes : Routes) (name : List Field) (n : ℕ) → IsLongest routes name n
         → longest_hops routes name ≡ hops_of (effective routes (take n name)) }
@@ -59,7 +59,8 @@ pub fn routes_are_those_of_the_longest_prefix()
         → longest_hops routes name ≡ hops_of map.empty }
 {}
 
-/// Law: the routes that end by a moment are counted: those whose deadline is at most this moment.
+/// Law: the routes that expire by a moment are counted: those whose deadline is at most this
+/// moment.
 pub fn routes_that_end_are_counted()
     ensures { (now : ℕ) (routes : Routes) → due_count now routes ≡ total
         (λ (e : Entry). length (filter (λ r. is_due now r.1) (map.entries e.registered)))
@@ -73,19 +74,20 @@ pub fn revising_changes_each_value<V, W>()
 {}
 
 /// Law: the records that causes, the last one first, leave of a key are, face by face, the last
-/// Interest that nothing has ended since, and the last sending since some face has asked without a
-/// break. Some face asks exactly where such an Interest is left.
+/// Interest that nothing has removed since, and the last sending since the key has had an in-record
+/// without a break. The key has an in-record exactly where such an Interest is left.
 pub fn records_are_the_past()
     ensures in_records { (causes : List Cause) (key : PlainKey) (face : ℕ)
         → map.get (records_after_all causes key).in_records face ≡ in_record_of causes key face }
     ensures out_records { (causes : List Cause) (key : PlainKey) (face : ℕ)
         → map.get (records_after_all causes key).out_records face ≡ out_record_of causes key face }
-    ensures alive { (causes : List Cause) (key : PlainKey) → IsTrue (is_alive (records_after_all causes key))
+    ensures alive { (causes : List Cause) (key : PlainKey)
+        → IsTrue (is_alive (records_after_all causes key))
         ↔ ((face : ℕ) × IsSome (in_record_of causes key face)) }
 {}
 
-/// Law: a Nack comes to nothing exactly where its Nonce was not the last one sent to its face, and
-/// gives a reason exactly where each out-record then has one: the least one.
+/// Law: the result of a Nack is `NoPending` exactly where its Nonce was not the last one sent to
+/// its face, and otherwise a reason exactly where each out-record then has one: the least one.
 pub fn nacks_tell_the_least_reason()
     ensures pending { (r : Records) (face : ℕ) (nonce : List ℕ) (reason : ℕ)
         → (nacked_answer r face nonce reason ≡ answers.NoPending)
@@ -97,28 +99,28 @@ pub fn nacks_tell_the_least_reason()
         (map.get r.out_records face)) least }
 {}
 
-/// Law: at most one token goes to a face with a Data.
+/// Law: at most one token is sent to a face with a Data.
 pub fn tokens_for_data_are_one()
     ensures { (records : PlainKey → Records) (name : List Field) (digest : List ℕ) (face : ℕ)
         (a b : Option (List ℕ)) → IsTokenFor records name digest face a
         → IsTokenFor records name digest face b → a ≡ b }
 {}
 
-/// Law: tables of the living that have the same records at each key are the same.
+/// Law: tables that have only keys with in-records, and the same records at each key, are the same.
 pub fn records_tell_the_table()
     ensures { (a b : Pending) → HoldsTheLiving a → HoldsTheLiving b
         → ((key : PlainKey) → records_at a key ≡ records_at b key) → a ≡ b }
 {}
 
-/// Law: what expires at an earlier moment first changes nothing.
+/// Law: an expiry at an earlier moment first makes no difference.
 pub fn expiry_may_come_twice()
     ensures { (m n : ℕ) (key : PlainKey) (r : Records) → m ≤ n
         → records_after (Expires n) key (records_after (Expires m) key r)
         ≡ records_after (Expires n) key r }
 {}
 
-/// Law: a table has at most 4,096 names or keys, a route or strategy at most 32 components, a key or
-/// the table of routes at most 64 faces, and there are at most 16,384 registered routes.
+/// Law: a table has at most 4,096 names or keys, a route or strategy at most 32 components, a key
+/// or the table of routes at most 64 faces, and there are at most 16,384 registered routes.
 pub fn table_limits_are_as_promised()
     ensures { (MAX_FACES ≡ 64) × (MAX_ENTRIES ≡ 4096) × (MAX_DEPTH ≡ 32) × (MAX_ROUTES ≡ 16384)
         × (MAX_PENDING ≡ 4096) }

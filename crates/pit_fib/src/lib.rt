@@ -1,5 +1,5 @@
-//! Where Interests go and who waits for Data: next hops and strategies by name, pending Interests by
-//! key, and lists of faces.
+//! Where Interests are sent and which faces are waiting for Data: next hops and strategies by name,
+//! pending Interests by key, and lists of faces.
 #![tactic(auto)]
 
 mod array_list;

@@ -1,4 +1,4 @@
-/// What a Nack comes to (NFD Developer's Guide, "Incoming Nack Pipeline").
+/// The result of a Nack (NFD Developer's Guide, "Incoming Nack Pipeline").
 #[derive(Clone, Copy, Debug, PartialEq, Eq)]
 pub enum Nacked {
     /// Its Nonce was not the last one sent to its face under its key.

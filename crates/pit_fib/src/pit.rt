@@ -36,13 +36,13 @@ use std::alloc::Global;
 use std::marker::Model;
 use std::mem;
 
-/// The greatest number of keys under which Interests wait.
+/// The greatest number of keys with pending Interests.
 pub const MAX_PENDING: usize = MAX_ENTRIES;
 
-/// The pending Interest table (NFD Developer's Guide, "Pending Interest Table"): by key, an in-record
-/// for each face that waits, and an out-record for each face to which an Interest was sent. Each of
-/// its keys has an in-record. It takes no new key while 4,096 stand, and has records of at most 64
-/// different faces.
+/// The pending Interest table (NFD Developer's Guide, "Pending Interest Table"): by key, an
+/// in-record for each face with a pending Interest, and an out-record for each face to which an
+/// Interest was sent. Each of its keys has an in-record. It has at most 4,096 keys, and records of
+/// at most 64 different faces.
 #[derive(Drop)]
 pub struct Pit {
     alloc: Global,
@@ -89,7 +89,7 @@ impl Pit {
         }
     }
 
-    /// The number of keys under which Interests wait. The clauses beside `exact` are true of every
+    /// The number of keys with pending Interests. The clauses beside `exact` are true of every
     /// table.
     pub fn len(&self) -> usize
         ensures exact { result ≡ map.len self.now.pending }
@@ -100,15 +100,15 @@ impl Pit {
         self.rows.len()
     }
 
-    /// Whether no Interest waits.
+    /// Whether no Interest is pending.
     pub fn is_empty(&self) -> bool
         ensures { IsTrue result ↔ (self.now.pending ≡ map.empty) }
     {
         self.len() == 0
     }
 
-    /// Whether an Interest of this key and Nonce from a face loops: the in-record of another face or
-    /// an out-record has the Nonce, and the face's own in-record has not (NFD Developer's Guide,
+    /// Whether an Interest of this key and Nonce from a face loops: the in-record of another face
+    /// or an out-record has the Nonce, and the face's own in-record has not (NFD Developer's Guide,
     /// "Incoming Interest Pipeline").
     pub fn loops(&self, key: Key<'_>, face: u64, nonce: [u8; 4]) -> bool
         ensures { result
@@ -120,10 +120,10 @@ impl Pit {
         }
     }
 
-    /// Prepares one `arrive` of this key, of an Interest and a PIT token of at most so many octets
-    /// together, and the `sent` calls of this key after it. They are then not refused memory while
-    /// only removals stand between. Refuses it for want of memory alone, and then no call is prepared
-    /// any more.
+    /// Prepares one `arrive` of this key, of an Interest and a PIT token of at most `octets` octets
+    /// together, and the `sent` calls of this key after it. They then cannot run out of memory
+    /// while only removals come in between. It fails only when memory runs out, and then no call is
+    /// prepared any more.
     pub fn prepare(&mut self, key: Key<'_>, octets: usize) -> Result<(), Memory>
         ensures pending { self.new.pending ≡ self.old.pending }
         ensures ok { OnOk result (self.new.prepared
@@ -139,13 +139,13 @@ impl Pit {
         Ok(())
     }
 
-    /// Keeps the Interest of a face, in these octets, until a deadline in milliseconds since 1970,
-    /// with the PIT token that came with it, of 1 to 32 octets (NDNLPv2, "PIT Token"). It takes the
-    /// place of the face's older one of this key, and so does its token, or that it has none. The
-    /// faces that have records and this one are at most 64.
+    /// Records the Interest of a face, in these octets, until a deadline in milliseconds since
+    /// 1970, with the PIT token that came with it, of 1 to 32 octets (NDNLPv2, "PIT Token"). It
+    /// replaces the face's older one of this key, together with its token. The faces that have
+    /// records and this one are at most 64.
     ///
-    /// Refuses it, and then changes nothing but that no call is prepared any more: `PitFull` for a
-    /// new key while 4,096 stand, else `Memory`.
+    /// When it fails, nothing changes, but no call is prepared any more: `PitFull` for a new key
+    /// when there are 4,096, else `Memory`.
     pub fn arrive(
         &mut self,
         key: Key<'_>,
@@ -170,7 +170,8 @@ impl Pit {
             → self.old.prepared ≡ Some (plain_key key.entry, Some octets)
             → OnOk result (self.new.prepared ≡ Some (plain_key key.entry, None)) }
         ensures ended { OnErr result (self.new.prepared ≡ None) }
-        ensures unprepared { ((octets : ℕ) → self.old.prepared ≢ Some (plain_key key.entry, Some octets))
+        ensures unprepared { ((octets : ℕ)
+            → self.old.prepared ≢ Some (plain_key key.entry, Some octets))
             → self.new.prepared ≡ None }
         ensures full { (result ≡ Err faults.PitFull)
             ↔ ((is_alive (records_at self.old.pending (plain_key key.entry)) ≡ false)
@@ -189,7 +190,7 @@ impl Pit {
         Ok(())
     }
 
-    /// Whether the key is new, and 4,096 others stand.
+    /// Whether the key is new, and there are 4,096 others.
     fn is_full_for(&self, key: Key<'_>) -> bool
         ensures { IsTrue result
             ↔ ((is_alive (records_at self.now.pending (plain_key key.entry)) ≡ false)
@@ -198,7 +199,7 @@ impl Pit {
         self.rows.len() >= MAX_PENDING && entry_of(&self.rows, key).is_none()
     }
 
-    /// Keeps the Interest of a face. The key is known, or there is room for a new one.
+    /// Records the Interest of a face. The key is known, or there is room for a new one.
     fn keep(
         &mut self,
         key: Key<'_>,
@@ -225,7 +226,8 @@ impl Pit {
             → self.old.prepared ≡ Some (plain_key key.entry, Some octets)
             → OnOk result (self.new.prepared ≡ Some (plain_key key.entry, None)) }
         ensures ended { OnErr result (self.new.prepared ≡ None) }
-        ensures unprepared { ((octets : ℕ) → self.old.prepared ≢ Some (plain_key key.entry, Some octets))
+        ensures unprepared { ((octets : ℕ)
+            → self.old.prepared ≢ Some (plain_key key.entry, Some octets))
             → self.new.prepared ≡ None }
         ensures promised { (octets : ℕ)
             → self.old.prepared ≡ Some (plain_key key.entry, Some octets)
@@ -249,10 +251,10 @@ impl Pit {
         Ok(())
     }
 
-    /// Keeps that an Interest of this key and Nonce was sent to a face now, in milliseconds since
-    /// 1970, in place of the out-record before it. Some face asks under the key, and the faces that
-    /// have records and this one are at most 64. Where it is not prepared it may be refused memory,
-    /// and then changes nothing but that no call is prepared any more.
+    /// Records that an Interest of this key and Nonce was sent to a face now, in milliseconds since
+    /// 1970, in place of the out-record before it. The key has an in-record, and the faces that
+    /// have records and this one are at most 64. A call that is not prepared may run out of memory;
+    /// then nothing changes, but no call is prepared any more.
     pub fn sent(&mut self, key: Key<'_>, face: u64, nonce: [u8; 4], now: u64) -> Result<(), Memory>
         requires stands { is_alive (records_at self.old.pending (plain_key key)) ≡ true }
         requires room { HasRoomFor self.old.pending face }
@@ -299,8 +301,8 @@ impl Pit {
         entry_of(&self.rows, key)?.interest_of(face)
     }
 
-    /// Whether some pending Interest may have a PIT token (NDNLPv2, "PIT Token"). Where it is false,
-    /// none has; it stays true once a token came.
+    /// Whether some pending Interest may have a PIT token (NDNLPv2, "PIT Token"). Where it is
+    /// false, none has; it stays true once a token has come.
     pub fn has_tokens(&self) -> bool
         ensures { result ≡ false → HaveNoTokens self.now.pending }
     {
@@ -316,8 +318,8 @@ impl Pit {
         entry_of(&self.rows, key)?.token_of(face)
     }
 
-    /// The PIT token that goes to a face with a Data (NDNLPv2, "PIT Token"): of the Interests of the
-    /// face that the Data answers, whatever their MustBeFresh, that of the one with the latest
+    /// The PIT token that is sent to a face with a Data (NDNLPv2, "PIT Token"): of the Interests of
+    /// the face that the Data answers, whatever their MustBeFresh, that of the one with the latest
     /// deadline and, among those of one deadline, of the one with the greatest key: by name in
     /// canonical order, then by CanBePrefix, then by MustBeFresh. None where it came with no token,
     /// and where the Data answers no Interest of the face.
@@ -332,8 +334,8 @@ impl Pit {
         last_for(&self.rows, packet, face)?.token()
     }
 
-    /// Takes out all Interests that a Data answers, whatever their MustBeFresh, and gives the faces
-    /// that asked.
+    /// Removes all Interests that a Data answers, whatever their MustBeFresh, and returns their
+    /// faces.
     pub fn satisfy(&mut self, packet: &Data<'_>) -> Faces
         ensures pending { Follows (Satisfied (components packet.now.name)
             (sha256 packet.now.whole.now)) self.old.pending self.new.pending }
@@ -362,7 +364,7 @@ impl Pit {
         faces
     }
 
-    /// The faces that wait for a Data: those that `satisfy` would give.
+    /// The faces with a pending Interest that a Data answers: those that `satisfy` would return.
     pub fn askers(&self, packet: &Data<'_>) -> Faces
         ensures rising { IsRising result }
         ensures faces { (face : ℕ) → IsTrue (has_face face result)
@@ -387,8 +389,8 @@ impl Pit {
         faces
     }
 
-    /// Keeps the reason of a Nack that came from a face, and answers what it comes to. The records
-    /// stay, also where all faces have answered by a Nack.
+    /// Records the reason of a Nack that came from a face, and returns its result. The records are
+    /// not removed, even if each face has answered with a Nack.
     pub fn nacked(&mut self, key: Key<'_>, face: u64, nonce: [u8; 4], reason: u64) -> Nacked
         ensures answer { result ≡ nacked_answer
             (records_at self.old.pending (plain_key key.entry)) face nonce reason }
@@ -412,7 +414,7 @@ impl Pit {
         answer_of(&self.rows, key, reason)
     }
 
-    /// Takes out the in-record of a face, if it is there.
+    /// Removes the in-record of a face, if it is there.
     pub fn withdraw(&mut self, key: Key<'_>, face: u64)
         ensures pending { Follows (Withdrawn (plain_key key.entry) face)
             self.old.pending self.new.pending }
@@ -424,7 +426,7 @@ impl Pit {
             .change(key.name, &RowRevision(Withdrawal { flags, face }));
     }
 
-    /// Takes out all records of a key.
+    /// Removes all records of a key.
     pub fn remove(&mut self, key: Key<'_>)
         ensures pending { Follows (Removed (plain_key key.entry))
             self.old.pending self.new.pending }
@@ -435,7 +437,7 @@ impl Pit {
         self.rows.change(key.name, &RowRevision(Removal { flags }));
     }
 
-    /// Takes out the Interests whose deadline is not after now, in milliseconds since 1970.
+    /// Removes the Interests whose deadline is not after now, in milliseconds since 1970.
     pub fn expire(&mut self, now: u64)
         ensures pending { Follows (Expires now) self.old.pending self.new.pending }
         ensures prepared { self.new.prepared ≡ self.old.prepared }
@@ -444,7 +446,7 @@ impl Pit {
         self.rows.expire(now, &RowRevision(Expiry { now }));
     }
 
-    /// Takes out the in-records and the out-records of a face.
+    /// Removes the in-records and the out-records of a face.
     pub fn close_face(&mut self, face: u64)
         ensures pending { Follows (Closed face) self.old.pending self.new.pending }
         ensures prepared { self.new.prepared ≡ self.old.prepared }
@@ -454,15 +456,15 @@ impl Pit {
     }
 }
 
-/// What is kept under a key.
+/// The entry of a key.
 fn entry_of<'a>(rows: &'a TimedMap<Row>, key: Key<'_>) -> Option<&'a Entry>
     ensures { option_map (λ e. e.now) result ≡ kept_at rows.now.table (plain_key key.entry) }
 {
     rows.get(key.name)?.get(Flags::of(key))
 }
 
-/// Adds the faces that ask under a name's keys, if it has any. Those with CanBePrefix count or, if the
-/// name is a Data's own, all.
+/// Adds the faces with an in-record under a name's keys, if it has any. Those with CanBePrefix
+/// count or, if the name is a Data's own, all.
 fn add_of(row: Option<&Row>, is_own: bool, faces: &mut Faces)
     ensures { faces.new
         ≡ taken (with_answered is_own) faces.old (option_map (λ r. r.now) row.entry) }
@@ -482,7 +484,7 @@ fn was_sent(rows: &TimedMap<Row>, key: Key<'_>, face: u64, nonce: [u8; 4]) -> bo
     }
 }
 
-/// Whether an entry's own memory has room for an out-record of this face, or nothing is kept.
+/// Whether an entry's own memory has room for an out-record of this face, or there is no entry.
 fn has_place_for(rows: &TimedMap<Row>, key: Key<'_>, face: u64) -> bool
     ensures { result ≡ has_place_in (kept_at rows.now.table (plain_key key.entry)) face }
 {

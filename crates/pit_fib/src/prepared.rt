@@ -11,7 +11,7 @@ use ndn_packets::Key;
 use ndn_tlv::Memory;
 use std::alloc::Global;
 
-/// Memory for an arrival: for so many octets, and for its records.
+/// Memory for an arrival: for its octets, and for its records.
 #[derive(Drop)]
 pub struct Ready {
     size: usize,
@@ -42,7 +42,7 @@ impl Ready {
 }
 
 impl Prepared {
-    /// An arrival of this key with so many octets, and the sendings after it.
+    /// An arrival of this key with `size` octets, and the sendings after it.
     pub fn new(alloc: Global, key: Key<'_>, size: usize) -> Result<Prepared, Memory>
         ensures { IfOk result (λ made. (made.key ≡ plain_key key.entry)
             × (room_of made.arrival ≡ Some size) × IfSome made.arrival IsReady) }
@@ -80,7 +80,7 @@ pub fn arriving(prepared: Option<Prepared>, key: Key<'_>) -> (Option<Ready>, Opt
     (arrival, Some(after))
 }
 
-/// This memory, if it has room for so many octets, or new.
+/// This memory, if it has room for `size` octets, or new.
 fn ready_for(alloc: Global, ready: Option<Ready>, size: usize) -> Result<Ready, Memory>
     requires { IfSome ready IsReady }
     ensures ok { IfOk result (λ ready. (size ≤ ready.size) × IsReady ready) }
@@ -153,7 +153,8 @@ pub fn after_sending(prepared: Option<Prepared>, key: Key<'_>) -> Option<Prepare
         → calls_of result ≡ calls_of prepared }
     ensures ended { (calls_of prepared ≢ Some (plain_key key.entry, None))
         → calls_of result ≡ None }
-    ensures either { (calls_of result ≡ None) ⊎ ((calls_of prepared ≡ Some (plain_key key.entry, None))
+    ensures either { (calls_of result ≡ None)
+        ⊎ ((calls_of prepared ≡ Some (plain_key key.entry, None))
         × (calls_of result ≡ Some (plain_key key.entry, None))) }
     ensures left { HasNoArrival result }
 {

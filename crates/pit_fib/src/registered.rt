@@ -114,7 +114,7 @@ fn put(rows: &mut Vec<(RouteKey, Route)>, key: RouteKey, route: Route)
     }
 }
 
-/// Where the route of this face and origin is, or where it would go.
+/// The place of the route of this face and origin, or the place to insert it at.
 fn place_of(rows: &[(RouteKey, Route)], key: RouteKey) -> Result<usize, usize>
     requires { T (map.is_sorted route_cmp rows.now) }
     ensures found { IfOk result (λ at. (at < length rows.now)

@@ -1,4 +1,4 @@
-//! What each call of the pending Interest table makes of what is kept under a key.
+//! What each call of the pending Interest table makes of the entry of a key.
 
 use crate::entry::Entry;
 use crate::face_set::Faces;
@@ -7,7 +7,7 @@ use crate::row::Row;
 use crate::slots::Revision;
 use name_trie::{Look, Take};
 
-/// Ends the Interests whose deadline is not after now.
+/// Removes the Interests whose deadline is not after now.
 #[derive(Drop)]
 pub struct Expiry {
     pub now: u64,
@@ -24,7 +24,7 @@ impl Revision for Expiry {
     }
 }
 
-/// Ends the records of a face that closed.
+/// Removes the records of a face that closed.
 #[derive(Drop)]
 pub struct Closing {
     pub face: u64,
@@ -41,7 +41,7 @@ impl Revision for Closing {
     }
 }
 
-/// Keeps the reason of a Nack under one key.
+/// Records the reason of a Nack under one key.
 #[derive(Drop)]
 pub struct NackOf {
     pub flags: Flags,
@@ -64,7 +64,7 @@ impl Revision for NackOf {
     }
 }
 
-/// Ends the Interest of a face under one key.
+/// Removes the Interest of a face under one key.
 #[derive(Drop)]
 pub struct Withdrawal {
     pub flags: Flags,
@@ -85,7 +85,7 @@ impl Revision for Withdrawal {
     }
 }
 
-/// Ends all records of one key.
+/// Removes all records of one key.
 #[derive(Drop)]
 pub struct Removal {
     pub flags: Flags,
@@ -106,7 +106,7 @@ impl Revision for Removal {
     }
 }
 
-/// Ends what a Data answers under a name that is its own, or a prefix of that.
+/// Removes the entries that a Data answers under a name that is its own, or a prefix of that.
 #[derive(Drop)]
 pub struct Answered {
     pub is_own: bool,
@@ -126,7 +126,7 @@ impl Revision for Answered {
     }
 }
 
-/// The faces gather those that ask for a Data, and end what it answers.
+/// Collects the faces of the Interests that a Data answers, and removes these.
 impl Take<Row> for Faces {
     ghost use Rattle.pit_fib.specs.Kept.{changed_row, unanswered, with_answered};
 

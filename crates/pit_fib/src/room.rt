@@ -5,10 +5,10 @@ use ndn_tlv::Memory;
 use std::alloc::Global;
 use std::marker::Model;
 
-/// How many values of faces the memory of a new entry holds.
+/// How many values of faces the memory of a new entry has room for.
 pub const FEW: usize = 2;
 
-/// Memory for values of faces, which holds none. It is seen as how many there is room for.
+/// Memory for values of faces, without any. Its model is how many there is room for.
 #[derive(Drop)]
 pub struct Room<V> {
     rows: Vec<(u64, V)>,
@@ -38,7 +38,7 @@ impl<V: Drop> Room<V> {
         }
     }
 
-    /// Memory for so many values.
+    /// Memory for this many values.
     pub fn new(alloc: Global, count: usize) -> Result<Room<V>, Memory>
         ensures { IfOk result (λ room. room ≡ count) }
     {

@@ -10,7 +10,7 @@ use std::cmp::Ordering;
 #[derive(Clone, Copy, Debug, PartialEq, Eq)]
 pub struct RouteKey {
     pub face: u64,
-    /// Who asked for it, as a number.
+    /// Who registered it, as a number.
     pub origin: u64,
 }
 
@@ -26,13 +26,13 @@ impl RouteKey {
     }
 }
 
-/// What a registered route says (NFD Management, "RIB Management").
+/// The parameters of a registered route (NFD Management, "RIB Management").
 #[derive(Clone, Copy, Debug, PartialEq, Eq)]
 pub struct Route {
     pub cost: u64,
     /// 1 is child-inherit and 2 is capture; other bits have no effect.
     pub flags: u64,
-    /// When it ends, in milliseconds since 1970, if it does.
+    /// When it expires, in milliseconds since 1970, if it does.
     pub deadline: Option<u64>,
 }
 
@@ -51,7 +51,7 @@ impl Route {
         self.flags / 2 % 2 == 1
     }
 
-    /// Whether it ends by this moment.
+    /// Whether it expires by this moment.
     pub fn is_due(self, now: u64) -> bool
         ensures { result ≡ is_due now self }
     {

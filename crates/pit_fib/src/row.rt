@@ -11,7 +11,7 @@ use crate::slots::{Revision, Slots};
 use name_trie::{Change, Timed};
 use std::marker::Model;
 
-/// What is kept under the keys of one name. It stands apart from the name's node, so that a node
+/// The entries under the keys of one name. They are apart from the name's node, so that a node
 /// without a value is small.
 #[derive(Drop)]
 pub struct Row {
@@ -40,7 +40,7 @@ impl Row {
         Row { slots: None }
     }
 
-    /// What is kept in these slots.
+    /// The row of these slots.
     pub fn from_slots(slots: Box<Slots>) -> Row
         ensures { result ≡ slots.value }
     {
@@ -54,7 +54,7 @@ impl Row {
         self.slots
     }
 
-    /// What is kept under the key of these flags.
+    /// The entry under the key of these flags.
     pub fn get(&self, flags: Flags) -> Option<&Entry>
         ensures { option_map (λ e. e.now) result ≡ map.get self.now flags }
     {
@@ -73,8 +73,8 @@ impl Row {
         Some(Row::from_slots(slots))
     }
 
-    /// Adds the faces that ask under the keys with CanBePrefix or, if the name is a Data's own,
-    /// under all.
+    /// Adds the faces with an in-record under the keys with CanBePrefix or, if the name is a Data's
+    /// own, under all.
     pub fn add_answered(&self, is_own: bool, faces: &mut Faces)
         ensures { faces.new ≡ with_answered is_own faces.old self.now }
     {

@@ -10,7 +10,7 @@ use crate::face_set::Faces;
 use crate::flags::Flags;
 use std::marker::Model;
 
-/// What is kept under the keys of one name, of which there are at most four, by their flags.
+/// The entries under the keys of one name, of which there are at most four, by their flags.
 #[derive(Drop)]
 pub struct Slots {
     exact: Option<Entry>,
@@ -31,7 +31,7 @@ impl Model for Slots {
     ghost view = { λ r. row_of (by_flags r.exact r.exact_fresh r.prefix r.prefix_fresh) };
 }
 
-/// What becomes of what is kept under the keys of a name.
+/// What becomes of the entries under the keys of a name.
 pub trait Revision {
     ghost use Rattle.pit_fib.specs.declared.flags.Flags.{Flags};
     ghost use Rattle.pit_fib.specs.Kept.{Kept};
@@ -62,7 +62,7 @@ impl Slots {
         }
     }
 
-    /// What is kept under the key of these flags.
+    /// The entry under the key of these flags.
     pub fn get(&self, flags: Flags) -> Option<&Entry>
         ensures { option_map (λ e. e.now) result ≡ map.get self.now flags }
     {
@@ -74,7 +74,7 @@ impl Slots {
         }
     }
 
-    /// Takes out what is kept under the key of these flags.
+    /// Takes the entry under the key of these flags.
     pub fn take(&mut self, flags: Flags) -> Option<Entry>
         ensures value { result ≡ map.get self.old flags }
         ensures left { self.new ≡ map.remove self.old flags }
@@ -87,7 +87,7 @@ impl Slots {
         }
     }
 
-    /// Keeps an entry under the key of these flags.
+    /// Stores an entry under the key of these flags.
     pub fn set(&mut self, flags: Flags, entry: Entry)
         ensures { self.new ≡ map.insert self.old flags entry }
     {
@@ -120,7 +120,7 @@ impl Slots {
         self.prefix_fresh = revised(how, Flags::new(true, true), self.prefix_fresh.take());
     }
 
-    /// The least deadline, or 0 where nothing is kept.
+    /// The least deadline, or 0 where there is no entry.
     pub fn deadline(&self) -> u64
         ensures { result ≡ least deadline (map.entries self.now) }
     {
@@ -132,8 +132,8 @@ impl Slots {
         all.unwrap_or(0)
     }
 
-    /// Adds the faces that ask under the keys with CanBePrefix or, if the name is a Data's own,
-    /// under all.
+    /// Adds the faces with an in-record under the keys with CanBePrefix or, if the name is a Data's
+    /// own, under all.
     pub fn add_answered(&self, is_own: bool, faces: &mut Faces)
         ensures { faces.new ≡ with_answered is_own faces.old self.now }
     {

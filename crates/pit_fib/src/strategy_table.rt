@@ -39,7 +39,7 @@ impl Carry<StrategyId> for StrategyId {
 /// It has at most 4,096 names of at most 32 components. One of them is always `/`.
 #[derive(Drop)]
 pub struct StrategyTable {
-    // The strategy of `/`, apart, since it stands without memory.
+    // The strategy of `/`, apart, since it needs no memory.
     root: StrategyId,
     others: NameMap<StrategyId>,
 }
@@ -88,9 +88,8 @@ impl StrategyTable {
 
     /// Sets the strategy of a name.
     ///
-    /// Refuses it by the first fault in the order of `TableFault`, and then changes nothing but
-    /// that no call is prepared any more. `Memory` never comes for a name that has a strategy, as
-    /// `/` does.
+    /// Returns the first fault in the order of `TableFault`; then nothing changes, but no call is
+    /// prepared any more. `Memory` never comes for a name that has a strategy, as `/` does.
     pub fn set(&mut self, name: Name<'_>, strategy: StrategyId) -> Result<(), TableFault>
         ensures ok { OnOk result
             (self.new.table ≡ map.insert self.old.table (components name.entry) strategy) }
@@ -135,7 +134,7 @@ impl StrategyTable {
         Some(TableFault::TableFull)
     }
 
-    /// Prepares one `set` of this name, which is then not refused memory.
+    /// Prepares one `set` of this name, which then cannot run out of memory.
     pub fn prepare(&mut self, name: Name<'_>) -> Result<(), Memory>
         ensures table { self.new.table ≡ self.old.table }
         ensures ok { OnOk result (self.new.prepared ≡ Some (components name.entry)) }
@@ -182,7 +181,8 @@ impl StrategyTable {
         Ok(list)
     }
 
-    /// Shows all names in canonical order, each with its strategy. An `Err` leaves some of them shown.
+    /// Shows all names in canonical order, each with its strategy. On `Err` some of them have been
+    /// shown.
     pub fn show_all<S: Show<StrategyId>>(&self, show: &mut S) -> Result<(), Memory>
         ensures { OnOk result
             (show.new ≡ shown_each S.shown show.old (map.entries self.now.table)) }

@@ -5,7 +5,7 @@ use crate::fib_entry::Entry;
 use crate::route::{Route, RouteKey};
 use name_trie::See;
 
-/// How many routes are registered, and the first moment at which one of them ends.
+/// How many routes are registered, and the first moment at which one of them expires.
 #[derive(Drop)]
 pub struct Tally {
     pub count: usize,

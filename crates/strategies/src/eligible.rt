@@ -7,7 +7,7 @@ ghost use Rattle.strategies.specs.Selection.{is_recent as came_recently};
 use crate::strategy::Ask;
 use pit_fib::{Hop, Hops};
 
-/// A face is asked again after so many milliseconds.
+/// How long a face is not used again, in milliseconds.
 const RETRY_AFTER: u64 = 10;
 
 /// Whether a hop may get the Interest: never the asker; only a Local one where the Interest stays

@@ -1,4 +1,4 @@
-//! Where an Interest goes: strategies that choose among next hops.
+//! Where an Interest is sent: strategies that choose among next hops.
 #![tactic(auto)]
 
 mod best_route;

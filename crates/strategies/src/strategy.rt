@@ -13,13 +13,13 @@ pub struct Ask {
     pub asker: Option<u64>,
     /// Whether its name begins with `/localhost`, which stays on this machine.
     pub localhost: bool,
-    /// Whether its HopLimit was lowered to 0, so that it goes to no other machine.
+    /// Whether its HopLimit was lowered to 0, so that it is sent to no other machine.
     pub hop_zero: bool,
     /// The moment, in milliseconds since 1970.
     pub now: u64,
 }
 
-/// Where an Interest goes.
+/// Where an Interest is sent.
 #[derive(Drop)]
 pub enum Choice {
     /// No next hop may get it.
@@ -28,10 +28,10 @@ pub enum Choice {
     Send(Faces),
 }
 
-/// Chooses where an Interest goes (NFD Developer's Guide, "Strategies").
+/// Chooses where an Interest is sent (NFD Developer's Guide, "Strategies").
 pub trait Strategy {
-    /// From the eligible hops, the moments at which faces were last asked, and now: the hops to
-    /// send to.
+    /// From the eligible hops, the moments at which faces were last used, and now: the hops to send
+    /// to.
     ghost selection: { Selection };
 
     /// Chooses among next hops, of which `Hops::mark` has set the Local ones, with the moments, in
@@ -40,7 +40,7 @@ pub trait Strategy {
     fn choose(&self, hops: &Hops, used: &Used, ask: Ask) -> Choice
         ensures { result ≡ chosen selection hops.now used.now ask };
 
-    /// What is taken stands among the eligible hops.
+    /// What is taken is among the eligible hops.
     ghost takes_eligible: { (hops : List Hop) (used : ByFace) (now : ℕ)
         → All (Contains hops) (selection hops used now) };
 }
