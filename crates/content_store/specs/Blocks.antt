@@ -1,4 +1,4 @@
--- What blocks of the list are known to hold, for private contracts.
+-- What is known of the Data in blocks of the list, for private contracts.
 use Rattle.std.specs.Prelude.{◌≡◌, ◌≢◌, ℕ, ◌+◌, ◌-◌, ◌^◌, ◌<◌, ◌≤◌, List, insert, length, min}
 use Rattle.std.specs.Prelude.{slice_index_or}
 use Rattle.std.specs.List.{All}
@@ -13,7 +13,7 @@ use Rattle.content_store.specs.declared.blocks.Change.TheVariants.{Added, Renewe
 abbrev pub fresh_until : CachedData → ℕ
 fresh_until c = min (c.arrival + c.freshness) (2 ^ 64 - 1)
 
--- nothing that stands there is fresh after its moment
+-- no Data of the block is fresh after its moment
 abbrev pub Bounds : List Placed → Block → Type 0
 Bounds rows b =
     (k : ℕ) (d : Placed) → b.start ≤ k → k < b.end → k < length rows

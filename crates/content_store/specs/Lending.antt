@@ -1,10 +1,10 @@
--- What a store is after a call that lends of it.
+-- The store after a call that returns a borrow of it.
 use Rattle.std.specs.Prelude.{⊤}
 use Rattle.std.specs.Borrow.{Fml, MutBor, follows_so}
 use mathlib.Core.Option.{none}
 use Rattle.content_store.specs.Store.{StoreState}
 use Rattle.content_store.specs.contracts.store.Store.{the_row}
 
--- once the borrow is over, the store has P
+-- once the borrow is over, P is true of the store
 abbrev pub EndsWith : MutBor StoreState → (StoreState → Type 0) → Fml
 EndsWith s P = follows_so the_row the_row s.ghost_name none (λ _ _. ⊤) P

@@ -1,5 +1,5 @@
--- What a content store holds and gives (NFD Developer's Guide, "Content Store"; NDN Packet Format
--- 0.3, "Name", "Implicit Digest Component", and "Data Packet", FreshnessPeriod).
+-- What a content store caches and returns (NFD Developer's Guide, "Content Store"; NDN Packet
+-- Format 0.3, "Name", "Implicit Digest Component", and "Data Packet", FreshnessPeriod).
 use Rattle.std.specs.Prelude.{◌≡◌, ◌≢◌, ◌⊎◌, ℕ, ◌+◌, ◌-◌, ◌<◌, ◌≤◌, ◌^◌, min, List, [], ◌∷◌, length, take, filter, not, Bool, true, false, Option, None, Some, IfSome, refl}
 use Rattle.std.specs.List.{All, AllByRecursion, Contains}
 use Rattle.std.specs.Coded.{Coded, code_by, coded×, coded_list, coded_ℕ}
@@ -17,8 +17,8 @@ use Rattle.ndn_packets.specs.Key.{PlainKey}
 use Rattle.ndn_packets.specs.Packet.{PlainData}
 use Rattle.content_store.specs.declared.store.TheConstants.{MAX_CAPACITY}
 
--- A Data that is held: its name and its implicit digest, its octets, its FreshnessPeriod in
--- milliseconds and the moment of its arrival, in milliseconds since 1970.
+-- A cached Data: its name and its implicit digest, its octets, its FreshnessPeriod in milliseconds
+-- and the moment of its arrival, in milliseconds since 1970.
 pub record CachedData : Type 0 where
   pub name : List Field
   pub digest : List ℕ
@@ -26,7 +26,7 @@ pub record CachedData : Type 0 where
   pub freshness : ℕ
   pub arrival : ℕ
 
--- a Data as it is held from its arrival on
+-- a Data as it is cached from its arrival on
 abbrev pub cached_at : Data → ℕ → CachedData
 cached_at d arrival = record {
   name = components d.name;
@@ -39,7 +39,7 @@ cached_at d arrival = record {
 abbrev pub full_name_of : CachedData → List Field
 full_name_of c = full_name c.name c.digest
 
--- what is held, the most recently used first, and how many may be
+-- the cached Data, the most recently used first, and how many there may be
 pub record StoreState : Type 0 where
   pub cached : List CachedData
   pub capacity : ℕ
@@ -76,7 +76,7 @@ CanServe key now c =
     Answers c.name c.digest key.name key.can_be_prefix
     × (key.must_be_fresh ≡ true → IsFreshData c now)
 
--- of what is held and has P, it has the least full name in canonical order
+-- of the cached Data with P, it has the least full name in canonical order
 pub record IsLeast (P : CachedData → Type 0) (cs : List CachedData) (c : CachedData) : Type 0 where
   pub is_cached : Contains cs c
   pub has : P c
@@ -91,7 +91,7 @@ pub record LosesSome (before after : List CachedData) : Type 0 where
   pub stays : CachedData → Bool
   pub left : after ≡ filter stays before
 
--- with one more, which takes the place of what has its full name; of the others as many as fit
+-- with one more, which replaces one of its full name; of the others as many as fit
 abbrev pub with_cached : StoreState → CachedData → StoreState
 with_cached s c = record s {
   cached = take s.capacity (c ∷ without (full_name_of c) s.cached);
@@ -101,14 +101,14 @@ with_cached s c = record s {
 abbrev pub with_used : StoreState → CachedData → StoreState
 with_used s c = record s { cached = c ∷ without (full_name_of c) s.cached }
 
--- What a store gives for a key: nothing where nothing can serve it, and else the octets of the
+-- What a store returns for a key: nothing where nothing can serve it, and else the octets of the
 -- least full name that can.
 abbrev pub GivesData : PlainKey → ℕ → List CachedData → Option (List ℕ) → Type 0
 GivesData key now cached None = All (λ c. ¬ CanServe key now c) cached
 GivesData key now cached (Some octets) =
     (c : CachedData) × IsLeast (CanServe key now) cached c × (octets ≡ c.octets)
 
--- The same, and what the store is then: what it gave is the most recently used.
+-- The same, and the store afterwards: the Data that it returned is the most recently used.
 abbrev pub Finds : PlainKey → ℕ → StoreState → Option (List ℕ) → StoreState → Type 0
 Finds key now before None after =
     All (λ c. ¬ CanServe key now c) before.cached × (after ≡ before)
@@ -116,8 +116,8 @@ Finds key now before (Some octets) after =
     (c : CachedData) × IsLeast (CanServe key now) before.cached c × (octets ≡ c.octets)
     × (after ≡ with_used before c)
 
--- `stays` says what is left, in its order. All else was under the name, and is less than each under
--- it that is left.
+-- `stays` marks what is left, in its order. All others were under the name, and are less than each
+-- under it that is left.
 pub record TakesLeast (name : List Field) (before after : List CachedData) (gone : ℕ) : Type 0 where
   pub stays : CachedData → Bool
   pub left : after ≡ filter stays before
@@ -126,7 +126,8 @@ pub record TakesLeast (name : List Field) (before after : List CachedData) (gone
   pub least : All (λ c. stays c ≡ false → All (λ d. IsPrefix name (full_name_of d)
       → Less (full_name_of c) (full_name_of d)) after) before
 
--- What an erase does: at most `count` go, and fewer only where none under the name is left.
+-- What an erase does: at most `count` are removed, and fewer only where none under the name is
+-- left.
 abbrev pub Erases : List Field → Option ℕ → List CachedData → List CachedData → ℕ → Type 0
 Erases name count before after gone =
     TakesLeast name before after gone × IfSome count (λ n. gone ≤ n)

@@ -49,7 +49,7 @@ pub record IsHeld (rows : List Placed) (used : LruCache ℕ ℕ) (capacity next 
   pub low : 1 ≤ capacity
   pub high : capacity ≤ MAX_CAPACITY
 
--- what stands at a place of the list is used
+-- the Data at a place of the list is used
 abbrev pub UsesAt : List Placed → LruCache ℕ ℕ → ℕ → LruCache ℕ ℕ → Type 0
 UsesAt rows before at after =
     (d : Placed) → let r = slice_index_or rows at d in after
@@ -60,7 +60,7 @@ abbrev pub evicted : Option (ℕ × ℕ) → List Placed → List Placed
 evicted None rows = rows
 evicted (Some e) rows = remove_entry (nat_eq e.1) rows
 
--- a row is put before the one at a place of the list, and what lru displaces goes
+-- a row is put before the one at a place of the list, and what lru displaces is removed
 pub record PutsNew (rows : List Placed) (used : LruCache ℕ ℕ) (at : ℕ) (row : Row)
     (rows' : List Placed) (used' : LruCache ℕ ℕ) : Type 0 where
   pub place : ℕ
@@ -71,7 +71,7 @@ pub record PutsNew (rows : List Placed) (used : LruCache ℕ ℕ) (at : ℕ) (ro
       ≡ evicted (displaced nat_eq used row.serial place) (insert rows at (place, row))
   pub valid : IsValidRows rows'
 
--- an entry is put in place of what stands at a place of the list, which is used
+-- an entry replaces the one at a place of the list, which is used
 pub record Renews (rows : List Placed) (used : LruCache ℕ ℕ) (at : ℕ) (entry : CachedData)
     (rows' : List Placed) (used' : LruCache ℕ ℕ) : Type 0 where
   pub rows_are : (d : Placed) → let r = slice_index_or rows at d in rows'
@@ -79,11 +79,12 @@ pub record Renews (rows : List Placed) (used : LruCache ℕ ℕ) (at : ℕ) (ent
   pub uses : UsesAt rows used at used'
   pub valid : IsValidRows rows'
 
--- without what stands from one place up to another
+-- without the part from one place up to another
 abbrev pub without_range : {X : Type 0} → ℕ → ℕ → List X → List X
 without_range start end xs = take start xs ++ drop end xs
 
--- what begins with a name goes, the least full names first and at most `most`
+-- the Data whose full names begin with a name are removed, the least full names first and at most
+-- `most`
 pub record TakesUnder (name : List Field) (most : ℕ) (rows : List Placed) (used : LruCache ℕ ℕ)
     (rows' : List Placed) (used' : LruCache ℕ ℕ) (next gone : ℕ) : Type 0 where
   pub sound : Sound rows' used'.entries next

@@ -11,7 +11,7 @@ use slab::Slab;
 /// The greatest number of rows that a block has before it is halved.
 const MAX_BLOCK: usize = 512;
 
-/// Places of the list that stand together, and a moment from which on no Data there is fresh.
+/// Successive places of the list, and a moment from which on no Data there is fresh.
 #[derive(Clone, Copy)]
 pub struct Block {
     pub start: usize,
@@ -26,11 +26,11 @@ pub enum Change {
     Added(usize, u64),
     /// One at a place is fresh until another moment.
     Renewed(usize, u64),
-    /// Those from a place on, up to another, are gone.
+    /// Those from a place on, up to another, are removed.
     Removed(usize, usize),
 }
 
-/// Where a place is once those between two others are gone.
+/// Where a place is once those between two others are removed.
 fn moved(at: usize, start: usize, end: usize) -> usize
     ensures low { at ≤ start → result ≡ at }
     ensures within { start ≤ at → at ≤ end → result ≡ start }
@@ -83,7 +83,7 @@ impl Block {
         Block { until, ..self }
     }
 
-    /// As it is after those from a place up to another are gone.
+    /// As it is after those from a place up to another are removed.
     fn without(self, start: usize, end: usize) -> Block
         ensures { (rows rows' : List Placed) → Follows (changes.Removed start end) rows rows'
             → Bounds rows self → Bounds rows' result }
@@ -117,7 +117,7 @@ pub fn follow(blocks: &mut Vec<Block>, change: Change)
     }
 }
 
-/// The index of the block that holds a place.
+/// The index of the block of a place.
 fn index_at(blocks: &[Block], at: usize) -> usize {
     blocks.partition_point(|block| block.end <= at)
 }
@@ -196,7 +196,7 @@ fn look_again(entries: &Slab<Row>, order: &Places, blocks: &mut Vec<Block>, inde
     blocks[index] = block_of(entries, order, block.start, block.end);
 }
 
-/// Takes out the blocks that hold nothing.
+/// Removes the empty blocks.
 fn drop_empty(blocks: &mut Vec<Block>)
     ensures { (rows : List Placed) → Keeps rows blocks.old.items blocks.new.items }
 {
@@ -265,7 +265,7 @@ pub fn remove_row(
     join(blocks, index);
 }
 
-/// Follows that those from a place up to another are gone.
+/// Follows the removal of those from a place up to another.
 pub fn remove_rows(
     entries: &Slab<Row>,
     order: &Places,

@@ -19,7 +19,7 @@ use std::alloc::Global;
 use std::cmp::Ordering;
 use std::marker::Model;
 
-/// A Data that is held. Its implicit digest is computed where a comparison turns on it.
+/// A cached Data. Its implicit digest is computed when a comparison needs it.
 #[derive(Drop)]
 pub struct Entry {
     // The first octets of the name, where it has as many: they decide most comparisons.

@@ -6,7 +6,7 @@ pub enum StoreFault {
     /// The capacity is 0 or above 65,536.
     #[error("the capacity of a store is from 1 to 65536")]
     BadCapacity,
-    /// A growth of memory was refused.
+    /// Out of memory.
     #[error("out of memory")]
     Memory,
 }

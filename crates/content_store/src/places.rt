@@ -10,7 +10,7 @@ use std::marker::Model;
 /// The greatest number of places that a block has before it is halved.
 const MAX_BLOCK: usize = 1024;
 
-/// Places that stand together in the list, and where in the list they begin.
+/// Successive places of the list, and where in the list they begin.
 #[derive(Drop)]
 pub struct Block {
     pub start: usize,
@@ -35,8 +35,8 @@ impl Model for Places {
     ghost invariant = { λ p. IsLaid p.blocks.items };
 }
 
-/// The block in which a place of the list is, or would go. `first` and `last` are a hint: it is
-/// looked for between these blocks where it is there, and else among all.
+/// The block in which a place of the list is, or is to be inserted. `first` and `last` are a hint:
+/// it is found between these blocks if it is there, and else among all.
 fn block_at(blocks: &[Block], first: usize, last: usize, at: usize) -> usize
     requires laid { IsLaid blocks.now }
     requires some { 0 < length blocks.now }
@@ -92,7 +92,7 @@ fn split(alloc: Global, blocks: &mut Vec<Block>, index: usize) -> Result<(), Mem
     Ok(())
 }
 
-/// Makes the first block, or halves the one that is full where a place would go.
+/// Makes the first block, or halves the full block where a place is to be inserted.
 fn make_room(alloc: Global, blocks: &mut Vec<Block>, at: usize) -> Result<(), Memory>
     requires laid { IsLaid blocks.old.items }
     requires within { at ≤ length (flat blocks.old.items) }
@@ -112,13 +112,14 @@ fn make_room(alloc: Global, blocks: &mut Vec<Block>, at: usize) -> Result<(), Me
     split(alloc, blocks, index)
 }
 
-/// Puts a place into the block where it would go, if there is memory.
+/// Inserts a place into its block, if there is memory.
 fn put(blocks: &mut Vec<Block>, at: usize, place: u32) -> Result<(), Memory>
     requires laid { IsLaid blocks.old.items }
     requires some { 0 < length blocks.old.items }
     requires within { at ≤ length (flat blocks.old.items) }
     requires short { length (flat blocks.old.items) < 131072 }
-    ensures ok { IfOk result (λ _. flat blocks.new.items ≡ insert (flat blocks.old.items) at place) }
+    ensures ok { IfOk result (λ _. flat blocks.new.items
+        ≡ insert (flat blocks.old.items) at place) }
     ensures err { OnErr result (flat blocks.new.items ≡ flat blocks.old.items) }
     ensures laid { IsLaid blocks.new.items }
 {
@@ -172,7 +173,7 @@ fn cut(items: &mut Vec<u32>, start: usize, end: usize)
     items.truncate(left);
 }
 
-/// Takes out of a block what stands from a place of the list on, up to another.
+/// Removes from a block the part from a place of the list on, up to another.
 fn cut_block(block: &mut Block, start: usize, end: usize)
     requires { start ≤ end }
     ensures items { block.new.items.items ≡ without_range (start - block.old.start)
@@ -184,7 +185,7 @@ fn cut_block(block: &mut Block, start: usize, end: usize)
     cut(&mut block.items, from, to);
 }
 
-/// Takes out of all blocks what stands from a place of the list on, up to another.
+/// Removes from all blocks the part from a place of the list on, up to another.
 fn cut_blocks(blocks: &mut Vec<Block>, start: usize, end: usize)
     requires laid { IsLaid blocks.old.items }
     requires ordered { start ≤ end }
@@ -195,7 +196,7 @@ fn cut_blocks(blocks: &mut Vec<Block>, start: usize, end: usize)
     }
 }
 
-/// Takes out the blocks that are empty.
+/// Removes the empty blocks.
 fn drop_empty(blocks: &mut Vec<Block>)
     ensures { flat blocks.new.items ≡ flat blocks.old.items }
 {
@@ -228,8 +229,8 @@ impl Places {
         }
     }
 
-    /// What stands at a place of the list, and in which block. `first` and `last` are a hint: the
-    /// block is looked for between these where it is there, and else among all.
+    /// The slab place at a place of the list, and its block. `first` and `last` are a hint: the
+    /// block is found between these if it is there, and else among all.
     pub fn get_between(&self, first: usize, last: usize, at: usize) -> (usize, u32)
         requires { at < length self.now }
         ensures { result.1 ≡ slice_index self.now at }
@@ -239,7 +240,7 @@ impl Places {
         (index, block.items[at - block.start])
     }
 
-    /// What stands at a place of the list.
+    /// The slab place at a place of the list.
     pub fn get(&self, at: usize) -> u32
         requires { at < length self.now }
         ensures { result ≡ slice_index self.now at }
@@ -258,7 +259,7 @@ impl Places {
         put(&mut self.blocks, at, place)
     }
 
-    /// Takes out the one at a place of the list.
+    /// Removes the one at a place of the list.
     pub fn remove(&mut self, at: usize)
         requires { at < length self.old }
         ensures { self.new ≡ remove self.old at }
@@ -270,7 +271,7 @@ impl Places {
         lay(&mut self.blocks);
     }
 
-    /// Takes out those from a place of the list on, up to another.
+    /// Removes those from a place of the list on, up to another.
     pub fn cut(&mut self, start: usize, end: usize)
         requires ordered { start ≤ end }
         requires within { end ≤ length self.old }
@@ -281,7 +282,7 @@ impl Places {
         lay(&mut self.blocks);
     }
 
-    /// Takes out all.
+    /// Removes all.
     pub fn clear(&mut self)
         ensures { self.new ≡ [] }
     {

@@ -26,14 +26,14 @@ use slab::Slab;
 use std::alloc::Global;
 use std::marker::Model;
 
-/// A Data that is held, and the serial number of its use.
+/// A cached Data, and the serial number of its use.
 #[derive(Drop)]
 pub struct Row {
     pub entry: Entry,
     pub serial: u64,
 }
 
-/// What is held, by full name in canonical order.
+/// The cached Data, by full name in canonical order.
 #[derive(Drop)]
 pub struct Rows {
     entries: Slab<Row>,
@@ -107,7 +107,7 @@ fn first_serving(
     first_from(entries, order, blocks, start, key, now)
 }
 
-/// Where the first is that can serve an Interest of this key, from where its name would stand.
+/// The place of the first that can serve an Interest of this key, from the place of its name on.
 fn first_from(
     entries: &Slab<Row>,
     order: &Places,
@@ -136,7 +136,7 @@ fn first_from(
     None
 }
 
-/// Whether what stands before a place of the list comes before a name.
+/// Whether the row before a place of the list comes before a name.
 fn is_above(entries: &Slab<Row>, order: &Places, name: Name<'_>, at: usize) -> bool
     requires rows { IsRows (get entries.now) order.now }
     requires within { at ≤ length order.now }
@@ -150,7 +150,7 @@ fn is_above(entries: &Slab<Row>, order: &Places, name: Name<'_>, at: usize) -> b
     entries[order.get(at - 1) as usize].entry.is_below(name)
 }
 
-/// Whether a name would stand at a place of the list.
+/// Whether a place of the list is that of a name.
 fn is_lower(entries: &Slab<Row>, order: &Places, name: Name<'_>, at: usize) -> bool
     requires { IsRows (get entries.now) order.now }
     ensures { IsTrue result
@@ -187,7 +187,7 @@ impl Rows {
         first_serving(&self.entries, &self.order, &self.blocks, key, now, steps)
     }
 
-    /// Where the name of a key would stand, if one can serve an Interest of this key.
+    /// The place of the name of a key, if some Data can serve an Interest of this key.
     pub fn start_for(&self, key: Key<'_>, now: u64) -> Option<usize>
         requires { length self.now < 131072 }
         ensures { MatchOption result (FirstWith (CanServe (plain_key key.entry) now) self.now None)
@@ -200,7 +200,8 @@ impl Rows {
         }
     }
 
-    /// Where the first is that can serve an Interest of this key. Its name may stand at `place`.
+    /// The place of the first that can serve an Interest of this key. `place` may be that of its
+    /// name.
     pub fn first_at(&self, place: usize, key: Key<'_>, now: u64) -> Option<usize>
         requires { length self.now < 131072 }
         ensures { FirstWith (CanServe (plain_key key.entry) now) self.now result }
@@ -221,7 +222,7 @@ impl Rows {
         self.order.len()
     }
 
-    /// What stands at a place of the list.
+    /// The row at a place of the list.
     pub fn row(&self, at: usize) -> &Row
         requires { at < length self.now }
         ensures { (d : Placed) → (slice_index_or self.now at d).1 ≡ result.now }
@@ -229,7 +230,7 @@ impl Rows {
         &self.entries[self.order.get(at) as usize]
     }
 
-    /// Takes out all.
+    /// Removes all.
     pub fn clear(&mut self)
         ensures { self.new ≡ [] }
     {
@@ -238,7 +239,7 @@ impl Rows {
         self.blocks.clear();
     }
 
-    /// Where what is sought stands, or would go.
+    /// The place of what is sought, or the place to insert it at.
     pub fn place_for(&self, sought: Sought<'_>) -> usize
         requires { length self.now < 131072 }
         ensures { IsLower (sought_name sought.entry) self.now result }
@@ -247,7 +248,7 @@ impl Rows {
         lower_bound(&self.entries, &self.order, sought, &mut steps)
     }
 
-    /// Whether what stands at a place of the list has the full name of a Data of a name and octets.
+    /// Whether the Data at a place of the list has the full name of a Data of a name and octets.
     pub fn is_full(&self, at: usize, name: Name<'_>, octets: &[u8]) -> bool
         ensures yes { IsTrue result → (at < length self.now)
             × ((d : Placed) → name_at (slice_index_or self.now at d)
@@ -262,7 +263,7 @@ impl Rows {
         self.row(at).entry.compare_full(name, octets).is_eq()
     }
 
-    /// Adds a row before the one at a place of the list. Gives its place in the slab.
+    /// Adds a row before the one at a place of the list. Returns its place in the slab.
     pub fn insert(&mut self, at: usize, row: Row) -> Result<u32, Memory>
         requires within { at ≤ length self.old }
         requires short { length self.old < 131072 }
@@ -286,7 +287,7 @@ impl Rows {
         }
     }
 
-    /// Makes what stands at a place of the list one that arrived at this moment.
+    /// Makes the Data at a place of the list one that arrived at this moment.
     pub fn renew(&mut self, at: usize, freshness: u64, arrival: u64)
         requires { at < length self.old }
         ensures rows { (d : Placed) → let r = slice_index_or self.old at d in self.new
@@ -302,7 +303,7 @@ impl Rows {
         follow(&mut self.blocks, Change::Renewed(at, entry.fresh_until()));
     }
 
-    /// Takes out what stands at a place of the slab.
+    /// Removes the row at a place of the slab.
     pub fn forget(&mut self, place: u32)
         requires short { length self.old < 131072 }
         requires there { IsSome (lookup (nat_eq place) self.old) }
@@ -316,8 +317,8 @@ impl Rows {
         remove_row(&self.entries, &self.order, &mut self.blocks, at, until);
     }
 
-    /// Takes out what begins with a name, the least full names first and at most `most`, and their
-    /// serial numbers. Gives how many.
+    /// Removes what begins with a name, the least full names first and at most `most`, and their
+    /// serial numbers. Returns how many.
     pub fn remove_under(&mut self, used: &mut LruCache<u64, u32>, name: Name<'_>, most: u64) -> u64
         requires { length self.old < 131072 }
         ensures { (next : ℕ) → Sound self.old used.old.entries next
@@ -332,8 +333,8 @@ impl Rows {
     }
 }
 
-/// Takes out of the slab and of `used` what begins with a name, from a place of the list on and at
-/// most `most`. Gives the place behind the last of them.
+/// Removes from the slab and from `used` what begins with a name, from a place of the list on and
+/// at most `most`. Returns the place behind the last of them.
 fn remove_under(
     entries: &mut Slab<Row>,
     used: &mut LruCache<u64, u32>,
@@ -365,7 +366,7 @@ fn remove_under(
     order.len()
 }
 
-/// Puts a row into the slab. Gives its place there.
+/// Puts a row into the slab. Returns its place there.
 fn hold(entries: &mut Slab<Row>, row: Row) -> Result<u32, Memory>
     ensures vacant { IfOk result (λ p. get entries.old p ≡ None) }
     ensures held { IfOk result (λ p. get entries.new p ≡ Some row) }
@@ -382,7 +383,7 @@ fn hold(entries: &mut Slab<Row>, row: Row) -> Result<u32, Memory>
     }
 }
 
-/// Where in the list a place of the slab stands.
+/// Where in the list a place of the slab is.
 fn index_of(entries: &Slab<Row>, order: &Places, place: u32) -> usize
     requires rows { IsRows (get entries.now) order.now }
     requires short { length order.now < 131072 }

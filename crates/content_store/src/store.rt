@@ -22,22 +22,22 @@ use std::num::NonZeroUsize;
 #[cfg(test)]
 mod tests;
 
-/// The greatest number of Data that a store can hold.
+/// The greatest capacity of a store, in Data.
 pub const MAX_CAPACITY: usize = 65_536;
 
-/// Law: a store may hold 65,536 Data.
+/// Law: the greatest capacity of a store is 65,536 Data.
 pub fn store_limits_are_as_promised()
     ensures { MAX_CAPACITY ≡ 65536 }
 {}
 
-/// Data that answer later Interests (NFD Developer's Guide, "Content Store"). Of each full name it
-/// holds one, at most as many as its capacity; the least recently used goes first.
+/// Data that answer later Interests (NFD Developer's Guide, "Content Store"). It caches one of each
+/// full name, and at most as many as its capacity; the least recently used is evicted first.
 #[derive(Drop)]
 pub struct Store {
     alloc: Global,
     capacity: usize,
     rows: Rows,
-    // Places of rows by serial numbers; the least recently used goes first.
+    // Places of rows by serial numbers; the least recently used is evicted first.
     used: LruCache<u64, u32>,
     next: u64,
 }
@@ -62,8 +62,8 @@ impl Store {
     ghost use Rattle.std.specs.Borrow.{sem};
     ghost use Rattle.content_store.specs.Lending.{EndsWith};
 
-    /// An empty store that holds at most `capacity` Data, from 1 to 65,536: `BadCapacity` for any
-    /// other, and else `Memory` where there is too little of it.
+    /// An empty store of at most `capacity` Data, from 1 to 65,536: `BadCapacity` for any other
+    /// capacity, and else `Memory` when memory runs out.
     pub fn new(alloc: Global, capacity: usize) -> Result<Store, StoreFault>
         ensures ok { IfOk result (λ s. s ≡ record { cached = []; capacity = capacity }) }
         ensures store { IfOk result IsStore }
@@ -88,14 +88,14 @@ impl Store {
         })
     }
 
-    /// The greatest number of Data that it holds.
+    /// The greatest number of Data that it caches.
     pub fn capacity(&self) -> usize
         ensures { result ≡ self.now.capacity }
     {
         self.capacity
     }
 
-    /// The number of Data that it holds.
+    /// The number of Data that it has cached.
     pub fn len(&self) -> usize
         ensures exact { result ≡ length self.now.cached }
         ensures store { IsStore self.now }
@@ -103,19 +103,19 @@ impl Store {
         self.rows.len()
     }
 
-    /// Whether it holds nothing.
+    /// Whether it is empty.
     pub fn is_empty(&self) -> bool
         ensures { IsTrue result ↔ (self.now.cached ≡ []) }
     {
         self.len() == 0
     }
 
-    /// Keeps a Data that arrived at this moment, in milliseconds since 1970, in place of one of the
-    /// same full name, and as the most recently used. Where there was none and the store is full,
-    /// the least recently used goes. One that is held takes no memory, and is not refused. Answers
-    /// false, and leaves the store as it was, for want of memory and where other octets have this
-    /// full name. After 2^64 - 1 full names it forgets all at the next new one, answers false, and
-    /// is as a new store.
+    /// Caches a Data that arrived at this moment, in milliseconds since 1970, in place of one of
+    /// the same full name, and as the most recently used. If there was none and the store is full,
+    /// the least recently used is evicted. A Data that is cached already needs no memory, and is
+    /// not refused. Returns false, and leaves the store as it was, when memory runs out, and where
+    /// a cached Data of this full name has other octets. After 2^64 - 1 full names, the next new
+    /// one empties the store instead, and false is returned.
     pub fn put(&mut self, packet: &Data<'_>, arrival: u64) -> bool
         ensures ok { IsTrue result
             → self.new ≡ with_cached self.old (cached_at packet.now arrival) }
@@ -213,7 +213,7 @@ impl Store {
     }
 
     /// Erases Data whose full names begin with a name, the least full names first, at most `count`,
-    /// and gives how many.
+    /// and returns how many.
     pub fn erase(&mut self, name: Name<'_>, count: Option<u64>) -> u64
         ensures erased { Erases (components name.entry) count
             self.old.cached self.new.cached result }
@@ -226,7 +226,7 @@ impl Store {
 }
 
 /// Renews the Data of this full name, as one that arrived at this moment. It is then the most
-/// recently used, and keeps its serial number. Answers false where its octets are others.
+/// recently used, and its serial number stays. Returns false where its octets are others.
 fn put_same(
     rows: &mut Rows,
     used: &mut LruCache<u64, u32>,
@@ -253,7 +253,7 @@ fn put_same(
     true
 }
 
-/// Makes what stands at a place of the list the most recently used.
+/// Makes the Data at a place of the list the most recently used.
 fn promote(rows: &Rows, used: &mut LruCache<u64, u32>, at: usize)
     requires { at < length rows.now }
     ensures { UsesAt rows.now used.old at used.new }
@@ -261,8 +261,8 @@ fn promote(rows: &Rows, used: &mut LruCache<u64, u32>, at: usize)
     used.promote(&rows.row(at).serial);
 }
 
-/// Puts a row before the one at a place of the list. What is displaced goes. Where memory is
-/// refused, all is as it was.
+/// Puts a row before the one at a place of the list. What is displaced is removed. When memory runs
+/// out, nothing changes.
 fn put_new(rows: &mut Rows, used: &mut LruCache<u64, u32>, at: usize, row: Row) -> bool
     requires sound { Sound rows.old used.old.entries row.serial }
     requires short { length rows.old ≤ 65536 }
