@@ -24,7 +24,7 @@ pub record Row : Type 0 where
   pub uses : List ℕ
   -- whether the name may be `/`
   pub takes_root : Bool
-  -- what refuses it, in the order in which it is tested
+  -- the reasons to reject it, in the order in which they are tested
   pub refusals : List Refusal
 
 abbrev pub row_of : Action → Row

@@ -19,7 +19,7 @@ use Rattle.ndn_packets.specs.declared.types.TheConstants.{NAME}
 use Rattle.mgmt_core.specs.declared.types.TheConstants.{BAD_PARAMETERS, UNKNOWN_COMMAND}
 use Rattle.mgmt_core.specs.Commands.{Row, row_of, action_named, has, parameter_fields, takes}
 
--- what a command asks for; face 0 is the face that it came from
+-- the parameters of a command; face 0 is the face that it came from
 pub record PlainCommand : Type 0 where
   pub action : Action
   pub name : List Field
@@ -67,7 +67,7 @@ number_in kind es = optional_of number_of (first_of kind es)
 abbrev pub name_in : Elements → Option (List Field)
 name_in es = first_of NAME es >>= name_of
 
--- a Strategy holds one Name
+-- a Strategy has one Name
 abbrev pub strategy_in : Elements → Option (Option (List Field))
 strategy_in es =
     optional_of (λ value. single NAME (elements_of value) >>= name_of) (first_of STRATEGY es)
@@ -143,7 +143,7 @@ parameters_at action cs = do
   parameters ← single CONTROL_PARAMETERS (elements_of value)
   command_of action (elements_of parameters)
 
--- a command, or the first status that refuses it
+-- a command, or the first status that rejects it
 abbrev pub or_status : {X : Type 0} → ℕ → Option X → Result X ℕ
 or_status status None = Err status
 or_status status (Some x) = Ok x

@@ -40,7 +40,7 @@ set_status name (Some strategy) choices =
     if is_full choices name then TABLE_FULL else
     OK)
 
--- the fields that say what a command is about
+-- the fields of a reply that name what a command is about
 abbrev pub about_fields : PlainCommand → ℕ → List Field
 about_fields c face =
     (NAME, octets_of c.name)

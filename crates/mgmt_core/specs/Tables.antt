@@ -49,7 +49,7 @@ strategy_asked c = c.strategy >>= strategy_named
 
 -- ---- routes
 
--- the face that a command from this face stands for
+-- the face that a command from this face applies to
 abbrev pub face_of : PlainCommand → ℕ → ℕ
 face_of c face = if c.face == 0 then face else c.face
 
@@ -71,7 +71,7 @@ route_asked c now = record {
 
 -- ---- what refuses a command
 
--- the name is new, and 4,096 stand
+-- the name is new, and the table has 4,096
 abbrev pub is_full : {X : Type 0} → ByName X → List Field → Bool
 is_full table name = not (map.contains_key table name) && nat_le MAX_ENTRIES (map.len table)
 

@@ -1,4 +1,4 @@
--- A segment of a text that is kept while the text is written, for private contracts.
+-- A segment of a text that is stored while the text is written, for private contracts.
 use Rattle.std.specs.Prelude.{ℕ, ◌+◌, ◌-◌, ◌*◌, ◌^◌, List, [], ◌∷◌, ◌++◌, length, take, drop, flat_map, min}
 use Rattle.ndn_tlv.specs.Element.{element}
 use Rattle.ndn_tlv.specs.Writing.{octets}
@@ -17,7 +17,7 @@ pub record Kept : Type 0 where
   -- the segment so far
   pub segment : List ℕ
 
--- of a text the segment that begins after so many octets
+-- of a text the segment that begins after this many octets
 abbrev pub kept_of : ℕ → List ℕ → Kept
 kept_of from text =
     record {

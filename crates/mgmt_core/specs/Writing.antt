@@ -1,5 +1,5 @@
--- What replies and lists hold (NFD Management, "Control Command", "FIB Dataset", "Strategy Choice
--- Dataset").
+-- The content of replies and lists (NFD Management, "Control Command", "FIB Dataset", "Strategy
+-- Choice Dataset").
 use Rattle.std.specs.Prelude.{ℕ, ◌+◌, ◌*◌, ◌-◌, ◌/◌, List, [], ◌∷◌, ◌++◌, length, take, drop, flat_map, Option, None, Some, nat_lt, ◌==◌, if◌then◌else◌}
 use Rattle.std.specs.FinMap.{entries}
 use Rattle.std.specs.Option.{option_map}
@@ -30,7 +30,7 @@ abbrev pub given : {X : Type 0} → PlainCommand → ℕ → Option X → Option
 given c kind x = if takes kind (row_of c.action) then x else None
 
 -- the fields of a reply to a command from this face: those that the command takes, with the face
--- that it stands for
+-- that it applies to
 abbrev pub reply_fields : PlainCommand → ℕ → List Field
 reply_fields c face =
     (NAME, octets_of c.name)

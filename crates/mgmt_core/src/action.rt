@@ -27,7 +27,7 @@ pub enum Action {
 }
 
 impl Action {
-    /// Whether the action goes by these two words.
+    /// Whether these two words name the action.
     fn is_named(self, module: &[u8], verb: &[u8]) -> bool
         ensures { result ≡ is_named «module».now verb.now self }
     {

@@ -15,9 +15,9 @@ pub fn segment_limit_is_as_promised()
     ensures { SEGMENT_LEN ≡ 4096 }
 {}
 
-/// The list of routes (NFD Management, "FIB Dataset"), as they are once those that end by this
-/// moment are gone: by name in canonical order, the effective next hops of a name by cost and then
-/// by face.
+/// The list of routes (NFD Management, "FIB Dataset"), as they are once those that expire by this
+/// moment are removed: by name in canonical order, the effective next hops of a name by cost and
+/// then by face.
 pub fn fib_dataset(alloc: Global, fib: &Fib, now: u64) -> Result<Vec<u8>, Memory>
     ensures { IfOk result (λ text. text.items ≡ fib_text now fib.now.table) }
 {
@@ -47,8 +47,8 @@ pub fn segment_of(text: &[u8], number: u64) -> Option<(&[u8], u64)>
     Some((&rest[..rest.len().min(SEGMENT_LEN)], last))
 }
 
-/// `segment_of` of the list of routes, which is read from its first name to its last one and not made:
-/// no more of it than the segment, an entry and a name is kept.
+/// `segment_of` of the list of routes, without the whole list: while the names are read from the
+/// first to the last, memory is used for the segment, an entry and a name alone.
 pub fn fib_segment(
     alloc: Global,
     fib: &Fib,

@@ -19,19 +19,19 @@ use crate::types::{FACE_NOT_OPEN, OK, PREFIX_TOO_LONG, TABLE_FULL, UNKNOWN_STRAT
 use ndn_tlv::Memory;
 use pit_fib::{Faces, Fib, MAX_DEPTH, StrategyTable};
 
-/// Gives a command, from this face and while these faces are up, its effect on the tables at this
-/// moment, in milliseconds since 1970. Each face that has a next hop or a route is up.
+/// Applies a command, from this face and while these faces are up, to the tables at this moment, in
+/// milliseconds since 1970. Each face that has a next hop or a route is up.
 ///
 /// The status is the first of these that applies. Of `fib/add-nexthop`, `rib/register` and
 /// `strategy-choice/set`: 414 where the name has more than 32 components. Of the first two: 410
 /// where the face is not up. Of the last: 404 where there is no such strategy. Of all three: 503
-/// where the name is new to the table and 4,096 stand there; of `rib/register` also where the route
-/// is new and 16,384 stand. Otherwise 200, as always of the other commands, `rib/unregister` among
-/// them. Only 200 changes a table. `Memory` comes only in place of 200, where the command was not
-/// prepared, and changes no table.
+/// where the name is new to a table of 4,096 names; of `rib/register` also where the route is new
+/// to a table of 16,384 routes. Otherwise 200, as always of the other commands, `rib/unregister`
+/// among them. Only 200 changes a table. `Memory` is returned only in place of 200, if the command
+/// was not prepared, and then no table changes.
 ///
-/// A route that is registered ends after the period that is given, if one is, but at `u64::MAX` at
-/// the latest. It takes the place of the name's route of this face and origin.
+/// A registered route expires after the given period, if there is one, but at `u64::MAX` at the
+/// latest. It replaces the name's route of this face and origin.
 pub fn apply(
     tables: &mut Tables,
     command: &Command<'_>,
@@ -160,7 +160,7 @@ fn set_status(choices: &StrategyTable, command: &Command<'_>) -> u16
     OK
 }
 
-/// Adds a hop of this face, or sets its cost, where nothing refuses it.
+/// Adds a hop of this face, or sets its cost, where nothing rejects it.
 fn add_nexthop(fib: &mut Fib, command: &Command<'_>, face: u64) -> Result<(), Memory>
     requires room { HasRoomFor fib.old.table face }
     requires taken { refusal fib.old.table (components command.now.name) ≡ None }
@@ -176,7 +176,7 @@ fn add_nexthop(fib: &mut Fib, command: &Command<'_>, face: u64) -> Result<(), Me
     }
 }
 
-/// Registers a route of this face at a moment, where nothing refuses it.
+/// Registers a route of this face at a moment, where nothing rejects it.
 fn register(fib: &mut Fib, command: &Command<'_>, face: u64, now: u64) -> Result<(), Memory>
     requires room { HasRoomFor fib.old.table face }
     requires taken { route_refusal fib.old.table (components command.now.name)
@@ -202,7 +202,7 @@ fn register(fib: &mut Fib, command: &Command<'_>, face: u64, now: u64) -> Result
     }
 }
 
-/// Sets a strategy, where nothing refuses it.
+/// Sets a strategy, where nothing rejects it.
 fn set_strategy(choices: &mut StrategyTable, command: &Command<'_>) -> Result<(), Memory>
     requires { refusal choices.old.table (components command.now.name) ≡ None }
     ensures ok { OnOk result (choices.new.table ≡ with_choice choices.old.table

@@ -32,8 +32,8 @@ pub fn openings_leave_faces_up()
         → AllAreUp routes up → AllAreUp routes (adding face up).1 }
 {}
 
-/// Law: where each face that has a next hop or a route is up, so it is after the routes that end by
-/// a moment are gone.
+/// Law: where each face that has a next hop or a route is up, so it is after the routes that expire
+/// by a moment are removed.
 pub fn expiry_leaves_faces_up()
     ensures { (now : ℕ) (up : List ℕ) (routes : Routes)
         → AllAreUp routes up → AllAreUp (left_at now routes) up }

@@ -1,5 +1,5 @@
-//! What an operator says to the node: commands on routes, strategies and the cache, and the lists
-//! that show them.
+//! The commands of an operator to the node: on routes, strategies and the cache, and the lists that
+//! show them.
 #![tactic(auto)]
 
 mod action;

@@ -21,11 +21,11 @@ use pit_fib::StrategyId;
 use std::alloc::Global;
 use std::mem;
 
-/// The body of a reply has at most so many octets beyond those of the name that the command is
-/// about: the headers, and the longest fields after the name, which are the numbers of a route.
+/// The greatest number of octets of the body of a reply, beyond those of the name that the command
+/// is about: the headers, and the longest fields after the name, which are the numbers of a route.
 pub const BODY_EXTRA: usize = 70;
 
-/// A whole reply has at most so many octets beyond those of that name.
+/// The greatest number of octets of a whole reply, beyond those of that name.
 pub const REPLY_EXTRA: usize = 116;
 
 /// The greatest number of octets before an element's value, where its type has one octet.
@@ -40,7 +40,7 @@ impl Command<'_> {
         self.name.as_octets().len() + REPLY_EXTRA
     }
 
-    /// The face that it stands for, where it comes from this face.
+    /// The face that it applies to, if it comes from this face.
     pub(crate) fn face_from(&self, face: u64) -> u64
         ensures { result ≡ face_of (asked self.now) face }
     {
@@ -54,7 +54,7 @@ impl Command<'_> {
         Some(now.saturating_add(self.expires?))
     }
 
-    /// The strategy that it asks for.
+    /// The strategy that it names.
     pub(crate) fn strategy(&self) -> Option<StrategyId>
         ensures { result ≡ strategy_asked (asked self.now) }
     {
@@ -94,8 +94,8 @@ impl Command<'_> {
         self.put_given(out)
     }
 
-    /// Appends the fields that say what it is about, the name, the face and the origin, or some octets
-    /// of them.
+    /// Appends the fields that name what it is about, the name, the face and the origin, or some
+    /// octets of them.
     fn put_about(&self, out: &mut Vec<u8>, face: u64) -> Result<(), Memory>
         ensures ok { OnOk result
             (out.new.items ≡ out.old.items ++ octets (about_fields (asked self.now) face)) }

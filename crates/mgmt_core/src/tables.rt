@@ -37,9 +37,9 @@ impl Tables {
         }
     }
 
-    /// Prepares one `apply` of this command, from any face, which is then not refused memory while
-    /// only removals from the tables stand between. The next `prepare`, of any command and a refused
-    /// one too, ends the preparation; the next `apply` of any command may.
+    /// Prepares one `apply` of this command, from any face, which then cannot run out of memory
+    /// while only removals from the tables come in between. The next `prepare`, of any command,
+    /// ends the preparation, even if it fails; the next `apply` of any command may.
     pub fn prepare(&mut self, command: &Command<'_>) -> Result<(), Memory>
         ensures ok { OnOk result (IsPrepared self.new (asked command.now)) }
         ensures err_routes { OnErr result (self.new.fib.prepared ≡ None) }

@@ -27,14 +27,14 @@ pub fn status_text(status: u16) -> Option<&'static str>
     }
 }
 
-/// Appends a reply: the status code, its text, and the body, which is the element of the
-/// parameters or empty (NFD Management, "Control Command", ControlResponse). Where memory is
-/// refused, nothing is appended.
+/// Appends a reply: the status code, its text, and the body, which is the element of the parameters
+/// or empty (NFD Management, "Control Command", ControlResponse). When memory runs out, nothing is
+/// appended.
 pub fn put_response(out: &mut Vec<u8>, status: u16, text: &str, body: &[u8]) -> Result<(), Memory>
     ensures ok { OnOk result
         (out.new.items ≡ out.old.items ++ response status text.now body.now) }
     ensures err { OnErr result (out.new.items ≡ out.old.items) }
-    // Where there is room, memory is not refused.
+    // Where there is room, memory does not run out.
     ensures room { vec_len out.old + length (response status text.now body.now)
         ≤ vec_capacity out.old → IsOk result }
     ensures capacity { vec_capacity out.old ≤ vec_capacity out.new }

@@ -13,7 +13,7 @@ use pit_fib::{Hop, Hops, StrategyId};
 use std::alloc::Global;
 use std::marker::Model;
 
-/// A segment of a text. Of the text no more is kept while it is written.
+/// A segment of a text. Of the text no more is stored while it is written.
 #[derive(Drop)]
 struct Window {
     // The octets of the text before the segment.
@@ -86,11 +86,11 @@ fn put_up_to(segment: &mut Vec<u8>, more: &[u8]) -> Result<(), Memory>
     Ok(())
 }
 
-/// A list that is written, of which one segment is kept.
+/// A list that is written, of which one segment is stored.
 #[derive(Drop)]
 pub struct ListWriter {
     window: Window,
-    // Memory for an entry, and for what stands in it.
+    // Memory for an entry, and for its fields.
     entry: Vec<u8>,
     fields: Vec<u8>,
 }
@@ -124,11 +124,11 @@ impl ListWriter {
     }
 }
 
-/// A list that is written, of which all is kept.
+/// A list that is written, all of which is stored.
 #[derive(Drop)]
 pub struct ListText {
     text: Vec<u8>,
-    // Memory for what stands in an entry.
+    // Memory for the fields of an entry.
     fields: Vec<u8>,
 }
 
@@ -203,8 +203,8 @@ impl Show<StrategyId> for ListWriter {
     }
 }
 
-/// Appends an entry of the list of routes, or some octets of it. What stands in the entry is written
-/// to `fields` first.
+/// Appends an entry of the list of routes, or some octets of it. The content of the entry is
+/// written to `fields` first.
 fn put_route(
     fields: &mut Vec<u8>,
     text: &mut Vec<u8>,
@@ -242,7 +242,7 @@ fn put_hop(text: &mut Vec<u8>, hop: Hop) -> Result<(), Memory>
     put_nni_element(text, COST, hop.cost)
 }
 
-/// Appends an entry of the list of strategies, or some octets of it. What stands in the entry is
+/// Appends an entry of the list of strategies, or some octets of it. The content of the entry is
 /// written to `fields` first.
 fn put_choice(
     fields: &mut Vec<u8>,

@@ -10,7 +10,7 @@ use Rattle.repo_core.specs.declared.types.TheConstants.{BAD_PARAMETERS, FULL, NO
 pub data Case : Type 0 where
   -- objects answer
   Stored : Case
-  -- an equal want stands
+  -- there is an equal want
   Wanted : Case
   -- there is no place for one more want
   NoPlace : Case
@@ -18,7 +18,7 @@ pub data Case : Type 0 where
 
 pub record VerbRow : Type 0 where
   pub word : List ℕ
-  -- the status of the first case that holds counts
+  -- the status of the first case that applies counts
   pub answers : List (Case × ℕ)
 
 abbrev pub verb_row : Verb → VerbRow

@@ -48,7 +48,7 @@ is_digest_alone (c ∷ []) = c.0 == IMPLICIT_SHA256_DIGEST
 is_digest_alone (c ∷ (d ∷ cs)) = false
 
 -- The Data of a full name answers an Interest of this name: the full name begins with it, and after
--- it stands nothing, or the digest alone or, with CanBePrefix, anything.
+-- it comes nothing, or the digest alone or, with CanBePrefix, anything.
 abbrev pub full_name_answers : List Field → Bool → List Field → Bool
 full_name_answers name can_be_prefix full =
     begins_with name full && (can_be_prefix || is_digest_alone (drop (length name) full))

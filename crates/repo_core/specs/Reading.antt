@@ -1,4 +1,4 @@
--- Reading a command's name: after the repository's prefix stand the verb, the parameters and the
+-- Reading a command's name: after the repository's prefix come the verb, the parameters and the
 -- digest of the Interest's parameters.
 use Rattle.std.specs.Prelude.{ℕ, ◌+◌, List, [], ◌∷◌, length, Bool, true, false, not, ◌==◌, Option, None, Some, Result, Ok, Err, slice_get, if◌then◌else◌}
 use Rattle.std.specs.List.{list_all}
@@ -18,7 +18,7 @@ use Rattle.ndn_packets.specs.declared.types.TheConstants.{CAN_BE_PREFIX, INTERES
 use Rattle.repo_core.specs.declared.types.TheConstants.{DEFAULT_LIFETIME}
 use Rattle.repo_core.specs.Commands.{verb_named}
 
--- what a command asks for: the Data that answer an Interest of this name and flag
+-- the parameters of a command: the Data that answer an Interest of this name and flag
 pub record RepoCommand : Type 0 where
   pub verb : Verb
   pub name : List Field
@@ -50,7 +50,7 @@ flag_of None = Some false
 flag_of (Some []) = Some true
 flag_of (Some (b ∷ value)) = None
 
--- InterestLifetime, or what stands for it where it is absent; None where it is no number
+-- InterestLifetime, or the default where it is absent; None where it is no number
 abbrev pub lifetime_of : Option (List ℕ) → Option ℕ
 lifetime_of None = Some DEFAULT_LIFETIME
 lifetime_of (Some value) = on_result (λ n. Some n) (λ _. None) (nni_at value)

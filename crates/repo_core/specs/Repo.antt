@@ -1,4 +1,4 @@
--- What a repository holds, and what commands, Data and time do to it.
+-- The state of a repository, and what commands, Data and time do to it.
 use Rattle.std.specs.Prelude.{◌≡◌, ℕ, ◌+◌, ◌≤◌, List, [], ◌∷◌, Bool, true, false, nat_lt, nat_le, ◌==◌, ◌||◌, Option, None, Some, IfSome, refl, if◌then◌else◌}
 use Rattle.std.specs.Coded.{Coded, code_by, coded×, coded_list, coded_ℕ, coded_option}
 use Rattle.std.specs.FinMap as map
@@ -48,7 +48,7 @@ holds s c Wanted = map.contains_key s.wants (want_key c)
 holds s c NoPlace = is_repo_full s
 holds s c Otherwise = true
 
--- the status of the first case that holds
+-- the status of the first case that applies
 abbrev pub first_case_status : Held → RepoCommand → List (Case × ℕ) → ℕ
 first_case_status s c [] = NOT_FOUND
 first_case_status s c (row ∷ rows) = if holds s c row.0 then row.1 else first_case_status s c rows
@@ -80,7 +80,7 @@ abbrev pub reply_to : Held → Option RepoCommand → RepoReply
 reply_to s None = record { status = BAD_PARAMETERS; count = 0; fetch = None }
 reply_to s (Some c) = reply_with s c (repo_status_of s c)
 
--- a want that stood gets the new deadline
+-- an equal want gets the new deadline
 abbrev pub after_insert : RepoCommand → ℕ → Held → Held
 after_insert c now s =
     if repo_status_of s c == PENDING then record s {

@@ -1,5 +1,5 @@
--- The Data that a repository waits for: wants by name and CanBePrefix, each with the moment until
--- which it stands. How long it was to stand is not kept.
+-- The Data that a repository wants: wants by name and CanBePrefix, each with its deadline. Its
+-- lifetime is not stored.
 use Rattle.std.specs.Prelude.{◌≡◌, ℕ, ◌+◌, ◌-◌, ◌^◌, min, nat_lt, not, Bool, List}
 use Rattle.std.specs.Coded.{Coded, coded×, coded_bool}
 use Rattle.std.specs.List.{list_any}

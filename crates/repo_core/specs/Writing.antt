@@ -1,4 +1,4 @@
--- What a reply holds.
+-- The content of a reply.
 use Rattle.std.specs.Prelude.{ℕ, List, [], ◌∷◌}
 use Rattle.ndn_tlv.specs.Number.{shortest_nni}
 use Rattle.ndn_tlv.specs.Element.{element}

@@ -49,7 +49,7 @@ pub fn flag_field(octets: &[u8]) -> Option<bool>
     }
 }
 
-/// The InterestLifetime field, or what stands for it. None where it is no number.
+/// The InterestLifetime field, or the default where it is absent. None where it is no number.
 pub fn lifetime_field(octets: &[u8]) -> Option<u64>
     ensures { result ≡ lifetime_of (first_of INTEREST_LIFETIME (elements_of octets.now)) }
 {

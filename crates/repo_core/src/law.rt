@@ -78,7 +78,7 @@ pub fn objects_stay_data()
         → AreObjects s.objects → AreObjects (after_time now s).objects }
 {}
 
-/// Law: what is there of one name, or of one want, after those that fail a test are gone.
+/// Law: what is there of one name, or of one want, after those that fail a test are removed.
 pub fn kept_entries_by_key()
     ensures objects { (test : List Field × List ℕ → Bool) (objects : Objects) (name : List Field)
         → map.get (kept test objects) name ≡ if_kept test name (map.get objects name) }

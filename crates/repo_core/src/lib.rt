@@ -1,4 +1,4 @@
-//! A repository: Data that commands ask for, insert and delete.
+//! A repository: Data that commands insert, delete and check.
 #![tactic(auto)]
 
 mod command;

@@ -13,8 +13,8 @@ use ndn_tlv::Memory;
 use std::alloc::Global;
 use std::marker::Model;
 
-/// A Data that is stored, seen as its full name and its octets. It takes one word where it stands,
-/// so that many are moved soon.
+/// A stored Data. Its model is its full name and its octets. It takes one word in a list, so that
+/// many are moved quickly.
 #[derive(Drop)]
 pub struct Object {
     stored: Box<Stored>,

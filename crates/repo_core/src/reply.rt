@@ -60,8 +60,7 @@ pub fn repo_status_text(status: u16) -> Option<&'static str>
     }
 }
 
-/// Appends a reply: the status, its text and a number. Where memory is refused, nothing is
-/// appended.
+/// Appends a reply: the status, its text and a number. When memory runs out, nothing is appended.
 pub fn put_repo_reply(out: &mut Vec<u8>, status: u16, text: &str, count: u64) -> Result<(), Memory>
     ensures ok { OnOk result
         (out.new.items ≡ out.old.items ++ repo_response status text.now count) }

@@ -35,7 +35,7 @@ pub fn repo_limits_are_as_promised()
     ensures { (MAX_WANTS ≡ 64) × (MAX_HELD ≡ 65536) }
 {}
 
-/// A repository: it stores the Data that commands want, and serves them. It holds at most 64 wants,
+/// A repository: it stores the Data that commands want, and serves them. It has at most 64 wants,
 /// and at most 65,536 objects and wants.
 #[derive(Drop)]
 pub struct Repo {
@@ -99,16 +99,16 @@ impl Repo {
         verb_after(self.start.view(), name)
     }
 
-    /// Gives a command its effect at this moment, in milliseconds since 1970. Its name is the
-    /// prefix, the verb, the parameters and the digest of the Interest's parameters.
+    /// Applies a command at this moment, in milliseconds since 1970. Its name is the prefix, the
+    /// verb, the parameters and the digest of the Interest's parameters.
     ///
     /// An insert is answered 200 where objects answer, with their number, else 503 where there is
-    /// neither an equal want nor a place for one, and else 100, and then the want stands until the
+    /// neither an equal want nor a place for one, and else 100, and then there is a want until the
     /// lifetime is over. A delete is answered 200 with the number of objects if there were any or
-    /// an equal want, which then are gone, and else 404. A check is answered 200 with the number of
-    /// objects that answer, 100 for an equal want, and else 404. Any other name is answered 400.
-    /// `Memory` comes of an insert alone, and changes nothing but that nothing is prepared. An
-    /// insert ends what is prepared, and no other command does.
+    /// an equal want, which are then removed, and else 404. A check is answered 200 with the number
+    /// of objects that answer, 100 for an equal want, and else 404. Any other name is answered 400.
+    /// `Memory` is returned by an insert alone; then nothing changes, but nothing is prepared any
+    /// more. An insert ends what is prepared, and no other command does.
     pub fn command(&mut self, name: Name<'_>, now: u64) -> Result<RepoReply, Memory>
         ensures reply { IfOk result (λ r.
             r ≡ reply_to self.old.held (repo_command_at self.old.start (components name.entry))) }
@@ -142,10 +142,10 @@ impl Repo {
         }
     }
 
-    /// Offers a Data: where it is wanted, it is stored in place of one of its full name, and all
-    /// wants that it answers are gone, and nothing is prepared. Answers whether it was. `Memory`
-    /// comes only where it is wanted, and changes nothing but that nothing is prepared. A Data that
-    /// is not wanted changes nothing.
+    /// Offers a Data: if it is wanted, it is stored in place of one of its full name, all wants
+    /// that it answers are removed, and nothing is prepared any more. Returns whether it was
+    /// wanted. `Memory` is returned only for a Data that is wanted; then nothing changes, but
+    /// nothing is prepared any more. A Data that is not wanted changes nothing.
     pub fn offer(&mut self, packet: &Data<'_>) -> Result<bool, Memory>
         ensures filled { IfOk result (λ filled. filled ≡ is_wanted (components packet.now.name)
             (sha256 packet.now.whole.now) self.old.held.wants) }
@@ -205,8 +205,8 @@ impl Repo {
         self.objects.len() + self.wants.len()
     }
 
-    /// Prepares the command of this name, its reply included: it is then not refused memory. An
-    /// insert, a Data that is stored, or a further preparation, a refused one too, ends it. What
+    /// Prepares the command of this name, its reply included: it then cannot run out of memory. An
+    /// insert, a Data that is stored, or a further preparation, even if it fails, ends it. What
     /// only removes does not: wants that expire, and deletes. An insert alone takes memory.
     pub fn prepare_command(&mut self, name: Name<'_>) -> Result<(), Memory>
         ensures held { self.new.held ≡ self.old.held }

@@ -1,14 +1,14 @@
 ghost use Rattle.std.specs.Prelude.{◌≡◌};
 ghost use Rattle.repo_core.specs.Commands.{verb_named};
 
-/// What a command asks of a repository.
+/// What a command makes a repository do.
 #[derive(Clone, Copy, Debug, PartialEq, Eq)]
 pub enum Verb {
     /// `insert`: the Data that answer are stored once they arrive.
     Insert,
-    /// `delete`: the Data that answer are stored no longer, and an equal want is gone.
+    /// `delete`: the Data that answer, and an equal want, are removed.
     Delete,
-    /// `check`: how many stored Data answer, or whether an equal want stands.
+    /// `check`: how many stored Data answer, or whether there is an equal want.
     Check,
 }
 
