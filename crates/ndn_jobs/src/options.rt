@@ -187,7 +187,8 @@ pub fn strategy(
     options: &ArgMatches<'_>,
     id: &'static str,
 ) -> Result<Option<NameBuf>, ToolFault>
-    ensures { ReadsInMemory (MayHave (value_at (rows_in options.now) id.now) SpellsStrategy) result }
+    ensures { ReadsInMemory
+        (MayHave (value_at (rows_in options.now) id.now) SpellsStrategy) result }
 {
     match value(options, id) {
         None => Ok(None),
