@@ -1,5 +1,5 @@
-//! Puts a million names into a map, at most 64 at a time, removes each again, and prints what is
-//! left. By the map's invariant a node without a value and without children is removed, so a map
+//! Puts a million names into a map, removes each again as the 64th after it comes, and prints what
+//! is left. By the map's invariant a node without a value and without children is removed, so a map
 //! without names has no node.
 #![tactic(auto)]
 
@@ -13,7 +13,7 @@ use std::io;
 /// The number of names.
 const NAMES: u64 = 1_000_000;
 
-/// The greatest number of names in the map at a time.
+/// The number of the latest names that stay in the map.
 const STANDING: u64 = 64;
 
 /// The name of a number: of 4,096 that follow one another all have the same first component.
@@ -39,7 +39,8 @@ fn put_and_remove(alloc: Global, names: &mut NameMap<u64>, number: u64) -> Resul
     Ok(names.len())
 }
 
-/// Puts all names in and removes them. Returns the greatest number at a time, and the number left.
+/// Puts all names in and removes them. Returns the greatest number left after one, and the number
+/// left at the end.
 fn rounds(alloc: Global) -> Result<(usize, usize), Memory> {
     let mut names = NameMap::new(alloc);
     let mut most = 0;

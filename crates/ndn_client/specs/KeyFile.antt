@@ -27,8 +27,8 @@ abbrev pub HasCause : ErrorKind → Fault → Type 0
 HasCause kind (Unread path cause) = cause ≡ kind
 HasCause kind why = ⊤
 
--- there are more octets than a key file may have, or their text has a fault, or the file cannot be
--- read
+-- there are more octets than a key file may have, or they are refused as a key file, or the file
+-- cannot be read
 abbrev pub IsKeyFileFault : List ℕ → List ℕ → Fault → Type 0
 IsKeyFileFault path octets why =
     ((MAX_KEY_FILE < length octets) × (why ≡ LargeKeys))

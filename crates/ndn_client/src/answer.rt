@@ -18,7 +18,7 @@ use std::alloc::Global;
 /// The text to print for a job that is not sent, with the keys of its key file; empty for a packet
 /// to send as it is and for packets of standard input.
 ///
-/// Each error but `Memory` has its cause in the job; `Usage` is never returned.
+/// Each error but `Memory` has its cause in the job or its keys; `Usage` is never returned.
 pub fn text_of(alloc: Global, job: &Job, book: &KeyBook) -> Result<Vec<u8>, ToolFault>
     ensures { MatchResult result
         (λ text. IsAnswer job.now book.now text.items)

@@ -43,7 +43,7 @@ IsKindCheck s book octets check =
     × IsLocatorCheck s.info.locator book s.value octets check)
     ⊎ ((s.info.kind ≢ DIGEST_SHA256) × (s.info.kind ≢ HMAC_WITH_SHA256) × (check ≡ Unchecked)))
 
--- the same, if there are covered octets
+-- the same; without covered octets nothing is checked
 abbrev pub IsPartsCheck : PlainSignature → List NamedKey → Option (List ℕ) → TagCheck → Type 0
 IsPartsCheck s book None check = check ≡ Unchecked
 IsPartsCheck s book (Some octets) check = IsKindCheck s book octets check

@@ -7,7 +7,7 @@ use forwarder::{Scope, Verdict};
 use ndn_tlv::Memory;
 use std::net::SocketAddr;
 
-/// What one event of a node is.
+/// What came as one event of a node.
 #[derive(Clone, Copy, Debug)]
 pub enum Came<'a> {
     /// Octets came on a face.

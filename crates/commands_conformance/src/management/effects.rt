@@ -586,7 +586,7 @@ fn replies_or_leaves(alloc: Global) -> Option<bool> {
     Some(out.len() == len && out.first() == Some(&7))
 }
 
-/// Whether the lists of a route and of the strategies are whole, or refused for want of memory.
+/// Whether the lists of a route and of the strategies are complete, or memory was refused.
 fn lists_or_refuses(alloc: Global) -> Option<bool> {
     let name = numbered(alloc, 1)?;
     let mut station = Station::new(alloc)?;
