@@ -1,4 +1,4 @@
-//! The client: its command lines, and what it makes of datagrams.
+//! The client: its command lines, and how it handles datagrams.
 
 use super::scene::Scene;
 use hmac_keys::KeyBook;
@@ -8,7 +8,7 @@ use ndn_client::{
 use std::alloc::Global;
 use test_support::{KEYS, typed};
 
-/// What a word of a row stands for.
+/// The text that a word of a row stands for.
 fn spelled(word: &str) -> &str {
     match word {
         "$KEY" => "--keys F --key /ops/KEY/1",
@@ -40,7 +40,7 @@ fn printed_exchange(alloc: Global, text: &[u8]) -> Option<Exchange> {
     })
 }
 
-/// The exchange of a command line at a moment. What it prints is sent from the port 6401.
+/// The exchange of a command line at a moment. A packet that it prints is sent from the port 6401.
 pub fn exchange_of(alloc: Global, line: &str, now: u64, book: &KeyBook) -> Option<Exchange> {
     let words = words_of(alloc, line)?;
     let job = parse_words(alloc, now, words.as_slice()).ok()?;
@@ -50,7 +50,7 @@ pub fn exchange_of(alloc: Global, line: &str, now: u64, book: &KeyBook) -> Optio
     }
 }
 
-/// What comes of datagrams, of which the first that is an answer is taken.
+/// The result of an exchange by these datagrams, the first of which that is an answer counts.
 pub fn heard(
     alloc: Global,
     exchange: &mut Exchange,
@@ -66,7 +66,7 @@ pub fn heard(
     Some(Progress::Ignored)
 }
 
-/// What comes of the node's answers to the request that an exchange has now.
+/// The result of the node's answers to an exchange's present request.
 pub fn turn(
     alloc: Global,
     scene: &mut Scene,
@@ -77,7 +77,7 @@ pub fn turn(
     heard(alloc, exchange, &answers, book)
 }
 
-/// What comes of an exchange in the end.
+/// The final result of an exchange.
 pub fn played(
     alloc: Global,
     scene: &mut Scene,
@@ -112,7 +112,7 @@ fn word_of_outcome(outcome: Outcome) -> &'static str {
     }
 }
 
-/// A word for how an exchange ended, and what is printed. Where no answer came, the time is over.
+/// A word for the outcome of an exchange, and the text printed. Without an answer it timed out.
 pub fn end_of(alloc: Global, exchange: &Exchange, progress: Progress) -> (&'static str, Vec<u8>) {
     match progress {
         Progress::Done(text, outcome) => (word_of_outcome(outcome), text),
@@ -122,8 +122,8 @@ pub fn end_of(alloc: Global, exchange: &Exchange, progress: Progress) -> (&'stat
     }
 }
 
-/// Whether an exchange ended as a text says: with this word, and after a space the end of what is
-/// printed, where LF and tab are signs.
+/// Whether an exchange ended like a text: the word for its outcome, and after a space the end of
+/// the text printed, with signs for LF and tab.
 pub fn ends_as(
     alloc: Global,
     exchange: &Exchange,
@@ -136,7 +136,7 @@ pub fn ends_as(
     Some(word == wanted && printed.ends_with(lines.as_bytes()))
 }
 
-/// Whether a command line ends as a row says, a moment after the one before.
+/// Whether a command line, a moment after the one before, ends as its row says.
 pub fn plays(alloc: Global, scene: &mut Scene, book: &KeyBook, row: &str) -> Option<bool> {
     let (line, wanted) = row.split_once(" => ").unwrap_or((row, "no end"));
     scene.now = scene.now.saturating_add(1);
@@ -145,7 +145,7 @@ pub fn plays(alloc: Global, scene: &mut Scene, book: &KeyBook, row: &str) -> Opt
     ends_as(alloc, &exchange, progress, wanted)
 }
 
-/// The first of rows that does not end as it says, where they are played on one node in turn.
+/// The first row that does not end as it says, with all rows run on one node in order.
 fn first_misplayed<'a>(
     alloc: Global,
     scene: &mut Scene,

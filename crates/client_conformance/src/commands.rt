@@ -25,7 +25,7 @@ fn ten_commands(rt: HostRuntime) {
     assert!(rt; row.is_none(), "{row:?}");
 }
 
-/// The other words, with options. The route that has ended is gone at the next command.
+/// The other verbs, with options. A route that has expired is absent at the next command.
 const OTHER_COMMANDS: &str = "
 route register /A --face 2 --cost 5 $KEY $NODE => done status 200 OK␊name /A␊face 2␊cost 5␊origin 0␊flags child-inherit␊
 route register /A/B --face 1 --flags 2 --expires 1 --origin 65 $KEY $NODE => done status 200 OK␊name /A/B␊face 1␊cost 0␊origin 65␊flags capture␊expires in 1 ms␊
@@ -51,7 +51,8 @@ fn other_commands(rt: HostRuntime) {
     assert!(rt; row.is_none(), "{row:?}");
 }
 
-/// The statuses of `docs/MANAGEMENT.md` but those of full tables, and requests that have no answer.
+/// The statuses of `docs/MANAGEMENT.md` except those of full tables, and requests without an
+/// answer.
 const STATUSES: &str = "
 route add /A --face 7 $KEY $NODE => refused status 410 face not open␊
 route add /1/2/3/4/5/6/7/8/9/0/1/2/3/4/5/6/7/8/9/0/1/2/3/4/5/6/7/8/9/0/1/2/3 --face 2 $KEY $NODE => refused status 414 prefix too long␊

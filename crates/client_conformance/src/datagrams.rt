@@ -1,4 +1,4 @@
-//! Datagrams that are no answer to a command, before the reply, after it, and in its place.
+//! Datagrams that do not answer a command: before the reply, after it, and in its place.
 
 use super::client::{ends_as, exchange_of, heard};
 use super::scene::Scene;
@@ -7,8 +7,9 @@ use ndn_client::Exchange;
 use std::alloc::Global;
 use test_support::{KEYS, SAMPLE, first_wrong};
 
-/// What comes after a command was sent, and how it ends: `reply` is the node's reply to it, `forged` the
-/// same with a wrong signature, and `earlier` its reply to the command before, which comes too late.
+/// The datagrams after a command was sent, and how it ends: `reply` is the node's reply to it,
+/// `forged` the same with a wrong signature, and `earlier` its reply to the command before, which
+/// comes too late.
 const HEARD: &str = "
 reply => done status 200 OK␊name /A␊face 2␊cost 5␊
 forged earlier reply => done status 200 OK␊name /A␊face 2␊cost 5␊
@@ -69,8 +70,8 @@ fn hears(
     ends_as(alloc, exchange, progress, wanted)
 }
 
-/// The same of a new node, which gets another command before that of the line, and whose reply to this one
-/// has so many octets.
+/// The same for a new node, which gets another command before that of the line, and whose reply to
+/// this one has this many octets.
 fn hears_on(
     alloc: Global,
     scene: &mut Scene,
@@ -99,7 +100,7 @@ fn hears_of(alloc: Global, line: &str, len: usize, row: &str) -> Option<bool> {
     )
 }
 
-/// The same of a route for `/A`, whose name, with its parameters, stands in the reply in 85 octets.
+/// The same for a route for `/A`, whose name with its parameters has 85 octets in the reply.
 fn is_heard(alloc: Global, row: &str) -> bool {
     hears_of(alloc, "route add /A --face 2 --cost 5 $KEY $NODE", 150, row) == Some(true)
 }
@@ -110,7 +111,7 @@ fn forged_and_earlier_replies(rt: HostRuntime) {
     assert!(rt; first_wrong(rt.alloc(), HEARD, is_heard) == 0);
 }
 
-/// The same of a command whose name stands for the sign `~`.
+/// The same for a command whose name replaces the sign `~`.
 const LONG: &str = "
 reply => done status 200 OK␊name ~␊face 2␊cost 0␊
 forged earlier reply => done status 200 OK␊name ~␊face 2␊cost 0␊
@@ -129,7 +130,8 @@ fn long_name(alloc: Global) -> Option<String> {
     Some(name)
 }
 
-/// Whether a command for this name ends so. Its reply has the name twice, in 7,956 octets each, and 151 others.
+/// Whether a command for this name ends like this. Its reply has the name twice, in 7,956 octets
+/// each, and 151 other octets.
 fn hears_name(alloc: Global, name: &str, row: &str) -> Option<bool> {
     let line = "route add ~ --face 2 $KEY $NODE"
         .replace(alloc, '~', name)
@@ -145,7 +147,7 @@ fn is_long_heard(alloc: Global, row: &str) -> bool {
     }
 }
 
-/// A reply of more than 8,800 octets is taken where it is whole.
+/// A reply of more than 8,800 octets is accepted if it is complete.
 #[test]
 fn reply_of_16063_octets(rt: HostRuntime) {
     assert!(rt; first_wrong(rt.alloc(), LONG, is_long_heard) == 0);

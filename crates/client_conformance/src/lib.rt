@@ -1,5 +1,5 @@
-//! Tests of the client against a node: what a command line asks for is played on a node in the same process,
-//! and the client takes what the node sends. No sockets are opened.
+//! Tests of the client against a node: a node in the same process gets the requests of a command
+//! line, and the client gets the node's packets. No sockets are opened.
 #![tactic(auto)]
 
 #[cfg(test)]

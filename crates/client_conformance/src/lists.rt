@@ -7,7 +7,7 @@ use ndn_client::{Exchange, Progress};
 use std::alloc::Global;
 use test_support::{KEYS, SAMPLE};
 
-/// What stands before the number in a name: 47 letters, so that a route has 64 octets in the list.
+/// The letters before the number in a name: 47, so that a route has 64 octets in the list.
 const LETTERS: &str = "xxxxxxxxxxxxxxxxxxxxxxxxxxxxxxxxxxxxxxxxxxxxxxx";
 
 /// Whether the node takes 130 routes, which have 8,320 octets in the list.
@@ -33,7 +33,7 @@ fn table(alloc: Global) -> Option<String> {
     Some(table)
 }
 
-/// Whether a segment comes that is not the last one.
+/// Whether a segment other than the last one comes.
 fn goes_on(alloc: Global, scene: &mut Scene, exchange: &mut Exchange, book: &KeyBook) -> bool {
     matches!(turn(alloc, scene, exchange, book), Some(Progress::Next))
 }
@@ -51,7 +51,7 @@ fn ends_with_table(
     Some(in_three && word == "done" && printed.as_slice() == table(alloc)?.as_bytes())
 }
 
-/// Whether no second segment comes, where the list changes after the first.
+/// Whether no second segment comes if the list changes after the first.
 fn ends_with_change(
     alloc: Global,
     scene: &mut Scene,
@@ -64,7 +64,7 @@ fn ends_with_change(
     Some(changed && ends_as(alloc, exchange, progress, "changed")?)
 }
 
-/// Whether the list that is asked for ends so.
+/// Whether the request for a list ends like this.
 fn lists(
     alloc: Global,
     scene: &mut Scene,
@@ -77,7 +77,7 @@ fn lists(
     ends(alloc, scene, &mut exchange, book)
 }
 
-/// Whether this is right of a new node.
+/// Whether this holds for a new node.
 fn is_right(alloc: Global, plays: fn(Global, &mut Scene, &KeyBook) -> Option<bool>) -> Option<bool>
     requires { IsAlwaysCallable plays }
 {

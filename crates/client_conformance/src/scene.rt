@@ -1,4 +1,4 @@
-//! A node, and who is at its faces.
+//! A node, and the programs at its faces.
 
 use forwarder::{Event, Node, NodeParts, Outbox, Scope};
 use hmac_keys::KeyBook;
@@ -17,7 +17,7 @@ const PRODUCER: u64 = 2;
 /// The face of a new port.
 const NEW_PORT: u64 = 3;
 
-/// A node with these three faces, and the time, which goes on with each command.
+/// A node with these three faces, and the time, which advances with each command.
 #[derive(Drop)]
 pub struct Scene {
     node: Node,
@@ -87,7 +87,7 @@ impl Scene {
         self.node.step(event, &mut self.outbox).is_ok()
     }
 
-    /// What stands in the outbox for a face.
+    /// The packets in the outbox for a face.
     fn sent_to(&self, alloc: Global, face: u64) -> Option<Vec<Vec<u8>>> {
         let mut packets = Vec::new(alloc);
         for i in 0..self.outbox.len() {
@@ -99,7 +99,7 @@ impl Scene {
         Some(packets)
     }
 
-    /// What the producer is asked for, it sends.
+    /// The producer answers each Interest that the node sends it.
     fn produce(&mut self, alloc: Global) -> Option<bool> {
         for interest in &self.sent_to(alloc, PRODUCER)? {
             self.receive(PRODUCER, &produced(alloc, interest)?);
@@ -107,8 +107,8 @@ impl Scene {
         Some(true)
     }
 
-    /// What the node sends to a client for a packet, and what comes of it by the producer's Data. The
-    /// client is at the port 6401, where it names a port of its own.
+    /// The packets that the node sends to a client for a packet, those for the producer's Data
+    /// included. The client is at the port 6401 if it names a port of its own.
     pub fn answers(
         &mut self,
         alloc: Global,

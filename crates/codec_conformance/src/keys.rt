@@ -7,8 +7,8 @@ use std::alloc::Global;
 use std::test::*;
 use test_support::octets;
 
-/// The HMAC of a text under a key, the same wherever the text is parted, and under a key that is
-/// kept.
+/// The HMAC of a text under a key, the same wherever the text is split, and the same with an
+/// `HmacKey`.
 fn tag(alloc: Global, input: &str) -> Option<String> {
     let (key, text) = input.split_once(" | ")?;
     let key = octets(alloc, key)?;
@@ -113,8 +113,8 @@ fn key_shown(alloc: Global, len: usize, key: &[u8]) -> Option<String> {
     format!(in alloc; "{len}: {key}").ok()
 }
 
-/// What is found of a name in a file: the keys /0, /1 and so on, as many as the number before a bar
-/// says, and then the lines after it.
+/// The result of looking up a name in a file: the keys /0, /1 and so on, their number before a bar,
+/// and then the lines after it.
 fn key_file(alloc: Global, input: &str) -> Option<String> {
     let (count, rest) = input.split_once('|').unwrap_or(("0", input));
     let (end, uri) = rest.split_once(" ? ").unwrap_or((rest, "/"));
@@ -186,7 +186,7 @@ A 00 -> BadLine(1)
     check_rows(&rt, rt.alloc(), rows, key_file);
 }
 
-/// What is found of a key of these octets, up to the key.
+/// The result of looking up a key of these octets, up to the key.
 fn file_of_key(alloc: Global, input: &str) -> Option<String> {
     let digits = hex::encode(alloc, octets(alloc, input)?).ok()?;
     let file = format!(in alloc; "/A {digits}\n").ok()?;
@@ -244,7 +244,7 @@ fn keys_by_names(rt: HostRuntime) {
     check_rows(&rt, rt.alloc(), rows, key_file);
 }
 
-/// What a fault is called, its line and its text.
+/// The name of a fault, its line and its message.
 fn fault_text(alloc: Global, fault: &str) -> Option<String> {
     let fault = match fault {
         "BadLine 7" => KeyFault::BadLine(7),
@@ -287,7 +287,7 @@ fn is_refused(alloc: Global, file: &str, fault: KeyFault) -> bool {
     KeyBook::read(alloc, file).err() == Some(fault)
 }
 
-/// Memory is asked for only where the whole file is right.
+/// A lack of memory is reported only if the whole file is right.
 #[test]
 fn faults_come_before_memory(rt: HostRuntime) {
     let file = "/A 00\n/seg=5 00\n; another\n/50=%05 00";

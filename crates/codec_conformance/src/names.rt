@@ -255,8 +255,8 @@ fn words_of_numbers(rt: HostRuntime) {
     check_rows(&rt, rt.alloc(), rows, octets_of);
 }
 
-/// The octets of the name that a URI text spells, or the fault. Read without memory, the text has as
-/// many components, or the same fault.
+/// The octets of the name that a URI text spells, or the fault. Read without memory, the text has
+/// the same number of components, or the same fault.
 fn octets_of(alloc: Global, input: &str) -> Option<String> {
     let read = NameBuf::from_uri(alloc, input);
     if uri_len(input)
@@ -443,7 +443,7 @@ ndn:ndn:/A -> BadUri
     check_rows(&rt, rt.alloc(), rows, octets_of);
 }
 
-/// How many components 64 and the ones of this text are, or the fault.
+/// The number of 64 components and those of this text, or the fault.
 fn after_64_components(alloc: Global, input: &str) -> Option<String> {
     let mut text = String::new(alloc);
     for _ in 0..64 {
@@ -525,7 +525,7 @@ fn order_of(left: &NameBuf, right: &NameBuf) -> Option<Ordering> {
     agree.then_some(order)
 }
 
-/// How a name stands to another one.
+/// The relation of a name to another one.
 fn relation(alloc: Global, input: &str) -> Option<String> {
     let (left, right) = input.split_once(' ')?;
     let left = NameBuf::from_uri(alloc, left).ok()?;
@@ -578,7 +578,7 @@ fn order_of_components(left: &Component<'_>, right: &Component<'_>) -> Option<Or
     agree.then_some(order)
 }
 
-/// How the first component of a name stands to that of another one.
+/// The relation of the first component of a name to that of another one.
 fn first_components(alloc: Global, input: &str) -> Option<String> {
     let (left, right) = input.split_once(' ')?;
     let left = NameBuf::from_uri(alloc, left).ok()?;
@@ -602,7 +602,7 @@ fn component_order(rt: HostRuntime) {
     check_rows(&rt, rt.alloc(), rows, first_components);
 }
 
-/// How many components come after the first, where a copy of the rest counts as many.
+/// The number of components after the first, if a copy of the rest has as many.
 fn count_after_first(name: Name<'_>) -> Option<usize> {
     let mut after_first = name.into_iter();
     after_first.next();
@@ -618,7 +618,7 @@ fn components_shown(alloc: Global, name: Name<'_>) -> Option<String> {
     Some(text)
 }
 
-/// The components of a name, and how many of them come after the first.
+/// The components of a name, and the number of them after the first.
 fn in_turn(alloc: Global, input: &str) -> Option<String> {
     let name = NameBuf::from_uri(alloc, input).ok()?.try_clone(alloc).ok()?;
     let count = count_after_first(name.view())?;
@@ -725,7 +725,7 @@ fn is_refused(alloc: Global, text: &str, fault: NameFault) -> bool {
     NameBuf::from_uri(alloc, text).err() == Some(fault)
 }
 
-/// Memory is asked for only where the text is a name's.
+/// A lack of memory is reported only if the text is a name's.
 #[test]
 fn faults_come_before_memory(rt: HostRuntime) {
     assert!(rt; is_refused(rt.alloc(), "/A/%4", NameFault::BadUri));

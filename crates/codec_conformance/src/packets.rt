@@ -14,7 +14,7 @@ use ndn_tlv::put_element;
 use std::alloc::Global;
 use test_support::octets;
 
-/// Octets, inside elements of the types that stand before a bar, the outermost first.
+/// Octets inside elements of the types before a bar, the outermost first.
 fn packet(alloc: Global, input: &str) -> Option<Vec<u8>> {
     let (kinds, value) = input.split_once('|').unwrap_or(("", input));
     let mut octets = octets(alloc, value)?;

@@ -49,7 +49,7 @@ fn command_on(alloc: Global, verb: &str, asked: &str, lifetime: Option<u64>) -> 
     command_name(alloc, verb, &fields)
 }
 
-/// A reply: its status and count, and what is fetched.
+/// A reply: its status and count, and the Data to fetch.
 fn reply_shown(alloc: Global, reply: &RepoReply) -> Option<String> {
     let (status, count) = (reply.status, reply.count);
     let Some(want) = &reply.fetch else {
@@ -170,7 +170,7 @@ fn put_answer(alloc: Global, shown: &mut String, repo: &mut Repo, call: &str) ->
     shown.push_str(&text).ok()
 }
 
-/// A want stands until its deadline, and not at it.
+/// A want is pending until its deadline, and not at it.
 #[test]
 fn want_deadline(rt: HostRuntime) {
     let rows = "
@@ -192,7 +192,7 @@ insert /A 0 100, insert /A 0 10, expire 10, check /A 0 -> 100:0 /A 100, 100:0 /A
     check_rows(&rt, rt.alloc(), rows, answers);
 }
 
-/// Without a lifetime it stands 4,000 ms.
+/// Without a lifetime it is pending for 4,000 ms.
 #[test]
 fn a_want_without_a_lifetime(rt: HostRuntime) {
     let rows = "

@@ -1,9 +1,9 @@
 //! Hands damaged packets to `read_frame`, and prints what it reads.
 //!
-//! Standard input has a packet in hexadecimal on each line. Of each these octets are read: its
-//! proper beginnings, the shortest first; the packet; the packet with each octet in turn set to 0,
-//! where it is another; then with each set to 255. A line is printed for each run of equal results:
-//! how many they are, then the name of the fault, or what was read, with the number of components
+//! Standard input has a packet in hexadecimal on each line. For each packet these octets are read:
+//! its proper prefixes, the shortest first; the packet; the packet with each octet in turn set to
+//! 0, unless it is 0; then with each set to 255. A line is printed for each run of equal results:
+//! their number, then the name of the fault, or the kind of packet, with the number of components
 //! of its name and the InterestLifetime, the FreshnessPeriod or the NackReason.
 #![tactic(auto)]
 
@@ -13,25 +13,25 @@ use std::alloc::Global;
 use std::io;
 use std::io::{BufReader, Input};
 
-/// The greatest length of a line, in octets: the digits of one octet more than may arrive, and the
-/// LF.
+/// The greatest length of a line, in octets: the digits of one octet more than a frame may have,
+/// and the LF.
 const MAX_LINE: u32 = 2 * (MAX_FRAME as u32 + 1) + 1;
 
 /// The greatest number of packets.
 const MAX_PACKETS: u32 = 1000;
 
-/// What is read of octets.
+/// The result of reading octets.
 #[derive(Clone, Copy, PartialEq, Eq)]
 struct Found {
     /// The name of the fault, or the kind of what was read.
     word: &'static str,
-    /// How many components the name has.
+    /// The number of components of the name.
     components: usize,
     /// The InterestLifetime, the FreshnessPeriod or the NackReason.
     number: u64,
 }
 
-/// A run of results that are equal.
+/// A run of equal results.
 #[derive(Drop)]
 struct Run {
     found: Found,
@@ -78,7 +78,7 @@ fn print_run<R: Print>(rt: &R, run: &Run) -> io::Result<()> {
     println!(rt; "{} {word} {components} {number}", run.count)
 }
 
-/// Reads octets. Where the result is another than that of the run, the run is printed and a new one
+/// Reads octets. If the result differs from that of the run, the run is printed and a new one
 /// begins.
 fn read<R: Print>(rt: &R, octets: &[u8], run: &mut Run) -> io::Result<()> {
     let found = found_of(octets);
@@ -91,7 +91,7 @@ fn read<R: Print>(rt: &R, octets: &[u8], run: &mut Run) -> io::Result<()> {
     Ok(())
 }
 
-/// Reads a packet with each octet in turn set to this value, where it is another.
+/// Reads a packet with each octet in turn set to this value, unless it has it already.
 fn read_with<R: Print>(rt: &R, packet: &mut [u8], value: u8, run: &mut Run) -> io::Result<()> {
     for at in 0..packet.len() {
         let right = packet[at];

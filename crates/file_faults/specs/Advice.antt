@@ -1,5 +1,6 @@
--- The messages for a fault in a key file, and for a file that cannot be read.
-use Rattle.std.specs.Prelude.{ℕ, zero, suc, List, codes}
+-- The messages for a fault in a key file and for a file that cannot be read.
+use Rattle.std.specs.Prelude.{ℕ, zero, suc, List, ◌++◌, codes}
+use Rattle.std.specs.Fmt.{decimal}
 use Rattle.std.specs.declared.io.ErrorKind.{ErrorKind}
 use Rattle.std.specs.declared.io.ErrorKind.TheVariants as kinds
 use Rattle.hmac_keys.specs.declared.fault.KeyFault.{KeyFault}
@@ -14,6 +15,15 @@ advice_on_keys (keys.TwiceNamed line) = codes "an earlier line has this name: gi
 advice_on_keys keys.TooMany =
     codes "at most 256 keys are allowed: leave out those that no rule asks for"
 advice_on_keys keys.Memory = codes "out of memory"
+
+-- the line and the kind of a fault, and below it what is wrong
+abbrev pub key_text : KeyFault → List ℕ
+key_text (keys.BadLine line) = codes "keys:" ++ (decimal line ++ (codes ": BadLine\n  "
+    ++ (advice_on_keys (keys.BadLine line) ++ codes "\n")))
+key_text (keys.TwiceNamed line) = codes "keys:" ++ (decimal line ++ (codes ": TwiceNamed\n  "
+    ++ (advice_on_keys (keys.TwiceNamed line) ++ codes "\n")))
+key_text keys.TooMany = codes "keys:0: TooMany\n  " ++ advice_on_keys keys.TooMany ++ codes "\n"
+key_text keys.Memory = codes "error: out of memory\n"
 
 -- why a file cannot be read
 unfoldable pub cause_of : ErrorKind → List ℕ

@@ -1,15 +1,36 @@
-//! The messages of the programs for a fault in a key file, and for a file that cannot be read.
+//! The programs' messages for a fault in a key file and for a file that cannot be read.
 #![tactic(auto)]
 
-ghost use Rattle.std.specs.Prelude.{◌≡◌};
-ghost use Rattle.file_faults.specs.Advice.{advice_on_keys, cause_of};
+ghost use Rattle.std.specs.Prelude.{◌≡◌, Some};
+ghost use Rattle.file_faults.specs.Advice.{advice_on_keys, cause_of, key_text};
 
 use hmac_keys::KeyFault;
+use std::fmt;
 use std::io::ErrorKind;
 
-/// What is wrong in a key file, and how it is right.
+/// The message of a fault in a key file: the line and the kind of the fault, and on the next line how
+/// to mend it. It ends with an LF.
+#[derive(Clone, Copy)]
+pub struct KeyMessage(pub KeyFault);
+
+impl fmt::Display for KeyMessage {
+    ghost output = { λ message. Some (key_text message.0) };
+
+    fn fmt<W: fmt::Write>(&self, f: &mut fmt::Formatter<W>) -> fmt::Result {
+        let fault = self.0;
+        let advice = advice_on_keys(fault);
+        match fault {
+            KeyFault::BadLine(line) => writeln!(f, "keys:{line}: BadLine\n  {advice}"),
+            KeyFault::TwiceNamed(line) => writeln!(f, "keys:{line}: TwiceNamed\n  {advice}"),
+            KeyFault::TooMany => writeln!(f, "keys:0: TooMany\n  {advice}"),
+            KeyFault::Memory => f.write_str("error: out of memory\n"),
+        }
+    }
+}
+
+/// What is wrong in a key file, and how to mend it.
 #[tactic(auto, unfolding(crate::specs::Advice::advice_on_keys))]
-pub fn advice_on_keys(fault: KeyFault) -> &'static str
+fn advice_on_keys(fault: KeyFault) -> &'static str
     ensures { result.now ≡ advice_on_keys fault }
 {
     match fault {

@@ -85,5 +85,5 @@ AreKeys octets keys = IsUtf8 octets × KeysOf octets keys
 -- the fault of the text, or a bad line without a number where the octets are not UTF-8
 abbrev pub IsFaultOfOctets : List ℕ → KeyFault → Type 0
 IsFaultOfOctets octets why =
-    (IsUtf8 octets × IsFaultOf (keys_in octets) why)
+    (IsUtf8 octets × IsFaultBeforeMemory (keys_in octets) why)
     ⊎ (¬ (IsUtf8 octets) × (why ≡ BadLine 0))

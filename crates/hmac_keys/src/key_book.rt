@@ -108,14 +108,15 @@ impl KeyBook {
     }
 
     /// The keys of the octets of a key file. Octets that are not UTF-8 are reported as a bad line
-    /// with the number 0.
+    /// with the number 0. `Memory` comes only where the text has no fault.
+    #[tactic(auto, using(crate::proofs::Files::found))]
     pub fn read_octets(alloc: Global, octets: &[u8]) -> Result<KeyBook, KeyFault>
         ensures { MatchResult result (AreKeys octets.now) (IsFaultOfOctets octets.now) }
     {
         let Ok(text) = str::from_utf8(octets) else {
             return Err(KeyFault::BadLine(0));
         };
-        KeyBook::read(alloc, text)
+        read_keys(alloc, text)
     }
 
     /// The keys of the lines, or the first fault, unless memory runs out before.

@@ -1,4 +1,4 @@
-//! Reading that takes no more memory than a limit allows, whatever there is to be read.
+//! Reading that takes no more memory than a limit allows, whatever the source holds.
 #![tactic(auto)]
 
 ghost use Rattle.std.specs.Prelude.{◌≤◌, length, IfOk, IfSome, option_map};
@@ -10,13 +10,12 @@ use std::io;
 use std::io::{BufRead, Read};
 
 /// The greatest length of a key file, in octets. The programs set it, since comments, empty lines
-/// and long names may make a right key file of any length. A key whose name fits into a packet has
+/// and long names can make a valid key file of any length. A key whose name fits into a packet has
 /// a line of less than 28,000 octets, even if each octet of the name is escaped: 256 such lines
 /// fit, and more than 1,000,000 octets of comments.
 pub const MAX_KEY_FILE: u32 = 8_388_608;
 
-/// All octets of a reader, or `None` if it has more than `limit`. Of such a reader `limit` octets
-/// and one are read.
+/// All octets of a reader, or `None` if it has more than `limit`; then `limit + 1` octets are read.
 pub fn read_within<R: Read + Drop>(
     alloc: Global,
     reader: R,
@@ -32,9 +31,8 @@ pub fn read_within<R: Read + Drop>(
     Ok(kept_within(octets, limit))
 }
 
-/// The next line of a reader with its LF, or `None` where it has more than `limit` octets, its LF
-/// among them. At the end of the reader it has no octets. Of a longer line `limit` octets and one
-/// are read.
+/// The next line of a reader with its LF, or `None` if it has more than `limit` octets, LF
+/// included; then `limit + 1` octets are read. At the end of the reader the line is empty.
 pub fn read_line_within<R: BufRead>(
     alloc: Global,
     reader: &mut R,

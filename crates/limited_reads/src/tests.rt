@@ -14,7 +14,7 @@ impl Read for Broken {
     }
 }
 
-/// How many octets are read of a reader that has so many; `None` where they are too many.
+/// How many octets are read from a reader of `count` octets; `None` if they are too many.
 fn read_of(alloc: Global, count: u64) -> Option<usize> {
     let found = read_within(alloc, repeat(b'x').take(count), LIMIT).ok()?;
     Some(found?.len())
@@ -30,7 +30,7 @@ fn fails_in_the_middle(alloc: Global) -> bool {
     read_within(alloc, repeat(b'x').take(3).chain(Broken), LIMIT).is_err()
 }
 
-/// The octets of a reader may be as many as the limit, and no more.
+/// A reader may have as many octets as the limit, and no more.
 #[test]
 fn readers(rt: HostRuntime) {
     assert!(rt; read_of(rt.alloc(), 0) == Some(0));
@@ -40,8 +40,8 @@ fn readers(rt: HostRuntime) {
     assert!(rt; fails_in_the_middle(rt.alloc()));
 }
 
-/// Whether the lines of a text are these, with a limit of four octets; `-` stands for a line that
-/// is longer, and ends the text.
+/// Whether the lines of a text are these, with a limit of four octets; `-` stands for a longer
+/// line, and ends the text.
 fn lines_are(alloc: Global, text: &str, wanted: &str) -> Option<bool> {
     let mut reader = BufReader::new(alloc, text.as_bytes()).ok()?;
     let mut lines = Vec::new(alloc);

@@ -1,6 +1,6 @@
-//! Puts a million names into a map, 64 of which stand at a time, takes each out again, and prints
-//! what is left. The map's invariant says that a node without a value and without children is not
-//! kept, so a map without names has no node.
+//! Puts a million names into a map, removes each again as the 64th after it comes, and prints what
+//! is left. By the map's invariant a node without a value and without children is removed, so a map
+//! without names has no node.
 #![tactic(auto)]
 
 use name_trie::NameMap;
@@ -10,10 +10,10 @@ use ndn_tlv::Memory;
 use std::alloc::Global;
 use std::io;
 
-/// How many names come.
+/// The number of names.
 const NAMES: u64 = 1_000_000;
 
-/// How many names stand at a time.
+/// The number of the latest names that stay in the map.
 const STANDING: u64 = 64;
 
 /// The name of a number: of 4,096 that follow one another all have the same first component.
@@ -26,7 +26,8 @@ fn name_of(alloc: Global, number: u64) -> Result<NameBuf, Memory> {
     Ok(name)
 }
 
-/// Puts a name in, and takes out the one that came so many names before. Answers how many stand.
+/// Puts a name in and removes the one `STANDING` names before it. Returns the number left in the
+/// map.
 fn put_and_remove(alloc: Global, names: &mut NameMap<u64>, number: u64) -> Result<usize, Memory> {
     let name = name_of(alloc, number)?;
     if names.len() < usize::MAX {
@@ -38,7 +39,8 @@ fn put_and_remove(alloc: Global, names: &mut NameMap<u64>, number: u64) -> Resul
     Ok(names.len())
 }
 
-/// Puts all names in and takes them out. Answers how many stood at most, and how many are left.
+/// Puts all names in and removes them. Returns the greatest number left after one, and the number
+/// left at the end.
 fn rounds(alloc: Global) -> Result<(usize, usize), Memory> {
     let mut names = NameMap::new(alloc);
     let mut most = 0;

@@ -1,4 +1,4 @@
--- What the program prints for a job, and why it prints nothing.
+-- What the program prints for a job, and why it refuses one.
 use Rattle.std.specs.Prelude.{◌≡◌, ◌⊎◌, ℕ, List, [], false, Option, None, Some, ⊤}
 use Rattle.std.specs.Option.{option_map}
 use Rattle.ndn_tlv.specs.Element.{Field}
@@ -80,13 +80,13 @@ pub record AsksData (job : DataJob) (book : List NamedKey) (w : DataWriter) : Ty
   pub content : option_map (λ c. c.now) w.content ≡ option_map (λ c. c.items) job.content
   pub sign : SignsData job.key.key book w.sign
 
--- a command is signed, with DigestSha256 where there is no key
+-- a command is signed, without a key by DigestSha256
 abbrev pub SignsCommand : Option (List Field) → List NamedKey → Option Sign → Type 0
 SignsCommand key book None = ⊥
 SignsCommand key book (Some sign) = SignsData key book sign
 
--- the parameters of the command stand in its name; its ApplicationParameters are those that a
--- signed Interest has where none are given, empty ones
+-- the parameters of the command are in its name; its ApplicationParameters are empty, as in any
+-- signed Interest without parameters
 pub record AsksCommand (job : CommandJob) (book : List NamedKey) (w : InterestWriter)
     : Type 0 where
   pub name : components w.name ≡ command_name job.name job.parameters
@@ -137,18 +137,17 @@ abbrev pub IsTagAnswer : TagJob → List NamedKey → List ℕ → Type 0
 IsTagAnswer job book text =
     (key : List ℕ) × IsAmong (job.key, key) book × (text ≡ hex_line (Mac key job.octets.items))
 
--- the lines of what the octets hold
+-- the lines of the frame in the octets
 abbrev pub IsShown : List ℕ → List ℕ → Type 0
 IsShown octets text = (frame : PlainFrame) × IsFrame octets frame × (text ≡ frame_lines frame)
 
--- the same in words, with the PIT token beside it, and whether the signature is right where keys are
--- given
+-- the explanation of the frame and the PIT token beside it; with keys the signature is checked
 abbrev pub IsExplained : Option (List NamedKey) → List ℕ → List ℕ → Type 0
 IsExplained keys octets text =
     (framed : PlainFramed) × (check : Option TagCheck) × IsFramed octets framed
     × MayBeChecked framed.frame keys check × (text ≡ framed_explanation framed check)
 
--- keys are given by a key file
+-- the keys are used if a key file is named
 abbrev pub with_file : {A : Type 0} → Option A → List NamedKey → Option (List NamedKey)
 with_file None book = None
 with_file (Some path) book = Some book
@@ -156,7 +155,7 @@ with_file (Some path) book = Some book
 abbrev pub keys_given : ExplainJob → List NamedKey → Option (List NamedKey)
 keys_given job book = with_file job.keys book
 
--- nothing of packets of standard input, which are said when they are read
+-- nothing for packets of standard input, which are explained as they are read
 abbrev pub IsPacketExplained : Option (List NamedKey) → Option (List ℕ) → List ℕ → Type 0
 IsPacketExplained keys None text = text ≡ []
 IsPacketExplained keys (Some octets) text = IsExplained keys octets text
@@ -165,7 +164,7 @@ abbrev pub IsExplainAnswer : ExplainJob → List NamedKey → List ℕ → Type 
 IsExplainAnswer job book text =
     IsPacketExplained (keys_given job book) (option_map (λ p. p.items) job.packet) text
 
--- what help says, the reader of the command line knows
+-- the text of the help is the command-line parser's
 abbrev pub IsAnswer : Job → List NamedKey → List ℕ → Type 0
 IsAnswer (job.Help help) book text = ⊤
 IsAnswer (job.Interest asked) book text = IsLinkAnswer asked book text
@@ -177,7 +176,7 @@ IsAnswer (job.Explain asked) book text = IsExplainAnswer asked book text
 IsAnswer (job.Send asked) book text = text ≡ []
 IsAnswer (job.Ask asked) book text = IsInterestAnswer asked.interest book text
 
--- ---- refusals: each but that for memory has its cause
+-- ---- errors: each but Memory has its cause
 
 abbrev pub IsInterestRefusal : InterestJob → List NamedKey → ToolFault → Type 0
 IsInterestRefusal job book (fault.Usage usage) = ⊥

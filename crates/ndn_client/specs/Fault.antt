@@ -3,8 +3,8 @@ use Rattle.std.specs.Prelude.{ℕ, List, ◌++◌, codes, Option, Some, string_b
 use Rattle.std.specs.Fmt.{decimal}
 use Rattle.hmac_keys.specs.declared.fault.KeyFault.{KeyFault}
 use Rattle.hmac_keys.specs.declared.fault.KeyFault.TheVariants.{BadLine, TwiceNamed, TooMany, Memory as KeyMemory}
-use Rattle.file_faults.specs.Advice.{advice_on_keys, cause_of}
-use Rattle.ndn_jobs.specs.Fault.{out_of_memory, tool_status, tool_text}
+use Rattle.file_faults.specs.Advice.{cause_of, key_text}
+use Rattle.ndn_jobs.specs.Fault.{tool_status, tool_text}
 use Rattle.ndn_requests.specs.Fault.{silence_text, failure_text}
 use Rattle.ndn_client.specs.declared.fault.Fault.{Fault}
 use Rattle.ndn_client.specs.declared.fault.Fault.TheVariants as fault
@@ -15,8 +15,7 @@ key_status (TwiceNamed line) = 1
 key_status TooMany = 1
 key_status KeyMemory = 3
 
--- 1 for a fault in the key file and for a request that was not done, 3 if the system refused
--- something
+-- 1 for a fault in the key file and for a request that was not done, 3 for an error of the system
 abbrev pub status_of : Fault → ℕ
 status_of (fault.Tool why) = tool_status why
 status_of fault.NoKeyFile = 1
@@ -31,15 +30,6 @@ status_of fault.Send = 3
 status_of (fault.Unbound port) = 3
 status_of (fault.Silent why) = 3
 status_of (fault.NotDone why) = 1
-
--- the line and the kind of a fault, and below it what is wrong
-abbrev pub key_text : KeyFault → List ℕ
-key_text (BadLine line) = codes "keys:" ++ (decimal line ++ (codes ": BadLine\n  "
-    ++ (advice_on_keys (BadLine line) ++ codes "\n")))
-key_text (TwiceNamed line) = codes "keys:" ++ (decimal line ++ (codes ": TwiceNamed\n  "
-    ++ (advice_on_keys (TwiceNamed line) ++ codes "\n")))
-key_text TooMany = codes "keys:0: TooMany\n  " ++ advice_on_keys TooMany ++ codes "\n"
-key_text KeyMemory = out_of_memory
 
 -- the message for standard error, with its LF
 abbrev pub text_of : Fault → Option (List ℕ)

@@ -1,4 +1,4 @@
--- What stands on standard input.
+-- The contents of standard input.
 use Rattle.std.specs.Prelude.{◌≡◌, ◌⊎◌, ◌<◌, ◌≤◌, ℕ, ◌-◌, List, length, take, ◌==◌, if◌then◌else◌, slice_get, String, string_bytes, ⊤}
 use Rattle.ndn_tlv.specs.Options.{on_option}
 use Rattle.ndn_jobs.specs.declared.fault.Usage.TheVariants.{BadValue}

@@ -1,4 +1,4 @@
--- The fault of what the octets of a key file are read as.
+-- Reading the octets of a key file, and the fault of one that is refused.
 use Rattle.std.specs.Prelude.{◌≡◌, ◌⊎◌, ◌<◌, ◌≤◌, ℕ, List, length, string_bytes, ⊤}
 use Rattle.std.specs.declared.io.ErrorKind.{ErrorKind}
 use Rattle.hmac_keys.specs.KeyFile.{NamedKey}
@@ -12,7 +12,7 @@ abbrev pub IsFileFault : List ℕ → Fault → Type 0
 IsFileFault octets (Keys why) = IsFaultOfOctets octets why
 IsFileFault octets why = ⊥
 
--- the keys of octets, which are no more than a key file may have
+-- the keys of octets within the limit of a key file
 abbrev pub AreKeysOfFile : List ℕ → List NamedKey → Type 0
 AreKeysOfFile octets keys = (length octets ≤ MAX_KEY_FILE) × AreKeys octets keys
 
@@ -27,7 +27,7 @@ abbrev pub HasCause : ErrorKind → Fault → Type 0
 HasCause kind (Unread path cause) = cause ≡ kind
 HasCause kind why = ⊤
 
--- there are more octets than a key file may have; or else the fault of what they say; or the file
+-- there are more octets than a key file may have, or they are refused as a key file, or the file
 -- cannot be read
 abbrev pub IsKeyFileFault : List ℕ → List ℕ → Fault → Type 0
 IsKeyFileFault path octets why =

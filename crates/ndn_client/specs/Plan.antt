@@ -52,7 +52,7 @@ abbrev pub IsExplained : Bool → ExplainJob → List NamedKey → List ℕ → 
 IsExplained true asked book input text = IsExplainedInput (keys_given asked book) input text
 IsExplained false asked book input text = IsAnswer (job.Explain asked) book text
 
--- of lines of standard input where there is no packet, and else the answer
+-- the lines of standard input explained if there is no packet, and else the answer
 abbrev pub IsPrinted : Job → List NamedKey → List ℕ → List ℕ → Type 0
 IsPrinted (job.Explain asked) book input text =
     IsExplained (is_none asked.packet) asked book input text
@@ -76,7 +76,7 @@ IsRequest asked book input packet = packet.items ≡ []
 
 -- ---- plans
 
--- a job with a port to send to is sent there
+-- a job with a port to send to is an exchange with that port
 pub record IsExchange (asked : Job) (book : List NamedKey) (input : List ℕ) (x : Exchange) : Type 0
   where
     pub request : IsRequest asked book input x.request
@@ -90,7 +90,7 @@ IsPlan asked book input (plan.Print text) =
     ((ports_of asked).to ≡ None) × IsPrinted asked book input text.items
 IsPlan asked book input (plan.Exchange x) = IsExchange asked book input x
 
--- ---- refusals: each but that for memory has its cause
+-- ---- errors: each but Memory has its cause
 
 abbrev pub IsNotSentBy : Option (List ℕ) → List ℕ → ToolFault → Type 0
 IsNotSentBy (Some octets) input why = why ≡ tool.Memory

@@ -15,10 +15,10 @@ use ndn_packets::{DataWriter, Frame, Framed, InterestWriter, Sign, put_lp, read_
 use ndn_requests::command_name;
 use std::alloc::Global;
 
-/// What the program prints for a job that is not sent, with the keys of its key file; nothing for a
-/// packet to send as it is, nor for packets of standard input.
+/// The text to print for a job that is not sent, with the keys of its key file; empty for a packet
+/// to send as it is and for packets of standard input.
 ///
-/// Refuses a job by its cause or by `Memory`, never by `Usage`.
+/// Each error but `Memory` has its cause in the job or its keys; `Usage` is never returned.
 pub fn text_of(alloc: Global, job: &Job, book: &KeyBook) -> Result<Vec<u8>, ToolFault>
     ensures { MatchResult result
         (λ text. IsAnswer job.now book.now text.items)
@@ -37,7 +37,7 @@ pub fn text_of(alloc: Global, job: &Job, book: &KeyBook) -> Result<Vec<u8>, Tool
     }
 }
 
-/// The line of an Interest, in a link packet where there is a PIT token (NDNLPv2, "PIT Token").
+/// The line of an Interest, in a link packet if there is a PIT token (NDNLPv2, "PIT Token").
 fn link_text(alloc: Global, job: &LinkJob, book: &KeyBook) -> Result<Vec<u8>, ToolFault>
     ensures { MatchResult result
         (λ text. IsLinkAnswer job.now book.now text.items)
@@ -122,14 +122,14 @@ pub fn command_packet(alloc: Global, job: &CommandJob, book: &KeyBook) -> Result
     match command_name(alloc, &job.name, &job.parameters) {
         Ok(name) => named_command(alloc, job, &name, book),
         Err(fault) => {
-            // A missing key is reported before a name that has no room.
+            // A missing key is reported before a name that is too long.
             data_sign(&job.stamp.key.key, book)?;
             Err(ToolFault::from(fault))
         }
     }
 }
 
-/// The packet of a command whose Interest has this name, but for its digest.
+/// The packet of a command whose Interest has this name before its digest.
 fn named_command<'a>(
     alloc: Global,
     job: &'a CommandJob,
@@ -149,7 +149,7 @@ fn named_command<'a>(
         nonce: job.stamp.nonce,
         lifetime: None,
         hop_limit: None,
-        // A signed Interest without any gets empty ones.
+        // A signed Interest without parameters gets empty ones.
         parameters: None,
         sign: Some(sign),
         time: Some(job.stamp.time),
@@ -191,7 +191,7 @@ fn explain_text(alloc: Global, job: &ExplainJob, book: &KeyBook) -> Result<Vec<u
     }
 }
 
-/// The keys to check signatures with, where the job names a key file.
+/// The keys to check signatures with, if the job names a key file.
 pub fn keys_given<'a>(job: &ExplainJob, book: &'a KeyBook) -> Option<&'a KeyBook>
     ensures { option_map (λ b. b.now) result ≡ keys_given job.now book.entry.now }
 {
@@ -201,7 +201,7 @@ pub fn keys_given<'a>(job: &ExplainJob, book: &'a KeyBook) -> Option<&'a KeyBook
     }
 }
 
-/// The octets of a packet in words. With keys its signature is checked.
+/// The explanation of a packet. With keys its signature is checked.
 fn explained_text(
     alloc: Global,
     octets: &[u8],
@@ -218,7 +218,7 @@ fn explained_text(
     Ok(text)
 }
 
-/// The frame that the octets are.
+/// The frame in the octets.
 fn frame_of(octets: &[u8]) -> Result<Frame<'_>, ToolFault>
     ensures { MatchResult result
         (λ frame. IsFrame octets.now (plain_frame frame))
@@ -230,7 +230,7 @@ fn frame_of(octets: &[u8]) -> Result<Frame<'_>, ToolFault>
     }
 }
 
-/// The frame that the octets are, and the PIT token beside it.
+/// The frame in the octets, and the PIT token beside it.
 fn framed_of(octets: &[u8]) -> Result<Framed<'_>, ToolFault>
     ensures { MatchResult result
         (λ framed. IsFramed octets.now (plain_framed framed))

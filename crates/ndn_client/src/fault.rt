@@ -1,5 +1,5 @@
-//! Why the program stops: its message and its exit status.
-use file_faults::{advice_on_keys, cause_of};
+//! Why the program fails: the message and the exit status.
+use file_faults::{KeyMessage, cause_of};
 use hmac_keys::KeyFault;
 use ndn_jobs::ToolFault;
 use ndn_packets::WriteFault;
@@ -9,7 +9,7 @@ use std::alloc::AllocError;
 use std::fmt;
 use std::io::ErrorKind;
 
-/// Why the program did not do what it was asked.
+/// Why the program fails.
 #[derive(Debug, Drop)]
 pub enum Fault {
     /// The job was not done.
@@ -44,7 +44,7 @@ pub enum Fault {
     },
     /// No answer came to a packet that was sent as it is.
     Silent(Silence),
-    /// A request was sent, and was not done.
+    /// A request was sent, but was not done.
     NotDone(Failure),
 }
 
@@ -88,25 +88,10 @@ impl fmt::Display for Fault {
             Fault::Tool(fault) => fault.fmt(f),
             Fault::NoKeyFile => f.write_str("key not found\ngive --keys\n"),
             Fault::NotText => f.write_str("error: an argument is not UTF-8 text\n"),
-            Fault::Keys(KeyFault::BadLine(line)) => {
-                let advice = advice_on_keys(KeyFault::BadLine(*line));
-                writeln!(f, "keys:{line}: BadLine\n  {advice}")
-            }
-            Fault::Keys(KeyFault::TwiceNamed(line)) => {
-                let advice = advice_on_keys(KeyFault::TwiceNamed(*line));
-                writeln!(f, "keys:{line}: TwiceNamed\n  {advice}")
-            }
-            Fault::Keys(KeyFault::TooMany) => {
-                writeln!(
-                    f,
-                    "keys:0: TooMany\n  {}",
-                    advice_on_keys(KeyFault::TooMany)
-                )
-            }
+            Fault::Keys(fault) => KeyMessage(*fault).fmt(f),
             Fault::LargeKeys => {
                 f.write_str("keys:0: TooLarge\n  at most 8388608 octets are allowed\n")
             }
-            Fault::Keys(KeyFault::Memory) => f.write_str("error: out of memory\n"),
             Fault::Unread { path, kind } => {
                 writeln!(
                     f,

@@ -13,16 +13,16 @@ use std::alloc::Global;
 use std::io;
 use std::io::{BufRead, Read};
 
-/// The greatest length of a packet on standard input: the 65,507 octets of a UDP datagram in hexadecimal,
-/// and an LF.
+/// The greatest length of a packet on standard input: the 65,507 octets of a UDP datagram in
+/// hexadecimal, and an LF.
 const MAX_PACKET_INPUT: u32 = 131_015;
 
-/// The greatest length of a line of standard input, with its LF, in octets. A line of a script's answers
-/// with such a packet has at most 131,038.
+/// The greatest length of a line of standard input, with its LF, in octets. A line of a script's
+/// answers with such a packet has at most 131,038.
 const MAX_INPUT_LINE: u32 = 131_072;
 
-/// The text of standard input that has to be one packet. Refuses what is longer than a packet of 65,507
-/// octets in hexadecimal, and reads no more than one octet of the rest.
+/// The text of standard input that has to be one packet. Refuses an input longer than a packet of
+/// 65,507 octets in hexadecimal with an LF, and reads at most one octet beyond that.
 pub fn read_packet_input<R: Read + Drop>(alloc: Global, reader: R) -> Result<String, Fault>
     // Where it is known what the reader has.
     ensures { IfSome (R.remaining reader)
@@ -38,8 +38,8 @@ pub fn read_packet_input<R: Read + Drop>(alloc: Global, reader: R) -> Result<Str
     }
 }
 
-/// The next line of standard input with its LF; an empty text at the end. Refuses a line of more than
-/// 131,072 octets, its LF among them, and reads no more than one octet of the rest.
+/// The next line of standard input with its LF; an empty text at the end. Refuses a line of more
+/// than 131,072 octets, LF included, and reads at most one octet beyond that.
 pub fn read_input_line<R: BufRead>(alloc: Global, reader: &mut R) -> Result<String, Fault>
     ensures bound { IfOk result (λ line. string_len line ≤ 131072) }
     // Where it is known what the reader has.

@@ -20,8 +20,8 @@ pub fn read_book(alloc: Global, octets: &[u8]) -> Result<KeyBook, Fault>
     KeyBook::read_octets(alloc, octets).map_err(Fault::Keys)
 }
 
-/// The keys of an open key file, which has this path. One of more than `MAX_KEY_FILE` octets is too
-/// large, whatever it has, and only one octet more is read of it.
+/// The keys of an open key file, which has this path. A file of more than `MAX_KEY_FILE` octets is
+/// reported as too large, whatever it contains, and read no further than one octet beyond that.
 pub fn read_key_file<R: Read + Drop>(alloc: Global, path: &str, file: R) -> Result<KeyBook, Fault>
     // Where it is known what the file has.
     ensures { IfSome (R.remaining file)

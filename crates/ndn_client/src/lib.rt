@@ -1,5 +1,5 @@
-//! What the client `ndn_tool` does for a job: it writes packets, and answers with them or with what
-//! they say.
+//! What the client `ndn_tool` does for a job: it writes packets to print or to send, and explains
+//! packets.
 #![tactic(auto)]
 
 mod answer;

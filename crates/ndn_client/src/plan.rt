@@ -18,11 +18,11 @@ use std::alloc::Global;
 pub enum Plan {
     /// To print this text.
     Print(Vec<u8>),
-    /// To send a request, and to go on by each datagram that is received.
+    /// To send a request, and to handle each datagram that is received.
     Exchange(Exchange),
 }
 
-/// What a job is about on standard input.
+/// What a job reads from standard input.
 #[derive(Clone, Copy)]
 pub enum InputForm {
     /// Nothing.
@@ -33,7 +33,7 @@ pub enum InputForm {
     Lines,
 }
 
-/// What the job is about on standard input.
+/// What the job reads from standard input.
 pub fn input_form(job: &Job) -> InputForm
     ensures { result ≡ input_form job.now }
 {
@@ -44,10 +44,11 @@ pub fn input_form(job: &Job) -> InputForm
     }
 }
 
-/// What the program has to do for a job, with the keys of its key file, and with the packet or any
-/// lines of standard input where the job is about that.
+/// What the program has to do for a job, with the keys of its key file, and with the packet or the
+/// lines of standard input if the job reads them.
 ///
-/// Refuses a job by its cause or by `Memory`; by `Usage` only an input that is not one packet.
+/// Each error but `Memory` has its cause in the job or in the input; `Usage` is returned only for
+/// an input that is not one packet.
 pub fn plan_of(alloc: Global, job: &Job, book: &KeyBook, input: &str) -> Result<Plan, ToolFault>
     ensures { MatchResult result (IsPlan job.now book.now input.now)
         (IsNoPlan job.now book.now input.now) }
@@ -124,7 +125,7 @@ fn request_of(alloc: Global, job: &Job, book: &KeyBook, input: &str) -> Result<V
     }
 }
 
-/// The packet to send as it is.
+/// The packet of `send`, unchanged.
 fn sent_packet(alloc: Global, job: &SendJob, input: &str) -> Result<Vec<u8>, ToolFault>
     ensures { MatchResult result (IsSent job.now input.now)
         (IsNotSent job.now input.now) }
@@ -135,8 +136,8 @@ fn sent_packet(alloc: Global, job: &SendJob, input: &str) -> Result<Vec<u8>, Too
     }
 }
 
-/// Why the program fails where no answer came, where the system says whether a program listens. A
-/// packet that is sent as it is has the exit status of a failure to receive.
+/// The fault of a request without an answer; `is_closed` tells that no program listens. For a
+/// packet that is sent as it is, the exit status is that of a failure to receive.
 pub fn fault_of_silence(exchange: &Exchange, is_closed: bool) -> Fault
     ensures { result ≡ fault_of_silence exchange.now is_closed }
 {

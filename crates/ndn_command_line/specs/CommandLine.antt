@@ -32,7 +32,7 @@ a_required_option id = record (new_rule id) { long = Some id; value_names = 1; r
 abbrev pub a_flag : List ℕ → Rule
 a_flag id = record (new_rule id) { long = Some id; action = Some SetTrue }
 
--- by the row of a table
+-- an argument by its row
 abbrev pub rule_for : Argument → Rule
 rule_for (Positional id help) = a_positional id.now
 rule_for (MaybePositional id help) = an_optional_positional id.now
@@ -42,12 +42,12 @@ rule_for (Flag id help) = a_flag id.now
 
 -- ---- commands
 
--- a command with more arguments in turn
+-- a command with more arguments, in order
 abbrev pub with_rules : App → List Rule → App
 with_rules app [] = app
 with_rules app (rule ∷ rules) = with_rules (with_rule app rule) rules
 
--- a command with more subcommands in turn
+-- a command with more subcommands, in order
 abbrev pub with_subcommands : App → List App → App
 with_subcommands app [] = app
 with_subcommands app (below ∷ more) = with_subcommands (with_subcommand app below.top) more
@@ -101,8 +101,8 @@ command_app = a_subcommand (codes "command") (
     ∷ an_option (codes "key")
     ∷ [])
 
--- a short form, with the options of its time, its Nonce, its key and the ports that it is sent to and
--- from
+-- a short form, with the options of its time, its Nonce, its key and the ports that it is sent to
+-- and from
 abbrev pub stamped : App → App
 stamped app = with_rules app (
     an_option (codes "time")

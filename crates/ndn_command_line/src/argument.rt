@@ -7,8 +7,8 @@ ghost use Rattle.ndn_command_line.specs.CommandLine.{HasApp, HasRule, a_position
 use clap::{Arg, ArgAction, Command};
 use std::alloc::{AllocError, Global};
 
-/// An argument: its id, the word for its value if it has one, and its help. An option and a flag go
-/// by their ids.
+/// An argument: its id, the word for its value if it has one, and its help. The id of an option or
+/// a flag is its long name.
 #[derive(Clone, Copy)]
 pub enum Argument<'a> {
     /// A positional argument, which is required.
@@ -23,7 +23,7 @@ pub enum Argument<'a> {
     Flag(&'a str, &'a str),
 }
 
-/// The command with these arguments too, in turn.
+/// The command with these arguments added in order.
 pub fn with_arguments<'a>(
     alloc: Global,
     command: Command<'a>,

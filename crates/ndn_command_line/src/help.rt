@@ -3,7 +3,7 @@
 pub const VERSION: &str = "0.1.0";
 
 pub const ABOUT: &str =
-    "A Named Data Networking client: it asks nodes, gives them commands, and shows what packets hold.";
+    "A Named Data Networking client: it asks nodes, sends them commands, and explains packets.";
 
 pub const TOOL: &str =
     "Packets and other octets are in hexadecimal, two digits for each octet, in either case. URI is
@@ -39,8 +39,8 @@ Example: a Data named /A whose content is the letter x.
   062f070308014115017816031b01001720e4f0b5aed03446e702356a360c7194c208b8b6a28ff30de430f1baa08ba29266";
 
 pub const COMMAND: &str =
-    "URI is the name of the command, which ends with its verb. Under /localhost/nfd the parameters are
-those of the node, which have no --lifetime and --can-be-prefix; elsewhere they are those of a
+    "URI is the name of the command, which ends with its verb. Under /localhost/nfd the parameters
+are those of the node, which have no --lifetime and --can-be-prefix; elsewhere they are those of a
 repository, which have these two alone beside --name. Without --key the signature is DigestSha256.
 
 Example: a next hop for /A, signed with a key.
@@ -68,25 +68,25 @@ Example: the routes of the node at port 6363, asked from the port of its first L
   $ ndn_tool route list --send 6363 --from 7001";
 
 pub const STRATEGY: &str =
-    "VERB is set, which needs a strategy, unset, which has none, or list, which takes --nonce, --send and
---from alone. STRATEGY is best-route, multicast or the URI of a strategy. Without --time the command
-has the time of the clock, and without --nonce a Nonce made of its time and its words. Without --key
-the signature is DigestSha256.
+    "VERB is set, which needs a strategy, unset, which has none, or list, which takes --nonce,
+--send and --from alone. STRATEGY is best-route, multicast or the URI of a strategy. Without --time
+the command has the time of the clock, and without --nonce a Nonce made of its time and its words.
+Without --key the signature is DigestSha256.
 
 Example: Interests under /A go to every next hop.
   $ ndn_tool strategy set /A multicast --keys ops.keys --key /ops/KEY/1";
 
 pub const CACHE: &str =
-    "VERB is erase. Without --time the command has the time of the clock, and without --nonce a Nonce
-made of its time and its words. Without --key the signature is DigestSha256.
+    "VERB is erase. Without --time the command has the time of the clock, and without --nonce a
+Nonce made of its time and its words. Without --key the signature is DigestSha256.
 
 Example: at most 10 Data under /A are erased.
   $ ndn_tool cache erase /A --count 10 --keys ops.keys --key /ops/KEY/1";
 
 pub const REPOSITORY: &str =
-    "VERB is insert, delete or check. PREFIX is the name of the repository. Without --time the command
-has the time of the clock, and without --nonce a Nonce made of its time and its words. Without --key
-the signature is DigestSha256.
+    "VERB is insert, delete or check. PREFIX is the name of the repository. Without --time the
+command has the time of the clock, and without --nonce a Nonce made of its time and its words.
+Without --key the signature is DigestSha256.
 
 Example: the Data /A is wanted, and stored once it comes.
   $ ndn_tool repo insert /repo /A --keys ops.keys --key /ops/KEY/1";
@@ -109,8 +109,8 @@ Example: a Data named /A.
   signature 0 -";
 
 pub const EXPLAIN: &str =
-    "Prints the lines of show, what the signature says of its key, its time and its number, and what a
-command, a reply or a list holds. With --keys it says whether the signature is right. With - the
+    "Prints the lines of show, what the signature says of its key, its time and its number, and what
+a command, a reply or a list holds. With --keys it says whether the signature is right. With - the
 packets are those of standard input, in hexadecimal, one on a line: alone, or after > FACE as a
 script answers; any other line is printed as it is.
 
@@ -125,17 +125,17 @@ Example: a Data named /A, signed with a key.
 
 pub const SEND: &str =
     "Sends the packet to this port of 127.0.0.1, as one datagram, and prints the one answer in
-hexadecimal, whatever it says. With - the packet is that of standard input, in hexadecimal. Where no
+hexadecimal, whatever it is. With - the packet is that of standard input, in hexadecimal. Where no
 answer comes in time the exit status is 3.
 
-Example: a packet is written, sent to a node, and its answer said in words.
+Example: a packet is written, sent to a node, and its answer explained.
   $ ndn_tool interest /A --nonce 01020304 | ndn_tool send - --to 6363 | ndn_tool explain -";
 
 pub const PEEK: &str =
-    "Without --to the Interest is printed in hexadecimal. With --to it is sent to this port of 127.0.0.1,
-and the Data that answers is printed as explain does, or by --raw its content alone. Without --nonce
-the Nonce is made of the time and the words. The exit status is 1 after a Nack, and where no answer
-comes.
+    "Without --to the Interest is printed in hexadecimal. With --to it is sent to this port of
+127.0.0.1, and the Data that answers is printed as explain does, or by --raw its content alone.
+Without --nonce the Nonce is made of the time and the words. The exit status is 1 after a Nack, and
+where no answer comes.
 
 Example: the content of /A, as the node at port 6363 has it or fetches it.
   $ ndn_tool peek /A --to 6363 --raw";
@@ -167,7 +167,7 @@ pub const KEYS: &str = "The key file";
 
 pub const KEY: &str = "The name of the key to sign with";
 
-pub const PORT: &str = "Sends the command to this port of 127.0.0.1, and says the reply in words";
+pub const PORT: &str = "Sends the command to this port of 127.0.0.1, and explains the reply";
 
 pub const TO: &str = "The port of 127.0.0.1 that it is sent to";
 

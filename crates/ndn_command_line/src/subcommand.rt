@@ -72,7 +72,7 @@ impl Subcommand {
     }
 }
 
-/// The command with these subcommands too, in turn.
+/// The command with these subcommands added in order.
 pub fn with_subcommands<'a>(
     alloc: Global,
     command: Command<'a>,
@@ -255,7 +255,7 @@ fn explain_command<'a>(alloc: Global) -> Result<Command<'a>, AllocError>
         Argument::Positional("HEX", "The packet, or - for those of standard input"),
         Argument::Optional("keys", "FILE", "The key file to check the signature with"),
     ];
-    let about = "Says in words what a packet is";
+    let about = "Explains what a packet is";
     described(alloc, "explain", about, help::EXPLAIN, &arguments)
 }
 
@@ -284,7 +284,7 @@ fn peek_command<'a>(alloc: Global) -> Result<Command<'a>, AllocError>
         Argument::Optional("to", "PORT", help::TO),
         Argument::Optional("from", "PORT", help::FROM),
     ];
-    let about = "Asks a node for a Data and says what it holds";
+    let about = "Asks a node for a Data and explains it";
     described(alloc, "peek", about, help::PEEK, &arguments)
 }
 

@@ -2,7 +2,6 @@
 use Rattle.std.specs.Prelude.{ℕ, List, ◌++◌, codes, Option, Some, None, string_bytes, if◌then◌else◌}
 use Rattle.std.specs.Fmt.{decimal}
 use Rattle.std.specs.Net.Text.{socket_text}
-use Rattle.hmac_keys.specs.declared.fault.KeyFault.{KeyFault}
 use Rattle.hmac_keys.specs.declared.fault.KeyFault.TheVariants.{BadLine as BadKey, TwiceNamed, TooMany, Memory as KeyMemory}
 use Rattle.info_rules.specs.Names.{fault_name}
 use Rattle.info_rules.specs.declared.fault.RulesFaultKind.{RulesFaultKind}
@@ -10,7 +9,7 @@ use Rattle.info_rules.specs.declared.fault.RulesFaultKind.TheVariants as kinds
 use Rattle.forwarder.specs.declared.node.NodeFault.TheVariants.{BadRepoPrefix, BadCapacity, Memory as NodeMemory}
 use Rattle.node_core.specs.declared.script.RunFault.{RunFault}
 use Rattle.node_core.specs.declared.script.RunFault.TheVariants.{BadLine, Read, Write, Node, Memory}
-use Rattle.file_faults.specs.Advice.{advice_on_keys, cause_of}
+use Rattle.file_faults.specs.Advice.{cause_of, key_text}
 use Rattle.ndn_daemon.specs.Advice.{advice_on_rules, is_memory}
 use Rattle.ndn_daemon.specs.declared.fault.Fault.{Fault}
 use Rattle.ndn_daemon.specs.declared.fault.Fault.TheVariants.{CommandLine, BadValue, NotText, Unread, Rules, Keys, LargeKeys, Script, Unbound, Unreceived}
@@ -49,14 +48,6 @@ rules_fault_text line kind =
     else codes "rules:" ++ decimal line ++ codes ": " ++ fault_name kind ++ codes "\n  "
     ++ advice_on_rules line kind ++ codes "\n"
 
-abbrev pub key_fault_text : KeyFault → List ℕ
-key_fault_text (BadKey line) = codes "keys:" ++ (decimal line ++ (codes ": BadLine\n  "
-    ++ (advice_on_keys (BadKey line) ++ codes "\n")))
-key_fault_text (TwiceNamed line) = codes "keys:" ++ (decimal line ++ (codes ": TwiceNamed\n  "
-    ++ (advice_on_keys (TwiceNamed line) ++ codes "\n")))
-key_fault_text TooMany = codes "keys:0: TooMany\n  " ++ advice_on_keys TooMany ++ codes "\n"
-key_fault_text KeyMemory = codes "error: out of memory\n"
-
 abbrev pub run_fault_text : RunFault → List ℕ
 run_fault_text (BadLine line) = codes "script:" ++ (decimal line ++ (codes ": bad line\n  "
     ++ codes "a line is up FACE local|far MOMENT, down FACE MOMENT, tick MOMENT, "
@@ -80,7 +71,7 @@ text_of NotText = Some (codes "error: an argument is not UTF-8 text\n")
 text_of (Unread file path kind) = Some (codes "error: the " ++ (file.now ++ (codes " "
     ++ (string_bytes path ++ (codes " cannot be read: " ++ (cause_of kind ++ codes "\n"))))))
 text_of (Rules fault) = Some (rules_fault_text fault.line fault.kind)
-text_of (Keys fault) = Some (key_fault_text fault)
+text_of (Keys fault) = Some (key_text fault)
 text_of LargeKeys = Some (codes "keys:0: TooLarge\n  at most 8388608 octets are allowed\n")
 text_of (Script fault) = Some (run_fault_text fault)
 text_of (Unbound endpoint) = Some (codes "error: " ++ socket_text endpoint

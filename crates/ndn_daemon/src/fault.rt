@@ -1,6 +1,6 @@
 //! Why the program stops: its message and its exit status.
 use crate::advice::{advice_on_rules, is_memory};
-use file_faults::{advice_on_keys, cause_of};
+use file_faults::{KeyMessage, cause_of};
 use hmac_keys::KeyFault;
 use info_rules::{RulesFault, RulesFaultKind};
 use node_core::{NodeFault, RunFault};
@@ -113,21 +113,7 @@ impl fmt::Display for Fault {
                 kind.name(),
                 advice_on_rules(*line, *kind)
             ),
-            Fault::Keys(KeyFault::BadLine(line)) => {
-                let advice = advice_on_keys(KeyFault::BadLine(*line));
-                writeln!(f, "keys:{line}: BadLine\n  {advice}")
-            }
-            Fault::Keys(KeyFault::TwiceNamed(line)) => {
-                let advice = advice_on_keys(KeyFault::TwiceNamed(*line));
-                writeln!(f, "keys:{line}: TwiceNamed\n  {advice}")
-            }
-            Fault::Keys(KeyFault::TooMany) => {
-                writeln!(
-                    f,
-                    "keys:0: TooMany\n  {}",
-                    advice_on_keys(KeyFault::TooMany)
-                )
-            }
+            Fault::Keys(fault) => KeyMessage(*fault).fmt(f),
             Fault::LargeKeys => {
                 f.write_str("keys:0: TooLarge\n  at most 8388608 octets are allowed\n")
             }
@@ -152,8 +138,7 @@ impl fmt::Display for Fault {
             Fault::Script(RunFault::Node(NodeFault::BadCapacity)) => f.write_str(
                 "error: the cache's capacity is out of range: give a number from 1 to 65536\n",
             ),
-            Fault::Keys(KeyFault::Memory)
-            | Fault::Script(RunFault::Node(NodeFault::Memory) | RunFault::Memory) => {
+            Fault::Script(RunFault::Node(NodeFault::Memory) | RunFault::Memory) => {
                 f.write_str("error: out of memory\n")
             }
         }

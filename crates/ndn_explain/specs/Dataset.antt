@@ -16,7 +16,7 @@ use Rattle.ndn_explain.specs.Show.{line}
 
 -- ---- layouts
 
--- what stands before the name of a route, its face, its cost, the name of a choice, its strategy:
+-- the text before the name of a route, its face, its cost, the name of a choice, its strategy:
 -- words in lines, tabs in a table
 pub record Labels : Type 0 where
   pub route : List ℕ

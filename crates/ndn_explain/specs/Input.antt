@@ -1,4 +1,4 @@
--- Lines of which is said what they hold, of packets in words, and of other lines as they are.
+-- Explaining a text line by line: a packet by its explanation, any other line as it is.
 use Rattle.std.specs.Prelude.{◌≡◌, ◌⊎◌, ℕ, List, [], ◌∷◌, ◌++◌, codes, Option, Result, Ok, Err, Bool, false, ◌==◌, if◌then◌else◌}
 use Rattle.hex.specs.declared.error.FromHexError.{FromHexError}
 use Rattle.hex.specs.Hex.{decode_of}
@@ -15,23 +15,23 @@ use Rattle.ndn_explain.specs.Show.{line, named_line}
 use Rattle.ndn_explain.specs.TagCheck.{MayBeChecked}
 use Rattle.ndn_explain.specs.Explain.{framed_explanation}
 
--- `>` begins the lines of a script's answers that are packets
+-- `>` begins a packet that is sent, in a script's answers
 abbrev pub is_send : List ℕ → Bool
 is_send [] = false
 is_send (o ∷ line) = o == 62
 
--- what stands before a packet, and its digits: those of a send stand after its last space
+-- the text before a packet, and its digits: those of a send follow its last space
 abbrev pub parts_of : List ℕ → List ℕ × List ℕ
 parts_of text =
     if is_send text then on_option (λ parts. parts) ([], text) (at_last_space text)
     else ([], text)
 
--- a line as it is; of an empty one nothing
+-- a line as it is; nothing for an empty one
 abbrev pub repeated : List ℕ → List ℕ
 repeated [] = []
 repeated (o ∷ text) = line (o ∷ text)
 
--- octets in words, or why they are no packet
+-- the explanation of a packet, or why the octets are none
 abbrev pub IsExplainedPacket : Option (List NamedKey) → List ℕ → List ℕ → Type 0
 IsExplainedPacket keys octets said =
     ((framed : PlainFramed) × (check : Option TagCheck) × IsFramed octets framed
@@ -39,7 +39,7 @@ IsExplainedPacket keys octets said =
     ⊎ ((why : PacketFault) × FaultOf octets why
     × (said ≡ named_line (codes "malformed") (packet_name why)))
 
--- the octets of a packet, or a line without any
+-- a line by its octets, or a line without a packet
 abbrev pub IsExplainedPart : Option (List NamedKey) → List ℕ → List ℕ
     → Result (List ℕ) FromHexError → List ℕ → Type 0
 IsExplainedPart keys text head (Err why) said = said ≡ repeated text
@@ -57,6 +57,6 @@ AreExplained keys (text ∷ texts) said =
     (first : List ℕ) × (others : List ℕ) × IsExplainedLine keys text first
     × AreExplained keys texts others × (said ≡ first ++ others)
 
--- of all lines of a text, which LFs part
+-- for all lines of a text, which LFs separate
 abbrev pub IsExplainedInput : Option (List NamedKey) → List ℕ → List ℕ → Type 0
 IsExplainedInput keys text said = AreExplained keys (lines_of text) said

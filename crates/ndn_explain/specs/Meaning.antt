@@ -19,7 +19,7 @@ use Rattle.ndn_explain.specs.Show.{named_line, flag_line, optional_line, hex_or_
 
 -- ---- fields
 
--- a value of a wrong form
+-- a value of the wrong form
 abbrev pub bad_text : List ℕ → List ℕ
 bad_text value = codes "bad " ++ hex_or_dash value
 
@@ -29,7 +29,7 @@ number_text value = on_result decimal (λ _. bad_text value) (nni_at value)
 abbrev pub name_text : List ℕ → List ℕ
 name_text value = on_result uri_of (λ _. bad_text value) (name_at value)
 
--- a Strategy holds one Name
+-- a Strategy has one Name
 abbrev pub held_name : List ℕ → Option (List ℕ) → List ℕ
 held_name value None = bad_text value
 held_name value (Some name) = name_text name
@@ -65,7 +65,7 @@ form_text Strategy value = strategy_text value
 form_text Flags value = flags_text value
 form_text Period value = period_text value
 
--- a field that is there, by its form
+-- a field that is present, by its form
 abbrev pub field_line : List ℕ → Form → ℕ → Elements → List ℕ
 field_line label form kind es = optional_line label (option_map (form_text form) (first_of kind es))
 
@@ -74,7 +74,7 @@ hop_lines es =
     field_line (codes "face") Number FACE_ID es
     ++ field_line (codes "cost") Number COST es
 
--- of a route that is registered
+-- for a registered route
 abbrev pub route_lines : Elements → List ℕ
 route_lines es =
     field_line (codes "origin") Number ORIGIN es
@@ -115,7 +115,7 @@ abbrev pub generic_parameters : Option Field → Option (List ℕ)
 generic_parameters None = None
 generic_parameters (Some c) = if c.0 == GENERIC then parameters_of c.1 else None
 
--- the parameters stand before the digest of the Interest's own parameters
+-- the parameters precede the digest of the Interest's own ApplicationParameters
 abbrev pub parameters_in : List Field → Option (List ℕ)
 parameters_in name =
     if has_kind PARAMETERS_SHA256_DIGEST (slice_get name (length name - 1))
@@ -127,7 +127,7 @@ asked_lines name (Some fields) =
     named_line (codes "command") (uri_of (take (length name - 2) name))
     ++ field_lines (elements_of fields)
 
--- of an Interest of this name, if it is a command
+-- for an Interest of this name, if it is a command
 abbrev pub command_lines : List Field → List ℕ
 command_lines name = asked_lines name (parameters_in name)
 
@@ -160,7 +160,7 @@ node_reply_lines es = status_line STATUS_CODE es ++ body_lines (first_of CONTROL
 abbrev pub repository_reply_lines : Elements → List ℕ
 repository_reply_lines es = status_line REPO_STATUS_CODE es ++ field_lines es
 
--- of a Data with this Content, if it is a reply
+-- for a Data with this Content, if it is a reply
 abbrev pub or_repository : Option (List ℕ) → Option (List ℕ) → List ℕ
 or_repository (Some fields) other = node_reply_lines (elements_of fields)
 or_repository None (Some fields) = repository_reply_lines (elements_of fields)

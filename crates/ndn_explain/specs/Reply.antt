@@ -1,5 +1,5 @@
--- Replies of any length, as nodes write them: a command of 8,800 octets has a longer reply, which
--- no reader of packets takes.
+-- Replies of any length, as nodes write them: the reply to a command of 8,800 octets is longer, and
+-- readers of packets refuse it.
 use Rattle.std.specs.Prelude.{ℕ, List, bytes_eq, Option, None, Some, if◌then◌else◌, unwrap_or, [], option_and_then}
 use Rattle.ndn_tlv.specs.Element.{Field}
 use Rattle.ndn_tlv.specs.Reading.{elements_of}
@@ -15,14 +15,14 @@ data_field kind octets =
     option_and_then (λ fields. first_of kind (elements_of fields))
     (single DATA (elements_of octets))
 
--- the Content, where the octets are what a node writes as a reply of this name with it
+-- the Content, if the octets are what a node writes as the reply of this name with it
 abbrev pub written_content : List Field → List ℕ → Option (List ℕ)
 written_content name octets =
     option_and_then
     (λ content. if bytes_eq octets (reply_text name content) then Some content else None)
     (data_field CONTENT octets)
 
--- the reply with this Content, with the signature that stands in the octets
+-- the reply with this Content, with the signature value in the octets
 abbrev pub written_data : List Field → List ℕ → List ℕ → PlainData
 written_data name content octets = record {
   name = name;

@@ -13,7 +13,7 @@ use Rattle.ndn_explain.specs.Show.{named_line}
 abbrev pub number_in : List ℕ → Option ℕ
 number_in value = result_ok (nni_at value)
 
--- the number of a component that is a segment
+-- the number of a segment component
 abbrev pub number_of : Option Field → Option ℕ
 number_of None = None
 number_of (Some c) = if c.0 == SEGMENT then number_in c.1 else None
@@ -22,7 +22,7 @@ number_of (Some c) = if c.0 == SEGMENT then number_in c.1 else None
 abbrev pub segment_of : List Field → Option ℕ
 segment_of name = number_of (slice_get name (length name - 1))
 
--- the last segment, which the FinalBlockId of the MetaInfo of a Data gives as a component
+-- the last segment, which the FinalBlockId in a Data's MetaInfo gives as a component
 abbrev pub last_segment : List ℕ → Option ℕ
 last_segment whole =
     option_and_then (λ component. number_in component)
@@ -36,6 +36,6 @@ segment_line (Some segment) (Some last) =
     named_line (codes "segment") (decimal segment ++ (codes " last " ++ decimal last))
 segment_line segment last = []
 
--- of a Data of this name and these octets, if it is a segment and tells the last one
+-- for a Data of this name and these octets, if it is a segment and names the last one
 abbrev pub segment_lines : List Field → List ℕ → List ℕ
 segment_lines name whole = segment_line (segment_of name) (last_segment whole)

@@ -9,7 +9,7 @@ use Rattle.ndn_packets.specs.Packet.{PlainSignature, PlainInterest, PlainData, P
 abbrev pub line : List ℕ → List ℕ
 line text = text ++ codes "\n"
 
--- octets in hexadecimal of lower case, on a line
+-- octets in lower-case hexadecimal, on a line
 abbrev pub hex_line : List ℕ → List ℕ
 hex_line octets = encode_lower octets ++ codes "\n"
 
@@ -17,11 +17,11 @@ hex_line octets = encode_lower octets ++ codes "\n"
 abbrev pub named_line : List ℕ → List ℕ → List ℕ
 named_line label value = label ++ (codes " " ++ line value)
 
--- a label alone, where it holds
+-- a label alone, if the flag is set
 abbrev pub flag_line : List ℕ → Bool → List ℕ
 flag_line label holds = if holds then line label else []
 
--- what is absent has no line
+-- an absent value has no line
 abbrev pub optional_line : List ℕ → Option (List ℕ) → List ℕ
 optional_line label None = []
 optional_line label (Some value) = named_line label value

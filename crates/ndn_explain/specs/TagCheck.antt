@@ -1,5 +1,5 @@
--- Whether the value of a packet's signature is the one that its covered octets have (NDN Packet
--- Format 0.3, "Signature"), and the line that says so.
+-- Whether a packet's signature value is right for the octets that the signature covers (NDN Packet
+-- Format 0.3, "Signature"), and the line that reports it.
 use Rattle.std.specs.Prelude.{◌≡◌, ◌≢◌, ◌⊎◌, ℕ, List, [], ◌++◌, codes, Option, None, Some}
 use Rattle.sha2.specs.Sha256.{sha256}
 use Rattle.ndn_tlv.specs.Element.{Field}
@@ -13,29 +13,29 @@ use Rattle.ndn_explain.specs.declared.tag_check.TagCheck.{TagCheck}
 use Rattle.ndn_explain.specs.declared.tag_check.TagCheck.TheVariants.{Right, Wrong, UnknownKey, Unchecked}
 use Rattle.ndn_explain.specs.Show.{line}
 
--- the covered octets, one part after the other
+-- the signed octets, one part after the other
 abbrev pub parts_of : Parts → List ℕ
 parts_of parts = parts.first.now ++ parts.second.now
 
--- of a value, where this is the right one
+-- a value compared with the right one
 abbrev pub IsValueCheck : List ℕ → List ℕ → TagCheck → Type 0
 IsValueCheck value right Right = value ≡ right
 IsValueCheck value right Wrong = value ≢ right
 IsValueCheck value right UnknownKey = ⊥
 IsValueCheck value right Unchecked = ⊥
 
--- of an HMAC, where the key has this name
+-- an HMAC under the key of this name
 abbrev pub IsNamedCheck : List Field → List NamedKey → List ℕ → List ℕ → TagCheck → Type 0
 IsNamedCheck name book value octets UnknownKey = (key : List ℕ) → IsAmong (name, key) book → ⊥
 IsNamedCheck name book value octets check =
     (key : List ℕ) × IsAmong (name, key) book × IsValueCheck value (Mac key octets) check
 
--- a KeyLocator that is no name names no key
+-- a KeyLocator without a Name gives no key
 abbrev pub IsLocatorCheck : PlainLocator → List NamedKey → List ℕ → List ℕ → TagCheck → Type 0
 IsLocatorCheck (KeyName name) book value octets check = IsNamedCheck name book value octets check
 IsLocatorCheck locator book value octets check = check ≡ UnknownKey
 
--- of a signature over these octets: a digest, an HMAC, or of another type
+-- a signature over these octets: a digest, an HMAC, or one of another type
 abbrev pub IsKindCheck : PlainSignature → List NamedKey → List ℕ → TagCheck → Type 0
 IsKindCheck s book octets check =
     ((s.info.kind ≡ DIGEST_SHA256) × IsValueCheck s.value (sha256 octets) check)
@@ -43,19 +43,19 @@ IsKindCheck s book octets check =
     × IsLocatorCheck s.info.locator book s.value octets check)
     ⊎ ((s.info.kind ≢ DIGEST_SHA256) × (s.info.kind ≢ HMAC_WITH_SHA256) × (check ≡ Unchecked)))
 
--- the same, where there may be no covered octets
+-- the same; without covered octets nothing is checked
 abbrev pub IsPartsCheck : PlainSignature → List NamedKey → Option (List ℕ) → TagCheck → Type 0
 IsPartsCheck s book None check = check ≡ Unchecked
 IsPartsCheck s book (Some octets) check = IsKindCheck s book octets check
 
--- the octets that the signature of a packet covers, if it covers any
+-- the octets that a packet's signature covers, if any
 abbrev pub AreCovered : PlainFrame → Option (List ℕ) → Type 0
 AreCovered packet None = (first second : List ℕ) → Covered packet first second → ⊥
 AreCovered packet (Some octets) =
     (first : List ℕ) × (second : List ℕ) × Covered packet first second
     × (octets ≡ first ++ second)
 
--- a packet that is not signed has no such check
+-- an unsigned packet is not checked
 abbrev pub IsSignedCheck : PlainFrame → Option PlainSignature → List NamedKey
     → Option TagCheck → Type 0
 IsSignedCheck packet None book check = check ≡ None
@@ -63,7 +63,7 @@ IsSignedCheck packet (Some s) book None = ⊥
 IsSignedCheck packet (Some s) book (Some check) =
     (octets : Option (List ℕ)) × AreCovered packet octets × IsPartsCheck s book octets check
 
--- of a packet, with the keys of a book; of the Interest that came back as a Nack
+-- a packet checked with the keys of a book; for a Nack, its Interest
 abbrev pub IsTagCheck : PlainFrame → List NamedKey → Option TagCheck → Type 0
 IsTagCheck (AnInterest whole i) book check =
     IsSignedCheck (AnInterest whole i) i.signature book check
@@ -73,7 +73,7 @@ IsTagCheck (ANack reason whole i) book check =
     IsSignedCheck (AnInterest whole i) i.signature book check
 IsTagCheck Idle book check = check ≡ None
 
--- the same, where keys may be given; without any nothing is checked
+-- the same with optional keys; without them nothing is checked
 abbrev pub MayBeChecked : PlainFrame → Option (List NamedKey) → Option TagCheck → Type 0
 MayBeChecked frame None check = check ≡ None
 MayBeChecked frame (Some book) check = IsTagCheck frame book check

@@ -15,13 +15,13 @@ use std::alloc::Global;
 /// How the entries of a list are laid out.
 #[derive(Clone, Copy, Debug, PartialEq, Eq)]
 pub enum Layout {
-    /// Lines that say in words what each value is.
+    /// Lines with a word before each value.
     Lines,
     /// Rows of a table, with tabs between the columns.
     Table,
 }
 
-/// What stands before each value.
+/// The text before each value.
 #[derive(Clone, Copy)]
 struct Labels {
     route: &'static str,
@@ -31,7 +31,7 @@ struct Labels {
     strategy: &'static str,
 }
 
-/// Appends the lines of the entries that a content holds; nothing for a content without any. After
+/// Appends the lines of the entries in a content; nothing if it has none. After
 /// `Memory` some of them may have been appended.
 pub fn put_entries(
     alloc: Global,

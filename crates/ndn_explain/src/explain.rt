@@ -1,4 +1,4 @@
-//! What a packet says to whoever looks for a fault, as lines of text.
+//! The explanation of a packet for debugging, as lines of text.
 
 ghost use Rattle.std.specs.Prelude.{◌≡◌, ◌++◌, OnOk, Some, option_map, codes};
 ghost use Rattle.std.specs.Fmt.{decimal};
@@ -32,7 +32,7 @@ pub fn check_of(frame: &Frame<'_>, keys: Option<&KeyBook>) -> Option<TagCheck>
     }
 }
 
-/// Appends the line of the PIT token beside a frame, in hexadecimal, where there is one (NDNLPv2, "PIT
+/// Appends the line of the PIT token beside a frame, in hexadecimal, if there is one (NDNLPv2, "PIT
 /// Token"), and what `put_explanation` appends. After `Memory` some of it may have been appended.
 pub fn put_framed_explanation(
     alloc: Global,
@@ -119,7 +119,7 @@ fn check_words(check: TagCheck) -> &'static str
     }
 }
 
-/// Appends the lines of the segment, the command, the reply or the list that the packet is.
+/// Appends the lines of the segment, the command, the reply or the list that the packet carries.
 fn put_meaning(alloc: Global, text: &mut Vec<u8>, frame: &Frame<'_>) -> Result<(), Memory>
     ensures { OnOk result (text.new.items ≡ text.old.items ++ meaning (plain_frame frame.now)) }
 {
@@ -152,7 +152,7 @@ pub fn put_content(alloc: Global, text: &mut Vec<u8>, content: &[u8]) -> Result<
     put_text(text, content)
 }
 
-/// Appends a content that is a text of one line.
+/// Appends a content if it is a text of one line.
 fn put_text(text: &mut Vec<u8>, content: &[u8]) -> Result<(), Memory>
     ensures { OnOk result (text.new.items ≡ text.old.items ++ text_lines content.now) }
 {
@@ -162,7 +162,7 @@ fn put_text(text: &mut Vec<u8>, content: &[u8]) -> Result<(), Memory>
     put_value(text, "text", content)
 }
 
-/// Appends the lines of the SignatureInfo of a packet that is signed.
+/// Appends the lines of the SignatureInfo of a signed packet.
 fn put_signer(
     alloc: Global,
     text: &mut Vec<u8>,

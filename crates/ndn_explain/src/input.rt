@@ -1,4 +1,4 @@
-//! Lines with packets, in words.
+//! Explaining a text line by line.
 
 ghost use Rattle.std.specs.Prelude.{◌≡◌, ◌≢◌, ◌<◌, ◌⊎◌, ◌++◌, ◌∷◌, [], List, ℕ, Ok, OnOk, codes, option_map, length};
 ghost use Rattle.hmac_keys.specs.KeyFile.{lines_of};
@@ -15,10 +15,10 @@ use ndn_packets::{PacketFault, read_lp};
 use ndn_tlv::Memory;
 use std::alloc::Global;
 
-/// Appends what is said of the lines of a text, which LFs part: the packet of a line in words, and
-/// a line without a packet as it is, but for empty lines. A packet is one or more octets in
-/// hexadecimal, alone in its line, or after the last space of a line that begins with `>`. With
-/// keys its signature is checked. After `Memory` some lines may have been appended.
+/// Explains a text line by line and appends the result: a packet by its explanation, and a line
+/// without a packet as it is, empty lines left out. A packet is one or more octets in hexadecimal,
+/// alone on its line, or after the last space of a line that begins with `>`. With keys its
+/// signature is checked. After `Memory` some lines may have been appended.
 pub fn put_input(
     alloc: Global,
     text: &mut Vec<u8>,
@@ -52,7 +52,7 @@ fn put_line(
     put_digits(alloc, text, line, head, digits, keys)
 }
 
-/// Appends what is said of a line with these digits, and what stands before them.
+/// Explains a line with these digits after this head.
 fn put_digits(
     alloc: Global,
     text: &mut Vec<u8>,
@@ -73,7 +73,7 @@ fn put_digits(
     }
 }
 
-/// Appends what is said of a line with these octets, if there are any.
+/// Explains a line with these octets, or repeats it if there are none.
 fn put_octets(
     alloc: Global,
     text: &mut Vec<u8>,
@@ -94,7 +94,7 @@ fn put_octets(
     put_packet(alloc, text, octets, keys)
 }
 
-/// What stands before a packet in a line, and its digits.
+/// The text before a packet in a line, and the packet's digits.
 fn parts_of(line: &str) -> (&str, &str)
     ensures { (result.0.now, result.1.now) ≡ parts_of line.now }
 {
@@ -107,14 +107,14 @@ fn parts_of(line: &str) -> (&str, &str)
     }
 }
 
-/// Whether the line begins as a send in a script's answers.
+/// Whether the line begins like a sent packet in a script's answers.
 fn is_send(line: &str) -> bool
     ensures { result ≡ is_send line.now }
 {
     line.starts_with('>')
 }
 
-/// Appends a line as it is, but for an empty one.
+/// Appends a line as it is, unless it is empty.
 fn put_repeated(text: &mut Vec<u8>, line: &str) -> Result<(), Memory>
     ensures { OnOk result (text.new.items ≡ text.old.items ++ repeated line.now) }
 {
@@ -125,7 +125,7 @@ fn put_repeated(text: &mut Vec<u8>, line: &str) -> Result<(), Memory>
     }
 }
 
-/// Appends what is said of the octets of a packet, or why they are none.
+/// Explains the octets of a packet, or says why they are none.
 fn put_packet(
     alloc: Global,
     text: &mut Vec<u8>,

@@ -1,4 +1,4 @@
-//! What packets say, in lines of text: their fields, commands, replies, lists and signatures.
+//! Explanations of packets as lines of text: fields, commands, replies, lists and signatures.
 #![tactic(auto)]
 
 mod dataset;

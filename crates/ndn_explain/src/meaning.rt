@@ -29,7 +29,7 @@ pub enum Form {
     Number,
     /// The components of a name.
     Name,
-    /// One Name, as a Strategy holds it.
+    /// One Name element, as in a Strategy.
     Strategy,
     /// A NonNegativeInteger whose bits are the flags of a route.
     Flags,
@@ -127,7 +127,7 @@ fn put_status(alloc: Global, text: &mut Vec<u8>, fields: &[u8], kind: u32) -> Re
     Ok(())
 }
 
-/// Appends the text of a status in one line, or a dash where it is missing.
+/// Appends the text of a status in one line, or a dash if it is missing.
 fn put_status_text(alloc: Global, text: &mut Vec<u8>, status: Option<&[u8]>) -> Result<(), Memory>
     ensures { OnOk result (text.new.items ≡ text.old.items
         ++ status_text (option_map (λ s. s.now) status.entry)) }
@@ -147,7 +147,7 @@ pub fn is_one_line(octets: &[u8]) -> bool
     octets.iter().all(|&octet| 32 <= octet && octet <= 126)
 }
 
-/// Appends the lines of fields, each where it is there.
+/// Appends a line for each field that is present.
 fn put_fields(alloc: Global, text: &mut Vec<u8>, fields: &[u8]) -> Result<(), Memory>
     ensures { OnOk result (text.new.items
         ≡ text.old.items ++ field_lines (elements_of fields.now)) }
@@ -168,7 +168,7 @@ fn put_hop(alloc: Global, text: &mut Vec<u8>, fields: &[u8]) -> Result<(), Memor
     put_field(alloc, text, "cost", Form::Number, fields, COST)
 }
 
-/// Appends the lines of a route that is registered.
+/// Appends the lines of a registered route.
 fn put_route(alloc: Global, text: &mut Vec<u8>, fields: &[u8]) -> Result<(), Memory>
     ensures { OnOk result (text.new.items
         ≡ text.old.items ++ route_lines (elements_of fields.now)) }
@@ -185,7 +185,7 @@ fn put_route(alloc: Global, text: &mut Vec<u8>, fields: &[u8]) -> Result<(), Mem
     )
 }
 
-/// Appends the lines of what a repository is asked for.
+/// Appends the lines of a repository command's own fields.
 fn put_wanted(alloc: Global, text: &mut Vec<u8>, fields: &[u8]) -> Result<(), Memory>
     ensures { OnOk result (text.new.items
         ≡ text.old.items ++ wanted_lines (elements_of fields.now)) }
@@ -205,7 +205,7 @@ fn put_wanted(alloc: Global, text: &mut Vec<u8>, fields: &[u8]) -> Result<(), Me
     )
 }
 
-/// Appends the line of a field, if it is there.
+/// Appends the line of a field, if it is present.
 fn put_field(
     alloc: Global,
     text: &mut Vec<u8>,
@@ -261,7 +261,7 @@ fn put_flags_text(alloc: Global, text: &mut Vec<u8>, value: &[u8]) -> Result<(),
     }
 }
 
-/// The flags of a route in words.
+/// The names of a route's flags.
 fn flags_word(flags: u64) -> &'static str
     ensures { result.now ≡ flags_word flags }
 {
@@ -297,7 +297,7 @@ fn put_name_text(alloc: Global, text: &mut Vec<u8>, value: &[u8]) -> Result<(), 
     }
 }
 
-/// Appends what is said of a value of a wrong form.
+/// Appends the text for a value of the wrong form.
 fn put_bad(alloc: Global, text: &mut Vec<u8>, value: &[u8]) -> Result<(), Memory>
     ensures { OnOk result (text.new.items ≡ text.old.items ++ bad_text value.now) }
 {

@@ -15,7 +15,7 @@ use ndn_packets::{DIGEST_SHA256, Locator, Signature, put_reply};
 use ndn_tlv::{Memory, first_field, single_element};
 use std::alloc::Global;
 
-/// The Content of a reply to the command of this name, where the octets are what a node writes with
+/// The Content of a reply to the command of this name, if the octets are what a node writes with
 /// it, of any length: a Data without MetaInfo, signed with DigestSha256.
 pub fn written_content<'a>(
     alloc: Global,
@@ -62,7 +62,7 @@ pub fn put_written(
     put_content(alloc, text, content)
 }
 
-/// A field of the Data that the octets are.
+/// A field of the Data in the octets.
 fn data_field(octets: &[u8], kind: u32) -> Option<&[u8]>
     ensures { option_map (λ v. v.now) result ≡ data_field kind octets.now }
 {

@@ -10,7 +10,7 @@ use ndn_packets::types::{DATA, FINAL_BLOCK_ID, META_INFO};
 use ndn_tlv::{Memory, first_field, nni_of, single_element};
 use std::io::Write;
 
-/// Appends the line of a segment, of a Data with this name and these received octets; nothing for
+/// Appends the line of a segment, for a Data with this name and these received octets; nothing for
 /// another Data.
 pub fn put_segment(text: &mut Vec<u8>, name: Name<'_>, whole: &[u8]) -> Result<(), Memory>
     ensures { OnOk result (text.new.items ≡ text.old.items

@@ -13,7 +13,7 @@ use ndn_tlv::Memory;
 use std::alloc::Global;
 use std::io::Write;
 
-/// Appends the lines of what a frame holds. After `Memory` some of them may have been appended.
+/// Appends the lines of a frame's fields. After `Memory` some of them may have been appended.
 pub fn put_frame(alloc: Global, text: &mut Vec<u8>, frame: &Frame<'_>) -> Result<(), Memory>
     ensures { OnOk result (text.new.items ≡ text.old.items ++ frame_lines (plain_frame frame.now)) }
 {

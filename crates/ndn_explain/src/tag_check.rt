@@ -11,12 +11,12 @@ use hmac_keys::{KeyBook, hmac_sha256, tags_equal};
 use ndn_packets::{DIGEST_SHA256, Frame, HMAC_WITH_SHA256, Interest, Locator, Parts, Signature};
 use sha2::{Digest, Sha256};
 
-/// What is known of a signature's value.
+/// The result of checking a signature's value.
 #[derive(Clone, Copy, Debug, PartialEq, Eq)]
 pub enum TagCheck {
-    /// It is the one that the covered octets have.
+    /// It is the right one for the octets that the signature covers.
     Right,
-    /// It is another one.
+    /// It is not the right one.
     Wrong,
     /// The KeyLocator names no key of the key file.
     UnknownKey,
@@ -24,7 +24,7 @@ pub enum TagCheck {
     Unchecked,
 }
 
-/// Checks the signature of a packet with the keys of a book, if the packet is signed.
+/// Checks the signature of a packet, if it is signed, with the keys of a book.
 pub fn check_tag(frame: &Frame<'_>, book: &KeyBook) -> Option<TagCheck>
     ensures { IsTagCheck (plain_frame frame.now) book.now result }
 {
@@ -46,7 +46,7 @@ fn check_interest(interest: &Interest<'_>, book: &KeyBook) -> Option<TagCheck>
     }
 }
 
-/// Checks a signature over the octets that it covers, if there are any.
+/// Checks a signature over the octets that it covers, if any.
 fn check_parts(signature: Signature<'_>, parts: Option<Parts<'_>>, book: &KeyBook) -> TagCheck
     ensures { IsPartsCheck (plain_signature signature.entry) book.now
         (option_map parts_of parts.entry) result }
@@ -95,7 +95,7 @@ fn digest_of(parts: Parts<'_>) -> [u8; 32]
     hasher.finalize()
 }
 
-/// What a value is, where this is the right one.
+/// Compares a signature's value with the right one.
 fn compared(value: &[u8], right: &[u8; 32]) -> TagCheck
     ensures { IsValueCheck value.now right.now result }
 {

@@ -1,4 +1,4 @@
--- What the arguments of a command line ask for, and what is refused.
+-- What the arguments of a command line ask for, and which are refused.
 use Rattle.std.specs.Prelude.{◌≡◌, ◌⊎◌, ℕ, true, false, List, [], drop, Option, None, Some, Result, Ok, Err, ⊤}
 use Rattle.clap.specs.Walk.{Row}
 use Rattle.clap.specs.Words.{kind_of}
@@ -23,7 +23,7 @@ use Rattle.ndn_jobs.specs.Ask.{is_list, IsListJob, IsPeekJob}
 use Rattle.ndn_jobs.specs.Nonce.{words_of}
 use Rattle.ndn_command_line.specs.CommandLine.{subcommand_named, tool}
 
--- help or the version was asked for, memory was refused, or the command line is wrong
+-- a request for help or the version, a lack of memory, or a wrong command line
 abbrev pub reading_of : ErrorKind → Error → Result Job ToolFault
 reading_of DisplayHelp error = Ok (Help error)
 reading_of DisplayVersion error = Ok (Help error)
@@ -40,8 +40,8 @@ IsListedJob now words name rows (Ask job) =
     (is_list rows ≡ true) × IsListJob now words name rows job
 IsListedJob now words name rows job = ⊥
 
--- what the options of a subcommand, which goes by this name, ask for at this time and in these
--- words; `route`, `strategy` and `cache` are short forms of `command`, and so is `repo`
+-- what the options of a subcommand with this name ask for at this time and in these words; `route`,
+-- `strategy`, `cache` and `repo` are short forms of `command`
 abbrev pub IsJobFor : Subcommand → ℕ → List ℕ → List ℕ → List Row → Job → Type 0
 IsJobFor sub.Interest now words name rows (Interest job) = IsLinkJob rows job
 IsJobFor sub.Data now words name rows (Data job) = IsDataJob rows job
@@ -61,11 +61,11 @@ abbrev pub IsFoundJob : Option Subcommand → ℕ → List ℕ → List ℕ → 
 IsFoundJob None now words name rows job = ⊥
 IsFoundJob (Some subcommand) now words name rows job = IsJobFor subcommand now words name rows job
 
--- the same, of the subcommand of this name, if there is one
+-- the same for the subcommand of this name, if there is one
 abbrev pub IsNamedJob : ℕ → List ℕ → List ℕ → List Row → Job → Type 0
 IsNamedJob now words name rows job = IsFoundJob (subcommand_named name) now words name rows job
 
--- the same, of the subcommand that was found, if one was
+-- the same for the subcommand that was found, if any
 abbrev pub IsJob : ℕ → List ℕ → Option (List ℕ × List Row) → Job → Type 0
 IsJob now words None job = ⊥
 IsJob now words (Some used) job = IsNamedJob now words used.0 used.1 job
@@ -85,7 +85,7 @@ IsJobOf now arguments job =
 abbrev pub IsText : ErrorKind → Type 0
 IsText kind = (kind ≡ DisplayHelp) ⊎ (kind ≡ DisplayVersion)
 
--- such a text, and otherwise the job of their subcommand
+-- such a text, or else the job of their subcommand
 abbrev pub Asks : ℕ → List (List ℕ) → Job → Type 0
 Asks now arguments (Help error) =
     IsText (kind_of error) × IsAmong (kind_of error) (faults arguments)

@@ -8,7 +8,7 @@ use Rattle.ndn_jobs.specs.declared.fault.Usage.TheVariants.{CommandLine, BadValu
 use Rattle.ndn_jobs.specs.declared.fault.ToolFault.{ToolFault}
 use Rattle.ndn_jobs.specs.declared.fault.ToolFault.TheVariants as tool
 
--- a packet that is not written; a lack of memory is the program's own fault
+-- a packet that cannot be written, or a lack of memory
 abbrev pub fault_of_write : WriteFault → ToolFault
 fault_of_write BadName = tool.Write BadName
 fault_of_write TooLong = tool.Write TooLong

@@ -1,4 +1,4 @@
--- What a job says of its key.
+-- The key file of a job.
 use Rattle.std.specs.Prelude.{ℕ, List, Option, None, Some, string_bytes}
 use Rattle.std.specs.Option.{option_map}
 use Rattle.ndn_jobs.specs.declared.job.Job.{Job}

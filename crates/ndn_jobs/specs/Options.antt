@@ -1,4 +1,4 @@
--- What the options of a subcommand spell, by what was found for each of them.
+-- What the options of a subcommand spell, by the values parsed for them.
 use Rattle.std.specs.Prelude.{◌≡◌, ℕ, List, Option, None, Some, Bool, true, false, is_some, is_none, ◌&&◌, codes, bytes_eq, if◌then◌else◌, unwrap_or, String, Vec, string_bytes}
 use Rattle.clap.specs.declared.parser.matches.ArgMatches.{ArgMatches}
 use Rattle.clap.specs.Matches.{found_of}
@@ -18,15 +18,15 @@ use Rattle.ndn_jobs.specs.declared.job.ExplainJob.{ExplainJob}
 use Rattle.ndn_jobs.specs.declared.job.SendJob.{SendJob}
 use Rattle.ndn_jobs.specs.Value.{IsNumber, IsHops, IsPort, AreOctets, IsPacket, IsNonce, IsTokenText}
 
--- what was found, option by option
+-- the parsed values, option by option
 abbrev pub rows_in : ArgMatches → List Row
 rows_in options = rows_of (found_of options)
 
--- the value of an option, if it is there
+-- the value of an option, if it is given
 abbrev pub value_at : List Row → List ℕ → Option (List ℕ)
 value_at rows id = first_of id rows
 
--- what was found for a flag
+-- the value of a flag
 abbrev pub flag_at : List Row → List ℕ → Option (List ℕ)
 flag_at rows id = one_of id rows
 
@@ -34,18 +34,19 @@ flag_at rows id = one_of id rows
 abbrev pub IsPath : {Z : Type 0} → List ℕ → String Z → Type 0
 IsPath value path = string_bytes path ≡ value
 
--- the value is there, and spells this
+-- the value is given and spells this
 abbrev pub Has : {A : Type 0} → Option (List ℕ) → (List ℕ → A → Type 0) → A → Type 0
 Has value Spells x = (w : List ℕ) × (value ≡ Some w) × Spells w x
 
--- the same, or neither is there
+-- the same, or there is neither
 abbrev pub MayHave : {A : Type 0} → Option (List ℕ) → (List ℕ → A → Type 0) → Option A → Type 0
 MayHave value Spells None = value ≡ None
 MayHave value Spells (Some x) = Has value Spells x
 
--- a value, or this where it is left out
+-- the value that is spelled, or this default
 abbrev pub HasOr : {A : Type 0} → A → Option (List ℕ) → (List ℕ → A → Type 0) → A → Type 0
-HasOr {A} other value Spells x = (given : Option A) × MayHave value Spells given × (x ≡ unwrap_or given other)
+HasOr {A} other value Spells x =
+    (given : Option A) × MayHave value Spells given × (x ≡ unwrap_or given other)
 
 abbrev pub IsFlag : Option (List ℕ) → Bool → Type 0
 IsFlag said b =
@@ -67,13 +68,13 @@ pub record IsKeyChoice (rows : List Row) (choice : KeyChoice) : Type 0 where
   pub keys : MayHave (value_at rows (codes "keys")) IsPath choice.keys
   pub key : MayHave (value_at rows (codes "key")) ReadsAs choice.key
 
--- the ports that a packet is sent to and from; a port to send from wants one to send to
+-- the ports that a packet is sent to and from; a port to send from needs one to send to
 pub record IsPorts (target source : Option (List ℕ)) (ports : Ports) : Type 0 where
   pub to : MayHave target IsPort ports.to
   pub from : MayHave source IsPort ports.from
   pub pair : is_none ports.to && is_some ports.from ≡ false
 
--- it is not sent
+-- the packet is not sent
 abbrev pub AreNoPorts : Ports → Type 0
 AreNoPorts ports = (ports.to ≡ None) × (ports.from ≡ None)
 

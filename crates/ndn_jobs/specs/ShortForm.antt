@@ -20,7 +20,7 @@ use Rattle.ndn_jobs.specs.Nonce.{nonce_of}
 abbrev pub words_are : List ℕ → List ℕ → List ℕ → List ℕ → Bool
 words_are subcommand verb first second = bytes_eq subcommand first && bytes_eq verb second
 
--- an action goes by these two words
+-- these two words name the action
 abbrev pub is_named : List ℕ → List ℕ → Action → Bool
 is_named subcommand verb AddNexthop = words_are subcommand verb (codes "route") (codes "add")
 is_named subcommand verb RemoveNexthop = words_are subcommand verb (codes "route") (codes "remove")
@@ -39,11 +39,11 @@ action_of subcommand verb = find (is_named subcommand verb) actions
 abbrev pub IsVerb : List ℕ → List ℕ → Action → Type 0
 IsVerb subcommand verb action = action_of subcommand verb ≡ Some action
 
--- an option is given only where the command takes the field of this type
+-- an option is absent unless the command takes the field of this type
 abbrev pub may_give : Action → ℕ → Option (List ℕ) → Bool
 may_give action kind value = takes kind (row_of action) || is_none value
 
--- a command on routes names the face
+-- a command on routes needs a face
 abbrev pub fits_route : Action → List Row → Bool
 fits_route action rows =
     is_some (value_at rows (codes "face"))
@@ -52,7 +52,7 @@ fits_route action rows =
     && may_give action FLAGS (value_at rows (codes "flags"))
     && may_give action EXPIRATION_PERIOD (value_at rows (codes "expires"))
 
--- what a verb takes and needs of what its subcommand offers
+-- the options suit the verb: it takes all that are given, and what it needs is given
 abbrev pub fits : Action → List Row → Bool
 fits AddNexthop rows = fits_route AddNexthop rows
 fits RemoveNexthop rows = fits_route RemoveNexthop rows
@@ -76,7 +76,7 @@ pub record AreShortParameters (rows : List Row) (p : Parameters) : Type 0 where
   pub can_be_prefix : p.can_be_prefix ≡ false
   pub lifetime : p.lifetime ≡ None
 
--- the time is the present one where it is left out, and the Nonce is made of the time and the words
+-- without options the time is the present, and the Nonce is made of the time and the words
 pub record IsShortStamp (now : ℕ) (words : List ℕ) (rows : List Row) (stamp : Stamp)
     : Type 0 where
   pub time : HasOr now (value_at rows (codes "time")) IsNumber stamp.time

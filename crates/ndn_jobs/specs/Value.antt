@@ -44,7 +44,7 @@ abbrev pub IsUsage : ToolFault → Type 0
 IsUsage (fault.Usage (BadValue place wanted)) = ⊤
 IsUsage why = ⊥
 
--- the same, of a text that spells nothing
+-- the fault of a text that spells no such value
 abbrev pub IsWrong : {A : Type 0} → (A → Type 0) → ToolFault → Type 0
 IsWrong {A} Spell (fault.Usage (BadValue place wanted)) = (x : A) → Spell x → ⊥
 IsWrong Spell why = ⊥

@@ -19,7 +19,7 @@ use std::convert::AsStr;
 /// Reads the arguments of a command line, the first of which is the program's name, at a time in
 /// milliseconds since 1970.
 ///
-/// Refuses a wrong command line by `Usage`, and any other by `Memory` alone.
+/// Returns `Usage` for a wrong command line, and else no error but `Memory`.
 pub fn parse_words<S: AsStr>(alloc: Global, now: u64, arguments: &[S]) -> Result<Job, ToolFault>
     ensures { MatchResult result
         (Asks now (map S.text arguments.now))
@@ -87,7 +87,7 @@ fn named_job(
     }
 }
 
-/// The job that the options of a subcommand, which goes by this name, ask for.
+/// The job that the options of a subcommand with this name ask for.
 fn job_for(
     alloc: Global,
     subcommand: Subcommand,

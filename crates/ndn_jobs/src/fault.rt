@@ -12,7 +12,7 @@ use std::fmt;
 pub enum Usage {
     /// The arguments are not a command line.
     CommandLine(clap::Error),
-    /// A value is not one that may be given there.
+    /// An option or argument has an invalid value.
     BadValue {
         /// The option or argument, as the help names it.
         place: &'static str,
@@ -32,7 +32,7 @@ pub enum ToolFault {
     Write(WriteFault),
     /// The octets to show are not a packet.
     Packet(PacketFault),
-    /// A growth of memory was refused.
+    /// Memory could not be allocated.
     Memory,
 }
 
@@ -40,8 +40,8 @@ impl ToolFault {
     ghost use Rattle.std.specs.Prelude.{◌≡◌};
     ghost use Rattle.ndn_jobs.specs.Fault.{tool_status};
 
-    /// The exit status: 1 for a missing key or a bad packet, 2 for a wrong command line, 3 if
-    /// memory was refused.
+    /// The exit status: 1 for a missing key or a bad packet, 2 for a wrong command line, 3 if out
+    /// of memory.
     pub fn exit_status(&self) -> u8
         ensures { result ≡ tool_status self.now }
     {
@@ -55,7 +55,7 @@ impl ToolFault {
     }
 }
 
-/// The fault of a value that may not be given there.
+/// The fault of an invalid value.
 pub fn refusal(place: &'static str, wanted: &'static str) -> ToolFault
     ensures { result ≡ ToolFault.Usage (Usage.BadValue place.entry wanted.entry) }
 {

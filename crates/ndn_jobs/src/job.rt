@@ -34,18 +34,18 @@ pub enum Job {
     Tag(TagJob),
     /// To show what a packet holds.
     Show(Vec<u8>),
-    /// To say in words what packets are.
+    /// To explain packets.
     Explain(ExplainJob),
     /// To send a packet, and to print the answer to it.
     Send(SendJob),
-    /// To send an Interest, and to say what the answer holds.
+    /// To send an Interest, and to print what its answer contains.
     Ask(AskJob),
 }
 
 /// The ports of 127.0.0.1 that a packet is sent to and from.
 #[derive(Clone, Copy, Debug)]
 pub struct Ports {
-    /// The port that it is sent to, if it is sent; else it is printed.
+    /// The port that it is sent to; without one it is printed.
     pub to: Option<u16>,
     /// The port that it is sent from; without one it is a new one.
     pub from: Option<u16>,
@@ -86,7 +86,7 @@ pub struct InterestJob {
 #[derive(Drop)]
 pub struct LinkJob {
     pub interest: InterestJob,
-    /// The PIT token; without one the Interest stands alone.
+    /// The PIT token; without one there is no link packet around the Interest.
     pub token: Option<Token>,
 }
 
@@ -111,7 +111,7 @@ pub struct CommandJob {
     pub stamp: Stamp,
 }
 
-/// What makes a command one of its own, and who sends it.
+/// What makes a command unique, who signs it, and where it is sent.
 #[derive(Drop)]
 pub struct Stamp {
     /// The value of the Nonce, 4 octets as they stand.
@@ -135,12 +135,12 @@ pub struct TagJob {
     pub key: NameBuf,
 }
 
-/// Packets to say in words.
+/// Packets to explain.
 #[derive(Drop)]
 pub struct ExplainJob {
     /// The packet; without one, those of standard input.
     pub packet: Option<Vec<u8>>,
-    /// The path of the key file that signatures are checked with; without one they are not.
+    /// The path of the key file to check signatures with; without one they are not checked.
     pub keys: Option<String>,
 }
 
@@ -255,7 +255,7 @@ impl CommandJob {
     }
 
     /// The command that a short form asks for: the subcommand of this name with these options.
-    /// Where they leave out the time and the Nonce, they are `now` and made of the words.
+    /// Without these options the time is `now`, and the Nonce is made of the time and the words.
     pub fn read_short(
         alloc: Global,
         subcommand: &str,
@@ -270,8 +270,8 @@ impl CommandJob {
         CommandJob::read_form(alloc, action, options, now, words)
     }
 
-    /// The command that the options of `repo` ask for. Where they leave out the time and the Nonce,
-    /// they are `now` and made of the words.
+    /// The command that the options of `repo` ask for. Without these options the time is `now`, and
+    /// the Nonce is made of the time and the words.
     pub fn read_repository(
         alloc: Global,
         options: &ArgMatches<'_>,
@@ -428,8 +428,8 @@ impl AskJob {
     ghost use Rattle.ndn_jobs.specs.Options.{rows_in};
     ghost use Rattle.ndn_jobs.specs.Ask.{IsListJob, IsPeekJob};
 
-    /// The list that `list` asks for, as a verb of the subcommand of this name. Where the options
-    /// leave out the Nonce, it is made of the time and the words.
+    /// The list that `list` asks for, as a verb of the subcommand of this name. Without an option
+    /// for it the Nonce is made of the time and the words.
     pub fn read_list(
         alloc: Global,
         subcommand: &str,
@@ -470,8 +470,8 @@ impl AskJob {
         })
     }
 
-    /// The Interest that the options of `peek` ask for. Where they leave out the Nonce, it is made of
-    /// the time and the words.
+    /// The Interest that the options of `peek` ask for. Where they leave out the Nonce, it is made
+    /// of the time and the words.
     pub fn read_peek(
         alloc: Global,
         options: &ArgMatches<'_>,
@@ -531,7 +531,7 @@ pub fn is_list(options: &ArgMatches<'_>) -> bool
     }
 }
 
-/// Whether nothing is given that belongs to the commands of the subcommand.
+/// Whether no option is given that belongs to the commands of the subcommand.
 fn is_alone(options: &ArgMatches<'_>) -> bool
     ensures { result ≡ is_alone (rows_in options.now) }
 {

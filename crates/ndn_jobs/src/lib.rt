@@ -1,4 +1,4 @@
-//! What the words of a command line ask for, as a job, and the faults of words that ask for none.
+//! Reads the words of a command line as a job, or as a fault if they ask for none.
 #![tactic(auto)]
 
 mod command;

@@ -20,7 +20,7 @@ pub fn words_of<S: AsStr>(alloc: Global, words: &[S]) -> Result<Vec<u8>, AllocEr
     Ok(text)
 }
 
-/// Appends a space and a word, or some octets of them.
+/// Appends a space and a word. After an error some octets of them may have been appended.
 fn put_spaced(text: &mut Vec<u8>, word: &str) -> Result<(), AllocError>
     ensures { OnOk result (text.new.items ≡ text.old.items ++ spaced word.now) }
 {
@@ -28,7 +28,7 @@ fn put_spaced(text: &mut Vec<u8>, word: &str) -> Result<(), AllocError>
     text.extend_from_slice(word.as_bytes())
 }
 
-/// The Nonce that is given, or one of its own for this time and these words.
+/// The given Nonce, or one made of this time and these words.
 pub fn nonce_or(
     alloc: Global,
     given: Option<[u8; 4]>,
@@ -43,8 +43,8 @@ pub fn nonce_or(
     }
 }
 
-/// A Nonce of its own for a time and the words of a command: the first four octets of SHA-256 over
-/// the time in decimal digits and the words.
+/// A Nonce made of a time and the words of a command: the first four octets of SHA-256 over the
+/// time in decimal digits and the words.
 fn nonce_of(alloc: Global, time: u64, words: &[u8]) -> Result<[u8; 4], AllocError>
     ensures { IfOk result (λ nonce. nonce ≡ nonce_of time words.now) }
 {

@@ -15,7 +15,7 @@ use clap::ArgMatches;
 use ndn_names::NameBuf;
 use std::alloc::Global;
 
-/// The value of an option, if it is there.
+/// The value of an option, if it is given.
 pub fn value<'a>(options: &ArgMatches<'a>, id: &str) -> Option<&'a str>
     ensures { option_map (λ value. value.now) result ≡ value_at (rows_in options.now) id.now }
 {
@@ -58,7 +58,7 @@ pub fn required_octets(
     parse_octets(alloc, id, required(options, id)?)
 }
 
-/// The packet that a required option spells, or none where that is a dash.
+/// The packet that a required option spells, or none for a dash.
 pub fn packet(
     alloc: Global,
     options: &ArgMatches<'_>,
@@ -101,14 +101,14 @@ pub fn required_port(options: &ArgMatches<'_>, id: &'static str) -> Result<u16, 
     parse_port(id, required(options, id)?)
 }
 
-/// Whether a flag is there.
+/// Whether a flag is given.
 pub fn flag(options: &ArgMatches<'_>, id: &'static str) -> bool
     ensures { IsFlag (flag_at (rows_in options.now) id.now) result }
 {
     options.get_flag(id)
 }
 
-/// The number that an option spells, if it is there.
+/// The number that an option spells, if it is given.
 pub fn number(options: &ArgMatches<'_>, id: &'static str) -> Result<Option<u64>, ToolFault>
     ensures { Reads (MayHave (value_at (rows_in options.now) id.now) IsNumber) result }
 {
@@ -118,7 +118,7 @@ pub fn number(options: &ArgMatches<'_>, id: &'static str) -> Result<Option<u64>,
     }
 }
 
-/// The number of hops that an option spells, if it is there.
+/// The number of hops that an option spells, if it is given.
 pub fn hops(options: &ArgMatches<'_>, id: &'static str) -> Result<Option<u8>, ToolFault>
     ensures { Reads (MayHave (value_at (rows_in options.now) id.now) IsHops) result }
 {
@@ -128,7 +128,7 @@ pub fn hops(options: &ArgMatches<'_>, id: &'static str) -> Result<Option<u8>, To
     }
 }
 
-/// The port that an option spells, if it is there.
+/// The port that an option spells, if it is given.
 pub fn port(options: &ArgMatches<'_>, id: &'static str) -> Result<Option<u16>, ToolFault>
     ensures { Reads (MayHave (value_at (rows_in options.now) id.now) IsPort) result }
 {
@@ -138,7 +138,7 @@ pub fn port(options: &ArgMatches<'_>, id: &'static str) -> Result<Option<u16>, T
     }
 }
 
-/// The octets that an option spells, if it is there.
+/// The octets that an option spells, if it is given.
 pub fn octets(
     alloc: Global,
     options: &ArgMatches<'_>,
@@ -152,7 +152,7 @@ pub fn octets(
     }
 }
 
-/// The PIT token that an option spells, if it is there.
+/// The PIT token that an option spells, if it is given.
 pub fn token(
     alloc: Global,
     options: &ArgMatches<'_>,
@@ -166,7 +166,7 @@ pub fn token(
     }
 }
 
-/// The name that an option spells, if it is there.
+/// The name that an option spells, if it is given.
 pub fn name(
     alloc: Global,
     options: &ArgMatches<'_>,
@@ -180,13 +180,15 @@ pub fn name(
     }
 }
 
-/// The name of a strategy that an option spells, if it is there: a URI, or the last word of it.
+/// The name of a strategy that an option spells, if it is given: a URI, `best-route` or
+/// `multicast`.
 pub fn strategy(
     alloc: Global,
     options: &ArgMatches<'_>,
     id: &'static str,
 ) -> Result<Option<NameBuf>, ToolFault>
-    ensures { ReadsInMemory (MayHave (value_at (rows_in options.now) id.now) SpellsStrategy) result }
+    ensures { ReadsInMemory
+        (MayHave (value_at (rows_in options.now) id.now) SpellsStrategy) result }
 {
     match value(options, id) {
         None => Ok(None),
@@ -194,7 +196,7 @@ pub fn strategy(
     }
 }
 
-/// The value of the Nonce that an option spells, if it is there.
+/// The value of the Nonce that an option spells, if it is given.
 pub fn nonce(options: &ArgMatches<'_>, id: &'static str) -> Result<Option<[u8; 4]>, ToolFault>
     ensures { Reads (MayHave (value_at (rows_in options.now) id.now) IsNonce) result }
 {
@@ -204,7 +206,7 @@ pub fn nonce(options: &ArgMatches<'_>, id: &'static str) -> Result<Option<[u8; 4
     }
 }
 
-/// The path that an option gives, if it is there.
+/// The path that an option gives, if it is given.
 pub fn path(
     alloc: Global,
     options: &ArgMatches<'_>,

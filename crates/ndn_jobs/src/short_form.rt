@@ -1,4 +1,4 @@
-//! The short forms of commands, as people of this field type them.
+//! The short forms of commands: `route`, `strategy` and `cache` with their verbs.
 
 ghost use Rattle.std.specs.Prelude.{◌≡◌, codes, false, true, Some, MatchResult};
 ghost use Rattle.ndn_packets.specs.declared.command_types.TheConstants.{COST, ORIGIN, FLAGS, EXPIRATION_PERIOD};
@@ -24,7 +24,7 @@ pub fn action_in(subcommand: &str, options: &ArgMatches<'_>) -> Result<Action, T
     }
 }
 
-/// The verbs of a subcommand, as words for people.
+/// The verbs of a subcommand, for messages.
 fn verbs_of(subcommand: &str) -> &'static str {
     match subcommand {
         "route" => "add, remove, list, register or unregister",
@@ -33,7 +33,7 @@ fn verbs_of(subcommand: &str) -> &'static str {
     }
 }
 
-/// Whether the action goes by these two words.
+/// Whether these two words name the action.
 fn is_named(action: Action, subcommand: &str, verb: &str) -> bool
     ensures { result ≡ is_named subcommand.now verb.now action }
 {
@@ -48,7 +48,7 @@ fn is_named(action: Action, subcommand: &str, verb: &str) -> bool
     }
 }
 
-/// The action that goes by these two words.
+/// The action that these two words name.
 fn action_of(subcommand: &str, verb: &str) -> Option<Action>
     ensures { result ≡ action_of subcommand.now verb.now }
 {
@@ -76,7 +76,7 @@ fn action_of(subcommand: &str, verb: &str) -> Option<Action>
     None
 }
 
-/// Refuses options that the verb does not take, and what it needs where that is left out.
+/// Refuses options that the verb does not take, and a command without what its verb needs.
 pub fn check_fit(action: Action, options: &ArgMatches<'_>) -> Result<(), ToolFault>
     ensures { MatchResult result (λ _. fits action (rows_in options.now) ≡ true)
         (λ why. IsUsage why × (fits action (rows_in options.now) ≡ false)) }
@@ -95,7 +95,7 @@ pub fn check_fit(action: Action, options: &ArgMatches<'_>) -> Result<(), ToolFau
     }
 }
 
-/// The same of a command on routes.
+/// The same for a command on routes.
 fn check_route(action: Action, options: &ArgMatches<'_>) -> Result<(), ToolFault>
     ensures { MatchResult result (λ _. fits_route action (rows_in options.now) ≡ true)
         (λ why. IsUsage why × (fits_route action (rows_in options.now) ≡ false)) }

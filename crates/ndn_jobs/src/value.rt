@@ -70,7 +70,7 @@ pub fn parse_token(alloc: Global, place: &'static str, text: &str) -> Result<Tok
     }
 }
 
-/// The packet that a text spells in hexadecimal, or none where the text is a dash.
+/// The packet that a text spells in hexadecimal, or none if the text is a dash.
 pub fn parse_packet(
     alloc: Global,
     place: &'static str,

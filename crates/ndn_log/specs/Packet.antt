@@ -1,4 +1,4 @@
--- Packets in words.
+-- The texts for packets.
 use Rattle.std.specs.Prelude.{ℕ, List, [], ◌++◌, codes, Option, None, Some, ◌==◌, if◌then◌else◌}
 use Rattle.std.specs.Fmt.{decimal}
 use Rattle.std.specs.Result.{result_ok}
@@ -8,11 +8,11 @@ use Rattle.ndn_packets.specs.declared.types.TheConstants.{CONGESTION, DUPLICATE,
 use Rattle.ndn_packets.specs.Packet.{PlainLocator, Missing, KeyName, Digest, Other, PlainSignature, PlainFrame, AnInterest, AData, ANack, Idle}
 use Rattle.ndn_packets.specs.FrameReading.{frame_at}
 
--- what octets hold, if they hold something
+-- the frame in the octets, if there is one
 abbrev pub frame_in : List ℕ → Option PlainFrame
 frame_in octets = result_ok (frame_at octets)
 
--- the name of the reason of a Nack (NDNLPv2, "Network Nack"), and the number of another
+-- the name of a Nack's reason (NDNLPv2, "Network Nack"), or the number of another one
 abbrev pub nack_reason : ℕ → List ℕ
 nack_reason reason =
     if reason == CONGESTION then codes "Congestion" else (
@@ -28,7 +28,7 @@ frame_words (AData whole d) = codes "Data " ++ uri_of d.name
 frame_words (ANack reason whole i) = nack_words reason i.name
 frame_words Idle = codes "idle"
 
--- of octets that hold nothing the word alone
+-- for octets without a packet the word alone
 abbrev pub packet_words : Option PlainFrame → List ℕ
 packet_words None = codes "packet"
 packet_words (Some frame) = frame_words frame
@@ -51,7 +51,7 @@ abbrev pub signer_of : Option PlainSignature → Option (List Field)
 signer_of None = None
 signer_of (Some signature) = named_by signature.info.locator
 
--- the name of the key that a packet says it was signed with
+-- the name of the key in a packet's KeyLocator
 abbrev pub key_of : Option PlainFrame → Option (List Field)
 key_of frame = signer_of (signature_in frame)
 

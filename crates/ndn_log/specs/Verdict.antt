@@ -1,4 +1,4 @@
--- Verdicts in words.
+-- The texts for verdicts.
 use Rattle.std.specs.Prelude.{ℕ, List, [], ◌++◌, codes, Option, Result, Ok, Err}
 use Rattle.std.specs.Fmt.{decimal}
 use Rattle.ndn_tlv.specs.declared.memory.Memory.{Memory}
@@ -14,7 +14,7 @@ use Rattle.forwarder.specs.Verdict.{DropReason, NoFace, Malformed, Idle, HopLimi
 use Rattle.ndn_log.specs.Packet.{key_words}
 use Rattle.ndn_log.specs.Words.{octets_words}
 
--- why an event was dropped; of malformed octets with what is wrong with them
+-- why an event was dropped; for malformed octets with their fault
 abbrev pub drop_words : DropReason → List ℕ
 drop_words NoFace = codes "NoFace"
 drop_words (Malformed fault) = codes "Malformed " ++ packet_name fault
@@ -34,7 +34,7 @@ abbrev pub denial_words : List PlainRule → ℕ → Reason → List ℕ
 denial_words rules rule reason =
     codes "denied by rule " ++ (id_of rules rule ++ (codes ", " ++ reason_name reason))
 
--- Rules stand by their ids. A denial ends with the key that the packet names.
+-- Rules are named by their ids. A denial ends with the key that the packet names.
 abbrev pub verdict_words : List PlainRule → Option PlainFrame → Verdict → List ℕ
 verdict_words rules frame Passed = codes "passed"
 verdict_words rules frame (Allowed rule status) =
@@ -49,7 +49,7 @@ abbrev pub outcome_words : List PlainRule → Option PlainFrame → Result code.
 outcome_words rules frame (Ok verdict) = verdict_words rules frame (verdict_of verdict)
 outcome_words rules frame (Err _) = codes "out of memory"
 
--- the octets of a packet that was dropped; nothing of one that was not
+-- the octets of a dropped packet; nothing if it was not dropped
 abbrev pub dropped_words : List ℕ → Result code.Verdict Memory → List ℕ
 dropped_words octets (Ok outcomes.Passed) = []
 dropped_words octets (Ok (outcomes.Allowed rule status)) = []

@@ -1,4 +1,4 @@
--- Faces, counts and octets in words.
+-- The texts for faces, counts and octets.
 use Rattle.std.specs.Prelude.{ℕ, List, [], ◌∷◌, ◌++◌, length, take, codes, Option, None, Some, ◌==◌, if◌then◌else◌}
 use Rattle.std.specs.Fmt.{decimal}
 use Rattle.std.specs.Net.Text.{socket_text}
@@ -6,7 +6,7 @@ use Rattle.std.specs.declared.net.socket_addr.SocketAddr.{SocketAddr}
 use Rattle.hex.specs.Hex.{encode_lower}
 use Rattle.ndn_log.specs.declared.words.TheConstants.{CUT_OCTETS, SHOWN_OCTETS}
 
--- with the endpoint of the face, where it is known
+-- a face, with its endpoint if known
 abbrev pub face_words : ℕ → Option SocketAddr → List ℕ
 face_words face None = codes "face " ++ decimal face
 face_words face (Some endpoint) =
@@ -15,7 +15,7 @@ face_words face (Some endpoint) =
 abbrev pub plural_of : ℕ → List ℕ
 plural_of count = if count == 1 then [] else codes "s"
 
--- a count of what the noun names
+-- a count with its noun
 abbrev pub counted : ℕ → List ℕ → List ℕ
 counted count noun = decimal count ++ (codes " " ++ (noun ++ plural_of count))
 
@@ -25,11 +25,12 @@ beginning_words [] = []
 beginning_words (o ∷ octets) =
     codes " beginning " ++ encode_lower (take SHOWN_OCTETS (o ∷ octets))
 
--- a packet of more than 9,000 octets comes cut to 9,001
+-- a datagram of more than 9,000 octets is cut to 9,001
 abbrev pub more_words : ℕ → List ℕ
 more_words count = if count == CUT_OCTETS then codes " or more" else []
 
--- how many octets there are, and the first 32
+-- the number of octets, and the first 32
 abbrev pub octets_words : List ℕ → List ℕ
 octets_words octets =
-    counted (length octets) (codes "octet") ++ (more_words (length octets) ++ beginning_words octets)
+    counted (length octets) (codes "octet")
+    ++ (more_words (length octets) ++ beginning_words octets)

@@ -7,7 +7,7 @@ use forwarder::{Scope, Verdict};
 use ndn_tlv::Memory;
 use std::net::SocketAddr;
 
-/// What a node was handed as one event.
+/// What came as one event of a node.
 #[derive(Clone, Copy, Debug)]
 pub enum Came<'a> {
     /// Octets came on a face.
@@ -18,7 +18,7 @@ pub enum Came<'a> {
     Closed { face: u64 },
     /// Time passed.
     Tick,
-    /// Rules and keys took the place of those in force.
+    /// Rules and keys were replaced.
     NewRules,
 }
 
@@ -27,13 +27,13 @@ pub enum Came<'a> {
 pub struct Entry<'a> {
     /// The moment, in milliseconds since 1970.
     pub moment: u64,
-    /// The endpoint of the face, where it is known.
+    /// The endpoint of the face, if known.
     pub endpoint: Option<SocketAddr>,
     pub came: Came<'a>,
 }
 
-/// Whether a log that does not show all leaves this out: events that passed and Data that were
-/// allowed, but no new rules.
+/// Whether a log that does not show all events leaves this one out: events that passed and Data
+/// that were allowed, except new rules.
 pub fn is_plain(entry: &Entry<'_>, outcome: &Result<Verdict, Memory>) -> bool
     ensures { result ≡ is_plain entry.now.came outcome.now }
 {
@@ -53,7 +53,7 @@ fn is_plain_outcome(outcome: &Result<Verdict, Memory>) -> bool
     }
 }
 
-/// The octets that came; none where no packet came.
+/// The octets that came; none if no packet came.
 pub(crate) fn octets_in<'a>(entry: &Entry<'a>) -> &'a [u8]
     ensures { result.now ≡ octets_in entry.now.came }
 {

@@ -1,4 +1,4 @@
-//! A log for people: the lines of what a node did.
+//! A log for operators: a line for each event of a node.
 #![tactic(auto)]
 
 mod entry;

@@ -9,7 +9,7 @@ use std::alloc::Global;
 use std::fmt;
 use std::io::Write;
 
-/// An octet of a line. What is not printable ASCII is escaped, so that no terminal acts on it.
+/// An octet of a line. It is escaped unless it is printable ASCII, so that no terminal acts on it.
 #[derive(Clone, Copy)]
 struct Shown(u8);
 
@@ -47,8 +47,8 @@ fn is_printable(octet: u8) -> bool
     32 <= octet && octet <= 126
 }
 
-/// Appends a line: the time of a moment, in milliseconds since 1970, and words. Where memory is
-/// refused, nothing is appended.
+/// Appends a line: the time of a moment, in milliseconds since 1970, and words. After `Memory`
+/// nothing has been appended.
 pub fn put_line(alloc: Global, text: &mut Vec<u8>, moment: u64, words: &[u8]) -> Result<(), Memory>
     ensures ok { OnOk result (IsLogged text.old.items text.new.items moment words.now) }
     ensures one_line { OnOk result (IsOneLine (drop (vec_len text.old) text.new.items)) }
@@ -61,7 +61,7 @@ pub fn put_line(alloc: Global, text: &mut Vec<u8>, moment: u64, words: &[u8]) ->
     put_shown(alloc, text, &stamped)
 }
 
-/// Appends octets as a line. Where memory is refused, nothing is appended.
+/// Appends octets as a line. After `Memory` nothing has been appended.
 fn put_shown(alloc: Global, text: &mut Vec<u8>, octets: &[u8]) -> Result<(), Memory>
     ensures ok { OnOk result (text.new.items ≡ text.old.items ++ line_of octets.now) }
     ensures one_line { OnOk result (IsOneLine (drop (vec_len text.old) text.new.items)) }

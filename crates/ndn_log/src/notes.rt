@@ -1,7 +1,8 @@
-//! Lines of what is no event.
+//! Lines about what is no event.
 
-ghost use Rattle.std.specs.Prelude.{◌≡◌, drop, vec_len, IfOk, OnErr, OnOk};
+ghost use Rattle.std.specs.Prelude.{◌≡◌, ◌++◌, drop, vec_len, IfOk, OnErr, OnOk};
 ghost use Rattle.ndn_log.specs.Line.{IsLogged, IsOneLine};
+ghost use Rattle.ndn_log.specs.Words.{counted};
 ghost use Rattle.ndn_log.specs.Notes.{closed_idle_words, failed_send_words, stranger_words};
 
 use crate::line::put_line;
@@ -10,8 +11,8 @@ use ndn_tlv::Memory;
 use std::alloc::Global;
 use std::net::SocketAddr;
 
-/// Appends a line of a send that failed: the face, its endpoint where that is known, and the number
-/// of octets and the first 32 of them. Where memory is refused, nothing is appended.
+/// Appends a line about a failed send: the face, its endpoint if known, and the number of octets
+/// with the first 32 of them. After `Memory` nothing has been appended.
 pub fn put_failed_send(
     alloc: Global,
     text: &mut Vec<u8>,
@@ -29,8 +30,8 @@ pub fn put_failed_send(
     put_line(alloc, text, moment, &words)
 }
 
-/// Appends a line of how many faces closed because nothing had come on them for too long. Where
-/// memory is refused, nothing is appended.
+/// Appends a line with the number of faces that closed because nothing had come on them for too
+/// long. After `Memory` nothing has been appended.
 pub fn put_closed_idle(
     alloc: Global,
     text: &mut Vec<u8>,
@@ -42,12 +43,11 @@ pub fn put_closed_idle(
     ensures one_line { OnOk result (IsOneLine (drop (vec_len text.old) text.new.items)) }
     ensures err { OnErr result (text.new.items ≡ text.old.items) }
 {
-    let words = closed_idle_words(alloc, count)?;
-    put_line(alloc, text, moment, &words)
+    put_counted(alloc, text, moment, count, "face", " closed idle")
 }
 
-/// Appends a line of how many datagrams of strangers were dropped: endpoints that are no peers.
-/// Where memory is refused, nothing is appended.
+/// Appends a line with the number of dropped datagrams of strangers: endpoints that are no peers.
+/// After `Memory` nothing has been appended.
 pub fn put_strangers(
     alloc: Global,
     text: &mut Vec<u8>,
@@ -59,7 +59,27 @@ pub fn put_strangers(
     ensures one_line { OnOk result (IsOneLine (drop (vec_len text.old) text.new.items)) }
     ensures err { OnErr result (text.new.items ≡ text.old.items) }
 {
-    let words = stranger_words(alloc, count)?;
+    put_counted(alloc, text, moment, count, "datagram", " of strangers")
+}
+
+/// Appends a line with a count of what the noun names, and a word after it. After `Memory`
+/// nothing has been appended.
+fn put_counted(
+    alloc: Global,
+    text: &mut Vec<u8>,
+    moment: u64,
+    count: u64,
+    noun: &str,
+    word: &str,
+) -> Result<(), Memory>
+    ensures ok { OnOk result (IsLogged text.old.items text.new.items moment
+        (counted count noun.now ++ word.now)) }
+    ensures one_line { OnOk result (IsOneLine (drop (vec_len text.old) text.new.items)) }
+    ensures err { OnErr result (text.new.items ≡ text.old.items) }
+{
+    let mut words = Vec::new(alloc);
+    put_count(&mut words, count, noun)?;
+    put_word(&mut words, word)?;
     put_line(alloc, text, moment, &words)
 }
 
@@ -76,23 +96,5 @@ fn failed_send_words(
     put_face(&mut words, face, endpoint)?;
     put_word(&mut words, " failed: ")?;
     put_octets(alloc, &mut words, octets)?;
-    Ok(words)
-}
-
-fn closed_idle_words(alloc: Global, count: u64) -> Result<Vec<u8>, Memory>
-    ensures { IfOk result (λ words. words.items ≡ closed_idle_words count) }
-{
-    let mut words = Vec::new(alloc);
-    put_count(&mut words, count, "face")?;
-    put_word(&mut words, " closed idle")?;
-    Ok(words)
-}
-
-fn stranger_words(alloc: Global, count: u64) -> Result<Vec<u8>, Memory>
-    ensures { IfOk result (λ words. words.items ≡ stranger_words count) }
-{
-    let mut words = Vec::new(alloc);
-    put_count(&mut words, count, "datagram")?;
-    put_word(&mut words, " of strangers")?;
     Ok(words)
 }

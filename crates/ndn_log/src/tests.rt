@@ -70,7 +70,8 @@ fn shown(alloc: Global, came: Came<'_>, verdict: Verdict) -> Option<Vec<u8>> {
     Some(text)
 }
 
-/// Whether the line of a packet that is too long says that it may be longer than what is left of it.
+/// Whether the line of a packet that is too long says that it may be longer than what is left of
+/// it.
 fn says_more(alloc: Global) -> bool {
     let Ok(octets) = vec![in alloc; 5; 9_001] else {
         return false;

@@ -1,4 +1,4 @@
-//! Moments as RFC 3339 writes them.
+//! Moments in the form of RFC 3339.
 
 ghost use Rattle.std.specs.Prelude.{◌≡◌, ◌<◌, ◌≤◌, ◌*ℤ◌, pos, OnOk, MatchOption};
 ghost use Rattle.ndn_log.specs.Time.{IsDatePut, IsTimePut};

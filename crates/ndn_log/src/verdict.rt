@@ -1,4 +1,4 @@
-//! Verdicts in words.
+//! The texts for verdicts.
 
 ghost use Rattle.std.specs.Prelude.{◌≡◌, ◌++◌, OnOk, option_map};
 ghost use Rattle.ndn_packets.specs.View.{plain_frame};
@@ -14,8 +14,8 @@ use ndn_tlv::Memory;
 use std::alloc::Global;
 use std::io::Write;
 
-/// Appends what became of an event, with what its octets are. After `Memory` some of it may have
-/// been appended.
+/// Appends the verdict on an event with this frame. After `Memory` some of it may have been
+/// appended.
 pub fn put_outcome(
     text: &mut Vec<u8>,
     rules: &Rules,
@@ -31,7 +31,7 @@ pub fn put_outcome(
     }
 }
 
-/// Appends the octets of a packet that was dropped, after a comma; nothing of one that was not.
+/// Appends the octets of a dropped packet, after a comma; nothing if it was not dropped.
 /// After `Memory` some of it may have been appended.
 pub fn put_dropped(
     alloc: Global,

@@ -1,4 +1,4 @@
-//! Faces, counts and octets in words.
+//! The texts for faces, counts and octets.
 
 ghost use Rattle.std.specs.Prelude.{◌≡◌, ◌++◌, OnOk, take};
 ghost use Rattle.ndn_log.specs.Words.{beginning_words, counted, face_words, more_words, octets_words, plural_of};
@@ -9,10 +9,10 @@ use std::alloc::Global;
 use std::io::Write;
 use std::net::SocketAddr;
 
-/// How many octets of a packet a line shows.
+/// The number of octets of a packet that a line shows.
 const SHOWN_OCTETS: usize = 32;
 
-/// What is left of a packet that is longer than a frame may be: one octet more than that.
+/// The length that a longer packet is cut to: one octet more than a frame may have.
 const CUT_OCTETS: usize = MAX_FRAME + 1;
 
 /// Appends a word, or nothing.
@@ -23,7 +23,7 @@ pub fn put_word(text: &mut Vec<u8>, word: &str) -> Result<(), Memory>
     Ok(())
 }
 
-/// Appends a face, with its endpoint where that is known. After `Memory` some of it may have been
+/// Appends a face, with its endpoint if known. After `Memory` some of it may have been
 /// appended.
 pub fn put_face(text: &mut Vec<u8>, face: u64, endpoint: Option<SocketAddr>) -> Result<(), Memory>
     ensures { OnOk result (text.new.items ≡ text.old.items ++ face_words face endpoint) }
@@ -34,7 +34,7 @@ pub fn put_face(text: &mut Vec<u8>, face: u64, endpoint: Option<SocketAddr>) -> 
     }
 }
 
-/// Appends a count of what a noun names. After `Memory` some of it may have been appended.
+/// Appends a count with its noun. After `Memory` some of it may have been appended.
 pub fn put_count(text: &mut Vec<u8>, count: u64, noun: &str) -> Result<(), Memory>
     ensures { OnOk result (text.new.items ≡ text.old.items ++ counted count noun.now) }
 {
@@ -47,8 +47,9 @@ fn plural_of(count: u64) -> &'static str
     if count == 1 { "" } else { "s" }
 }
 
-/// Appends the number of octets, and the first 32 of them. Of 9,001 octets it says that there may be
-/// more, since a longer packet comes cut to that. After `Memory` some of it may have been appended.
+/// Appends the number of octets, and the first 32 of them. Of 9,001 octets it says that there may
+/// be more, since a longer packet comes cut to that. After `Memory` some of it may have been
+/// appended.
 pub fn put_octets(alloc: Global, text: &mut Vec<u8>, octets: &[u8]) -> Result<(), Memory>
     ensures { OnOk result (text.new.items ≡ text.old.items ++ octets_words octets.now) }
 {

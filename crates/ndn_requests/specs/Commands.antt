@@ -1,5 +1,5 @@
--- What the node and a repository read of the commands that are written here (NFD Management,
--- "Control Command").
+-- How the node and a repository read the commands that are written here (NFD Management, "Control
+-- Command").
 use Rattle.std.specs.Prelude.{ℕ, ◌<◌, ◌^◌, List, [], ◌∷◌, ◌++◌, map, Bool, not, ◌&&◌, Option, IfSome, Result, Ok, codes, unwrap_or}
 use Rattle.std.specs.List.{list_all}
 use Rattle.ndn_tlv.specs.declared.fault.TlvFault.{TlvFault}
@@ -19,11 +19,11 @@ use Rattle.ndn_requests.specs.Parameters.{command_name, node_fields}
 
 -- ---- values of the program's types
 
--- a name's octets are those of these components
+-- the octets of these components are a Name's value
 abbrev pub IsWhole : List Field → Type 0
 IsWhole name = IsNameValue (octets_of name) name
 
--- a number of 64 bits, where there is one
+-- a number of 64 bits, if there is one
 abbrev pub Fits64 : Option ℕ → Type 0
 Fits64 n = IfSome n (λ n. n < 2 ^ 64)
 
@@ -60,7 +60,8 @@ node_name action = node_path (row_of action).part (row_of action).verb
 abbrev pub kinds : Parameters → List ℕ
 kinds p = map (λ (f : Field). f.0) (node_fields p)
 
--- the command takes each field that is there, each that it needs is there, and the name may be this
+-- the command takes each field that is present, each that it needs is present, and it takes this
+-- name
 abbrev pub suits : Action → Parameters → Bool
 suits action p =
     list_all (λ kind. takes kind (row_of action)) (kinds p)

@@ -1,4 +1,4 @@
--- What comes of each datagram that is received after a request was sent.
+-- The effect of each datagram that is received after a request was sent.
 use Rattle.std.specs.Prelude.{◌≡◌, ℕ, List, [], ◌++◌, nat_lt, Option, None, Some, Result, Ok, Err, Bool, true, false, unwrap_or, not, ◌&&◌, if◌then◌else◌, ⊤}
 use Rattle.ndn_tlv.specs.Element.{Field}
 use Rattle.ndn_names.specs.View.{components}
@@ -42,7 +42,7 @@ IsRequest name nonce packet =
     (w : InterestWriter) × AsksPlainly name nonce w × (interest_refusal w ≡ None)
     × (packet ≡ interest_text w)
 
--- why it cannot be written
+-- why such an Interest cannot be written
 abbrev pub IsNoRequest : List Field → List ℕ → WriteFault → Type 0
 IsNoRequest name nonce Memory = ⊤
 IsNoRequest name nonce why =
@@ -76,7 +76,7 @@ IsProgress view request datagram (Some outcome) progress =
 
 -- ---- segments
 
--- the next segment is asked for, or the table is whole
+-- the next segment is requested, or the table is complete
 abbrev pub IsStepped : Bool → Exchange → NodeList → ℕ → List ℕ → PlainData → Exchange → Progress
     → Type 0
 IsStepped true old list segment nonce d new progress =
@@ -86,7 +86,7 @@ IsStepped true old list segment nonce d new progress =
 IsStepped false old list segment nonce d new progress =
     IsDone (table list (old.contents.items ++ unwrap_or d.content [])) (Ok tt) progress
 
--- a Data that is this segment, or none
+-- a Data that is the requested segment, or another one
 abbrev pub IsPlaced : Option (ℕ × ℕ) → Exchange → NodeList → List ℕ → PlainData → Exchange
     → Progress → Type 0
 IsPlaced None old list nonce d new progress = (new ≡ old) × (progress ≡ Ignored)
@@ -104,7 +104,7 @@ IsListed old list turn (Ok (ANack reason whole i)) new progress =
 IsListed old list turn (Ok Idle) new progress = (new ≡ old) × (progress ≡ Ignored)
 IsListed old list turn (Err why) new progress = (new ≡ old) × (progress ≡ Ignored)
 
--- what the request for a segment asks for
+-- which segment a request asks for
 abbrev pub turn_of : Result PlainFrame PacketFault → Option Turn
 turn_of (Ok (AnInterest whole i)) = Some (record { is_first = i.can_be_prefix; nonce = i.nonce })
 turn_of (Ok (AData whole d)) = None
@@ -117,7 +117,7 @@ IsTurned None old list datagram new progress = (new ≡ old) × (progress ≡ Ig
 IsTurned (Some turn) old list datagram new progress =
     IsListed old list turn (frame_at datagram) new progress
 
--- a datagram by what it comes to as an answer
+-- a datagram by the outcome of the request
 abbrev pub IsSegment : Option Outcome → Exchange → NodeList → List ℕ → Exchange → Progress → Type 0
 IsSegment None old list datagram new progress = (new ≡ old) × (progress ≡ Ignored)
 IsSegment (Some (Err failure)) old list datagram new progress =
@@ -139,7 +139,7 @@ IsTakenBy view old book datagram new progress =
     × IsJudged old.request.items book datagram outcome
     × IsProgress view old.request.items datagram outcome progress
 
--- what the datagram comes to, and what the exchange is then
+-- the effect of the datagram, and the exchange after it
 abbrev pub IsTaken : Exchange → List NamedKey → List ℕ → Exchange → Progress → Type 0
 IsTaken old book datagram new progress = IsTakenBy old.view old book datagram new progress
 
@@ -152,7 +152,7 @@ IsNextRefusal why frame = ⊥
 
 -- ---- silence
 
--- A list has begun to come, and the node has no segment of its version any more.
+-- Segments of a list have come, and the node has none of its version any more.
 abbrev pub has_begun : Exchange → Bool
 has_begun x = not (is_nil x.contents.items)
 

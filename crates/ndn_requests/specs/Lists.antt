@@ -16,13 +16,13 @@ list_name Routes = node_path (codes "fib") (codes "list")
 list_name Strategies = node_path (codes "strategy-choice") (codes "list")
 
 -- The number of a segment and that of the last one. An Interest with CanBePrefix asks for the first
--- segment, and no other answers it.
+-- segment, and only that one answers it.
 abbrev pub in_turn : Bool → Option ℕ → Option ℕ → Option (ℕ × ℕ)
 in_turn is_first (Some segment) (Some last) =
     if is_first && not (segment == 0) then None else Some (segment, last)
 in_turn is_first segment last = None
 
--- of a Data of this name and these octets
+-- for a Data of this name and these octets
 abbrev pub place_of : Bool → List Field → List ℕ → Option (ℕ × ℕ)
 place_of is_first name whole = in_turn is_first (segment_of name) (last_segment whole)
 
@@ -35,6 +35,6 @@ abbrev pub heading : NodeList → List ℕ
 heading Routes = codes "name\tface\tcost\n"
 heading Strategies = codes "name\tstrategy\n"
 
--- the table of all segments' contents, one after another
+-- the table of all segments' contents, joined in order
 abbrev pub table : NodeList → List ℕ → List ℕ
 table list contents = heading list ++ dataset_lines Table contents

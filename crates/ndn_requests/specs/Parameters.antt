@@ -27,7 +27,7 @@ is_of_node name = is_generic_at name 0 (codes "localhost") && is_generic_at name
 abbrev pub name_field : List Field → Field
 name_field name = (NAME, octets_of name)
 
--- a strategy's field holds its name as an element
+-- a Strategy contains its name as an element
 abbrev pub strategy_value : Option (List Field) → Option (List ℕ)
 strategy_value strategy = option_map (λ name. element (name_field name)) strategy
 
@@ -54,7 +54,7 @@ repository_fields p =
     ∷ (flag CAN_BE_PREFIX p.can_be_prefix
     ++ number INTEREST_LIFETIME p.lifetime)
 
--- the parameters of a command of this name: those of the node where it is under `/localhost/nfd`
+-- the parameters of a command of this name: the node's if it is under `/localhost/nfd`
 abbrev pub parameters_element : List Field → Parameters → List ℕ
 parameters_element name p =
     if is_of_node name

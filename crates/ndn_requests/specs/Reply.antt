@@ -1,4 +1,4 @@
--- When a datagram is the answer to a request that was sent, and what it comes to.
+-- Which datagram answers a request that was sent, and the outcome of the request.
 use Rattle.std.specs.Prelude.{◌≡◌, ℕ, List, [], ◌-◌, length, codes, bytes_eq, Option, None, Some, Result, Ok, Err, Bool, true, false, if◌then◌else◌, ◌==◌, ◌&&◌, ◌||◌, is_some, is_none, slice_get, option_and_then}
 use Rattle.std.specs.Result.{result_ok}
 use Rattle.sha2.specs.Sha256.{sha256}
@@ -24,13 +24,13 @@ use Rattle.ndn_requests.specs.declared.fault.Silence.TheVariants.{Closed, Far, L
 use Rattle.ndn_requests.specs.declared.fault.Failure.{Failure}
 use Rattle.ndn_requests.specs.declared.fault.Failure.TheVariants.{Refused, NoStatus, Nack}
 
--- what a request came to: it was done, or why not
+-- the outcome of a request: it was done, or why not
 abbrev pub Outcome : Type 0
 Outcome = Result Unit Failure
 
 -- ---- statuses
 
--- the StatusCode of a Content that is one element of this type
+-- the StatusCode in a Content that is one element of this type
 abbrev pub code_in : ℕ → ℕ → List ℕ → Option ℕ
 code_in response kind content =
     option_and_then (λ value. result_ok (nni_at value))
@@ -41,7 +41,7 @@ abbrev pub is_word : List ℕ → Option Field → Bool
 is_word word None = false
 is_word word (Some c) = c.0 == GENERIC && bytes_eq c.1 word
 
--- the verb of a command stands before its parameters and their digest
+-- the verb of a command precedes its parameters and their digest
 abbrev pub is_insert : List Field → Bool
 is_insert name = is_word (codes "insert") (slice_get name (length name - 3))
 
@@ -49,24 +49,25 @@ abbrev pub has_repository_fields : Option Field → Bool
 has_repository_fields None = false
 has_repository_fields (Some c) = is_some (single REPO_COMMAND_PARAMETER (elements_of c.1))
 
--- a command is a repository's by the type of its parameters, which stand before their digest
+-- a command is a repository's by the type of its parameters, which precede their digest
 abbrev pub is_of_repository : List Field → Bool
 is_of_repository name = has_repository_fields (slice_get name (length name - 2))
 
 abbrev pub done_if : Bool → Outcome
 done_if is_done = if is_done then Ok tt else Err Refused
 
--- of a command on routes, strategies or the cache
+-- for a command on routes, strategies or the cache
 abbrev pub node_outcome : Option ℕ → Outcome
 node_outcome None = Err NoStatus
 node_outcome (Some code) = done_if (code == 200)
 
--- of a repository's command: 100 of an insert is done too, as the Data is waited for then
+-- for a repository's command: status 100 of an insert is success too, since the Data is pending
+-- then
 abbrev pub repository_outcome : List Field → Option ℕ → Outcome
 repository_outcome name None = Err NoStatus
 repository_outcome name (Some code) = done_if (code == 200 || (code == 100 && is_insert name))
 
--- the reply has the type that replies to such commands have
+-- by the type of reply that such a command has
 abbrev pub content_outcome : List Field → List ℕ → Outcome
 content_outcome name content =
     if is_of_repository name
@@ -89,8 +90,8 @@ is_right check = false
 abbrev pub is_same_name : List Field → List Field → Bool
 is_same_name a b = bytes_eq (octets a) (octets b)
 
--- A Data that answers the Interest is taken, and that is all that a plain Interest asks for. For a
--- command it has to have the command's name and a right signature too.
+-- A Data that answers the Interest is accepted, and a plain Interest asks for no more. For a
+-- command it needs the command's name and a right signature too.
 abbrev pub data_outcome : PlainInterest → PlainData → Option TagCheck → Option Outcome
 data_outcome asked d check =
     if is_command asked.name
@@ -98,7 +99,7 @@ data_outcome asked d check =
     then Some (reply_outcome asked.name d.content) else None)
     else Some (Ok tt)
 
--- a Nack of it has its name and its Nonce
+-- a Nack of the Interest has its name and its Nonce
 abbrev pub is_same : PlainInterest → PlainInterest → Bool
 is_same asked i = is_same_name asked.name i.name && bytes_eq asked.nonce i.nonce
 
@@ -111,13 +112,13 @@ frame_outcome asked (ANack reason whole i) check =
 frame_outcome asked (AnInterest whole i) check = None
 frame_outcome asked Idle check = None
 
--- a reply of more than 8,800 octets is taken where it is what a node writes, octet for octet
+-- a reply of more than 8,800 octets is accepted if it is what a node writes, octet for octet
 abbrev pub written_outcome : List Field → Option (List ℕ) → Option Outcome
 written_outcome name None = None
 written_outcome name (Some content) =
     if is_command name then Some (content_outcome name content) else None
 
--- with the keys of a book
+-- the signature is checked with the keys of a book
 abbrev pub IsFrameJudged : PlainInterest → List NamedKey → PlainFrame → Option Outcome → Type 0
 IsFrameJudged asked book frame outcome =
     (check : Option TagCheck) × IsTagCheck frame book check
@@ -138,8 +139,8 @@ IsRequestJudged (Ok (ANack reason whole i)) book datagram outcome = outcome ≡ 
 IsRequestJudged (Ok Idle) book datagram outcome = outcome ≡ None
 IsRequestJudged (Err why) book datagram outcome = outcome ≡ None
 
--- What the datagram comes to as the answer to the request, which is an Interest; nothing where it
--- is no answer to it.
+-- The outcome of the request, which is an Interest, by the datagram; none if the datagram does not
+-- answer it.
 abbrev pub IsJudged : List ℕ → List NamedKey → List ℕ → Option Outcome → Type 0
 IsJudged request book datagram outcome = IsRequestJudged (frame_at request) book datagram outcome
 
@@ -158,7 +159,7 @@ long_lines (Ok (ANack reason whole i)) datagram = []
 long_lines (Ok Idle) datagram = []
 long_lines (Err why) datagram = []
 
--- those of `explain`, also of a reply that is longer than packets are
+-- those of `explain`, also for a reply of more than 8,800 octets
 abbrev pub explained_lines : List ℕ → List ℕ → Result PlainFrame PacketFault → List ℕ
 explained_lines request datagram (Ok frame) = explanation frame None
 explained_lines request datagram (Err why) = long_lines (frame_at request) datagram
@@ -173,7 +174,7 @@ is_local (Ok (ANack reason whole i)) = false
 is_local (Ok Idle) = false
 is_local (Err why) = false
 
--- of a request from this port, or from a new one
+-- for a request from this port, or from a new one
 abbrev pub silence_of : List ℕ → Option ℕ → Bool → Silence
 silence_of request from is_closed =
     if is_closed then Closed else (

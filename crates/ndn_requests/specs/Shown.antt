@@ -1,4 +1,4 @@
--- The lines that are printed of a reply, by what the node or a repository wrote (NFD Management,
+-- The lines that are printed for a reply that the node or a repository wrote (NFD Management,
 -- "Control Command").
 use Rattle.std.specs.Prelude.{ℕ, List, [], ◌++◌, codes, Some, ◌==◌, if◌then◌else◌}
 use Rattle.std.specs.Option.{option_map}
@@ -22,12 +22,12 @@ status_shown status text =
 abbrev pub strategy_shown : StrategyId → List ℕ
 strategy_shown strategy = uri_of (strategy_name strategy)
 
--- the flags, as they are meant in the table of routes
+-- the flags as the table of routes reads them
 abbrev pub flags_shown : PlainCommand → List ℕ
 flags_shown c =
     words_of_flags (is_child_inherit (route_asked c 0)) (is_capture (route_asked c 0))
 
--- the fields of a reply to a command from this face: those that the command takes
+-- the fields of the reply to a command from this face: those that the command takes
 abbrev pub fields_shown : PlainCommand → ℕ → List ℕ
 fields_shown c face =
     named_line (codes "name") (uri_of c.name)
@@ -41,12 +41,12 @@ fields_shown c face =
     (option_map strategy_shown (given c STRATEGY (strategy_asked c)))
     ++ optional_line (codes "count") (option_map decimal (given c COUNT c.count))))))))
 
--- of a reply at a status, which has fields at 200 alone
+-- for the node's reply, which has fields at status 200 only
 abbrev pub node_shown : PlainCommand → ℕ → ℕ → List ℕ → List ℕ
 node_shown c face status text =
     status_shown status text ++ (if status == OK then fields_shown c face else [])
 
--- of a repository's reply
+-- for a repository's reply
 abbrev pub repository_shown : ℕ → List ℕ → ℕ → List ℕ
 repository_shown status text count =
     status_shown status text ++ named_line (codes "count") (decimal count)

@@ -1,4 +1,4 @@
-//! An exchange of datagrams: what is sent, and what comes of each datagram that is received.
+//! An exchange of datagrams: what is sent, and the effect of each datagram that is received.
 
 ghost use Rattle.std.specs.Prelude.{◌≡◌, ◌+◌, ◌<◌, ◌++◌, ◌^◌, [], IfOk, OnOk, MatchResult, option_map, unwrap_or};
 ghost use Rattle.ndn_names.specs.View.{components};
@@ -21,43 +21,43 @@ use std::alloc::Global;
 /// What is printed of the answer to a request.
 #[derive(Clone, Copy, Debug, PartialEq, Eq)]
 pub enum View {
-    /// The first datagram, whatever it says, as a line of hexadecimal.
+    /// The first datagram, whatever it is, as a line of hexadecimal.
     Hexadecimal,
     /// The lines of `explain`.
     Lines,
-    /// The Content alone, as it is; nothing of a Nack.
+    /// The Content alone, as it is; nothing for a Nack.
     Content,
     /// All segments of a list, as a table.
     Table(NodeList),
 }
 
-/// A request that is to be sent, and what has come of it so far.
+/// A request to send, and what it has brought so far.
 #[derive(Drop)]
 pub struct Exchange {
     /// The packet to send.
     pub request: Vec<u8>,
     /// The port of 127.0.0.1 that it is sent to.
     pub to: u16,
-    /// The port that it is sent from; without one it is a new one.
+    /// The port that it is sent from; a new one if absent.
     pub from: Option<u16>,
     /// What is printed of the answer.
     pub view: View,
-    /// The contents of the segments that have come, one after another.
+    /// The contents of the segments received so far, joined in order.
     pub contents: Vec<u8>,
 }
 
-/// What came of a datagram.
+/// The effect of a datagram.
 #[derive(Drop)]
 pub enum Progress {
-    /// It is no answer to the request.
+    /// It does not answer the request.
     Ignored,
     /// It is a segment, and the request for the next one is to be sent.
     Next,
-    /// The exchange is over: what is to be printed, and what the request came to.
+    /// The exchange is over: the text to print, and the outcome of the request.
     Done(Vec<u8>, Outcome),
 }
 
-/// What the request for a segment asks for.
+/// Which segment a request asks for.
 #[derive(Clone, Copy)]
 struct Turn {
     /// Whether it asks for the first segment, whatever the version.
@@ -76,11 +76,11 @@ impl Exchange {
     ghost use Rattle.ndn_requests.specs.Lists.{next_name, place_of};
     ghost use Rattle.ndn_requests.specs.Exchange.{IsTaken, IsNextRefusal, IsSegment, IsListed, IsTurned, IsPlaced, IsProgress, printed, silence_in, turn_of};
 
-    /// What comes of a datagram that was received. Where the request for the next segment of a list
-    /// is to be sent, it is the one that stands in `request` then.
+    /// Handles a received datagram. After `Next`, `request` is the request for the next segment of
+    /// the list.
     ///
-    /// Refuses by `BadName` or `TooLong` where that request cannot be written, and any other by
-    /// `Memory` alone.
+    /// Returns `BadName` or `TooLong` if that request cannot be written, and else no error but
+    /// `Memory`.
     pub fn take(
         &mut self,
         alloc: Global,
@@ -98,7 +98,7 @@ impl Exchange {
         }
     }
 
-    /// What comes of a datagram where one answer is waited for.
+    /// Handles a datagram of an exchange with one answer.
     fn answered(&self, alloc: Global, datagram: &[u8], book: &KeyBook) -> Result<Progress, Memory>
         ensures { IfOk result (λ progress. (outcome : Option Outcome)
             × IsJudged self.now.request.items book.now datagram.now outcome
@@ -123,7 +123,7 @@ impl Exchange {
         Ok(text)
     }
 
-    /// What comes of a datagram where a segment of a list is waited for.
+    /// Handles a datagram of an exchange for a list's segments.
     fn take_segment(
         &mut self,
         alloc: Global,
@@ -148,7 +148,7 @@ impl Exchange {
         }
     }
 
-    /// What comes of a datagram that answers the Interest for a segment.
+    /// Handles a datagram that answers the Interest for a segment.
     fn take_answer(
         &mut self,
         alloc: Global,
@@ -216,7 +216,7 @@ impl Exchange {
         Ok(Progress::Next)
     }
 
-    /// Why no answer came, where the system says whether a program listens.
+    /// Why no answer came; `is_closed` tells that no program listens.
     pub fn silence(&self, is_closed: bool) -> Silence
         ensures { result ≡ silence_in self.now is_closed }
     {
@@ -237,7 +237,7 @@ fn put_content(contents: &mut Vec<u8>, content: Option<&[u8]>) -> Result<(), Mem
     Ok(())
 }
 
-/// The Content of the Data that the datagram is; nothing of another one.
+/// The Content of the Data in the datagram; empty if it is not a Data.
 fn content_in(datagram: &[u8]) -> &[u8]
     ensures { result.now ≡ content_in (frame_at datagram.now) }
 {
@@ -247,7 +247,7 @@ fn content_in(datagram: &[u8]) -> &[u8]
     }
 }
 
-/// What the Interest for a segment asks for.
+/// Which segment an Interest asks for, and its Nonce.
 fn turn_of(request: &[u8]) -> Option<Turn>
     ensures { result ≡ turn_of (frame_at request.now) }
 {
@@ -260,8 +260,8 @@ fn turn_of(request: &[u8]) -> Option<Turn>
     }
 }
 
-/// The number of the segment that a Data is, and that of the last one; `None` where it is another
-/// segment than the one that was asked for.
+/// The number of the segment in a Data, and that of the last one; `None` if it is not the segment
+/// that was asked for.
 fn place_of(is_first: bool, packet: &Data<'_>) -> Option<(u64, u64)>
     ensures { result
         ≡ place_of is_first (components packet.now.name) packet.now.whole.now }
@@ -312,7 +312,7 @@ fn request_for(alloc: Global, name: Name<'_>, nonce: [u8; 4]) -> Result<Vec<u8>,
     Ok(packet)
 }
 
-/// The table of a list, of the contents of all its segments.
+/// The table of a list, from the contents of all its segments.
 fn table(alloc: Global, list: NodeList, contents: &[u8]) -> Result<Vec<u8>, Memory>
     ensures { IfOk result (λ text. text.items ≡ table list contents.now) }
 {

@@ -1,21 +1,21 @@
-//! Why a request that was sent was not done.
+//! Why a request was not done.
 use std::fmt;
 
-/// Why no answer came to a packet that was sent.
+/// Why a packet got no answer.
 #[derive(Clone, Copy, Debug, PartialEq, Eq)]
 pub enum Silence {
     /// No program listens on the port.
     Closed,
-    /// The name is under `/localhost`, and the port is a new one: a node hears such names from its
-    /// Local peers alone.
+    /// The name is under `/localhost`, and the packet was sent from a new port: a node accepts such
+    /// names from its Local peers only.
     Far,
-    /// A program listens, and nothing came in time.
+    /// A program listens, but no answer came in time.
     Late,
     /// No further segment of a list came.
     Changed,
 }
 
-/// Why a request that was sent was not done.
+/// Why a request was not done.
 #[derive(Clone, Copy, Debug, PartialEq, Eq)]
 pub enum Failure {
     /// The reply's status says that the command was not done.

@@ -1,4 +1,5 @@
-//! Laws: a client and a node speak one language. They do nothing when the program runs.
+//! Laws: nodes read what the client writes, and the client what they write. They do nothing at run
+//! time.
 
 ghost use Rattle.std.specs.Prelude.{◌≡◌, ◌<◌, ◌^◌, ◌==◌, ◌&&◌, ◌||◌, ◌++◌, ℕ, List, Some, None, Ok, Err, length, not, true, false, if◌then◌else◌};
 ghost use Rattle.ndn_tlv.specs.Element.{Field};
@@ -18,7 +19,7 @@ ghost use Rattle.ndn_requests.specs.Reply.{content_outcome, done_if, is_insert, 
 ghost use Rattle.ndn_requests.specs.Shown.{node_shown, repository_shown};
 
 /// Law: the node reads the name of a command as exactly the command that was asked for, whatever
-/// digest follows. It refuses by 400 the parameters that do not suit the command, and no others.
+/// digest follows. It answers 400 exactly if the parameters do not suit the command.
 pub fn nodes_read_what_is_asked()
     ensures { (action : Action) (p : Parameters) (digest : List ℕ) → AreValues p
         → IsWhole (command_name (node_name action) p)
@@ -36,7 +37,7 @@ pub fn repositories_read_what_is_asked()
         ≡ Some (wanted_of verb p) }
 {}
 
-/// Law: of a reply that the node or a repository writes, exactly what it holds is printed.
+/// Law: for a reply that the node or a repository writes, exactly its fields are printed.
 pub fn replies_are_explained()
     ensures node { (c : PlainCommand) (face status : ℕ) (text : List ℕ) → IsWhole c.name
         → face < 2 ^ 64 → c.face < 2 ^ 64 → c.origin < 2 ^ 64 → c.cost < 2 ^ 64
@@ -49,7 +50,7 @@ pub fn replies_are_explained()
         → reply_lines (repo_response status text count) ≡ repository_shown status text count }
 {}
 
-/// Law: a command is done by what the node or the repository wrote: at 200, or at 100 of a
+/// Law: a command counts as done exactly if the node or the repository answers 200, or 100 to a
 /// repository's insert.
 pub fn statuses_decide()
     ensures node { (name : List Field) (status : ℕ) (text body : List ℕ) → status < 2 ^ 64
@@ -61,7 +62,7 @@ pub fn statuses_decide()
         ≡ done_if (status == repo_code.OK || (status == repo_code.PENDING && is_insert name)) }
 {}
 
-/// Law: a command is taken as the repository's exactly where its parameters were written as such.
+/// Law: a command counts as a repository's exactly if its parameters were written as such.
 pub fn commands_tell_whose_they_are()
     ensures { (name : List Field) (p : Parameters) (digest : List ℕ)
         → IsWhole (command_name name p)

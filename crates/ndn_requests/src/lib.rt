@@ -1,5 +1,5 @@
-//! Requests to a node and their answers: the names of commands, and what a datagram comes to as the
-//! answer to a request.
+//! Requests to a node and their answers: the names of commands, and the outcome of a request by the
+//! datagram that answers it.
 #![tactic(auto)]
 
 mod exchange;

@@ -18,10 +18,10 @@ use ndn_packets::types::{CAN_BE_PREFIX, INTEREST_LIFETIME, NAME};
 use ndn_tlv::{Memory, put_element, put_flag, put_number_field};
 use std::alloc::Global;
 
-/// The parameters of a command. Those that a command of its kind does not have are left out.
+/// The parameters of a command. Fields that its kind of command does not have are left out.
 #[derive(Drop)]
 pub struct Parameters {
-    /// The name that the command is about.
+    /// The Name that the command applies to.
     pub name: NameBuf,
     /// The face of a next hop or route; 0 is the one that the command comes from.
     pub face: Option<u64>,
@@ -31,22 +31,22 @@ pub struct Parameters {
     pub cost: Option<u64>,
     /// The flags of a route: 1 is child-inherit and 2 is capture.
     pub flags: Option<u64>,
-    /// For how long a route is registered, in milliseconds.
+    /// The ExpirationPeriod of a route, in milliseconds.
     pub expires: Option<u64>,
     /// The name of a strategy.
     pub strategy: Option<NameBuf>,
     /// The greatest number of Data to erase.
     pub count: Option<u64>,
-    /// Whether Data with longer names are meant too.
+    /// CanBePrefix: whether Data with longer names are included.
     pub can_be_prefix: bool,
     /// The InterestLifetime in milliseconds.
     pub lifetime: Option<u64>,
 }
 
-/// The name of a command's Interest without its digest: the command's own, and its parameters as
-/// the last component.
+/// The name of a command's Interest without its digest: the command's own name, and its parameters
+/// as the last component.
 ///
-/// Refuses by `TooLong` a name that has no room for them, and any other by `Memory` alone.
+/// Returns `TooLong` if the name has no room for them, and else no error but `Memory`.
 pub fn command_name(
     alloc: Global,
     name: &NameBuf,
@@ -118,7 +118,7 @@ fn put_node_fields(alloc: Global, out: &mut Vec<u8>, parameters: &Parameters) ->
     put_fields_after_strategy(out, parameters)
 }
 
-/// Appends those of them that stand after the strategy.
+/// Appends those of them that follow the strategy.
 fn put_fields_after_strategy(out: &mut Vec<u8>, parameters: &Parameters) -> Result<(), Memory>
     ensures { OnOk result (out.new.items
         ≡ out.old.items ++ octets (fields_after_strategy parameters.now)) }
@@ -145,7 +145,7 @@ fn put_name(out: &mut Vec<u8>, name: &NameBuf) -> Result<(), Memory>
     put_element(out, NAME, name.view().as_octets())
 }
 
-/// Appends the field of a strategy, where it is there.
+/// Appends the field of a strategy, if there is one.
 fn put_strategy(alloc: Global, out: &mut Vec<u8>, name: &Option<NameBuf>) -> Result<(), Memory>
     ensures { OnOk result (out.new.items
         ≡ out.old.items ++ octets (optional STRATEGY (strategy_value name.now))) }

@@ -1,4 +1,4 @@
-//! The answer to a request that was sent: which datagram is it, and what it comes to.
+//! The answer to a request: which datagram it is, and the outcome of the request.
 
 ghost use Rattle.std.specs.Prelude.{◌≡◌, ◌++◌, IfOk, OnOk, option_map};
 ghost use Rattle.ndn_names.specs.View.{components, field_of};
@@ -21,15 +21,15 @@ use ndn_packets::{Data, Frame, Interest, read_frame};
 use ndn_tlv::{Memory, first_field, nni_of, single_element};
 use std::alloc::Global;
 
-/// What a request came to that was sent.
+/// The outcome of a request.
 pub type Outcome = Result<(), Failure>;
 
-/// What a datagram comes to as the answer to a request; `None` where it is no answer to it.
+/// The outcome of a request by a datagram; `None` if the datagram does not answer it.
 ///
 /// A Nack of the Interest is an answer. So is a Data that answers it, and then it is done; but for
 /// a command the Data has to have the command's name and a right signature, by DigestSha256 or by a
-/// key of the book, or to be what a node writes as its reply, of any length. A command is done where
-/// the status is 200, or 100 of a repository's insert.
+/// key of the book, or to be what a node writes as its reply, of any length. A command is done
+/// where the status is 200, or 100 of a repository's insert.
 pub fn judge(
     alloc: Global,
     request: &[u8],
@@ -66,7 +66,7 @@ fn judge_frame(asked: &Interest<'_>, frame: &Frame<'_>, book: &KeyBook) -> Optio
     frame_outcome(asked, frame, check)
 }
 
-/// What a Data comes to that is longer than packets are.
+/// The outcome by a Data that is longer than 8,800 octets.
 fn judge_written(alloc: Global, name: Name<'_>, datagram: &[u8]) -> Result<Option<Outcome>, Memory>
     ensures { IfOk result (λ outcome. outcome
         ≡ written_outcome (components name.entry)
@@ -94,7 +94,7 @@ fn frame_outcome(
     }
 }
 
-/// What a Data comes to that answers the Interest.
+/// The outcome by a Data that answers the Interest.
 fn data_outcome(asked: &Interest<'_>, packet: &Data<'_>, check: Option<TagCheck>) -> Option<Outcome>
     ensures { result ≡ data_outcome (plain_interest asked.now) (plain_data packet.now) check }
 {
@@ -141,7 +141,7 @@ fn reply_outcome(name: Name<'_>, content: Option<&[u8]>) -> Outcome
     }
 }
 
-/// What a command of this name comes to, by the Content of its reply.
+/// The outcome of a command of this name, by the Content of its reply.
 fn content_outcome(name: Name<'_>, content: &[u8]) -> Outcome
     ensures { result ≡ content_outcome (components name.entry) content.now }
 {
@@ -155,7 +155,7 @@ fn content_outcome(name: Name<'_>, content: &[u8]) -> Outcome
     }
 }
 
-/// What a command on routes, strategies or the cache comes to by the status of its reply.
+/// The outcome of a command on routes, strategies or the cache, by the status of its reply.
 fn node_outcome(code: Option<u64>) -> Outcome
     ensures { result ≡ node_outcome code }
 {
@@ -165,7 +165,7 @@ fn node_outcome(code: Option<u64>) -> Outcome
     }
 }
 
-/// What a repository's command of this name comes to by the status of its reply.
+/// The outcome of a repository's command of this name, by the status of its reply.
 fn repository_outcome(name: Name<'_>, code: Option<u64>) -> Outcome
     ensures { result ≡ repository_outcome (components name.entry) code }
 {
@@ -195,7 +195,7 @@ fn done_if(is_done: bool) -> Outcome
     }
 }
 
-/// The StatusCode of a Content that is one element of the type `response`.
+/// The StatusCode in a Content that is one element of the type `response`.
 fn code_in(content: &[u8], response: u32, kind: u32) -> Option<u64>
     ensures { result ≡ code_in response kind content.now }
 {
@@ -203,7 +203,7 @@ fn code_in(content: &[u8], response: u32, kind: u32) -> Option<u64>
     nni_of(value).ok()
 }
 
-/// Whether the verb of a command is that of a repository's insert.
+/// Whether the verb of a command is a repository's insert.
 fn is_insert(name: Name<'_>) -> bool
     ensures { result ≡ is_insert (components name.entry) }
 {
@@ -220,8 +220,8 @@ fn is_word(component: Option<Component<'_>>, word: &str) -> bool
     }
 }
 
-/// Appends the lines of `explain` of the answer to a request, also of a reply that is longer than
-/// packets are. After `Memory` some of them may have been appended.
+/// Appends the lines of `explain` for the answer to a request, also for a reply of more than 8,800
+/// octets. After `Memory` some of them may have been appended.
 pub fn put_explained(
     alloc: Global,
     text: &mut Vec<u8>,
@@ -268,8 +268,8 @@ fn put_reply(
     }
 }
 
-/// Why no answer came to a request, which went out from this port or a new one, where the system
-/// says whether a program listens.
+/// Why no answer came to a request that was sent from this port or a new one; `is_closed` tells
+/// that no program listens.
 pub fn silence_of(request: &[u8], from: Option<u16>, is_closed: bool) -> Silence
     ensures { result ≡ silence_of request.now from is_closed }
 {

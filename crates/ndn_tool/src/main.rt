@@ -1,5 +1,5 @@
-//! A Named Data Networking client: it writes packets, sends them, computes tags and says what
-//! packets hold.
+//! A Named Data Networking client: it writes packets, sends them, computes tags and explains
+//! packets.
 #![tactic(auto)]
 
 ghost use Rattle.std.specs.Prelude.{◌≤◌, length, IfOk};
@@ -19,10 +19,10 @@ use std::rt::Files;
 use std::time::{Clock, Duration, Instant, SystemTime};
 use std::{env, io};
 
-/// The greatest length of what a UDP datagram carries over IPv4, in octets.
+/// The greatest length of the payload of a UDP datagram over IPv4, in octets.
 const MAX_DATAGRAM: usize = 65_507;
 
-/// How long an answer is waited for, in seconds.
+/// The time to wait for an answer, in seconds.
 const ANSWER_SECONDS: u64 = 4;
 
 /// Why no datagram was received.
@@ -30,7 +30,7 @@ const ANSWER_SECONDS: u64 = 4;
 enum Missed {
     /// No program listens on the port.
     Closed,
-    /// The time is over.
+    /// No datagram came in time.
     Late,
     /// The clock cannot be read.
     Clock,
@@ -101,7 +101,7 @@ where
     }
 }
 
-/// Sends a request and those that follow it, and prints what the answers say.
+/// Sends a request and those that follow it, and prints the answers.
 fn run_exchange<R: Clock + AllocGlobal + Eprint + Net + Print>(
     rt: &R,
     exchange: Exchange,
@@ -140,8 +140,8 @@ fn asked_job<R: Clock + Env + AllocGlobal>(rt: &R) -> Result<Job, Fault> {
     Ok(parse_words(rt.alloc(), now, arguments.as_slice())?)
 }
 
-/// Waits for the answer to the request that was sent on this socket. Prints it where the exchange is
-/// over, and then gives what the request came to; `None` where the next request is to be sent. Any other
+/// Waits for the answer to the request that was sent on this socket. If the exchange is over,
+/// prints the answer and returns the outcome; `None` if the next request is to be sent. Any other
 /// datagram is reported on standard error.
 fn next_answer<R: Clock + AllocGlobal + Eprint + Print>(
     rt: &R,
@@ -165,7 +165,7 @@ fn next_answer<R: Clock + AllocGlobal + Eprint + Print>(
                 return Ok(Some(outcome));
             }
             Progress::Ignored => {
-                // If standard error cannot be written, the datagram is left out all the same.
+                // If standard error cannot be written, the datagram is ignored all the same.
                 let _printed = eprintln!(rt;
                     "ignored: a datagram that is no answer to the request"
                 );

@@ -68,7 +68,8 @@ fn check_session(rt: &(impl Abort + AllocGlobal), keys: &str, session: &str) {
     }
 }
 
-/// Whether a command ends with a status and a text that has this part, `|` for LF. One LF ends the text.
+/// Whether a command ends with a status and a text that has this part, `|` for LF. One LF ends the
+/// text.
 fn has_part(alloc: Global, command: &str, status: u8, part: &str) -> Option<bool> {
     let (ended, text) = reply(alloc, command, "")?;
     let text = text.as_str();
@@ -252,7 +253,8 @@ token a1b2
 idle
 ";
 
-/// A PitToken is an element 98 before the Fragment, an element 80, in a link packet, an element 100.
+/// A PitToken is an element 98 before the Fragment, an element 80, in a link packet, an element
+/// 100.
 #[test]
 fn tokens(rt: HostRuntime) {
     check_session(&rt, "", TOKENS);
@@ -387,8 +389,8 @@ $ ndn_tool command /localhost/nfd/rib/register --name /A --face 1 --cost 2 --str
 05cd078508096c6f63616c686f737408036e66640803726962080872656769737465720842684007030801416901016a01026b27072508096c6f63616c686f737408036e66640808737472617465677908096d756c7469636173746c01036d01046f01058401060220e81fe4a9c31a791ce2e0a662cf5918ee7259642c519760e37705302f0508fa090a040102030424002c1a1b01041c0f070d08036f707308034b45590801312804000f42402e2084eb55d73ad50d435aa887e0566bf99d86058dcef2a5a89ec5c86825d673df7d
 ";
 
-/// Commands for registered routes, with each of their options, in short and with every field by name;
-/// the packets were made by a program of its own.
+/// Commands for registered routes, with each of their options, in short and with every field by
+/// name; the packets were made by a program of its own.
 #[test]
 fn registered_routes(rt: HostRuntime) {
     check_session(&rt, OPS, ROUTES);
@@ -485,7 +487,7 @@ TooLong
 status 1
 ";
 
-/// Commands with another key, or whose names have no room for what is put after them.
+/// Commands with another key, or whose names have no room for the parameters.
 #[test]
 fn unwritten_commands(rt: HostRuntime) {
     check_session(&rt, OPS, UNWRITTEN_COMMANDS);
@@ -875,7 +877,7 @@ segment 256 last 512
 $ ndn_tool explain - --keys F
 ";
 
-/// Packets in words; the signed ones were made by a program of its own.
+/// Explanations of packets; the signed ones were made by a program of its own.
 #[test]
 fn explained_packets(rt: HostRuntime) {
     check_session(&rt, "", EXPLAINED_PACKETS);
@@ -912,13 +914,13 @@ ab cd
 idle
 ";
 
-/// Whether this is said of the lines of a text.
+/// Whether this is the explanation of the lines of a text.
 fn says(alloc: Global, input: &str, keys: Option<&KeyBook>, wanted: &str) -> bool {
     let mut text = Vec::new(alloc);
     put_input(alloc, &mut text, input, keys).is_ok() && text.as_slice() == wanted.as_bytes()
 }
 
-/// Lines of standard input: packets in words, and other lines as they are.
+/// Lines of standard input: packets explained, and other lines as they are.
 #[test]
 fn input_lines(rt: HostRuntime) {
     assert!(rt; says(rt.alloc(), INPUT, None, SAID));
@@ -934,7 +936,7 @@ key not found
 status 1
 ";
 
-// A key that is not there is reported before a name that is refused.
+// A missing key is reported before a name that is refused.
 const REFUSALS: &str = "
 $ ndn_tool interest / --nonce 01020304 --key /ops/KEY/1
 key not found
@@ -1040,7 +1042,7 @@ fn help(rt: HostRuntime) {
     check_parts(&rt, 0, HELP);
 }
 
-/// Whether octets are no key file, and what is printed of them.
+/// Whether octets are no key file, with this message.
 fn refuses_keys(alloc: Global, octets: &[u8], wanted: &str) -> bool {
     match read_book(alloc, octets) {
         Ok(_) => false,
@@ -1053,7 +1055,7 @@ fn refuses_keys(alloc: Global, octets: &[u8], wanted: &str) -> bool {
     }
 }
 
-/// Whether octets are a key file of so many keys.
+/// Whether octets are a key file of `len` keys.
 fn reads_keys(alloc: Global, octets: &[u8], len: usize) -> bool {
     read_book(alloc, octets).is_ok_and(|book| book.len() == len)
 }
@@ -1073,13 +1075,13 @@ fn key_files(rt: HostRuntime) {
     assert!(rt; reads_keys(rt.alloc(), OPS.as_bytes(), 1));
 }
 
-/// What reading from standard input or a key file is refused with: the status and the text.
+/// The status and the message of a refused read from standard input or a key file.
 fn refused<T: Drop>(alloc: Global, read: Result<T, Fault>) -> Option<String> {
     let fault = read.err()?;
     format!(in alloc; "{} {fault}", fault.exit_status()).ok()
 }
 
-/// What a key file of so many semicolons is refused with.
+/// The refusal of a key file of this many semicolons.
 fn refused_key_file(alloc: Global, count: u64) -> Option<String> {
     refused(
         alloc,
@@ -1087,12 +1089,12 @@ fn refused_key_file(alloc: Global, count: u64) -> Option<String> {
     )
 }
 
-/// What a packet of so many digits is refused with.
+/// The refusal of a packet of this many digits.
 fn refused_packet(alloc: Global, count: u64) -> Option<String> {
     refused(alloc, read_packet_input(alloc, repeat(b'0').take(count)))
 }
 
-/// What a line of so many digits and an LF is refused with.
+/// The refusal of a line of this many digits and an LF.
 fn refused_line(alloc: Global, count: u64) -> Option<String> {
     let input = repeat(b'0').take(count).chain(b"\n0\n".as_slice());
     refused(
@@ -1131,13 +1133,13 @@ fn has_key_file(rt: &HostRuntime, command: &str, path: Option<&str>, status: u8)
         && key_file_status(rt, &job) == status)
 }
 
-/// What the key file of a command is refused with: the status and the text.
+/// The refusal of the key file of a command: the status and the message.
 fn refused_keys_of(rt: &HostRuntime, command: &str) -> Option<String> {
     let job = job_of(rt.alloc(), command).ok()?;
     refused(rt.alloc(), book_of(rt, &job))
 }
 
-/// A key file that is not there cannot be read.
+/// A missing key file cannot be read.
 #[test]
 fn unreadable_key_file(rt: HostRuntime) {
     let said = refused_keys_of(&rt, "ndn_tool data /A --keys no/such/file");
@@ -1173,7 +1175,7 @@ fn ends_with(fault: Fault, status: u8) -> bool {
     fault.exit_status() == status
 }
 
-/// Each way to stop has its status.
+/// Each fault has its status.
 #[test]
 fn statuses(rt: HostRuntime) {
     let usage = Usage::BadValue {
@@ -1235,8 +1237,8 @@ fn refused_memory(rt: HostRuntime) {
     }
 }
 
-/// A command, and after it datagrams with what each comes to as its answer. These and the packets below
-/// were made by an independent program.
+/// A command, and after it datagrams with the outcome of the command by each. These and the packets
+/// below were made by an independent program.
 const ROUTE_ANSWERS: &str =
     "0598075008096c6f63616c686f737408036e66640803666962080b6164642d6e657874686f70080a680807030801416901020220b3efe71974da9dc26e88d0c074c8f0ff34ea85c38b109d9e9c6400b87694f2f20a040102030424002c1a1b01041c0f070d08036f707308034b45590801312804000f42402e20d113cf38056af9bbbec876471f4b51934978ef69345464b05cb762148eaa5dbb
 0684075008096c6f63616c686f737408036e66640803666962080b6164642d6e657874686f70080a680807030801416901020220b3efe71974da9dc26e88d0c074c8f0ff34ea85c38b109d9e9c6400b87694f2f2150965076601c867024f4b16031b01001720b6e80976e9dc6c36e0492f03adf2cda6bfa93df5c7b4489a5fc035173b9449cc done
@@ -1268,7 +1270,7 @@ const ROUTE_ANSWERS: &str =
 0600 ignored
 ";
 
-/// The same of a repository's insert, for which 100 is done.
+/// The same for a repository's insert, for which 100 is success.
 const INSERT_ANSWERS: &str =
     "0581073908047265706f0806696e736572740807c90507030801410220856ad41dcba9cd04d16e32da8c22468001abf94c4a2d4d42b7c3a6e26de9f5910a040102030424002c1a1b01041c0f070d08036f707308034b45590801312804000f42402e2067118d1ececd0d1c18fc45b8ae9abc3778200f148c277b58cdf8f39b8cc0c96d
 0675073908047265706f0806696e736572740807c90507030801410220856ad41dcba9cd04d16e32da8c22468001abf94c4a2d4d42b7c3a6e26de9f5911511cf0fd00164670770656e64696e6784010016031b0100172007ca981da7330b26cf7f5160965fc8dceb813aed6b86cf7f235dccc6681de8df done
@@ -1279,7 +1281,7 @@ const INSERT_ANSWERS: &str =
 066d073908047265706f0806696e736572740807c90507030801410220856ad41dcba9cd04d16e32da8c22468001abf94c4a2d4d42b7c3a6e26de9f591150965076601c867024f4b16031b01001720d56beaf70800284532e7a6cd9c7891650a32fa9452c2d0cc736edff9e156e4ee no-status
 ";
 
-/// The same of a repository's check, for which 100 is not.
+/// The same for a repository's check, for which 100 is not.
 const CHECK_ANSWERS: &str =
     "0542073808047265706f0805636865636b0807c9050703080141022033b67cb5385ceddad93d0ee960679041613bed34b8b4a5e6362fe7539ba2d3ce0a04010203042400
 066f073808047265706f0805636865636b0807c9050703080141022033b67cb5385ceddad93d0ee960679041613bed34b8b4a5e6362fe7539ba2d3ce150ccf0ad001c867024f4b84010116031b01001720e321cf1c01ed9976608792d53dbe9f46213bbd83c57e8c27042f544af69c5bf6 done
@@ -1287,7 +1289,7 @@ const CHECK_ANSWERS: &str =
 0677073808047265706f0805636865636b0807c9050703080141022033b67cb5385ceddad93d0ee960679041613bed34b8b4a5e6362fe7539ba2d3ce1514cf12d002019467096e6f7420666f756e6484010016031b0100172027cb3843c2e805daa3395bfd459ed163293d13329285a18a1fdb9aeed87ff864 refused
 ";
 
-/// The same of an Interest for `/A`.
+/// The same for an Interest for `/A`.
 const INTEREST_ANSWERS: &str = "050b07030801410a0401020304
 062f070308014115017816031b01001720e4f0b5aed03446e702356a360c7194c208b8b6a28ff30de430f1baa08ba29266 done
 062f070308014115017816031b01001720e5f0b5aed03446e702356a360c7194c208b8b6a28ff30de430f1baa08ba29266 done
@@ -1296,12 +1298,12 @@ const INTEREST_ANSWERS: &str = "050b07030801410a0401020304
 6418fd032005fd03210196500d050b07030801410a0401020305 ignored
 ";
 
-/// The same of one with CanBePrefix.
+/// The same for one with CanBePrefix.
 const PREFIX_ANSWERS: &str = "050d070308014121000a0401020304
 0632070608014108014215017816031b01001720ad4bdd84fe28f6c7243eef0f1dbfdb7acd041e625c59fbbdf6c87b1bb228e5a5 done
 ";
 
-/// The same of a command with CanBePrefix, whose reply has its very name.
+/// The same for a command with CanBePrefix, whose reply has the same name.
 const PREFIX_COMMAND_ANSWERS: &str =
     "059a075008096c6f63616c686f737408036e66640803666962080b6164642d6e657874686f70080a680807030801416901020220b3efe71974da9dc26e88d0c074c8f0ff34ea85c38b109d9e9c6400b87694f2f221000a040102030424002c1a1b01041c0f070d08036f707308034b45590801312804000f42402e20d113cf38056af9bbbec876471f4b51934978ef69345464b05cb762148eaa5dbb
 0684075008096c6f63616c686f737408036e66640803666962080b6164642d6e657874686f70080a680807030801416901020220b3efe71974da9dc26e88d0c074c8f0ff34ea85c38b109d9e9c6400b87694f2f2150965076601c867024f4b16031b01001720b6e80976e9dc6c36e0492f03adf2cda6bfa93df5c7b4489a5fc035173b9449cc done
@@ -1314,7 +1316,7 @@ const NO_ANSWERS: &str =
 062f070308014115017816031b01001720e4f0b5aed03446e702356a360c7194c208b8b6a28ff30de430f1baa08ba29266 ignored
 ";
 
-/// What a datagram comes to as the answer to a request, in a word.
+/// A word for the outcome of a request by a datagram.
 fn word_of(outcome: Option<Outcome>) -> &'static str {
     match outcome {
         None => "ignored",
@@ -1326,14 +1328,14 @@ fn word_of(outcome: Option<Outcome>) -> &'static str {
     }
 }
 
-/// Whether a datagram comes to this as the answer to a request, with the key `/ops/KEY/1`.
+/// Whether this is the outcome of a request by a datagram, with the key `/ops/KEY/1`.
 fn comes_to(alloc: Global, request: &[u8], datagram: &[u8], wanted: &str) -> Option<bool> {
     let book = KeyBook::read(alloc, OPS).ok()?;
     let outcome = judge(alloc, request, datagram, &book).ok()?;
     Some(word_of(outcome) == wanted)
 }
 
-/// The same of packets in hexadecimal, `-` for no octets.
+/// The same for packets in hexadecimal, `-` for no octets.
 fn row_comes_to(alloc: Global, request: &str, row: &str) -> Option<bool> {
     let (digits, wanted) = row.split_once(' ')?;
     let digits = if digits == "-" { "" } else { digits };
@@ -1354,7 +1356,7 @@ fn check_answers(rt: &(impl Abort + AllocGlobal), rows: &str) {
     }
 }
 
-/// Which datagrams answer a request, and what they come to.
+/// Which datagrams answer a request, and with which outcome.
 #[test]
 fn answers(rt: HostRuntime) {
     check_answers(&rt, ROUTE_ANSWERS);
@@ -1381,7 +1383,7 @@ fn long_reply(alloc: Global, request: &[u8], status: u8) -> Option<Vec<u8>> {
     Some(reply)
 }
 
-/// Whether such a reply comes to this, with the last octet of its signature changed by `change`.
+/// Whether such a reply has this outcome, with the last octet of its signature changed by `change`.
 fn long_comes_to(alloc: Global, status: u8, change: u8, wanted: &str) -> Option<bool> {
     let (request, _) = ROUTE_ANSWERS.split_once('\n')?;
     let request = packet_in(alloc, request.as_bytes()).ok()?;
@@ -1402,7 +1404,7 @@ fn long_says(alloc: Global, first: &str, last: &str) -> Option<bool> {
     Some(text.starts_with(first.as_bytes()) && text.ends_with(last.as_bytes()))
 }
 
-/// A reply that is longer than a packet may be.
+/// A reply of more than 8,800 octets.
 #[test]
 fn long_replies(rt: HostRuntime) {
     assert!(rt; long_comes_to(rt.alloc(), 200, 0, "done") == Some(true));
@@ -1411,7 +1413,7 @@ fn long_replies(rt: HostRuntime) {
     assert!(rt; long_says(rt.alloc(), "data /localhost/nfd/fib/add-nexthop/", " \n") == Some(true));
 }
 
-/// How a client ends that sends the request, where a node sends these two datagrams.
+/// The outcome of a client that sends the request, if a node sends these two datagrams.
 fn hears(
     rt: &HostRuntime,
     request: Vec<u8>,
@@ -1435,7 +1437,7 @@ fn hears(
     Some(exchange_on(rt, &client, exchange, &book))
 }
 
-/// The same where the second is a reply of more than 9,000 octets with this status.
+/// The same if the second is a reply of more than 9,000 octets with this status.
 fn hears_long(rt: &HostRuntime, status: u8) -> Option<Result<(), Fault>> {
     let (request, _) = ROUTE_ANSWERS.split_once('\n')?;
     let request = packet_in(rt.alloc(), request.as_bytes()).ok()?;
@@ -1443,7 +1445,7 @@ fn hears_long(rt: &HostRuntime, status: u8) -> Option<Result<(), Fault>> {
     hears(rt, request, b"forged", &reply)
 }
 
-/// A client waits for its answer, whatever else comes, and ends with what the answer says.
+/// A client waits for its answer, whatever else comes, and ends with its outcome.
 #[test]
 fn forged_answers(rt: HostRuntime) {
     assert!(rt; matches!(hears_long(&rt, 200), Some(Ok(()))));

@@ -24,7 +24,8 @@ fn ending(alloc: Global, command: &str) -> Option<(u8, String)> {
     }
 }
 
-/// Whether a command ends with this status and with a text that has this part and one LF at its end.
+/// Whether a command ends with this status and with a text that has this part and one LF at its
+/// end.
 fn ends_with(alloc: Global, command: &str, status: u8, part: &str) -> bool {
     ending(alloc, command).is_some_and(|(ended, text)| {
         let text = text.as_str();
@@ -119,7 +120,7 @@ ndn_node udp --listen 1 --turns 1 -- 7 => error: unexpected argument '--' found
 ndn_node script 7 => error: unexpected argument '7' found
 ";
 
-/// A command of so many peers, ports from 1 on.
+/// A command with this many peers, ports from 1 on.
 fn command_of_peers(alloc: Global, peers: u16) -> Option<String> {
     let mut command = String::from_str(alloc, "ndn_node udp --listen 6363 --turns 1").ok()?;
     for port in 0..peers {
@@ -128,12 +129,12 @@ fn command_of_peers(alloc: Global, peers: u16) -> Option<String> {
     Some(command)
 }
 
-/// Whether a command of so many peers runs a node.
+/// Whether a command with this many peers runs a node.
 fn runs(alloc: Global, peers: u16) -> bool {
     command_of_peers(alloc, peers).is_some_and(|command| ending(alloc, command.as_str()).is_none())
 }
 
-/// Whether a command of so many peers is wrong.
+/// Whether a command with this many peers is wrong.
 fn is_wrong(alloc: Global, peers: u16) -> bool {
     let part = "error: invalid value for PEERS: give at most 64 peers";
     command_of_peers(alloc, peers).is_some_and(|command| ends_with(
@@ -287,18 +288,18 @@ fn key_files(rt: HostRuntime) {
     assert!(rt; refused_keys(alloc, b"\xff").as_deref() == Some(binary));
 }
 
-/// What a file of so many octets is refused with, where each is a semicolon, and then a letter of two octets.
+/// The refusal of a file of this many octets, each a semicolon, and then a letter of two octets.
 fn refused_comment(alloc: Global, count: u64) -> Option<String> {
     let file = repeat(b';').take(count).chain("é".as_bytes());
     refused(alloc, read_rule_file(alloc, "r", file))
 }
 
-/// What a key file of so many semicolons is refused with.
+/// The refusal of a key file of this many semicolons.
 fn refused_key_comment(alloc: Global, count: u64) -> Option<String> {
     refused(alloc, read_key_file(alloc, "k", repeat(b';').take(count)))
 }
 
-/// A file may have as many octets as its limit and no more, and a file that is too long may end anywhere.
+/// A file may have as many octets as its limit and no more; one that is too long may end anywhere.
 #[test]
 fn large_files(rt: HostRuntime) {
     let alloc = rt.alloc();

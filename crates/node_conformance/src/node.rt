@@ -47,7 +47,7 @@ fn parts(alloc: Global) -> Option<NodeParts> {
     parts_of(alloc, SAMPLE, 1024)
 }
 
-/// What is written for a script, and then how it ended.
+/// The output of a script, and then how it ended.
 fn outcome(alloc: Global, parts: NodeParts, script: &str) -> Option<String> {
     let mut output = Vec::new(alloc);
     let end = run_script(alloc, &mut script.as_bytes(), &mut output, parts);
@@ -74,7 +74,7 @@ fn script_of(alloc: Global, dialogue: &str) -> Option<String> {
     Some(script)
 }
 
-/// Appends what a word of a dialogue stands for: a packet, or the sample files, in hexadecimal.
+/// Appends the hexadecimal that a word of a dialogue stands for: a packet, or the sample files.
 fn push_spelled(alloc: Global, text: &mut String, word: &str) -> Option<()> {
     match word {
         "SAMPLE" => text

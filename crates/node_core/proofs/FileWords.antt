@@ -35,7 +35,7 @@ no_rules octets word why spelled fault other rules h =
 -- what has a fault spells no keys
 keys_or_fault : (octets : List ℕ) (why : KeyFault) (book : List NamedKey) → IsFaultOfOctets octets why → (why ≡ keys.Memory → ⊥) → AreKeys octets book → ⊥
 keys_or_fault octets why book (inl (utf8, inl refused)) other are = let read = again octets book are.1 in cc (refused, read)
-keys_or_fault octets why book (inl (utf8, inr memory)) other are = other memory
+keys_or_fault octets why book (inl (utf8, inr memory)) other are = other memory.0
 keys_or_fault octets why book (inr (bad, is)) other are = bad are.0
 
 pub no_keys : (octets word : List ℕ) (why : KeyFault) → HexSpells octets word → IsFaultOfOctets octets why → (why ≡ keys.Memory → ⊥)

@@ -38,8 +38,8 @@ pub use hops::{Hop, Hops};
 pub use law::{
     effective_hops_are_as_defined, expiry_may_come_twice, hops_are_in_order,
     longest_is_the_longest_prefix, nacks_tell_the_least_reason, records_are_the_past,
-    records_tell_the_table, revising_changes_each_value, table_limits_are_as_promised,
-    tokens_for_data_are_one,
+    records_tell_the_table, revising_changes_each_value, routes_are_those_of_the_longest_prefix,
+    routes_that_end_are_counted, table_limits_are_as_promised, tokens_for_data_are_one,
 };
 pub use nacked::Nacked;
 pub use pit::{MAX_PENDING, Pit};

@@ -159,7 +159,7 @@ fn leaves_earlier_records(alloc: Global) -> Option<bool> {
     )
 }
 
-/// Whether just a command of the time 5 and the number 5 is recorded of a signer.
+/// Whether exactly a command of the time 5 and the number 5 is recorded for a signer.
 fn is_recorded(guard: &Guard, signer: Signer<'_>) -> bool {
     !guard.check(signer, 5, Some(6), 5)
         && !guard.check(signer, 6, Some(5), 5)

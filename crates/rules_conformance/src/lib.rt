@@ -1,4 +1,4 @@
-//! Tests of what is allowed: name patterns, rule files and decisions, and times of commands.
+//! Tests of decisions: name patterns, rule files, decisions by them, and times of commands.
 #![tactic(auto)]
 
 #[cfg(test)]

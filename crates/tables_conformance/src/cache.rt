@@ -1,4 +1,4 @@
-//! Data that are kept to answer Interests.
+//! Data that are cached to answer Interests.
 
 mod fresh_among_stale;
 mod random_sequences;
@@ -66,7 +66,7 @@ fn answer(alloc: Global, store: &mut Store, call: &str) -> Option<Option<String>
     }
 }
 
-/// The answers of the calls after a capacity, and how many Data are then held.
+/// The answers of the calls after a capacity, and the number of Data cached then.
 fn answers(alloc: Global, row: &str) -> Option<String> {
     let (capacity, calls) = row.split_once(": ")?;
     match Store::new(alloc, capacity.parse().ok()?) {
@@ -170,7 +170,7 @@ fn the_least_name_that_is_fresh(rt: HostRuntime) {
     check_rows(&rt, rt.alloc(), rows, answers);
 }
 
-/// Whatever was put is held with ample memory, and the least full name that answers is found.
+/// With ample memory each Data put is cached, and the least full name that answers is found.
 #[test]
 fn cache_kept(rt: HostRuntime) {
     let rows = "
@@ -196,7 +196,7 @@ fn cached_data_by_full_name(rt: HostRuntime) {
     check_rows(&rt, rt.alloc(), rows, answers);
 }
 
-/// Keeps Data of other names: whether each is kept.
+/// Puts Data of other names: whether each is cached.
 fn put_others(alloc: Global, store: &mut Store, count: u32) -> Option<bool> {
     for number in 0..count {
         let name = format!(in alloc; "/other/{number}").ok()?;
@@ -208,7 +208,7 @@ fn put_others(alloc: Global, store: &mut Store, count: u32) -> Option<bool> {
     Some(true)
 }
 
-/// Whether a Data of 8,800 octets is kept and found among 1,000 others.
+/// Whether a Data of 8,800 octets is cached and found among 1,000 others.
 fn is_greatest_kept(alloc: Global) -> Option<bool> {
     let packet = data_of(alloc, "/big", "00x8746", None)?;
     let mut store = Store::new(alloc, 1001).ok()?;
@@ -235,7 +235,7 @@ fn put_number(packet: &mut [u8], number: u32) {
     }
 }
 
-/// Whether a store holds a Data, if its look-up takes from one to so many comparisons.
+/// Whether a Data is cached, if its look-up takes from one to this many comparisons.
 fn is_held(store: &mut Store, packet: &[u8], most: u64) -> Option<bool> {
     let Frame::Data(data) = read_frame(packet).ok()? else {
         return None;
@@ -251,7 +251,7 @@ fn is_held(store: &mut Store, packet: &[u8], most: u64) -> Option<bool> {
     (counted >= 1 && counted <= most).then_some(is_found)
 }
 
-/// Whether the first of so many Data and one more goes, and the second and the last stay.
+/// Whether the first of this many Data and one more is evicted, and the second and the last stay.
 fn is_first_gone(alloc: Global, capacity: u32, most: u64) -> Option<bool> {
     let mut packet = data_of(alloc, "/n/0000", "01", Some(0))?;
     let mut store = Store::new(alloc, capacity as usize).ok()?;
@@ -281,7 +281,7 @@ fn greatest_cache(rt: HostRuntime) {
     assert!(rt; is_first_gone(rt.alloc(), 65_536, 17) == Some(true));
 }
 
-/// Whether a Data is found exactly where it was kept, which a refusal of memory prevents.
+/// Whether a Data is found exactly if it was cached, which a refusal of memory prevents.
 fn is_found_where_kept(alloc: Global) -> Option<bool> {
     let packet = data_of(alloc, "/A", "01", Some(0))?;
     let mut store = Store::new(alloc, 2).ok()?;

@@ -171,7 +171,7 @@ fn satisfied(alloc: Global, table: &mut Table, uri: &str) -> Option<String> {
     faces_shown(alloc, &faces_answered(table, &packet)?)
 }
 
-/// The token that goes to a face with empty Data of a name.
+/// The token that a face gets with an empty Data of a name.
 fn token_shown(alloc: Global, table: &Table, text: &str) -> Option<String> {
     let (uri, face) = text.split_once(' ')?;
     let name = NameBuf::from_uri(alloc, uri).ok()?;
@@ -345,7 +345,7 @@ fn ask_numbered(
     Some(table.ask(key, face, [0; 4], 9).is_none())
 }
 
-/// Interests under 4,096 keys, one more, and one under a key that stands.
+/// Interests under 4,096 keys, one more, and one under a key that is pending.
 fn fills(alloc: Global, table: &mut Table, share_names: bool) -> Option<bool> {
     for number in 0..4096 {
         if !ask_numbered(alloc, table, number, 1, share_names)? {
@@ -393,7 +393,7 @@ fn sends_to_64_faces(table: &mut Table, key: Key<'_>) -> bool {
     table.pit.used(key).len() == 64
 }
 
-/// Whether Interests of 64 faces are held, sent to all of them, and answered.
+/// Whether Interests of 64 faces are recorded, sent to all of them, and answered.
 fn holds_64_faces(alloc: Global, table: &mut Table, key: Key<'_>, _other: Key<'_>) -> Option<bool> {
     let holds = sends_to_64_faces(table, key);
     let packet = empty_data(alloc, key.name)?;
@@ -439,7 +439,7 @@ fn records_of_64_faces(rt: HostRuntime) {
     assert!(rt; played(rt.alloc(), &holds_64_faces) == Some(true));
 }
 
-/// Whether an Interest that is prepared is kept, removals between, and is sent on; and whether a
+/// Whether a prepared Interest is recorded, with removals between, and is sent on; and whether a
 /// preparation that is refused leaves the records.
 fn keeps_what_is_prepared(
     _alloc: Global,
@@ -477,7 +477,7 @@ fn leaves_the_older_one(
     Some(sent && kept && table.pit.len() == 1 && table.pit.used(key).get(2) == Some(3))
 }
 
-/// Whether a prepared Interest is kept with a PIT token of 32 octets.
+/// Whether a prepared Interest is recorded with a PIT token of 32 octets.
 fn keeps_a_prepared_token(
     _alloc: Global,
     table: &mut Table,

@@ -71,7 +71,7 @@ fn told(alloc: Global, routes: &mut RouteTable, call: &str, now: u64) -> Option<
     format!(in alloc; "{number}").ok()
 }
 
-/// The hops of a name, or nothing of a change that is done.
+/// The hops of a name, or nothing for a change that is made.
 fn named(
     alloc: Global,
     routes: &mut RouteTable,
@@ -175,7 +175,7 @@ register /A 2, register /A/B 3 flags=2, register /A/B 3, of /A/B -> 2@0 3@0
 register /A 2 cost=4, register /A 2 cost=9 origin=1, of /A, due 9 -> 2@4; 0
 ";
 
-/// Nothing of a route is kept when it is registered again.
+/// A route that is registered again replaces all of the old one.
 #[test]
 fn the_last_registration_counts(rt: HostRuntime) {
     check_rows(&rt, rt.alloc(), THE_LAST_REGISTRATION_COUNTS, answers);
@@ -198,7 +198,8 @@ register /A 2, remove /A 2, of /A -> 2@0
 add /A 2, unregister /A 2, of /A -> 2@0
 ";
 
-/// A removal takes the next hop or the route that it names, and an entry without any goes.
+/// A removal removes the next hop or the route that it names, and an entry that is left without
+/// any.
 #[test]
 fn what_removals_leave(rt: HostRuntime) {
     check_rows(&rt, rt.alloc(), WHAT_REMOVALS_LEAVE, answers);

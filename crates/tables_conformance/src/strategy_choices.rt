@@ -85,7 +85,7 @@ fn shown(alloc: Global, choice: &Choice) -> Option<String> {
     Some(text)
 }
 
-/// What a strategy chooses: of a row with its name, the hops, what is asked, and the faces asked.
+/// The choice of a strategy, for a row of its name, the hops, the Interest, and the faces asked.
 fn choice(alloc: Global, row: &str) -> Option<String> {
     let (strategy, rest) = row.split_once(": ")?;
     let (hops, rest) = rest.split_once("; ")?;

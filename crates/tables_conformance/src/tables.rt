@@ -98,7 +98,7 @@ fn hops_by_cost_and_then_by_face(rt: HostRuntime) {
     check_rows(&rt, rt.alloc(), rows, next_hops);
 }
 
-/// A hop that is removed leaves the others; an entry without hops goes.
+/// Removing a hop leaves the others; an entry without hops is removed.
 #[test]
 fn an_entry_without_hops_goes(rt: HostRuntime) {
     let rows = "
@@ -242,7 +242,7 @@ fn strategies_in_canonical_order(rt: HostRuntime) {
     check_rows(&rt, rt.alloc(), rows, strategy);
 }
 
-/// A name of so many components `A`.
+/// A name of this many components `A`.
 pub fn deep_name(alloc: Global, depth: usize) -> Option<NameBuf> {
     let mut name = NameBuf::new(alloc);
     for _ in 0..depth {
@@ -251,7 +251,7 @@ pub fn deep_name(alloc: Global, depth: usize) -> Option<NameBuf> {
     Some(name)
 }
 
-/// Whether both tables give this answer to a name of so many components.
+/// Whether both tables give this answer to a name of this many components.
 fn both_answer(alloc: Global, depth: usize, answer: Result<(), TableFault>) -> Option<bool> {
     let name = deep_name(alloc, depth)?;
     let mut routes = RouteTable::new(alloc);
@@ -284,7 +284,7 @@ fn deep_hop(alloc: Global) -> Option<(u64, u64, u64)> {
     Some((hop.face, hop.cost, steps))
 }
 
-/// A look-up ends where no entry goes on, and searches at most once for each component.
+/// A look-up ends where no longer entry is left, and searches at most once for each component.
 #[test]
 fn deep_lookup(rt: HostRuntime) {
     let found = deep_hop(rt.alloc());

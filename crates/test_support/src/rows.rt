@@ -57,8 +57,8 @@ pub fn first_misshown<'a>(
     without_rows
 }
 
-/// A row with the signs that its symbols stand for: a tab for `␉`, an LF for `␊`, a VT for `␋`, a CR
-/// for `␍`, a unit separator for `␟`, a delete for `␡`, and a space that does not break for `⍽`.
+/// A row with the signs that its symbols stand for: a tab for `␉`, an LF for `␊`, a VT for `␋`, a
+/// CR for `␍`, a unit separator for `␟`, a delete for `␡`, and a space that does not break for `⍽`.
 pub fn typed(alloc: Global, row: &str) -> Option<String> {
     let mut text = String::new(alloc);
     for symbol in row.chars() {

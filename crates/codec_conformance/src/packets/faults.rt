@@ -1,4 +1,4 @@
-//! What the faults of packets say.
+//! The messages of the faults of packets.
 
 use crate::rows::check_rows;
 use ndn_packets::*;
@@ -22,7 +22,7 @@ const READ: [PacketFault; 11] = [
 
 const WRITTEN: [WriteFault; 3] = [WriteFault::BadName, WriteFault::TooLong, WriteFault::Memory];
 
-/// The text of the fault of this name, of those of reading.
+/// The message of the reading fault of this name.
 fn read_fault(alloc: Global, name: &str) -> Option<String> {
     for fault in READ {
         if fault.name() == name {
@@ -32,7 +32,7 @@ fn read_fault(alloc: Global, name: &str) -> Option<String> {
     None
 }
 
-/// The text of the fault of this name, of those of writing.
+/// The message of the writing fault of this name.
 fn write_fault(alloc: Global, name: &str) -> Option<String> {
     for fault in WRITTEN {
         if fault.name() == name {

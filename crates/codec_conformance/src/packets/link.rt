@@ -133,7 +133,7 @@ no Nack -> 64136202a1b2500d050b07030801410a0401020304
     check_rows(&rt, rt.alloc(), rows, with_token);
 }
 
-/// What stands before the packet stays, and without a token all of it.
+/// The octets before the packet stay, and without a token the packet too.
 #[test]
 fn octets_in_a_link_packet(rt: HostRuntime) {
     let bare = b"\xfe\xff\x05\x0b\x07\x03\x08\x01\x41\x0a\x04\x01\x02\x03\x04";

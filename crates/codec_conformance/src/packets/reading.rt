@@ -140,7 +140,7 @@ fn digests_without_parameters(rt: HostRuntime) {
     check_rows(&rt, rt.alloc(), rows, outcome);
 }
 
-/// Interests with ApplicationParameters, whose digest stands between two components.
+/// Interests with ApplicationParameters, whose digest is between two components.
 #[test]
 fn parameters_of_interests(rt: HostRuntime) {
     let rows = "
@@ -216,7 +216,7 @@ fn signed_interest(rt: HostRuntime) {
     check_rows(&rt, rt.alloc(), rows, cut);
 }
 
-/// The outcome of a packet with this octet at a place, where it has another one there.
+/// The outcome of a packet with this octet at a place, unless it has it there already.
 fn outcome_with(packet: &mut [u8], place: usize, octet: u8) -> Option<&'static str> {
     let one = packet.get_mut(place)?;
     let old = *one;
@@ -400,7 +400,7 @@ fn unknown_elements(rt: HostRuntime) {
     check_rows(&rt, rt.alloc(), rows, outcome);
 }
 
-/// A Data with all fields: what of them is kept.
+/// A Data with all fields, and which of them are read.
 #[test]
 fn fields_of_data(rt: HostRuntime) {
     let rows = "

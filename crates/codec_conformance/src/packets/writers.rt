@@ -240,7 +240,7 @@ fn begins_or_memory(shown: Option<String>, begin: &str) -> bool {
     }
 }
 
-/// Where memory is refused, nothing is appended.
+/// If memory is refused, nothing is appended.
 #[test]
 fn refused_memory(rt: HostRuntime) {
     let signed = interest(rt.alloc(), "080141, false, false, -, -, -, digest, -, -");
@@ -293,7 +293,7 @@ fn filled_room(alloc: Global) -> Option<(usize, usize)> {
     (out.starts_with(PLAIN) && out.ends_with(NACK)).then_some((out.len(), out.capacity()))
 }
 
-/// What stands in the output stays, and where it has room nothing is asked for.
+/// The output's earlier octets stay, and if it has room nothing is allocated.
 #[test]
 fn room_is_used(rt: HostRuntime) {
     assert!(rt; filled_room(rt.alloc()) == Some((13 + 49 + 49 + 26, 200)));

@@ -79,7 +79,7 @@ impl Station {
         self.apply(command)
     }
 
-    /// Goes to a moment. No route is removed.
+    /// Lets time pass to a moment. No route is removed.
     fn go_to(&mut self, now: u64) {
         self.now = now;
     }
@@ -159,7 +159,7 @@ fn status_and_body(alloc: Global, applied: &Applied) -> Option<String> {
     format!(in alloc; "{status} {body}").ok()
 }
 
-/// Whether a Data of this name is kept.
+/// Whether a Data of this name is still cached.
 fn put_data(alloc: Global, station: &mut Station, uri: &str) -> Option<&'static str> {
     let name = NameBuf::from_uri(alloc, uri).ok()?;
     let mut packet = Vec::new(alloc);
@@ -213,7 +213,7 @@ fn put_answer(alloc: Global, text: &mut String, station: &mut Station, call: &st
     text.push_str(&answer(alloc, station, call)?).ok()
 }
 
-/// A route that goes; its entry goes with its last hop.
+/// A route is removed; its entry is removed with its last hop.
 #[test]
 fn an_entry_goes_with_its_last_hop(rt: HostRuntime) {
     let rows = "
@@ -222,7 +222,7 @@ add 68080703080141690102, routes, remove 68080703080141690102, routes -> 200 680
     check_rows(&rt, rt.alloc(), rows, answers);
 }
 
-/// One of two hops goes: the one of the asking face.
+/// One of two hops is removed: the one of the asking face.
 #[test]
 fn the_hop_of_the_asking_face_goes(rt: HostRuntime) {
     let rows = "
@@ -260,7 +260,7 @@ add 68080703080141690102, add 68080703080141690107, remove 68080703080141690107,
     check_rows(&rt, rt.alloc(), rows, answers);
 }
 
-/// A strategy that goes, and one that stays.
+/// A strategy that is unset, and one that stays.
 #[test]
 fn a_strategy_goes_and_another_stays(rt: HostRuntime) {
     let rows = "
@@ -302,7 +302,7 @@ fn numbered(alloc: Global, number: u16) -> Option<NameBuf> {
     Some(name)
 }
 
-/// A name of so many components `A`.
+/// A name of this many components `A`.
 fn deep(alloc: Global, depth: usize) -> Option<NameBuf> {
     let mut name = NameBuf::new(alloc);
     for _ in 0..depth {
@@ -374,8 +374,8 @@ fn has_16_segments(alloc: Global, station: &Station) -> bool {
     segment.len() == 4096 && station.segment(alloc, false, 16).is_none()
 }
 
-/// Whether 4,095 names find a strategy beside `/`, and one more does not, but comes after an unknown
-/// strategy.
+/// Whether 4,095 names find a strategy beside `/`, and one more does not, but comes after an
+/// unknown strategy.
 fn refuses_one_strategy_more(alloc: Global, station: &mut Station) -> Option<bool> {
     let multicast = NameBuf::from_uri(alloc, "/localhost/nfd/strategy/multicast").ok()?;
     let (more, known) = (numbered(alloc, 4096)?, numbered(alloc, 1)?);
@@ -453,7 +453,7 @@ fn is_cut(alloc: Global, len: usize, last_len: usize, last: u64) -> Option<bool>
 /// A name that makes the list of its one route so long.
 fn long_name(alloc: Global, len: usize) -> Option<NameBuf> {
     let mut value = Vec::new(alloc);
-    // Three headers of four octets each stand before the value, and a hop of 8 octets after it.
+    // Three headers of four octets each precede the value, and a hop of 8 octets follows it.
     value.resize(len.saturating_sub(20), 7).ok()?;
     let mut name = NameBuf::new(alloc);
     name.append(8, &value).ok()?;
@@ -530,7 +530,7 @@ fn one_route_to_7(alloc: Global) -> Option<Station> {
     with_hop(Station::of_faces(alloc, 7, 9)?, &name, 7)
 }
 
-/// Whether the segment is written as it stands there.
+/// Whether these are the octets of the segment.
 fn writes_the_segment(alloc: Global) -> Option<bool> {
     let packet = first_segment(alloc, &one_route_to_7(alloc)?)?;
     Some(packet.as_slice() == octets(alloc, LIST_OF_ONE_ROUTE)?.as_slice())
@@ -586,7 +586,7 @@ fn replies_or_leaves(alloc: Global) -> Option<bool> {
     Some(out.len() == len && out.first() == Some(&7))
 }
 
-/// Whether the lists of a route and of the strategies are whole, or refused for want of memory.
+/// Whether the lists of a route and of the strategies are complete, or memory was refused.
 fn lists_or_refuses(alloc: Global) -> Option<bool> {
     let name = numbered(alloc, 1)?;
     let mut station = Station::new(alloc)?;
@@ -599,7 +599,7 @@ fn lists_or_refuses(alloc: Global) -> Option<bool> {
     )
 }
 
-/// Whether a list has so many octets, or is refused for want of memory.
+/// Whether a list has this many octets, or memory was refused.
 fn is_long_or_refused(station: &Station, alloc: Global, of_strategies: bool, len: usize) -> bool {
     match station.list(alloc, of_strategies) {
         Some(text) => text.len() == len,

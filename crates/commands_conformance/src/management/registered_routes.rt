@@ -96,7 +96,7 @@ fn replies_of_routes(rt: HostRuntime) {
     check_rows(&rt, rt.alloc(), rows, reply_shown);
 }
 
-/// A name of 33 components comes before a face that is not up. Neither matters to what is removed.
+/// A name of 33 components is reported before a face that is not up. Neither matters to a removal.
 #[test]
 fn routes_that_are_refused(rt: HostRuntime) {
     let rows = "
@@ -147,7 +147,7 @@ register 680e07030801416901026f01016a0107, register 680e07030801416901026f01026a
     check_rows(&rt, rt.alloc(), rows, answers);
 }
 
-/// A next hop hides the route of its face, and neither goes with the other.
+/// A next hop hides the route of its face, and neither is removed with the other.
 #[test]
 fn next_hops_beside_routes(rt: HostRuntime) {
     let rows = "

@@ -55,7 +55,7 @@ fn names_of_another_shape(rt: HostRuntime) {
     check_rows(&rt, rt.alloc(), rows, command_shown);
 }
 
-/// Whether a segment of so many octets has this length and this number of the last one.
+/// Whether a segment of a list of this many octets has this length and this last number.
 fn segment_is(alloc: Global, len: usize, number: u64, expected: Option<(usize, u64)>) -> bool {
     let mut text: Vec<u8> = Vec::new(alloc);
     if text.resize(len, 7).is_err() {

@@ -3,7 +3,7 @@
 use super::answers;
 use crate::rows::check_rows;
 
-/// What is inserted is pending, then stored and served, until it is deleted.
+/// An inserted Data is pending, then stored and served, until it is deleted.
 #[test]
 fn from_insert_to_delete(rt: HostRuntime) {
     let rows = "
@@ -21,7 +21,7 @@ offer /A 01, check /A 0, insert /A 0, offer /B 01, check /B 0, check /A 0 -> fal
     check_rows(&rt, rt.alloc(), rows, answers);
 }
 
-/// A filled want is gone, and so are all that one Data fills.
+/// A filled want is removed, and so are all that one Data fills.
 #[test]
 fn a_data_fills_all_wants_that_it_answers(rt: HostRuntime) {
     let rows = "
@@ -48,7 +48,7 @@ insert /A 0, delete /A* 0, check /A 0, delete /A 0, check /A 0 -> 100:0 /A 4000,
     check_rows(&rt, rt.alloc(), rows, answers);
 }
 
-/// What is served: the least full name that answers, fresh or not.
+/// The Data of the least full name that answers is served, fresh or not.
 #[test]
 fn the_least_full_name_is_served(rt: HostRuntime) {
     let rows = "

@@ -117,7 +117,7 @@ impl RuleSource for Once {
     }
 }
 
-/// What the first path comes to where there are no rules from the moment 1000 on.
+/// The answers of the first path without rules from the moment 1000 on.
 const NEW_RULES_COME_FIRST: &str = "1 passed
 2 passed
 3 passed

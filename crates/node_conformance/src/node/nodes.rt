@@ -7,7 +7,7 @@ use node_core::{Event, Node, NodeFault, NodeParts, Outbox, Scope, Verdict};
 use std::alloc::Global;
 use test_support::first_wrong;
 
-/// A repository's prefix and a cache's capacity, and then what making a node of them comes to.
+/// A repository's prefix and a cache's capacity, and then the result of making a node of them.
 const PARTS: &str = "
 /repo 1024 -> Ok(())
 / 0 -> Err(BadRepoPrefix)
@@ -18,7 +18,7 @@ const PARTS: &str = "
 /repo 65537 -> Err(BadCapacity)
 ";
 
-/// What making a node of these parts comes to.
+/// The result of making a node of these parts.
 fn made(alloc: Global, row: &str) -> Option<String> {
     let (prefix, cache) = row.split_once(' ')?;
     let parts = NodeParts {
@@ -31,7 +31,7 @@ fn made(alloc: Global, row: &str) -> Option<String> {
     format!(in alloc; "{made:?}").ok()
 }
 
-/// Whether making a node of a row's parts comes to what stands after its arrow.
+/// Whether making a node of a row's parts has the result after its arrow.
 fn is_made(alloc: Global, row: &str) -> bool {
     let (parts, wanted) = row.split_once(" -> ").unwrap_or((row, "no arrow"));
     made(alloc, parts).as_deref() == Some(wanted)
@@ -67,7 +67,7 @@ fn ends_with(outbox: &Outbox, nack: &[u8]) -> bool {
     outbox.sent(1) == Some((1, nack)) && outbox.len() == 2 && outbox.sent(2).is_none()
 }
 
-/// Whether a Nack stands after an earlier one in the outbox, until it is cleared.
+/// Whether a Nack follows an earlier one in the outbox, until it is cleared.
 fn sends_in_order(node: &mut Node, outbox: &mut Outbox, interest: &[u8], nack: &[u8]) -> bool {
     let was_empty = outbox.is_empty();
     let passed = opens(node, outbox)
@@ -90,7 +90,7 @@ fn sends(rt: HostRuntime) {
     assert!(rt; new_node_sends_in_order(rt.alloc()) == Some(true));
 }
 
-/// Whether a node tells the ids of its rules.
+/// Whether a node gives the ids of its rules.
 fn tells_rules(alloc: Global) -> Option<bool> {
     let node = node_of(alloc)?;
     let rules = node.rules();

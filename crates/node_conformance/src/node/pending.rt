@@ -42,7 +42,7 @@ in 2 1001099 D_A
 > 1 D_A
 ";
 
-/// At its deadline an Interest is pending no more, and time does not turn back.
+/// At its deadline an Interest is pending no more, and time does not go back.
 #[test]
 fn deadlines(rt: HostRuntime) {
     replies(&rt, BEFORE_THE_DEADLINE);
@@ -130,7 +130,7 @@ in 2 1001012 NO_ROUTE
 7 dropped NoPending
 ";
 
-/// A Nack goes back once all have answered so.
+/// A Nack goes back once all have answered by a Nack.
 #[test]
 fn nacks(rt: HostRuntime) {
     replies(&rt, NACKS);

@@ -80,7 +80,7 @@ pub fn node_of(alloc: Global) -> Option<Node> {
     Node::new(alloc, parts(alloc)?).ok()
 }
 
-/// Appends what is printed of one turn. It is false where no event was answered.
+/// Appends the text printed for one turn. Returns false if no event was answered.
 fn put_turn<P: Ports>(
     alloc: Global,
     node: &mut Node,
@@ -95,7 +95,7 @@ fn put_turn<P: Ports>(
     put_verdict(text, number, &verdict, node.rules()).is_ok() && put_sends(text, &outbox).is_ok()
 }
 
-/// What is printed of a node's turns at a port, until nothing more comes.
+/// The text printed for a node's turns at a port, until nothing more comes.
 fn put_turns<P: Ports>(alloc: Global, node: &mut Node, ports: &mut P) -> Vec<u8> {
     let mut text = Vec::new(alloc);
     for number in 1..1000 {
@@ -123,7 +123,7 @@ pub fn prints(alloc: Global, parts: NodeParts, dialogue: &str, wanted: &str) -> 
     prints_at(alloc, parts, &mut ports_of(alloc, dialogue)?, wanted)
 }
 
-/// What the first path comes to in so many turns, where these calls are told to fail.
+/// The text of the first path in this many turns, with these calls made to fail.
 fn served(alloc: Global, turns: u64, next: u64, send: u64) -> Option<Result<Served, ServeFault>> {
     let mut node = node_of(alloc)?;
     let mut ports = ports_of(alloc, FIRST_PATH)?;
@@ -132,7 +132,7 @@ fn served(alloc: Global, turns: u64, next: u64, send: u64) -> Option<Result<Serv
     Some(serve(alloc, &mut node, &mut ports, turns))
 }
 
-/// Whether so many events came, so many sends failed, and the port then had nothing more.
+/// Whether this many events came, this many sends failed, and the port then had nothing more.
 fn comes_to(
     served: Option<Result<Served, ServeFault>>,
     events: u64,
@@ -148,7 +148,7 @@ fn comes_to(
         }))
 }
 
-/// Whether the port gave no next arrival after so many events.
+/// Whether the port gave no next arrival after this many events.
 fn stops_after(served: Option<Result<Served, ServeFault>>, after: u64) -> bool {
     served == Some(Err(ServeFault::Next { after }))
 }
@@ -174,7 +174,7 @@ fn served_turns_with_failed_calls(rt: HostRuntime) {
     assert!(rt; comes_to(served(rt.alloc(), 10, 7, 0), 5, 0, true));
 }
 
-/// Whether a `next` that fails comes after so many events, and so many are then left to come.
+/// Whether `next` fails after this many events, and this many are then left.
 fn goes_on(alloc: Global, next: u64, before: u64, left: u64) -> Option<bool> {
     let mut node = node_of(alloc)?;
     let mut ports = ports_of(alloc, FIRST_PATH)?;
@@ -196,7 +196,7 @@ fn first_path(rt: HostRuntime) {
     replies(&rt, FIRST_PATH);
 }
 
-/// What is printed of an event for which a step has no memory.
+/// The text printed for an event for which a step has no memory.
 #[test]
 fn refused_line(rt: HostRuntime) {
     let mut text = Vec::new(rt.alloc());

@@ -11,14 +11,14 @@ use super::{is_answer, parts, spelled};
 use node_core::{Node, NodeFault, Outbox, RunFault, Verdict, run_script, serve};
 use std::alloc::Global;
 
-/// What is said of the event of a line, unless it had no memory.
+/// The answer to the event of a line, unless it had no memory.
 fn said_of(alloc: Global, node: &mut Node, outbox: &mut Outbox, line: &str) -> Option<Verdict> {
     let mut octets = Vec::new(alloc);
     let event = event_of(alloc, line)?.into_event(&mut octets);
     node.step(event, outbox).ok()
 }
 
-/// What is said of the event of a line. One that had no memory is handled again, as if for the first
+/// The answer to the event of a line. One that had no memory is handled again, as if for the first
 /// time.
 fn verdict_on(alloc: Global, node: &mut Node, outbox: &mut Outbox, line: &str) -> Option<Verdict> {
     let before = outbox.len();

@@ -36,7 +36,7 @@ in 1 1001000 FOURTH
 > 1 NO_ROUTE_FOURTH
 ";
 
-/// The example of the manual of management: what is inherited, and what ends.
+/// The example of the manual of management: routes that are inherited, and routes that expire.
 #[test]
 fn registered_routes(rt: HostRuntime) {
     replies(&rt, REGISTERED_ROUTES);
@@ -63,7 +63,7 @@ in 1 1001000 LIST
 > 1 NO_ROUTES
 ";
 
-/// A route is used until its deadline, and gone for the event that comes at it.
+/// A route is used until its deadline, and not for an event at the deadline.
 #[test]
 fn route_expiry(rt: HostRuntime) {
     replies(&rt, ROUTE_EXPIRY);

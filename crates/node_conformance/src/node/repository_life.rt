@@ -63,7 +63,7 @@ in 1 1001101 CHECK_LATER
 > 1 STILL_NOT_FOUND
 ";
 
-/// At its deadline a want is gone, and the Data that comes then is not stored.
+/// At its deadline a want expires, and a Data that comes then is not stored.
 #[test]
 fn an_expired_want_stores_nothing(rt: HostRuntime) {
     replies_with_each_cache(&rt, AN_EXPIRED_WANT_STORES_NOTHING);

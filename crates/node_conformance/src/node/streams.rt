@@ -5,7 +5,7 @@ use std::io;
 use std::io::{ErrorKind, Read, Write};
 use std::process::Abort;
 
-/// Gives at most so many octets at a time, and then fails or ends.
+/// Gives at most this many octets at a time, and then fails or ends.
 #[derive(Drop)]
 struct Pieces<'a> {
     rest: &'a [u8],
@@ -26,7 +26,7 @@ impl Read for Pieces<'_> {
     }
 }
 
-/// Takes at most so many octets at a time, and fails where it is full.
+/// Takes at most this many octets at a time, and fails when it is full.
 #[derive(Drop)]
 pub struct Room {
     pub held: Vec<u8>,

@@ -1,6 +1,6 @@
-//! PIT tokens: what goes back to a face has the token of the Interest that it answers, and what goes
-//! on has none. The packets of these dialogues, and the answers, are those of other dialogues with
-//! tokens put around them.
+//! PIT tokens: what goes back to a face has the token of the Interest that it answers, and what
+//! goes on has none. The packets of these dialogues, and the answers, are those of other dialogues
+//! with tokens put around them.
 
 use super::replies;
 
@@ -31,8 +31,8 @@ in 2 1000000 NO_ROUTE_OF_7F
 > 1 TOKEN_NO_ROUTE
 ";
 
-/// A Nack goes back with the token of its Interest: where there is no route, for a loop, and where it
-/// came with another token.
+/// A Nack goes back with the token of its Interest: where there is no route, for a loop, and where
+/// it came with another token.
 #[test]
 fn token_on_nack(rt: HostRuntime) {
     replies(&rt, NO_ROUTE_FOR_A_TOKEN);
@@ -63,8 +63,8 @@ in 3 1000000 TOKEN_AGAIN
 > 3 D_A_OF_7F
 ";
 
-/// The Interest goes on without its token. The Data goes back with it to the face that gave it, from
-/// the cache too, and bare to the other.
+/// The Interest goes on without its token. The Data goes back with it to the face that gave it,
+/// from the cache too, and bare to the other.
 #[test]
 fn token_on_data(rt: HostRuntime) {
     replies(&rt, DATA_FOR_A_TOKEN);

@@ -11,7 +11,7 @@ use std::alloc::Global;
 use std::cell::Cell;
 use std::net::{Ipv4Addr, Net, UdpSocket};
 
-/// A clock that stands at the moment that the commands of dialogues are signed for.
+/// A clock that always shows the moment for which the commands of dialogues are signed.
 #[derive(Drop)]
 pub struct Still;
 
@@ -65,7 +65,7 @@ pub fn free_port(rt: &impl Net) -> Option<u16> {
     Some(heard_port(rt)?.0)
 }
 
-/// Whether the packet of a word goes from a socket to a port.
+/// Whether the packet of a word is sent from a socket to a port.
 fn sends(alloc: Global, socket: &UdpSocket, port: u16, word: &str) -> bool {
     let octets = octets_of(alloc, word);
     socket
@@ -73,7 +73,7 @@ fn sends(alloc: Global, socket: &UdpSocket, port: u16, word: &str) -> bool {
         .is_ok()
 }
 
-/// Whether the packet of a word is what a socket hears next.
+/// Whether a socket receives the packet of a word next.
 fn hears(alloc: Global, socket: &UdpSocket, word: &str) -> bool {
     let Ok(mut buffer) = vec![in alloc; 0; 1000] else {
         return false;
@@ -84,7 +84,7 @@ fn hears(alloc: Global, socket: &UdpSocket, word: &str) -> bool {
     buffer.get(..len) == Some(octets_of(alloc, word).as_slice())
 }
 
-/// Whether so many turns pass, in which each send succeeds.
+/// Whether this many turns pass, in which each send succeeds.
 fn passes<M: Moments>(alloc: Global, node: &mut Node, ports: &mut UdpPorts<M>, turns: u64) -> bool {
     serve(alloc, node, ports, turns)
         == Ok(Served {
@@ -95,7 +95,7 @@ fn passes<M: Moments>(alloc: Global, node: &mut Node, ports: &mut UdpPorts<M>, t
         })
 }
 
-/// Whether this is said of the next arrival.
+/// Whether this is the text of the next arrival.
 fn says(alloc: Global, node: &mut Node, ports: &mut UdpPorts<Still>, verdict: Verdict) -> bool {
     serve_turn(node, ports, &mut Outbox::new(alloc)) == Ok(Turn::Done { verdict, failed: 0 })
 }
@@ -171,7 +171,7 @@ fn are_taken_soon(alloc: Global, node: &mut Node, ports: &mut UdpPorts<Still>) -
     opened && answered && !takes_soon(alloc, node, ports)
 }
 
-/// Whether a port that is looked at for a short time goes on, and then waits as before.
+/// Whether a port that is polled for a short time goes on, and then waits as before.
 fn waits_for_a_short_time(rt: &(impl AllocGlobal + Net)) -> Option<bool> {
     let alloc = rt.alloc();
     let listen = free_port(rt)?;
@@ -279,7 +279,7 @@ pub fn brings_face<M: Moments>(ports: &mut UdpPorts<M>, opened: u64, at: u64) ->
     )
 }
 
-/// Whether the next arrival is a packet of so many octets on this face at this moment.
+/// Whether the next arrival is a packet of this many octets on this face at this moment.
 pub fn brings_packet<M: Moments>(
     ports: &mut UdpPorts<M>,
     from: u64,
@@ -292,7 +292,7 @@ pub fn brings_packet<M: Moments>(
     )
 }
 
-/// Whether the next two arrivals, at these moments, open a face and bring so many octets on it.
+/// Whether the next two arrivals, at these moments, open a face and bring this many octets on it.
 pub fn opens<M: Moments>(
     ports: &mut UdpPorts<M>,
     face: u64,
@@ -360,7 +360,7 @@ fn brings_end<M: Moments>(ports: &mut UdpPorts<M>, closed: u64, at: u64) -> bool
     )
 }
 
-/// Whether a new client is answered in so many turns.
+/// Whether a new client is answered in this many turns.
 fn answers_client<M: Moments>(
     rt: &(impl AllocGlobal + Net),
     node: &mut Node,
@@ -414,7 +414,8 @@ fn keeps_peer(rt: &impl Net, moment: &Cell<u64>) -> Option<bool> {
     Some(opened && kept && opens(&mut ports, 3, 86_400_000, 86_400_000, 3))
 }
 
-/// A peer that is silent for a day keeps its face. A client's closes, and the next has another number.
+/// A peer that is silent for a day keeps its face. A client's closes, and the next has another
+/// number.
 #[test]
 fn udp_silent_peer(rt: HostRuntime) {
     assert!(rt; keeps_peer(&rt, &Cell::new(0)) == Some(true));
@@ -444,7 +445,7 @@ fn udp_waits_while_a_face_closes(rt: HostRuntime) {
     assert!(rt; hears_what_waits(&rt, &Cell::new(0)) == Some(true));
 }
 
-/// Whether so many faces open at this moment.
+/// Whether this many faces open at this moment.
 fn open_all<M: Moments>(ports: &mut UdpPorts<M>, faces: u64, at: u64) -> bool {
     for face in 0..faces {
         if !brings_face(ports, face.saturating_add(1), at) {
@@ -502,7 +503,8 @@ fn udp_gives_way(rt: HostRuntime) {
     assert!(rt; is_room_made(&rt, &Cell::new(0)) == Some(true));
 }
 
-/// Whether an Interest goes to a producer while its face is open, and comes back once it has closed.
+/// Whether an Interest goes to a producer while its face is open, and comes back once it has
+/// closed.
 fn goes_until_closed(
     alloc: Global,
     node: &mut Node,
@@ -525,7 +527,7 @@ fn goes_until_closed(
         && hears(alloc, operator, "NO_ROUTE")
 }
 
-/// Whether a route goes with the face of a client that closes.
+/// Whether a route is removed with the face of a client that closes.
 fn loses_route(rt: &(impl AllocGlobal + Net), moment: &Cell<u64>) -> Option<bool> {
     let (peer, operator) = heard_port(rt)?;
     let (_, producer) = heard_port(rt)?;

@@ -1,4 +1,4 @@
-//! Which names patterns match, and what their groups then hold.
+//! Which names patterns match, and their groups.
 
 use super::reading::is_read_so;
 use super::templates::is_made_so;
@@ -8,8 +8,8 @@ use ndn_names::{Name, NameBuf};
 use std::alloc::Global;
 use test_support::first_wrong;
 
-/// What the groups hold, from group 0 on: the places of the first component of each and of the one
-/// after its last, as in `0-5 0-3 4-5`.
+/// The groups, from group 0 on: the places of the first component of each and of the one after its
+/// last, as in `0-5 0-3 4-5`.
 fn shown(alloc: Global, captures: &Captures) -> Option<String> {
     let mut shown = String::new(alloc);
     for i in 0..12 {
@@ -48,7 +48,7 @@ fn is_matched_so(alloc: Global, row: &str) -> bool {
     }
 }
 
-/// Whether so many steps are counted, from none on and from many.
+/// Whether this many steps are counted, starting at 0 and at a large number.
 fn has_steps(pattern: &Pattern, name: Name<'_>, wanted: &str) -> bool {
     let many = u64::MAX - 1_000_000;
     let mut steps = 0;

@@ -1,4 +1,4 @@
-//! Which texts are templates, and what they make of names.
+//! Which texts are templates, and the names that they expand to.
 
 use crate::rows::assert_right;
 use name_patterns::{Pattern, PatternFault, Template};
@@ -6,8 +6,8 @@ use ndn_names::{Name, NameBuf, NameFault};
 use std::alloc::Global;
 use test_support::first_wrong;
 
-/// What a template, read for a pattern, makes of a name, if the pattern matches it and the template
-/// tells rightly whether the name is too long.
+/// The expansion of a template, read for a pattern, at a name, if the pattern matches it and the
+/// template reports rightly whether the result is too long.
 fn expanded(
     alloc: Global,
     pattern: &Pattern,
@@ -26,8 +26,8 @@ fn expanded(
     }
 }
 
-/// The URI of what a template makes of a name by a pattern that matches it, or why it makes nothing;
-/// `None` where one of these is refused, or the pattern does not match.
+/// The URI of a template's expansion at a name by a pattern that matches it, or why there is none;
+/// `None` if one of these is refused, or the pattern does not match.
 fn made(alloc: Global, pattern: &str, name: &str, template: &str) -> Option<String> {
     let pattern = Pattern::read(alloc, pattern).ok()?;
     let name = NameBuf::from_uri(alloc, name).ok()?;
@@ -37,7 +37,8 @@ fn made(alloc: Global, pattern: &str, name: &str, template: &str) -> Option<Stri
     }
 }
 
-/// Whether a row `PATTERN at NAME by TEMPLATE → URI`, or with a fault in place of the URI, is right.
+/// Whether a row `PATTERN at NAME by TEMPLATE → URI`, or with a fault in place of the URI, is
+/// right.
 pub fn is_made_so(alloc: Global, row: &str) -> bool {
     let Some((front, wanted)) = row.split_once(" → ") else {
         return false;
@@ -135,7 +136,7 @@ fn long_expansions(rt: HostRuntime) {
     assert_right(&rt, first_wrong(rt.alloc(), LONG_EXPANSIONS, is_made_so));
 }
 
-/// Whether a template makes five components of /A/KEY, or memory was refused.
+/// Whether a template expands to five components at /A/KEY, or memory was refused.
 fn is_made_unless_memory(alloc: Global) -> bool {
     let pattern = match Pattern::read(alloc, "<KEY>") {
         Ok(pattern) => pattern,

@@ -1,4 +1,4 @@
-//! What rules decide of packets.
+//! Decisions of rules on packets.
 
 use super::reading::rules_of;
 use crate::rows::assert_right;
@@ -72,15 +72,15 @@ fn packet_of<'a>(frame: &'a Frame<'a>) -> Option<Packet<'a>> {
     }
 }
 
-/// What the rules decide of a packet of these octets.
+/// The decision of the rules on a packet of these octets.
 fn decided(alloc: Global, rules: &Rules, keys: &str, octets: &[u8]) -> Option<Decision> {
     let keys = KeyBook::read(alloc, keys).ok()?;
     let frame = read_frame(octets).ok()?;
     rules.decide(alloc, &keys, packet_of(&frame)?).ok()
 }
 
-/// What a rule file decides of a packet, as `allowed 0`, `denied 0 Tag` or `no rule`, and of `any` kind
-/// and name which rule is first, as `rule 0` or `no rule`; `None` where something is refused.
+/// The decision of a rule file on a packet, as `allowed 0`, `denied 0 Tag` or `no rule`, and for
+/// `any` kind and name the first rule, as `rule 0` or `no rule`; `None` if something is refused.
 pub fn told_of(alloc: Global, file: &str, keys: &str, packet: &str) -> Option<String> {
     let rules = rules_of(alloc, typed(alloc, file)?.as_str()).ok()?;
     if let Some(named) = packet.strip_prefix("any ") {
@@ -122,8 +122,8 @@ pub fn first_wrong_under(alloc: Global, file: &str, rows: &str) -> usize {
     first_wrong(alloc, rows, |alloc, row| is_decided_so(alloc, file, row))
 }
 
-/// The first wrong line of a text of rule files, each on a line of its own with its rows on those after
-/// it up to an empty one. The text begins with an empty line, the first.
+/// The first wrong line of a text of rule files, each on a line of its own with its rows on the
+/// lines after it, up to an empty one. The text begins with an empty line, the first.
 fn first_wrong_of(alloc: Global, files: &str) -> usize {
     let mut lines = 1usize;
     for file in files.trim_matches('\n').split("\n\n") {
@@ -305,7 +305,7 @@ octets 053007250801410220620e59c59d04596b40d4cbe11e875a127f928accec817bec4519ae7
 octets 053307280801410801420220620e59c59d04596b40d4cbe11e875a127f928accec817bec4519ae74d661f47a0a0401020304240170 → no rule
 ";
 
-/// An Interest goes by its name without the digest of its parameters.
+/// An Interest is matched by its name without the digest of its parameters.
 #[test]
 fn interests_that_are_not_signed(rt: HostRuntime) {
     assert_right(&rt, first_wrong_of(rt.alloc(), NOT_SIGNED));
@@ -407,7 +407,7 @@ rule {␊ id a␊ for data␊ checker {␊ type customized␊ sig-type hmac-sha2
 data /a/b/c by /a/b/KEY/1 key → denied 0 KeyLocator
 "#;
 
-/// What is made of the key's name is the first of the two names that are compared.
+/// The expansion for the key's name is the first of the two names that are compared.
 #[test]
 fn hyper_relations(rt: HostRuntime) {
     assert_right(&rt, first_wrong_of(rt.alloc(), HYPER_RELATIONS));
@@ -455,15 +455,16 @@ const KEY_OF_NAME_OPS_KEY: &str = r"
 rule {␊ id a␊ for interest␊ checker {␊ type customized␊ sig-type hmac-sha256␊ key-locator {␊ type name␊ name /ops/KEY␊ relation equal } } }
 ";
 
-/// Whether this is decided, under these keys, of an Interest of the name /A that the key of the name
-/// /ops/KEY signed.
+/// Whether this is the decision, under these keys, on an Interest of the name /A signed by the key
+/// /ops/KEY.
 fn is_ops_decided(alloc: Global, keys: &str, wanted: &str) -> bool {
     let packet =
         "octets 05670725080141022052d80660e71c995e200e90fca82774055b6c5240685cab9cef7cdb476c5d1c240a040102030424002c141b01041c0c070a08036f707308034b45592801012e200e161f3e3217de961e12f02dca786e191af9e5a29166ddb8293582ab256106cd";
     told_of(alloc, KEY_OF_NAME_OPS_KEY, keys, packet).is_some_and(|told| told.as_str() == wanted)
 }
 
-/// An Interest's signature covers its name before the digest, and its octets from the parameters on.
+/// An Interest's signature covers its name before the digest, and its octets from the parameters
+/// on.
 #[test]
 fn both_parts_are_covered(rt: HostRuntime) {
     assert!(rt; is_ops_decided(rt.alloc(), "/ops/KEY 6b6579", "allowed 0"));

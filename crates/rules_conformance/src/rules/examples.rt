@@ -1,4 +1,4 @@
-//! The files of `docs/RULES.md` and `examples`, and what they decide.
+//! The files of `docs/RULES.md` and `examples`, and their decisions.
 
 use super::decisions::{first_wrong_under, told_of};
 use super::reading::rules_of;
@@ -440,7 +440,7 @@ fn other_signatures(rt: HostRuntime) {
     );
 }
 
-/// Whether a Data is allowed, or memory was refused in what stands before the decision or in it.
+/// Whether a Data is allowed, or memory was refused before the decision or in it.
 fn is_allowed_unless_memory(alloc: Global) -> bool {
     let packet = "data /lab/roof/wind by /keys/roof/KEY/7 key";
     told_of(alloc, SHARED_PART, KEYS, packet).is_none_or(|told| told.as_str() == "allowed 0")

@@ -11,7 +11,7 @@ pub fn rules_of(alloc: Global, text: &str) -> Result<Rules, RulesFault> {
     Rules::read(alloc, &tree)
 }
 
-/// Whether the rules of a text are so many, as `rules: 1`, or it has this fault, as `3 Syntax`.
+/// Whether a text has this number of rules, as `rules: 1`, or this fault, as `3 Syntax`.
 fn is_told(alloc: Global, text: &str, wanted: &str) -> bool {
     let told = match rules_of(alloc, text) {
         Ok(rules) => format!(in alloc; "rules: {}", rules.len()),
@@ -231,7 +231,7 @@ fn a_second_form_lacks_nothing(rt: HostRuntime) {
     assert_right(&rt, first_wrong(rt.alloc(), SECOND_FORM, is_told_so));
 }
 
-/// Whether so many rules are read so.
+/// Whether this many rules are read with this result.
 fn are_rules_told(alloc: Global, count: u32, wanted: &str) -> bool {
     let mut text = String::new(alloc);
     for number in 0..count {
@@ -243,7 +243,7 @@ fn are_rules_told(alloc: Global, count: u32, wanted: &str) -> bool {
     is_told(alloc, text.as_str(), wanted)
 }
 
-/// Whether a rule with so many of these blocks is read so.
+/// Whether a rule with this many of these blocks is read with this result.
 fn are_blocks_told(alloc: Global, count: u32, block: &str, wanted: &str) -> bool {
     let Ok(mut text) = String::from_str(alloc, "rule {\n id a\n for data\n") else {
         return false;

@@ -5,8 +5,8 @@ use info_rules::{InfoTree, RulesFault, RulesFaultKind};
 use std::alloc::Global;
 use test_support::{first_wrong, typed};
 
-/// An entry as `Debug` shows it, by its depth, its line, its key, `=` and its value where it has one,
-/// and a brace where it has a block.
+/// An entry as `Debug` shows it: its depth, its line, its key, `=` and its value if it has one, and
+/// a brace if it has a block.
 fn shown_entry(alloc: Global, entry: &str) -> Option<String> {
     let (depth, rest) = entry.split_once(' ')?;
     let (line, rest) = rest.split_once(' ')?;
@@ -254,7 +254,7 @@ fn nesting(rt: HostRuntime) {
     assert_right(&rt, first_wrong(rt.alloc(), NINE_DEEP, is_refused_so));
 }
 
-/// A comment of so many octets, and an end after it.
+/// A comment of this many octets, and an end after it.
 fn long_text(alloc: Global, len: usize, end: &str) -> Option<String> {
     let mut text = String::new(alloc);
     for _ in 0..len {

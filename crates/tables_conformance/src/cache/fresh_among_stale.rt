@@ -35,7 +35,8 @@ fn fresh_under<'a>(store: &'a mut Store, name: &NameBuf, now: u64) -> Option<&'a
     store.find(key, now)
 }
 
-/// Whether the fresh one is given until its period is over, while others go, and until it goes.
+/// Whether the fresh one is found until its period is over, while others are removed, and until it
+/// is removed.
 fn is_given_while_fresh(store: &mut Store, name: &NameBuf, fresh: &[u8]) -> Option<bool> {
     let Frame::Data(data) = read_frame(fresh).ok()? else {
         return None;

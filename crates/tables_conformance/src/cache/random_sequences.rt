@@ -27,7 +27,7 @@ struct Made {
     digest: [u8; 32],
 }
 
-/// A Data that is held: its place among those made, and its arrival.
+/// A cached Data: its place among those made, and its arrival.
 #[derive(Clone, Copy)]
 struct Held {
     made: usize,
@@ -94,7 +94,7 @@ fn compare(made: &Made, other: &Made) -> Ordering {
         .then(made.digest.as_slice().cmp(other.digest.as_slice()))
 }
 
-/// Of what is held and can serve, the one of the least full name.
+/// The cached Data of the least full name, among those that can serve.
 fn least<'a>(all: &'a [Made], held: &[Held], asked: Asked) -> Option<(Held, &'a Made)> {
     let mut least: Option<(Held, &Made)> = None;
     for one in held {
@@ -134,7 +134,7 @@ fn put_agrees(
     Some(store.put(&data, one.arrival))
 }
 
-/// What one of the four look-ups gives, where it agrees with what `place_for` tells.
+/// The result of one of the four look-ups, if it agrees with `place_for`.
 fn look_up<'a>(
     store: &'a mut Store,
     key: Key<'_>,

@@ -29,7 +29,7 @@ ask /A/sha256digest=2d92a383706a615fe67c9a585b00f29c5c06d2abdaec456e9cdc026679eb
 ask /A/sha256digest=6b50b2f9e1b4b6cb6b9a7a4a4c4a2b52f2e4a1f1d8a3a7bd1a2a3b4c5d6e7f80 1 7 9, ask /A 2 8 9, data /A, len -> yes; yes; faces 2; 1 false
 ";
 
-/// Data goes to all who ask for it, and ends what they asked.
+/// Data goes to all faces that ask for it, and their Interests are pending no more.
 #[test]
 fn data_goes_to_all_who_ask_for_it(rt: HostRuntime) {
     check_rows(&rt, rt.alloc(), DATA_GOES_TO_ALL_WHO_ASK_FOR_IT, answers);
@@ -79,7 +79,7 @@ ask /A 1 7 5000, sent /A 1 2 7 0, sent /A 1 3 7 0, nack /A 3 7 50, sent /A 1 3 8
 ask /A 1 7 5000, nack /A 1 7 50, nack /A+f 1 7 50 -> yes; no pending; no pending
 ";
 
-/// Where all faces asked have answered by a Nack, the least reason goes back.
+/// If all faces asked have answered by a Nack, the least reason goes back.
 #[test]
 fn the_least_nack_of_all_faces_asked(rt: HostRuntime) {
     check_rows(&rt, rt.alloc(), THE_LEAST_NACK_OF_ALL_FACES_ASKED, answers);
@@ -113,7 +113,7 @@ ask /A/B 1 1 9, prepare /A/B/C 4, remove /A/B, ask /A/B/C 2 2 9, of /A/B 1, of /
 ask /A/B 1 1 9, ask /A/D 3 2 9, prepare /A/B/C 4, data /A/B, ask /A/B/C 2 3 9, of /A/B/C 2, data /A/D, data /A/B/C, len -> yes; yes; yes; faces 1; yes; 00000003; faces 3; faces 2; 0 true
 ";
 
-/// What is prepared stays so while the Interests on its way go.
+/// What is prepared stays prepared while the Interests along its name are removed.
 #[test]
 fn a_preparation_on_a_path_that_empties(rt: HostRuntime) {
     check_rows(

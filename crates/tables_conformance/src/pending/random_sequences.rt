@@ -156,12 +156,12 @@ fn shows_all(table: &Table, records: &Records, keys: &[OwnedKey]) -> bool {
     table.pit.len() == records.len()
 }
 
-/// Whether a face asks for what is answered.
+/// Whether a face has a pending Interest that is answered.
 fn is_asking(records: &Records, answered: &[bool], face: u64) -> bool {
     records.asks.iter().any(|ask| ask.face == face && answered.get(ask.key) == Some(&true))
 }
 
-/// Whether these of three faces ask for what is answered.
+/// Whether these of three faces have a pending Interest that is answered.
 fn are_asking(records: &Records, answered: &[bool], faces: &Faces) -> bool {
     let mut asking: usize = 0;
     for face in 0..3 {
@@ -198,7 +198,7 @@ struct Seen {
     loops: u64,
 }
 
-/// Whether a Nack comes to what the records say.
+/// Whether a Nack has the result that the records give.
 fn nack_agrees(
     table: &mut Table,
     records: &mut Records,
@@ -217,7 +217,7 @@ fn nack_agrees(
     Some(table.nacked(key, one.face, octets_of(one.nonce), reason) == answer)
 }
 
-/// Whether an Interest loops where the records say so, and is kept.
+/// Whether an Interest loops exactly if the records say so, and is recorded.
 fn ask_agrees(
     table: &mut Table,
     records: &mut Records,
@@ -236,7 +236,7 @@ fn ask_agrees(
     Some(agrees && refused.is_none())
 }
 
-/// Whether a sending is kept where the records have the face that asks.
+/// Whether a send is recorded exactly if the records have the asking face.
 fn sent_agrees(
     table: &mut Table,
     records: &mut Records,

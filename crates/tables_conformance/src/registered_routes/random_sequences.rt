@@ -203,7 +203,7 @@ impl Plain {
     }
 }
 
-/// How often a name inherited a cost, a capture route kept one away, and routes ended.
+/// How often a name inherited a cost, a capture route prevented that, and routes expired.
 #[derive(Clone, Copy)]
 struct Seen {
     inherited: u64,
@@ -250,7 +250,7 @@ fn hops_agree(plain: &Plain, seen: &mut Seen, name: Option<usize>, hops: &Hops) 
     Some(hops.len() == len && are_in_order(hops)?)
 }
 
-/// Whether a name goes by the next hops that the lists have.
+/// Whether the next hops of a name are those of the lists.
 fn longest_agrees(
     routes: &RouteTable,
     plain: &Plain,
@@ -383,7 +383,7 @@ fn random_route(state: &mut u64) -> Registered {
     }
 }
 
-/// Whether a random call agrees with the lists, and what a random name goes by then.
+/// Whether a random call agrees with the lists, and the next hops of a random name after it.
 fn call_agrees(
     alloc: Global,
     routes: &mut RouteTable,

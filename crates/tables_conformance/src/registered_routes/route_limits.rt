@@ -1,4 +1,4 @@
-//! How many routes and names there may be, how far a look-up goes, and what is prepared.
+//! The limits of routes and names, the depth of a look-up, and preparations.
 
 use super::list_or_none;
 use crate::route_table::{Route, RouteTable};
@@ -29,7 +29,7 @@ fn takes_16384(alloc: Global, routes: &mut RouteTable) -> Option<bool> {
 }
 
 /// Whether a table with 16,384 routes refuses a new one, of a known name and of a new one, but no
-/// next hop and no route that stands.
+/// next hop and no route in force.
 fn refuses_new_routes(alloc: Global, routes: &mut RouteTable) -> Option<bool> {
     let (known, new, deep) = (
         numbered(alloc, 7)?,
