@@ -1,4 +1,4 @@
--- Why a face gets a Data: it asked for it. Or the Data is the node's own answer to it.
+-- Why a face gets a Data: it asked for it, and gets that or the node's own answer.
 use Rattle.std.specs.Prelude.{◌≡◌, ◌⊎◌, ℕ, List, Some, IsTrue, Ok, max}
 use Rattle.std.specs.FinMap as map
 use Rattle.sha2.specs.Sha256.{sha256}
@@ -43,9 +43,9 @@ AnswersNow first past p face asked i whole d =
     × AllowedIn first past (AData whole d))
     ⊎ IsOwnAnswer p face asked i whole
 
--- Where the run left this policy, the face asked for this Data. Either the event brings it and allows
--- it, and an Interest of the face is pending that it answers; or the event brings an Interest on the
--- face itself, and the Data answers that, or is the node's own answer.
+-- Where the run left this policy, the face asked for this Data. Either the event brings it and
+-- allows it, and an Interest of the face is pending that it answers; or the event brings an
+-- Interest on the face itself, and the Data answers that, or is the node's own answer.
 abbrev pub WasAskedFor : Policy → Run → Policy → PlainEvent → ℕ → List ℕ → PlainData → Type 0
 WasAskedFor first past was event face whole d =
     (Allows was event (AData whole d)

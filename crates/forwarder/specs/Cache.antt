@@ -1,5 +1,4 @@
--- What the cache is asked for by an event, and what that leaves of it (NFD Developer's Guide,
--- "Content Store").
+-- How an event uses the cache, and the cache after that (NFD Developer's Guide, "Content Store").
 use Rattle.std.specs.Prelude.{◌≡◌, ◌⊎◌, ℕ, List, true, All, Contains, Option, None, Result, Ok, Err, IsTrue, is_some, ◌==◌, if◌then◌else◌}
 use Rattle.sha2.specs.Sha256.{sha256}
 use Rattle.ndn_tlv.specs.Element.{Field}
@@ -19,12 +18,12 @@ pub data CacheUse : Type 0 where
   Untouched : CacheUse
   -- an Interest of this key asks for Data
   LooksUp : (key : PlainKey) → CacheUse
-  -- an allowed Data is to be held, if it is awaited
+  -- an allowed Data is to be cached, if it is awaited
   Inserts : (c : CachedData) → CacheUse
-  -- an allowed command erases Data under a name, at most so many
+  -- an allowed command erases Data under a name, at most `count` where that is given
   Erases : (name : List Field) (count : Option ℕ) → CacheUse
 
--- a Data as it is held from its arrival on
+-- a Data as it is cached from its arrival on
 abbrev pub held_from : ℕ → List ℕ → PlainData → CachedData
 held_from now whole d = record {
   name = d.name;
@@ -34,8 +33,8 @@ held_from now whole d = record {
   arrival = now;
 }
 
--- What an allowed command that was answered with this status asks for, where this is read off its
--- name: an erase, where the status is 200. A name of the repository reads as no such command.
+-- The use by an allowed command that was answered with this status, read off its name: an erase,
+-- where the status is 200. A name of the repository reads as no such command.
 abbrev pub command_use : Result PlainCommand ℕ → ℕ → CacheUse
 command_use (Err refused) status = Untouched
 command_use (Ok c) status = elim c.action [
@@ -43,7 +42,7 @@ command_use (Ok c) status = elim c.action [
   | _ ↦ Untouched
 ]
 
--- what an event that comes to this asks the cache for, at this moment
+-- the use of the cache by an event of this outcome, at this moment
 abbrev pub cache_use : ℕ → Outcome → CacheUse
 cache_use now Nothing = Untouched
 cache_use now (InterestPassed face whole i) =
@@ -59,14 +58,14 @@ IsAwaited waiting c =
     (key : PlainKey) × IsTrue (answers c.name c.digest key.name key.can_be_prefix)
     × (is_alive (records_at waiting key) ≡ true)
 
--- some of what was held may be gone, or in another order; nothing is new
+-- some of what was cached may be gone, or in another order; nothing is new
 abbrev pub MayForget : StoreState → StoreState → Type 0
 MayForget old new =
     All (λ c. Contains old.cached c) new.cached × (new.capacity ≡ old.capacity)
 
--- What a use leaves of the cache: what is given becomes the most recently used; an awaited Data is
--- held, or is not and the cache may forget, and no other Data comes into it; an erase is that of the
--- content store.
+-- The cache after a use: a Data that is served becomes the most recently used; an awaited Data is
+-- cached, or is not and the cache may drop some, and no other Data comes into it; an erase is that
+-- of the content store.
 abbrev pub CacheAfter : ℕ → Pending → CacheUse → StoreState → StoreState → Type 0
 CacheAfter now waiting Untouched old new = new ≡ old
 CacheAfter now waiting (LooksUp key) old new =
@@ -78,8 +77,8 @@ CacheAfter now waiting (Erases name count) old new =
     ((gone : ℕ) × IsErased name count old.cached new.cached gone)
     × (new.capacity ≡ old.capacity)
 
--- The use takes away whatever Data of this full name is held. An erase with Count may take it too,
--- but which ones it takes is not read off the event.
+-- The use removes any cached Data of this full name. An erase with Count may remove it too, but
+-- which ones it removes is not read off the event.
 abbrev pub TakesAway : CacheUse → CachedData → Type 0
 TakesAway Untouched c = ⊥
 TakesAway (LooksUp key) c = ⊥

@@ -14,7 +14,7 @@ use Rattle.forwarder.specs.Event.{PlainEvent, Send, Token, token_in}
 use Rattle.forwarder.specs.Outcome.{Outcome, Nothing, InterestPassed, CommandAllowed, DataCame, NackPassed, FaceClosed, outcome_of}
 use Rattle.forwarder.specs.Verdict.{Answer}
 
--- a moment and a period after it, which stops at the last moment
+-- a period after a moment, at most the greatest u64
 abbrev pub deadline : ℕ → ℕ → ℕ
 deadline now lifetime = min (now + lifetime) (2 ^ 64 - 1)
 
@@ -27,7 +27,7 @@ in_record_for now token whole i = record {
   token = token;
 }
 
--- whether something went back to the face: a Data, or a Nack
+-- whether something was sent back to the face: a Data, or a Nack
 abbrev pub is_answered : ℕ → List Send → Bool
 is_answered face sends = list_any (λ sent. sent.0 == face) sends
 
@@ -49,8 +49,9 @@ is_nacked sends = list_any (λ sent. is_nack sent.1) sends
 abbrev pub sent_causes : PlainKey → List ℕ → ℕ → List ℕ → List Cause
 sent_causes key nonce now faces = map (λ face. SentTo key face nonce now) faces
 
--- An Interest that is passed is kept where nothing went back to its face: it waits there, and was
--- sent to each of the faces. Where a Nack went back, the face waits under its key no more.
+-- An Interest that is passed becomes pending where nothing was sent back to its face, and was sent
+-- to each of the faces. Where a Nack was sent back, the face has no pending Interest under its key
+-- any more.
 abbrev pub interest_causes : ℕ → ℕ → Token → List ℕ → PlainInterest → List Send → List Cause
 interest_causes now face token whole i sends =
     let key = key_of i in
@@ -59,13 +60,14 @@ interest_causes now face token whole i sends =
     Arrives key face (in_record_for now token whole i)
     ∷ map (λ (sent : Send). SentTo key sent.0 i.nonce now) sends)
 
--- A Nack that is passed has its reason kept; where it was sent on, nobody waits any more.
+-- The reason of a passed Nack is recorded; where it was sent on, the records of its key are
+-- removed.
 abbrev pub nack_causes : ℕ → ℕ → PlainInterest → List Send → List Cause
 nack_causes face reason i sends =
     NackCame (key_of i) face i.nonce reason
     ∷ (if is_nil sends then [] else Removed (key_of i) ∷ [])
 
--- All that an allowed Data answers was answered, sent or not.
+-- An allowed Data satisfies all pending Interests that it answers, whether it is sent or not.
 abbrev pub causes_by : ℕ → Token → List Send → Outcome → List Cause
 causes_by now token sends Nothing = []
 causes_by now token sends (InterestPassed face whole i) =
@@ -86,7 +88,7 @@ abbrev pub after_causes : List Cause → PlainKey → Records → Records
 after_causes [] key r = r
 after_causes (cause ∷ causes) key r = after_causes causes key (records_after cause key r)
 
--- these causes in front of earlier ones, so that the last stands first
+-- these causes in front of earlier ones, the last first
 abbrev pub before_earlier : List Cause → List Cause → List Cause
 before_earlier [] earlier = earlier
 before_earlier (cause ∷ causes) earlier = before_earlier causes (cause ∷ earlier)

@@ -1,6 +1,6 @@
--- What commands are answered with, and what they change (NFD Management, "Control Command"). A
--- command that is allowed is recorded and replied to in the same step, whatever its status, and has
--- its effect where the status says so.
+-- How commands are answered, and what they change (NFD Management, "Control Command"). A command
+-- that is allowed is recorded and replied to in the same step, whatever its status; the status
+-- tells whether it has its effect.
 use Rattle.std.specs.Prelude.{◌≡◌, ℕ, List, [], ◌∷◌, ◌++◌, length, Bool, Option, None, Some, unwrap_or, slice_get, codes, nat_lt, ◌||◌, Result, Ok, Err, if◌then◌else◌}
 use Rattle.std.specs.Option.{option_map}
 use Rattle.std.specs.FinMap as map
@@ -89,7 +89,7 @@ fetch_text want nonce =
     )
 
 -- such an Interest cannot be written: its name is empty or has a digest of parameters, or it is too
--- long, which is not to be expected, since the command is longer
+-- long, which is not expected, since the command is longer
 abbrev pub is_unwritable : Want → List ℕ → Bool
 is_unwritable want nonce =
     is_bad_name want.name || nat_lt 8800 (length (fetch_text want nonce))
@@ -98,7 +98,7 @@ abbrev pub to_chosen : Choice → List ℕ → List Send
 to_chosen choices.NoRoute text = []
 to_chosen (choices.Send faces) text = to_each faces text
 
--- It goes where the strategy sends a new Interest that no face asked for.
+-- It is sent to where the strategy sends a new Interest that no face asked for.
 abbrev pub fetch_sends : Policy → List ℕ → Option Want → List Send
 fetch_sends p nonce None = []
 fetch_sends p nonce (Some want) =
@@ -148,7 +148,7 @@ denial_text p rule reason = reason_name reason ++ (codes " by " ++ id_of p.rules
 abbrev pub replied : ℕ → Token → PlainInterest → List ℕ → Send
 replied face token i content = sent_back face token (reply_text i.name content)
 
--- the Content of the reply to a command, of which this is said
+-- the Content of the reply to a command, by the decision on it
 abbrev pub reply_content : Policy → ℕ → PlainInterest → Decision → List ℕ
 reply_content p face i (decided.Allowed rule) =
     (allowed_reply p face i (request_of p face i)).content
@@ -156,7 +156,7 @@ reply_content p face i (decided.Denied rule reason) =
     refused_content (request_of p face i) (denial_text p rule.0 reason)
 reply_content p face i decided.NoRule = refused_content (request_of p face i) (codes "no rule")
 
--- how a command is answered, of which this is said
+-- the answer to a command, by the decision on it
 abbrev pub command_answer : Policy → ℕ → Token → PlainInterest → Decision → Answer
 command_answer p face token i (decided.Allowed rule) =
     let reply = allowed_reply p face i (request_of p face i) in
@@ -174,7 +174,8 @@ command_answer p face token i decided.NoRule = record {
 }
 
 -- How a packet that is denied, or that no rule applies to, is answered: a command by a reply of
--- status 403, which names the reason and the rule, and a Data by nothing. No other packet is denied.
+-- status 403, which names the reason and the rule, and a Data by nothing. No other packet is
+-- denied.
 abbrev pub IsDenial : Policy → ℕ → Token → PlainFrame → Decision → Answer → Type 0
 IsDenial p face token (AnInterest whole i) (decided.Allowed rule) answer = ⊥
 IsDenial p face token (AnInterest whole i) (decided.Denied rule reason) answer =

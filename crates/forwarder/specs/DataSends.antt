@@ -26,9 +26,9 @@ use Rattle.forwarder.specs.Request.{ListAsked, is_command, list_asked, request_o
 use Rattle.forwarder.specs.Replies.{Seen, Waits}
 use Rattle.forwarder.specs.Verdict.{Answer, passed}
 
--- The event brings a Data that is allowed. Its received octets go to another face, which waits for
--- it: under some key that it answers, an Interest is pending there. With them goes the token of the
--- face's latest such Interest.
+-- The event brings a Data that is allowed, and its received octets are sent to another face with a
+-- pending Interest for it: one under some key that the Data answers. The token of the face's latest
+-- such Interest is sent with them.
 pub record IsForwardedData (seen : Seen) (event : PlainEvent) (sent : Send) : Type 0 where
   pub face : ℕ
   pub now : ℕ
@@ -46,7 +46,7 @@ pub record IsForwardedData (seen : Seen) (event : PlainEvent) (sent : Send) : Ty
   pub is_token : IsTokenFor seen.records packet.name (sha256 whole) sent.0 token
   pub received : sent ≡ sent_back sent.0 token whole
 
--- the reply to a command, by what is said of it
+-- the reply to a command, by the decision on it
 abbrev pub IsReplyToCommand : Policy → ℕ → List ℕ → PlainInterest → List ℕ → Type 0
 IsReplyToCommand p face whole i octets =
     (is_command (request_of p face i) ≡ true)
@@ -59,8 +59,8 @@ IsSegmentAskedFor p face i octets =
     (asked : ListAsked) × (list_asked i ≡ Some asked)
     × (list_answer p face None asked ≡ passed ((face, octets) ∷ []))
 
--- where a Data comes from that answers an Interest at once: the cache gives it, the repository
--- stores it, or the node makes it
+-- where a Data that answers an Interest at once comes from: the cache, the repository, or the node
+-- itself
 abbrev pub IsAtHand : Seen → ℕ → List ℕ → PlainInterest → List ℕ → Type 0
 IsAtHand seen face whole i octets =
     seen.MayGive (key_of i) (Some octets)
@@ -68,7 +68,7 @@ IsAtHand seen face whole i octets =
     ⊎ (IsReplyToCommand seen.policy face whole i octets
     ⊎ IsSegmentAskedFor seen.policy face i octets))
 
--- the event brings an Interest, and such a Data goes back to its face, with the Interest's token
+-- the event brings an Interest, and such a Data is sent back to its face, with the Interest's token
 pub record IsReply (seen : Seen) (event : PlainEvent) (sent : Send) : Type 0 where
   pub now : ℕ
   pub octets : List ℕ
@@ -94,7 +94,7 @@ is_data_element (Err fault) = false
 is_data_element (Ok e) = e.0 == DATA
 
 -- whether a link packet of these elements carries a Data by its type: its Fragment is one, and no
--- Nack stands before it
+-- Nack comes before it
 abbrev pub carries_data : List (Result Field TlvFault) → Bool
 carries_data [] = false
 carries_data (Err fault ∷ elements) = false
@@ -107,12 +107,12 @@ abbrev pub holds_data : Result Field PacketFault → Bool
 holds_data (Err fault) = false
 holds_data (Ok e) = if e.0 == LINK_PACKET then carries_data (elements_of e.1) else (e.0 == DATA)
 
--- Whether octets of a link hold a Data, bare or in a link packet: one that is read, or one that is too
--- long to be, as a reply of the node may be.
+-- Whether octets of a link hold a Data, bare or in a link packet: one that can be read, or one that
+-- is too long for that, as a reply of the node may be.
 abbrev pub is_data : List ℕ → Bool
 is_data octets = is_data_frame (frame_at octets) || holds_data (only_element octets)
 
--- each Data that is sent is one of these two; what else is sent is no Data
+-- each Data that is sent is one of these two; nothing else that is sent is a Data
 abbrev pub IsExplained : Seen → PlainEvent → Send → Type 0
 IsExplained seen event sent =
     IsForwardedData seen event sent ⊎ (IsReply seen event sent ⊎ (is_data sent.1 ≡ false))

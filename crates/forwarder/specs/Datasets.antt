@@ -35,7 +35,7 @@ segment_answer face token name None = dropped NoSegment
 segment_answer face token name (Some part) =
     passed (sent_back face token (segment_data name part.0 part.1) ∷ [])
 
--- the version that is asked for is the present one, or none is
+-- the version that is asked for is the current one, or none is asked for
 abbrev pub is_present : Policy → Option ℕ → Bool
 is_present p None = true
 is_present p (Some version) = version == p.table_number

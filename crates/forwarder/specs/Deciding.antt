@@ -1,5 +1,5 @@
--- What is decided of commands and Data: by the rules, and of a command also by what its signer
--- said before (NDN Packet Format 0.3, "Signed Interest").
+-- How commands and Data are decided: by the rules, and a command also by what was recorded of its
+-- signer (NDN Packet Format 0.3, "Signed Interest").
 use Rattle.std.specs.Prelude.{◌≡◌, ◌⊎◌, ◌==◌, ℕ, Option, None, Some, IfSome, ⊤, if◌then◌else◌}
 use Rattle.ndn_packets.specs.Packet.{PlainLocator, Missing, KeyName, Digest, Other, PlainSignatureInfo, PlainInterest, PlainFrame, AnInterest, AData, ANack, Idle}
 use Rattle.ndn_packets.specs.declared.types.TheConstants.{DIGEST_SHA256}
@@ -19,11 +19,11 @@ key_named (KeyName name) = Some name
 key_named Digest = None
 key_named Other = None
 
--- who signs: all DigestSha256 commands are of one signer
+-- the signer: all DigestSha256 commands are of one signer
 abbrev pub signer_in : PlainSignatureInfo → Signer
 signer_in info = if info.kind == DIGEST_SHA256 then None else key_named info.locator
 
--- what is recorded of a command: each that is allowed says who signed it and when
+-- what is recorded of a command: its signer, and its time and number
 abbrev pub recorded_with : PlainSignatureInfo → Option ℕ → Option Recorded
 recorded_with info None = None
 recorded_with info (Some time) =
@@ -39,12 +39,12 @@ recorded_of i = elim i.signature [
 abbrev pub recorded_by : Signed → Recorded
 recorded_by s = record { signer = signer_of s.signer; time = s.time; number = s.seq }
 
--- a command is near to now, and newer than all that was recorded of its signer
+-- the time of a command is near now, and it is newer than all that was recorded of its signer
 abbrev pub IsFreshCommand : Policy → PlainInterest → Type 0
 IsFreshCommand p i =
     IfSome (recorded_of i) (λ r. IsFresh p.guard r.signer r.time r.number p.now)
 
--- a command has to be fresh; of Data nothing more is asked
+-- a command has to be fresh; a Data need not
 abbrev pub IsFreshPacket : Policy → PlainFrame → Type 0
 IsFreshPacket p (AnInterest whole i) = IsFreshCommand p i
 IsFreshPacket p (AData whole d) = ⊤

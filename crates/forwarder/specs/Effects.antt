@@ -1,5 +1,4 @@
--- What an event changes of what follows from events alone (NFD Developer's Guide, "Forwarding"; NFD
--- Management).
+-- How an event changes the policy (NFD Developer's Guide, "Forwarding"; NFD Management).
 use Rattle.std.specs.Prelude.{◌≡◌, ℕ, Bool, true, false, Option, None, Some, Result, Ok, Err, nat_le, length, ◌==◌, if◌then◌else◌}
 use Rattle.sha2.specs.Sha256.{sha256}
 use Rattle.ndn_packets.specs.FrameReading.{frame_at}
@@ -31,7 +30,7 @@ abbrev pub with_open : Policy → ℕ → Scope → Policy
 with_open p face scope =
     if can_open p face then record p { faces = with_face face scope p.faces } else p
 
--- a face closes: its next hops and routes go, and the lists have another version
+-- a face closes: its next hops and routes are removed, and the lists have their next version
 abbrev pub with_closed : Policy → ℕ → Policy
 with_closed p face =
     if is_open face p.faces then with_next_version (record p {
@@ -60,7 +59,7 @@ after_packet p face (AData whole d) =
 after_packet p face (ANack reason whole i) = p
 after_packet p face Idle = p
 
--- what is denied changes nothing
+-- a denied packet changes nothing
 abbrev pub after_decision : Policy → ℕ → PlainFrame → Decision → Policy
 after_decision p face packet (Allowed rule) = after_packet p face packet
 after_decision p face packet (Denied rule reason) = p
@@ -89,7 +88,7 @@ IsEffect p event new (Some packet) =
     × (new ≡ after_decision p (face_in event) packet decision)
 
 -- A moment comes, and then the event has its effect. It is a function of the old policy and the
--- event, since of each packet one decision is said.
+-- event, since each packet has one decision.
 abbrev pub IsAfter : Policy → PlainEvent → Policy → Type 0
 IsAfter old event new =
     let p = at_moment old (moment event) in

@@ -17,7 +17,7 @@ pub data PlainEvent : Type 0 where
   Tick : (now : ℕ) → PlainEvent
   NewRules : (rules : List PlainRule) (keys : List NamedKey) (now : ℕ) → PlainEvent
 
--- an event without where its octets lie in memory
+-- an event without the place of its octets in memory
 abbrev pub plain : Event → PlainEvent
 plain (code.Packet face now octets) = Packet face now octets.now
 plain (code.FaceUp face scope now) = FaceUp face scope now
@@ -59,15 +59,15 @@ token_in (FaceDown face now) = None
 token_in (Tick now) = None
 token_in (NewRules rules keys now) = None
 
--- octets that go to a face
+-- octets that are sent to a face
 abbrev pub Send : Type 0
 Send = ℕ × List ℕ
 
--- a packet goes back to a face that asked, with the token of its Interest
+-- a packet is sent back to a face that asked, with the token of its Interest
 abbrev pub sent_back : ℕ → Token → List ℕ → Send
 sent_back face token packet = (face, lp_text token None packet)
 
--- a Nack of a reason goes back around the Interest, with its token
+-- a Nack of a reason is sent back around the Interest, with its token
 abbrev pub nacked_back : ℕ → Token → ℕ → List ℕ → Send
 nacked_back face token reason whole = (face, lp_text token (Some reason) whole)
 

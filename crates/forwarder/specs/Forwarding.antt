@@ -1,5 +1,5 @@
--- How an Interest is sent on that nothing held answers (NFD Developer's Guide, "Outgoing Interest
--- Pipeline").
+-- How an Interest that neither the cache nor the repository answers is sent on (NFD Developer's
+-- Guide, "Outgoing Interest Pipeline").
 use Rattle.std.specs.Prelude.{◌≡◌, ◌++◌, ℕ, List}
 use Rattle.ndn_packets.specs.Key.{key_of}
 use Rattle.ndn_packets.specs.Packet.{PlainInterest, AnInterest}
@@ -16,7 +16,7 @@ use Rattle.forwarder.specs.Replies.{by_strategy}
 use Rattle.forwarder.specs.Node.{FollowAll, NodeState}
 use Rattle.forwarder.specs.State.{state_of}
 
--- where an Interest goes that came on a face
+-- the strategy's choice for an Interest that came on a face
 abbrev pub choice_from : NodeState → ℕ → PlainInterest → Choice
 choice_from s face i =
     choice_for s.policy i.name (moments (records_at s.pending (key_of i)).out_records)

@@ -1,5 +1,5 @@
--- One step by a packet that came on an open face and was read: its moment comes, and then it is
--- answered and has its effect.
+-- One step by a packet that came on an open face and was read: time passes, and then it is answered
+-- and has its effect.
 use Rattle.std.specs.Prelude.{◌≡◌, ◌++◌, ℕ, List, Bool, true, false, Option, Result, Ok, IfOk, IfSome, OnErr}
 use Rattle.std.specs.Borrow.{Bor}
 use Rattle.std.specs.Option.{option_map}
@@ -40,7 +40,7 @@ IsPacketEffect p face packet new false = new ≡ p
 abbrev pub seen_by : NodeState → Seen
 seen_by s = seen_in s.policy s.pending s.cache
 
--- what a packet and its answer do to records, and ask the cache for
+-- how a packet and its answer change records, and use the cache
 abbrev pub packet_causes : ℕ → ℕ → Token → PlainFrame → Answer → List Cause
 packet_causes now face token packet answer =
     causes_by now token answer.sends (packet_outcome face packet answer.verdict)
@@ -48,8 +48,8 @@ packet_causes now face token packet answer =
 abbrev pub packet_use : ℕ → ℕ → PlainFrame → Verdict → CacheUse
 packet_use now face packet verdict = cache_use now (packet_outcome face packet verdict)
 
--- a packet that came with this token was answered and had its effect, at whose moment the node was
--- this
+-- a packet that came with this token was answered and had its effect on a node that was this at its
+-- moment
 pub record IsAnswered (was : NodeState) (face : ℕ) (token : Token) (packet : PlainFrame)
     (answer : Answer) (new : NodeState) : Type 0 where
   pub replies : RepliesToPacket (seen_by was) face token (Ok packet) answer
@@ -61,7 +61,7 @@ pub record IsAnswered (was : NodeState) (face : ℕ) (token : Token) (packet : P
   pub cache : CacheAfter was.policy.now was.pending
       (packet_use was.policy.now face packet answer.verdict) was.cache new.cache
 
--- the sends stand after the earlier ones
+-- the sends are appended to the earlier ones
 abbrev pub IsHandled : State → State → List Send → List Send → ℕ → Token → ℕ → PlainFrame
     → code.Verdict → Type 0
 IsHandled old new before after face token moment packet verdict =
@@ -81,8 +81,8 @@ interest_packet i = AnInterest i.whole.now (plain_interest i)
 abbrev pub data_packet : Data → PlainFrame
 data_packet d = AData d.whole.now (plain_data d)
 
--- What is true where a packet comes on a face with a token: the node is sound, the face is open, the
--- token is one, and what the repository stores is Data.
+-- What is true where a packet comes on a face with a token: the node is sound, the face is open,
+-- the token is one, and what the repository stores is Data.
 pub record AwaitsPacket (s : State) (face : ℕ) (token : Token) : Type 0 where
   pub sound : IsSound (state_of s)
   pub from : is_open face s.faces ≡ true
@@ -90,7 +90,7 @@ pub record AwaitsPacket (s : State) (face : ℕ) (token : Token) : Type 0 where
   pub octets : IfSome token AreOctets
   pub objects : AreObjects s.repo.held.objects
 
--- a packet was handled, or nothing but the cache changed for want of memory
+-- a packet was handled, or memory ran out and nothing but the cache changed
 pub record HandlesPacket (old new : State) (before after : List Send) (face : ℕ) (token : Token)
     (moment : ℕ) (packet : PlainFrame) (result : Result code.Verdict Memory) : Type 0 where
   pub handled : IfOk result (IsHandled old new before after face token moment packet)

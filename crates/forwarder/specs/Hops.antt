@@ -16,7 +16,7 @@ abbrev pub names_hop : PlainCommand → ℕ → List Field → ℕ → Bool
 names_hop c from name face = eq_by_cmp name_cmp name c.name && (face == face_of c from)
 
 -- a command that was done: add-nexthop sets the cost of the hop that it names, and remove-nexthop
--- ends that hop
+-- removes that hop
 abbrev pub cost_after_command : Result PlainCommand ℕ → ℕ → List Field → ℕ → Option ℕ → Option ℕ
 cost_after_command (Err status) from name face was = was
 cost_after_command (Ok c) from name face was =
@@ -27,7 +27,7 @@ cost_after_command (Ok c) from name face was =
     ]
 
 -- What an outcome does to the cost of a hop; None: there is no such hop. An allowed command changes
--- it where its status is 200. Where a face closes, its hops end.
+-- it where its status is 200. Where a face closes, its hops are removed.
 abbrev pub cost_after : Outcome → List Field → ℕ → Option ℕ → Option ℕ
 cost_after Nothing name face was = was
 cost_after (InterestPassed from whole i) name face was = was

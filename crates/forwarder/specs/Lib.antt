@@ -22,6 +22,7 @@ pub mod AskedFor
 pub mod Hops
 pub mod RouteReading
 pub mod Kept
+pub mod Wanted
 pub mod State
 pub mod Coded
 pub mod Handling

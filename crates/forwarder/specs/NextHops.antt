@@ -1,5 +1,5 @@
--- Where Interests go: the choice of the name's strategy among the next hops of its longest prefix
--- (NFD Developer's Guide, "Strategies", "Outgoing Interest Pipeline").
+-- Where Interests are sent: the choice of the name's strategy among the next hops of its longest
+-- prefix (NFD Developer's Guide, "Strategies", "Outgoing Interest Pipeline").
 use Rattle.std.specs.Prelude.{ℕ, ◌-◌, List, Bool, false, Option, None, Some, unwrap_or, ◌==◌}
 use Rattle.ndn_tlv.specs.Element.{Field}
 use Rattle.ndn_packets.specs.HopLimit.{with_octet}
@@ -30,7 +30,7 @@ strategy_for p name = unwrap_or (longest p.choices name) BestRoute
 abbrev pub hops_for : Policy → List Field → List Hop
 hops_for p name = marked (local_faces p) (longest_hops p.routes name)
 
--- where an Interest of this name goes, of which these faces were asked before
+-- the strategy's choice for an Interest of this name that was sent to these faces before
 abbrev pub choice_for : Policy → List Field → ByFace → Ask → Choice
 choice_for p name asked ask =
     chosen (selection_of (strategy_for p name)) (hops_for p name) asked ask

@@ -45,12 +45,12 @@ seen_in p waiting cache = record {
   MayGive = λ key given. GivesData key p.now cache.cached given;
 }
 
--- One step, octets to octets: time passes, then the event is answered and has its effect. What is
--- said of a packet, and what the cache gives, stand here twice each, and are one where the keys of
--- the book have different names and the cache is a store.
+-- One step, from octets to octets: time passes, then the event is answered and has its effect. The
+-- decision on a packet, and what the cache gives, appear twice each here, and are the same where
+-- the keys of the book have different names and the cache is a store.
 pub record IsStep (old : NodeState) (event : PlainEvent) (answer : Answer)
     (new : NodeState) : Type 0 where
-  -- what waits once the moment of the event has come
+  -- what is pending once the moment of the event has come
   pub waiting : Pending
   pub living : HoldsTheLiving waiting
   pub expiry : Follows (Expires (at_moment old.policy (moment event)).now) old.pending waiting
@@ -64,13 +64,13 @@ pub record IsStep (old : NodeState) (event : PlainEvent) (answer : Answer)
       (cache_use (at_moment old.policy (moment event)).now (outcome_of event answer.verdict))
       old.cache new.cache
 
--- a step that was refused memory changed nothing but what the cache holds
+-- a step that ran out of memory changed nothing but what is cached
 pub record ChangesCacheOnly (old new : NodeState) : Type 0 where
   pub policy : new.policy ≡ old.policy
   pub pending : new.pending ≡ old.pending
   pub cache : MayForget old.cache new.cache
 
--- ---- where no memory is asked for
+-- ---- where no memory is needed
 
 -- Octets that are no packet, or a link packet that holds none; what is out of scope, or an Interest
 -- whose HopLimit is 0; and a Data that is not allowed, where no checker of its rule expands a
@@ -86,7 +86,7 @@ NeedsNoMemory p face (Ok (AData whole d)) =
 NeedsNoMemory p face (Ok (ANack reason whole i)) = is_out_of_scope p face i.name ≡ true
 NeedsNoMemory p face (Ok Idle) = ⊤
 
--- the events that take no memory, read off the node before the event
+-- the events that need no memory, read off the node before the event
 abbrev pub AsksNoMemory : NodeState → PlainEvent → Type 0
 AsksNoMemory old (Packet face now octets) =
     (is_open face old.policy.faces ≡ false) ⊎ NeedsNoMemory old.policy face (frame_at octets)

@@ -1,4 +1,4 @@
--- How an outbox keeps its sends.
+-- How an outbox stores its sends.
 use Rattle.std.specs.Prelude.{ℕ, ◌≤◌, ◌-◌, List, map, length, slice_range, sum_by}
 use Rattle.std.specs.List.{AllByRecursion}
 use Rattle.forwarder.specs.Event.{Send}

@@ -1,6 +1,6 @@
--- What an event comes to, read once off the event and its verdict. From this follow the records that
--- change, what the cache is asked for, and which hops and routes a command sets (NFD Developer's
--- Guide, "Forwarding").
+-- The outcome of an event, read once off the event and its verdict. It determines the records that
+-- change, the use of the cache, and which hops and routes a command sets (NFD Developer's Guide,
+-- "Forwarding").
 use Rattle.std.specs.Prelude.{ℕ, List, Result, Ok, Err}
 use Rattle.ndn_packets.specs.FrameReading.{frame_at}
 use Rattle.ndn_packets.specs.Packet.{PlainInterest, PlainData, PlainFrame, AnInterest, AData, ANack, Idle}

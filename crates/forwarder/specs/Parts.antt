@@ -1,4 +1,4 @@
--- What a node is made of.
+-- The parts of a node.
 use Rattle.std.specs.Prelude.{ℕ, List, [], ◌∷◌, Bool, true, Option, None, Some, codes, nat_eq, nat_lt, ◌==◌, ◌&&◌, ◌||◌, if◌then◌else◌}
 use Rattle.std.specs.Cmp.Lexicographic.{pointwise}
 use Rattle.ndn_tlv.specs.Element.{Field}

@@ -1,5 +1,5 @@
--- What of a node follows from its events alone: all but pending Interests and the cache (NFD
--- Developer's Guide, "Forwarding"; NFD Management).
+-- The part of a node that follows from its events alone: all but pending Interests and the cache
+-- (NFD Developer's Guide, "Forwarding"; NFD Management).
 use Rattle.std.specs.Prelude.{ℕ, ◌+◌, ◌-◌, ◌^◌, List, [], Bool, true, false, not, Option, None, Some, filter, max, min}
 use Rattle.std.specs.FinMap as map
 use Rattle.ndn_tlv.specs.Element.{Field}
@@ -28,7 +28,7 @@ pub record Policy : Type 0 where
   pub faces : List FaceEntry
   pub routes : Routes
   pub choices : Choices
-  -- of each signer of allowed commands the greatest time and number
+  -- the greatest time and number of each signer of allowed commands
   pub guard : Table
   -- what the repository stores and wants
   pub held : Held
@@ -48,8 +48,8 @@ first_policy rules keys repo = record {
   held = record { objects = map.empty; wants = map.empty };
 }
 
--- A moment comes: time rises, and the routes and the wants that are due go. The lists have another
--- version for each of these routes.
+-- A moment comes: time rises, and the routes and the wants that are due expire. The lists have
+-- their next version for each of these routes.
 abbrev pub at_moment : Policy → ℕ → Policy
 at_moment p moment =
     let now = max p.now moment in
@@ -60,11 +60,12 @@ at_moment p moment =
       held = record p.held { wants = wants_after now p.held.wants };
     }
 
--- these rules and keys are in force; all else stays, the times of signers without a key included
+-- these rules and keys are in force; all else is as before, the times of signers without a key
+-- included
 abbrev pub with_rules : Policy → List PlainRule → List NamedKey → Policy
 with_rules p rules keys = record p { rules = rules; keys = keys }
 
--- the lists have another version
+-- the lists have their next version
 abbrev pub with_next_version : Policy → Policy
 with_next_version p = record p { table_number = min (p.table_number + 1) (2 ^ 64 - 1) }
 

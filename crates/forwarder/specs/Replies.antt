@@ -1,5 +1,5 @@
 -- How a node may answer an event (NFD Developer's Guide, "Forwarding Pipelines"). One definition
--- serves a step, where the node's tables show what it reads, and a run, where the past does.
+-- serves a step, which reads the node's tables, and a run, which reads the past.
 use Rattle.std.specs.Prelude.{◌≡◌, ◌≢◌, ◌↔◌, ℕ, List, [], ◌∷◌, All, map as map_list, Bool, not, Option, None, Some, IsSome, IsTrue, Result, Ok, Err, nat_le, length, ◌==◌, ◌&&◌, if◌then◌else◌}
 use Rattle.std.specs.FinMap as map
 use Rattle.sha2.specs.Sha256.{sha256}
@@ -44,14 +44,14 @@ pub record Seen : Type 1 where
 
 -- ---- Interests for Data, pipeline by pipeline
 
--- Interest Loop: a Nack goes back
+-- Interest Loop: a Nack is sent back
 abbrev pub interest_loop : ℕ → Token → List ℕ → Answer
 interest_loop face token whole = record {
   verdict = Dropped Loop;
   sends = nacked_back face token DUPLICATE whole ∷ [];
 }
 
--- Content Store Hit: what is held goes back
+-- Content Store Hit: what is cached is sent back
 abbrev pub content_store_hit : ℕ → Token → List ℕ → Answer
 content_store_hit face token octets = passed (sent_back face token octets ∷ [])
 
@@ -62,7 +62,7 @@ outgoing_interest seen key whole i faces =
     if not (is_alive (seen.records key)) && seen.is_full then dropped PitFull
     else passed (to_each faces (sent_on whole i.hop_limit))
 
--- Interest Reject: a Nack goes back where no next hop may get the Interest
+-- Interest Reject: a Nack is sent back where no next hop may get the Interest
 abbrev pub interest_reject : ℕ → Token → List ℕ → Answer
 interest_reject face token whole = passed (nacked_back face token NO_ROUTE whole ∷ [])
 
@@ -72,7 +72,7 @@ by_strategy seen key whole i face token choices.NoRoute = interest_reject face t
 by_strategy seen key whole i face token (choices.Send faces) =
     outgoing_interest seen key whole i faces
 
--- what the repository stores goes back too; MustBeFresh does not bind it
+-- what the repository stores is sent back too; MustBeFresh does not apply to it
 abbrev pub by_repository : Seen → ℕ → Token → List ℕ → PlainInterest → Option (List ℕ) → Answer
 by_repository seen face token whole i (Some octets) = content_store_hit face token octets
 by_repository seen face token whole i None =
@@ -91,8 +91,8 @@ abbrev pub by_content_store : Seen → ℕ → Token → List ℕ → PlainInter
 by_content_store seen face token whole i (Some octets) = content_store_hit face token octets
 by_content_store seen face token whole i None = content_store_miss seen face token whole i
 
--- Incoming Interest: one that loops gets a Nack; else the content store answers, the repository, or
--- a face is asked
+-- Incoming Interest: one that loops gets a Nack; otherwise the content store answers, or the
+-- repository, or the strategy chooses
 abbrev pub RepliesForData : Seen → ℕ → Token → List ℕ → PlainInterest → Answer → Type 0
 RepliesForData seen face token whole i answer =
     IfTrueElse (loops (seen.records (key_of i)) face i.nonce)
@@ -125,7 +125,7 @@ Waits seen name digest face =
     (key : PlainKey) × IsTrue (answers name digest key.name key.can_be_prefix)
     × IsSome (map.get (seen.records key).in_records face)
 
--- faces, each with the token that a Data goes back to it with
+-- faces, each with the token that a Data is sent back with
 abbrev pub Askers : Type 0
 Askers = List (ℕ × Token)
 
@@ -137,8 +137,8 @@ abbrev pub sent_to : Askers → List ℕ → List Send
 sent_to askers whole =
     map_list {A = ℕ × Token} {B = Send} (λ a. sent_back a.0 a.1 whole) askers
 
--- The received octets go once to each face that waits for the Data, but for the one that it came
--- from, in rising order, each time with the token of the face's latest Interest for it.
+-- The received octets are sent once to each face with a pending Interest for the Data, but for the
+-- one that it came from, in rising order, with the token of the face's latest such Interest.
 abbrev pub IsSentToAskers : Seen → ℕ → List ℕ → PlainData → List Send → Type 0
 IsSentToAskers seen face whole d sends =
     (askers : Askers) × IsRising (faces_of askers)
@@ -161,8 +161,8 @@ RepliesToData seen face whole d answer =
     ((decision : Decision) × IsDecidedAs seen.policy (AData whole d) decision
     × RepliesByDecision seen face whole d answer decision)
 
--- a Nack of this reason around the Interest of each in-record, with its token, in rising order of the
--- faces
+-- a Nack of this reason around the Interest of each in-record, with its token, in rising order of
+-- the faces
 abbrev pub nacks_to : InRecords → ℕ → List Send
 nacks_to in_records reason =
     map_list {A = ℕ × InRecord} {B = Send}
@@ -201,7 +201,7 @@ opening_answer p face =
     if nat_le MAX_FACES (length p.faces) then dropped FacesFull else
     passed []))
 
--- what may be answered to an event, where this is seen once its moment has come
+-- what may be answered to an event, by what is seen once its moment has come
 abbrev pub Replies : Seen → PlainEvent → Answer → Type 0
 Replies seen (Packet face now octets) answer =
     IfTrueElse (is_open face seen.policy.faces)

@@ -31,7 +31,7 @@ management = generic (codes "localhost") ∷ generic (codes "nfd") ∷ []
 abbrev pub is_local_name : List Field → Bool
 is_local_name name = begins_with localhost name
 
--- a name of this machine, from another one
+-- a name under /localhost that came from another machine
 abbrev pub is_out_of_scope : Policy → ℕ → List Field → Bool
 is_out_of_scope p face name = is_local_name name && is_far p face
 
@@ -60,8 +60,8 @@ abbrev pub segmented : ListKind → Option ℕ → Option ℕ → Option ListAsk
 segmented kind version None = None
 segmented kind version (Some segment) = versioned kind segment version
 
--- By what stands after a list's name: nothing or a version, and CanBePrefix, for the first segment;
--- or a version and a segment. All else is no list.
+-- By the components after a list's name: nothing or a version, and CanBePrefix, for the first
+-- segment; or a version and a segment. All else is no list.
 abbrev pub list_after : ListKind → Bool → List Field → Option ListAsked
 list_after kind can_be_prefix [] =
     if can_be_prefix then Some (record { kind = kind; version = None; segment = 0 }) else None
@@ -112,7 +112,7 @@ abbrev pub has_no_hops : Option ℕ → Bool
 has_no_hops None = false
 has_no_hops (Some limit) = limit == 0
 
--- HopLimit 0 comes first, then names of this machine from another one
+-- HopLimit 0 comes first, then scope
 abbrev pub request_of : Policy → ℕ → PlainInterest → Request
 request_of p face i =
     if has_no_hops i.hop_limit then Refused HopLimit else (

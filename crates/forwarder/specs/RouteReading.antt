@@ -19,8 +19,8 @@ abbrev pub names_route : PlainCommand → ℕ → List Field → ℕ → ℕ →
 names_route c from name face origin = names_hop c from name face && (origin == c.origin)
 
 -- A command that was done now: register gives the route that it names its cost and flags, and where
--- it has a period, now and that period together as its deadline, which stops at the greatest u64;
--- unregister ends that route.
+-- it has a period, the sum of now and that period as its deadline, at most the greatest u64;
+-- unregister removes that route.
 abbrev pub route_after_command : Result PlainCommand ℕ → ℕ → ℕ → List Field → ℕ → ℕ
     → Option Route → Option Route
 route_after_command (Err status) now from name face origin was = was
@@ -36,7 +36,7 @@ route_after_command (Ok c) now from name face origin was =
     ]
 
 -- What an outcome now does to a route; None: there is no such route. An allowed command changes it
--- where its status is 200. Where a face closes, its routes end.
+-- where its status is 200. Where a face closes, its routes are removed.
 abbrev pub route_after : Outcome → ℕ → List Field → ℕ → ℕ → Option Route → Option Route
 route_after Nothing now name face origin was = was
 route_after (InterestPassed from whole i) now name face origin was = was

@@ -1,5 +1,5 @@
--- What a run of events and answers says: readings of the past, which keep no timer and no cache; of
--- tables only how many keys are alive.
+-- Runs of events and answers, and what is read off their past, without timers or a cache; of tables
+-- it needs only how many keys are alive.
 use Rattle.std.specs.Prelude.{◌≡◌, ◌⊎◌, ℕ, Bool, true, false, List, [], ◌∷◌, ◌++◌, Option, None, Some, All, Result, Ok, Err, max, nat_le, ⊤}
 use Rattle.std.specs.FinMap as map
 use Rattle.hmac_keys.specs.KeyFile.{AreApart, NamedKey}
@@ -24,8 +24,8 @@ use Rattle.forwarder.specs.Cache.{Inserts, IsAwaited, TakesAway, cache_use}
 use Rattle.forwarder.specs.Replies.{Seen, Replies}
 use Rattle.forwarder.specs.Node.{NodeState}
 
--- a run: nothing, or a run and then an event with its answer. An event that was refused memory is
--- in none.
+-- a run: nothing, or a run and then an event with its answer. An event that ran out of memory is in
+-- none.
 pub data Run : Type 0 where
   Start : Run
   Then : (before : Run) (event : PlainEvent) (answer : Answer) → Run
@@ -35,7 +35,8 @@ abbrev pub now_of : Run → ℕ
 now_of Start = 0
 now_of (Then before event answer) = max (now_of before) (moment event)
 
--- The policy that the events of a run leave, from this first one on. No answer is read.
+-- The policy that the events of a run leave, from this first one on. It does not depend on the
+-- answers.
 abbrev pub IsPolicyOf : Policy → Run → Policy → Type 0
 IsPolicyOf first Start p = p ≡ first
 IsPolicyOf first (Then before event answer) p =
@@ -49,8 +50,8 @@ BringsKeysApart (FaceDown face t) = ⊤
 BringsKeysApart (Tick t) = ⊤
 BringsKeysApart (NewRules rules keys t) = AreApart keys
 
--- In every book that a run has had no two keys have one name: in the first, and in those that its
--- events brought.
+-- No book of the run has two keys of one name: neither the first, nor those that its events
+-- brought.
 abbrev pub KeysAreApart : Policy → Run → Type 0
 KeysAreApart first Start = AreApart first.keys
 KeysAreApart first (Then before event answer) = KeysAreApart first before × BringsKeysApart event
@@ -102,8 +103,8 @@ pub record IsWaiting (past : Run) (now : ℕ) (waiting : Pending) : Type 0 where
 
 -- ---- what the cache may hold (NFD Developer's Guide, "Content Store")
 
--- The Data came, was allowed and was awaited, and no erase has taken it since. Whether the cache
--- still holds it is not said.
+-- The Data came, was allowed and was awaited, and no erase has removed it since. It need not be
+-- cached any more.
 abbrev pub MayHold : Run → CachedData → Type 0
 MayHold Start c = ⊥
 MayHold (Then before event answer) c =
@@ -130,8 +131,8 @@ seen_after past p waiting = record {
   MayGive = MayCache past p.now;
 }
 
--- The answer is one that the past allows: by the policy, the records of the keys that are alive,
--- and what the cache may hold.
+-- The answer is valid after this past: by the policy, the records of the keys that are alive, and
+-- what the cache may hold.
 pub record MayReply (first : Policy) (past : Run) (event : PlainEvent)
     (answer : Answer) : Type 0 where
   pub was : Policy
@@ -144,7 +145,7 @@ abbrev pub IsRun : Policy → Run → Type 0
 IsRun first Start = ⊤
 IsRun first (Then before event answer) = IsRun first before × MayReply first before event answer
 
--- the node keeps what the past says
+-- the node agrees with the run
 pub record Stands (first : Policy) (past : Run) (node : NodeState) : Type 0 where
   pub policy : IsPolicyOf first past node.policy
   pub pending : (key : PlainKey) → records_at node.pending key ≡ records_of past key
@@ -208,7 +209,7 @@ is_denied (Denied kind rule reason) = true
 is_denied (NoRule kind) = true
 is_denied (Dropped reason) = false
 
--- the second run has, in the place of some events that were denied, their moments alone
+-- in the second run the moments alone replace some events that were denied
 abbrev pub HasTicksForDenied : Run → Run → Type 0
 HasTicksForDenied Start Start = ⊤
 HasTicksForDenied Start (Then other another reply) = ⊥

@@ -1,4 +1,4 @@
--- What a node keeps, as its tables show it, and what is true of every node.
+-- The state of a node, as its tables show it, and what is true of every node.
 use Rattle.std.specs.Prelude.{◌≡◌, ℕ, ◌≤◌, length, max, true}
 use Rattle.pit_fib.specs.Cause.{Expires, Follows}
 use Rattle.pit_fib.specs.FaceSet.{IsRising}
@@ -32,7 +32,7 @@ state_of s = record {
   cache = s.tables.store;
 }
 
--- Whoever has a record, a next hop or a route is an open face, and of those there are at most 64.
+-- Each face with a record, a next hop or a route is open, and at most 64 faces are open.
 pub record IsSound (s : NodeState) : Type 0 where
   pub few : length s.policy.faces ≤ MAX_FACES
   pub rising : IsRising (numbers s.policy.faces)

@@ -1,4 +1,4 @@
--- What a node says of one event.
+-- How a node handled one event.
 use Rattle.std.specs.Prelude.{ℕ, List, [], Bool, true, false}
 use Rattle.ndn_packets.specs.declared.fault.PacketFault.{PacketFault}
 use Rattle.info_rules.specs.declared.rule.Kind.{Kind}
@@ -29,7 +29,7 @@ pub data DropReason : Type 0 where
   FaceOpen : DropReason
   FacesFull : DropReason
 
--- Rules stand by their numbers, counted from 0.
+-- Rules are given by their numbers, counted from 0.
 pub data Verdict : Type 0 where
   Passed : Verdict
   -- a command that was allowed, with the status that it was answered with

@@ -98,7 +98,7 @@ impl State {
         Ok(())
     }
 
-    /// Gives an allowed command on the tables its effect, and answers it by its status.
+    /// Applies an allowed command on the tables, answers it, and returns the status.
     fn command_tables(
         &mut self,
         arrived: &Arrived<'_, Interest<'_>>,
@@ -146,7 +146,7 @@ impl State {
         Ok(status)
     }
 
-    /// Reserves what the command may need, lets time pass, and gives it its effect.
+    /// Reserves what the command may need, lets time pass, and applies it.
     fn command_read(
         &mut self,
         arrived: &Arrived<'_, Interest<'_>>,
@@ -157,7 +157,8 @@ impl State {
         requires is_token { IfSome (token_of arrived.now.token) IsToken }
         requires prepared { IfSome (recorded_of (plain_interest arrived.now.packet.now))
             (λ r. IsPrepared self.old.guard r.signer) }
-        requires read { command_at (components arrived.now.packet.now.name) ≡ Ok (asked command.now) }
+        requires read { command_at (components arrived.now.packet.now.name)
+            ≡ Ok (asked command.now) }
         ensures done { IfOk result (IsCarriedOut self.old self.new out.old.sends out.new.sends
             arrived.now.face (token_of arrived.now.token) arrived.now.moment
             (plain_interest arrived.now.packet.now) ForTables) }
@@ -183,8 +184,8 @@ impl State {
         Ok(applied.status)
     }
 
-    /// Gives an allowed command to the repository its effect, answers it, and asks for what it
-    /// wants.
+    /// Applies an allowed command to the repository, answers it, and sends an Interest for the Data
+    /// that it wants.
     fn command_repository(
         &mut self,
         arrived: &Arrived<'_, Interest<'_>>,
@@ -213,8 +214,7 @@ impl State {
         Ok(reply.status)
     }
 
-    /// Sends an Interest for what the reply wants, if it wants something, to where the strategy
-    /// chooses.
+    /// Sends an Interest for the Data that the reply wants, if any, to where the strategy chooses.
     fn fetch(&self, reply: &RepoReply, nonce: [u8; 4], out: &mut Sends) -> Result<(), Memory>
         ensures ok { OnOk result (out.new.sends
             ≡ out.old.sends ++ fetch_sends (policy_of self.entry.now) nonce reply.now.fetch) }

@@ -31,8 +31,8 @@ use pit_fib::{Faces, MAX_FACES};
 
 impl State {
     /// Handles a Data (NFD Developer's Guide, "Incoming Data Pipeline"). Where the rules allow it,
-    /// its received octets go to each other face that waits for it, it is cached if any face waited,
-    /// its own included, and stored where the repository wants it.
+    /// its received octets are sent to each other face with a pending Interest for it, it is cached
+    /// if any face has one, its own included, and stored where the repository wants it.
     pub fn receive_data(
         &mut self,
         arrived: &Arrived<'_, Data<'_>>,
@@ -61,7 +61,7 @@ impl State {
         }
     }
 
-    /// Reserves what a Data that is allowed may need, lets time pass, and delivers it.
+    /// Reserves what an allowed Data may need, lets time pass, and delivers it.
     fn receive_allowed(
         &mut self,
         arrived: &Arrived<'_, Data<'_>>,
@@ -84,8 +84,9 @@ impl State {
         Ok(Verdict::DataAllowed(rule))
     }
 
-    /// Sends an allowed Data to whoever waits for it, and keeps it where it is wanted. It takes no
-    /// memory: room for 64 sends and their octets, and the offer are prepared.
+    /// Sends an allowed Data to the other faces with a pending Interest for it, caches it if any
+    /// face has one, and stores it where the repository wants it. It needs no memory: room for 64
+    /// sends and their octets, and the offer are prepared.
     fn deliver(
         &mut self,
         face: u64,
@@ -127,8 +128,8 @@ impl State {
         Ok(())
     }
 
-    /// Sends a Data to each other face that waits for it, each time with the token of the face's
-    /// latest Interest for it.
+    /// Sends a Data to each other face with a pending Interest for it, with the token of the face's
+    /// latest such Interest.
     fn send_with_tokens(&self, face: u64, packet: &Data<'_>, out: &mut Sends) -> Result<(), Memory>
         requires places { MAX_FACES ≤ out.old.places }
         requires space { room_for_data packet.now.whole.now true ≤ out.old.space }
@@ -166,8 +167,8 @@ impl State {
     }
 }
 
-/// How many octets a Data takes at most that goes to whoever waits for it: with tokens each face may
-/// get a link packet of its own, and without them one copy serves all.
+/// The most octets that a Data takes to send to the faces that asked for it: with tokens each face
+/// may get a link packet of its own, and without them one copy serves all.
 fn data_room(packet: &Data<'_>, with_tokens: bool) -> usize
     ensures { result ≡ room_for_data packet.now.whole.now with_tokens }
 {

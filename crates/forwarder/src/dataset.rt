@@ -28,9 +28,9 @@ use std::alloc::Global;
 /// The FreshnessPeriod of a segment, in milliseconds.
 const FRESHNESS: u64 = 1000;
 
-/// The Data of a segment that is asked for (NFD Management, "Status Dataset"), where the lists have
-/// this version once the routes that end by this moment are gone. `None` where another version is
-/// asked for, or the list has no such segment.
+/// The Data of a segment that is asked for (NFD Management, "Status Dataset"), where `table_number`
+/// is the version of the lists once the routes that are due at `now` have expired. `None` where
+/// another version is asked for, or the list has no such segment.
 pub(crate) fn list_segment(
     alloc: Global,
     tables: &Tables,
@@ -57,7 +57,7 @@ pub(crate) fn list_segment(
     Ok(Some(octets))
 }
 
-/// Whether the version that is asked for, if any, is the present one.
+/// Whether the version that is asked for, if any, is the current one.
 fn is_present(asked: Option<u64>, table_number: u64) -> bool
     ensures { (p : Policy) → p.table_number ≡ table_number → result ≡ is_present p asked }
 {
@@ -123,7 +123,7 @@ fn append_number(alloc: Global, name: &mut NameBuf, kind: u16, number: u64) -> R
 }
 
 /// The Data of a segment: it names the last one, and is signed with DigestSha256. It is never too
-/// long to be written, so only memory is refused.
+/// long to be written, so it fails only when out of memory.
 fn segment_data<'a>(
     alloc: Global,
     name: Name<'a>,
@@ -150,7 +150,7 @@ fn segment_data<'a>(
 
 impl State {
     /// Sends a segment of a list, as it is at the moment, to the face that asks for it. The list is
-    /// made before time passes, as there may be no memory for it.
+    /// made before time passes, as memory may run out.
     pub fn send_list(
         &mut self,
         arrived: &Arrived<'_, Interest<'_>>,

@@ -36,7 +36,7 @@ pub enum Event<'a> {
     Tick {
         now: u64,
     },
-    /// These rules and keys take the place of those in force, for the events after this one.
+    /// These rules and keys replace those in force, for the events after this one.
     NewRules {
         rules: Rules,
         keys: KeyBook,
@@ -72,7 +72,7 @@ pub enum OwnedEvent {
 }
 
 impl OwnedEvent {
-    /// The event. The octets of a packet are moved to this place, which lends them.
+    /// The event. The octets of a packet are moved to `held`, and the event borrows them.
     pub fn into_event(self, held: &mut Vec<u8>) -> Event<'_>
         ensures { plain result ≡ plain_owned self }
     {

@@ -35,7 +35,7 @@ impl State {
         Verdict::Passed
     }
 
-    /// Closes a face: its next hops and routes, its in-records and its out-records go.
+    /// Closes a face, and removes its next hops, routes, in-records and out-records.
     pub fn close(&mut self, face: u64, now: u64) -> Verdict
         requires { IsSound (state_of self.old) }
         ensures { IsStep (state_of self.old) (FaceDown face now)
@@ -52,7 +52,7 @@ impl State {
         Verdict::Passed
     }
 
-    /// Whether a name of this machine came from another one.
+    /// Whether a name under `/localhost` came from another machine.
     pub fn is_out_of_scope(&self, face: u64, name: Name<'_>) -> bool
         ensures { result
             ≡ is_out_of_scope (policy_of self.entry.now) face (components name.entry) }

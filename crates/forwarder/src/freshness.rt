@@ -25,7 +25,7 @@ pub(crate) struct Signed<'a> {
     pub seq: Option<u64>,
 }
 
-/// Who signs: all that is signed with DigestSha256 is of one signer.
+/// The signer: all that is signed with DigestSha256 is of one signer.
 fn signer_in<'a>(signature: Signature<'a>) -> Signer<'a>
     ensures { signer_of result ≡ signer_in (plain_signature signature.entry).info }
 {
@@ -38,7 +38,7 @@ fn signer_in<'a>(signature: Signature<'a>) -> Signer<'a>
     }
 }
 
-/// Who signed an Interest, and when, where it says both.
+/// Who signed an Interest, and when, where it has both.
 fn signed_by<'a>(interest: &Interest<'a>) -> Option<Signed<'a>>
     ensures { option_map recorded_by result ≡ recorded_of (plain_interest interest.now) }
 {
@@ -51,8 +51,8 @@ fn signed_by<'a>(interest: &Interest<'a>) -> Option<Signed<'a>>
     })
 }
 
-/// Whether a command is near to this moment, in milliseconds since 1970, and newer than all that
-/// was recorded of its signer.
+/// Whether the time of a command is near this moment, in milliseconds since 1970, and the command
+/// is newer than all that was recorded of its signer.
 fn is_fresh(guard: &Guard, interest: &Interest<'_>, now: u64) -> bool
     ensures { (p : Policy) → p.guard ≡ guard.now.latest → p.now ≡ now
         → IsTrue result ↔ IsFreshCommand p (plain_interest interest.now) }
@@ -63,8 +63,8 @@ fn is_fresh(guard: &Guard, interest: &Interest<'_>, now: u64) -> bool
     }
 }
 
-/// What is said of a command at this moment, in milliseconds since 1970: what the rules decide, but
-/// that a command is denied as a replay where they allow it and it is not fresh.
+/// The decision on a command at this moment, in milliseconds since 1970: that of the rules, but a
+/// command that they allow and that is not fresh is denied as a replay.
 pub(crate) fn decide_command(
     alloc: Global,
     rules: &Rules,
@@ -87,7 +87,7 @@ pub(crate) fn decide_command(
     Ok(Decision::Denied(rule, Reason::Replay))
 }
 
-/// What is said of a Data: what the rules decide.
+/// The decision on a Data: that of the rules.
 pub(crate) fn decide_data(
     alloc: Global,
     rules: &Rules,
@@ -114,7 +114,7 @@ pub(crate) fn prepare_record(guard: &mut Guard, interest: &Interest<'_>) -> Resu
     }
 }
 
-/// Records who signed a command, and when. It takes no memory.
+/// Records who signed a command, and when. It needs no memory.
 pub(crate) fn record(guard: &mut Guard, interest: &Interest<'_>) -> Result<(), Memory>
     requires { IfSome (recorded_of (plain_interest interest.now))
         (λ r. IsPrepared guard.old r.signer) }

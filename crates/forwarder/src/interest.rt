@@ -57,7 +57,8 @@ impl State {
     }
 
     /// Answers an Interest for Data: by a Nack where it loops, from the cache or the repository, or
-    /// by sending it on. What is held is looked for first, so that a hit prepares no record.
+    /// by sending it on. The cache and the repository are looked up first, so that a hit prepares
+    /// no record.
     fn answer(
         &mut self,
         arrived: &Arrived<'_, Interest<'_>>,
@@ -82,8 +83,8 @@ impl State {
         self.miss(arrived, out)
     }
 
-    /// Answers an Interest from the cache, at the place that `place_for` gave (NFD Developer's Guide,
-    /// "Content Store Hit Pipeline"), or by a Nack where it loops.
+    /// Answers an Interest from the cache, at the place that `place_for` gave (NFD Developer's
+    /// Guide, "Content Store Hit Pipeline"), or by a Nack where it loops.
     fn serve_cached(
         &mut self,
         arrived: &Arrived<'_, Interest<'_>>,
@@ -113,7 +114,7 @@ impl State {
         Ok(Verdict::Passed)
     }
 
-    /// Answers an Interest from the repository, which stores something for it, or by a Nack where
+    /// Answers an Interest from the repository, which stores an object for it, or by a Nack where
     /// it loops.
     fn serve_stored(
         &mut self,
@@ -143,8 +144,8 @@ impl State {
         Ok(Verdict::Passed)
     }
 
-    /// Sends an Interest on for which nothing is held (NFD Developer's Guide, "Content Store Miss
-    /// Pipeline"), or a Nack back.
+    /// Sends on an Interest that neither the cache nor the repository answers (NFD Developer's
+    /// Guide, "Content Store Miss Pipeline"), or sends a Nack back.
     fn miss(
         &mut self,
         arrived: &Arrived<'_, Interest<'_>>,
@@ -175,7 +176,7 @@ impl State {
     }
 
     /// Sends a Nack back where an Interest loops (NFD Developer's Guide, "Interest Loop Pipeline"),
-    /// and answers whether it does. Room for it is reserved.
+    /// and returns whether it does. Room for it is reserved.
     fn nack_loop(
         &self,
         arrived: &Arrived<'_, Interest<'_>>,
@@ -202,7 +203,8 @@ impl State {
         Ok(true)
     }
 
-    /// Sends an Interest that nothing held answers to where its strategy chooses, or a Nack back.
+    /// Sends an Interest that neither the cache nor the repository answers to where its strategy
+    /// chooses, or a Nack back.
     fn forward(
         &mut self,
         face: u64,
@@ -239,7 +241,7 @@ impl State {
         }
     }
 
-    /// Keeps that the face waits, and sends its Interest to these faces.
+    /// Adds the in-record of the face, and sends its Interest to these faces.
     fn send_on(
         &mut self,
         face: u64,
@@ -281,7 +283,7 @@ impl State {
         Ok(Verdict::Passed)
     }
 
-    /// Keeps that the Interest was sent to these faces now.
+    /// Records that the Interest was sent to these faces now.
     fn record_sent(&mut self, interest: &Interest<'_>, faces: &Faces) -> Result<(), Memory>
         requires alive { is_alive (records_at self.old.pit.pending
             (key_of (plain_interest interest.now))) ≡ true }

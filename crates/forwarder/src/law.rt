@@ -38,36 +38,36 @@ ghost use Rattle.forwarder.specs.RouteReading.{route_of};
 ghost use Rattle.forwarder.specs.Kept.{IsSentBack, IsKept, IsPassed, IsSentOn};
 ghost use Rattle.forwarder.specs.Runs.{Run, Start, Then, AreLastRules, BringsData, BringsKeysApart, BringsRequest, HasNoNewRules, HasTicksForDenied, HaveOneHistory, IsPolicyOf, IsRun, KeysAreApart, MayHold, MayReply, Stands, now_of, past_causes, events_back, records_of, seen_after};
 
-/// Law: what follows from events alone is a function of them, where the keys of a book have
-/// different names.
+/// Law: the policy after an event is a function of the policy before it and the event, where the
+/// keys of the book have different names.
 pub fn events_have_one_effect()
     ensures { (old new other : Policy) (event : PlainEvent) → AreApart old.keys
         → IsAfter old event new → IsAfter old event other → new ≡ other }
 {}
 
-/// Law: two steps from one node by one event leave the same, but for pending Interests and the
-/// cache, whatever they answer.
+/// Law: two steps of one node by one event leave the same policy, whatever they answer, where the
+/// keys of its book have different names. Only pending Interests and the cache may differ.
 pub fn steps_have_one_effect()
     ensures { (old new other : NodeState) (event : PlainEvent) (answer another : Answer)
         → AreApart old.policy.keys → IsStep old event answer new → IsStep old event another other
         → new.policy ≡ other.policy }
 {}
 
-/// Law: two moments in a row are as the later one: what is due goes, and each route that ends is
-/// counted once.
+/// Law: two moments in a row are as the later of them: what is due expires, and each route that
+/// expires is counted once.
 pub fn moments_in_a_row_are_as_the_later()
     ensures { (p : Policy) (m n : ℕ) → at_moment (at_moment p m) n ≡ at_moment p (max m n) }
 {}
 
-/// Law: a step leaves a sound node sound: whoever has a record, a next hop or a route is an open
-/// face, and of those there are at most 64.
+/// Law: a step leaves a sound node sound: each face with a record, a next hop or a route is open,
+/// and at most 64 faces are open.
 pub fn steps_keep_nodes_sound()
     ensures { (old new : NodeState) (event : PlainEvent) (answer : Answer) → IsSound old
         → IsStep old event answer new → IsSound new }
 {}
 
-/// Law: where a node stands in a run that began at the moment 0, a step goes on with the run by its
-/// event and answer, and the node stands in it.
+/// Law: if a node agrees with a run so far that began at the moment 0, appending the event and the
+/// answer of a step gives a valid run, and the node after the step agrees with that.
 pub fn steps_go_on_with_runs()
     ensures { (first : Policy) (past : Run) (old new : NodeState) (event : PlainEvent)
         (answer : Answer) → first.now ≡ 0 → IsRun first past → Stands first past old
@@ -75,7 +75,8 @@ pub fn steps_go_on_with_runs()
         → IsRun first (Then past event answer) × Stands first (Then past event answer) new }
 {}
 
-/// Law: a node without records and with an empty cache stands in the empty run of its policy.
+/// Law: a node without pending Interests and with an empty cache agrees with the empty run of its
+/// policy.
 pub fn new_nodes_stand_in_the_empty_run()
     ensures { (first : Policy) (capacity : ℕ) → IsRun first Start × Stands first Start (record {
       policy = first;
@@ -84,16 +85,17 @@ pub fn new_nodes_stand_in_the_empty_run()
     }) }
 {}
 
-/// Law: a step that was refused memory leaves the node where it stands.
+/// Law: after a step that ran out of memory, the node agrees with each run that it agreed with
+/// before.
 pub fn refused_steps_stand_still()
     ensures { (first : Policy) (past : Run) (old new : NodeState) → Stands first past old
         → ChangesCacheOnly old new → Stands first past new }
 {}
 
-/// Law: two runs of the same events leave the same policy, and of one more event they allow one
-/// answer, where it is a command, asks for a list, or is an Interest that is dropped for its
-/// HopLimit or scope, and one verdict, where it brings a Data. So it is at each event of two whole
-/// runs.
+/// Law: where no book has two keys of one name, two runs of the same events leave the same policy.
+/// For one more event both allow only the same answer, where it brings a command, a request for a
+/// list, or an Interest that is dropped for its HopLimit or scope, and only the same verdict, where
+/// it brings a Data. So this is true at each event of two whole runs.
 pub fn histories_decide()
     ensures policy { (first p q : Policy) (past other : Run) → KeysAreApart first past
         → HaveOneHistory past other → IsPolicyOf first past p → IsPolicyOf first other q → p ≡ q }
@@ -106,8 +108,8 @@ pub fn histories_decide()
         → MayReply first past event a → MayReply first other event b → a.verdict ≡ b.verdict }
 {}
 
-/// Law: where some events of a run that were denied give way to their moments alone, it stays a
-/// run, and leaves the same policy.
+/// Law: where the moments alone replace some events of a run that were denied, it is still a run,
+/// and leaves the same policy.
 pub fn denied_events_change_nothing()
     ensures run { (first : Policy) (past other : Run) → KeysAreApart first past → IsRun first past
         → HasTicksForDenied past other → IsRun first other }
@@ -116,9 +118,10 @@ pub fn denied_events_change_nothing()
         → IsPolicyOf first other p }
 {}
 
-/// Law: each Data of an answer that the past allows came in this event, is allowed, and goes to
-/// another face that waits for it; or it answers the Interest of the event, from the cache, the
-/// repository or the node itself, and goes back to its face. What else is sent is no Data.
+/// Law: each Data of a valid answer came in this event, is allowed, and is sent to another face
+/// with a pending Interest for it; or it answers the Interest of the event, from the cache, the
+/// repository or the node itself, and is sent back to its face. Nothing else that is sent is a
+/// Data.
 pub fn each_send_is_explained()
     ensures { (first : Policy) (past : Run) (event : PlainEvent) (answer : Answer)
         (reply : MayReply first past event answer) → BringsOctets event
@@ -126,8 +129,8 @@ pub fn each_send_is_explained()
         event answer }
 {}
 
-/// Law: where the keys of a first book have different names, and so have those that each event
-/// brings, so have those of every book of a run, and of the one that is in force after it.
+/// Law: where the keys of the first book have different names, and so do those that each event
+/// brings, so do those of every book of the run and of the book in force after it.
 pub fn keys_stay_apart()
     ensures books { (first : Policy) (past : Run) → AreApart first.keys
         → All BringsKeysApart (events_back past) → KeysAreApart first past }
@@ -136,29 +139,29 @@ pub fn keys_stay_apart()
 {}
 
 /// Law: the rules and keys in force after a run, by which its next event is decided, are those of
-/// the last event that brought rules and keys, and where none did, the first ones.
+/// the last event that brought rules and keys, or the first ones where none did.
 pub fn rules_in_force()
     ensures last { (first p : Policy) (past : Run) (rules : List PlainRule) (keys : List NamedKey)
         → IsPolicyOf first past p → AreLastRules past rules keys
         → (p.rules ≡ rules) × (p.keys ≡ keys) }
     ensures first { (first p : Policy) (past : Run) → IsPolicyOf first past p → HasNoNewRules past
         → (p.rules ≡ first.rules) × (p.keys ≡ first.keys) }
-    // One of the two is so of every run.
+    // Each run is one of these two cases.
     ensures either { (past : Run) → HasNoNewRules past
         ⊎ ((rules : List PlainRule) × (keys : List NamedKey) × AreLastRules past rules keys) }
 {}
 
-/// Law: each Data that is sent was asked for by the face that it goes to. Either the event brings
-/// it, its first matching rule allows it, and an Interest that it answers is pending on that face;
-/// or the event brings an Interest on that face, and the Data answers it and came in an earlier
-/// event that allowed it, or is the node's own reply to it or segment for it.
+/// Law: each Data that is sent was asked for by the face that it is sent to. Either the event
+/// brings it, its first matching rule allows it, and it answers an Interest that is pending on that
+/// face; or the event brings an Interest on that face, and the Data answers it and came in an
+/// earlier event that allowed it, or is the node's own reply to it or segment for it.
 pub fn every_data_sent_was_asked_for()
     ensures read { (first : Policy) (past : Run) (event : PlainEvent) (answer : Answer) (face : ℕ)
         (octets whole : List ℕ) (d : PlainData) (reply : MayReply first past event answer)
         → first.held.objects ≡ map.empty → IsRun first past → BringsOctets event
         → Contains answer.sends (face, octets) → frame_at octets ≡ Ok (AData whole d)
         → WasAskedFor first past reply.was event face whole d }
-    // A Data that no reader takes, as it is too long, is the node's own answer.
+    // A Data that cannot be read, as it is too long, is the node's own answer.
     ensures unread { (first : Policy) (past : Run) (event : PlainEvent) (answer : Answer) (face : ℕ)
         (octets : List ℕ) (reply : MayReply first past event answer)
         → first.held.objects ≡ map.empty → IsRun first past → BringsOctets event
@@ -167,9 +170,9 @@ pub fn every_data_sent_was_asked_for()
         → AnswersItself reply.was event (face, octets) }
 {}
 
-/// Law: of one signer's commands each that is allowed has a greater time than all that were allowed
-/// before and, where both have a number, a greater number. So none is allowed again, whatever
-/// stands beside its signature.
+/// Law: each allowed command has a greater time than all commands of its signer that were allowed
+/// before and, where both have a number, a greater number. So no signature is allowed twice,
+/// whatever else the Interest contains.
 pub fn commands_are_allowed_once()
     ensures newer { (first was : Policy) (past : Run) (event : PlainEvent) (whole other : List ℕ)
         (i j : PlainInterest) (r s : Recorded) → KeysAreApart first past
@@ -180,8 +183,8 @@ pub fn commands_are_allowed_once()
         (i j : PlainInterest) → KeysAreApart first past → AllowedIn first past (AnInterest whole i)
         → IsPolicyOf first past was → Allows was event (AnInterest other j)
         → i.signature ≡ j.signature → ⊥ }
-    // The other way round, where no command had been recorded before the run: one that is near to
-    // its moment, and newer than all that were allowed of its signer, is fresh.
+    // Conversely, where no command was recorded before the run: a command whose time is near the
+    // moment, and that is newer than all commands of its signer that were allowed, is fresh.
     ensures fresh { (first was : Policy) (past : Run) (now : ℕ) (i : PlainInterest) (r : Recorded)
         → first.guard ≡ map.empty → IsPolicyOf first past was → recorded_of i ≡ Some r
         → AreNear r.time (at_moment was now).now
@@ -191,8 +194,8 @@ pub fn commands_are_allowed_once()
         → IsFreshCommand (at_moment was now) i }
 {}
 
-/// Law: a guard that was empty at first holds the times and numbers of commands that were allowed,
-/// and no others.
+/// Law: a guard that was empty at first records the times and numbers of commands that were
+/// allowed, and no others.
 pub fn guards_hold_allowed_commands()
     ensures { (first p : Policy) (past : Run) → first.guard ≡ map.empty → IsPolicyOf first past p
         → (records : List Recorded) × (p.guard ≡ table_of records)
@@ -200,8 +203,8 @@ pub fn guards_hold_allowed_commands()
         × AllowedIn first past (AnInterest whole i) × (recorded_of i ≡ Some r)) records }
 {}
 
-/// Law: each object of a repository is a Data that came in an event that allowed it, under its full
-/// name.
+/// Law: each object of a repository that was empty at first is a Data that came in an event that
+/// allowed it, stored under its full name.
 pub fn objects_were_allowed()
     ensures { (first p : Policy) (past : Run) (name : List Field) (octets : List ℕ)
         → first.held.objects ≡ map.empty → IsPolicyOf first past p
@@ -210,8 +213,8 @@ pub fn objects_were_allowed()
         × (name ≡ full_name d.name (sha256 octets)) }
 {}
 
-/// Law: what a cache may hold after a run is a Data that came in an event that allowed it, at the
-/// moment that is held as its arrival, with the hash of its octets as its implicit digest.
+/// Law: each Data that a cache may hold after a run came in an event that allowed it, at the moment
+/// that is recorded as its arrival, and its implicit digest is the hash of its octets.
 pub fn cached_data_were_allowed()
     ensures { (first : Policy) (past : Run) (c : CachedData) → IsRun first past → MayHold past c
         → (d : PlainData) × AllowedAt first past (AData c.octets d) c.arrival × (c.name ≡ d.name)
@@ -219,20 +222,22 @@ pub fn cached_data_were_allowed()
 {}
 
 /// Law: the records of a key after a run are, face by face, readings of its past: the last Interest
-/// that the face asked with under the key, and the last sending to it, that nothing has ended
-/// since.
+/// that the face sent under the key, and the last one that was sent to it, where nothing has ended
+/// them since.
 pub fn records_are_read_off_the_run()
     ensures in_records { (past : Run) (key : PlainKey) (face : ℕ)
         → map.get (records_of past key).in_records face
         ≡ in_record_of (past_causes past) key face }
     ensures out_records { (past : Run) (key : PlainKey) (face : ℕ)
-        → map.get (records_of past key).out_records face ≡ out_record_of (past_causes past) key face }
+        → map.get (records_of past key).out_records face
+        ≡ out_record_of (past_causes past) key face }
 {}
 
-/// Law: an Interest becomes pending exactly where it was passed, nothing went back to its face, and
-/// no Nack was sent. Who waits after an event was kept by it, or waited before. Where the past
-/// allows the answer, a passed Interest is sent on to other faces, or to none, and waits; or one
-/// packet goes back to its face: a Nack, or what is at hand.
+/// Law: an Interest becomes pending exactly where it was passed, nothing was sent back to its face,
+/// and no Nack was sent. An in-record after an event is of that event's Interest, or was there
+/// before. Where the answer is valid, a passed Interest is sent on to other faces, or to none, and
+/// becomes pending; or one packet is sent back to its face: a Nack, or a Data from the cache, the
+/// repository or the node.
 pub fn unanswered_interests_wait()
     ensures arrives { (now : ℕ) (event : PlainEvent) (answer : Answer) (key : PlainKey) (face : ℕ)
         (in_record : InRecord) → Contains (causes_of now event answer) (Arrives key face in_record)
@@ -256,9 +261,9 @@ pub fn unanswered_interests_wait()
         ⊎ IsSentBack seen face (token_in event) whole i answer.sends }
 {}
 
-/// Law: the cost of a hop of the routes after a run is that of the last add-nexthop of its name and
-/// face that was answered with status 200, where since then no remove-nexthop of the two was so
-/// answered, and the face was not closed; and else there is no such hop.
+/// Law: the cost of a next hop after a run is that of the last add-nexthop of its name and face
+/// that was answered with status 200, where since then no remove-nexthop of the two was answered
+/// so, and the face was not closed; otherwise there is no such next hop.
 pub fn routes_are_read_off_the_run()
     ensures { (first p : Policy) (past : Run) (name : List Field) (face : ℕ)
         → KeysAreApart first past
@@ -266,11 +271,12 @@ pub fn routes_are_read_off_the_run()
         → map.get (costs_at p.routes name) face ≡ cost_of past name face }
 {}
 
-/// Law: a registered route after a run that began at the moment 0 is the one that the last register of
-/// its name, face and origin gave that was answered with status 200: its cost and flags, and as its
-/// deadline, where it had a period, the time then and that period together, which stops at the
-/// greatest u64. Since then no unregister of the three was so answered, the face was not closed, and
-/// no later event came at which the time was the deadline or more; and else there is no such route.
+/// Law: a registered route after a run that began at the moment 0 is the one that the last register
+/// of its name, face and origin gave that was answered with status 200: its cost and flags, and as
+/// its deadline, where it had a period, the sum of the time then and that period, at most the
+/// greatest u64. Since then no unregister of the three was answered so, the face was not closed,
+/// and no later event came at which the time was the deadline or more; otherwise there is no such
+/// route.
 pub fn registered_routes_are_read_off_the_run()
     ensures { (first p : Policy) (past : Run) (name : List Field) (face origin : ℕ)
         → KeysAreApart first past → first.now ≡ 0
@@ -279,8 +285,8 @@ pub fn registered_routes_are_read_off_the_run()
         ≡ route_of past name face origin }
 {}
 
-/// Law: a denial that the past allows is what is said of the event's packet, by the rule that it
-/// names; or no rule applies. The answer is that denial's: to a command a reply of status 403 that
+/// Law: a denial in a valid answer is the decision on the event's packet by the rule that it names,
+/// or no rule applies. The answer is that of the denial: to a command a reply of status 403 that
 /// names the reason and the rule, to a Data nothing. So the kind is the packet's.
 pub fn denials_name_their_rule()
     ensures denied { (first : Policy) (past : Run) (event : PlainEvent) (answer : Answer)

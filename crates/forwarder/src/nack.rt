@@ -20,7 +20,7 @@ use pit_fib::{MAX_FACES, Nacked};
 
 impl State {
     /// Handles a Nack (NFD Developer's Guide, "Incoming Nack Pipeline"). Once each out-record has
-    /// the reason of a Nack, each face with an in-record gets one of the least reason.
+    /// the reason of a Nack, each face with an in-record gets a Nack of the least reason.
     pub fn receive_nack(
         &mut self,
         reason: u64,
@@ -55,7 +55,7 @@ impl State {
         }
     }
 
-    /// How many octets the Nacks to all in-records of a key take at most.
+    /// The most octets that the Nacks to all in-records of a key take.
     fn nack_room(&self, key: Key<'_>) -> Result<usize, Memory>
         ensures { IfOk result (λ room. room
             ≡ nack_room (in_records_at self.entry.now.pit.pending (plain_key key.entry))
@@ -73,10 +73,11 @@ impl State {
         Ok(room)
     }
 
-    /// Sends a Nack of this reason to each face with an in-record of a key, around the Interest that
-    /// it sent and with its token. Room for them is reserved.
+    /// Sends a Nack of this reason to each face with an in-record of a key, around the face's
+    /// Interest and with its token. Room for them is reserved.
     fn push_nacks(&self, key: Key<'_>, reason: u64, out: &mut Sends) -> Result<(), Memory>
-        requires known { (f : ℕ) → IsSome (map.get (in_records_at self.now.pit.pending (plain_key key)) f)
+        requires known { (f : ℕ)
+            → IsSome (map.get (in_records_at self.now.pit.pending (plain_key key)) f)
             → is_open f self.now.faces ≡ true }
         requires places { MAX_FACES ≤ out.old.places }
         requires space { nack_room (in_records_at self.now.pit.pending (plain_key key))
@@ -97,7 +98,7 @@ impl State {
     }
 }
 
-/// The room with that of one more Nack, around so many octets.
+/// The room with that of one more Nack, around an Interest of this many octets.
 fn room_with(room: usize, octets: usize) -> Result<usize, Memory>
     ensures { IfOk result (λ sum. sum ≡ room + (octets + LINK_EXTRA)) }
 {

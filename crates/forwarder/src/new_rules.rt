@@ -1,4 +1,4 @@
-//! Rules and keys that take the place of others.
+//! The replacement of rules and keys.
 ghost use Rattle.std.specs.Prelude.{[]};
 ghost use Rattle.hmac_keys.specs.KeyFile.{AreApart};
 ghost use Rattle.forwarder.specs.Event.{NewRules};
@@ -12,17 +12,17 @@ use hmac_keys::KeyBook;
 use info_rules::Rules;
 
 impl State {
-    /// Puts these rules and keys in force, once the moment has come. All else stays.
+    /// Puts these rules and keys in force, once the moment has come. Nothing else changes.
     pub fn replace_rules(&mut self, rules: Rules, keys: KeyBook, now: u64) -> Verdict
         ensures step { IsStep (state_of self.old) (NewRules rules keys now)
             (record { verdict = verdict_of result; sends = [] }) (state_of self.new) }
-        // So it is of every book.
+        // This is true of every book.
         ensures apart { AreApart keys }
     {
         self.pass_time(now);
         self.rules = rules;
         self.keys = keys;
-        // What `KeyBook::len` says of every book is known from here on.
+        // From here on it is known what `KeyBook::len` ensures of every book.
         prove!(self.keys.len() <= usize::MAX);
         Verdict::Passed
     }

@@ -12,8 +12,8 @@ use pit_fib::{StrategyId, Used};
 use strategies::{Ask, BestRoute, Choice, Multicast, Strategy};
 
 impl State {
-    /// Where an Interest of this name goes, of which these faces were asked before (NFD Developer's
-    /// Guide, "Strategies").
+    /// The strategy's choice for an Interest of this name that was sent to these faces before (NFD
+    /// Developer's Guide, "Strategies").
     pub fn choose(&self, name: Name<'_>, used: &Used, ask: Ask) -> Choice
         ensures { result
             ≡ choice_for (policy_of self.entry.now) (components name.entry) used.now ask }

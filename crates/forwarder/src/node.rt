@@ -1,14 +1,16 @@
-ghost use Rattle.std.specs.Prelude.{◌≡◌, ◌++◌, List, length, drop, Err, IfOk, IfErr, OnErr, IsOk, MatchOption};
-ghost use Rattle.forwarder.specs.Event.{plain, Send};
+ghost use Rattle.std.specs.Prelude.{◌≡◌, ◌++◌, List, length, drop, Err, IfOk, IfErr, OnErr, IsOk, MatchOption, slice_get};
+ghost use Rattle.ndn_packets.specs.FrameReading.{frame_at};
+ghost use Rattle.forwarder.specs.Event.{moment, plain, Send};
 ghost use Rattle.forwarder.specs.Node.{AsksNoMemory, IsStep, ChangesCacheOnly};
 ghost use Rattle.forwarder.specs.Parts.{first_node, is_bad_prefix as is_bad_prefix_of, parts_fault};
-ghost use Rattle.forwarder.specs.Policy.{Policy};
+ghost use Rattle.forwarder.specs.Policy.{Policy, at_moment};
 ghost use Rattle.forwarder.specs.Runs.{Run, Start, Then, BringsKeysApart, IsRun, Stands};
 ghost use Rattle.forwarder.specs.DataSends.{BringsOctets};
 ghost use Rattle.forwarder.specs.State.{IsSound};
 ghost use Rattle.forwarder.specs.Verdict.{verdict_of};
+ghost use Rattle.forwarder.specs.Wanted.{brings_wanted, is_wanted_packet};
 
-use crate::event::Event;
+use crate::event::{Event, Scope};
 use crate::open_faces::OpenFaces;
 use crate::outbox::Outbox;
 use crate::state::State;
@@ -19,6 +21,7 @@ use info_rules::Rules;
 use mgmt_core::Tables;
 use ndn_names::NameBuf;
 use ndn_names::component_type::GENERIC;
+use ndn_packets::{Frame, read_frame};
 use ndn_tlv::Memory;
 use pit_fib::{Fib, Pit, StrategyTable};
 use replay_guard::Guard;
@@ -27,16 +30,16 @@ use std::alloc::{AllocError, Global};
 use std::marker::Model;
 use thiserror::Error;
 
-/// What a node is made of.
+/// The parts of a node.
 #[derive(Drop)]
 pub struct NodeParts {
-    /// Who may give commands, and whose Data may pass.
+    /// The rules that decide which commands and Data are allowed.
     pub rules: Rules,
     /// The keys that the rules name.
     pub keys: KeyBook,
     /// The repository's prefix, neither empty nor under `/localhost`.
     pub repo: NameBuf,
-    /// How many Data the cache holds, from 1 to 65,536.
+    /// The capacity of the cache in Data, from 1 to 65,536.
     pub cache: u32,
 }
 
@@ -99,7 +102,7 @@ fn is_bad_prefix(repo: &NameBuf) -> bool
 impl Node {
     /// A node without faces.
     ///
-    /// Refuses parts by the first fault in the order of `NodeFault`.
+    /// Fails with the first fault in the order of `NodeFault`.
     pub fn new(alloc: Global, parts: NodeParts) -> Result<Node, NodeFault>
         ensures ok { IfOk result
             (λ node. node ≡ first_node parts.rules parts.keys parts.repo parts.cache) }
@@ -133,8 +136,7 @@ impl Node {
         Ok(Node { state })
     }
 
-    /// The rules that decide of commands and Data. The clause beside `exact` is true of every
-    /// node.
+    /// The rules that decide commands and Data. The clause beside `exact` is true of every node.
     pub fn rules(&self) -> &Rules
         ensures exact { result.now ≡ self.now.policy.rules }
         ensures sound { IsSound self.now }
@@ -142,30 +144,70 @@ impl Node {
         &self.state.rules
     }
 
-    /// The keys that the rules name. No two have one name, as `KeyBook::len` says of every book.
+    /// The keys that the rules name. No two have the same name, as `KeyBook::len` ensures of every
+    /// book.
     pub fn keys(&self) -> &KeyBook
         ensures { result.now ≡ self.now.policy.keys }
     {
         &self.state.keys
     }
 
-    /// Handles one event (NFD Developer's Guide, "Forwarding"): the verdict, and the sends at the
-    /// end of the outbox.
+    /// The greatest moment so far, in milliseconds since 1970.
+    pub fn now(&self) -> u64
+        ensures { result ≡ self.now.policy.now }
+    {
+        self.state.now
+    }
+
+    /// The open face at a place, counted from 0 in rising order, and its scope. At most 64 are
+    /// open.
+    pub fn open_face(&self, i: usize) -> Option<(u64, Scope)>
+        ensures { result ≡ slice_get self.now.policy.faces i }
+    {
+        self.state.faces.entry(i)
+    }
+
+    /// Whether an event brings a Data that the repository wants once the event's moment has come.
+    pub fn wants(&self, event: &Event<'_>) -> bool
+        ensures { result ≡ brings_wanted
+            (at_moment self.now.policy (moment (plain event.now))) (plain event.now) }
+    {
+        match event {
+            Event::Packet { now, octets, .. } => self.wants_packet(*now, octets),
+            _ => false,
+        }
+    }
+
+    /// Whether octets that come at this moment are a Data that the repository then wants.
+    fn wants_packet(&self, now: u64, octets: &[u8]) -> bool
+        ensures { result ≡ is_wanted_packet (at_moment self.now.policy now) (frame_at octets.now) }
+    {
+        if !self.state.repo.has_wants() {
+            return false;
+        }
+        match read_frame(octets) {
+            Ok(Frame::Data(data)) => self.state.repo.wants(&data, self.state.now.max(now)),
+            _ => false,
+        }
+    }
+
+    /// Handles one event (NFD Developer's Guide, "Forwarding"): returns the verdict, and appends
+    /// the sends to the outbox.
     ///
-    /// Rules and keys that come take the place of those in force, from the next event on, and all
-    /// else stays.
+    /// New rules and keys replace those in force, from the next event on, and change nothing else.
     ///
-    /// On `Memory` the cache may have forgotten Data or changed their order of use, and nothing
-    /// else changes. Face changes, moments, new rules, packets on faces that are not open, octets
-    /// that hold no packet, what is out of scope, Interests of HopLimit 0, and Data that the rules do
-    /// not allow, unless their first rule has a hyper-relation, take no memory.
+    /// On `Memory` the cache may have dropped Data or changed their order of use, and nothing else
+    /// changes. Face changes, moments, new rules, packets on faces that are not open, octets that
+    /// hold no packet, packets out of scope, Interests of HopLimit 0, and Data that the rules do
+    /// not allow, unless their first rule has a hyper-relation, need no memory.
     pub fn step(&mut self, event: Event<'_>, outbox: &mut Outbox) -> Result<Verdict, Memory>
-        // One step, octets to octets.
+        // One step, from octets to octets.
         ensures answered { IfOk result
             (λ verdict. (sends : List Send) × (outbox.new ≡ outbox.old ++ sends)
             × IsStep self.old (plain event.entry)
             (record { verdict = verdict_of verdict; sends = sends }) self.new) }
-        // Every run in which the node stands goes on with this event and its answer.
+        // If the node agrees with a run so far, appending this event and its answer gives a valid
+        // run, and the node agrees with that.
         ensures run { IfOk result (λ verdict. let sends = drop (length outbox.old) outbox.new in
             (first : Policy) (past : Run) → first.now ≡ 0 → IsRun first past
             → Stands first past self.old
@@ -176,7 +218,7 @@ impl Node {
         ensures memory { OnErr result (ChangesCacheOnly self.old self.new
             × (outbox.new ≡ outbox.old)) }
         ensures without_memory { AsksNoMemory self.old (plain event.entry) → IsOk result }
-        // So it is of every event.
+        // These are true of every event.
         ensures octets { BringsOctets (plain event.entry) }
         ensures keys { BringsKeysApart (plain event.entry) }
     {

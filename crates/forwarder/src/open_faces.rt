@@ -62,6 +62,18 @@ impl OpenFaces {
         self.all.get(i)
     }
 
+    /// The open face at a place, counted from 0 in rising order, and its scope.
+    pub fn entry(&self, i: usize) -> Option<(u64, Scope)>
+        ensures { result ≡ slice_get self.now i }
+    {
+        let face = self.all.get(i)?;
+        if self.local.contains(face) {
+            Some((face, Scope::Local))
+        } else {
+            Some((face, Scope::Far))
+        }
+    }
+
     /// Whether the face is open and leads to another machine.
     pub fn is_far(&self, face: u64) -> bool
         ensures { result ≡ is_far_scope (find_scope face self.now) }
@@ -108,7 +120,7 @@ impl OpenFaces {
     }
 }
 
-/// The faces but for this one.
+/// The faces without this one.
 pub fn without_face(faces: &Faces, face: u64) -> Faces
     ensures { result ≡ filter (λ f. not (f == face)) faces.now }
 {

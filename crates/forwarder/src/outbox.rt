@@ -6,7 +6,7 @@ use ndn_tlv::Memory;
 use std::alloc::Global;
 use std::marker::Model;
 
-/// What goes out: octets, each with the number of the face that they go to, in order.
+/// The packets to send: octets, each with the number of the face to send them to, in order.
 #[derive(Drop)]
 pub struct Outbox {
     pub(crate) sends: Sends,
@@ -52,7 +52,7 @@ impl Outbox {
         self.sends.sent(i)
     }
 
-    /// Adds a send of these octets. Where memory is refused, the sends stay as they were.
+    /// Adds a send of these octets. When out of memory, the sends do not change.
     pub fn push(&mut self, face: u64, octets: &[u8]) -> Result<(), Memory>
         ensures ok { OnOk result (self.new ≡ self.old ++ (face, octets.now) ∷ []) }
         ensures err { OnErr result (self.new ≡ self.old) }

@@ -12,12 +12,12 @@ use ndn_names::Name;
 use ndn_tlv::Memory;
 use repo_core::{RepoReply, put_repo_reply, repo_status_text};
 
-/// A reply has at most so many octets beyond those of its name and its Content: the headers and the
+/// A reply has at most this many octets beyond its name and its Content: the headers and the
 /// signature.
 const REPLY_EXTRA: usize = 77;
 
-/// A number of octets that is enough for a reply of this name with a token, where its Content is no
-/// longer than that. `Memory` where no memory has so many.
+/// A number of octets that is enough for a reply of this name with a token, where its Content has
+/// at most `content_len` octets. `Memory` where the number overflows.
 pub(crate) fn reply_room(name: Name<'_>, content_len: usize) -> Result<usize, Memory>
     ensures { IfOk result (λ room. (content : List ℕ) → length content ≤ content_len
         → length (reply_text (components name.entry) content) + LINK_EXTRA ≤ room) }
@@ -31,13 +31,12 @@ pub(crate) fn reply_room(name: Name<'_>, content_len: usize) -> Result<usize, Me
     Ok(room)
 }
 
-/// Appends the Content of a reply of this status, with its own text. Nothing is appended where
-/// memory is refused.
+/// Appends the Content of a reply of this status, with its own text, or nothing when out of memory.
 pub(crate) fn put_status(out: &mut Vec<u8>, status: u16, body: &[u8]) -> Result<(), Memory>
     ensures ok { OnOk result (out.new.items ≡ out.old.items
         ++ response status (unwrap_or (text_of status) []) body.now) }
     ensures err { OnErr result (out.new.items ≡ out.old.items) }
-    // Where there is room, memory is not refused.
+    // Where there is room, it does not run out of memory.
     ensures room { vec_len out.old
         + length (response status (unwrap_or (text_of status) []) body.now)
         ≤ vec_capacity out.old → IsOk result }
@@ -46,12 +45,12 @@ pub(crate) fn put_status(out: &mut Vec<u8>, status: u16, body: &[u8]) -> Result<
     put_response(out, status, text, body)
 }
 
-/// Appends the Content of the repository's reply. Nothing is appended where memory is refused.
+/// Appends the Content of the repository's reply, or nothing when out of memory.
 pub(crate) fn put_repo_status(out: &mut Vec<u8>, reply: &RepoReply) -> Result<(), Memory>
     ensures ok { OnOk result
         (out.new.items ≡ out.old.items ++ repository_content reply.now) }
     ensures err { OnErr result (out.new.items ≡ out.old.items) }
-    // Where there is room, memory is not refused.
+    // Where there is room, it does not run out of memory.
     ensures room { vec_len out.old + length (repository_content reply.now) ≤ vec_capacity out.old
         → IsOk result }
 {

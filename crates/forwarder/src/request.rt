@@ -42,7 +42,7 @@ pub(crate) enum NamedRequest {
     ForData,
 }
 
-/// Whether the name begins with the components that these octets spell.
+/// Whether the name begins with the components that these octets encode.
 fn begins(name: Name<'_>, octets: &[u8]) -> bool
     ensures { (prefix : List Field) → IsNameValue octets.now prefix
         → result ≡ begins_with prefix (components name.entry) }
@@ -155,7 +155,7 @@ fn list_after(kind: ListKind, can_be_prefix: bool, name: Name<'_>) -> Option<Lis
     versioned(kind, numbered(SEGMENT, segment)?, version)
 }
 
-/// A segment of the list of the version that a component says.
+/// A segment of the list of the version in this component.
 fn versioned(kind: ListKind, segment: u64, version: Component<'_>) -> Option<ListAsked>
     ensures { result ≡ versioned_as kind segment (numbered VERSION (field_of version.entry)) }
 {
@@ -188,7 +188,7 @@ pub(crate) fn list_asked(interest: &Interest<'_>) -> Option<ListAsked>
     }
 }
 
-/// What an Interest asks for by its name, where the repository stands under its prefix.
+/// What an Interest asks for by its name, given the prefix of the repository.
 pub(crate) fn named_request(repo: &Repo, interest: &Interest<'_>) -> NamedRequest
     ensures { (p : Policy) → p.repo ≡ repo.now.start
         → request_named result
@@ -206,7 +206,7 @@ pub(crate) fn named_request(repo: &Repo, interest: &Interest<'_>) -> NamedReques
     }
 }
 
-/// Whether the Interest may go no further, not even here: its HopLimit is 0.
+/// Whether the HopLimit of the Interest is 0.
 pub(crate) fn has_no_hops(interest: &Interest<'_>) -> bool
     ensures { result ≡ has_no_hops_of interest.now.hop_limit }
 {

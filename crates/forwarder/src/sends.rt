@@ -18,11 +18,11 @@ use pit_fib::{Faces, MAX_FACES};
 use std::alloc::Global;
 use std::marker::Model;
 
-/// A link packet is at most so many octets longer than the packet in it: its headers, a token of 32
-/// octets, and a Nack with its reason.
+/// A link packet is at most this many octets longer than the packet in it: its headers, a token of
+/// 32 octets, and a Nack with its reason.
 pub const LINK_EXTRA: usize = 70;
 
-/// Where the octets of one send stand.
+/// The place of the octets of one send.
 #[derive(Clone, Copy)]
 struct Sent {
     face: u64,
@@ -30,8 +30,8 @@ struct Sent {
     end: usize,
 }
 
-/// What goes out, in order, and the room that is reserved for more. Where a call is refused for
-/// memory, the sends stay as they were.
+/// The packets to send, in order, and the room that is reserved for more. When a call runs out of
+/// memory, the sends do not change.
 #[derive(Drop)]
 pub struct Sends {
     octets: Vec<u8>,
@@ -98,12 +98,12 @@ impl Sends {
         self.octets.clear();
     }
 
-    /// Reserves room for so many more sends, whose octets take so much space together.
+    /// Reserves room for this many more sends, with this many octets in all.
     pub fn reserve(&mut self, places: usize, space: usize) -> Result<(), Memory>
         ensures sends { self.new.sends ≡ self.old.sends }
         ensures places { OnOk result (places ≤ self.new.places) }
         ensures space { OnOk result (space ≤ self.new.space) }
-        // Room that was there stays.
+        // The room that was there is not lost.
         ensures places_kept { self.old.places ≤ self.new.places }
         ensures space_kept { self.old.space ≤ self.new.space }
     {
@@ -116,10 +116,10 @@ impl Sends {
     pub fn push(&mut self, face: u64, octets: &[u8]) -> Result<(), Memory>
         ensures ok { OnOk result (self.new.sends ≡ self.old.sends ++ (face, octets.now) ∷ []) }
         ensures err { OnErr result (self.new.sends ≡ self.old.sends) }
-        // Where there is room, memory is not refused.
+        // Where there is room, it does not run out of memory.
         ensures promised { 1 ≤ self.old.places → length octets.now ≤ self.old.space
             → IsOk result }
-        // What is left for later sends.
+        // The room left for later sends.
         ensures room { self.old.places ≤ self.new.places + 1 }
         ensures space { self.old.space ≤ self.new.space + length octets.now }
     {
@@ -130,7 +130,7 @@ impl Sends {
         Ok(())
     }
 
-    /// Adds a packet that goes back to a face which asked, with the token of its Interest.
+    /// Adds a packet sent back to a face that asked, with the token of its Interest.
     pub fn push_back(
         &mut self,
         face: u64,
@@ -141,10 +141,10 @@ impl Sends {
         ensures ok { OnOk result (self.new.sends ≡ self.old.sends
             ++ sent_back face (token_of token.entry) packet.now ∷ []) }
         ensures err { OnErr result (self.new.sends ≡ self.old.sends) }
-        // Where there is room, memory is not refused.
+        // Where there is room, it does not run out of memory.
         ensures promised { 1 ≤ self.old.places → length packet.now + LINK_EXTRA ≤ self.old.space
             → IsOk result }
-        // What is left for later sends.
+        // The room left for later sends.
         ensures room { self.old.places ≤ self.new.places + 1 }
         ensures space { self.old.space ≤ self.new.space + (length packet.now + LINK_EXTRA) }
     {
@@ -163,10 +163,10 @@ impl Sends {
         ensures ok { OnOk result (self.new.sends ≡ self.old.sends
             ++ nacked_back face (token_of token.entry) reason interest.now ∷ []) }
         ensures err { OnErr result (self.new.sends ≡ self.old.sends) }
-        // Where there is room, memory is not refused.
+        // Where there is room, it does not run out of memory.
         ensures promised { 1 ≤ self.old.places → length interest.now + LINK_EXTRA ≤ self.old.space
             → IsOk result }
-        // What is left for later sends.
+        // The room left for later sends.
         ensures room { self.old.places ≤ self.new.places + 1 }
         ensures space { self.old.space ≤ self.new.space + (length interest.now + LINK_EXTRA) }
     {
@@ -198,8 +198,8 @@ impl Sends {
         Ok(())
     }
 
-    /// Adds a reply: a Data of this name and Content, without MetaInfo, signed with DigestSha256. It
-    /// goes back with the token of the Interest that it answers.
+    /// Adds a reply: a Data of this name and Content, without MetaInfo, signed with DigestSha256.
+    /// It is sent back with the token of the Interest that it answers.
     pub fn push_reply(
         &mut self,
         face: u64,
@@ -211,11 +211,11 @@ impl Sends {
         ensures ok { OnOk result (self.new.sends ≡ self.old.sends ++ sent_back face
             (token_of token.entry) (reply_text (components name.entry) content.now) ∷ []) }
         ensures err { OnErr result (self.new.sends ≡ self.old.sends) }
-        // Where there is room, memory is not refused.
+        // Where there is room, it does not run out of memory.
         ensures promised { 1 ≤ self.old.places
             → length (reply_text (components name.entry) content.now) + LINK_EXTRA
             ≤ self.old.space → IsOk result }
-        // What is left for later sends.
+        // The room left for later sends.
         ensures room { self.old.places ≤ self.new.places + 1 }
         ensures space { self.old.space ≤ self.new.space
             + (length (reply_text (components name.entry) content.now) + LINK_EXTRA) }
@@ -233,7 +233,7 @@ impl Sends {
         ensures ok { OnOk result
             (self.new.sends ≡ self.old.sends ++ to_each faces.now octets.now) }
         ensures err { OnErr result (self.new.sends ≡ self.old.sends) }
-        // Where there is room, memory is not refused.
+        // Where there is room, it does not run out of memory.
         ensures promised { length faces.now ≤ self.old.places → length octets.now ≤ self.old.space
             → IsOk result }
     {
@@ -255,7 +255,7 @@ impl Sends {
         ensures ok { OnOk result (self.new.sends ≡ self.old.sends
             ++ to_each faces.now (sent_on interest.now.whole.now interest.now.hop_limit)) }
         ensures err { OnErr result (self.new.sends ≡ self.old.sends) }
-        // Where there is room, memory is not refused.
+        // Where there is room, it does not run out of memory.
         ensures promised { length faces.now ≤ self.old.places
             → length interest.now.whole.now ≤ self.old.space → IsOk result }
     {
@@ -270,13 +270,13 @@ impl Sends {
         Ok(())
     }
 
-    /// Adds an Interest of the node itself to each face, and nothing where it cannot be written. Its
+    /// Adds an Interest of the node itself to each face, or nothing where it cannot be written. Its
     /// octets are stored once, and not at all without a face.
     pub fn push_fetch(&mut self, faces: &Faces, interest: &InterestWriter<'_>) -> Result<(), Memory>
         ensures ok { OnOk result
             (self.new.sends ≡ self.old.sends ++ fetched faces.now interest.now) }
         ensures err { OnErr result (self.new.sends ≡ self.old.sends) }
-        // Where there is room, memory is not refused.
+        // Where there is room, it does not run out of memory.
         ensures promised { length faces.now ≤ self.old.places
             → (interest_refusal interest.now ≡ None
             → length (interest_text interest.now) ≤ self.old.space) → IsOk result }
@@ -324,8 +324,7 @@ fn place_each(places: &mut Vec<Sent>, faces: &Faces, start: usize, end: usize) -
     Ok(())
 }
 
-/// Appends a reply with the token of the Interest that it answers. Where memory is refused, nothing
-/// is appended.
+/// Appends a reply with the token of the Interest that it answers, or nothing when out of memory.
 fn put_reply_back(
     out: &mut Vec<u8>,
     token: Option<&[u8]>,
@@ -350,7 +349,7 @@ fn put_reply_back(
     done
 }
 
-/// Whether a packet was written that a writer may have refused for another fault than memory.
+/// Whether a packet was written. A fault other than `Memory` gives false.
 fn written(done: Result<(), WriteFault>) -> Result<bool, Memory>
     ensures ok { IfOk result (λ written. written ≡ is_ok done) }
     ensures other { OnOk result (done ≢ Err WriteFault.Memory) }
@@ -363,7 +362,7 @@ fn written(done: Result<(), WriteFault>) -> Result<bool, Memory>
     }
 }
 
-/// Appends an Interest as it is sent on. Where memory is refused, nothing is appended.
+/// Appends an Interest as it is sent on, or nothing when out of memory.
 fn put_sent_on(out: &mut Vec<u8>, interest: &Interest<'_>) -> Result<(), Memory>
     requires hops { interest.now.hop_limit ≢ Some 0 }
     ensures ok { OnOk result (out.new.items

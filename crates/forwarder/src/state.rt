@@ -10,7 +10,7 @@ use replay_guard::Guard;
 use repo_core::Repo;
 use std::alloc::Global;
 
-/// What a node keeps between events.
+/// The state of a node between events.
 #[derive(Drop)]
 pub struct State {
     pub alloc: Global,
@@ -24,14 +24,14 @@ pub struct State {
     pub pit: Pit,
     /// Routes, strategies and the cache.
     pub tables: Tables,
-    /// Who signed commands that were allowed, and when.
+    /// The signers of allowed commands, with their latest times and numbers.
     pub guard: Guard,
     pub repo: Repo,
 }
 
 impl State {
-    /// Advances time, which is the greatest moment so far: what is due expires. What is prepared
-    /// stays so.
+    /// Advances time to the greatest moment so far: what is due expires. What is prepared stays
+    /// prepared.
     pub fn pass_time(&mut self, moment: u64)
         ensures later { IsLater (state_of self.old) moment (state_of self.new) }
         ensures pit { self.new.pit.prepared ≡ self.old.pit.prepared }
@@ -48,7 +48,7 @@ impl State {
         self.repo.expire(self.now);
     }
 
-    /// Gives the lists their next version, which stops at the greatest u64.
+    /// Gives the lists their next version, at most the greatest u64.
     pub fn next_version(&mut self)
         ensures { self.new
             ≡ record self.old { table_number = min (self.old.table_number + 1) (2 ^ 64 - 1) } }

@@ -1,7 +1,7 @@
 use info_rules::{Kind, Reason, RuleNo};
 use ndn_packets::PacketFault;
 
-/// What a node says of one event.
+/// How a node handled one event.
 #[derive(Clone, Copy, Debug, PartialEq, Eq)]
 pub enum Verdict {
     /// The event had its effect.

@@ -1,6 +1,6 @@
 -- What is prepared.
 use Rattle.std.proofs.Common.{◌≡◌, ℕ, zero, suc, ◌<◌, Bool, true, false, cond, filter, List, [], ◌∷◌, length, get_or, refl, sym, ap, ◌∙◌, arith}
-use Rattle.std.specs.Prelude.{Option, Some, None, ◌||◌}
+use Rattle.std.specs.Prelude.{Option, Some, None, ◌||◌, ◌&&◌}
 use Rattle.std.specs.List.{list_any}
 use Rattle.std.specs.Option.{option_map}
 use Rattle.std.specs.Ordering.{is_eq}
@@ -48,3 +48,18 @@ any_of_part test stays (x ∷ xs) some = by (stays x) some (λ rest. any_of_part
     by : (s : Bool) → list_any test (cond s (x ∷ filter stays xs) (filter stays xs)) ≡ true → (list_any test (filter stays xs) ≡ true → list_any test xs ≡ true) → (test x || list_any test xs) ≡ true
     by true some again = either (test x) (list_any test (filter stays xs)) (list_any test xs) again some
     by false some again = later (test x) (list_any test xs) (again some)
+
+-- what passes among those that stay passes both tests
+pub any_of_those : {X : Type 0} (test stays : X → Bool) (xs : List X)
+    → list_any (λ x. stays x && test x) xs ≡ list_any test (filter stays xs)
+any_of_those test stays [] = refl
+any_of_those test stays (x ∷ xs) = by (stays x) (any_of_those test stays xs)
+  where
+    by : (s : Bool) → list_any (λ x. stays x && test x) xs ≡ list_any test (filter stays xs)
+        → ((s && test x) || list_any (λ x. stays x && test x) xs) ≡ list_any test (cond s (x ∷ filter stays xs) (filter stays xs))
+    by true again = ap (λ b. test x || b) again
+    by false again = again
+
+pub any_of_none : {X : Type 0} (test stays : X → Bool) (xs : List X) → length xs ≡ 0 → list_any test (filter stays xs) ≡ false
+any_of_none test stays [] none = refl
+any_of_none test stays (x ∷ xs) none = absurd (omega (arith, none))

@@ -1,7 +1,8 @@
-ghost use Rattle.std.specs.Prelude.{◌≡◌, ◌+◌, ◌≤◌, true, false, None, Some, IfOk, IfSome, IsOk, OnErr, OnOk, length};
+ghost use Rattle.std.specs.Prelude.{◌≡◌, ◌+◌, ◌≤◌, ℕ, List, true, false, nat_lt, None, Some, IfOk, IfSome, IsOk, OnErr, OnOk, length};
 ghost use Rattle.std.specs.FinMap as map;
 ghost use Rattle.std.specs.Option.{option_map};
 ghost use Rattle.sha2.specs.Sha256.{sha256};
+ghost use Rattle.ndn_tlv.specs.Element.{Field};
 ghost use Rattle.ndn_names.specs.Name.{octets_of};
 ghost use Rattle.ndn_names.specs.View.{components};
 ghost use Rattle.repo_core.specs.Objects.{AreObjects, object_of, served};
@@ -173,6 +174,25 @@ impl Repo {
         self.wants.fill(packet);
         self.objects.put(object);
         Ok(true)
+    }
+
+    /// Whether there are wants.
+    pub fn has_wants(&self) -> bool
+        ensures exact { result ≡ nat_lt 0 (map.len self.now.held.wants) }
+        // Else no Data is wanted.
+        ensures none { result ≡ false → (name : List Field) (digest : List ℕ) (now : ℕ)
+            → is_wanted name digest (wants_after now self.now.held.wants) ≡ false }
+    {
+        self.wants.len() > 0
+    }
+
+    /// Whether a Data is wanted at this moment, in milliseconds since 1970, at which some wants may
+    /// be due.
+    pub fn wants(&self, packet: &Data<'_>, now: u64) -> bool
+        ensures { result ≡ is_wanted (components packet.now.name) (sha256 packet.now.whole.now)
+            (wants_after now self.now.held.wants) }
+    {
+        self.wants.will_be_filled_by(packet, now)
     }
 
     /// The octets of the stored Data of the least full name that answers an Interest, whatever its

@@ -101,6 +101,19 @@ impl Wants {
         false
     }
 
+    /// Whether a Data is wanted once this moment has come, and what is due by then is gone.
+    pub fn will_be_filled_by(&self, packet: &Data<'_>, now: u64) -> bool
+        ensures { result ≡ is_wanted (components packet.now.name) (sha256 packet.now.whole.now)
+            (wants_after now self.now) }
+    {
+        for row in &self.rows {
+            if now < row.1 && packet.answers(row.0.0.view(), row.0.1) {
+                return true;
+            }
+        }
+        false
+    }
+
     /// Removes all that a Data fills.
     pub fn fill(&mut self, packet: &Data<'_>)
         ensures { self.new
