@@ -1,12 +1,13 @@
 -- Texts that are appended one after another.
-use Rattle.std.proofs.Common.{◌≡◌, ℕ, zero, suc, ◌≤◌, List, [], ◌∷◌, ◌++◌, length, take, drop, sym, ap, ◌∙◌, append_assoc, arith, rules, Ok, Err, take-append-drop, length-append}
+use Rattle.std.proofs.Common.{◌≡◌, ℕ, zero, suc, ◌<◌, ◌≤◌, List, [], ◌∷◌, ◌++◌, length, take, drop, sym, ap, ◌∙◌, append_assoc, arith, rules, Ok, Err, take-append-drop, length-append}
 use Rattle.std.specs.Global.{Vec}
 use Rattle.std.specs.Vec.{vec_capacity}
 use Rattle.std.proofs.lemmas.Grind.{flat_map-append}
 use Rattle.ndn_tlv.specs.declared.memory.Memory.{Memory}
 use Rattle.ndn_tlv.specs.Writing.{Puts}
 use Rattle.ndn_tlv.proofs.Appending.{puts_one, puts_both}
-use Rattle.std.specs.Prelude.{Some, slice_get}
+use Rattle.std.specs.Prelude.{Some, None, slice_get}
+use Rattle.forwarder.specs.Event.{Send}
 use Rattle.std.specs.List.{flat_map}
 use Rattle.std.proofs.lemmas.List.{append-nil}
 
@@ -36,3 +37,8 @@ puts_refused f xs i x old mid new e is text capacity p =
       room = λ fits. both.room (omega (arith, fits, ap length longer, length-append (front ++ f x) (flat_map f (drop (suc i) xs))));
       capacity = both.capacity;
     }
+
+pub none_is_no_send : (xs : List Send) (i : ℕ) → i < length xs → slice_get xs i ≡ None → ⊥
+none_is_no_send [] i h e = absurd (omega arith)
+none_is_no_send (x ∷ xs) zero h e = absurd cc
+none_is_no_send (x ∷ xs) (suc i) h e = none_is_no_send xs i (omega arith) e

@@ -4,13 +4,8 @@ pub mod Words
 pub mod Known
 pub mod Outcomes
 pub mod Playing
-pub mod Serving
 pub mod Finishing
 pub mod OneReading
 pub mod FileWords
 pub mod Appending
 pub mod Digits
-pub mod Meeting
-pub mod Heard
-pub mod Silent
-pub mod Strangers

@@ -2,7 +2,7 @@
 use Rattle.std.proofs.Common.{◌≡◌, List, [], ◌∷◌, ◌++◌, subst, sym}
 use Rattle.forwarder.specs.Event.{PlainEvent}
 use Rattle.forwarder.specs.Node.{NodeState}
-use Rattle.node_core.specs.Outcomes.{Outcome, Answered, NoMemory, AreOutcomes, run_from}
+use Rattle.node_core.specs.Outcomes.{ExtendsRuns, Outcome, Answered, NoMemory, AreOutcomes, run_from}
 use Rattle.forwarder.specs.Policy.{Policy}
 use Rattle.forwarder.specs.Runs.{Run, Then, IsRun, Stands}
 use Rattle.forwarder.proofs.Standing.{refused_stands, step_goes_on}
@@ -24,3 +24,6 @@ runs_stand first past old new (event ∷ events) (Answered answer ∷ outcomes) 
     runs_stand first (Then past event answer) runs.0 new events outcomes begins runs.2 next.0 next.1
 runs_stand first past old new (event ∷ events) (NoMemory ∷ outcomes) begins runs run stands =
     runs_stand first past runs.0 new events outcomes begins runs.2 run (refused_stands first past old runs.0 stands runs.1.1)
+
+pub goes_on_from : (old new : NodeState) (events : List PlainEvent) (outcomes : List Outcome) → AreOutcomes old events outcomes new → ExtendsRuns old events outcomes new
+goes_on_from old new events outcomes h = λ first past begins run stands. runs_stand first past old new events outcomes begins h run stands

@@ -136,11 +136,11 @@ LineStops-cut (Err f) line from to text held holds plays cut is = rw is (to, tex
 
 -- ---- lines after lines
 
-AreLines-append : (a b : List (List ℕ)) → AreLines a → AreLines b → AreLines (a ++ b)
+pub AreLines-append : (a b : List (List ℕ)) → AreLines a → AreLines b → AreLines (a ++ b)
 AreLines-append [] b ha hb = hb
 AreLines-append (l ∷ a) b ha hb = (ha.0, AreLines-append a b ha.1 hb)
 
-SpellEvents-append : (a b : List (List ℕ)) (es fs : List PlainEvent) → SpellEvents a es → SpellEvents b fs → SpellEvents (a ++ b) (es ++ fs)
+pub SpellEvents-append : (a b : List (List ℕ)) (es fs : List PlainEvent) → SpellEvents a es → SpellEvents b fs → SpellEvents (a ++ b) (es ++ fs)
 SpellEvents-append [] b [] fs ha hb = hb
 SpellEvents-append [] b (e ∷ es) fs ha hb = absurd ha
 SpellEvents-append (l ∷ a) b [] [] ha hb = (ha.0, SpellEvents-append a b [] [] ha.1 hb)

@@ -1,9 +1,4 @@
 pub mod Files
-pub mod Ports
-pub mod Endpoints
-pub mod Clients
-pub mod KnownEndpoints
-pub mod Udp
 pub mod Script
 pub mod Outcomes
 pub use Rattle.forwarder.specs.Event

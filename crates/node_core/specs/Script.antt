@@ -32,8 +32,8 @@ SpellEvents (line ∷ lines) (event ∷ events) =
     (IsSkipped line × SpellEvents lines (event ∷ events))
     ⊎ (IsEventLine event line × SpellEvents lines events)
 
--- A text begins with these lines. Its last line ends with the text: an LF is put there, which
--- makes no difference where one stands already, since an empty line is skipped.
+-- A text begins with these lines. Its last line may lack its LF: one is appended, which changes
+-- nothing after another LF, since an empty line is skipped.
 abbrev pub BeginsWithLines : List ℕ → List (List ℕ) → List ℕ → Type 0
 BeginsWithLines text lines rest = AreLines lines × (ended text ≡ joined lines ++ rest)
 
@@ -67,6 +67,6 @@ pub record IsTextOfRun (first : NodeState) (events : List PlainEvent) (text : Li
   pub last : NodeState
   pub runs : AreOutcomes first events outcomes last
   pub written : text ≡ script_text first.policy.rules events outcomes
-  -- what the laws say of runs holds of the events and their answers
+  -- the laws about runs apply to the events and their answers
   pub is_run : IsRun first.policy (run_from Start events outcomes)
   pub stands : Stands first.policy (run_from Start events outcomes) last

@@ -14,8 +14,8 @@ use info_rules::{Kind, Reason, RuleNo, Rules};
 use itoa::Buffer;
 use ndn_tlv::Memory;
 
-/// Appends the text of an answer: a line with the event's number and what was said of it, and a
-/// line for each send. A rule stands by its id. Where memory is refused, nothing is appended.
+/// Appends the text of an answer: a line with the event's number and its verdict, and a line for
+/// each send. A rule is printed as its id. When out of memory, nothing is appended.
 pub fn put_answer(
     text: &mut Vec<u8>,
     number: u64,
@@ -26,7 +26,7 @@ pub fn put_answer(
     ensures ok { OnOk result (text.new.items ≡ text.old.items
         ++ lines_text number (result_text rules.now outcome.now) outbox.now) }
     ensures err { OnErr result (text.new.items ≡ text.old.items) }
-    // Where there is room, memory is not refused.
+    // Where there is room, it does not run out of memory.
     ensures room { vec_len text.old
         + length (lines_text number (result_text rules.now outcome.now) outbox.now)
         ≤ vec_capacity text.old → IsOk result }
@@ -41,8 +41,8 @@ pub fn put_answer(
 }
 
 /// Appends the line of an event that was answered: its number and its verdict, as a script prints
-/// them. A rule stands by its id, which is empty where there is no rule of its number. Where memory
-/// is refused, nothing is appended.
+/// them. A rule is printed as its id, which is empty where there is no rule of its number. When out
+/// of memory, nothing is appended.
 pub fn put_verdict(
     text: &mut Vec<u8>,
     number: u64,
@@ -52,7 +52,7 @@ pub fn put_verdict(
     ensures ok { OnOk result (text.new.items ≡ text.old.items
         ++ numbered_line number (verdict_text rules.now (verdict_of verdict.now))) }
     ensures err { OnErr result (text.new.items ≡ text.old.items) }
-    // Where there is room, memory is not refused.
+    // Where there is room, it does not run out of memory.
     ensures room { vec_len text.old
         + length (numbered_line number (verdict_text rules.now (verdict_of verdict.now)))
         ≤ vec_capacity text.old → IsOk result }
@@ -66,13 +66,13 @@ pub fn put_verdict(
     done
 }
 
-/// Appends the line of an event for which a step had no memory, as a script prints it. Where memory
-/// is refused, nothing is appended.
+/// Appends the line of an event for which a step ran out of memory, as a script prints it. When out
+/// of memory, nothing is appended.
 pub fn put_refused(text: &mut Vec<u8>, number: u64) -> Result<(), Memory>
     ensures ok { OnOk result
         (text.new.items ≡ text.old.items ++ numbered_line number (codes "memory")) }
     ensures err { OnErr result (text.new.items ≡ text.old.items) }
-    // Where there is room, memory is not refused.
+    // Where there is room, it does not run out of memory.
     ensures room { vec_len text.old + length (numbered_line number (codes "memory"))
         ≤ vec_capacity text.old → IsOk result }
     ensures capacity { vec_capacity text.old ≤ vec_capacity text.new }
@@ -85,12 +85,12 @@ pub fn put_refused(text: &mut Vec<u8>, number: u64) -> Result<(), Memory>
     done
 }
 
-/// Appends a line for each send, as a script prints them: the face, and the octets in hexadecimal or
-/// a dash for none. Where memory is refused, nothing is appended.
+/// Appends a line for each send, as a script prints them: the face, and the octets in hexadecimal
+/// or a dash for none. When out of memory, nothing is appended.
 pub fn put_sends(text: &mut Vec<u8>, outbox: &Outbox) -> Result<(), Memory>
     ensures ok { OnOk result (text.new.items ≡ text.old.items ++ flat_map send_text outbox.now) }
     ensures err { OnErr result (text.new.items ≡ text.old.items) }
-    // Where there is room, memory is not refused.
+    // Where there is room, it does not run out of memory.
     ensures room { vec_len text.old + length (flat_map send_text outbox.now)
         ≤ vec_capacity text.old → IsOk result }
     ensures capacity { vec_capacity text.old ≤ vec_capacity text.new }
@@ -145,7 +145,7 @@ fn put_line(text: &mut Vec<u8>, number: u64, verdict: Verdict, rules: &Rules) ->
     put_word(text, b"\n")
 }
 
-/// Appends the line of an event that had no memory, or some octets of it.
+/// Appends the line of an event that ran out of memory, or some octets of it.
 fn put_refused_line(text: &mut Vec<u8>, number: u64) -> Result<(), Memory>
     ensures { Puts text.old text.new result (numbered_line number (codes "memory")) }
 {
@@ -229,7 +229,7 @@ fn put_number(text: &mut Vec<u8>, number: u64) -> Result<(), Memory>
     put_word(text, buffer.format(number).as_bytes())
 }
 
-/// Appends what is said of an event, or some octets of it.
+/// Appends the verdict on an event, or some octets of it.
 fn put_verdict_text(text: &mut Vec<u8>, rules: &Rules, verdict: Verdict) -> Result<(), Memory>
     ensures { Puts text.old text.new result (verdict_text rules.now (verdict_of verdict)) }
 {

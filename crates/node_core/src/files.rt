@@ -6,7 +6,7 @@ use info_rules::{InfoTree, Rules, RulesFault, RulesFaultKind};
 use std::alloc::Global;
 use std::str;
 
-/// The rules of the octets of a rule file. Octets that are not UTF-8 have a Syntax fault at line 0.
+/// The rules in the octets of a rule file. Octets that are not UTF-8 have a Syntax fault at line 0.
 pub fn read_rules(alloc: Global, octets: &[u8]) -> Result<Rules, RulesFault>
     ensures { MatchResult result (AreRules octets.now) (IsFaultOfRules octets.now) }
 {

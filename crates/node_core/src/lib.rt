@@ -1,9 +1,8 @@
-//! What leads the forwarder's events and sends: scripts, and ports.
+//! Scripts: the events of a forwarder as text, and its answers as text.
 #![tactic(auto)]
 
 mod answer;
 mod files;
-mod ports;
 mod script;
 
 pub use answer::{put_refused, put_sends, put_verdict};
@@ -17,9 +16,4 @@ pub use forwarder::{
     refused_steps_stand_still, routes_are_read_off_the_run, rules_in_force, steps_go_on_with_runs,
     steps_have_one_effect, steps_keep_nodes_sound, unanswered_interests_wait,
 };
-pub use ports::{
-    ANSWER_SECONDS, Arrival, FRAME_ROOM, MemoryPorts, Moments, PortFault, Ports, ServeFault,
-    Served, Turn, UdpPorts, frame_room_is_as_promised, receive_one, send_from, send_one, serve,
-    serve_turn, serve_turn_in, serve_turn_soon,
-};
-pub use script::{RunFault, put_all, run_script, scripts_have_one_reading};
+pub use script::{Line, RunFault, line_of, put_all, run_script, scripts_have_one_reading};

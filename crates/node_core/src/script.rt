@@ -12,40 +12,42 @@ mod word;
 
 use crate::script::player::{CHUNK, Player};
 use forwarder::{Node, NodeFault, NodeParts, Outbox};
+pub use line::{Line, line_of};
 pub use output::put_all;
 use std::alloc::Global;
 use std::io::{Read, Write};
 use thiserror::Error;
 
-/// Why a script was not run to its end. What was written before stays.
+/// Why a script was not run to its end. Answers that were written before are not undone.
 #[derive(Clone, Copy, Debug, PartialEq, Eq, Error)]
 pub enum RunFault {
-    /// A line, by its number from 1, is no line of a script.
+    /// The line with this number, counted from 1, is not a line of a script.
     #[error("line {0} is a bad line")]
     BadLine(u64),
     /// The reader failed, or was called 4,294,967,295 times.
     #[error("the script cannot be read")]
     Read,
-    /// The writer failed, took no octets, or was called 4,294,967,295 times for the answers to what
-    /// one read gave.
+    /// The writer failed, took no octets, or was called 4,294,967,295 times for the answers to the
+    /// octets of one read.
     #[error("the answers cannot be written")]
     Write,
     /// The node cannot be made. Nothing was read or written.
     #[error("{0}")]
     Node(NodeFault),
-    /// Memory to read a line, with the rules and keys in it, or to print an answer was refused.
+    /// Out of memory to read a line, with its rules and keys, or to print an answer.
     #[error("out of memory")]
     Memory,
 }
 
-/// Runs the events of a script on a new node, and writes their answers: those to the lines that end
-/// in what one read gave, before it reads more.
+/// Runs the events of a script on a new node, and writes their answers. The answers to the lines
+/// that end within the octets of one read are written before it reads more.
 ///
 /// A line is `up FACE local|far MOMENT`, `down FACE MOMENT`, `tick MOMENT`, `in FACE MOMENT HEX` or
 /// `rules MOMENT HEX HEX`, with single spaces, decimal numbers without leading zeros, `-` for no
 /// octets, and an LF or the end of the input after at most 20,000 octets. The octets of `rules` are
-/// those of a rule file and of a key file. Empty lines, and lines that begin with `#`, are skipped. An event for which a step has no memory is answered `memory`. The cache may then have
-/// forgotten Data, and nothing else changed.
+/// those of a rule file and of a key file. Empty lines, and lines that begin with `#`, are skipped.
+/// An event for which a step runs out of memory is answered `memory`. The cache may then have
+/// dropped Data, and nothing else changed.
 pub fn run_script<R: Read, W: Write>(
     alloc: Global,
     reader: &mut R,

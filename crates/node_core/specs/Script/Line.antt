@@ -13,7 +13,7 @@ use Rattle.node_core.specs.declared.script.line.Line.{Line}
 use Rattle.node_core.specs.declared.script.line.Line.TheVariants as said
 use Rattle.forwarder.specs.Event.{PlainEvent, Packet, FaceUp, FaceDown, Tick, NewRules, plain_owned}
 
--- the octet does not stand in the text
+-- the text does not contain the octet
 abbrev pub Lacks : ℕ → List ℕ → Type 0
 Lacks octet text = AllByRecursion (λ o. o ≢ octet) text
 
@@ -75,7 +75,7 @@ IsEventLine event line = IsShort line × LineSpells event line
 abbrev pub IsBadLine : List ℕ → Type 0
 IsBadLine line = (IsSkipped line → ⊥) × ((event : PlainEvent) → IsEventLine event line → ⊥)
 
--- what a line says
+-- the meaning of a line
 abbrev pub LineIs : Line → List ℕ → Type 0
 LineIs said.Skipped line = IsSkipped line
 LineIs (said.Event event) line = IsEventLine (plain_owned event) line

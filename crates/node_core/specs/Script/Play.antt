@@ -1,4 +1,4 @@
--- A script on its way: what lines that were read did.
+-- A script as it is run: the effect of the lines that were read.
 use Rattle.std.specs.Prelude.{◌≡◌, ℕ, ◌+◌, ◌<◌, ◌≤◌, ◌^◌, Option, List, [], ◌∷◌, ◌++◌, length}
 use Rattle.std.specs.Io.KnownBytes.{Appends, Keeps}
 use Rattle.forwarder.specs.Event.{PlainEvent}
@@ -13,7 +13,7 @@ use Rattle.node_core.specs.declared.script.player.Player.{Player}
 use Rattle.node_core.specs.declared.script.RunFault.{RunFault}
 use Rattle.node_core.specs.declared.script.RunFault.TheVariants as fault
 
--- where a run stands: the node, and how many lines and events there were
+-- the state of a run: the node, and the numbers of lines and events so far
 pub record Place : Type 0 where
   pub node : NodeState
   pub lines : ℕ
@@ -22,26 +22,26 @@ pub record Place : Type 0 where
 abbrev pub place_of : Player → Place
 place_of p = record { node = p.node; lines = p.lines; events = p.events }
 
--- a node before its first event: it stands in the empty run of its own policy
+-- a node before its first event: it agrees with the empty run of its own policy
 pub record IsNew (node : NodeState) : Type 0 where
   pub now : node.policy.now ≡ 0
   pub stands : Stands node.policy Start node
 
--- where a script begins
+-- the state at the start of a script
 pub record IsStart (place : Place) : Type 0 where
   pub node : IsNew place.node
   pub lines : place.lines ≡ 0
   pub events : place.events ≡ 0
 
--- so many more lines and events can be counted
+-- this many more lines and events can be counted
 abbrev pub HasRoom : Place → ℕ → Type 0
 HasRoom place n = (place.lines + n < 2 ^ 64) × (place.events + n < 2 ^ 64)
 
--- the place is at most so many lines and events on
+-- the place is at most this many lines and events further
 abbrev pub IsNear : Place → ℕ → Place → Type 0
 IsNear from n to = (to.lines ≤ from.lines + n) × (to.events ≤ from.events + n)
 
--- less than a line, which may yet be none that is too long
+-- less than a line, and not too long to become one
 abbrev pub IsPending : List ℕ → Type 0
 IsPending line = Lacks 10 line × (length line ≤ 20000)
 
@@ -96,7 +96,7 @@ TurnsBad stream lines = (more : List ℕ) → (line rest : List ℕ)
     × (ended (stream ++ more) ≡ joined lines ++ (ended line ++ rest)) × Lacks 10 line
     × IsBadLine line
 
--- why octets that go on from a place were refused, and what was written
+-- why octets that continue from a place were refused, and what was written
 abbrev pub FeedStops : RunFault → List ℕ → Place → Option (List ℕ) → Option (List ℕ) → Type 0
 FeedStops (fault.BadLine n) stream from held holds =
     (lines : List (List ℕ)) × (to : Place) × (text : List ℕ) × Plays lines from to text

@@ -33,7 +33,7 @@ abbrev pub kind_name : Kind → List ℕ
 kind_name kinds.Data = codes "data"
 kind_name kinds.Interest = codes "interest"
 
--- Rules stand by their ids.
+-- Rules are printed as their ids.
 abbrev pub verdict_text : List PlainRule → Verdict → List ℕ
 verdict_text rules Passed = codes "passed"
 verdict_text rules (Allowed rule status) =

@@ -4,7 +4,7 @@ ghost use Rattle.std.specs.Io.KnownBytes.{Consumes, Keeps, IsAtEnd};
 use crate::script::RunFault;
 use std::io::{ErrorKind, Read};
 
-/// How many octets a read gave, which is 0 where it was interrupted, or nothing at the end.
+/// The number of octets that a read gave, 0 where it was interrupted, or `None` at the end.
 pub fn read_some<R: Read>(reader: &mut R, chunk: &mut [u8]) -> Result<Option<usize>, RunFault>
     requires { 0 < length chunk.old }
     ensures bound { IfOk result (λ read. IfSome read (λ count. count ≤ length chunk.new)) }

@@ -15,17 +15,17 @@ use std::alloc::Global;
 /// The longest line, in octets and without the LF at its end.
 pub const LONGEST_LINE: usize = 20_000;
 
-/// What a line of a script says.
+/// The meaning of a line of a script.
 #[derive(Drop)]
 pub enum Line {
     /// Nothing: it is empty, or a comment.
     Skipped,
     Event(OwnedEvent),
-    /// It is above 20,000 octets, or no line of a script.
+    /// It has more than 20,000 octets, or is not a line of a script.
     Bad,
 }
 
-/// What a line says. Its LF is not part of it.
+/// Reads a line, without its LF.
 pub fn line_of(alloc: Global, line: &[u8]) -> Result<Line, Memory>
     ensures { IfOk result (λ said. LineIs said line.now) }
 {
@@ -149,7 +149,7 @@ fn new_rules(alloc: Global, text: &[u8]) -> Result<Option<OwnedEvent>, Memory>
     }
 }
 
-/// The rules of a word that spells the octets of a rule file without a fault.
+/// The rules of a word that gives the octets of a rule file without a fault.
 fn rules_of(alloc: Global, word: &[u8]) -> Result<Option<Rules>, Memory>
     ensures found { IfOk result (λ read. IfSome read (λ rules. SpellsRules rules word.now)) }
     ensures none { IfOk result
@@ -167,7 +167,7 @@ fn rules_of(alloc: Global, word: &[u8]) -> Result<Option<Rules>, Memory>
     }
 }
 
-/// The keys of a word that spells the octets of a key file without a fault.
+/// The keys of a word that gives the octets of a key file without a fault.
 fn keys_of(alloc: Global, word: &[u8]) -> Result<Option<KeyBook>, Memory>
     ensures found { IfOk result (λ read. IfSome read (λ keys. SpellsKeys keys word.now)) }
     ensures none { IfOk result

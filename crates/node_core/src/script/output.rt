@@ -5,7 +5,7 @@ ghost use Rattle.node_core.specs.Script.Ending.{AppendsFront};
 use crate::script::RunFault;
 use std::io::{ErrorKind, Write};
 
-/// Writes all the octets, or a front of them and then answers `Write`: the writer failed, took no
+/// Writes all the octets, or some first ones and then returns `Write`: the writer failed, took no
 /// octets, or was called 4,294,967,295 times. An interrupted call is tried again.
 pub fn put_all<W: Write>(writer: &mut W, octets: &[u8]) -> Result<(), RunFault>
     ensures done { OnOk result
@@ -25,7 +25,7 @@ pub fn put_all<W: Write>(writer: &mut W, octets: &[u8]) -> Result<(), RunFault>
     Err(RunFault::Write)
 }
 
-// How many of the octets one call took, which is none where it was interrupted.
+// The number of octets that one call took, 0 where it was interrupted.
 fn put_some<W: Write>(writer: &mut W, octets: &[u8]) -> Result<usize, RunFault>
     ensures bound { IfOk result (λ count. count ≤ length octets.now) }
     ensures taken { IfOk result

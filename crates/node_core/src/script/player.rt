@@ -17,11 +17,11 @@ use forwarder::{Node, Outbox, OwnedEvent};
 use std::alloc::Global;
 use std::io::{Read, Write};
 
-/// How many octets are read at once, at most.
+/// The most octets that are read at once.
 pub const CHUNK: usize = 65_536;
 
-/// A script on its way: the node, the answers that are not written yet, and how many lines and
-/// events there were.
+/// The state of running a script: the node, the answers that are not written yet, and the numbers
+/// of lines and events so far.
 #[derive(Drop)]
 pub struct Player {
     pub alloc: Global,
@@ -33,8 +33,8 @@ pub struct Player {
 }
 
 impl Player {
-    /// Runs what the reader holds, from the start of a script on. What is read is put into the
-    /// chunk.
+    /// Runs the octets of the reader, from the start of a script on. The chunk is the buffer to
+    /// read into.
     pub fn play<R: Read, W: Write>(
         &mut self,
         chunk: &mut [u8],
@@ -61,8 +61,8 @@ impl Player {
         Err(RunFault::Read)
     }
 
-    // Handles the lines that end in the chunk, writes their answers, and keeps what comes after
-    // them.
+    // Handles the lines that end in the chunk, writes their answers, and leaves the octets after
+    // them in `line`.
     fn feed<W: Write>(
         &mut self,
         writer: &mut W,
@@ -104,8 +104,8 @@ impl Player {
         put_all(writer, self.text.as_slice())
     }
 
-    // Handles the lines that end in the chunk, and keeps what comes after them. Their answers are
-    // appended to the text.
+    // Handles the lines that end in the chunk, and leaves the octets after them in `line`. Their
+    // answers are appended to the text.
     fn gather(&mut self, line: &mut Vec<u8>, chunk: &[u8]) -> Result<(), RunFault>
         requires room { HasRoom (place_of self.old) (length chunk.now + 1) }
         requires pending { IsPending line.old.items }
@@ -128,7 +128,7 @@ impl Player {
         self.add(line, rest)
     }
 
-    // Adds to the line that is being read.
+    // Appends to the line that is being read.
     fn add(&self, line: &mut Vec<u8>, octets: &[u8]) -> Result<(), RunFault>
         requires room { HasRoom (place_of self.now) 1 }
         requires short { length line.old.items ≤ 20000 }
@@ -151,7 +151,8 @@ impl Player {
         ensures empty { OnOk result (line.new.items ≡ []) }
         ensures near { OnOk result (IsNear (place_of self.old) 1 (place_of self.new)) }
         ensures played { OnOk result ((text : List ℕ)
-            × Plays ((line.old.items ++ octets.now) ∷ []) (place_of self.old) (place_of self.new) text
+            × Plays ((line.old.items ++ octets.now) ∷ []) (place_of self.old) (place_of self.new)
+            text
             × (self.new.text.items ≡ self.old.text.items ++ text)) }
         ensures kept { OnErr result (self.new.text.items ≡ self.old.text.items) }
         ensures stopped { IfErr result

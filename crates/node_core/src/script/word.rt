@@ -10,7 +10,7 @@ use ndn_tlv::Memory;
 use std::alloc::Global;
 use std::str;
 
-/// What stands before the first octet of this value, and what stands after it.
+/// The octets before the first one of this value, and those after it.
 pub fn cut(text: &[u8], at: u8) -> Option<(&[u8], &[u8])>
     ensures found { IfSome result
         (λ parts. (text.now ≡ parts.0.now ++ (at ∷ parts.1.now)) × Lacks at parts.0.now) }
@@ -24,8 +24,7 @@ pub fn cut(text: &[u8], at: u8) -> Option<(&[u8], &[u8])>
     None
 }
 
-/// What stands before the first LF, and what stands after it. It is faster than `cut` where the LF is
-/// far.
+/// The octets before the first LF, and those after it. It is faster than `cut` where the LF is far.
 pub fn cut_line(text: &[u8]) -> Option<(&[u8], &[u8])>
     ensures found { IfSome result
         (λ parts. (text.now ≡ parts.0.now ++ (10 ∷ parts.1.now)) × Lacks 10 parts.0.now) }
@@ -35,7 +34,7 @@ pub fn cut_line(text: &[u8]) -> Option<(&[u8], &[u8])>
     Some((&text[..at], &text[at + 1..]))
 }
 
-/// The words before the first two spaces, and what stands after them.
+/// The words before the first two spaces, and the octets after them.
 pub fn three_words(text: &[u8]) -> Option<(&[u8], &[u8], &[u8])>
     ensures found { IfSome result (λ p. (text.now ≡ p.0.now ++ (32 ∷ (p.1.now ++ (32 ∷ p.2.now))))
         × Lacks 32 p.0.now × Lacks 32 p.1.now) }
@@ -75,7 +74,7 @@ pub fn scope_of(word: &[u8]) -> Option<Scope>
     (word == b"far".as_slice()).then_some(Scope::Far)
 }
 
-/// The octets that the word spells in hexadecimal of either case, or none where it is `-`.
+/// The octets that the word gives in hexadecimal of either case; `-` gives no octets.
 pub fn octets_of(alloc: Global, word: &[u8]) -> Result<Option<Vec<u8>>, Memory>
     ensures found { IfOk result (λ read. IfSome read (λ octets. HexSpells octets.items word.now)) }
     ensures none { IfOk result
@@ -97,8 +96,8 @@ pub fn octets_of(alloc: Global, word: &[u8]) -> Result<Option<Vec<u8>>, Memory>
     Ok(None)
 }
 
-/// Whether all are digits, of which each two spell an octet. Where they are, these octets take the
-/// place of others. All are read whatever they are, so that the loop has no branch.
+/// Whether all are digits. If so, the octets that they give, two digits each, replace the others.
+/// All digits are read in any case, so that the loop has no branch.
 fn fill(octets: &mut [u8], digits: &[u8]) -> bool
     requires { length digits.now ≡ 2 * length octets.old }
     ensures found { IsTrue result → decode_pairs 0 digits.now ≡ Ok octets.new }

@@ -2,8 +2,7 @@ use Rattle.std.proofs.Common.{◌++◌, ◌∙◌, sym, ap, List, ℕ, length, a
 use Rattle.std.specs.List.{flat_map}
 use Rattle.node_core.specs.Script.Writing.{send_text}
 use Rattle.std.proofs.lemmas.Result.{err_from_is_err_and}
-use Rattle.node_core.proofs.Appending.{appended, flat_map-take_next, puts_refused}
-use Rattle.node_core.proofs.Serving.{none_is_no_send}
+use Rattle.node_core.proofs.Appending.{appended, flat_map-take_next, none_is_no_send, puts_refused}
 use Rattle.node_core.proofs.answer.put_send_lines.Goals as goal
 use Rattle.node_core.proofs.answer.put_send_lines.Goals.{in-Some+in_ok-put_send, in_default}
 

@@ -1,12 +1,12 @@
--- Where datagrams come from and go to: an address of IPv4 or IPv6, and a port. With an IPv6 address
--- stands its scope, which says on which link a link-local address is.
+-- Endpoints of datagrams: an IPv4 or IPv6 address, and a port. An IPv6 address has its scope, which
+-- states on which link a link-local address is.
 use Rattle.std.specs.Prelude.{◌≡◌, ℕ, ◌∷◌, [], Bool, List, length, slice_get, Some}
 use Rattle.std.specs.Net.Addr.{IsV4And, ipv4_octets}
 use Rattle.std.specs.Net.Socket.{socket_ip, socket_port}
 use Rattle.std.specs.declared.net.socket_addr.SocketAddr.{SocketAddr}
 use Rattle.std.specs.contracts.net.socket_addr.SocketAddrPartialEq.TheImpl as socket
 
--- whether a known endpoint is this one, as `==` says
+-- whether a known endpoint is this one, by `==`
 abbrev pub is_at : SocketAddr → SocketAddr → Bool
 is_at endpoint known = (socket.ghosts).eq known endpoint
 

@@ -1,18 +1,18 @@
--- Which endpoints have faces, and what a datagram of an endpoint meets: its face, a face that
--- opens, or one that closes first.
+-- Which endpoints have faces, and what is done with a datagram of an endpoint: it is for its face,
+-- a face opens for it, or another face closes first.
 use Rattle.std.specs.Prelude.{◌≡◌, ℕ, ◌+◌, ◌-◌, ◌<◌, ◌≤◌, ◌⊎◌, ◌==◌, List, [], ◌∷◌, ◌++◌, All, find, length, option_map, position, remove, slice_get, unwrap_or, Option, None, Some, if◌then◌else◌}
 use Rattle.std.specs.Option.{option_or}
 use Rattle.std.specs.declared.net.socket_addr.SocketAddr.{SocketAddr}
 use Rattle.pit_fib.specs.declared.face_set.TheConstants.{MAX_FACES}
-use Rattle.node_core.specs.declared.ports.clients.Client.{Client}
-use Rattle.node_core.specs.declared.ports.known_endpoints.KnownEndpoints.{KnownEndpoints}
-use Rattle.node_core.specs.declared.ports.known_endpoints.Met.{Met}
-use Rattle.node_core.specs.declared.ports.known_endpoints.Met.TheVariants.{Face, Opening, Closing}
-use Rattle.node_core.specs.Endpoints.{is_at}
-use Rattle.node_core.specs.Clients.{GivesWay, Hears, HearsInTime, IsIdle, IsNoClient, IsSilentLongest}
-use Rattle.node_core.specs.Ports.{one_more}
+use Rattle.node_ports.specs.declared.clients.Client.{Client}
+use Rattle.node_ports.specs.declared.known_endpoints.KnownEndpoints.{KnownEndpoints}
+use Rattle.node_ports.specs.declared.known_endpoints.Met.{Met}
+use Rattle.node_ports.specs.declared.known_endpoints.Met.TheVariants.{Face, Opening, Closing}
+use Rattle.node_ports.specs.Endpoints.{is_at}
+use Rattle.node_ports.specs.Clients.{GivesWay, Hears, HearsInTime, IsIdle, IsNoClient, IsSilentLongest}
+use Rattle.node_ports.specs.Ports.{one_more}
 
--- how many endpoints have faces
+-- the number of endpoints with faces
 abbrev pub known_count : KnownEndpoints → ℕ
 known_count endpoints = length endpoints.peers + length endpoints.clients.rows
 
@@ -32,12 +32,15 @@ peer_place endpoint endpoints = position (is_at endpoint) endpoints.peers
 
 -- the endpoints with other clients
 abbrev pub with_clients : KnownEndpoints → List Client → KnownEndpoints
-with_clients endpoints rows = record endpoints { clients = record endpoints.clients { rows = rows } }
+with_clients endpoints rows =
+    record endpoints { clients = record endpoints.clients { rows = rows } }
 
--- An endpoint has this face: a peer's is its place, counted from 1. A client is heard now.
+-- An endpoint has this face: a peer's is its place, counted from 1. For a client a datagram is
+-- recorded now.
 abbrev pub Knows : KnownEndpoints → KnownEndpoints → SocketAddr → ℕ → ℕ → Type 0
 Knows before after endpoint now face =
-    ((place : ℕ) × (peer_place endpoint before ≡ Some place) × (face ≡ place + 1) × (after ≡ before))
+    ((place : ℕ) × (peer_place endpoint before ≡ Some place) × (face ≡ place + 1)
+    × (after ≡ before))
     ⊎ ((rows : List Client) × (peer_place endpoint before ≡ None)
     × Hears before.clients.rows rows endpoint now face × (after ≡ with_clients before rows))
 
@@ -56,13 +59,13 @@ OpensNew before after endpoint now face =
       refused = None;
     })
 
--- No face opens: the number is for no endpoint, and is the same until a face opens.
+-- No face opens for an endpoint: it gets a number, which stays the same until a face opens.
 abbrev pub OpensNone : KnownEndpoints → KnownEndpoints → ℕ → Type 0
 OpensNone before after face =
     (face ≡ unwrap_or before.refused before.next)
     × (after ≡ record before { next = one_more face; refused = Some face })
 
--- the face closes of the client that was silent longest; these clients are known, and it no more
+-- the face of the client that was silent longest closes, and it is removed from these clients
 abbrev pub Closes : KnownEndpoints → List Client → KnownEndpoints → Client → ℕ → Type 0
 Closes before rows after client face =
     (place : ℕ) × IsSilentLongest before.clients.rows place client × (face ≡ client.face)
@@ -70,17 +73,19 @@ Closes before rows after client face =
 
 -- no client is idle
 abbrev pub NoneIsIdle : KnownEndpoints → ℕ → Type 0
-NoneIsIdle before now = All (λ client. IsIdle before.clients.idle now client → ⊥) before.clients.rows
+NoneIsIdle before now =
+    All (λ client. IsIdle before.clients.idle now client → ⊥) before.clients.rows
 
--- no client was silent for so long that its face closes for an endpoint that has none
+-- no client was silent long enough for its face to close in favour of an endpoint without one
 abbrev pub NoneGivesWay : KnownEndpoints → ℕ → Type 0
 NoneGivesWay before now =
     All (λ client. GivesWay before.clients.idle now client → ⊥) before.clients.rows
 
--- What a datagram of an endpoint meets. Where a client is idle, the face closes of the one that was
--- silent longest, whatever the endpoint; and the endpoint is heard, if it is a client that is not
--- idle. Else the endpoint has a face; or one opens, while fewer than 64 endpoints are known; or,
--- while 64 are, a face closes that gives way, and none opens if none does.
+-- What is done with a datagram of an endpoint. If a client is idle, the face of the one that was
+-- silent longest closes, whatever the endpoint, and the datagram is recorded for the endpoint if it
+-- is a client that is not idle. Otherwise the datagram is for the face of its endpoint; or, while
+-- fewer than 64 endpoints are known, a face opens; or, while 64 are, a face that gives way closes,
+-- and if there is none, no face opens.
 abbrev pub Meets : KnownEndpoints → KnownEndpoints → SocketAddr → ℕ → Met → Type 0
 Meets before after endpoint now (Face face) =
     NoneIsIdle before now × Knows before after endpoint now face

@@ -1,40 +1,40 @@
 //! The endpoints that have faces.
 ghost use Rattle.std.specs.Prelude.{◌≡◌, [], ◌+◌, ◌<◌, ◌≤◌, length, List, IfSome, None, Some};
-ghost use Rattle.node_core.specs.Clients.{MayHear};
-ghost use Rattle.node_core.specs.declared.ports.clients.Client.{Client};
-ghost use Rattle.node_core.specs.KnownEndpoints.{IsNewcomer, Knows, Meets, OpensNew, OpensNone, peer_at, endpoint_at, with_clients};
+ghost use Rattle.node_ports.specs.Clients.{MayHear};
+ghost use Rattle.node_ports.specs.declared.clients.Client.{Client};
+ghost use Rattle.node_ports.specs.KnownEndpoints.{IsNewcomer, Knows, Meets, OpensNew, OpensNone, peer_at, endpoint_at, with_clients};
 
-use crate::ports::clients::{Client, Clients};
-use crate::ports::peers::Peers;
+use crate::clients::{Client, Clients};
+use crate::peers::Peers;
 use forwarder::MAX_FACES;
 use std::net::SocketAddr;
 
-/// What a datagram meets.
+/// What to do with a datagram.
 #[derive(Clone, Copy)]
 pub enum Met {
     /// Its endpoint has this face.
     Face(u64),
-    /// Its endpoint has none, and is told this number: a face that opens for it, or one that no node
-    /// opens.
+    /// Its endpoint has no face. It is for this number: a face that opens for it, or, if 64
+    /// endpoints are known, one that no node opens.
     Opening(u64),
     /// This face closes first.
     Closing(u64),
 }
 
-/// The endpoints of the peers, which have the faces from 1 on, and those that opened their faces
-/// themselves. No number of a face that opened is used again.
+/// The endpoints of the peers, which have the faces from 1 on, and those whose faces were opened by
+/// their own datagrams. The number of a face that opened is not used again.
 #[derive(Drop)]
 pub struct KnownEndpoints {
     pub peers: Peers,
     pub clients: Clients,
     /// The number of the face that opens next.
     pub next: u64,
-    /// The number that is told to endpoints without a face, where one was told since a face opened.
+    /// The number for endpoints that get no face, if one was given out since a face opened.
     pub refused: Option<u64>,
 }
 
 impl KnownEndpoints {
-    /// The endpoints of the peers, of which there are at most 64.
+    /// The endpoints of the peers, at most 64.
     pub fn new(peers: &[SocketAddr]) -> KnownEndpoints
         requires { length peers.now ≤ MAX_FACES }
         ensures { result ≡ record {
@@ -70,13 +70,13 @@ impl KnownEndpoints {
         self.peers.get(place)
     }
 
-    /// What a datagram of this endpoint meets at this moment.
+    /// What to do with a datagram of this endpoint at this moment.
     pub fn meet(&mut self, endpoint: SocketAddr, now: u64) -> Met
         ensures { Meets self.old self.new endpoint now result }
     {
         if let Some(place) = self.clients.idle_place(now) {
             let face = self.clients.face_at(place);
-            // What is handled after the closing has come in time.
+            // The datagram arrived in time, although it is handled after the closing.
             self.clients.hear_in_time(endpoint, now);
             self.clients.remove(place);
             return Met::Closing(face);
@@ -97,7 +97,7 @@ impl KnownEndpoints {
         }
     }
 
-    /// The face of an endpoint, which is heard at this moment.
+    /// The face of an endpoint, from which a datagram is recorded at this moment.
     fn hear(&mut self, endpoint: SocketAddr, now: u64) -> Option<u64>
         ensures known { IfSome result (Knows self.old self.new endpoint now) }
         ensures none { result ≡ None → IsNewcomer self.old endpoint × (self.new ≡ self.old) }
@@ -108,7 +108,7 @@ impl KnownEndpoints {
         }
     }
 
-    /// Something comes at this moment from an endpoint that has its face, if it is a client.
+    /// Records a datagram from an endpoint at this moment, if it is a client.
     pub fn hear_client(&mut self, endpoint: SocketAddr, now: u64)
         ensures { (rows : List Client) × MayHear self.old.clients.rows rows endpoint now
             × (self.new ≡ with_clients self.old rows) }
@@ -116,7 +116,7 @@ impl KnownEndpoints {
         let _face = self.clients.hear(endpoint, now);
     }
 
-    /// Opens the next face for an endpoint that has none.
+    /// Opens the next face, for an endpoint without one.
     fn open(&mut self, endpoint: SocketAddr, now: u64) -> u64
         requires { length self.old.peers + length self.old.clients.rows < MAX_FACES }
         ensures { OpensNew self.old self.new endpoint now result }

@@ -1,42 +1,42 @@
--- What UDP ports hold, and what they give. What a socket gives or takes is not said.
+-- The state of UDP ports, and what they give. What a socket gives or takes is not specified.
 use Rattle.std.specs.Prelude.{◌≡◌, ◌≢◌, ℕ, ◌+◌, ◌<◌, ◌≤◌, ◌==◌, ◌⊎◌, Bool, true, List, [], length, position, take, Option, None, Some, nat_le, if◌then◌else◌}
 use Rattle.std.specs.declared.net.socket_addr.SocketAddr.{SocketAddr}
 use Rattle.forwarder.specs.declared.event.Scope.{Scope}
 use Rattle.forwarder.specs.declared.event.Scope.TheVariants.{Local, Far}
-use Rattle.node_core.specs.declared.ports.TheConstants.{FRAME_ROOM}
-use Rattle.node_core.specs.declared.ports.Arrival.{Arrival}
-use Rattle.node_core.specs.declared.ports.Arrival.TheVariants.{End, Packet, FaceUp, FaceDown, Tick, NewRules}
-use Rattle.node_core.specs.declared.ports.known_endpoints.KnownEndpoints.{KnownEndpoints}
-use Rattle.node_core.specs.declared.ports.known_endpoints.Met.TheVariants.{Face, Opening, Closing}
-use Rattle.node_core.specs.declared.ports.clients.Client.{Client}
-use Rattle.node_core.specs.Endpoints.{is_at}
-use Rattle.node_core.specs.Clients.{MayHear}
-use Rattle.node_core.specs.KnownEndpoints.{Meets, with_clients}
-use Rattle.node_core.specs.Ports.{one_more}
+use Rattle.node_ports.specs.declared.ports.TheConstants.{FRAME_ROOM}
+use Rattle.node_ports.specs.declared.ports.Arrival.{Arrival}
+use Rattle.node_ports.specs.declared.ports.Arrival.TheVariants.{End, Packet, FaceUp, FaceDown, Tick, NewRules}
+use Rattle.node_ports.specs.declared.known_endpoints.KnownEndpoints.{KnownEndpoints}
+use Rattle.node_ports.specs.declared.known_endpoints.Met.TheVariants.{Face, Opening, Closing}
+use Rattle.node_ports.specs.declared.clients.Client.{Client}
+use Rattle.node_ports.specs.Endpoints.{is_at}
+use Rattle.node_ports.specs.Clients.{MayHear}
+use Rattle.node_ports.specs.KnownEndpoints.{Meets, with_clients}
+use Rattle.node_ports.specs.Ports.{one_more}
 
 -- a datagram that was received and not yet given
 pub record Datagram : Type 0 where
   pub endpoint : SocketAddr
-  -- the face that it is for; none while that is not settled
+  -- the face that it is for; none while that is not decided
   pub face : Option ℕ
   pub octets : List ℕ
 
 pub record UdpState : Type 0 where
-  -- which endpoints have faces
+  -- the endpoints with faces
   pub known : KnownEndpoints
-  -- how many faces of peers were opened
+  -- the number of peers' faces that were opened
   pub opened : ℕ
-  -- how many of the first faces are Local
+  -- how many of the peers' faces, the first ones, are Local
   pub local : ℕ
   -- the datagram that waits for the next turn
   pub waiting : Option Datagram
-  -- the moment that the clock told last
+  -- the last moment of the clock
   pub told : ℕ
-  -- whether datagrams of endpoints that are no peers are accepted
+  -- whether datagrams of endpoints that are not peers are accepted
   pub accepts_strangers : Bool
-  -- how many of them were dropped, where they are not
+  -- the number of such datagrams that were dropped
   pub strangers : ℕ
-  -- how many calls failed
+  -- the number of failed calls
   pub failures : ℕ
 
 -- before the first arrival
@@ -57,7 +57,7 @@ bound_to peers local told = record {
   failures = 0;
 }
 
--- the same ports, where faces close after this time of silence
+-- the same ports, with this idle time after which faces close
 abbrev pub closes_after : ℕ → UdpState → UdpState
 closes_after idle ports = record ports {
   known = record ports.known { clients = record ports.known.clients { idle = Some idle } };
@@ -66,7 +66,7 @@ closes_after idle ports = record ports {
 abbrev pub scope_of_face : ℕ → ℕ → Scope
 scope_of_face local face = if nat_le face local then Local else Far
 
--- the endpoint of the datagram that waits, if it waits for this face
+-- the endpoint of the waiting datagram, if it waits for this face
 abbrev pub waiting_for : ℕ → SocketAddr → Option ℕ → Option SocketAddr
 waiting_for face endpoint None = None
 waiting_for face endpoint (Some other) = if other == face then Some endpoint else None
@@ -79,7 +79,7 @@ waiting_at face (Some datagram) = waiting_for face datagram.endpoint datagram.fa
 abbrev pub HasOpened : UdpState → Type 0
 HasOpened before = before.opened ≡ length before.known.peers
 
--- a face opens that a peer has from the start
+-- the face of the next peer opens
 abbrev pub OpensPeer : UdpState → UdpState → Arrival → Type 0
 OpensPeer before after (FaceUp face scope now) =
     (before.opened < length before.known.peers) × (face ≡ before.opened + 1)
@@ -89,10 +89,10 @@ OpensPeer before after (Packet face now len) = ⊥
 OpensPeer before after End = ⊥
 OpensPeer before after (FaceDown face now) = ⊥
 OpensPeer before after (Tick now) = ⊥
-OpensPeer before after (NewRules rules keys now) = ⊥
+OpensPeer before after (NewRules renewal now) = ⊥
 
--- The datagram that waited for its face comes unchanged, cut to the buffer, in the turn after the
--- opening.
+-- The datagram that waited for its face is given unchanged, cut to the buffer, in the turn after
+-- the opening.
 abbrev pub GivesWaiting : UdpState → UdpState → List ℕ → Arrival → Type 0
 GivesWaiting before after buffer (Packet face now len) =
     (endpoint : SocketAddr) × (octets : List ℕ) × (rows : List Client) × HasOpened before
@@ -108,9 +108,9 @@ GivesWaiting before after buffer (FaceUp face scope now) = ⊥
 GivesWaiting before after buffer End = ⊥
 GivesWaiting before after buffer (FaceDown face now) = ⊥
 GivesWaiting before after buffer (Tick now) = ⊥
-GivesWaiting before after buffer (NewRules rules keys now) = ⊥
+GivesWaiting before after buffer (NewRules renewal now) = ⊥
 
--- a datagram waits, cut to 9,001 octets
+-- a waiting datagram, cut to 9,001 octets
 abbrev pub kept : SocketAddr → Option ℕ → List ℕ → Datagram
 kept endpoint face datagram = record {
   endpoint = endpoint;
@@ -118,8 +118,8 @@ kept endpoint face datagram = record {
   octets = take FRAME_ROOM datagram;
 }
 
--- A datagram of this endpoint comes on its face; or it waits while a face opens for it, or while
--- one closes first.
+-- A datagram of this endpoint is given on its face; or it waits while a face opens for it, or while
+-- another face closes first.
 abbrev pub Brings : UdpState → UdpState → SocketAddr → List ℕ → List ℕ → Arrival → Type 0
 Brings before after endpoint datagram buffer (Packet face now len) =
     (known : KnownEndpoints) × Meets before.known known endpoint now (Face face)
@@ -141,7 +141,7 @@ Brings before after endpoint datagram buffer (FaceDown face now) =
     })
 Brings before after endpoint datagram buffer End = ⊥
 Brings before after endpoint datagram buffer (Tick now) = ⊥
-Brings before after endpoint datagram buffer (NewRules rules keys now) = ⊥
+Brings before after endpoint datagram buffer (NewRules renewal now) = ⊥
 
 -- every peer has its face, and no datagram waits
 abbrev pub Listens : UdpState → Type 0
@@ -152,15 +152,14 @@ abbrev pub IsAccepted : UdpState → SocketAddr → Type 0
 IsAccepted before endpoint =
     (before.accepts_strangers ≡ true) ⊎ (position (is_at endpoint) before.known.peers ≢ None)
 
--- Datagrams of strangers may have been dropped, which are counted. None are where strangers are
--- accepted.
+-- Datagrams of strangers may have been dropped and counted, but none if strangers are accepted.
 pub record DropsStrangers (before after : UdpState) : Type 0 where
   pub count : ℕ
   pub is : after ≡ record before { strangers = count }
   pub more : before.strangers ≤ count
   pub none : before.accepts_strangers ≡ true → count ≡ before.strangers
 
--- after datagrams of strangers, one of an endpoint that is accepted was received into the front of
+-- after datagrams of strangers, if any, one of an accepted endpoint was received into the front of
 -- the buffer
 abbrev pub GivesReceived : UdpState → UdpState → List ℕ → Arrival → Type 0
 GivesReceived before after buffer arrival =
@@ -168,7 +167,8 @@ GivesReceived before after buffer arrival =
     × DropsStrangers before mid × IsAccepted mid endpoint
     × Brings mid after endpoint (take len buffer) buffer arrival)
 
--- the call failed, after datagrams of strangers: nothing was there without receiving
+-- No peer's face was left to open, no datagram waited, and receiving failed, perhaps after
+-- datagrams of strangers.
 abbrev pub FailsReceiving : UdpState → UdpState → Type 0
 FailsReceiving before after =
     Listens before × ((mid : UdpState) × DropsStrangers before mid
@@ -181,7 +181,7 @@ BringsAfterClosing before after buffer arrival =
     × (before.waiting ≡ Some (record { endpoint = endpoint; face = None; octets = octets }))
     × Brings before after endpoint octets buffer arrival
 
--- what may arrive, and what the ports are afterwards
+-- what may be given, and the state of the ports afterwards
 abbrev pub UdpGives : UdpState → UdpState → List ℕ → Arrival → Type 0
 UdpGives before after buffer arrival =
     OpensPeer before after arrival

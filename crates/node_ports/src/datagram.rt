@@ -5,16 +5,16 @@ use crate::ports::PortFault;
 use std::net::{Ipv4Addr, Net, UdpSocket};
 use std::time::Duration;
 
-/// How long an answer is waited for, in seconds.
+/// How long to wait for an answer, in seconds.
 pub const ANSWER_SECONDS: u64 = 4;
 
-/// Sends the octets in one datagram to this port of 127.0.0.1, from a new socket that hears that
-/// port alone.
+/// Sends the octets in one datagram to this port of 127.0.0.1, from a new socket that receives from
+/// that port only.
 pub fn send_one(rt: &impl Net, to: u16, octets: &[u8]) -> Result<UdpSocket, PortFault> {
     send_from(rt, 0, to, octets)
 }
 
-/// The same, with the socket bound to this port; 0 stands for one that the system chooses.
+/// As `send_one`, with the socket bound to this port; for 0 the system chooses one.
 pub fn send_from(rt: &impl Net, from: u16, to: u16, octets: &[u8]) -> Result<UdpSocket, PortFault> {
     let Ok(socket) = UdpSocket::bind(rt, (Ipv4Addr::LOCALHOST, from)) else {
         return Err(PortFault::Failed);
@@ -28,8 +28,8 @@ pub fn send_from(rt: &impl Net, from: u16, to: u16, octets: &[u8]) -> Result<Udp
     }
 }
 
-/// Receives one datagram, and answers its length. What is longer than the buffer is cut to it. It
-/// fails where none comes within `ANSWER_SECONDS`.
+/// Receives one datagram, and returns its length. A datagram longer than the buffer is cut to it.
+/// It fails if none arrives within `ANSWER_SECONDS`.
 pub fn receive_one(socket: &UdpSocket, buffer: &mut [u8]) -> Result<usize, PortFault>
     ensures { IfOk result (λ len. len ≤ length buffer.new) }
 {

@@ -1,12 +1,12 @@
-//! The endpoints that are known from the start.
+//! The endpoints of the peers, which are known from the start.
 ghost use Rattle.std.specs.Prelude.{◌≡◌, ◌<◌, ◌≤◌, length, slice_get, position, IfSome};
-ghost use Rattle.node_core.specs.Endpoints.{is_at};
+ghost use Rattle.node_ports.specs.Endpoints.{is_at};
 
 use forwarder::MAX_FACES;
 use std::marker::Model;
 use std::net::{Ipv4Addr, SocketAddr, SocketAddrV4};
 
-/// At most as many endpoints as a node has faces, 64, in the order of their faces, which never
+/// At most 64 endpoints, as many as a node has faces, in the order of their faces, which never
 /// close.
 #[derive(Drop)]
 pub struct Peers {
@@ -27,7 +27,7 @@ impl Model for Peers {
 }
 
 impl Peers {
-    /// These endpoints, of which there are at most 64.
+    /// These endpoints, at most 64.
     pub fn new(endpoints: &[SocketAddr]) -> Peers
         requires { length endpoints.now ≤ MAX_FACES }
         ensures { result ≡ endpoints.now }
@@ -71,7 +71,7 @@ impl Peers {
     }
 }
 
-/// What fills a place that has no endpoint.
+/// Fills a place without an endpoint.
 pub fn nowhere() -> SocketAddr {
     SocketAddr::V4(SocketAddrV4::new(Ipv4Addr::UNSPECIFIED, 0))
 }

@@ -1,31 +1,32 @@
-//! The endpoints that opened their faces themselves.
+//! The endpoints whose faces were opened by their own datagrams.
 ghost use Rattle.std.specs.Prelude.{◌≡◌, ◌∷◌, ◌++◌, [], ◌+◌, ◌<◌, ◌≤◌, ◌==◌, ◌↔◌, All, length, List, slice_get, slice_set, remove, position, find, option_map, IfSome, IsTrue, Some, None, true, false};
-ghost use Rattle.node_core.specs.Clients.{GivesWay, Hears, HearsInTime, IsIdle, IsNoClient, IsSilent, IsSilentLongest};
-ghost use Rattle.node_core.specs.Endpoints.{is_at};
-ghost use Rattle.node_core.specs.declared.ports.clients.Client.{Client};
+ghost use Rattle.node_ports.specs.Clients.{GivesWay, Hears, HearsInTime, IsIdle, IsNoClient, IsSilent, IsSilentLongest};
+ghost use Rattle.node_ports.specs.Endpoints.{is_at};
+ghost use Rattle.node_ports.specs.declared.clients.Client.{Client};
 
-use crate::ports::peers::nowhere;
+use crate::peers::nowhere;
 use arrayvec::ArrayVec;
 use forwarder::MAX_FACES;
 use std::marker::Model;
 use std::net::SocketAddr;
 
-/// After how long a silence a face closes for an endpoint that has none, in milliseconds.
+/// How long a face has to be idle before it may close in favour of an endpoint without a face, in
+/// milliseconds.
 pub const GIVE_WAY_MILLISECONDS: u64 = 10_000;
 
-/// An endpoint that opened its face itself.
+/// An endpoint whose face was opened by its own datagram.
 #[derive(Clone, Copy)]
 pub struct Client {
     /// Its address and port.
     pub endpoint: SocketAddr,
     /// Its face.
     pub face: u64,
-    /// The moment at which something came from it last.
+    /// The moment of the last datagram from it.
     pub heard: u64,
 }
 
 impl Default for Client {
-    // What fills a place that has no client.
+    // Fills a place without a client.
     fn default() -> Client {
         Client {
             endpoint: nowhere(),
@@ -35,20 +36,20 @@ impl Default for Client {
     }
 }
 
-/// At most 64 endpoints that opened their faces themselves, in the order of their faces.
+/// At most 64 endpoints whose faces were opened by their own datagrams, in the order of the faces.
 ///
-/// Where a time is given, the faces may close that are silent for it, or, for an endpoint that has
-/// no face, those that are silent for `GIVE_WAY_MILLISECONDS`.
+/// If an idle time is set, faces that are idle for it may close, and, in favour of an endpoint
+/// without a face, those that are idle for `GIVE_WAY_MILLISECONDS`.
 #[derive(Drop)]
 pub struct Clients {
     rows: ArrayVec<Client, MAX_FACES>,
     idle: Option<u64>,
-    // No client is idle before this moment, so that none is looked for.
+    // No client is idle before this moment, so none is searched for.
     heard_until: u64,
 }
 
 impl Model for Clients {
-    ghost use Rattle.node_core.specs.Clients.{AreHeardUntil, ClientsState};
+    ghost use Rattle.node_ports.specs.Clients.{AreHeardUntil, ClientsState};
 
     ghost Value = { ClientsState };
 
@@ -58,7 +59,7 @@ impl Model for Clients {
 }
 
 impl Clients {
-    /// No endpoint yet, and no face closes.
+    /// No endpoints, and no idle time.
     pub fn new() -> Clients
         ensures { result ≡ record { rows = []; idle = None } }
     {
@@ -69,7 +70,7 @@ impl Clients {
         }
     }
 
-    /// Says after how many milliseconds of silence a face closes.
+    /// Sets the idle time after which a face closes, in milliseconds.
     pub fn close_after(&mut self, idle: u64)
         ensures { self.new ≡ record self.old { idle = Some idle } }
     {
@@ -98,7 +99,7 @@ impl Clients {
         Some(client.endpoint)
     }
 
-    /// Adds an endpoint, while there are fewer than 64.
+    /// Adds an endpoint. There are fewer than 64 before.
     pub fn push(&mut self, client: Client)
         requires { length self.old.rows < MAX_FACES }
         ensures { self.new ≡ record self.old { rows = self.old.rows ++ (client ∷ []) } }
@@ -107,7 +108,7 @@ impl Clients {
         self.rows.push(client);
     }
 
-    /// Takes out the endpoint at a place, counted from 0.
+    /// Removes the endpoint at a place, counted from 0.
     pub fn remove(&mut self, place: usize)
         requires { place < length self.old.rows }
         ensures { self.new ≡ record self.old { rows = remove self.old.rows place } }
@@ -115,7 +116,7 @@ impl Clients {
         let _client = self.rows.remove(place);
     }
 
-    /// Something comes from an endpoint at this moment. Its face is given, if it has one.
+    /// Records a datagram from an endpoint at this moment. Returns its face, if it has one.
     pub fn hear(&mut self, endpoint: SocketAddr, now: u64) -> Option<u64>
         ensures found { IfSome result (λ face. (rows : List Client)
             × Hears self.old.rows rows endpoint now face
@@ -126,8 +127,7 @@ impl Clients {
         Some(self.hear_at(place, now))
     }
 
-    /// Something comes from an endpoint at this moment: it is heard, if it has a face and was not
-    /// silent for the time after which that closes.
+    /// Records a datagram from an endpoint at this moment, if it has a face and is not idle.
     pub fn hear_in_time(&mut self, endpoint: SocketAddr, now: u64)
         ensures heard { (rows : List Client)
             × HearsInTime self.old.idle self.old.rows rows endpoint now
@@ -141,7 +141,7 @@ impl Clients {
         }
     }
 
-    /// Whether the endpoint at a place was silent for the time after which its face closes.
+    /// Whether the endpoint at a place is idle.
     fn is_idle_at(&self, place: usize, now: u64) -> bool
         requires { place < length self.now.rows }
         ensures yes { result ≡ true → (client : Client)
@@ -175,7 +175,7 @@ impl Clients {
             .position(|client| client.endpoint == endpoint)
     }
 
-    /// Something comes from the endpoint at a place. Its face is given.
+    /// Records a datagram from the endpoint at a place. Returns its face.
     fn hear_at(&mut self, place: usize, now: u64) -> u64
         requires { place < length self.old.rows }
         ensures { (client : Client) × (slice_get self.old.rows place ≡ Some client)
@@ -188,8 +188,7 @@ impl Clients {
         hear_at(self.rows.as_mut_slice(), place, now)
     }
 
-    /// The place of the endpoint that was silent longest, if it was for the time after which its
-    /// face closes.
+    /// The place of the endpoint that was silent longest, if it is idle.
     pub fn idle_place(&mut self, now: u64) -> Option<usize>
         ensures same { self.new ≡ self.old }
         ensures none { result ≡ None
@@ -207,7 +206,8 @@ impl Clients {
         place
     }
 
-    /// The place of the endpoint that was silent longest, if its face closes for one that has none.
+    /// The place of the endpoint that was silent longest, if its face may close in favour of an
+    /// endpoint without a face.
     pub fn yielding_place(&self, now: u64) -> Option<usize>
         ensures none { result ≡ None
             → All (λ client. GivesWay self.now.idle now client → ⊥) self.now.rows }
@@ -219,7 +219,7 @@ impl Clients {
         self.silent_for(GIVE_WAY_MILLISECONDS, now)
     }
 
-    /// The place of the endpoint that was silent longest, if for this time at least.
+    /// The place of the endpoint that was silent longest, if it was for at least this time.
     fn silent_for(&self, time: u64, now: u64) -> Option<usize>
         ensures none { result ≡ None
             → All (λ client. IsSilent time now client → ⊥) self.now.rows }
@@ -240,14 +240,14 @@ impl Clients {
     }
 }
 
-/// Whether nothing came for this time since the moment `heard`.
+/// Whether at least this time has passed since the moment `heard`.
 fn is_silent(heard: u64, time: u64, now: u64) -> bool
     ensures { IsTrue result ↔ (heard + time ≤ now) }
 {
     heard <= now && now - heard >= time
 }
 
-/// The moment at which an endpoint is idle, unless it is heard before.
+/// The moment from which an endpoint is idle, if no datagram comes from it before.
 fn end_of(idle: Option<u64>, heard: u64) -> u64
     ensures { IfSome idle (λ idle. result ≤ heard + idle) }
 {
@@ -257,7 +257,7 @@ fn end_of(idle: Option<u64>, heard: u64) -> u64
     }
 }
 
-/// Something comes from the endpoint at a place. Its face is given.
+/// Records a datagram from the endpoint at a place. Returns its face.
 fn hear_at(clients: &mut [Client], place: usize, now: u64) -> u64
     requires { place < length clients.old }
     ensures { (client : Client) × (slice_get clients.old place ≡ Some client)
@@ -268,7 +268,7 @@ fn hear_at(clients: &mut [Client], place: usize, now: u64) -> u64
     clients[place].face
 }
 
-/// A moment before which none is silent for this time.
+/// A moment before which no client has been silent for this time.
 fn first_end(clients: &[Client], time: u64) -> u64
     ensures { All (λ client. result ≤ client.heard + time) clients.now }
 {
@@ -279,7 +279,7 @@ fn first_end(clients: &[Client], time: u64) -> u64
     first
 }
 
-/// The place of the endpoint that was silent longest, and the first of several.
+/// The place of the endpoint that was silent longest, the first of several.
 fn silent_longest(clients: &[Client]) -> usize
     requires { 0 < length clients.now }
     ensures within { result < length clients.now }

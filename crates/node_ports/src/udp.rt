@@ -2,14 +2,15 @@
 ghost use Rattle.std.specs.Prelude.{◌≡◌, ◌<◌, ◌≤◌, ◌↔◌, ℕ, List, None, Some, true, false, length, take, IfOk, IfSome, IsTrue, OnOk, OnErr};
 ghost use Rattle.std.specs.Option.{option_or};
 ghost use Rattle.std.specs.declared.net.socket_addr.SocketAddr.{SocketAddr};
-ghost use Rattle.node_core.specs.Endpoints.{AreLocalhostAt, IsLocalhostAt};
-ghost use Rattle.node_core.specs.KnownEndpoints.{endpoint_at};
-ghost use Rattle.node_core.specs.Ports.{LiesWithin, one_more};
-ghost use Rattle.node_core.specs.Udp.{Brings, DropsStrangers, FailsReceiving, GivesWaiting, BringsAfterClosing, HasOpened, IsAccepted, Listens, OpensPeer, UdpGives, bound_to, closes_after, kept, waiting_at};
+ghost use Rattle.node_ports.specs.Endpoints.{AreLocalhostAt, IsLocalhostAt};
+ghost use Rattle.node_ports.specs.KnownEndpoints.{endpoint_at};
+ghost use Rattle.node_ports.specs.Ports.{LiesWithin, one_more};
+ghost use Rattle.node_ports.specs.Udp.{Brings, DropsStrangers, FailsReceiving, GivesWaiting, BringsAfterClosing, HasOpened, IsAccepted, Listens, OpensPeer, UdpGives, bound_to, closes_after, kept, waiting_at};
 
-use crate::ports::known_endpoints::{KnownEndpoints, Met};
+use crate::known_endpoints::{KnownEndpoints, Met};
 use crate::ports::{Arrival, FRAME_ROOM, PortFault, Ports, put_front};
-use forwarder::{MAX_FACES, Scope};
+use forwarder::{MAX_FACES, Scope, Verdict};
+use journal::Coming;
 use std::marker::Model;
 use std::net::{Ipv4Addr, Net, SocketAddr, SocketAddrV4, UdpSocket};
 use std::time::Duration;
@@ -17,9 +18,9 @@ use std::time::Duration;
 /// How long `UdpPorts::next_soon` waits for a datagram, in milliseconds.
 pub const SOON_MILLISECONDS: u64 = 1;
 
-/// Where moments come from.
+/// A clock.
 pub trait Moments: Drop {
-    // The moment that was told last.
+    // The last moment that was returned.
     ghost last: { Self → ℕ };
 
     /// The present moment, in milliseconds since 1970.
@@ -27,36 +28,36 @@ pub trait Moments: Drop {
         ensures { result ≡ last self.new };
 }
 
-/// Ports by one UDP socket, with a face for each endpoint that is known.
+/// Ports by one UDP socket, with a face for each known endpoint.
 ///
-/// The peers' endpoints have the faces 1, 2 and so on, and each is opened in a turn of its own
-/// before anything is received. An endpoint that is not known gets the next number and is opened as
-/// Far before its first packet. While 64 endpoints are known, the opening and the packet are for the
-/// next number, 65 while no face has closed, and the endpoint is not kept: no node with 64 faces
-/// opens it. No number is used again, and nothing ends.
+/// The peers' endpoints have the faces 1, 2 and so on. Each of these faces is opened in a turn of
+/// its own before anything is received. For an unknown endpoint a Far face with the next number is
+/// opened before its first packet. While 64 endpoints are known, the opening and the packet are for
+/// the next number, 65 if no face has closed, and the endpoint is not stored: a node with 64 faces
+/// does not open it. The number of a face that opened is not used again. The ports never end.
 ///
-/// By `close_after` faces close that were silent for too long. A peer's face never closes. By
-/// `ignore_strangers` datagrams of peers alone are accepted.
+/// After `close_after`, idle faces close. A peer's face never closes. After `ignore_strangers`,
+/// only datagrams of peers are accepted.
 #[derive(Drop)]
 pub struct UdpPorts<M: Moments> {
     socket: UdpSocket,
     moments: M,
     known: KnownEndpoints,
-    // How many faces of peers were opened.
+    // The number of peers' faces that were opened.
     opened: usize,
     local: u64,
-    // The datagram that waits for the next turn, whose octets stand by themselves.
+    // The datagram that waits for the next turn. Its octets are in `octets`.
     waiting: Option<Waiting>,
     octets: [u8; FRAME_ROOM],
     len: usize,
-    // Whether receiving ends after a short time, in place of waiting as long as nothing comes.
+    // Whether receiving ends after a short time. If not, it waits until something arrives.
     is_brief: bool,
     accepts_strangers: bool,
     strangers: u64,
     failures: u64,
 }
 
-/// Where a datagram that waits came from, and the face that it is for, if that is settled.
+/// The endpoint of a waiting datagram, and the face that it is for, if that is decided.
 #[derive(Clone, Copy)]
 struct Waiting {
     endpoint: SocketAddr,
@@ -66,8 +67,8 @@ struct Waiting {
 impl<M: Moments> Model for UdpPorts<M> {
     ghost use Rattle.std.specs.Prelude.{◌≤◌, length, take};
     ghost use Rattle.std.specs.Option.{option_map};
-    ghost use Rattle.node_core.specs.Udp.{UdpState};
-    ghost use Rattle.node_core.specs.declared.ports.TheConstants.{FRAME_ROOM};
+    ghost use Rattle.node_ports.specs.Udp.{UdpState};
+    ghost use Rattle.node_ports.specs.declared.ports.TheConstants.{FRAME_ROOM};
 
     ghost Value = { UdpState };
 
@@ -90,7 +91,7 @@ impl<M: Moments> Model for UdpPorts<M> {
 }
 
 impl<M: Moments> UdpPorts<M> {
-    /// Ports on this port of 127.0.0.1, whose peers are ports of 127.0.0.1: as `bind_at`.
+    /// As `bind_at`, on this port of 127.0.0.1, with ports of 127.0.0.1 as peers.
     pub fn bind(
         rt: &impl Net,
         listen: u16,
@@ -109,11 +110,11 @@ impl<M: Moments> UdpPorts<M> {
         UdpPorts::bind_at(rt, localhost(listen), endpoints, local, moments)
     }
 
-    /// Ports with the peers' faces to open, of which the first `local` are Local and the others
-    /// Far. It takes one socket and no memory. There are at most 64 peers, of the family of the
-    /// address that is bound; of an endpoint that is named twice the first face alone gets what
-    /// comes. No face closes, and strangers are accepted. Whoever is Local may command, so let these be
-    /// loopback addresses. Its fault says that the endpoint cannot be bound.
+    /// Ports whose peers' faces are still to be opened: the first `local` are Local, the others
+    /// Far. It uses one socket and no heap memory. There are at most 64 peers, of the family of the
+    /// bound address. If an endpoint is named twice, only its first face gets its datagrams. No
+    /// face closes, and strangers are accepted. A Local peer may send commands, so it should have a
+    /// loopback address. The fault means that the endpoint cannot be bound.
     pub fn bind_at(
         rt: &impl Net,
         listen: SocketAddr,
@@ -143,34 +144,33 @@ impl<M: Moments> UdpPorts<M> {
         })
     }
 
-    /// Says that faces close from now on, which are not peers' and on which nothing came for some
-    /// time: for `idle` milliseconds, or, where 64 endpoints are known and another one speaks, for
-    /// 10,000, and then the face that was silent longest.
+    /// From now on, a face that is not a peer's closes if nothing arrived on it for `idle`
+    /// milliseconds. While 64 endpoints are known and an unknown one sends, the face that was
+    /// silent longest closes, if that was for at least 10,000 milliseconds.
     ///
-    /// A face closes when a datagram is there, of whatever endpoint, before that is handled, one in
-    /// each turn. A datagram whose own face was opened in the turn before comes first.
+    /// Faces close, one in each turn, when a datagram of any endpoint has arrived, before it is
+    /// handled. A datagram whose own face was opened in the turn before is handled first.
     pub fn close_after(&mut self, idle: u64)
         ensures { self.new ≡ closes_after idle self.old }
     {
         self.known.clients.close_after(idle);
     }
 
-    /// Says that from now on a datagram of an endpoint that is no peer is dropped unread and
-    /// counted.
+    /// From now on, a datagram of an endpoint that is not a peer is dropped unread and counted.
     pub fn ignore_strangers(&mut self)
         ensures { self.new ≡ record self.old { accepts_strangers = false } }
     {
         self.accepts_strangers = false;
     }
 
-    /// How many datagrams were dropped so. The count stops at the greatest u64.
+    /// The number of datagrams dropped by `ignore_strangers`. The count stops at the greatest u64.
     pub fn strangers(&self) -> u64
         ensures { result ≡ self.now.strangers }
     {
         self.strangers
     }
 
-    /// The endpoint of a face, or of the datagram that waits for a face of this number.
+    /// The endpoint of a face, or of the datagram that waits for a face with this number.
     pub fn endpoint_of(&self, face: u64) -> Option<SocketAddr>
         ensures { result ≡ option_or (endpoint_at self.now.known face)
             (waiting_at face self.now.waiting) }
@@ -223,8 +223,8 @@ impl<M: Moments> UdpPorts<M> {
         self.moments.now()
     }
 
-    /// Gives the datagram that waits for this face, at the front of the buffer. What does not fit is
-    /// cut off.
+    /// Gives the datagram that waits for this face, at the front of the buffer. Octets that do not
+    /// fit are cut off.
     fn give_waiting(&mut self, endpoint: SocketAddr, face: u64, buffer: &mut [u8]) -> Arrival
         requires opened { HasOpened self.old }
         requires waiting { (octets : List ℕ) × (self.old.waiting
@@ -239,7 +239,7 @@ impl<M: Moments> UdpPorts<M> {
         Arrival::Packet { face, now, len }
     }
 
-    /// Goes on with the datagram that waits while faces close.
+    /// Handles the datagram that waits while faces close.
     fn go_on(&mut self, endpoint: SocketAddr, buffer: &mut [u8]) -> Arrival
         requires opened { HasOpened self.old }
         requires waiting { (octets : List ℕ) × (self.old.waiting
@@ -265,7 +265,7 @@ impl<M: Moments> UdpPorts<M> {
         }
     }
 
-    /// Keeps a datagram of this endpoint for the next turn.
+    /// Stores a datagram of this endpoint for the next turn.
     fn keep(&mut self, endpoint: SocketAddr, face: Option<u64>, datagram: &[u8])
         ensures { self.new
             ≡ record self.old { waiting = Some (kept endpoint face datagram.now) } }
@@ -274,7 +274,7 @@ impl<M: Moments> UdpPorts<M> {
         self.waiting = Some(Waiting { endpoint, face });
     }
 
-    /// Opens the face of the first peer that has none.
+    /// Opens the face of the first peer without one.
     fn open(&mut self) -> Arrival
         requires { self.old.opened < length self.old.known.peers }
         ensures { OpensPeer self.old self.new result }
@@ -294,8 +294,8 @@ impl<M: Moments> UdpPorts<M> {
         }
     }
 
-    /// What a datagram of this endpoint brings, which is the first `len` octets of the buffer, while
-    /// none waits.
+    /// The arrival for a datagram of this endpoint, which is the first `len` octets of the buffer.
+    /// No datagram waits.
     fn arrive(&mut self, endpoint: SocketAddr, len: usize, buffer: &[u8]) -> Arrival
         requires listens { Listens self.old }
         requires fits { len ≤ length buffer.now }
@@ -316,7 +316,7 @@ impl<M: Moments> UdpPorts<M> {
         }
     }
 
-    /// Says whether receiving ends after `SOON_MILLISECONDS`. The system may refuse it.
+    /// Sets whether receiving ends after `SOON_MILLISECONDS`. Returns false if the system refuses.
     fn set_brief(&mut self, is_brief: bool) -> bool
         ensures { self.new ≡ self.old }
     {
@@ -335,9 +335,9 @@ impl<M: Moments> UdpPorts<M> {
         true
     }
 
-    /// Receives a datagram, while none waits. None is given where the socket gives none. A datagram
-    /// of an endpoint that is not accepted is counted, and then the next is received; where receiving
-    /// is brief, none is given.
+    /// Receives a datagram, while none waits. Returns none if the socket gives none. A datagram of
+    /// an endpoint that is not accepted is counted; then the next one is received, or, if receiving
+    /// is brief, none is returned.
     fn receive(&mut self, buffer: &mut [u8], is_brief: bool) -> Option<Arrival>
         requires { Listens self.old }
         ensures fits { IfSome result (LiesWithin (length buffer.new)) }
@@ -361,14 +361,14 @@ impl<M: Moments> UdpPorts<M> {
         None
     }
 
-    /// Receives a datagram into the front of the buffer: its length there, and where it came from.
+    /// Receives a datagram into the front of the buffer. Returns its length there and its endpoint.
     fn receive_one(&self, buffer: &mut [u8]) -> Option<(usize, SocketAddr)>
         ensures { IfSome result (λ received. received.0 ≤ length buffer.new) }
     {
         self.socket.recv_from(buffer).ok()
     }
 
-    /// What is there without receiving, and otherwise a datagram.
+    /// The next arrival: a peer's face that opens, a waiting datagram, or a datagram received now.
     fn take(&mut self, buffer: &mut [u8], is_brief: bool) -> Option<Arrival>
         ensures fits { IfSome result (LiesWithin (length buffer.new)) }
         ensures gives { IfSome result (UdpGives self.old self.new buffer.new) }
@@ -391,10 +391,12 @@ impl<M: Moments> UdpPorts<M> {
 impl<M: Moments> Ports for UdpPorts<M> {
     ghost failures = { λ u. u.failures };
 
-    // What comes, and what was taken, is not known.
+    // What arrives, and what was taken, is not known.
     ghost coming = { λ u. None };
 
     ghost taken = { λ u. None };
+
+    ghost journal = { λ u. None };
 
     fn next(&mut self, buffer: &mut [u8]) -> Result<Arrival, PortFault>
         ensures fits { IfOk result (LiesWithin (length buffer.new)) }
@@ -415,6 +417,20 @@ impl<M: Moments> Ports for UdpPorts<M> {
         ensures none { result ≡ None → Listens self.old × DropsStrangers self.old self.new }
     {
         self.take(buffer, true)
+    }
+
+    fn keeps_journal(&self) -> bool {
+        false
+    }
+
+    // It has no journal.
+    fn commit(
+        &mut self,
+        _event: &Coming<'_>,
+        _time: u64,
+        _verdict: &Verdict,
+    ) -> Result<(), PortFault> {
+        Ok(())
     }
 
     fn send(&mut self, face: u64, octets: &[u8]) -> Result<(), PortFault>
@@ -438,7 +454,7 @@ impl<M: Moments> Ports for UdpPorts<M> {
     }
 }
 
-/// A face opens for an endpoint that is no peer's.
+/// The opening of a face for an endpoint that is not a peer.
 fn far_face(face: u64, now: u64) -> Arrival
     ensures { result ≡ Arrival.FaceUp face Scope.Far now }
 {
@@ -456,7 +472,7 @@ fn localhost(port: u16) -> SocketAddr
     SocketAddr::V4(SocketAddrV4::new(Ipv4Addr::LOCALHOST, port))
 }
 
-/// Puts these ports of 127.0.0.1 into endpoints, of which there are as many.
+/// Sets the endpoints to these ports of 127.0.0.1. There are as many endpoints as ports.
 fn put_localhost(ports: &[u16], endpoints: &mut [SocketAddr])
     requires { length endpoints.old ≡ length ports.now }
     ensures { AreLocalhostAt ports.now endpoints.new }

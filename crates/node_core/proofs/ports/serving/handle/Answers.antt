@@ -1,4 +1,0 @@
-use Rattle.node_core.proofs.ports.serving.handle.Goals as goal
-
-pub returns : goal.returns
-returns g c = λ before gives. rw (c.note.ensures.works, c.note.ensures.gives_none, c.note.ensures.takes_none) (c.answer-turn.ensures before gives)
