@@ -12,8 +12,9 @@ use Rattle.forwarder.proofs.LaterMoments.{after_now}
 use Rattle.journal.specs.declared.line.Entry.{Entry}
 use Rattle.journal.specs.Journal.{IsJournalOf, with_event, with_moment}
 use Rattle.journal.specs.Line.{IsEventOf, entry_text}
-use Rattle.journal.specs.Journalled.{brings_wanted, is_journalled_by, is_journalled_where}
-use Rattle.journal.specs.Step.{Steps, added_text, is_journalled_entry}
+use Rattle.forwarder.specs.Wanted.{brings_wanted}
+use Rattle.journal.specs.Journalled.{is_journalled_by, is_journalled_where}
+use Rattle.journal.specs.Appending.{Steps, added_text, is_journalled_entry}
 use Rattle.journal.specs.Text.{IsTextOf}
 use Rattle.journal.proofs.LineTexts.{entry_change, entry_moment, moved_entry}
 use Rattle.journal.proofs.Texts.{texts_join}

@@ -9,3 +9,4 @@ pub mod Verdicts
 pub mod LineTexts
 pub mod JournalSteps
 pub mod FirstRules
+pub mod Replays

@@ -45,7 +45,7 @@ line_once line a b lacks x y =
 pub first_line : (line rest : List ℕ) → ended line ++ rest ≡ line ++ (10 ∷ rest)
 first_line line rest = append_assoc line (10 ∷ []) rest
 
-lines_once : (a b : List (List ℕ)) (r s : List ℕ) → AreLines a → AreLines b → Lacks 10 r → Lacks 10 s → joined a ++ r ≡ joined b ++ s → a ≡ b
+pub lines_once : (a b : List (List ℕ)) (r s : List ℕ) → AreLines a → AreLines b → Lacks 10 r → Lacks 10 s → joined a ++ r ≡ joined b ++ s → a ≡ b
 lines_once [] [] r s x y lr ls e = refl
 lines_once [] (line ∷ b) r s x y lr ls e =
     absurd (Lacks-no_cut 10 line (joined b ++ s) (subst (Lacks 10) (e ∙ append_assoc (ended line) (joined b) s ∙ first_line line (joined b ++ s)) lr))

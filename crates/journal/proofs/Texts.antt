@@ -19,7 +19,7 @@ pub record HasLines (events : List PlainEvent) (text : List ℕ) : Type 0 where
   pub joins : text ≡ joined lines
   pub say : SpellEvents lines events
 
-text_lines : (events : List PlainEvent) (text : List ℕ) → IsTextOf events text → HasLines events text
+pub text_lines : (events : List PlainEvent) (text : List ℕ) → IsTextOf events text → HasLines events text
 text_lines [] text h = record { lines = []; are_lines = tt; joins = h; say = tt }
 text_lines (event ∷ events) text h =
     let l = text_lines events h.1 h.5 in record {

@@ -34,7 +34,8 @@ use Rattle.forwarder.specs.Effects.{decided_packet, packet_to_decide}
 use Rattle.forwarder.specs.Node.{NodeState, IsStep, seen_in}
 use Rattle.forwarder.specs.Runs.{Run, Then, Stands}
 use Rattle.journal.specs.Journal.{IsChosen, IsJournalOf, IsJournalled, is_journalled_as, with_event, with_moment}
-use Rattle.journal.specs.Journalled.{brings_wanted, is_journalled_by, is_wanted_packet}
+use Rattle.forwarder.specs.Wanted.{brings_wanted, is_wanted_packet}
+use Rattle.journal.specs.Journalled.{is_journalled_by}
 
 -- ---- which answers to packets allow nothing
 

@@ -2,4 +2,5 @@ pub mod Journal
 pub mod Line
 pub mod Journalled
 pub mod Text
-pub mod Step
+pub mod Appending
+pub mod Replay

@@ -1,4 +1,4 @@
--- The line of a journalled event, which is written before what the event sends.
+-- The line of a journalled event.
 use Rattle.std.specs.Prelude.{◌≡◌, ◌<◌, ◌^◌, ℕ, List, ◌++◌, codes, Bool, true, false, ⊤}
 use Rattle.std.specs.Fmt.{decimal}
 use Rattle.hmac_keys.specs.KeyFile.{NamedKey}
@@ -12,7 +12,7 @@ use Rattle.node_core.specs.Script.Writing.{hex_word}
 use Rattle.journal.specs.declared.line.Entry.{Entry}
 use Rattle.journal.specs.declared.line.Entry.TheVariants as entry
 
--- the events that an entry is written for: of rules and keys it has the files
+-- The events that an entry is written for. For rules and keys the entry has the files.
 abbrev pub IsEventOf : ℕ → Entry → PlainEvent → Type 0
 IsEventOf now (entry.Packet face octets) event = event ≡ Packet face now octets.now
 IsEventOf now (entry.FaceUp face scope) event = event ≡ FaceUp face scope now
@@ -22,7 +22,7 @@ IsEventOf now (entry.NewRules rules keys) event =
     (r : List PlainRule) × (k : List NamedKey)
     × AreRules rules.now r × AreKeys keys.now k × (event ≡ NewRules r k now)
 
--- its numbers are below 2 ^ 64, and its octets are octets
+-- the entry's numbers are below 2 ^ 64, and its octets are octets
 abbrev pub HasOctets : Entry → Type 0
 HasOctets (entry.Packet face octets) = (face < 2 ^ 64) × AreOctets octets.now
 HasOctets (entry.FaceUp face scope) = face < 2 ^ 64
@@ -30,7 +30,7 @@ HasOctets (entry.FaceDown face) = face < 2 ^ 64
 HasOctets entry.Tick = ⊤
 HasOctets (entry.NewRules rules keys) = AreOctets rules.now × AreOctets keys.now
 
--- its line, with its LF; hexadecimal in lower case
+-- the entry's line with its LF, with hexadecimal in lower case
 abbrev pub entry_text : ℕ → Entry → List ℕ
 entry_text now (entry.Packet face octets) =
     codes "in " ++ (decimal face ++ (codes " " ++ (decimal now ++ (codes " "

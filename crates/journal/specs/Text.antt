@@ -7,21 +7,22 @@ use Rattle.node_core.specs.Script.{ended}
 use Rattle.node_core.specs.Script.Line.{Lacks, IsEventLine}
 use Rattle.journal.specs.Journal.{IsBeginningOf, IsJournalOf, KeepsBeginning}
 
--- one line for each event, and no other
+-- one line for each event, and no other lines
 abbrev pub IsTextOf : List PlainEvent → List ℕ → Type 0
 IsTextOf [] text = text ≡ []
 IsTextOf (event ∷ events) text =
     (line rest : List ℕ) × IsEventLine event line × Lacks 10 line × (text ≡ ended line ++ rest)
     × IsTextOf events rest
 
--- What a crash may leave of a text: whole lines, which are these events, and then less than a line,
--- which says nothing.
+-- What a crash may leave of a text: the whole lines of these events, and then octets without an LF,
+-- which are no event.
 abbrev pub IsCutTextOf : List PlainEvent → List ℕ → Type 0
 IsCutTextOf events text =
     (whole cut : List ℕ) × (text ≡ whole ++ cut) × IsTextOf events whole × Lacks 10 cut
 
--- What is left of the text of a run's journal is whole lines and less than a line. The events of
--- these lines keep a beginning of the run, in which each is whose journal's text is there whole.
+-- What is left of the text of a run's journal is whole lines and then octets without an LF. The
+-- events of these lines are the journal of a beginning of the run, which includes each beginning
+-- whose journal's text is left whole.
 pub record Survives (first : Policy) (past : Run) (left : List ℕ) : Type 0 where
   pub events : List PlainEvent
   pub are_lines : IsCutTextOf events left

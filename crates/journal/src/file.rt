@@ -11,14 +11,13 @@ pub enum FileFault {
     Failed,
 }
 
-/// Where a journal is written: a file that octets are appended to. It holds the octets of key
-/// files, which are secrets.
+/// The file that a journal is appended to. It contains the octets of key files, which are secrets.
 pub trait JournalFile {
-    // The octets of the file that no crash takes, where they are known. Where this is none, as of a
-    // file of the system, no contract says what the file keeps.
+    // The octets of the file that survive a crash, if they are known. If this is none, as for a
+    // file of the system, no contract says what the file has.
     ghost synced: { Self → Option (List ℕ) };
 
-    /// Appends octets, and returns once no crash takes them. Where it fails, a front of them may
+    /// Appends octets, and returns when they survive a crash. If it fails, a beginning of them may
     /// have been appended.
     fn append(&mut self, octets: &[u8]) -> Result<(), FileFault>
         ensures done { OnOk result (Appends (synced self.old) (synced self.new) octets.now) }

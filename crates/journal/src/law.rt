@@ -6,15 +6,16 @@ ghost use Rattle.forwarder.specs.Policy.{Policy, at_moment, with_rules};
 ghost use Rattle.forwarder.specs.Effects.{IsAfter};
 ghost use Rattle.forwarder.specs.Node.{NodeState, IsStep};
 ghost use Rattle.forwarder.specs.Verdict.{Answer, Verdict};
+ghost use Rattle.forwarder.specs.Wanted.{brings_wanted};
 ghost use Rattle.forwarder.specs.Runs.{Run, Then, IsPolicyOf, KeysAreApart, Stands};
 ghost use Rattle.node_core.specs.Script.{IsScriptSoFar};
-ghost use Rattle.journal.specs.Journalled.{brings_wanted, is_journalled_by};
-ghost use Rattle.journal.specs.Step.{Steps};
+ghost use Rattle.journal.specs.Journalled.{is_journalled_by};
+ghost use Rattle.journal.specs.Appending.{Steps};
 ghost use Rattle.journal.specs.Text.{IsCutTextOf, IsTextOf, Survives};
 ghost use Rattle.journal.specs.Journal.{AreOneFrom, IsJournalled, IsJournalOf, KeepsBeginning, events_of, with_event, with_moment};
 
-/// Law: whether an event is journalled follows from the policy before it and the event, and an
-/// event that is not changes nothing but what its moment does.
+/// Law: the event and the policy before it decide whether it is journalled. An event that is not
+/// journalled changes the policy only as its moment does.
 pub fn other_events_bring_their_moments()
     ensures decided { (old : Policy) (event : PlainEvent) (a b : Bool) → AreApart old.keys
         → IsJournalled old event a → IsJournalled old event b → a ≡ b }
@@ -23,8 +24,8 @@ pub fn other_events_bring_their_moments()
         → new ≡ at_moment old (moment event) }
 {}
 
-/// Law: whether a step journals its event is read off its verdict and, for a Data, off whether the
-/// repository wants it at that moment.
+/// Law: whether a step journals its event depends only on its verdict and, for a Data, on whether
+/// the repository wants it at that moment.
 pub fn verdicts_say_what_is_journalled()
     ensures { (old new : NodeState) (event : PlainEvent) (answer : Answer)
         → IsStep old event answer new → let p = at_moment old.policy (moment event) in
@@ -32,8 +33,8 @@ pub fn verdicts_say_what_is_journalled()
         (is_journalled_by event (brings_wanted p event) answer.verdict) }
 {}
 
-/// Law: where a node stands in a run, a step goes on with the run's journal and its text: with the
-/// event and its line where it is journalled, and with nothing else.
+/// Law: if the node agrees with a run, a step extends the run's journal by its event, and the text
+/// by the event's line, if the event is journalled, and by nothing otherwise.
 pub fn journals_grow_by_steps()
     ensures journal { (first : Policy) (past : Run) (old new : NodeState) (event : PlainEvent)
         (answer : Answer) (journal : List PlainEvent) → Stands first past old
@@ -44,7 +45,7 @@ pub fn journals_grow_by_steps()
         (with_moment p.now event) journal) }
     ensures text { (journal added : List PlainEvent) (text more : List ℕ) → IsTextOf journal text
         → IsTextOf added more → IsTextOf (journal ++ added) (text ++ more) }
-    // So what `Journal::step` adds to the text of a run's journal makes it that of the longer run.
+    // So the text of a run's journal and what a step adds are the text of the longer run's journal.
     ensures both { (first : Policy) (past : Run) (old new : NodeState) (event : PlainEvent)
         (verdict : Verdict) (sends : List Send) (journal : List PlainEvent) (text added : List ℕ)
         → Stands first past old → IsJournalOf first past journal → IsTextOf journal text
@@ -56,7 +57,8 @@ pub fn journals_grow_by_steps()
         × IsTextOf longer (text ++ added) }
 {}
 
-/// Law: a run leaves one journal.
+/// Law: a run that has a policy has a journal, and only one if the keys of each of its key books
+/// have different names.
 pub fn journals_are_one()
     ensures some { (first p : Policy) (past : Run) → IsPolicyOf first past p
         → (journal : List PlainEvent) × IsJournalOf first past journal }
@@ -64,9 +66,9 @@ pub fn journals_are_one()
         → IsJournalOf first past a → IsJournalOf first past b → a ≡ b }
 {}
 
-/// Law: the events of a run's journal, handled anew from the first policy on, leave the policy of
-/// the run, but for a moment that the next event brings. They leave the same journal, so that a run
-/// may go on from there.
+/// Law: replaying the events of a run's journal from the first policy gives the policy of the run
+/// from its last moment on. The replayed run has the same journal, so the run can be continued from
+/// there.
 pub fn journals_keep_policy()
     ensures policy { (first p q : Policy) (past again : Run) (journal : List PlainEvent)
         → KeysAreApart first past → IsPolicyOf first past p → IsJournalOf first past journal
@@ -78,30 +80,30 @@ pub fn journals_keep_policy()
     ensures some { (first p : Policy) (past again : Run) (journal : List PlainEvent)
         → KeysAreApart first past → IsPolicyOf first past p → IsJournalOf first past journal
         → events_of again ≡ journal → (q : Policy) × IsPolicyOf first again q }
-    // The next event that comes at no earlier moment has the same effect.
+    // The next event, if its moment is not earlier, has the same effect.
     ensures next { (p q r : Policy) (event : PlainEvent) → AreOneFrom p.now q p
         → p.now ≤ moment event → IsAfter p event r → IsAfter q event r }
 {}
 
-/// Law: where the first event brings rules and keys, it makes no difference which ones there were
-/// before. So a journal that begins with its rules is replayed alike whatever rules and keys a node
-/// is made of. The repository's prefix has to be the same.
+/// Law: if the first event brings rules and keys, the ones before it make no difference. So the
+/// replay of a journal that begins with new rules does not depend on the rules and keys that the
+/// node was made with. The repository's prefix has to be the same.
 pub fn rules_at_the_start_are_the_first()
     ensures { (first q : Policy) (r rules : List PlainRule) (k keys : List NamedKey) (now : ℕ)
         (again : Run) (rest : List PlainEvent) → events_of again ≡ NewRules rules keys now ∷ rest
         → IsPolicyOf (with_rules first r k) again q → IsPolicyOf first again q }
 {}
 
-/// Law: the first events of a run's journal, which a crash leaves, are the journal of a beginning
-/// of the run, and lead to its policy. What had been written whole is in it.
+/// Law: the first events of a run's journal, as a crash leaves them, are the journal of a beginning
+/// of the run, and lead to its policy. Each beginning whose journal was written whole is in it.
 pub fn crashes_leave_a_beginning()
     ensures { (first p : Policy) (past : Run) (journal left lost : List PlainEvent)
         → KeysAreApart first past → IsPolicyOf first past p → IsJournalOf first past journal
         → journal ≡ left ++ lost → KeepsBeginning first past left }
 {}
 
-/// Law: what may be left of a journal's text has one reading, and it is that of its whole lines as
-/// a script.
+/// Law: what a crash may leave of a journal's text has one reading: that of its whole lines as a
+/// script.
 pub fn journal_texts_have_one_reading()
     ensures script { (text : List ℕ) (events : List PlainEvent) → IsCutTextOf events text
         → IsScriptSoFar text events }
@@ -109,9 +111,9 @@ pub fn journal_texts_have_one_reading()
         → IsScriptSoFar text b → a ≡ b }
 {}
 
-/// Law: whatever beginning a crash leaves of the text of a run's journal, its whole lines keep a
-/// beginning of the run. What a crash leaves of a file whose `synced` is none, as of a file of the
-/// system, no contract says.
+/// Law: the whole lines of any beginning of the text of a run's journal are the journal of a
+/// beginning of the run. What a crash leaves of a file whose `synced` is none, as a file of the
+/// system, is not specified.
 pub fn journals_survive_crashes()
     ensures { (first p : Policy) (past : Run) (journal : List PlainEvent) (text left lost : List ℕ)
         → KeysAreApart first past → IsPolicyOf first past p → IsJournalOf first past journal

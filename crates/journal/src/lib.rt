@@ -1,11 +1,13 @@
-//! The journal of a node: what it has to write down to be the same after a restart.
+//! The journal of a node: the events it stores so that it has the same policy after a restart.
 #![tactic(auto)]
 
+mod append;
 mod file;
 mod law;
 mod line;
-mod step;
+mod replaying;
 
+pub use append::{AppendFault, Coming, append_event};
 pub use file::{FileFault, JournalFile};
 pub use law::{
     crashes_leave_a_beginning, journal_texts_have_one_reading, journals_are_one,
@@ -14,7 +16,7 @@ pub use law::{
     verdicts_say_what_is_journalled,
 };
 pub use line::{Entry, LineFault, line_of};
-pub use step::{Coming, Journal, StepFault};
+pub use replaying::{ReplayFault, Replayed, replay};
 
 #[cfg(test)]
 mod tests;

@@ -14,10 +14,10 @@ use thiserror::Error;
 /// The longest line, in octets and with the LF at its end.
 const LONGEST_LINE: usize = 20_001;
 
-/// What a line says of an event, beside its moment.
+/// What a line states of an event, besides its moment.
 #[derive(Clone, Copy)]
 pub enum Entry<'a> {
-    /// Octets came on a face.
+    /// Octets arrived on a face.
     Packet { face: u64, octets: &'a [u8] },
     /// A face was opened.
     FaceUp { face: u64, scope: Scope },
@@ -25,22 +25,22 @@ pub enum Entry<'a> {
     FaceDown { face: u64 },
     /// Time passed.
     Tick,
-    /// The octets of a rule file and of a key file, which take the place of those in force. Keys
-    /// are secrets, and their line holds them.
+    /// The octets of a rule file and of a key file, which replace those in force. The keys are
+    /// secrets, and their line contains them.
     NewRules { rules: &'a [u8], keys: &'a [u8] },
 }
 
 /// Why an entry has no line.
 #[derive(Clone, Copy, Debug, PartialEq, Eq, Error)]
 pub enum LineFault {
-    /// It would have more than 20,000 octets, without its LF.
+    /// The line would have more than 20,000 octets, without its LF.
     #[error("a line of the journal would be too long")]
     TooLong,
     #[error("no memory for the line of the journal")]
     Memory,
 }
 
-/// The line of a journal for an entry of this moment, with its LF.
+/// The line of a journal for an entry at this moment, with its LF.
 pub fn line_of(alloc: Global, now: u64, entry: &Entry<'_>) -> Result<String, LineFault>
     ensures text { IfOk result (λ line. string_bytes line ≡ entry_text now entry.now) }
     // It is a line of a script, of the event at this moment.

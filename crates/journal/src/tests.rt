@@ -1,12 +1,16 @@
-//! The lines of a journal, as `docs/SCRIPTS.md` has those of a script, and steps that write them.
+//! The lines of a journal, in the format of `docs/SCRIPTS.md`, and what is appended and replayed.
 ghost use Rattle.std.specs.Prelude.{None};
 
-use crate::{Coming, Entry, FileFault, Journal, JournalFile, line_of};
-use forwarder::{Event, Node, NodeParts, Outbox, Scope, Verdict};
+use crate::{
+    Coming, Entry, FileFault, JournalFile, ReplayFault, Replayed, append_event, line_of, replay,
+};
+use forwarder::{DropReason, Node, NodeParts, Scope, Verdict};
 use hmac_keys::KeyBook;
 use info_rules::{InfoTree, Rules};
 use ndn_names::NameBuf;
 use std::alloc::Global;
+use std::io;
+use std::io::{BufReader, ErrorKind, Read};
 
 /// Whether this is the line of an entry at the moment 1000.
 fn is_line(alloc: Global, entry: &Entry<'_>, line: &str) -> bool {
@@ -45,7 +49,7 @@ fn lines_of_octets(rt: HostRuntime) {
     assert!(rt; is_line(rt.alloc(), &rules, "rules 1000 - 2f412036620a\n"));
 }
 
-/// Whether new rules of so many octets have a line.
+/// Whether new rules with this number of octets have a line.
 fn has_line(alloc: Global, len: usize) -> Option<bool> {
     let rules = vec![in alloc; b';'; len].ok()?;
     let entry = Entry::NewRules {
@@ -55,7 +59,8 @@ fn has_line(alloc: Global, len: usize) -> Option<bool> {
     Some(line_of(alloc, 1000, &entry).is_ok())
 }
 
-/// A line of a script has at most 20,000 octets: `rules 1000 `, the octets in hexadecimal, and ` -`.
+/// A line of a script has at most 20,000 octets: `rules 1000 `, the octets in hexadecimal, and
+/// ` -`.
 #[test]
 fn longest_lines(rt: HostRuntime) {
     assert!(rt; has_line(rt.alloc(), 9_993) == Some(true));
@@ -89,69 +94,153 @@ fn parts(alloc: Global) -> Option<NodeParts> {
     })
 }
 
-/// What a file has after a face opened, where that passed.
-fn file_of_an_opening(alloc: Global) -> Option<MemoryFile> {
-    let mut node = Node::new(alloc, parts(alloc)?).ok()?;
-    let mut journal = Journal {
-        file: MemoryFile {
-            octets: Vec::new(alloc),
-        },
-        time: 0,
+/// The file after an event with this verdict was appended at the moment 1000.
+fn file_after(alloc: Global, entry: Entry<'_>, verdict: Verdict) -> Option<MemoryFile> {
+    let mut file = MemoryFile {
+        octets: Vec::new(alloc),
     };
     let coming = Coming {
-        moment: 1000,
-        entry: Entry::FaceUp {
-            face: 1,
-            scope: Scope::Local,
-        },
+        entry,
         is_wanted: false,
     };
-    let event = Event::FaceUp {
-        face: 1,
-        scope: Scope::Local,
-        now: 1000,
-    };
-    let verdict = journal.step(alloc, &mut node, event, &coming, &mut Outbox::new(alloc));
-    if verdict == Ok(Verdict::Passed) {
-        Some(journal.file)
-    } else {
-        None
-    }
+    append_event(alloc, &mut file, 1000, &coming, &verdict).ok()?;
+    Some(file)
 }
 
-/// A face that opens is in the journal of a node.
+/// Whether the file then has these octets.
+fn appends(alloc: Global, entry: Entry<'_>, verdict: Verdict, octets: &[u8]) -> bool {
+    file_after(alloc, entry, verdict).is_some_and(|file| file.octets.as_slice() == octets)
+}
+
+/// A face that opens is in the journal, and one that the node refuses to open is not.
 #[test]
 fn journal_of_an_opening(rt: HostRuntime) {
-    let file = file_of_an_opening(rt.alloc());
-    assert!(rt; file.is_some_and(|file| file.octets.as_slice() == b"up 1 local 1000\n".as_slice()));
+    let opens = Entry::FaceUp {
+        face: 1,
+        scope: Scope::Local,
+    };
+    assert!(rt; appends(rt.alloc(), opens, Verdict::Passed, b"up 1 local 1000\n"));
+    let dropped = Verdict::Dropped(DropReason::FaceOpen);
+    assert!(rt; appends(rt.alloc(), opens, dropped, b""));
 }
 
-/// What a file has after a moment that the node passed.
-fn file_of_a_tick(alloc: Global) -> Option<MemoryFile> {
+/// A tick is not in the journal.
+#[test]
+fn journal_of_a_moment(rt: HostRuntime) {
+    assert!(rt; appends(rt.alloc(), Entry::Tick, Verdict::Passed, b""));
+}
+
+/// A new node that a text was replayed to, and the result of the replay.
+fn replayed(alloc: Global, text: &[u8]) -> Option<(Node, Result<Replayed, ReplayFault>)> {
     let mut node = Node::new(alloc, parts(alloc)?).ok()?;
-    let mut journal = Journal {
-        file: MemoryFile {
-            octets: Vec::new(alloc),
-        },
-        time: 0,
+    let mut reader = text;
+    let end = replay(alloc, &mut node, &mut reader);
+    Some((node, end))
+}
+
+const SOME_EVENTS: &[u8] = b"rules 900 - -
+up 1 local 1000
+up 2 far 1001
+in 2 1002 050b07030801410a0401020304
+down 2 1003
+";
+
+/// Whether the whole lines of a text, each of which is an event, are replayed.
+fn replays_whole_lines(alloc: Global, text: &[u8]) -> bool {
+    let events = text.iter().filter(|octet| **octet == b'\n').count();
+    let whole = text
+        .iter()
+        .rposition(|octet| *octet == b'\n')
+        .map_or(0, |at| at + 1);
+    let wanted = Replayed {
+        events: events as u64,
+        whole: whole as u64,
+        cut: (text.len() - whole) as u64,
     };
-    let coming = Coming {
-        moment: 1000,
-        entry: Entry::Tick,
-        is_wanted: false,
-    };
-    let event = Event::Tick { now: 1000 };
-    let verdict = journal.step(alloc, &mut node, event, &coming, &mut Outbox::new(alloc));
-    if verdict == Ok(Verdict::Passed) && journal.time == 1000 {
-        Some(journal.file)
-    } else {
-        None
+    replayed(alloc, text).is_some_and(|(_, end)| end == Ok(wanted))
+}
+
+/// A crash may cut a journal anywhere.
+#[test]
+fn fronts_of_a_journal(rt: HostRuntime) {
+    for len in 0..SOME_EVENTS.len() + 1 {
+        assert!(rt;
+            replays_whole_lines(rt.alloc(), &SOME_EVENTS[..len]),
+            "the first {len} octets"
+        );
     }
 }
 
-/// A moment is not.
+/// The time and the open faces of the node that a text was replayed to.
+fn time_and_faces(alloc: Global, text: &[u8]) -> Option<(u64, Option<u64>, Option<u64>)> {
+    let (node, end) = replayed(alloc, text)?;
+    let first = node.open_face(0).map(|(face, _)| face);
+    let second = node.open_face(1).map(|(face, _)| face);
+    end.is_ok().then_some((node.now(), first, second))
+}
+
+/// A line that was cut may read as another one, so it is not handed on.
 #[test]
-fn journal_of_a_moment(rt: HostRuntime) {
-    let file = file_of_a_tick(rt.alloc());
-    assert!(rt; file.is_some_and(|file| file.octets.is_empty()));
+fn lines_that_were_cut(rt: HostRuntime) {
+    let text = b"up 1 local 1000\nup 22 far 1001\ntick 1700\n";
+    let all = Some((1700, Some(1), Some(22)));
+    assert!(rt; time_and_faces(rt.alloc(), text) == all);
+    let last = Some((1001, Some(1), Some(22)));
+    assert!(rt; time_and_faces(rt.alloc(), &text[..text.len() - 3]) == last);
+    let first = Some((1000, Some(1), None));
+    assert!(rt; time_and_faces(rt.alloc(), b"up 1 local 1000\nup 22 far 1001") == first);
+}
+
+/// How a replay of a text ended.
+fn end_of(alloc: Global, text: &[u8]) -> Option<Result<Replayed, ReplayFault>> {
+    Some(replayed(alloc, text)?.1)
+}
+
+#[test]
+fn bad_lines(rt: HostRuntime) {
+    let bad = Some(Err(ReplayFault::BadLine(3)));
+    assert!(rt; end_of(rt.alloc(), b"tick 1\n# 2\ntick 03\ntick 4\n") == bad);
+    let cut = Some(Ok(Replayed {
+        events: 1,
+        whole: 11,
+        cut: 7,
+    }));
+    assert!(rt; end_of(rt.alloc(), b"tick 1\n# 2\ntick 03") == cut);
+}
+
+/// A reader that gives octets once, and then fails.
+#[derive(Drop)]
+struct Failing<'a> {
+    octets: &'a [u8],
+    kind: ErrorKind,
+}
+
+impl Read for Failing<'_> {
+    fn read(&mut self, buf: &mut [u8]) -> io::Result<usize> {
+        if self.octets.is_empty() {
+            return Err(io::Error::from(self.kind));
+        }
+        let count = self.octets.len().min(buf.len());
+        let (front, rest) = self.octets.split_at(count);
+        buf[..count].copy_from_slice(front);
+        self.octets = rest;
+        Ok(count)
+    }
+}
+
+/// The time of a node after a replay from a reader that fails after these octets, and the fault.
+fn fails_after(alloc: Global, octets: &[u8], kind: ErrorKind) -> Option<(u64, ReplayFault)> {
+    let mut node = Node::new(alloc, parts(alloc)?).ok()?;
+    let mut reader = BufReader::new(alloc, Failing { octets, kind }).ok()?;
+    let fault = replay(alloc, &mut node, &mut reader).err()?;
+    Some((node.now(), fault))
+}
+
+/// The lines before the failure are handled, and no others.
+#[test]
+fn a_reader_that_fails(rt: HostRuntime) {
+    let text = b"tick 17\ntick 1700";
+    assert!(rt; fails_after(rt.alloc(), text, ErrorKind::Other) == Some((17, ReplayFault::Read)));
+    let memory = Some((17, ReplayFault::Memory));
+    assert!(rt; fails_after(rt.alloc(), text, ErrorKind::OutOfMemory) == memory);
 }

@@ -1,0 +1,59 @@
+-- What an event appends to the journal.
+use Rattle.std.specs.Prelude.{◌≡◌, ◌⊎◌, ℕ, List, [], ◌∷◌, ◌++◌, Bool, true, false, Option, None, Some, max, ⊤}
+use Rattle.forwarder.specs.Event.{PlainEvent, Send, moment}
+use Rattle.forwarder.specs.Node.{NodeState, IsStep}
+use Rattle.forwarder.specs.Verdict.{Verdict}
+use Rattle.journal.specs.declared.append.Coming.{Coming}
+use Rattle.journal.specs.declared.line.Entry.{Entry}
+use Rattle.journal.specs.Journal.{with_event, with_moment}
+use Rattle.journal.specs.Line.{IsEventOf, entry_text, is_change_entry}
+use Rattle.journal.specs.Journalled.{is_journalled_by, is_journalled_where}
+use Rattle.journal.specs.Text.{IsTextOf}
+
+-- The node answered an event, and this text was appended to the journal: a line of the event at
+-- the greatest moment so far if it is journalled, otherwise nothing.
+pub record Steps (old : NodeState) (event : PlainEvent) (wanted : Bool) (verdict : Verdict)
+    (sends : List Send) (new : NodeState) (added : List ℕ) : Type 0 where
+  pub step : IsStep old event (record { verdict = verdict; sends = sends }) new
+  pub text : IsTextOf
+      (with_event (is_journalled_by event wanted verdict)
+      (with_moment (max old.policy.now (moment event)) event) [])
+      added
+
+-- whether an event is journalled, by its entry
+abbrev pub is_journalled_entry : Entry → Bool → Verdict → Bool
+is_journalled_entry e wanted verdict = is_journalled_where (is_change_entry e) wanted verdict
+
+-- the line of an entry, or nothing
+abbrev pub added_text : Bool → ℕ → Entry → List ℕ
+added_text true now e = entry_text now e
+added_text false now e = []
+
+-- the entry's line at this time is a line of a script of its event
+abbrev pub IsLineAt : ℕ → Entry → Type 0
+IsLineAt time e =
+    (event : PlainEvent) → IsEventOf time e event → IsTextOf (event ∷ []) (entry_text time e)
+
+-- Exactly the line of an event was appended if it is journalled, otherwise nothing. If the content
+-- of the journal is not known, nothing is claimed.
+abbrev pub Journals : Option (List ℕ) → Option (List ℕ) → ℕ → Coming → Verdict → Type 0
+Journals None new time coming verdict = ⊤
+Journals (Some text) new time coming verdict =
+    let chosen = is_journalled_entry coming.entry coming.is_wanted verdict in
+    (new ≡ Some (text ++ added_text chosen time coming.entry))
+    × (chosen ≡ true → IsLineAt time coming.entry)
+
+-- A beginning of the entry's line was written, perhaps all of it.
+pub record CutsLine (text : List ℕ) (new : Option (List ℕ)) (time : ℕ) (e : Entry) : Type 0 where
+  pub front : List ℕ
+  pub back : List ℕ
+  pub is_line : IsLineAt time e
+  pub parts : entry_text time e ≡ front ++ back
+  pub grown : new ≡ Some (text ++ front)
+
+-- The event is journalled, and nothing was written, or a beginning of its line.
+abbrev pub FailsToJournal : Option (List ℕ) → Option (List ℕ) → ℕ → Coming → Verdict → Type 0
+FailsToJournal None new time coming verdict = ⊤
+FailsToJournal (Some text) new time coming verdict =
+    (is_journalled_entry coming.entry coming.is_wanted verdict ≡ true)
+    × ((new ≡ Some text) ⊎ CutsLine text new time coming.entry)

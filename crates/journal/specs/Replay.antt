@@ -1,0 +1,102 @@
+-- What the replay of a journal's text does, and what it restores.
+use Rattle.std.specs.Prelude.{◌≡◌, ℕ, ◌+◌, Bool, true, false, Option, Some, IfSome, List, [], ◌∷◌, ◌++◌, length, map, take, ⊤}
+use Rattle.std.specs.Io.KnownBytes.{Consumes}
+use Rattle.forwarder.specs.Event.{PlainEvent}
+use Rattle.forwarder.specs.Node.{NodeState, ChangesCacheOnly}
+use Rattle.forwarder.specs.Policy.{Policy}
+use Rattle.forwarder.specs.Runs.{Run, Start, IsPolicyOf, IsRun, KeysAreApart, Stands}
+use Rattle.forwarder.specs.Verdict.{Answer}
+use Rattle.node_core.specs.Outcomes.{ExtendsRuns, Outcome, Answered, AreOutcomes}
+use Rattle.node_core.specs.Script.{AreLines, SpellEvents, ended, joined}
+use Rattle.node_core.specs.Script.Line.{Lacks, IsBadLine}
+use Rattle.journal.specs.declared.replaying.Replayed.{Replayed}
+use Rattle.journal.specs.declared.replaying.ReplayFault.{ReplayFault}
+use Rattle.journal.specs.declared.replaying.ReplayFault.TheVariants as fault
+use Rattle.journal.specs.Journal.{AreOneFrom, IsJournalOf}
+use Rattle.journal.specs.Text.{IsTextOf, Survives}
+
+-- The events of these lines were answered in order, and led from the old node to the new one. If
+-- the old node agrees with a run so far, appending them gives a valid run, and the new node agrees
+-- with that.
+pub record Plays (lines : List (List ℕ)) (events : List PlainEvent)
+    (old new : NodeState) : Type 0 where
+  pub are_lines : AreLines lines
+  pub say : SpellEvents lines events
+  pub answers : List Answer
+  pub handled : AreOutcomes old events (map Answered answers) new
+  pub goes_on : ExtendsRuns old events (map Answered answers) new
+
+-- Everything was read: whole lines, whose events were answered, and then octets without an LF,
+-- which were not handed on. A reader whose octets are known had these, and has no more.
+pub record Replays (old new : NodeState) (unread left : Option (List ℕ))
+    (done : Replayed) : Type 0 where
+  pub lines : List (List ℕ)
+  pub events : List PlainEvent
+  pub cut : List ℕ
+  pub plays : Plays lines events old new
+  pub lacks : Lacks 10 cut
+  pub had : IfSome unread (λ text. (text ≡ joined lines ++ cut) × (left ≡ Some []))
+  pub events_is : done.events ≡ length events
+  pub whole_is : done.whole ≡ length (joined lines)
+  pub cut_is : done.cut ≡ length cut
+
+-- The events of the lines before were answered. Then a line, counted from 1, was bad; or the reader
+-- failed; or memory ran out for a line or for the step of its event. Such a step may have dropped
+-- Data from the cache.
+abbrev pub StopsReplay : NodeState → NodeState → Option (List ℕ) → Option (List ℕ) → ReplayFault
+    → Type 0
+StopsReplay old new unread left (fault.BadLine n) =
+    (lines : List (List ℕ)) × (events : List PlainEvent) × (line : List ℕ)
+    × Plays lines events old new × Consumes unread left (joined lines ++ ended line)
+    × Lacks 10 line × IsBadLine line × (n ≡ length lines + 1)
+StopsReplay old new unread left fault.Read =
+    (lines : List (List ℕ)) × (events : List PlainEvent) × (rest : List ℕ)
+    × Plays lines events old new × Consumes unread left (joined lines ++ rest)
+StopsReplay old new unread left fault.Memory =
+    (lines : List (List ℕ)) × (events : List PlainEvent) × (rest : List ℕ) × (last : NodeState)
+    × Plays lines events old last × ChangesCacheOnly last new
+    × Consumes unread left (joined lines ++ rest)
+
+-- What a replay restores of a run, if a crash left this of the text of the run's journal: the
+-- policy of a beginning of the run, which includes each beginning whose journal's text is left
+-- whole. From the last moment of that beginning on, the node has its policy. The node agrees with a
+-- run whose journal has the whole lines as its text, so lines appended after them extend it.
+pub record Restores (first : Policy) (past : Run) (left : List ℕ) (done : Replayed)
+    (new : NodeState) : Type 0 where
+  pub survives : Survives first past left
+  pub has_policy : AreOneFrom survives.keeps.policy.now new.policy survives.keeps.policy
+  pub again : Run
+  pub is_run : IsRun first again
+  pub stands : Stands first again new
+  pub keys : KeysAreApart first again
+  pub is_journal : IsJournalOf first again survives.events
+  pub is_text : IsTextOf survives.events (take done.whole left)
+
+-- This holds for each run, if the node that replays its journal has the run's first policy and has
+-- handled nothing yet.
+abbrev pub RestoresRuns : NodeState → NodeState → List ℕ → Replayed → Type 0
+RestoresRuns old new left done =
+    (first p : Policy) (past : Run) (journal : List PlainEvent) (text lost : List ℕ)
+    → first.now ≡ 0 → Stands first Start old → KeysAreApart first past → IsPolicyOf first past p
+    → IsJournalOf first past journal → IsTextOf journal text → text ≡ left ++ lost
+    → Restores first past left done new
+
+-- ---- one line
+
+-- a line was handed to a node, and has one event, or none
+abbrev pub PlaysLine : List ℕ → NodeState → NodeState → Bool → Type 0
+PlaysLine line old new true = (event : PlainEvent) × Plays (line ∷ []) (event ∷ []) old new
+PlaysLine line old new false = Plays (line ∷ []) [] old new
+
+-- why a line was not handed to a node
+abbrev pub StopsLine : List ℕ → ℕ → NodeState → NodeState → ReplayFault → Type 0
+StopsLine line number old new (fault.BadLine n) =
+    IsBadLine line × (n ≡ number) × (new ≡ old)
+StopsLine line number old new fault.Read = ⊥
+StopsLine line number old new fault.Memory = ChangesCacheOnly old new
+
+-- the fault of a read
+abbrev pub IsReadFault : ReplayFault → Type 0
+IsReadFault (fault.BadLine n) = ⊥
+IsReadFault fault.Read = ⊤
+IsReadFault fault.Memory = ⊤

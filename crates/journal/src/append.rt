@@ -1,0 +1,88 @@
+ghost use Rattle.std.specs.Prelude.{◌≡◌, IfErr, IsOk, OnErr, OnOk, false};
+ghost use Rattle.forwarder.specs.Verdict.{verdict_of};
+ghost use Rattle.journal.specs.Appending.{FailsToJournal, IsLineAt, Journals, is_journalled_entry};
+ghost use Rattle.journal.specs.Line.{entry_text, is_change_entry};
+
+use crate::file::JournalFile;
+use crate::line::{Entry, LineFault, line_of};
+use forwarder::Verdict;
+use std::alloc::Global;
+use thiserror::Error;
+
+/// What is needed to journal an event.
+#[derive(Clone, Copy)]
+pub struct Coming<'a> {
+    /// The entry of its line.
+    pub entry: Entry<'a>,
+    /// Whether it brings a Data that the repository wants at its moment.
+    pub is_wanted: bool,
+}
+
+/// Why an event is not in the journal.
+#[derive(Clone, Copy, Debug, PartialEq, Eq, Error)]
+pub enum AppendFault {
+    /// No line could be made for the event. Nothing was written.
+    #[error("{0}")]
+    Line(LineFault),
+    /// The file failed. A beginning of the line may have been written.
+    #[error("the journal cannot be written")]
+    File,
+}
+
+/// Appends the line of an event with this verdict, if the event is journalled, and returns when the
+/// line survives a crash. The time is the greatest moment so far, in milliseconds since 1970.
+pub fn append_event<F: JournalFile>(
+    alloc: Global,
+    file: &mut F,
+    time: u64,
+    coming: &Coming<'_>,
+    verdict: &Verdict,
+) -> Result<(), AppendFault>
+    ensures done { OnOk result (Journals (F.synced file.old) (F.synced file.new) time
+        coming.now (verdict_of verdict.now)) }
+    ensures failed { OnErr result (FailsToJournal (F.synced file.old) (F.synced file.new) time
+        coming.now (verdict_of verdict.now)) }
+    // If the event is not journalled, nothing is written, and nothing fails.
+    ensures silent { is_journalled_entry coming.now.entry coming.now.is_wanted
+        (verdict_of verdict.now) ≡ false → IsOk result × (file.new ≡ file.old) }
+{
+    if !is_journalled(coming, verdict) {
+        return Ok(());
+    }
+    let line = match line_of(alloc, time, &coming.entry) {
+        Ok(line) => line,
+        Err(fault) => return Err(AppendFault::Line(fault)),
+    };
+    match file.append(line.as_bytes()) {
+        Ok(()) => Ok(()),
+        Err(_) => Err(AppendFault::File),
+    }
+}
+
+/// Whether an event with this verdict is journalled.
+fn is_journalled(coming: &Coming<'_>, verdict: &Verdict) -> bool
+    ensures { result
+        ≡ is_journalled_entry coming.now.entry coming.now.is_wanted (verdict_of verdict.now) }
+{
+    match verdict {
+        Verdict::Passed => is_change(&coming.entry),
+        Verdict::Allowed(..) => true,
+        Verdict::DataAllowed(_) => coming.is_wanted,
+        Verdict::Denied(..) => false,
+        Verdict::NoRule(_) => false,
+        Verdict::Dropped(_) => false,
+    }
+}
+
+/// Whether the entry is of an event that changes faces or rules.
+fn is_change(entry: &Entry<'_>) -> bool
+    ensures { result ≡ is_change_entry entry.now }
+{
+    match entry {
+        Entry::Packet { .. } => false,
+        Entry::Tick => false,
+        Entry::FaceUp { .. } => true,
+        Entry::FaceDown { .. } => true,
+        Entry::NewRules { .. } => true,
+    }
+}
