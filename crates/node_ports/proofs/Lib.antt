@@ -1,0 +1,5 @@
+pub mod Turns
+pub mod Meeting
+pub mod Heard
+pub mod Silent
+pub mod Strangers

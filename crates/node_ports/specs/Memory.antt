@@ -1,0 +1,21 @@
+-- A port in memory.
+use Rattle.std.specs.Prelude.{ℕ, List}
+use Rattle.forwarder.specs.Event.{PlainEvent, Packet, FaceUp, FaceDown, Tick, NewRules, Send}
+use Rattle.node_ports.specs.declared.memory.OwnedArrival.{OwnedArrival}
+use Rattle.node_ports.specs.declared.memory.OwnedArrival.TheVariants as owned
+
+abbrev pub plain_arrival : OwnedArrival → PlainEvent
+plain_arrival (owned.Packet face now octets) = Packet face now octets.items
+plain_arrival (owned.FaceUp face scope now) = FaceUp face scope now
+plain_arrival (owned.FaceDown face now) = FaceDown face now
+plain_arrival (owned.Tick now) = Tick now
+plain_arrival (owned.NewRules renewal now) = NewRules renewal.rules renewal.keys now
+
+-- the events still to come, the packets that were taken, the number of failed calls, and which call
+-- of each kind is told to fail, counted from 1, or 0 for none
+pub record MemoryState : Type 0 where
+  pub events : List PlainEvent
+  pub sent : List Send
+  pub failed : ℕ
+  pub next_told : ℕ
+  pub send_told : ℕ

@@ -1,0 +1,140 @@
+ghost use Rattle.std.specs.Prelude.{◌≡◌, ℕ, List, [], ◌∷◌, Option, None, false, length, min, take, IfOk, IfSome, OnOk, OnErr};
+ghost use Rattle.forwarder.specs.Event.{PlainEvent, Send};
+ghost use Rattle.forwarder.specs.Verdict.{verdict_of};
+ghost use Rattle.journal.specs.Appending.{FailsToJournal, Journals};
+ghost use Rattle.node_ports.specs.Ports.{Gives, LiesWithin, Takes, arrived, one_more};
+
+use crate::renewal::Renewal;
+use crate::serving::Turn;
+use forwarder::{Scope, Verdict};
+use info_rules::Rules;
+use journal::Coming;
+use ndn_packets::MAX_FRAME;
+use thiserror::Error;
+
+/// How many octets of a packet or datagram are read: one more than a node accepts, so that the node
+/// drops a longer packet as too long.
+pub const FRAME_ROOM: usize = MAX_FRAME + 1;
+
+/// Law: this is one octet more than the 9,000 of the longest packet that a node accepts.
+pub fn frame_room_is_as_promised()
+    ensures { FRAME_ROOM ≡ 9001 }
+{}
+
+/// What a port gives for one turn. Moments are milliseconds since 1970.
+#[derive(Drop)]
+pub enum Arrival {
+    /// Nothing more will come.
+    End,
+    /// Octets arrived on a face: the first `len` of the buffer.
+    Packet { face: u64, now: u64, len: usize },
+    /// A face was opened.
+    FaceUp { face: u64, scope: Scope, now: u64 },
+    /// A face was closed.
+    FaceDown { face: u64, now: u64 },
+    /// Time passed.
+    Tick { now: u64 },
+    /// These rules and keys replace those in force, for what arrives after them.
+    NewRules { renewal: Renewal, now: u64 },
+}
+
+/// A port failed.
+#[derive(Clone, Copy, Debug, PartialEq, Eq, Error)]
+pub enum PortFault {
+    #[error("the port failed")]
+    Failed,
+}
+
+/// Where arrivals come from and packets are sent. A port counts its failed calls: a `next` or
+/// `send` fails only if the count rises, or is the greatest u64.
+pub trait Ports {
+    // The number of failed calls, up to the greatest u64.
+    ghost failures: { Self → ℕ };
+
+    // The events still to come, if the port knows them.
+    ghost coming: { Self → Option (List PlainEvent) };
+
+    // The packets that were taken, if the port stores them.
+    ghost taken: { Self → Option (List Send) };
+
+    // The octets of the journal that survive a crash, if the port has one and knows them.
+    ghost journal: { Self → Option (List ℕ) };
+
+    /// Gives the next arrival, and the octets of a packet at the front of the buffer. A longer
+    /// packet is cut to the buffer.
+    fn next(&mut self, buffer: &mut [u8]) -> Result<Arrival, PortFault>
+        ensures fits { IfOk result (LiesWithin (length buffer.new)) }
+        ensures gives { IfOk result (λ arrival. Gives (coming self.old) (coming self.new)
+            (length buffer.new) (arrived arrival buffer.new)) }
+        ensures takes_none { taken self.new ≡ taken self.old }
+        ensures journals_none { journal self.new ≡ journal self.old }
+        ensures works { OnOk result (failures self.new ≡ failures self.old) }
+        // A failed call gives nothing, and is counted.
+        ensures failed { OnErr result ((coming self.new ≡ coming self.old)
+            × (failures self.new ≡ one_more (failures self.old))) };
+
+    /// As `next`, if something arrives at once or within some milliseconds; otherwise nothing is
+    /// given. A port that cannot wait for so short a time may return none.
+    fn next_soon(&mut self, _buffer: &mut [u8]) -> Option<Arrival>
+        ensures fits { IfSome result (LiesWithin (length _buffer.new)) }
+        ensures gives { IfSome result (λ arrival. Gives (coming self.old) (coming self.new)
+            (length _buffer.new) (arrived arrival _buffer.new)) }
+        ensures none { result ≡ None → coming self.new ≡ coming self.old }
+        ensures takes_none { taken self.new ≡ taken self.old }
+        ensures journals_none { journal self.new ≡ journal self.old }
+        ensures works { failures self.new ≡ failures self.old }
+    {
+        None
+    }
+
+    /// Whether the port has a journal.
+    fn keeps_journal(&self) -> bool
+        ensures { result ≡ false → journal self.now ≡ None };
+
+    /// Is called with each event that was answered and its verdict, before its packets are sent. A
+    /// port with a journal appends the event's line at the greatest moment so far, if the event is
+    /// journalled, and returns when the line survives a crash.
+    fn commit(&mut self, event: &Coming<'_>, time: u64, verdict: &Verdict) -> Result<(), PortFault>
+        ensures done { OnOk result (Journals (journal self.old) (journal self.new) time
+            event.now (verdict_of verdict.now)) }
+        ensures failed { OnErr result (FailsToJournal (journal self.old) (journal self.new) time
+            event.now (verdict_of verdict.now)) }
+        ensures gives_none { coming self.new ≡ coming self.old }
+        ensures takes_none { taken self.new ≡ taken self.old }
+        ensures works { failures self.new ≡ failures self.old };
+
+    /// Sends octets to a face.
+    fn send(&mut self, face: u64, octets: &[u8]) -> Result<(), PortFault>
+        ensures takes { OnOk result
+            (Takes (taken self.old) (taken self.new) ((face, octets.now) ∷ [])) }
+        ensures gives_none { coming self.new ≡ coming self.old }
+        ensures journals_none { journal self.new ≡ journal self.old }
+        ensures works { OnOk result (failures self.new ≡ failures self.old) }
+        // A failed call takes nothing, and is counted.
+        ensures failed { OnErr result ((taken self.new ≡ taken self.old)
+            × (failures self.new ≡ one_more (failures self.old))) };
+
+    /// Is called with the result of the last arrival, after its packets were sent. The arrival's
+    /// octets begin the buffer, and the rules are those in force then. A port with a log writes it
+    /// there; nothing else changes.
+    fn note(&mut self, _turn: &Turn, _octets: &[u8], _rules: &Rules)
+        ensures gives_none { coming self.new ≡ coming self.old }
+        ensures takes_none { taken self.new ≡ taken self.old }
+        ensures journals_none { journal self.new ≡ journal self.old }
+        ensures works { failures self.new ≡ failures self.old }
+    {}
+
+    /// The number of failed calls. The count stops at the greatest u64.
+    fn failures(&self) -> u64
+        ensures { result ≡ failures self.now };
+}
+
+// Copies as many octets as fit to the front of the buffer, and returns their number.
+pub fn put_front(octets: &[u8], buffer: &mut [u8]) -> usize
+    ensures len { result ≡ min (length octets.now) (length buffer.new) }
+    ensures front { take result buffer.new ≡ take (length buffer.new) octets.now }
+{
+    let len = octets.len().min(buffer.len());
+    buffer[..len].copy_from_slice(&octets[..len]);
+    len
+}

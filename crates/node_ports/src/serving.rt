@@ -1,0 +1,334 @@
+ghost use Rattle.std.specs.Prelude.{◌≡◌, ◌≤◌, [], ℕ, List, Option, None, Some, IfOk, IfErr, IfSome, OnErr};
+ghost use Rattle.forwarder.specs.Event.{PlainEvent, Send, moment, plain};
+ghost use Rattle.forwarder.specs.Policy.{at_moment};
+ghost use Rattle.forwarder.specs.Wanted.{brings_wanted};
+ghost use Rattle.journal.specs.Line.{IsEventOf};
+ghost use Rattle.node_ports.specs.Ports.{Gives, LiesWithin, Takes, arrived, count_of};
+ghost use Rattle.node_ports.specs.Serving.{AreSendsTaken, EndsAfter, FailsNext, IsTurn, Serves, StopsServing, count_after, shown};
+
+use crate::ports::{Arrival, FRAME_ROOM, Ports};
+use forwarder::{Event, Node, Outbox, Verdict};
+use journal::{Coming, Entry};
+use std::alloc::Global;
+use thiserror::Error;
+
+/// What one turn did.
+#[derive(Clone, Copy, Debug, PartialEq, Eq)]
+pub enum Turn {
+    /// An event was answered. `failed` is the number of its sends that failed.
+    Done { verdict: Verdict, failed: u64 },
+    /// A step ran out of memory, and its event counts as not having arrived.
+    Refused,
+    /// An event was answered, but could not be journalled. None of its packets is sent, and the
+    /// node has to end.
+    Unwritten,
+    /// Nothing more will come.
+    End,
+}
+
+/// Why a port was not served for all its turns.
+#[derive(Clone, Copy, Debug, PartialEq, Eq, Error)]
+pub enum ServeFault {
+    /// The port failed to give the next arrival, after this number of events.
+    #[error("the port failed after {after} events")]
+    Next { after: u64 },
+    /// The event after this number of events could not be journalled. None of its packets was sent.
+    #[error("the journal cannot be written after {after} events")]
+    Journal { after: u64 },
+}
+
+/// What was done in some turns.
+#[derive(Clone, Copy, Debug, PartialEq, Eq)]
+pub struct Served {
+    /// The number of events.
+    pub events: u64,
+    /// The number of events for which a step ran out of memory.
+    pub refused: u64,
+    /// The number of failed sends, up to the greatest u64.
+    pub failed_sends: u64,
+    /// Whether the port ended before the last turn.
+    pub ended: bool,
+}
+
+/// Lets a node handle what a port gives, one arrival in each turn, for this number of turns or
+/// until the port ends.
+///
+/// A failed send is counted, and does not prevent the others. An event for which a step runs out of
+/// memory is counted, and counts as not having arrived. Of a packet of more than 9,001 octets the
+/// first 9,001 are read, and the node drops it as too long. If the port fails to give the next
+/// arrival, the events before it remain handled.
+pub fn serve<P: Ports>(
+    alloc: Global,
+    node: &mut Node,
+    ports: &mut P,
+    turns: u64,
+) -> Result<Served, ServeFault>
+    ensures served { IfOk result (λ served. (failed : ℕ)
+        × Serves node.old node.new
+        (shown (P.failures ports.old) (P.coming ports.old) (P.taken ports.old)
+        (P.journal ports.old))
+        (shown (P.failures ports.new) (P.coming ports.new) (P.taken ports.new)
+        (P.journal ports.new))
+        served.events served.refused failed
+        × (served.failed_sends ≡ count_of failed)) }
+    ensures ended { IfOk result
+        (λ served. EndsAfter turns served.ended served.events (P.coming ports.new)) }
+    ensures stopped { IfErr result (StopsServing node.old node.new
+        (shown (P.failures ports.old) (P.coming ports.old) (P.taken ports.old)
+        (P.journal ports.old))
+        (shown (P.failures ports.new) (P.coming ports.new) (P.taken ports.new)
+        (P.journal ports.new)) turns) }
+{
+    let mut outbox = Outbox::new(alloc);
+    let mut buffer = [0; FRAME_ROOM];
+    let mut served = Served {
+        events: 0,
+        refused: 0,
+        failed_sends: 0,
+        ended: false,
+    };
+    for _ in 0..turns {
+        let Ok(turn) = serve_turn_in(node, ports, &mut buffer, &mut outbox) else {
+            return Err(ServeFault::Next {
+                after: served.events,
+            });
+        };
+        match turn {
+            Turn::Done { verdict: _, failed } => {
+                served.failed_sends = served.failed_sends.saturating_add(failed);
+            }
+            Turn::Refused => served.refused += 1,
+            Turn::Unwritten => {
+                return Err(ServeFault::Journal {
+                    after: served.events,
+                });
+            }
+            Turn::End => {
+                served.ended = true;
+                return Ok(served);
+            }
+        }
+        served.events += 1;
+    }
+    Ok(served)
+}
+
+/// Lets a node handle the next arrival of a port.
+///
+/// On `Done` the outbox has exactly the event's sends, failed ones included; otherwise it is empty.
+/// The fault is `Next` after 0 events, and the node is then unchanged.
+pub fn serve_turn<P: Ports>(
+    node: &mut Node,
+    ports: &mut P,
+    outbox: &mut Outbox,
+) -> Result<Turn, ServeFault>
+    ensures turn { IfOk result (IsTurn node.old node.new
+        (shown (P.failures ports.old) (P.coming ports.old) (P.taken ports.old)
+        (P.journal ports.old))
+        (shown (P.failures ports.new) (P.coming ports.new) (P.taken ports.new)
+        (P.journal ports.new)) outbox.new) }
+    ensures fault { IfErr result (λ fault. fault ≡ ServeFault.Next 0) }
+    ensures stopped { OnErr result (FailsNext
+        (shown (P.failures ports.old) (P.coming ports.old) (P.taken ports.old)
+        (P.journal ports.old))
+        (shown (P.failures ports.new) (P.coming ports.new) (P.taken ports.new)
+        (P.journal ports.new))
+        × (node.new ≡ node.old) × (outbox.new ≡ [])) }
+{
+    serve_turn_in(node, ports, &mut [0; FRAME_ROOM], outbox)
+}
+
+/// As `serve_turn`, with a buffer of the caller, so that many turns need only one. Its content
+/// before has no effect.
+pub fn serve_turn_in<P: Ports>(
+    node: &mut Node,
+    ports: &mut P,
+    buffer: &mut [u8; FRAME_ROOM],
+    outbox: &mut Outbox,
+) -> Result<Turn, ServeFault>
+    ensures turn { IfOk result (IsTurn node.old node.new
+        (shown (P.failures ports.old) (P.coming ports.old) (P.taken ports.old)
+        (P.journal ports.old))
+        (shown (P.failures ports.new) (P.coming ports.new) (P.taken ports.new)
+        (P.journal ports.new)) outbox.new) }
+    ensures fault { IfErr result (λ fault. fault ≡ ServeFault.Next 0) }
+    ensures stopped { OnErr result (FailsNext
+        (shown (P.failures ports.old) (P.coming ports.old) (P.taken ports.old)
+        (P.journal ports.old))
+        (shown (P.failures ports.new) (P.coming ports.new) (P.taken ports.new)
+        (P.journal ports.new))
+        × (node.new ≡ node.old) × (outbox.new ≡ [])) }
+{
+    outbox.clear();
+    let Ok(arrival) = ports.next(buffer) else {
+        return Err(ServeFault::Next { after: 0 });
+    };
+    Ok(handle(node, ports, arrival, buffer, outbox))
+}
+
+/// As `serve_turn_in`, if the port gives something soon; otherwise the node and what the port shows
+/// are unchanged, and the outbox is empty.
+pub fn serve_turn_soon<P: Ports>(
+    node: &mut Node,
+    ports: &mut P,
+    buffer: &mut [u8; FRAME_ROOM],
+    outbox: &mut Outbox,
+) -> Option<Turn>
+    ensures turn { IfSome result (IsTurn node.old node.new
+        (shown (P.failures ports.old) (P.coming ports.old) (P.taken ports.old)
+        (P.journal ports.old))
+        (shown (P.failures ports.new) (P.coming ports.new) (P.taken ports.new)
+        (P.journal ports.new)) outbox.new) }
+    ensures none { result ≡ None
+        → (shown (P.failures ports.new) (P.coming ports.new) (P.taken ports.new)
+        (P.journal ports.new)
+        ≡ shown (P.failures ports.old) (P.coming ports.old) (P.taken ports.old)
+        (P.journal ports.old))
+        × (node.new ≡ node.old) × (outbox.new ≡ []) }
+{
+    outbox.clear();
+    let arrival = ports.next_soon(buffer)?;
+    Some(handle(node, ports, arrival, buffer, outbox))
+}
+
+// Lets a node handle what a port gave, and notes the result in the port.
+fn handle<P: Ports>(
+    node: &mut Node,
+    ports: &mut P,
+    arrival: Arrival,
+    buffer: &[u8; FRAME_ROOM],
+    outbox: &mut Outbox,
+) -> Turn
+    requires fits { LiesWithin FRAME_ROOM arrival }
+    requires empty { outbox.old ≡ [] }
+    ensures { (before : Option (List PlainEvent))
+        → Gives before (P.coming ports.old) FRAME_ROOM (arrived arrival buffer.now)
+        → IsTurn node.old node.new
+        (shown (P.failures ports.old) before (P.taken ports.old) (P.journal ports.old))
+        (shown (P.failures ports.new) (P.coming ports.new) (P.taken ports.new)
+        (P.journal ports.new)) outbox.new result }
+{
+    let turn = answer(node, ports, arrival, buffer, outbox);
+    ports.note(&turn, buffer, node.rules());
+    turn
+}
+
+// Lets a node answer what a port gave.
+fn answer<P: Ports>(
+    node: &mut Node,
+    ports: &mut P,
+    arrival: Arrival,
+    buffer: &[u8; FRAME_ROOM],
+    outbox: &mut Outbox,
+) -> Turn
+    requires fits { LiesWithin FRAME_ROOM arrival }
+    requires empty { outbox.old ≡ [] }
+    ensures { (before : Option (List PlainEvent))
+        → Gives before (P.coming ports.old) FRAME_ROOM (arrived arrival buffer.now)
+        → IsTurn node.old node.new
+        (shown (P.failures ports.old) before (P.taken ports.old) (P.journal ports.old))
+        (shown (P.failures ports.new) (P.coming ports.new) (P.taken ports.new)
+        (P.journal ports.new)) outbox.new result }
+{
+    match arrival {
+        Arrival::End => Turn::End,
+        Arrival::Packet { face, now, len } => {
+            let octets = &buffer[..len];
+            let event = Event::Packet { face, now, octets };
+            handle_event(node, ports, event, &Entry::Packet { face, octets }, outbox)
+        }
+        Arrival::FaceUp { face, scope, now } => {
+            let event = Event::FaceUp { face, scope, now };
+            handle_event(node, ports, event, &Entry::FaceUp { face, scope }, outbox)
+        }
+        Arrival::FaceDown { face, now } => {
+            let event = Event::FaceDown { face, now };
+            handle_event(node, ports, event, &Entry::FaceDown { face }, outbox)
+        }
+        Arrival::Tick { now } => {
+            handle_event(node, ports, Event::Tick { now }, &Entry::Tick, outbox)
+        }
+        Arrival::NewRules { renewal, now } => {
+            let (rules, keys, files) = renewal.into_parts();
+            let entry = Entry::NewRules {
+                rules: &files.rules,
+                keys: &files.keys,
+            };
+            handle_event(
+                node,
+                ports,
+                Event::NewRules { rules, keys, now },
+                &entry,
+                outbox,
+            )
+        }
+    }
+}
+
+// Lets a node answer an event, and commits it to the port's journal before anything is sent.
+fn handle_event<P: Ports>(
+    node: &mut Node,
+    ports: &mut P,
+    event: Event<'_>,
+    entry: &Entry<'_>,
+    outbox: &mut Outbox,
+) -> Turn
+    requires entry { IsEventOf (moment (plain event)) entry.now (plain event) }
+    requires empty { outbox.old ≡ [] }
+    ensures { (before : Option (List PlainEvent))
+        → Gives before (P.coming ports.old) FRAME_ROOM (Some (plain event.entry))
+        → IsTurn node.old node.new
+        (shown (P.failures ports.old) before (P.taken ports.old) (P.journal ports.old))
+        (shown (P.failures ports.new) (P.coming ports.new) (P.taken ports.new)
+        (P.journal ports.new)) outbox.new result }
+{
+    let coming = Coming {
+        entry: *entry,
+        is_wanted: is_wanted(node, ports, &event),
+    };
+    let verdict = match node.step(event, outbox) {
+        Ok(verdict) => verdict,
+        Err(_) => return Turn::Refused,
+    };
+    match ports.commit(&coming, node.now(), &verdict) {
+        Ok(()) => {
+            let failed = send_all(ports, outbox);
+            Turn::Done { verdict, failed }
+        }
+        Err(_) => {
+            outbox.clear();
+            Turn::Unwritten
+        }
+    }
+}
+
+// Whether an event brings a Data that the repository wants. Without a journal nobody has to know.
+fn is_wanted<P: Ports>(node: &Node, ports: &P, event: &Event<'_>) -> bool
+    ensures { (text : List ℕ) → P.journal ports.now ≡ Some text
+        → result ≡ brings_wanted (at_moment node.now.policy (moment (plain event.now)))
+        (plain event.now) }
+{
+    if !ports.keeps_journal() {
+        return false;
+    }
+    node.wants(event)
+}
+
+// Sends the packets of the outbox, and counts the sends that failed.
+fn send_all<P: Ports>(ports: &mut P, outbox: &Outbox) -> u64
+    ensures sent { (taken : List Send) × AreSendsTaken outbox.now result taken
+        × Takes (P.taken ports.old) (P.taken ports.new) taken }
+    ensures coming { P.coming ports.new ≡ P.coming ports.old }
+    ensures journal { P.journal ports.new ≡ P.journal ports.old }
+    ensures failures { P.failures ports.new ≡ count_after (P.failures ports.old) result }
+{
+    let mut failed = 0;
+    for i in 0..outbox.len() {
+        if let Some((face, octets)) = outbox.sent(i) {
+            if ports.send(face, octets).is_err() {
+                failed += 1;
+            }
+        }
+    }
+    failed
+}
