@@ -3,12 +3,13 @@ use Rattle.std.proofs.Common.{◌≡◌, ℕ, ◌<◌, List, [], ◌++◌, refl,
 use Rattle.std.specs.Prelude.{Option, Result, Ok, Err, IfErr, OnErr, OnOk}
 use Rattle.std.specs.Io.KnownBytes.{Appends}
 use Rattle.forwarder.specs.Node.{NodeState}
-use Rattle.node_core.specs.Ports.Serving.{Shown}
+use Rattle.node_ports.specs.Serving.{Shown}
 use Rattle.node_core.specs.Script.Ending.{AppendsFront}
 use Rattle.node_core.specs.declared.script.RunFault.TheVariants.{Write}
 use Rattle.node_core.proofs.Known.{Appends-start, Appends-then, AppendsFront-after}
 use Rattle.ndn_daemon.specs.declared.fault.Fault.{Fault}
-use Rattle.ndn_daemon.specs.declared.fault.Fault.TheVariants.{Script, Unreceived}
+use Rattle.ndn_daemon.specs.declared.fault.Fault.TheVariants.{Script, Unreceived, Journal}
+use Rattle.ndn_daemon.specs.declared.fault.JournalFault.TheVariants.{Unwritten}
 use Rattle.ndn_daemon.specs.Turn.{StopsTurn, StopsTurns, Tells, Writes}
 
 pub Writes-none : (known : Option (List ℕ)) (gathered : List ℕ) → Writes known known gathered gathered
@@ -59,6 +60,8 @@ stops_turns old mid new before between after turns number a b c text gathered (S
   omega (arith, less),
   Writes-cut a b c text gathered writes h.2,
 )
+stops_turns old mid new before between after turns number a b c text gathered (Journal Unwritten) told writes less h =
+    (mid, between, number, text, told, h.0, less, Writes-cut a b c text gathered writes h.1)
 stops_turns old mid new before between after turns number a b c text gathered why told writes less h = absurd h
 
 -- what follows from a writing that is done, and from one that stopped
@@ -69,3 +72,8 @@ done_then (Err why) h then = tt
 pub cut_then : {A : Type 0} (P : Fault → Type 0) (r : Result (Unit {0}) Fault) → OnErr r A → IfErr r (λ why. why ≡ Script Write) → (A → P (Script Write)) → IfErr r P
 cut_then P (Ok done) h is then = tt
 cut_then P (Err why) h is then = subst P (sym is) (then h)
+
+-- what was written of text that was to be written, whatever became of it
+pub front_of_writing : (r : Result (Unit {0}) Fault) (a b : Option (List ℕ)) (text : List ℕ) → OnOk r (Appends a b text) → OnErr r (AppendsFront a b text) → AppendsFront a b text
+front_of_writing (Ok done) a b text all cut = (text, [], sym (append-nil text), all)
+front_of_writing (Err why) a b text all cut = cut

@@ -37,6 +37,7 @@ refused_words name rows (fault.Script (run.Node why)) h = absurd h
 refused_words name rows (fault.Script run.Memory) h = tt
 refused_words name rows (fault.Unbound endpoint) h = absurd h
 refused_words name rows fault.Unreceived h = absurd h
+refused_words name rows (fault.Journal why) h = absurd h
 
 pub fault_of_words : (name : List ℕ) (rows : List Row) (r : Result Request Fault) → ReadsInMemory (IsRequest name rows) r → IfErr r IsFaultOfWords
 fault_of_words name rows (Ok request) h = tt

@@ -22,6 +22,7 @@ module _ {A B : Type 0} (Part : A → Type 0) (Whole : B → Type 0) (part : (y 
   wrong_part (fault.Script why) h = h
   wrong_part (fault.Unbound endpoint) h = h
   wrong_part fault.Unreceived h = h
+  wrong_part (fault.Journal why) h = h
 
   pub refused_part : (why : Fault) → IsRefused Part why → IsRefused Whole why
   refused_part (fault.CommandLine error) h = h
@@ -38,6 +39,7 @@ module _ {A B : Type 0} (Part : A → Type 0) (Whole : B → Type 0) (part : (y 
   refused_part (fault.Script run.Memory) h = h
   refused_part (fault.Unbound endpoint) h = h
   refused_part fault.Unreceived h = h
+  refused_part (fault.Journal why) h = h
 
   pub wrong_in_memory : (why : Fault) → IsWrong Part why → IsRefused Whole why
   wrong_in_memory (fault.CommandLine error) h = h
@@ -54,6 +56,7 @@ module _ {A B : Type 0} (Part : A → Type 0) (Whole : B → Type 0) (part : (y 
   wrong_in_memory (fault.Script run.Memory) h = absurd h
   wrong_in_memory (fault.Unbound endpoint) h = h
   wrong_in_memory fault.Unreceived h = h
+  wrong_in_memory (fault.Journal why) h = h
 
 -- a fault that names a value, where nothing is spelled
 
@@ -68,3 +71,4 @@ bad_value_wrong Spell none fault.LargeKeys h = h
 bad_value_wrong Spell none (fault.Script why) h = h
 bad_value_wrong Spell none (fault.Unbound endpoint) h = h
 bad_value_wrong Spell none fault.Unreceived h = h
+bad_value_wrong Spell none (fault.Journal why) h = h

@@ -4,17 +4,17 @@ use Rattle.std.specs.Prelude.{Result, Ok, Err, IsOk, IfErr}
 use Rattle.info_rules.specs.Rule.{PlainRule}
 use Rattle.forwarder.specs.Event.{PlainEvent, Send}
 use Rattle.forwarder.specs.Node.{NodeState}
-use Rattle.node_core.specs.declared.ports.TheConstants.{FRAME_ROOM}
-use Rattle.node_core.specs.declared.ports.serving.Turn.{Turn}
-use Rattle.node_core.specs.declared.ports.serving.Turn.TheVariants.{Done, Refused, End}
+use Rattle.node_ports.specs.declared.ports.TheConstants.{FRAME_ROOM}
+use Rattle.node_ports.specs.declared.serving.Turn.{Turn}
+use Rattle.node_ports.specs.declared.serving.Turn.TheVariants.{Done, Refused, Unwritten, End}
 use Rattle.node_core.specs.Outcomes.{Outcome, Answered, NoMemory, AreOutcomes}
 use Rattle.forwarder.specs.Verdict.{verdict_of}
-use Rattle.node_core.specs.Ports.Serving.{Shown, HasEnded, EndsNext, Handles, IsTurn, StopsServing, refused_count}
-use Rattle.node_core.specs.declared.ports.serving.ServeFault.{ServeFault}
-use Rattle.node_core.specs.declared.ports.serving.ServeFault.TheVariants.{Next}
+use Rattle.node_ports.specs.Serving.{Shown, HasEnded, EndsNext, Handles, IsTurn, StopsServing, refused_count}
+use Rattle.node_ports.specs.declared.serving.ServeFault.{ServeFault}
+use Rattle.node_ports.specs.declared.serving.ServeFault.TheVariants.{Next, Journal}
 use Rattle.node_core.specs.Script.Writing.{outcome_text, script_text}
 use Rattle.node_core.proofs.Playing.{outcomes_text-append, same_text}
-use Rattle.node_core.proofs.Serving.{Gives-none_left, Gives-none_same, Serves-start, Serves-more}
+use Rattle.node_ports.proofs.Turns.{Gives-none_left, Gives-none_same, Serves-start, Serves-more}
 use Rattle.ndn_daemon.specs.declared.fault.Fault.{Fault}
 use Rattle.ndn_daemon.specs.Turn.{Tells, turn_text}
 
@@ -52,21 +52,22 @@ Tells-more old mid new before between after number more text done_as h k =
     }
 
 -- one turn more
-pub Tells-turn : (old mid new : NodeState) (before between after : Shown) (number : ℕ) (text : List ℕ) (sends : List Send) (rules : List PlainRule) (turn : Turn) → (turn ≡ End → ⊥)
+pub Tells-turn : (old mid new : NodeState) (before between after : Shown) (number : ℕ) (text : List ℕ) (sends : List Send) (rules : List PlainRule) (turn : Turn) → (turn ≡ End → ⊥) → (turn ≡ Unwritten → ⊥)
     → Tells old mid before between number text → IsTurn mid new between after sends turn → rules ≡ new.policy.rules
     → Tells old new before after (number + 1) (text ++ turn_text (number + 1) rules turn sends)
-Tells-turn old mid new before between after number text sends rules (Done verdict failed) goes_on h k shown =
+Tells-turn old mid new before between after number text sends rules (Done verdict failed) goes_on written h k shown =
     let done_as = Answered (record { verdict = verdict_of verdict; sends = sends }) in
     let same : turn_text (number + 1) rules (Done verdict failed) sends ≡ outcome_text mid.policy.rules (number + 1) done_as =
     ap (λ (l : List PlainRule). outcome_text l (number + 1) done_as) shown ∙ same_text mid new k.event done_as (number + 1) k.handled in
     rw same (Tells-more old mid new before between after number failed text done_as h k)
-Tells-turn old mid new before between after number text sends rules Refused goes_on h k shown =
+Tells-turn old mid new before between after number text sends rules Refused goes_on written h k shown =
     rw k.1 (Tells-more old mid new before between after number 0 text NoMemory h k.0)
-Tells-turn old mid new before between after number text sends rules End goes_on h k shown = absurd (goes_on refl)
+Tells-turn old mid new before between after number text sends rules Unwritten goes_on written h k shown = absurd (written refl)
+Tells-turn old mid new before between after number text sends rules End goes_on written h k shown = absurd (goes_on refl)
 
 -- nothing more came
 same_shown : (before after : Shown) → EndsNext before after → after ≡ before
-same_shown before after e = λ i. record { failures = e.failures i; coming = Gives-none_same before.coming after.coming FRAME_ROOM e.coming i; taken = e.taken i }
+same_shown before after e = λ i. record { failures = e.failures i; coming = Gives-none_same before.coming after.coming FRAME_ROOM e.coming i; taken = e.taken i; journal = e.journal i }
 
 pub Tells-ended : (old mid new : NodeState) (before between after : Shown) (number : ℕ) (text : List ℕ) (sends : List Send) (turn : Turn) → turn ≡ End
     → Tells old mid before between number text → IsTurn mid new between after sends turn → Tells old new before after number text × HasEnded after.coming
@@ -80,6 +81,7 @@ Tells-ended old mid new before between after number text sends turn is h k =
 -- a fault comes before the last turn
 pub no_turns : (old new : NodeState) (before after : Shown) (turns : ℕ) (stop : ServeFault) → StopsServing old new before after turns stop → turns ≡ 0 → ⊥
 no_turns old new before after turns (Next events) h none = let less = h.5 in absurd (omega (arith, less, none))
+no_turns old new before after turns (Journal events) h none = let less = h.6 in absurd (omega (arith, less, none))
 
 -- what is done has no fault
 pub no_fault : (r : Result (Unit {0}) Fault) (P : Fault → Type 0) → IsOk r → IfErr r P

@@ -1,4 +1,4 @@
--- What a subcommand asks for, and what becomes of the errors of the parser of command lines.
+-- The request of a subcommand, and the results for the errors of the command line parser.
 use Rattle.std.specs.Prelude.{◌≡◌, ◌≢◌, ◌≤◌, ℕ, List, Result, Ok, Err, codes, length, ⊤}
 use Rattle.clap.specs.Walk.{Row}
 use Rattle.clap.specs.declared.error.Error.{Error}
@@ -13,35 +13,36 @@ use Rattle.ndn_daemon.specs.declared.fault.Fault.TheVariants.{BadValue, CommandL
 use Rattle.ndn_daemon.specs.Options.{IsOptions}
 use Rattle.ndn_daemon.specs.UdpOptions.{IsUdpOptions}
 
--- help or the version was asked for, memory was refused, or the command line is wrong
+-- help or the version was asked for, memory ran out, or the command line is wrong
 abbrev pub reading_of : ErrorKind → Error → Result Request Fault
 reading_of DisplayHelp error = Ok (Help error)
 reading_of DisplayVersion error = Ok (Help error)
 reading_of OutOfMemory error = Err (Script Memory)
 reading_of kind error = Err (CommandLine error)
 
--- what the options of the subcommand of this name ask for
+-- the request of the subcommand of this name with these options
 abbrev pub IsRequest : List ℕ → List Row → Request → Type 0
 IsRequest name rows (Help error) = ⊥
 IsRequest name rows (RunScript node) = (name ≢ codes "udp") × IsOptions rows node
 IsRequest name rows (Udp node options) =
     (name ≡ codes "udp") × IsOptions rows node × IsUdpOptions rows options
 
--- help, or what the options that were found for a subcommand ask for
+-- help, or the request of some subcommand with some options
 abbrev pub IsAsked : Request → Type 0
 IsAsked (Help error) = ⊤
-IsAsked (RunScript node) = (name : List ℕ) × (rows : List Row) × IsRequest name rows (RunScript node)
+IsAsked (RunScript node) =
+    (name : List ℕ) × (rows : List Row) × IsRequest name rows (RunScript node)
 IsAsked (Udp node options) =
     (name : List ℕ) × (rows : List Row) × IsRequest name rows (Udp node options)
 
--- the command line is wrong, a value is none that may be given there, or memory was refused
+-- the command line is wrong, a value is not allowed, or memory ran out
 abbrev pub IsFaultOfWords : Fault → Type 0
 IsFaultOfWords (CommandLine error) = ⊤
 IsFaultOfWords (BadValue place wanted) = ⊤
 IsFaultOfWords (Script Memory) = ⊤
 IsFaultOfWords why = ⊥
 
--- the peers of a node on a port are at most 64
+-- a node on a port has at most 64 peers
 abbrev pub HasFewPeers : Request → Type 0
 HasFewPeers (Help error) = ⊤
 HasFewPeers (RunScript node) = ⊤

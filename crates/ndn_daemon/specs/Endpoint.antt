@@ -22,16 +22,17 @@ IsEndpoint text endpoint =
     (IsPort text (socket_port endpoint) × IsLocalhost endpoint)
     ⊎ (IsSocketText text endpoint × (0 < socket_port endpoint))
 
--- an address that this machine alone can send to or from: one of 127.0.0.0/8, or ::1
+-- a loopback address, which only this machine can send to or from: one of 127.0.0.0/8, or ::1
 abbrev pub IsLoopback : SocketAddr → Type 0
 IsLoopback endpoint = MatchIp (socket_ip endpoint) IsLoopbackV4 IsLoopbackV6
 
--- an address of no machine, 0.0.0.0 or ::; a node that listens on it listens on all of its machine
+-- The unspecified address, 0.0.0.0 or ::. A node that listens on it listens on all addresses of its
+-- machine.
 abbrev pub IsUnspecified : SocketAddr → Type 0
 IsUnspecified endpoint = MatchIp (socket_ip endpoint) IsUnspecifiedV4 IsUnspecifiedV6
 
--- A peer is the node itself: it has the node's port, and its address, in whatever scope, or where
--- the node listens on the unspecified address, one of this machine.
+-- A peer is the node itself: it has the node's port, and the node's address in any scope, or, if
+-- the node listens on the unspecified address, a loopback address.
 abbrev pub IsItself : SocketAddr → SocketAddr → Type 0
 IsItself listen peer =
     (socket_port peer ≡ socket_port listen)
@@ -46,7 +47,7 @@ pub record AreEndpoints (texts : List (List ℕ)) (endpoints : List SocketAddr) 
   pub few : length texts ≤ MAX_FACES
   pub different : AllPairs (λ a b. a ≢ b) endpoints
 
--- none is the node itself, each is on some machine, and all are of the node's family, IPv4 or IPv6
+-- none is the node itself or unspecified, and all are of the node's family, IPv4 or IPv6
 pub record MayBePeersOf (listen : SocketAddr) (peers : List SocketAddr) : Type 0 where
   pub others : All (λ peer. ¬ (IsItself listen peer)) peers
   pub specified : All (λ peer. ¬ (IsUnspecified peer)) peers

@@ -12,14 +12,16 @@ use Rattle.node_core.specs.declared.script.RunFault.TheVariants.{BadLine, Read, 
 use Rattle.file_faults.specs.Advice.{cause_of, key_text}
 use Rattle.ndn_daemon.specs.Advice.{advice_on_rules, is_memory}
 use Rattle.ndn_daemon.specs.declared.fault.Fault.{Fault}
-use Rattle.ndn_daemon.specs.declared.fault.Fault.TheVariants.{CommandLine, BadValue, NotText, Unread, Rules, Keys, LargeKeys, Script, Unbound, Unreceived}
+use Rattle.ndn_daemon.specs.declared.fault.Fault.TheVariants.{CommandLine, BadValue, NotText, Unread, Rules, Keys, LargeKeys, Script, Unbound, Unreceived, Journal}
+use Rattle.ndn_daemon.specs.declared.fault.JournalFault.{JournalFault}
+use Rattle.ndn_daemon.specs.declared.fault.JournalFault.TheVariants as journal
 
 abbrev pub rules_status : RulesFaultKind → ℕ
 rules_status kinds.Memory = 3
 rules_status kind = 1
 
--- 1 for a fault in a file or in the script, 2 for a wrong command line, 3 if the system refused
--- something
+-- 1 for a fault in a file or in the script, 2 for a wrong command line, 3 if reading, writing, a
+-- lock, the port or memory failed
 abbrev pub status_of : Fault → ℕ
 status_of (CommandLine error) = 2
 status_of (BadValue place wanted) = 2
@@ -40,8 +42,12 @@ status_of (Script (Node NodeMemory)) = 3
 status_of (Script Memory) = 3
 status_of (Unbound endpoint) = 3
 status_of Unreceived = 3
+status_of (Journal journal.Locked) = 3
+status_of (Journal (journal.BadLine line)) = 1
+status_of (Journal journal.Unwritten) = 3
+status_of (Journal journal.LongRules) = 1
 
--- the line and the kind of a fault, and below it what is wrong
+-- the line and the kind of a fault, and below it the text that explains it
 abbrev pub rules_fault_text : ℕ → RulesFaultKind → List ℕ
 rules_fault_text line kind =
     if is_memory kind then codes "error: out of memory\n"
@@ -62,7 +68,17 @@ run_fault_text (Node BadCapacity) =
 run_fault_text (Node NodeMemory) = codes "error: out of memory\n"
 run_fault_text Memory = codes "error: out of memory\n"
 
--- the message for standard error with its LF; that of a wrong command line is the parser's
+abbrev pub journal_fault_text : JournalFault → List ℕ
+journal_fault_text journal.Locked = codes "error: the journal is in use by another program\n"
+journal_fault_text (journal.BadLine line) = codes "journal:" ++ (decimal line
+    ++ (codes ": bad line\n  "
+    ++ codes "a journal is a script; restore a copy, or take off this line and those after it\n"))
+journal_fault_text journal.Unwritten =
+    codes "error: the journal cannot be written; nothing was sent of the event it was for\n"
+journal_fault_text journal.LongRules =
+    codes "journal:0: TooLong\n  the rule file and the key file have more than 9985 octets together\n"
+
+-- the message for standard error with its LF; for a wrong command line it is the parser's
 abbrev pub text_of : Fault → Option (List ℕ)
 text_of (CommandLine error) = None
 text_of (BadValue place wanted) = Some (
@@ -77,3 +93,4 @@ text_of (Script fault) = Some (run_fault_text fault)
 text_of (Unbound endpoint) = Some (codes "error: " ++ socket_text endpoint
     ++ codes " cannot be bound: give an address of this machine and a port that no program has\n")
 text_of Unreceived = Some (codes "error: nothing can be received from the port\n")
+text_of (Journal why) = Some (journal_fault_text why)

@@ -1,4 +1,4 @@
--- What the octets of a rule file and of a key file are read as.
+-- How the octets of a rule file and of a key file are read, and their faults.
 use Rattle.std.specs.Prelude.{◌≡◌, ◌⊎◌, ◌<◌, ◌≤◌, ℕ, List, codes, length, string_bytes, ⊤}
 use Rattle.std.specs.declared.io.ErrorKind.{ErrorKind}
 use Rattle.hmac_keys.specs.KeyFile.{NamedKey}
@@ -10,19 +10,19 @@ use Rattle.node_core.specs.declared.script.RunFault.TheVariants.{Memory}
 use Rattle.ndn_daemon.specs.declared.fault.Fault.{Fault}
 use Rattle.ndn_daemon.specs.declared.fault.Fault.TheVariants.{Rules, Keys, LargeKeys, Unread, Script}
 
--- the fault of what octets say of rules
+-- the fault of the octets of a rule file
 abbrev pub IsRuleFault : List ℕ → Fault → Type 0
 IsRuleFault octets (Rules why) = IsFaultOfRules octets why
 IsRuleFault octets why = ⊥
 
--- the fault of what octets say of keys
+-- the fault of the octets of a key file
 abbrev pub IsKeyFault : List ℕ → Fault → Type 0
 IsKeyFault octets (Keys why) = IsFaultOfOctets octets why
 IsKeyFault octets why = ⊥
 
 -- ---- files
 
--- this file, at this path, cannot be read, or memory was refused
+-- this file, at this path, cannot be read, or memory ran out
 abbrev pub IsUnread : List ℕ → List ℕ → Fault → Type 0
 IsUnread file path (Unread which place kind) = (which.now ≡ file) × (string_bytes place ≡ path)
 IsUnread file path (Script why) = why ≡ Memory
@@ -33,20 +33,18 @@ abbrev pub HasCause : ErrorKind → Fault → Type 0
 HasCause kind (Unread file path cause) = cause ≡ kind
 HasCause kind why = ⊤
 
--- there are more octets than a rule file may have; or else the fault of what they say; or the file
--- cannot be read
+-- a rule file has too many octets, or its octets have this fault, or the file cannot be read
 abbrev pub IsRuleFileFault : List ℕ → List ℕ → Fault → Type 0
 IsRuleFileFault path octets why =
     ((65536 < length octets) × (why ≡ Rules (record { line = 0; kind = TooLarge })))
     ⊎ ((length octets ≤ 65536) × IsRuleFault octets why)
     ⊎ IsUnread (codes "rule file") path why
 
--- the keys of octets, which are no more than a key file may have
+-- the keys of these octets, which are not too many for a key file
 abbrev pub AreKeysOfFile : List ℕ → List NamedKey → Type 0
 AreKeysOfFile octets keys = (length octets ≤ MAX_KEY_FILE) × AreKeys octets keys
 
--- there are more octets than a key file may have; or else the fault of what they say; or the file
--- cannot be read
+-- a key file has too many octets, or its octets have this fault, or the file cannot be read
 abbrev pub IsKeyFileFault : List ℕ → List ℕ → Fault → Type 0
 IsKeyFileFault path octets why =
     ((MAX_KEY_FILE < length octets) × (why ≡ LargeKeys))

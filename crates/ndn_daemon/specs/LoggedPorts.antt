@@ -1,11 +1,11 @@
--- What a log shows of an arrival, and of what became of it.
+-- What a log shows of an arrival, and of its outcome.
 use Rattle.std.specs.Prelude.{◌≡◌, ℕ, List, take, Option, None, Some, Result, Ok, Err}
 use Rattle.ndn_tlv.specs.declared.memory.Memory.{Memory}
 use Rattle.forwarder.specs.declared.verdict.Verdict.{Verdict}
-use Rattle.node_core.specs.declared.ports.Arrival.{Arrival}
-use Rattle.node_core.specs.declared.ports.Arrival.TheVariants as arrival
-use Rattle.node_core.specs.declared.ports.serving.Turn.{Turn}
-use Rattle.node_core.specs.declared.ports.serving.Turn.TheVariants.{Done, Refused, End}
+use Rattle.node_ports.specs.declared.ports.Arrival.{Arrival}
+use Rattle.node_ports.specs.declared.ports.Arrival.TheVariants as arrival
+use Rattle.node_ports.specs.declared.serving.Turn.{Turn}
+use Rattle.node_ports.specs.declared.serving.Turn.TheVariants.{Done, Refused, Unwritten, End}
 use Rattle.ndn_log.specs.declared.entry.Came.{Came}
 use Rattle.ndn_log.specs.declared.entry.Came.TheVariants as came
 use Rattle.ndn_daemon.specs.declared.logged_ports.Seen.{Seen}
@@ -17,9 +17,9 @@ seen_in (arrival.Packet face now len) = Some (Packet face len)
 seen_in (arrival.FaceUp face scope now) = Some (Opened face scope)
 seen_in (arrival.FaceDown face now) = Some (Closed face)
 seen_in (arrival.Tick now) = Some Tick
-seen_in (arrival.NewRules rules keys now) = Some NewRules
+seen_in (arrival.NewRules renewal now) = Some NewRules
 
--- the same with its octets, which begin a buffer
+-- an arrival with its octets, which begin a buffer
 abbrev pub IsCameOf : Seen → List ℕ → Came → Type 0
 IsCameOf (Packet face len) buffer (came.Packet f octets) =
     (f ≡ face) × (octets.now ≡ take len buffer)
@@ -36,8 +36,9 @@ face_of (came.Closed face) = Some face
 face_of came.Tick = None
 face_of came.NewRules = None
 
--- what became of an event; none where nothing came
+-- the outcome of an event; none if the ports ended, or the node has to end
 abbrev pub IsOutcomeOf : Turn → Option (Result Verdict Memory) → Type 0
 IsOutcomeOf (Done verdict failed) outcome = outcome ≡ Some (Ok verdict)
 IsOutcomeOf Refused outcome = (refused : Memory) × (outcome ≡ Some (Err refused))
+IsOutcomeOf Unwritten outcome = outcome ≡ None
 IsOutcomeOf End outcome = outcome ≡ None

@@ -1,4 +1,4 @@
--- The values that options spell, and the fault of a text that spells none.
+-- The values of the options, and the faults of texts that are not values.
 use Rattle.std.specs.Prelude.{◌≡◌, ℕ, ◌<◌, ◌^◌, List, Option, None, Some, Result, Ok, Err, String, codes, string_bytes, ⊤}
 use Rattle.std.specs.Str.Parse.{IsNumeral, digits_value}
 use Rattle.clap.specs.declared.parser.matches.ArgMatches.{ArgMatches}
@@ -10,7 +10,7 @@ use Rattle.ndn_daemon.specs.declared.fault.Fault.{Fault}
 use Rattle.ndn_daemon.specs.declared.fault.Fault.TheVariants.{BadValue, Script}
 use Rattle.ndn_daemon.specs.declared.options.Options.{Options}
 
--- what was found, option by option
+-- the rows of the options that were found
 abbrev pub rows_in : ArgMatches → List Row
 rows_in options = rows_of (found_of options)
 
@@ -18,7 +18,7 @@ rows_in options = rows_of (found_of options)
 abbrev pub value_at : List Row → List ℕ → Option (List ℕ)
 value_at rows id = first_of id rows
 
--- what is given, or else this text
+-- the text that is given, or this default
 abbrev pub given_or : List ℕ → Option (List ℕ) → List ℕ
 given_or text None = text
 given_or text (Some given) = given
@@ -27,35 +27,35 @@ given_or text (Some given) = given
 abbrev pub IsCapacity : List ℕ → ℕ → Type 0
 IsCapacity text n = IsNumeral 10 text × (digits_value 10 text ≡ n) × (n < 2 ^ 32)
 
--- the path that is given, or none
+-- the path of an option, if it is given
 abbrev pub MayBePath : {Z : Type 0} → Option (List ℕ) → Option (String Z) → Type 0
 MayBePath None None = ⊤
 MayBePath (Some given) (Some path) = string_bytes path ≡ given
 MayBePath given path = ⊥
 
--- how a node is made
+-- the options of a node
 pub record IsOptions (rows : List Row) (options : Options) : Type 0 where
   pub rules : MayBePath (value_at rows (codes "rules")) options.rules
   pub keys : MayBePath (value_at rows (codes "keys")) options.keys
   pub repo : ReadsAs (given_or (codes "/repo") (value_at rows (codes "repo"))) options.repo
   pub cache : IsCapacity (given_or (codes "1024") (value_at rows (codes "cache"))) options.cache
 
--- the fault of a text that spells nothing
+-- the fault of a text that spells no value
 abbrev pub IsWrong : {A : Type 0} → (A → Type 0) → Fault → Type 0
 IsWrong {A} Spell (BadValue place wanted) = (x : A) → Spell x → ⊥
 IsWrong Spell why = ⊥
 
--- the same, or memory was refused
+-- the same, or memory ran out
 abbrev pub IsRefused : {A : Type 0} → (A → Type 0) → Fault → Type 0
 IsRefused Spell (Script Memory) = ⊤
 IsRefused Spell why = IsWrong Spell why
 
--- the value that is spelled, or the fault if there is none
+-- the value that a text spells, or the fault if it spells none
 abbrev pub Reads : {A : Type 0} → (A → Type 0) → Result A Fault → Type 0
 Reads Spell (Ok value) = Spell value
 Reads Spell (Err fault) = IsWrong Spell fault
 
--- the same, or memory was refused
+-- the same, or memory ran out
 abbrev pub ReadsInMemory : {A : Type 0} → (A → Type 0) → Result A Fault → Type 0
 ReadsInMemory Spell (Ok value) = Spell value
 ReadsInMemory Spell (Err fault) = IsRefused Spell fault

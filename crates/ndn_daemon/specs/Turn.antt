@@ -1,32 +1,35 @@
--- What is printed of a turn.
+-- The text of turns, and when it is written.
 use Rattle.std.specs.Prelude.{◌≡◌, ◌⊎◌, ◌<◌, ◌≤◌, ℕ, Bool, Option, List, [], ◌++◌, codes, ⊤}
 use Rattle.std.specs.Io.KnownBytes.{Appends}
 use Rattle.std.specs.declared.net.socket_addr.SocketAddr.{SocketAddr}
 use Rattle.std.specs.List.{flat_map}
 use Rattle.info_rules.specs.Rule.{PlainRule}
-use Rattle.node_core.specs.declared.ports.serving.Turn.{Turn}
-use Rattle.node_core.specs.declared.ports.serving.Turn.TheVariants.{Done, Refused, End}
-use Rattle.node_core.specs.declared.ports.serving.ServeFault.{ServeFault}
+use Rattle.node_ports.specs.declared.serving.Turn.{Turn}
+use Rattle.node_ports.specs.declared.serving.Turn.TheVariants.{Done, Refused, Unwritten, End}
+use Rattle.node_ports.specs.declared.serving.ServeFault.{ServeFault}
+use Rattle.node_ports.specs.declared.serving.ServeFault.TheVariants as serve
 use Rattle.forwarder.specs.declared.node.NodeFault.TheVariants.{Memory as NodeMemory}
 use Rattle.node_core.specs.declared.script.RunFault.TheVariants.{Memory, Node, Write}
 use Rattle.node_core.specs.Event.{Send}
 use Rattle.node_core.specs.Node.{NodeState}
-use Rattle.node_core.specs.Ports.Serving.{Shown, Serves, FailsNext, EndsAfter, StopsServing}
+use Rattle.node_ports.specs.Serving.{Shown, Serves, FailsNext, FailsToWrite, EndsAfter, StopsServing}
 use Rattle.node_core.specs.Script.Ending.{AppendsFront}
 use Rattle.node_core.specs.Script.Writing.{numbered_line, script_text, send_text, verdict_text}
 use Rattle.node_core.specs.Verdict.{verdict_of}
 use Rattle.ndn_daemon.specs.declared.fault.Fault.{Fault}
-use Rattle.ndn_daemon.specs.declared.fault.Fault.TheVariants.{Script, Unbound, Unreceived}
+use Rattle.ndn_daemon.specs.declared.fault.Fault.TheVariants.{Script, Unbound, Unreceived, Journal}
+use Rattle.ndn_daemon.specs.declared.fault.JournalFault.TheVariants as journal
 
--- the line of the verdict, as of an event of a script, and one for each packet that goes out
+-- the line of the verdict, as a script prints it for an event, and a line for each packet sent
 abbrev pub turn_text : ℕ → List PlainRule → Turn → List Send → List ℕ
 turn_text number rules (Done verdict failed) sends =
     numbered_line number (verdict_text rules (verdict_of verdict)) ++ flat_map send_text sends
 turn_text number rules Refused sends =
     numbered_line number (codes "memory") ++ flat_map send_text sends
+turn_text number rules Unwritten sends = []
 turn_text number rules End sends = []
 
--- so many events came and had outcomes, of which a script prints this text
+-- this number of events had outcomes, and a script prints this text for them
 pub record Tells (old new : NodeState) (before after : Shown) (events : ℕ) (text : List ℕ)
     : Type 0 where
   pub refused : ℕ
@@ -34,15 +37,16 @@ pub record Tells (old new : NodeState) (before after : Shown) (events : ℕ) (te
   pub serves : Serves old new before after events refused failed
   pub text_is : text ≡ script_text old.policy.rules serves.arrivals serves.outcomes
 
--- each turn had an event, or after fewer nothing was left to come, and the text was written
+-- each turn had an event, or after fewer events none was left to come, and the text was written
 abbrev pub TakesTurns : NodeState → NodeState → Shown → Shown → ℕ → Option (List ℕ)
     → Option (List ℕ) → Type 0
 TakesTurns old new before after turns held holds =
     (events : ℕ) × (ended : Bool) × (text : List ℕ) × Tells old new before after events text
     × EndsAfter turns ended events after.coming × Appends held holds text
 
--- Unreceived: the call for the next arrival failed, after the text of the events before was written.
--- Write and Memory: a front of the text of the events that came was written.
+-- Unreceived: the call for the next arrival failed, after the text of the events before was
+-- written. Write and Memory: a beginning of the text of the events was written. Journal: the event
+-- after some events is not in the journal, and a beginning of their text was written.
 abbrev pub StopsTurns : NodeState → NodeState → Shown → Shown → ℕ → Option (List ℕ)
     → Option (List ℕ) → Fault → Type 0
 StopsTurns old new before after turns held holds Unreceived =
@@ -54,21 +58,28 @@ StopsTurns old new before after turns held holds (Script Write) =
 StopsTurns old new before after turns held holds (Script Memory) =
     (events : ℕ) × (text : List ℕ) × Tells old new before after events text × (events ≤ turns)
     × AppendsFront held holds text
+StopsTurns old new before after turns held holds (Journal journal.Unwritten) =
+    (last : NodeState) × (mid : Shown) × (events : ℕ) × (text : List ℕ)
+    × Tells old last before mid events text × FailsToWrite last new mid after × (events < turns)
+    × AppendsFront held holds text
 StopsTurns old new before after turns held holds why = ⊥
 
--- a front of the text that was gathered was written, and this is left of it
+-- a beginning of the buffered text was written, and this is left of it
 abbrev pub Writes : Option (List ℕ) → Option (List ℕ) → List ℕ → List ℕ → Type 0
 Writes held holds gathered left =
     (front : List ℕ) × (gathered ≡ front ++ left) × Appends held holds front
 
--- No turn was taken. Unreceived: what was gathered was written, and then the call for the next
--- arrival failed. Write: a front of it was written.
+-- Unreceived: the buffered text was written, and then the call for the next arrival failed. Write:
+-- a beginning of the text was written, and no turn was taken. Journal: an event was answered that
+-- is not in the journal, and a beginning of the text was written.
 abbrev pub StopsTurn : NodeState → NodeState → Shown → Shown → Option (List ℕ) → Option (List ℕ)
     → List ℕ → Fault → Type 0
 StopsTurn old new before after held holds gathered Unreceived =
     (new ≡ old) × FailsNext before after × Appends held holds gathered
 StopsTurn old new before after held holds gathered (Script Write) =
     (new ≡ old) × (after ≡ before) × AppendsFront held holds gathered
+StopsTurn old new before after held holds gathered (Journal journal.Unwritten) =
+    FailsToWrite old new before after × AppendsFront held holds gathered
 StopsTurn old new before after held holds gathered why = ⊥
 
 -- the same turns with nothing printed
@@ -77,26 +88,32 @@ TakesQuietTurns old new before after turns =
     (events refused failed : ℕ) × (ended : Bool) × Serves old new before after events refused failed
     × EndsAfter turns ended events after.coming
 
--- the call for the next arrival failed, after so many events
+-- the fault of the program for this fault of serving
+abbrev pub fault_of : ServeFault → Fault
+fault_of (serve.Next events) = Unreceived
+fault_of (serve.Journal events) = Journal journal.Unwritten
+
+-- the call for the next arrival failed, or an event is not in the journal, after some events
 abbrev pub StopsQuietTurns : NodeState → NodeState → Shown → Shown → ℕ → Fault → Type 0
 StopsQuietTurns old new before after turns why =
-    (why ≡ Unreceived) × ((stop : ServeFault) × StopsServing old new before after turns stop)
+    (stop : ServeFault) × StopsServing old new before after turns stop × (why ≡ fault_of stop)
 
--- why turns end before their number: nothing can be received, an answer cannot be written, or memory
--- to print it was refused
+-- why a node stops before its last turn: nothing can be received, an answer cannot be written,
+-- memory to print it ran out, or an event is not in the journal
 abbrev pub EndsTurns : Fault → Type 0
 EndsTurns Unreceived = ⊤
 EndsTurns (Script Write) = ⊤
 EndsTurns (Script Memory) = ⊤
+EndsTurns (Journal journal.Unwritten) = ⊤
 EndsTurns why = ⊥
 
--- why a node does not come to its turns at this address and port, where its parts are right: these
--- cannot be bound, or memory was refused
+-- why a node with valid parts takes no turns at this address and port: these cannot be bound, or
+-- memory ran out
 abbrev pub HasNoTurns : SocketAddr → Fault → Type 0
 HasNoTurns endpoint (Unbound other) = other ≡ endpoint
 HasNoTurns endpoint (Script (Node why)) = why ≡ NodeMemory
 HasNoTurns endpoint why = ⊥
 
--- one of these
+-- why a node with valid parts stops at this address and port
 abbrev pub StopsAt : SocketAddr → Fault → Type 0
 StopsAt endpoint why = HasNoTurns endpoint why ⊎ EndsTurns why

@@ -1,16 +1,16 @@
--- The values that the options of a node on a port spell.
+-- The values of the options of a node on a port.
 use Rattle.std.specs.Prelude.{◌≡◌, ◌↔◌, ◌⊎◌, ℕ, ◌*◌, ◌<◌, ◌≤◌, ◌^◌, List, [], Option, None, Some, Bool, true, false, IsTrue, All, codes, length, take, ⊤}
 use Rattle.std.specs.Str.Parse.{IsNumeral, digits_value}
 use Rattle.clap.specs.Walk.{Row, all_of, one_of}
 use Rattle.std.specs.declared.net.socket_addr.SocketAddr.{SocketAddr}
-use Rattle.node_core.specs.Udp.{UdpState, bound_to, closes_after}
+use Rattle.node_ports.specs.Udp.{UdpState, bound_to, closes_after}
 use Rattle.ndn_daemon.specs.declared.fault.Fault.{Fault}
 use Rattle.ndn_daemon.specs.declared.fault.Fault.TheVariants.{BadValue}
 use Rattle.ndn_daemon.specs.declared.udp_options.LogLevel.{LogLevel}
 use Rattle.ndn_daemon.specs.declared.udp_options.LogLevel.TheVariants as levels
 use Rattle.ndn_daemon.specs.declared.udp_options.UdpOptions.{UdpOptions}
 use Rattle.ndn_daemon.specs.Endpoint.{AreEndpoints, IsEndpoint, IsLoopback, MayBePeersOf}
-use Rattle.ndn_daemon.specs.Options.{given_or, value_at}
+use Rattle.ndn_daemon.specs.Options.{MayBePath, given_or, value_at}
 
 -- the values of an argument, none if it is absent
 abbrev pub values_or_none : Option (List (List ℕ)) → List (List ℕ)
@@ -20,11 +20,11 @@ values_or_none (Some values) = values
 abbrev pub values_at : List Row → List ℕ → List (List ℕ)
 values_at rows id = values_or_none (all_of id rows)
 
--- what was found for a flag
+-- the value that the parser has for a flag
 abbrev pub flag_at : List Row → List ℕ → Option (List ℕ)
 flag_at rows id = one_of id rows
 
--- the parser says "true" of a flag that is there, and "false" of one that is not
+-- the parser has "true" for a flag that is there, and "false" for one that is not
 abbrev pub IsFlag : Option (List ℕ) → Bool → Type 0
 IsFlag said b =
     (said ≡ Some (codes "true") → b ≡ true)
@@ -39,7 +39,7 @@ IsNumber text n = IsNumeral 10 text × (digits_value 10 text ≡ n) × (n < 2 ^ 
 abbrev pub IsSeconds : List ℕ → ℕ → Type 0
 IsSeconds text n = IsNumeral 10 text × (digits_value 10 text ≡ n) × (0 < n) × (n < 2 ^ 32)
 
--- the value is there, and spells this
+-- the value is there, and spells this value
 abbrev pub Has : {A : Type 0} → Option (List ℕ) → (List ℕ → A → Type 0) → A → Type 0
 Has None Spells x = ⊥
 Has (Some value) Spells x = Spells value x
@@ -49,14 +49,14 @@ abbrev pub IsLocal : List ℕ → List SocketAddr → ℕ → Type 0
 IsLocal text peers local =
     IsNumber text local × (local ≤ length peers) × All IsLoopback (take local peers)
 
--- the parser says "events" of `--log` without a value, and the word may be written as well
+-- the parser has "events" for `--log` without a value, and the word may be written as well
 abbrev pub IsLog : Option (List ℕ) → LogLevel → Type 0
 IsLog None level = level ≡ levels.None
 IsLog (Some text) levels.None = ⊥
 IsLog (Some text) levels.Events = text ≡ codes "events"
 IsLog (Some text) levels.All = text ≡ codes "all"
 
--- how a node on a port is run
+-- the options of a node on a port
 pub record IsUdpOptions (rows : List Row) (options : UdpOptions) : Type 0 where
   pub listen : Has (value_at rows (codes "listen")) IsEndpoint options.listen
   pub turns : Has (value_at rows (codes "turns")) IsNumber options.turns
@@ -67,10 +67,11 @@ pub record IsUdpOptions (rows : List Row) (options : UdpOptions) : Type 0 where
   pub idle : IsSeconds (given_or (codes "600") (value_at rows (codes "idle"))) options.idle
   pub is_open : IsFlag (flag_at rows (codes "open")) options.«open»
   pub log : IsLog (value_at rows (codes "log")) options.log
+  pub journal : MayBePath (value_at rows (codes "journal")) options.journal
   pub quiet : IsFlag (flag_at rows (codes "quiet")) options.quiet
 
--- The ports of these options, at this moment: the peers' faces are to be opened, others close after
--- the time of silence, and strangers are accepted by `--open` or at a loopback address.
+-- The ports of these options, at this moment: the peers' faces are still to be opened, others close
+-- after the idle time, and strangers are accepted with `--open` or at a loopback address.
 pub record ArePortsOf (options : UdpOptions) (told : ℕ) (ports : UdpState) : Type 0 where
   pub is_open : IsTrue ports.accepts_strangers ↔ (IsTrue options.«open» ⊎ IsLoopback options.listen)
   pub is : ports ≡ record (closes_after (options.idle * 1000)
@@ -78,7 +79,7 @@ pub record ArePortsOf (options : UdpOptions) (told : ℕ) (ports : UdpState) : T
         accepts_strangers = ports.accepts_strangers;
       }
 
--- the fault of a text
+-- the fault of a wrong value
 abbrev pub IsBadValue : Fault → Type 0
 IsBadValue (BadValue place wanted) = ⊤
 IsBadValue why = ⊥

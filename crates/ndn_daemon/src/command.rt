@@ -13,14 +13,14 @@ use node_core::RunFault;
 use std::alloc::{AllocError, Global};
 use std::convert::AsStr;
 
-/// What a command line asks for.
+/// The request of a command line.
 #[derive(Debug, Drop)]
 pub enum Request {
     /// The help text or the version, for standard output.
     Help(Error),
-    /// To run the script on standard input.
+    /// Run the script on standard input.
     Script(Options),
-    /// To run a node on a port.
+    /// Run a node on a port.
     Udp(Options, UdpOptions),
 }
 
@@ -81,14 +81,15 @@ commands under /localhost, so they have to be on this machine (127.0.0.0/8 or ::
 Far. At most 64 peers are given, each once.
 
 In each turn the node opens the face of the next peer, or takes one datagram, for which it waits. A
-datagram from another address and port, a stranger, opens the next face, which is Far, and is handled
-in the turn after that. Where the node listens on an address that other machines can send to,
-strangers are not heard, unless --open is given: their datagrams are dropped unread, and counted.
+datagram from another address and port, a stranger, opens the next face, which is Far, and is
+handled in the turn after that. Where the node listens on an address that other machines can send
+to, strangers are not heard, unless --open is given: their datagrams are dropped unread, and
+counted.
 
-A face that a datagram opened, and that nothing came from for the time of --idle, closes in a turn of
-its own, before the next datagram is handled. While 64 addresses and ports are known and another one
-speaks, of these faces the one closes that was silent longest, if it was for 10 seconds; else no face
-opens, and the packet is dropped. The face of a peer never closes, and no number is used again.
+A face that a datagram opened, and that nothing came from for the time of --idle, closes in a turn
+of its own, before the next datagram is handled. While 64 addresses and ports are known and another
+one sends, the one of these faces that was silent longest closes, if it was for 10 seconds; else no
+face opens, and the packet is dropped. The face of a peer never closes, and no number is used again.
 
 A key file has on each line the URI of a key's name, one space, and the key in hexadecimal; a second
 space would belong to the name.
@@ -96,6 +97,13 @@ space would belong to the name.
 Where a file of --rules or --keys has changed, the node reads both again, and the new rules and keys
 take a turn of their own. Write a new file beside the old one and rename it over. A fault in a file
 is reported, and the rules and keys in force stay.
+
+With --journal the node remembers: each event that changes faces, routes, strategies, rules or the
+repository, and each allowed command, is in FILE before its packets are sent. The next node with
+FILE begins where this one ended, however it ended. The faces of peers stay open, if they are as
+Local as before; all others close. The rules and keys are those of --rules and --keys, which then
+have at most 9985 octets together. FILE is a script; it holds the keys, and is for one node at a
+time.
 
 The answer to turn N is printed as `script` prints that to event N: a line `N VERDICT`, and a line
 `> FACE HEX` for each packet that goes out. Moments are those of the machine's clock. With
@@ -112,8 +120,8 @@ Example: a node that takes two turns. In the first it opens a face for the port 
   6418fd032005fd03210196500d050b07030801410a0401020304
 
 Exit status: 0 after the turns, 1 for a fault in a file (`rules:LINE: KIND` or `keys:LINE: KIND` on
-standard error, and below it what is wrong), 2 for a wrong command line, 3 if a file, the port, output
-or memory fails.";
+standard error, and below it what is wrong; `journal:LINE: KIND` for the journal), 2 for a wrong
+command line, 3 if a file, the port, output, the journal or memory fails.";
 
 const AFTER: &str =
     "`ndn_node script --help` and `ndn_node udp --help` say what each of them reads and prints.
@@ -132,7 +140,7 @@ pub fn request_of<S: AsStr>(alloc: Global, arguments: &[S]) -> Result<Request, F
         Ok(matches) => matches,
         Err(error) => return answer_to(error),
     };
-    // The parser accepts a `--`.
+    // The parser accepts a `--`, but this program does not.
     if has_dashes(arguments) {
         return answer_to(command.error(
             ErrorKind::UnknownArgument,
@@ -145,7 +153,7 @@ pub fn request_of<S: AsStr>(alloc: Global, arguments: &[S]) -> Result<Request, F
     }
 }
 
-/// What the options of the subcommand of this name ask for.
+/// The request of the subcommand of this name with these options.
 fn named_request(alloc: Global, name: &str, found: &ArgMatches<'_>) -> Result<Request, Fault>
     ensures { ReadsInMemory (IsRequest name.now (rows_in found.now)) result }
 {
@@ -225,6 +233,12 @@ fn udp_command<'a>(alloc: Global) -> Result<Command<'a>, AllocError> {
             "Hears strangers on an address that other machines can send to",
         ))?
         .arg(log_option(alloc))?
+        .arg(option(
+            alloc,
+            "journal",
+            "FILE",
+            "Keeps faces, routes, strategies and the repository in FILE, and begins with them",
+        ))?
         .arg(flag(
             alloc,
             "quiet",
@@ -257,14 +271,14 @@ fn with_node<'a>(alloc: Global, command: Command<'a>) -> Result<Command<'a>, All
         ))
 }
 
-/// The addresses and ports of the peers.
+/// The argument for the addresses and ports of the peers.
 fn peers<'a>(alloc: Global) -> Arg<'a> {
     Arg::new(alloc, "PEERS").num_args(0..).help(
         "The peers, written as --listen, which are faces 1, 2 and so on",
     )
 }
 
-/// What is logged: without a value, events.
+/// The option for what is logged; without a value, events.
 fn log_option<'a>(alloc: Global) -> Arg<'a> {
     option(
         alloc,

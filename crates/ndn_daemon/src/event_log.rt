@@ -1,7 +1,7 @@
-//! The log of a node on a port: which lines it has, and where they go.
+//! The log of a node on a port: its lines, and where they are written.
 ghost use Rattle.std.specs.Prelude.{◌≡◌, ◌↔◌, ◌++◌, ◌-◌, ◌⊎◌, ℕ, List, [], Option, None, true, IsTrue};
 ghost use Rattle.std.specs.Io.KnownBytes.{Appends};
-ghost use Rattle.node_core.specs.Ports.{one_more};
+ghost use Rattle.node_ports.specs.Ports.{one_more};
 ghost use Rattle.ndn_log.specs.Event.{event_words};
 ghost use Rattle.ndn_log.specs.Notes.{closed_idle_words, failed_send_words, stranger_words};
 ghost use Rattle.ndn_daemon.specs.EventLog.{MayLog, SaysCount, closed_with, is_left_out};
@@ -13,21 +13,21 @@ use node_core::Verdict;
 use std::alloc::Global;
 use std::net::SocketAddr;
 
-/// How much text is gathered at most before it is written, in octets, besides one line.
+/// The most text that is buffered before it is written, in octets, besides one line.
 const MOST_GATHERED: usize = 65_536;
 
-/// How long a line waits at most before it is written, while more comes, in milliseconds.
+/// How long a line is buffered at most while events arrive, in milliseconds.
 const WAIT_MILLISECONDS: u64 = 1_000;
 
-/// How often the log says what was counted, in milliseconds.
+/// The time after which the counts are reported again, in milliseconds.
 const COUNT_MILLISECONDS: u64 = 60_000;
 
-/// Where the lines of a log go.
+/// Where the lines of a log are written.
 pub trait LogSink: Drop {
-    // The lines that it was given, where it keeps them.
+    // The lines that it was given, if it stores them.
     ghost given: { Self → Option (List ℕ) };
 
-    /// Takes whole lines. What cannot be written is lost, and the node goes on.
+    /// Takes whole lines. Lines that cannot be written are lost, without a fault.
     fn take(&mut self, lines: &[u8])
         ensures { Appends (given self.old) (given self.new) lines.now };
 }
@@ -46,7 +46,7 @@ impl<'a, R: Eprint> StandardError<'a, R> {
 }
 
 impl<'a, R: Eprint> LogSink for StandardError<'a, R> {
-    // What it has is not known.
+    // The lines that it was given are not known.
     ghost given = { λ _. None };
 
     fn take(&mut self, lines: &[u8]) {
@@ -56,8 +56,8 @@ impl<'a, R: Eprint> LogSink for StandardError<'a, R> {
     }
 }
 
-/// The lines of a log that were not written yet, and what is counted until it is said. A line for
-/// which memory is refused is left out.
+/// The lines of a log that are not written yet, and the counts that are not reported yet. A line
+/// for which memory runs out is left out.
 #[derive(Drop)]
 pub struct EventLog<S: LogSink> {
     alloc: Global,
@@ -66,18 +66,18 @@ pub struct EventLog<S: LogSink> {
     text: Vec<u8>,
     // Lines of sends that failed, which follow the line of their event.
     later: Vec<u8>,
-    // The moment of the first line that was not written yet.
+    // The moment of the first line that is not written yet.
     since: u64,
-    // How many faces closed that no line says.
+    // The number of faces that closed and are not reported yet.
     closed: u64,
-    // How many datagrams of strangers the lines have said.
+    // The number of datagrams of strangers that were reported.
     strangers: u64,
-    // The moment at which a line said what was counted.
+    // The moment of the last report of a count.
     counted: u64,
 }
 
 impl<S: LogSink> EventLog<S> {
-    /// A log without lines, which shows all events or leaves out what is plain.
+    /// A log without lines, which shows all events or leaves out plain ones.
     pub fn new(alloc: Global, sink: S, shows_all: bool) -> EventLog<S>
         ensures text { result.text.items ≡ [] }
         ensures later { result.later.items ≡ [] }
@@ -98,14 +98,15 @@ impl<S: LogSink> EventLog<S> {
         }
     }
 
-    /// Whether all lines were written.
+    /// Whether no lines are left to be written.
     pub fn is_empty(&self) -> bool
         ensures { IsTrue result ↔ (self.now.text.items ≡ []) }
     {
         self.text.is_empty()
     }
 
-    /// Appends the line of an event, unless it is left out. A face that closes is then counted.
+    /// Appends the line of an event, unless it is left out. A face that closes is counted if its
+    /// line is left out.
     pub fn put_event(&mut self, entry: &Entry<'_>, outcome: &Result<Verdict, Memory>, rules: &Rules)
         ensures left_out { is_left_out self.old.shows_all entry.now.came outcome.now ≡ true
             → self.new.text.items ≡ self.old.text.items }
@@ -126,7 +127,7 @@ impl<S: LogSink> EventLog<S> {
         let _put = put_event(self.alloc, &mut self.text, entry, outcome, rules);
     }
 
-    /// Counts what came, if a face closed.
+    /// Counts what arrived, if it is a face that closed.
     fn count_closed(&mut self, came: &Came<'_>)
         ensures { self.new ≡ record self.old {
           closed = closed_with true came.now self.old.closed;
@@ -137,7 +138,7 @@ impl<S: LogSink> EventLog<S> {
         }
     }
 
-    /// Keeps the line of a send that failed for after that of its event.
+    /// Stores the line of a failed send, to follow the line of its event.
     pub fn put_failed_send(
         &mut self,
         moment: u64,
@@ -152,7 +153,7 @@ impl<S: LogSink> EventLog<S> {
         let _put = put_failed_send(self.alloc, &mut self.later, moment, face, endpoint, octets);
     }
 
-    /// Appends the lines of sends that failed.
+    /// Appends the stored lines of failed sends, or drops them if memory runs out.
     pub fn put_later(&mut self)
         ensures text { (self.new.text.items ≡ self.old.text.items ++ self.old.later.items)
             ⊎ (self.new.text.items ≡ self.old.text.items) }
@@ -166,8 +167,8 @@ impl<S: LogSink> EventLog<S> {
         self.later.clear();
     }
 
-    /// Appends lines of what was counted, where the last are a minute old: faces that closed, and
-    /// datagrams of strangers, of which there were so many in all.
+    /// Appends lines with the counts of closed faces and of datagrams of strangers, if the last
+    /// report is a minute old. `strangers` is the number of such datagrams in all.
     pub fn put_counts(&mut self, moment: u64, strangers: u64)
         ensures others { self.new ≡ record self.old {
           text = self.new.text;
@@ -181,7 +182,7 @@ impl<S: LogSink> EventLog<S> {
         }
     }
 
-    /// The same, however old the last are.
+    /// As `put_counts`, however old the last report is.
     pub fn put_counts_now(&mut self, moment: u64, strangers: u64)
         ensures others { self.new ≡ record self.old {
           text = self.new.text;
@@ -242,7 +243,7 @@ impl<S: LogSink> EventLog<S> {
         }
     }
 
-    /// Writes the lines.
+    /// Writes all lines.
     pub fn write_out(&mut self)
         ensures written { Appends (S.given self.old.sink) (S.given self.new.sink)
             self.old.text.items }
@@ -259,7 +260,7 @@ impl<S: LogSink> EventLog<S> {
         self.text.clear();
     }
 
-    /// Notes the moment of the lines that follow, where all lines were written.
+    /// Sets the moment of the first line that follows, if no lines are left to be written.
     pub fn begin(&mut self, moment: u64)
         ensures first { self.old.text.items ≡ [] → self.new.since ≡ moment }
         ensures others { self.new ≡ record self.old { since = self.new.since } }
@@ -269,7 +270,7 @@ impl<S: LogSink> EventLog<S> {
         }
     }
 
-    /// Writes the lines, where there are many, or the first waits for a second at this moment.
+    /// Writes all lines if there is much text, or if the first line is a second old at this moment.
     pub fn write_old(&mut self, moment: u64)
         ensures { (self.new ≡ self.old) ⊎ ((self.new.text.items ≡ [])
             × Appends (S.given self.old.sink) (S.given self.new.sink) self.old.text.items) }

@@ -1,4 +1,4 @@
-//! Why the program stops: its message and its exit status.
+//! The faults of the program, with their messages and exit statuses.
 use crate::advice::{advice_on_rules, is_memory};
 use file_faults::{KeyMessage, cause_of};
 use hmac_keys::KeyFault;
@@ -9,14 +9,14 @@ use std::fmt;
 use std::io::ErrorKind;
 use std::net::SocketAddr;
 
-/// Why the program did not do what it was asked.
+/// Why the program could not do what was asked.
 #[derive(Debug, Drop)]
 pub enum Fault {
     /// The command line is wrong.
     CommandLine(clap::Error),
-    /// The value of an option is not one that may be given there.
+    /// The value of an option is not allowed.
     BadValue {
-        /// The option, as it is written.
+        /// The option, as it is written on the command line.
         place: &'static str,
         /// What to give there.
         wanted: &'static str,
@@ -25,9 +25,9 @@ pub enum Fault {
     NotText,
     /// A file cannot be read.
     Unread {
-        /// Which file it is.
+        /// The kind of file.
         file: &'static str,
-        /// Where it was looked for.
+        /// Its path.
         path: String,
         /// Why it cannot be read.
         kind: ErrorKind,
@@ -36,17 +36,32 @@ pub enum Fault {
     Rules(RulesFault),
     /// The file is not a key file.
     Keys(KeyFault),
-    /// The file has more octets than a key file may have.
+    /// The key file has too many octets.
     LargeKeys,
-    /// The script did not run to its end.
+    /// The script could not run to its end, or a node could not be made.
     Script(RunFault),
-    /// An address and a port cannot be bound.
+    /// This address and port cannot be bound.
     Unbound {
         /// The address and the port.
         endpoint: SocketAddr,
     },
     /// Nothing can be received from the port.
     Unreceived,
+    /// The journal cannot be used.
+    Journal(JournalFault),
+}
+
+/// Why a journal cannot be used.
+#[derive(Clone, Copy, Debug, PartialEq, Eq)]
+pub enum JournalFault {
+    /// Another program has locked it.
+    Locked,
+    /// This line, counted from 1, is not a line of a script.
+    BadLine(u64),
+    /// An event cannot be written to it.
+    Unwritten,
+    /// The rule file and the key file together are too long for a line.
+    LongRules,
 }
 
 impl Fault {
@@ -71,10 +86,12 @@ impl Fault {
             }
             Fault::Keys(KeyFault::BadLine(_) | KeyFault::TwiceNamed(_) | KeyFault::TooMany)
             | Fault::LargeKeys
-            | Fault::Script(RunFault::BadLine(_)) => 1,
+            | Fault::Script(RunFault::BadLine(_))
+            | Fault::Journal(JournalFault::BadLine(_) | JournalFault::LongRules) => 1,
             Fault::Unread { .. }
             | Fault::Unbound { .. }
             | Fault::Unreceived
+            | Fault::Journal(JournalFault::Locked | JournalFault::Unwritten)
             | Fault::Keys(KeyFault::Memory)
             | Fault::Script(
                 RunFault::Read
@@ -126,6 +143,19 @@ impl fmt::Display for Fault {
                 "error: {endpoint} cannot be bound: give an address of this machine and a port that no program has"
             ),
             Fault::Unreceived => f.write_str("error: nothing can be received from the port\n"),
+            Fault::Journal(JournalFault::Locked) => {
+                f.write_str("error: the journal is in use by another program\n")
+            }
+            Fault::Journal(JournalFault::BadLine(line)) => writeln!(
+                f,
+                "journal:{line}: bad line\n  a journal is a script; restore a copy, or take off this line and those after it"
+            ),
+            Fault::Journal(JournalFault::Unwritten) => f.write_str(
+                "error: the journal cannot be written; nothing was sent of the event it was for\n",
+            ),
+            Fault::Journal(JournalFault::LongRules) => f.write_str(
+                "journal:0: TooLong\n  the rule file and the key file have more than 9985 octets together\n",
+            ),
             Fault::Script(RunFault::Read) => {
                 f.write_str("error: standard input cannot be read\n")
             }

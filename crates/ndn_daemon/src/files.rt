@@ -1,5 +1,5 @@
-//! The rule file and the key file.
-ghost use Rattle.std.specs.Prelude.{IfSome, MatchResult, codes};
+//! The rule file, the key file and the journal.
+ghost use Rattle.std.specs.Prelude.{IfOk, IfSome, MatchResult, codes};
 ghost use Rattle.std.specs.IoError.{error_kind};
 ghost use Rattle.hmac_keys.specs.KeyReading.{AreKeys};
 ghost use Rattle.node_core.specs.Files.{AreRules};
@@ -17,29 +17,38 @@ use std::io::{ErrorKind, Read};
 /// The greatest length of a rule file, in octets.
 const MAX_RULE_FILE: u32 = 65_536;
 
-/// The rules of a rule file. One that is not UTF-8 has a Syntax fault at line 0.
+/// Parses a rule file. Octets that are not UTF-8 have a Syntax fault at line 0.
 pub fn read_rules(alloc: Global, octets: &[u8]) -> Result<Rules, Fault>
     ensures { MatchResult result (AreRules octets.now) (IsRuleFault octets.now) }
 {
     node_core::read_rules(alloc, octets).map_err(Fault::Rules)
 }
 
-/// The keys of a key file. One that is not UTF-8 is reported as a bad line with the number 0.
+/// Parses a key file. Octets that are not UTF-8 are reported as a bad line with the number 0.
 pub fn read_keys(alloc: Global, octets: &[u8]) -> Result<KeyBook, Fault>
     ensures { MatchResult result (AreKeys octets.now) (IsKeyFault octets.now) }
 {
     KeyBook::read_octets(alloc, octets).map_err(Fault::Keys)
 }
 
-/// The rules of an open rule file, which has this path. Of one of more than 65,536 octets no more than 65,537 are read, and it
-/// has a TooLarge fault at line 0, also where it is not UTF-8.
-pub fn read_rule_file<R: Read + Drop>(alloc: Global, path: &str, file: R) -> Result<Rules, Fault>
-    // Where it is known what the file has.
-    ensures { IfSome (R.remaining file)
-        (λ octets. MatchResult result (AreRules octets) (IsRuleFileFault path.now octets)) }
+/// Reads an open rule file at this path, and returns its rules and its octets. A file of more than
+/// 65,536 octets has a TooLarge fault at line 0, also if it is not UTF-8, and no more than 65,537
+/// octets of it are read.
+pub fn read_rule_file<R: Read + Drop>(
+    alloc: Global,
+    path: &str,
+    file: R,
+) -> Result<(Rules, Vec<u8>), Fault>
+    // If the content of the file is known.
+    ensures known { IfSome (R.remaining file) (λ octets. MatchResult result
+        (λ read. AreRules octets read.0) (IsRuleFileFault path.now octets)) }
+    ensures rules { IfOk result (λ read. AreRules read.1.items read.0) }
 {
     match read_within(alloc, file, MAX_RULE_FILE) {
-        Ok(Some(octets)) => read_rules(alloc, &octets),
+        Ok(Some(octets)) => {
+            let rules = read_rules(alloc, &octets)?;
+            Ok((rules, octets))
+        }
         Ok(None) => Err(Fault::Rules(RulesFault {
             line: 0,
             kind: RulesFaultKind::TooLarge,
@@ -48,15 +57,23 @@ pub fn read_rule_file<R: Read + Drop>(alloc: Global, path: &str, file: R) -> Res
     }
 }
 
-/// The keys of an open key file, which has this path. One of more than `MAX_KEY_FILE` octets is too large, whatever it has,
-/// and only one octet more is read of it.
-pub fn read_key_file<R: Read + Drop>(alloc: Global, path: &str, file: R) -> Result<KeyBook, Fault>
-    // Where it is known what the file has.
-    ensures { IfSome (R.remaining file)
-        (λ octets. MatchResult result (AreKeysOfFile octets) (IsKeyFileFault path.now octets)) }
+/// Reads an open key file at this path, and returns its keys and its octets. A file of more than
+/// `MAX_KEY_FILE` octets is too large, whatever its content, and only one octet more is read of it.
+pub fn read_key_file<R: Read + Drop>(
+    alloc: Global,
+    path: &str,
+    file: R,
+) -> Result<(KeyBook, Vec<u8>), Fault>
+    // If the content of the file is known.
+    ensures known { IfSome (R.remaining file) (λ octets. MatchResult result
+        (λ read. AreKeysOfFile octets read.0) (IsKeyFileFault path.now octets)) }
+    ensures keys { IfOk result (λ read. AreKeys read.1.items read.0) }
 {
     match read_within(alloc, file, MAX_KEY_FILE) {
-        Ok(Some(octets)) => read_keys(alloc, &octets),
+        Ok(Some(octets)) => {
+            let keys = read_keys(alloc, &octets)?;
+            Ok((keys, octets))
+        }
         Ok(None) => Err(Fault::LargeKeys),
         Err(error) => Err(unread_keys(alloc, path, &error)),
     }
@@ -76,6 +93,14 @@ pub fn unread_keys(alloc: Global, path: &str, error: &io::Error) -> Fault
     ensures cause { HasCause (error_kind error.now) result }
 {
     unread(alloc, "key file", path, error.kind())
+}
+
+/// The fault of a journal that cannot be opened, read or cut.
+pub fn unread_journal(alloc: Global, path: &str, error: &io::Error) -> Fault
+    ensures file { IsUnread (codes "journal") path.now result }
+    ensures cause { HasCause (error_kind error.now) result }
+{
+    unread(alloc, "journal", path, error.kind())
 }
 
 /// The fault of a file that cannot be opened or read, for this cause.

@@ -3,6 +3,7 @@
 
 mod advice;
 mod command;
+mod disk_journal;
 mod event_log;
 mod fault;
 mod files;
@@ -14,12 +15,13 @@ mod udp_options;
 mod watched_ports;
 
 pub use command::{Request, request_of};
+pub use disk_journal::DiskJournal;
 pub use event_log::{EventLog, LogSink, StandardError};
-pub use fault::Fault;
+pub use fault::{Fault, JournalFault};
 pub use files::{read_key_file, read_keys, read_rule_file, read_rules};
 pub use logged_ports::{HasEndpoints, LoggedPorts};
 pub use options::Options;
 pub use port::{MachineClock, run_on_port};
 pub use rule_files::RuleFiles;
 pub use udp_options::{LogLevel, UdpOptions};
-pub use watched_ports::{RuleSource, WatchedPorts};
+pub use watched_ports::{Restart, RuleSource, WatchedPorts};

@@ -1,22 +1,24 @@
-//! Ports with a log of what came, and of what became of it.
+//! Ports with a log of the arrivals and their outcomes.
 ghost use Rattle.std.specs.Prelude.{◌≡◌, ◌∷◌, [], None, length, IfOk, IfSome, OnErr, OnOk};
-ghost use Rattle.node_core.specs.Ports.{Gives, LiesWithin, Takes, arrived, one_more};
+ghost use Rattle.node_ports.specs.Ports.{Gives, LiesWithin, Takes, arrived, one_more};
 ghost use Rattle.ndn_daemon.specs.LoggedPorts.{IsCameOf, IsOutcomeOf, face_of, seen_in};
 
 use crate::event_log::{EventLog, LogSink};
 use crate::watched_ports::moment_of;
 use info_rules::Rules;
+use journal::{Coming, JournalFile};
 use ndn_log::{Came, Entry};
 use ndn_tlv::Memory;
-use node_core::{Arrival, Moments, PortFault, Ports, Scope, Turn, UdpPorts, Verdict};
+use node_core::{Scope, Verdict};
+use node_ports::{Arrival, JournalledPorts, Moments, PortFault, Ports, Turn, UdpPorts};
 use std::net::SocketAddr;
 
-/// Ports that know where their faces lead.
+/// Ports that know the endpoints of their faces.
 pub trait HasEndpoints {
-    /// The endpoint of a face, where there is one.
+    /// The endpoint of a face, if it has one.
     fn endpoint_of(&self, face: u64) -> Option<SocketAddr>;
 
-    /// How many datagrams of strangers were dropped.
+    /// The number of datagrams of strangers that were dropped.
     fn strangers(&self) -> u64;
 }
 
@@ -30,6 +32,16 @@ impl<M: Moments> HasEndpoints for UdpPorts<M> {
     }
 }
 
+impl<P: Ports + HasEndpoints + Drop, F: JournalFile + Drop> HasEndpoints for JournalledPorts<P, F> {
+    fn endpoint_of(&self, face: u64) -> Option<SocketAddr> {
+        self.ports().endpoint_of(face)
+    }
+
+    fn strangers(&self) -> u64 {
+        self.ports().strangers()
+    }
+}
+
 /// What arrived, without its octets.
 #[derive(Clone, Copy)]
 enum Seen {
@@ -40,16 +52,16 @@ enum Seen {
     NewRules,
 }
 
-/// Ports with a log. What they give and take is what the ports below do. Lines are written where
-/// nothing comes soon, before anything is waited for, and after a second while packets come.
+/// Ports with a log. They give and take what the underlying ports do. Lines are written before the
+/// ports wait, if nothing arrives soon, and after a second while packets arrive.
 #[derive(Drop)]
 pub struct LoggedPorts<P: Ports + HasEndpoints + Drop, S: LogSink> {
     ports: P,
     log: EventLog<S>,
-    // What arrived last, and when.
+    // The last arrival, and its moment.
     seen: Option<Seen>,
     moment: u64,
-    // The face that was opened last, or the number that was told in place of one, and its endpoint.
+    // The last face that was opened, or the number given in place of one, and its endpoint.
     opened: u64,
     endpoint: Option<SocketAddr>,
 }
@@ -69,7 +81,7 @@ impl<P: Ports + HasEndpoints + Drop, S: LogSink> LoggedPorts<P, S> {
         }
     }
 
-    /// Writes what is left of the log, with what was counted.
+    /// Writes the rest of the log, with the counts.
     pub fn finish(&mut self)
         ensures { self.new.ports ≡ self.old.ports }
     {
@@ -77,7 +89,7 @@ impl<P: Ports + HasEndpoints + Drop, S: LogSink> LoggedPorts<P, S> {
         self.log.write_out();
     }
 
-    /// Notes what arrived.
+    /// Records an arrival.
     fn see(&mut self, arrival: &Arrival)
         ensures ports { self.new.ports ≡ self.old.ports }
         ensures seen { self.new.seen ≡ seen_in arrival.now }
@@ -92,7 +104,7 @@ impl<P: Ports + HasEndpoints + Drop, S: LogSink> LoggedPorts<P, S> {
         }
     }
 
-    /// The endpoint of a face, as far as it is known.
+    /// The endpoint of a face, if it is known.
     fn endpoint_of(&self, face: u64) -> Option<SocketAddr> {
         match self.ports.endpoint_of(face) {
             Some(endpoint) => Some(endpoint),
@@ -101,7 +113,7 @@ impl<P: Ports + HasEndpoints + Drop, S: LogSink> LoggedPorts<P, S> {
         }
     }
 
-    /// Notes what became of what arrived, whose octets begin the buffer.
+    /// Logs the outcome of an arrival, whose octets begin the buffer.
     fn put_event(&mut self, seen: Seen, turn: &Turn, octets: &[u8], rules: &Rules)
         ensures { self.new.ports ≡ self.old.ports }
     {
@@ -133,6 +145,8 @@ impl<P: Ports + HasEndpoints + Drop, S: LogSink> Ports for LoggedPorts<P, S> {
 
     ghost taken = { λ l. P.taken l.ports };
 
+    ghost journal = { λ l. P.journal l.ports };
+
     fn next(&mut self, buffer: &mut [u8]) -> Result<Arrival, PortFault> {
         if !self.log.is_empty() {
             if let Some(arrival) = self.ports.next_soon(buffer) {
@@ -150,6 +164,19 @@ impl<P: Ports + HasEndpoints + Drop, S: LogSink> Ports for LoggedPorts<P, S> {
         let arrival = self.ports.next_soon(buffer)?;
         self.see(&arrival);
         Some(arrival)
+    }
+
+    fn keeps_journal(&self) -> bool {
+        self.ports.keeps_journal()
+    }
+
+    fn commit(
+        &mut self,
+        event: &Coming<'_>,
+        time: u64,
+        verdict: &Verdict,
+    ) -> Result<(), PortFault> {
+        self.ports.commit(event, time, verdict)
     }
 
     fn send(&mut self, face: u64, octets: &[u8]) -> Result<(), PortFault> {
@@ -192,7 +219,7 @@ fn seen_in(arrival: &Arrival) -> Option<Seen>
     }
 }
 
-/// The same with its octets, which begin a buffer.
+/// An arrival with its octets, which begin a buffer.
 fn came_of(seen: Seen, octets: &[u8]) -> Came<'_>
     ensures { IsCameOf seen octets.now result }
 {
@@ -219,13 +246,13 @@ fn face_of(came: &Came<'_>) -> Option<u64>
     }
 }
 
-/// What became of an event; none where nothing came.
+/// The outcome of an event; none if the ports ended, or the node has to end.
 fn outcome_of(turn: &Turn) -> Option<Result<Verdict, Memory>>
     ensures { IsOutcomeOf turn.now result }
 {
     match turn {
         Turn::Done { verdict, .. } => Some(Ok(*verdict)),
         Turn::Refused => Some(Err(Memory)),
-        Turn::End => None,
+        Turn::Unwritten | Turn::End => None,
     }
 }

@@ -1,4 +1,4 @@
-//! The values of the options, or those that stand for them where they are absent.
+//! The values of the options, or their defaults.
 ghost use Rattle.std.specs.Prelude.{◌≡◌, option_map};
 ghost use Rattle.ndn_names.specs.ReadsAs.{ReadsAs};
 ghost use Rattle.ndn_daemon.specs.Options.{IsCapacity, IsOptions, MayBePath, Reads, ReadsInMemory, given_or, rows_in, value_at};
@@ -9,16 +9,16 @@ use ndn_names::{NameBuf, NameFault};
 use node_core::RunFault;
 use std::alloc::Global;
 
-/// How a node is made.
+/// The options of a node.
 #[derive(Debug, Drop)]
 pub struct Options {
-    /// The path of the rule file. Without one no rule allows anything.
+    /// The path of the rule file. Without one, no rule allows anything.
     pub rules: Option<String>,
-    /// The path of the key file. Without one no key is known.
+    /// The path of the key file. Without one, there are no keys.
     pub keys: Option<String>,
     /// The repository's prefix.
     pub repo: NameBuf,
-    /// How many Data the cache holds.
+    /// The capacity of the cache, in Data.
     pub cache: u32,
 }
 
@@ -43,7 +43,8 @@ pub fn value<'a>(found: &ArgMatches<'a>, id: &str) -> Option<&'a str>
     found.get_str(id)
 }
 
-fn path_of(alloc: Global, path: Option<&str>) -> Result<Option<String>, Fault>
+/// The path of an option, if it is given.
+pub fn path_of(alloc: Global, path: Option<&str>) -> Result<Option<String>, Fault>
     ensures { ReadsInMemory (MayBePath (option_map (λ path. path.now) path.entry)) result }
 {
     match path {
@@ -52,7 +53,7 @@ fn path_of(alloc: Global, path: Option<&str>) -> Result<Option<String>, Fault>
     }
 }
 
-/// The text that is given, or else this one.
+/// The text that is given, or this default.
 pub fn given_or<'a>(text: &'a str, given: Option<&'a str>) -> &'a str
     ensures { result.now ≡ given_or text.entry.now (option_map (λ given. given.now) given.entry) }
 {
@@ -62,7 +63,7 @@ pub fn given_or<'a>(text: &'a str, given: Option<&'a str>) -> &'a str
     }
 }
 
-/// The name whose URI is this text.
+/// The name with this URI.
 fn repo_of(alloc: Global, uri: &str) -> Result<NameBuf, Fault>
     ensures { ReadsInMemory (ReadsAs uri.now) result }
 {

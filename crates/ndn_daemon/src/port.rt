@@ -1,30 +1,37 @@
 //! A node on a UDP port of this machine.
-ghost use Rattle.std.specs.Prelude.{◌≡◌, ◌↔◌, ◌≤◌, ◌+◌, ◌++◌, [], Err, None, length, true, false, vec_len, IsOk, IsTrue, IfErr, IfOk, IfSome, MatchOption, OnErr, OnOk};
+ghost use Rattle.std.specs.Prelude.{◌≡◌, ◌≢◌, ◌↔◌, ◌≤◌, ◌+◌, ◌++◌, [], Err, None, length, true, false, vec_len, IsOk, IsTrue, IfErr, IfOk, IfSome, MatchOption, OnErr, OnOk};
 ghost use Rattle.std.specs.Vec.{vec_capacity};
 ghost use Rattle.std.specs.Io.KnownBytes.{Appends};
 ghost use Rattle.forwarder.specs.Parts.{parts_fault};
-ghost use Rattle.node_core.specs.Ports.Serving.{IsTurn, Shown, shown};
+ghost use Rattle.node_ports.specs.Serving.{IsTurn, Shown, shown};
 ghost use Rattle.node_core.specs.Script.Ending.{AppendsFront};
 ghost use Rattle.ndn_daemon.specs.UdpOptions.{ArePortsOf};
 ghost use Rattle.ndn_daemon.specs.Turn.{EndsTurns, HasNoTurns, StopsAt, StopsQuietTurns, StopsTurn, StopsTurns, TakesQuietTurns, TakesTurns, Writes, turn_text};
 
+use crate::disk_journal::DiskJournal;
 use crate::event_log::{EventLog, LogSink, StandardError};
-use crate::fault::Fault;
+use crate::fault::{Fault, JournalFault};
 use crate::logged_ports::{HasEndpoints, LoggedPorts};
 use crate::udp_options::{LogLevel, UdpOptions};
-use crate::watched_ports::{RuleSource, WatchedPorts};
+use crate::watched_ports::{Restart, RuleSource, WatchedPorts};
 use info_rules::Rules;
 use node_core::{
-    FRAME_ROOM, MAX_FACES, Moments, Node, NodeParts, Outbox, Ports, RunFault, Turn, UdpPorts,
-    put_all, put_refused, put_sends, put_verdict, serve, serve_turn_in, serve_turn_soon,
+    MAX_FACES, Node, NodeParts, Outbox, RunFault, Scope, put_all, put_refused, put_sends,
+    put_verdict,
 };
-use std::alloc::Global;
+use node_ports::{
+    FRAME_ROOM, JournalledPorts, Moments, Ports, ServeFault, Turn, UdpPorts, serve, serve_turn_in,
+    serve_turn_soon,
+};
+use std::alloc::{AllocError, Global};
+use std::fs::File;
 use std::io;
 use std::io::Write;
 use std::net::Net;
+use std::rt::Files;
 use std::time::{Clock, SystemTime};
 
-/// How much text is gathered at most before it is written, in octets, besides that of one turn.
+/// The most text that is buffered before it is written, in octets, besides that of one turn.
 const MOST_GATHERED: usize = 65_536;
 
 /// The machine's clock.
@@ -35,7 +42,7 @@ pub struct MachineClock<'a, R> {
 }
 
 impl<'a, R: Clock> MachineClock<'a, R> {
-    /// The clock, which was not read yet.
+    /// The clock, not read yet.
     pub fn new(rt: &'a R) -> MachineClock<'a, R> {
         MachineClock { rt, last: 0 }
     }
@@ -44,7 +51,7 @@ impl<'a, R: Clock> MachineClock<'a, R> {
 impl<'a, R: Clock> Moments for MachineClock<'a, R> {
     ghost last = { λ clock. clock.last };
 
-    // Where the clock cannot be read, no time has passed.
+    // If the clock cannot be read, it returns the last moment again.
     fn now(&mut self) -> u64 {
         if let Some(now) = milliseconds(self.rt) {
             self.last = now;
@@ -60,24 +67,23 @@ fn milliseconds<R: Clock>(rt: &R) -> Option<u64> {
     u64::try_from(duration.as_millis()).ok()
 }
 
-/// Runs a node on its port for its turns, and writes each answer to standard output as it comes, or
-/// none where it is quiet, and its log to standard error, where one is asked for. Its rules and keys
-/// are replaced where their source has new ones. Parts that are wrong are reported before the port
-/// is bound.
-pub fn run_on_port<R: AllocGlobal + Eprint + Net + Print, M: Moments, S: RuleSource>(
-    rt: &R,
-    parts: NodeParts,
-    moments: M,
-    source: S,
-    options: &UdpOptions,
-) -> Result<(), Fault>
+/// Runs a node on its port for its turns. It writes the answers to standard output, unless it is
+/// quiet, and its log, if there is one, to standard error. Its rules and keys are replaced when
+/// their source has new ones. Wrong parts are reported before the port is bound. With a journal the
+/// node begins with the state that the journal restores, and with the rules and keys of the source.
+pub fn run_on_port<
+    R: AllocGlobal + Eprint + Files<File = File> + Net + Print,
+    M: Moments,
+    S: RuleSource,
+>(rt: &R, parts: NodeParts, moments: M, source: S, options: &UdpOptions) -> Result<(), Fault>
     requires { length options.now.peers.items ≤ MAX_FACES }
     ensures parts { MatchOption (parts_fault parts.repo parts.cache)
-        (IfErr result (StopsAt options.now.listen))
+        (options.now.journal ≡ None → IfErr result (StopsAt options.now.listen))
         (λ fault. result ≡ Err (Fault.Script (RunFault.Node fault))) }
-    // Where no turn is asked for, none is taken.
-    ensures none { options.now.turns ≡ 0 → parts_fault parts.repo parts.cache ≡ None
-        → IfErr result (HasNoTurns options.now.listen) }
+    // With valid parts, no turns and no journal, it fails only if the endpoint cannot be bound or
+    // memory runs out.
+    ensures none { options.now.turns ≡ 0 → options.now.journal ≡ None
+        → parts_fault parts.repo parts.cache ≡ None → IfErr result (HasNoTurns options.now.listen) }
 {
     let mut node = match Node::new(rt.alloc(), parts) {
         Ok(node) => node,
@@ -88,17 +94,105 @@ pub fn run_on_port<R: AllocGlobal + Eprint + Net + Print, M: Moments, S: RuleSou
             endpoint: options.listen,
         });
     };
+    take_as_begun(rt, &mut node, ports, source, options)
+}
+
+/// Lets a node take the turns of the options, with a journal if they name one.
+fn take_as_begun<
+    R: AllocGlobal + Eprint + Files<File = File> + Print,
+    P: Ports + HasEndpoints + Drop,
+    S: RuleSource,
+>(rt: &R, node: &mut Node, ports: P, source: S, options: &UdpOptions) -> Result<(), Fault>
+    ensures fault { options.now.journal ≡ None → IfErr result EndsTurns }
+    ensures none { options.now.turns ≡ 0 → options.now.journal ≡ None → IsOk result }
+{
+    match &options.journal {
+        Some(path) => take_journalled(rt, node, path, ports, source, options),
+        None => take_logged(
+            rt.alloc(),
+            node,
+            WatchedPorts::new(ports, source, 0),
+            StandardError::new(rt),
+            &mut io::writer(rt),
+            options,
+        ),
+    }
+}
+
+/// Lets a node take the turns of the options, after it has replayed the journal at this path, which
+/// it then appends to.
+fn take_journalled<
+    R: AllocGlobal + Eprint + Files<File = File> + Print,
+    P: Ports + HasEndpoints + Drop,
+    S: RuleSource,
+>(
+    rt: &R,
+    node: &mut Node,
+    path: &str,
+    ports: P,
+    mut source: S,
+    options: &UdpOptions,
+) -> Result<(), Fault> {
+    let mut journal = DiskJournal::open(rt, path)?;
+    let restart = restart_of(rt, node, path, &mut journal, &mut source, options)?;
+    let ports = WatchedPorts::after(restart, ports, source);
     take_logged(
         rt.alloc(),
-        &mut node,
-        WatchedPorts::new(ports, source, 0),
+        node,
+        JournalledPorts::new(rt.alloc(), ports, journal),
         StandardError::new(rt),
         &mut io::writer(rt),
         options,
     )
 }
 
-/// The ports that the options ask for; none where the endpoint cannot be bound.
+/// Hands the events of a journal to a node, and returns the first events after the restart.
+fn restart_of<R: AllocGlobal + Eprint, S: RuleSource>(
+    rt: &R,
+    node: &mut Node,
+    path: &str,
+    journal: &mut DiskJournal,
+    source: &mut S,
+    options: &UdpOptions,
+) -> Result<Restart, Fault> {
+    let renewal = source.current()?;
+    let replayed = journal.replay(rt.alloc(), path, node)?;
+    if replayed.cut > 0 {
+        // The line has been removed, even if standard error cannot be written.
+        let _printed = eprintln!(rt;
+            "journal: the last line was cut short and is taken off: {} octets",
+            replayed.cut
+        );
+    }
+    Ok(Restart {
+        now: node.now(),
+        renewal: Some(renewal),
+        closing: unknown_faces(rt.alloc(), node, options)?,
+    })
+}
+
+/// The open faces that are not the peers'. Such a face was opened for an endpoint that the node
+/// does not know any more, or for a peer with another scope.
+fn unknown_faces(alloc: Global, node: &Node, options: &UdpOptions) -> Result<Vec<u64>, AllocError> {
+    let mut unknown = Vec::new(alloc);
+    for i in 0..MAX_FACES {
+        let Some((face, scope)) = node.open_face(i) else {
+            break;
+        };
+        if !is_of_peer(face, scope, options) {
+            unknown.push(face)?;
+        }
+    }
+    Ok(unknown)
+}
+
+/// Whether a face has the number and the scope of a peer's.
+fn is_of_peer(face: u64, scope: Scope, options: &UdpOptions) -> bool {
+    let is_local = scope == Scope::Local;
+    0 < face && face <= options.peers.len() as u64 && is_local == (face <= options.local)
+}
+
+/// The ports of the options; none if the endpoint cannot be bound.
 fn bound_ports<M: Moments>(rt: &impl Net, moments: M, options: &UdpOptions) -> Option<UdpPorts<M>>
     requires { length options.now.peers.items ≤ MAX_FACES }
     ensures { IfSome result (ArePortsOf options.now (M.last moments)) }
@@ -113,7 +207,7 @@ fn bound_ports<M: Moments>(rt: &impl Net, moments: M, options: &UdpOptions) -> O
     Some(ports)
 }
 
-/// Lets a node take the turns that the options ask for, with a log where they ask for one.
+/// Lets a node take the turns of the options, with a log if they ask for one.
 fn take_logged<P: Ports + HasEndpoints + Drop, S: LogSink, W: Write>(
     alloc: Global,
     node: &mut Node,
@@ -124,11 +218,12 @@ fn take_logged<P: Ports + HasEndpoints + Drop, S: LogSink, W: Write>(
 ) -> Result<(), Fault>
     ensures printed { options.now.quiet ≡ false → OnOk result ((after : Shown)
         × TakesTurns node.old node.new
-        (shown (P.failures ports) (P.coming ports) (P.taken ports)) after
+        (shown (P.failures ports) (P.coming ports) (P.taken ports) (P.journal ports)) after
         options.now.turns (W.contents writer.old) (W.contents writer.new)) }
     ensures served { options.now.quiet ≡ true → OnOk result ((after : Shown)
         × TakesQuietTurns node.old node.new
-        (shown (P.failures ports) (P.coming ports) (P.taken ports)) after options.now.turns) }
+        (shown (P.failures ports) (P.coming ports) (P.taken ports)
+        (P.journal ports)) after options.now.turns) }
     ensures fault { IfErr result EndsTurns }
     ensures none { options.now.turns ≡ 0 → IsOk result }
     ensures quiet { options.now.quiet ≡ true → W.contents writer.new ≡ W.contents writer.old }
@@ -143,7 +238,7 @@ fn take_logged<P: Ports + HasEndpoints + Drop, S: LogSink, W: Write>(
     done
 }
 
-/// Lets a node take the turns that the options ask for. A quiet node writes nothing.
+/// Lets a node take the turns of the options. A quiet node writes nothing.
 fn take_as_asked<P: Ports, W: Write>(
     alloc: Global,
     node: &mut Node,
@@ -152,12 +247,16 @@ fn take_as_asked<P: Ports, W: Write>(
     options: &UdpOptions,
 ) -> Result<(), Fault>
     ensures printed { options.now.quiet ≡ false → OnOk result (TakesTurns node.old node.new
-        (shown (P.failures ports.old) (P.coming ports.old) (P.taken ports.old))
-        (shown (P.failures ports.new) (P.coming ports.new) (P.taken ports.new))
+        (shown (P.failures ports.old) (P.coming ports.old) (P.taken ports.old)
+        (P.journal ports.old))
+        (shown (P.failures ports.new) (P.coming ports.new) (P.taken ports.new)
+        (P.journal ports.new))
         options.now.turns (W.contents writer.old) (W.contents writer.new)) }
     ensures served { options.now.quiet ≡ true → OnOk result (TakesQuietTurns node.old node.new
-        (shown (P.failures ports.old) (P.coming ports.old) (P.taken ports.old))
-        (shown (P.failures ports.new) (P.coming ports.new) (P.taken ports.new))
+        (shown (P.failures ports.old) (P.coming ports.old) (P.taken ports.old)
+        (P.journal ports.old))
+        (shown (P.failures ports.new) (P.coming ports.new) (P.taken ports.new)
+        (P.journal ports.new))
         options.now.turns) }
     ensures fault { IfErr result EndsTurns }
     ensures none { options.now.turns ≡ 0 → IsOk result }
@@ -170,7 +269,7 @@ fn take_as_asked<P: Ports, W: Write>(
     }
 }
 
-/// Lets a node take so many turns at a port, or as many as something comes for, and prints nothing.
+/// Lets a node take this number of turns at a port, fewer if the port ends, and prints nothing.
 fn take_quiet_turns<P: Ports>(
     alloc: Global,
     node: &mut Node,
@@ -178,22 +277,27 @@ fn take_quiet_turns<P: Ports>(
     turns: u64,
 ) -> Result<(), Fault>
     ensures done { OnOk result (TakesQuietTurns node.old node.new
-        (shown (P.failures ports.old) (P.coming ports.old) (P.taken ports.old))
-        (shown (P.failures ports.new) (P.coming ports.new) (P.taken ports.new)) turns) }
+        (shown (P.failures ports.old) (P.coming ports.old) (P.taken ports.old)
+        (P.journal ports.old))
+        (shown (P.failures ports.new) (P.coming ports.new) (P.taken ports.new)
+        (P.journal ports.new)) turns) }
     ensures stopped { IfErr result (StopsQuietTurns node.old node.new
-        (shown (P.failures ports.old) (P.coming ports.old) (P.taken ports.old))
-        (shown (P.failures ports.new) (P.coming ports.new) (P.taken ports.new)) turns) }
+        (shown (P.failures ports.old) (P.coming ports.old) (P.taken ports.old)
+        (P.journal ports.old))
+        (shown (P.failures ports.new) (P.coming ports.new) (P.taken ports.new)
+        (P.journal ports.new)) turns) }
     ensures fault { IfErr result EndsTurns }
     ensures none { turns ≡ 0 → IsOk result }
 {
     match serve(alloc, node, ports, turns) {
         Ok(_) => Ok(()),
-        Err(_) => Err(Fault::Unreceived),
+        Err(ServeFault::Next { .. }) => Err(Fault::Unreceived),
+        Err(ServeFault::Journal { .. }) => Err(Fault::Journal(JournalFault::Unwritten)),
     }
 }
 
-/// Lets a node take so many turns at a port, or as many as something comes for, and writes what is
-/// printed of them: where nothing more comes soon, before it waits, and at the end.
+/// Lets a node take this number of turns at a port, fewer if the port ends, and writes their text:
+/// when there is much of it, before the node waits if nothing arrives soon, and at the end.
 fn take_turns<P: Ports, W: Write>(
     alloc: Global,
     node: &mut Node,
@@ -202,12 +306,16 @@ fn take_turns<P: Ports, W: Write>(
     turns: u64,
 ) -> Result<(), Fault>
     ensures done { OnOk result (TakesTurns node.old node.new
-        (shown (P.failures ports.old) (P.coming ports.old) (P.taken ports.old))
-        (shown (P.failures ports.new) (P.coming ports.new) (P.taken ports.new)) turns
+        (shown (P.failures ports.old) (P.coming ports.old) (P.taken ports.old)
+        (P.journal ports.old))
+        (shown (P.failures ports.new) (P.coming ports.new) (P.taken ports.new)
+        (P.journal ports.new)) turns
         (W.contents writer.old) (W.contents writer.new)) }
     ensures stopped { IfErr result (StopsTurns node.old node.new
-        (shown (P.failures ports.old) (P.coming ports.old) (P.taken ports.old))
-        (shown (P.failures ports.new) (P.coming ports.new) (P.taken ports.new)) turns
+        (shown (P.failures ports.old) (P.coming ports.old) (P.taken ports.old)
+        (P.journal ports.old))
+        (shown (P.failures ports.new) (P.coming ports.new) (P.taken ports.new)
+        (P.journal ports.new)) turns
         (W.contents writer.old) (W.contents writer.new)) }
     ensures fault { IfErr result EndsTurns }
     ensures none { turns ≡ 0 → IsOk result }
@@ -229,8 +337,8 @@ fn take_turns<P: Ports, W: Write>(
     write_out(writer, &mut text)
 }
 
-/// Lets a node take its next turn. Where nothing comes soon, the text that was gathered is written
-/// before anything is waited for.
+/// Lets a node take its next turn. If nothing arrives soon, the buffered text is written before the
+/// node waits. If an event could not be journalled, as much of the text is written as can be.
 fn take_turn<P: Ports, W: Write>(
     node: &mut Node,
     ports: &mut P,
@@ -240,13 +348,49 @@ fn take_turn<P: Ports, W: Write>(
     text: &mut Vec<u8>,
 ) -> Result<Turn, Fault>
     ensures turn { IfOk result (IsTurn node.old node.new
-        (shown (P.failures ports.old) (P.coming ports.old) (P.taken ports.old))
-        (shown (P.failures ports.new) (P.coming ports.new) (P.taken ports.new)) outbox.new) }
+        (shown (P.failures ports.old) (P.coming ports.old) (P.taken ports.old)
+        (P.journal ports.old))
+        (shown (P.failures ports.new) (P.coming ports.new) (P.taken ports.new)
+        (P.journal ports.new)) outbox.new) }
+    ensures written { IfOk result (λ turn. turn ≢ Turn.Unwritten) }
     ensures text { IfOk result (λ _. Writes (W.contents writer.old) (W.contents writer.new)
         text.old.items text.new.items) }
     ensures stopped { IfErr result (StopsTurn node.old node.new
-        (shown (P.failures ports.old) (P.coming ports.old) (P.taken ports.old))
-        (shown (P.failures ports.new) (P.coming ports.new) (P.taken ports.new))
+        (shown (P.failures ports.old) (P.coming ports.old) (P.taken ports.old)
+        (P.journal ports.old))
+        (shown (P.failures ports.new) (P.coming ports.new) (P.taken ports.new)
+        (P.journal ports.new))
+        (W.contents writer.old) (W.contents writer.new) text.old.items) }
+{
+    let turn = next_turn(node, ports, writer, buffer, outbox, text)?;
+    if is_unwritten(&turn) {
+        let _written = write_out(writer, text);
+        return Err(Fault::Journal(JournalFault::Unwritten));
+    }
+    Ok(turn)
+}
+
+/// As `take_turn`, but it also returns a turn whose event could not be journalled.
+fn next_turn<P: Ports, W: Write>(
+    node: &mut Node,
+    ports: &mut P,
+    writer: &mut W,
+    buffer: &mut [u8; FRAME_ROOM],
+    outbox: &mut Outbox,
+    text: &mut Vec<u8>,
+) -> Result<Turn, Fault>
+    ensures turn { IfOk result (IsTurn node.old node.new
+        (shown (P.failures ports.old) (P.coming ports.old) (P.taken ports.old)
+        (P.journal ports.old))
+        (shown (P.failures ports.new) (P.coming ports.new) (P.taken ports.new)
+        (P.journal ports.new)) outbox.new) }
+    ensures text { IfOk result (λ _. Writes (W.contents writer.old) (W.contents writer.new)
+        text.old.items text.new.items) }
+    ensures stopped { IfErr result (StopsTurn node.old node.new
+        (shown (P.failures ports.old) (P.coming ports.old) (P.taken ports.old)
+        (P.journal ports.old))
+        (shown (P.failures ports.new) (P.coming ports.new) (P.taken ports.new)
+        (P.journal ports.new))
         (W.contents writer.old) (W.contents writer.new) text.old.items) }
 {
     if let Some(turn) = turn_soon(node, ports, buffer, outbox, text.as_slice()) {
@@ -259,7 +403,7 @@ fn take_turn<P: Ports, W: Write>(
     }
 }
 
-/// The next turn, where text was gathered and something comes soon.
+/// The next turn, if text is buffered and something arrives soon.
 fn turn_soon<P: Ports>(
     node: &mut Node,
     ports: &mut P,
@@ -268,11 +412,15 @@ fn turn_soon<P: Ports>(
     text: &[u8],
 ) -> Option<Turn>
     ensures turn { IfSome result (IsTurn node.old node.new
-        (shown (P.failures ports.old) (P.coming ports.old) (P.taken ports.old))
-        (shown (P.failures ports.new) (P.coming ports.new) (P.taken ports.new)) outbox.new) }
+        (shown (P.failures ports.old) (P.coming ports.old) (P.taken ports.old)
+        (P.journal ports.old))
+        (shown (P.failures ports.new) (P.coming ports.new) (P.taken ports.new)
+        (P.journal ports.new)) outbox.new) }
     ensures none { result ≡ None → (node.new ≡ node.old)
         × (shown (P.failures ports.new) (P.coming ports.new) (P.taken ports.new)
-        ≡ shown (P.failures ports.old) (P.coming ports.old) (P.taken ports.old)) }
+        (P.journal ports.new)
+        ≡ shown (P.failures ports.old) (P.coming ports.old) (P.taken ports.old)
+        (P.journal ports.old)) }
 {
     if text.is_empty() {
         return None;
@@ -280,7 +428,7 @@ fn turn_soon<P: Ports>(
     serve_turn_soon(node, ports, buffer, outbox)
 }
 
-/// Writes the text that was gathered.
+/// Writes the buffered text.
 fn write_out<W: Write>(writer: &mut W, text: &mut Vec<u8>) -> Result<(), Fault>
     ensures done { OnOk result
         (Appends (W.contents writer.old) (W.contents writer.new) text.old.items) }
@@ -300,7 +448,7 @@ fn write_out<W: Write>(writer: &mut W, text: &mut Vec<u8>) -> Result<(), Fault>
     Ok(())
 }
 
-/// Writes the text that was gathered, where it is long.
+/// Writes the buffered text if it is long.
 fn write_long<W: Write>(writer: &mut W, text: &mut Vec<u8>) -> Result<(), Fault>
     ensures done { OnOk result (Writes (W.contents writer.old) (W.contents writer.new)
         text.old.items text.new.items) }
@@ -314,15 +462,22 @@ fn write_long<W: Write>(writer: &mut W, text: &mut Vec<u8>) -> Result<(), Fault>
     write_out(writer, text)
 }
 
-/// Whether nothing more came.
+/// Whether the event of a turn could not be journalled.
+fn is_unwritten(turn: &Turn) -> bool
+    ensures { IsTrue result ↔ (turn.now ≡ Turn.Unwritten) }
+{
+    matches!(turn, Turn::Unwritten)
+}
+
+/// Whether the port ended.
 fn is_end(turn: &Turn) -> bool
     ensures { IsTrue result ↔ (turn.now ≡ Turn.End) }
 {
     matches!(turn, Turn::End)
 }
 
-/// Appends the text of a turn, as a script prints that of an event. At the end there is none. Where
-/// memory is refused, nothing is appended.
+/// Appends the text of a turn, in the format of a script's answers. The end has no text. If memory
+/// runs out, nothing is appended.
 fn put_turn(
     text: &mut Vec<u8>,
     number: u64,
@@ -334,7 +489,7 @@ fn put_turn(
         (text.new.items ≡ text.old.items ++ turn_text number rules.now turn.now outbox.now) }
     ensures err { OnErr result (text.new.items ≡ text.old.items) }
     ensures fault { IfErr result (λ fault. fault ≡ Fault.Script RunFault.Memory) }
-    // Where there is room, memory is not refused.
+    // With enough capacity it does not run out of memory.
     ensures room { vec_len text.old + length (turn_text number rules.now turn.now outbox.now)
         ≤ vec_capacity text.old → IsOk result }
 {
@@ -342,7 +497,7 @@ fn put_turn(
     let put = match turn {
         Turn::Done { verdict, .. } => put_verdict(text, number, verdict, rules),
         Turn::Refused => put_refused(text, number),
-        Turn::End => return Ok(()),
+        Turn::Unwritten | Turn::End => return Ok(()),
     };
     if put.is_err() || put_sends(text, outbox).is_err() {
         text.truncate(len);

@@ -1,23 +1,34 @@
-//! The rule file and the key file of a node, which are read again where they change.
-use crate::fault::Fault;
-use crate::files::{read_key_file, read_rule_file, read_rules, unread_keys, unread_rules};
+//! The rule file and the key file of a node, which are read again when they change.
+ghost use Rattle.std.specs.Prelude.{IfOk};
+ghost use Rattle.hmac_keys.specs.KeyReading.{AreKeys};
+ghost use Rattle.node_core.specs.Files.{AreRules};
+
+use crate::fault::{Fault, JournalFault};
+use crate::files::{
+    read_key_file, read_keys, read_rule_file, read_rules, unread_keys, unread_rules,
+};
 use crate::watched_ports::RuleSource;
 use hmac_keys::KeyBook;
 use info_rules::Rules;
+use node_ports::{FileOctets, Renewal};
 use std::fs;
 use std::fs::File;
 use std::rt::Files;
 use std::time::SystemTime;
 
-/// By what a file is seen to have changed.
+/// The most octets that a rule file and a key file may have together to fit into a line of a
+/// journal.
+const MOST_JOURNALLED: usize = 9_985;
+
+/// What shows that a file has changed.
 #[derive(Clone, Copy, PartialEq, Eq)]
 struct Stamp {
     modified: SystemTime,
     len: u64,
 }
 
-/// The files of these paths, and how they were when they were looked at last. Without a path there
-/// are no rules, or no keys.
+/// The files at these paths, with their stamps at the last check. Without a path there are no
+/// rules, or no keys.
 #[derive(Drop)]
 pub struct RuleFiles<'a, R> {
     rt: &'a R,
@@ -25,10 +36,12 @@ pub struct RuleFiles<'a, R> {
     keys: Option<String>,
     rules_stamp: Option<Stamp>,
     keys_stamp: Option<Stamp>,
+    // Whether the files have to fit into a line of a journal.
+    are_journalled: bool,
 }
 
 impl<'a, R: AllocGlobal + Files> RuleFiles<'a, R> {
-    /// The files of these paths, as they are now.
+    /// The files at these paths, with their present stamps.
     pub fn new(rt: &'a R, rules: Option<String>, keys: Option<String>) -> RuleFiles<'a, R> {
         let mut files = RuleFiles {
             rt,
@@ -36,27 +49,63 @@ impl<'a, R: AllocGlobal + Files> RuleFiles<'a, R> {
             keys,
             rules_stamp: None,
             keys_stamp: None,
+            are_journalled: false,
         };
         files.look();
         files
     }
 
-    /// The rules and the keys in the files.
-    pub fn read(&self) -> Result<(Rules, KeyBook), Fault> {
-        let alloc = self.rt.alloc();
-        let rules = match &self.rules {
-            Some(path) => rules_at(self.rt, path)?,
-            None => read_rules(alloc, b"")?,
-        };
-        let keys = match &self.keys {
-            Some(path) => keys_at(self.rt, path)?,
-            None => KeyBook::new(alloc),
-        };
-        Ok((rules, keys))
+    /// From now on, the files have to fit into a line of a journal.
+    pub fn journal(&mut self) {
+        self.are_journalled = true;
     }
 
-    /// Looks at the files, and says whether one is another than at the look before. A file that is
-    /// replaced while it is read is another at the next look, since each is looked at before it is
+    /// Reads the rules and the keys of the files.
+    pub fn read(&self) -> Result<Renewal, Fault> {
+        let (rules, rule_octets) = self.read_rules()?;
+        let (keys, key_octets) = self.read_keys()?;
+        let renewal = Renewal::new(
+            rules,
+            keys,
+            FileOctets {
+                rules: rule_octets,
+                keys: key_octets,
+            },
+        );
+        if self.are_journalled && renewal.octets_len() > MOST_JOURNALLED {
+            return Err(Fault::Journal(JournalFault::LongRules));
+        }
+        Ok(renewal)
+    }
+
+    fn read_rules(&self) -> Result<(Rules, Vec<u8>), Fault>
+        ensures { IfOk result (λ read. AreRules read.1.items read.0) }
+    {
+        match &self.rules {
+            Some(path) => rules_at(self.rt, path),
+            None => {
+                let none = Vec::new(self.rt.alloc());
+                let rules = read_rules(self.rt.alloc(), &none)?;
+                Ok((rules, none))
+            }
+        }
+    }
+
+    fn read_keys(&self) -> Result<(KeyBook, Vec<u8>), Fault>
+        ensures { IfOk result (λ read. AreKeys read.1.items read.0) }
+    {
+        match &self.keys {
+            Some(path) => keys_at(self.rt, path),
+            None => {
+                let none = Vec::new(self.rt.alloc());
+                let keys = read_keys(self.rt.alloc(), &none)?;
+                Ok((keys, none))
+            }
+        }
+    }
+
+    /// Checks the files, and returns whether one has changed since the last check. A file that is
+    /// replaced while it is read has changed at the next check, since each is checked before it is
     /// read.
     fn look(&mut self) -> bool {
         let rules = stamp_of(self.rt, &self.rules);
@@ -69,23 +118,28 @@ impl<'a, R: AllocGlobal + Files> RuleFiles<'a, R> {
 }
 
 impl<'a, R: AllocGlobal + Eprint + Files> RuleSource for RuleFiles<'a, R> {
-    /// Rules and keys, where a file has changed. A fault in a file is reported on standard error.
-    fn renewed(&mut self) -> Option<(Rules, KeyBook)> {
+    /// Rules and keys, if a file has changed. A fault in a file is reported on standard error.
+    fn renewed(&mut self) -> Option<Renewal> {
         if !self.look() {
             return None;
         }
         match self.read() {
             Ok(read) => Some(read),
             Err(fault) => {
-                // Where standard error cannot be written, the rules in force stay all the same.
+                // The rules in force stay, even if standard error cannot be written.
                 let _printed = self.rt.eprint(fault);
                 None
             }
         }
     }
+
+    fn current(&mut self) -> Result<Renewal, Fault> {
+        self.journal();
+        self.read()
+    }
 }
 
-/// How a file is now; none where no file is named, or it cannot be looked at.
+/// The present stamp of a file; none if there is no path, or the file cannot be checked.
 fn stamp_of<R: Files>(rt: &R, path: &Option<String>) -> Option<Stamp> {
     let path = path.as_ref()?;
     let metadata = fs::metadata(rt, path.as_str()).ok()?;
@@ -96,16 +150,20 @@ fn stamp_of<R: Files>(rt: &R, path: &Option<String>) -> Option<Stamp> {
     })
 }
 
-/// The rules of the file of this path.
-fn rules_at<R: AllocGlobal + Files>(rt: &R, path: &str) -> Result<Rules, Fault> {
+/// The rules and the octets of the file at this path.
+fn rules_at<R: AllocGlobal + Files>(rt: &R, path: &str) -> Result<(Rules, Vec<u8>), Fault>
+    ensures { IfOk result (λ read. AreRules read.1.items read.0) }
+{
     match File::open(rt, path) {
         Ok(file) => read_rule_file(rt.alloc(), path, file),
         Err(error) => Err(unread_rules(rt.alloc(), path, &error)),
     }
 }
 
-/// The keys of the file of this path.
-fn keys_at<R: AllocGlobal + Files>(rt: &R, path: &str) -> Result<KeyBook, Fault> {
+/// The keys and the octets of the file at this path.
+fn keys_at<R: AllocGlobal + Files>(rt: &R, path: &str) -> Result<(KeyBook, Vec<u8>), Fault>
+    ensures { IfOk result (λ read. AreKeys read.1.items read.0) }
+{
     match File::open(rt, path) {
         Ok(file) => read_key_file(rt.alloc(), path, file),
         Err(error) => Err(unread_keys(rt.alloc(), path, &error)),

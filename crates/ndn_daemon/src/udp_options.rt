@@ -5,7 +5,7 @@ ghost use Rattle.ndn_daemon.specs.Options.{Reads, ReadsInMemory, rows_in, value_
 ghost use Rattle.ndn_daemon.specs.UdpOptions.{Has, IsBadValue, IsFlag, IsLocal, IsLog, IsNumber, IsSeconds, IsUdpOptions, flag_at, values_at};
 
 use crate::fault::Fault;
-use crate::options::{given_or, value};
+use crate::options::{given_or, path_of, value};
 use clap::ArgMatches;
 use node_core::{MAX_FACES, RunFault};
 use std::alloc::Global;
@@ -16,30 +16,32 @@ use std::net::{IpAddr, Ipv4Addr, SocketAddr};
 pub enum LogLevel {
     /// Nothing.
     None,
-    /// What an operator has to know of.
+    /// What an operator has to know.
     Events,
     /// Every event.
     All,
 }
 
-/// How a node on a port is to be run.
+/// The options of a node on a port.
 #[derive(Debug, Drop)]
 pub struct UdpOptions {
     /// The address and the port that the node listens on.
     pub listen: SocketAddr,
-    /// How many turns it takes.
+    /// The number of turns that it takes.
     pub turns: u64,
-    /// The addresses and ports of the peers, all different, none of them the node's own or of no
-    /// machine, and of the node's family, at most 64.
+    /// The addresses and ports of the peers: at most 64, all different, of the node's family, none
+    /// of them the node's own or unspecified.
     pub peers: Vec<SocketAddr>,
-    /// How many of the first peers are Local, at most their number. These are on this machine.
+    /// How many of the first peers are Local, at most all. These are on this machine.
     pub local: u64,
-    /// After how many seconds of silence a face closes that is not a peer's, at least 1.
+    /// The idle time after which a face that is not a peer's closes, in seconds, at least 1.
     pub idle: u32,
     /// Whether datagrams of strangers are accepted wherever the node listens.
     pub open: bool,
     /// What is logged.
     pub log: LogLevel,
+    /// The path of the journal. Without one, the node stores nothing for the next start.
+    pub journal: Option<String>,
     /// Whether no answers are printed.
     pub quiet: bool,
 }
@@ -56,6 +58,7 @@ impl UdpOptions {
         let local = local_of(given_or("0", value(found, "local")), peers.as_slice())?;
         let idle = seconds_of(given_or("600", value(found, "idle")))?;
         let log = log_of(value(found, "log"))?;
+        let journal = path_of(alloc, value(found, "journal"))?;
         Ok(UdpOptions {
             listen,
             turns,
@@ -64,12 +67,13 @@ impl UdpOptions {
             idle,
             open: flag(found, "open"),
             log,
+            journal,
             quiet: flag(found, "quiet"),
         })
     }
 
-    /// Whether a datagram from an address and port that is no peer's is accepted: by `--open`, or
-    /// where the node listens on a loopback address, which this machine alone can send to.
+    /// Whether a datagram of an endpoint that is not a peer is accepted: with `--open`, or if the
+    /// node listens on a loopback address, which only this machine can send to.
     pub fn accepts_strangers(&self) -> bool
         ensures { IsTrue result ↔ (IsTrue self.now.«open» ⊎ IsLoopback self.now.listen) }
     {
@@ -165,7 +169,7 @@ fn check_peers(listen: &SocketAddr, peers: &[SocketAddr]) -> Result<(), Fault>
     Ok(())
 }
 
-/// Whether a peer is the node itself, which listens there: a datagram to the peer would come back.
+/// Whether a peer is the node itself, which listens there, so that its datagrams would come back.
 fn is_itself(listen: &SocketAddr, peer: &SocketAddr) -> bool
     ensures { IsTrue result ↔ IsItself listen.now peer.now }
 {
@@ -173,7 +177,7 @@ fn is_itself(listen: &SocketAddr, peer: &SocketAddr) -> bool
         && (peer.ip() == listen.ip() || (is_unspecified(listen) && is_loopback(peer)))
 }
 
-/// How many of these peers are Local. Who is Local may command, so these are on this machine.
+/// How many of these peers are Local. A Local peer may send commands, so these are on this machine.
 fn local_of(digits: &str, peers: &[SocketAddr]) -> Result<u64, Fault>
     ensures { Reads (IsLocal digits.now peers.now) result }
 {
@@ -193,14 +197,14 @@ fn local_of(digits: &str, peers: &[SocketAddr]) -> Result<u64, Fault>
     Ok(local)
 }
 
-/// Whether this is an address of this machine that no other machine can send from or to.
+/// Whether this is a loopback address, which no other machine can send from or to.
 fn is_loopback(endpoint: &SocketAddr) -> bool
     ensures { IsTrue result ↔ IsLoopback endpoint.now }
 {
     endpoint.ip().is_loopback()
 }
 
-/// Whether this is the address of no machine, 0.0.0.0 or ::.
+/// Whether this is the unspecified address, 0.0.0.0 or ::.
 fn is_unspecified(endpoint: &SocketAddr) -> bool
     ensures { IsTrue result ↔ IsUnspecified endpoint.now }
 {
@@ -224,7 +228,7 @@ fn seconds_of(digits: &str) -> Result<u32, Fault>
     })
 }
 
-/// What is logged where `--log` has this value, or is absent.
+/// What is logged if `--log` has this value, or is absent.
 fn log_of(level: Option<&str>) -> Result<LogLevel, Fault>
     ensures { Reads (IsLog (option_map (λ level. level.now) level.entry)) result }
 {
@@ -259,7 +263,7 @@ fn endpoint_of(place: &'static str, text: &str) -> Result<SocketAddr, Fault>
     Ok(endpoint)
 }
 
-/// The port that this text spells in decimal digits, with leading zeros allowed, if it does.
+/// The port from 1 to 65535 that this text spells in decimal digits, with leading zeros allowed.
 fn port_of(digits: &str) -> Option<u16>
     ensures { MatchOption result ((n : ℕ) → IsPort digits.now n → ⊥) (IsPort digits.now) }
 {

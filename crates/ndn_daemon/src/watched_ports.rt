@@ -1,33 +1,49 @@
-//! Ports that also bring rules and keys which take the place of those in force.
-ghost use Rattle.std.specs.Prelude.{◌≡◌, ◌∷◌, [], None, length, IfOk, OnErr, OnOk};
-ghost use Rattle.node_core.specs.Ports.{Gives, LiesWithin, Takes, arrived, one_more};
+//! Ports that also give new rules and keys, which replace those in force.
+ghost use Rattle.std.specs.Prelude.{◌≡◌, ◌∷◌, [], None, length, IfOk, IfSome, OnErr, OnOk};
+ghost use Rattle.node_ports.specs.Ports.{Gives, LiesWithin, Takes, arrived, one_more};
 
+use crate::fault::Fault;
 use crate::logged_ports::HasEndpoints;
-use hmac_keys::KeyBook;
-use info_rules::Rules;
-use node_core::{Arrival, FRAME_ROOM, PortFault, Ports};
+use journal::Coming;
+use node_core::Verdict;
+use node_ports::{Arrival, FRAME_ROOM, PortFault, Ports, Renewal};
 use std::net::SocketAddr;
 
-/// How long the source of rules is not asked again, in milliseconds.
+/// The least time between two questions to the source of rules, in milliseconds.
 const LOOK_MILLISECONDS: u64 = 1000;
 
-/// Where other rules and keys come from.
+/// A source of new rules and keys.
 pub trait RuleSource: Drop {
-    /// Rules and keys that take the place of those in force, if there are any.
-    fn renewed(&mut self) -> Option<(Rules, KeyBook)>;
+    /// Rules and keys that replace those in force, if there are new ones.
+    fn renewed(&mut self) -> Option<Renewal>;
+
+    /// The present rules and keys, for a node that has a journal from now on.
+    fn current(&mut self) -> Result<Renewal, Fault>;
 }
 
-/// Ports with a source of rules. It is asked when something has arrived, once a second at most. New
-/// rules come before what arrived, which comes unchanged in the next turn.
+/// The first events after a node has replayed a journal.
+#[derive(Drop)]
+pub struct Restart {
+    /// The last moment of the journal, which is that of these events.
+    pub now: u64,
+    /// The rules and keys of the files.
+    pub renewal: Option<Renewal>,
+    /// The open faces to be closed, of endpoints that are not known any more.
+    pub closing: Vec<u64>,
+}
+
+/// Ports with a source of rules. It is asked when something has arrived, at most once a second. New
+/// rules are given before the arrival, which is given unchanged in the next turn.
 #[derive(Drop)]
 pub struct WatchedPorts<P: Ports + Drop, S: RuleSource> {
     ports: P,
     source: S,
-    // The moment at which the source was asked.
+    // The moment at which the source was last asked.
     asked: u64,
-    // What waits for the next turn, and its octets.
+    // The arrival that waits for the next turn, and its octets.
     held: Option<Arrival>,
     octets: [u8; FRAME_ROOM],
+    restart: Option<Restart>,
 }
 
 impl<P: Ports + Drop, S: RuleSource> WatchedPorts<P, S> {
@@ -39,11 +55,40 @@ impl<P: Ports + Drop, S: RuleSource> WatchedPorts<P, S> {
             asked,
             held: None,
             octets: [0; FRAME_ROOM],
+            restart: None,
         }
     }
 
-    /// Rules and keys that are new at this moment, where the source may be asked again.
-    fn renewed(&mut self, now: u64) -> Option<(Rules, KeyBook)>
+    /// These ports, with a source of rules that was not asked yet, after a restart.
+    pub fn after(restart: Restart, ports: P, source: S) -> WatchedPorts<P, S>
+        ensures { result.ports ≡ ports }
+    {
+        WatchedPorts {
+            ports,
+            source,
+            asked: 0,
+            held: None,
+            octets: [0; FRAME_ROOM],
+            restart: Some(restart),
+        }
+    }
+
+    /// The next of the first events after a restart.
+    fn first(&mut self) -> Option<Arrival>
+        ensures ports { self.new.ports ≡ self.old.ports }
+        ensures fits { IfSome result (LiesWithin 0) }
+    {
+        let restart = self.restart.as_mut()?;
+        let now = restart.now;
+        if let Some(renewal) = restart.renewal.take() {
+            return Some(Arrival::NewRules { renewal, now });
+        }
+        let face = restart.closing.pop()?;
+        Some(Arrival::FaceDown { face, now })
+    }
+
+    /// New rules and keys at this moment, if the source may be asked again and has any.
+    fn renewed(&mut self, now: u64) -> Option<Renewal>
         ensures { self.new.ports ≡ self.old.ports }
     {
         if now.abs_diff(self.asked) < LOOK_MILLISECONDS {
@@ -53,7 +98,7 @@ impl<P: Ports + Drop, S: RuleSource> WatchedPorts<P, S> {
         self.source.renewed()
     }
 
-    /// Keeps what arrived for the next turn.
+    /// Stores an arrival for the next turn.
     fn hold(&mut self, arrival: Arrival, buffer: &[u8])
         requires { LiesWithin (length buffer.now) arrival }
         ensures { self.new.ports ≡ self.old.ports }
@@ -65,8 +110,8 @@ impl<P: Ports + Drop, S: RuleSource> WatchedPorts<P, S> {
         self.held = Some(arrival);
     }
 
-    /// Rules and keys that are new at the moment of what arrived, which is then kept for the next
-    /// turn; or what arrived.
+    /// New rules and keys at the moment of an arrival, which is then stored for the next turn; or
+    /// the arrival.
     fn renewed_first(&mut self, arrival: Arrival, buffer: &[u8]) -> Arrival
         requires { LiesWithin (length buffer.now) arrival }
         ensures ports { self.new.ports ≡ self.old.ports }
@@ -75,15 +120,15 @@ impl<P: Ports + Drop, S: RuleSource> WatchedPorts<P, S> {
         let Some(now) = moment_of(&arrival) else {
             return arrival;
         };
-        let Some((rules, keys)) = self.renewed(now) else {
+        let Some(renewal) = self.renewed(now) else {
             return arrival;
         };
         self.hold(arrival, buffer);
-        Arrival::NewRules { rules, keys, now }
+        Arrival::NewRules { renewal, now }
     }
 
-    /// Gives what was kept, with the octets of a packet at the front of the buffer. What does not
-    /// fit is cut off.
+    /// Gives a stored arrival, with the octets of a packet at the front of the buffer. Octets that
+    /// do not fit are cut off.
     fn give_held(&self, arrival: Arrival, buffer: &mut [u8]) -> Arrival
         ensures { LiesWithin (length buffer.new) result }
     {
@@ -101,12 +146,17 @@ impl<P: Ports + Drop, S: RuleSource> WatchedPorts<P, S> {
 impl<P: Ports + Drop, S: RuleSource> Ports for WatchedPorts<P, S> {
     ghost failures = { λ w. P.failures w.ports };
 
-    // What comes is not known, since rules may come at any turn.
+    // The events to come are not known, since new rules may come at any turn.
     ghost coming = { λ w. None };
 
     ghost taken = { λ w. P.taken w.ports };
 
+    ghost journal = { λ w. P.journal w.ports };
+
     fn next(&mut self, buffer: &mut [u8]) -> Result<Arrival, PortFault> {
+        if let Some(arrival) = self.first() {
+            return Ok(arrival);
+        }
         if let Some(arrival) = self.held.take() {
             return Ok(self.give_held(arrival, buffer));
         }
@@ -115,11 +165,27 @@ impl<P: Ports + Drop, S: RuleSource> Ports for WatchedPorts<P, S> {
     }
 
     fn next_soon(&mut self, buffer: &mut [u8]) -> Option<Arrival> {
+        if let Some(arrival) = self.first() {
+            return Some(arrival);
+        }
         if let Some(arrival) = self.held.take() {
             return Some(self.give_held(arrival, buffer));
         }
         let arrival = self.ports.next_soon(buffer)?;
         Some(self.renewed_first(arrival, buffer))
+    }
+
+    fn keeps_journal(&self) -> bool {
+        self.ports.keeps_journal()
+    }
+
+    fn commit(
+        &mut self,
+        event: &Coming<'_>,
+        time: u64,
+        verdict: &Verdict,
+    ) -> Result<(), PortFault> {
+        self.ports.commit(event, time, verdict)
     }
 
     fn send(&mut self, face: u64, octets: &[u8]) -> Result<(), PortFault> {
@@ -141,7 +207,7 @@ impl<P: Ports + HasEndpoints + Drop, S: RuleSource> HasEndpoints for WatchedPort
     }
 }
 
-/// The moment of what arrived; none at the end.
+/// The moment of an arrival; none at the end.
 pub fn moment_of(arrival: &Arrival) -> Option<u64> {
     match arrival {
         Arrival::End => None,

@@ -8,6 +8,7 @@ use ndn_daemon::{
 };
 use node_core::{NodeParts, RunFault, run_script};
 use std::env::Env;
+use std::fs::File;
 use std::io::Input;
 use std::net::Net;
 use std::process::ExitCode;
@@ -25,8 +26,8 @@ fn main(rt: HostRuntime) -> ExitCode {
     ExitCode::from(status)
 }
 
-/// Does what the command line asks for.
-fn run<R: Clock + Env + AllocGlobal + Eprint + Files + Input + Net + Print>(
+/// Runs the request of the command line.
+fn run<R: Clock + Env + AllocGlobal + Eprint + Files<File = File> + Input + Net + Print>(
     rt: &R,
 ) -> Result<(), Fault> {
     let arguments = arguments_of(rt)?;
@@ -49,15 +50,14 @@ fn arguments_of<R: Env + AllocGlobal>(rt: &R) -> Result<Vec<String>, Fault> {
     }
 }
 
-/// Runs the script on standard input, and writes each answer to standard output as it comes.
+/// Runs the script on standard input, and writes the answers to standard output.
 fn script<R: AllocGlobal + Files + Input + Print>(rt: &R, options: Options) -> Result<(), Fault> {
     let (parts, _files) = parts_of(rt, options)?;
     run_script(rt.alloc(), &mut rt.reader(), &mut io::writer(rt), parts).map_err(Fault::Script)
 }
 
-/// Runs the node on its port, and writes each answer to standard output as it comes, unless it is
-/// quiet.
-fn udp<R: AllocGlobal + Clock + Eprint + Files + Net + Print>(
+/// Runs the node on its port, and writes the answers to standard output, unless it is quiet.
+fn udp<R: AllocGlobal + Clock + Eprint + Files<File = File> + Net + Print>(
     rt: &R,
     node: Options,
     options: &UdpOptions,
@@ -68,13 +68,13 @@ fn udp<R: AllocGlobal + Clock + Eprint + Files + Net + Print>(
     run_on_port(rt, parts, MachineClock::new(rt), files, options)
 }
 
-/// The parts of a node, with the rules and the keys of the files that are named, and these files.
+/// The parts of a node, with the rules and keys of its files, and these files.
 fn parts_of<R: AllocGlobal + Files>(
     rt: &R,
     options: Options,
 ) -> Result<(NodeParts, RuleFiles<'_, R>), Fault> {
     let files = RuleFiles::new(rt, options.rules, options.keys);
-    let (rules, keys) = files.read()?;
+    let (rules, keys, _octets) = files.read()?.into_parts();
     let parts = NodeParts {
         rules,
         keys,

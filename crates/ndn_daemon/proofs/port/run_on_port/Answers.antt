@@ -9,7 +9,7 @@ use Rattle.ndn_daemon.proofs.port.run_on_port.Goals as goal
 pub returns-clause-parts : goal.returns-clause-parts
 returns-clause-parts g c =
     made_of_good_parts _ _ (parts_fault c.args.parts.repo c.args.parts.cache) c.new.result c.in-Ok.node c.in-Ok.is c.new.ensures.fault
-    (IfErr-weaker c.take_logged.result EndsTurns (StopsAt c.args.options.now.listen) (λ f h. inr h) c.take_logged.ensures.fault)
+    (λ plain. IfErr-weaker c.take_as_begun.result EndsTurns (StopsAt c.args.options.now.listen) (λ f h. inr h) (c.take_as_begun.ensures.fault plain))
 
 pub returns-clause-none : goal.returns-clause-none
-returns-clause-none g c = λ zero good. no_fault c.take_logged.result (HasNoTurns c.args.options.now.listen) (c.take_logged.ensures.none zero)
+returns-clause-none g c = λ zero plain good. no_fault c.take_as_begun.result (HasNoTurns c.args.options.now.listen) (c.take_as_begun.ensures.none zero plain)

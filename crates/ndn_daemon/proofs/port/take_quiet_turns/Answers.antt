@@ -8,8 +8,14 @@ returns-in-Ok-clause-done g c =
     let s = c.in-Ok.ensures.served in
     (served.events, served.refused, s.0, served.ended, s.1, c.in-Ok.ensures.ended)
 
-pub returns-in-Err-clause-stopped : goal.returns-in-Err-clause-stopped
-returns-in-Err-clause-stopped g c = (refl, (c.in-Err.field-0, c.in-Err.ensures.stopped))
+pub returns-in-Next-clause-stopped : goal.returns-in-Next-clause-stopped
+returns-in-Next-clause-stopped g c = (_, c.in-Next.ensures.stopped, refl)
 
-pub returns-in-Err-clause-none : goal.returns-in-Err-clause-none
-returns-in-Err-clause-none g c = λ none. absurd (no_turns _ _ _ _ _ c.in-Err.field-0 c.in-Err.ensures.stopped none)
+pub returns-in-Next-clause-none : goal.returns-in-Next-clause-none
+returns-in-Next-clause-none g c = λ none. absurd (no_turns _ _ _ _ _ _ c.in-Next.ensures.stopped none)
+
+pub returns-in-Journal-clause-stopped : goal.returns-in-Journal-clause-stopped
+returns-in-Journal-clause-stopped g c = (_, c.in-Journal.ensures.stopped, refl)
+
+pub returns-in-Journal-clause-none : goal.returns-in-Journal-clause-none
+returns-in-Journal-clause-none g c = λ none. absurd (no_turns _ _ _ _ _ _ c.in-Journal.ensures.stopped none)

@@ -1,10 +1,10 @@
 use Rattle.std.proofs.Common.{◌≡◌, ◌+◌, [], true, false, arith}
 use Rattle.std.proofs.lemmas.Result.{err_from_is_err_and}
-use Rattle.node_core.specs.declared.ports.serving.Turn.TheVariants.{End}
+use Rattle.node_ports.specs.declared.serving.Turn.TheVariants.{End}
 use Rattle.node_core.proofs.Known.{AppendsFront-all}
 use Rattle.ndn_daemon.proofs.Gathered.{AppendsFront-longer, Writes-cut, Writes-done, Writes-more, Writes-start, Writes-then, cut_then, done_then, stops_turns}
 use Rattle.ndn_daemon.proofs.Turns.{Tells-ended, Tells-none, Tells-turn}
-use Rattle.node_core.specs.Ports.Serving.{shown}
+use Rattle.node_ports.specs.Serving.{shown}
 use Rattle.ndn_daemon.specs.Turn.{TakesTurns}
 use Rattle.ndn_daemon.proofs.port.take_turns.Goals as goal
 
@@ -23,7 +23,7 @@ returns-then-is_end-clause-done g c =
     let i = c.loop-number.invariant in
     let e = Tells-ended _ _ _ _ _ _ c.loop-number.number i.0 c.take_turn.new.outbox c.in_ok-turn.turn (c.is_end.ensures.0 c.if-is_end.true) i.1 c.in_ok-turn.ensures.turn in
     let w = Writes-then _ _ _ i.0 _ _ i.2 c.in_ok-turn.ensures.text in
-    done_then {B = TakesTurns c.args.node.now c.take_turn.new.node (shown (g.P.Ports.failures c.args.ports.now) (g.P.Ports.coming c.args.ports.now) (g.P.Ports.taken c.args.ports.now)) (shown (g.P.Ports.failures c.take_turn.new.ports) (g.P.Ports.coming c.take_turn.new.ports) (g.P.Ports.taken c.take_turn.new.ports)) c.args.turns (g.W.Write.contents c.args.writer.now) (g.W.Write.contents c.write_out.new.writer)} _ c.write_out.ensures.done
+    done_then {B = TakesTurns c.args.node.now c.take_turn.new.node (shown (g.P.Ports.failures c.args.ports.now) (g.P.Ports.coming c.args.ports.now) (g.P.Ports.taken c.args.ports.now) (g.P.Ports.journal c.args.ports.now)) (shown (g.P.Ports.failures c.take_turn.new.ports) (g.P.Ports.coming c.take_turn.new.ports) (g.P.Ports.taken c.take_turn.new.ports) (g.P.Ports.journal c.take_turn.new.ports)) c.args.turns (g.W.Write.contents c.args.writer.now) (g.W.Write.contents c.write_out.new.writer)} _ c.write_out.ensures.done
     (λ all. (c.loop-number.number, true, i.0, e.0, (c.loop-number-test.true, e.1), Writes-done _ _ _ i.0 _ w all))
 
 pub returns-then-is_end-clause-stopped : goal.returns-then-is_end-clause-stopped
@@ -38,7 +38,7 @@ pub returns-in_err-write_out-clause-stopped : goal.returns-in_err-write_out-clau
 returns-in_err-write_out-clause-stopped g c =
     let i = c.loop-number.invariant in
     let goes_on : c.in_ok-turn.turn ≡ End → ⊥ = λ is. let t = c.is_end.ensures.1 is in cc (t, c.if-is_end.false) in
-    let told = Tells-turn _ _ _ _ _ _ c.loop-number.number i.0 c.take_turn.new.outbox c.rules.result.now c.in_ok-turn.turn goes_on i.1 c.in_ok-turn.ensures.turn c.rules.ensures.exact in
+    let told = Tells-turn _ _ _ _ _ _ c.loop-number.number i.0 c.take_turn.new.outbox c.rules.result.now c.in_ok-turn.turn goes_on c.in_ok-turn.ensures.written i.1 c.in_ok-turn.ensures.turn c.rules.ensures.exact in
     let w = Writes-then _ _ _ i.0 _ _ i.2 c.in_ok-turn.ensures.text in
     let cut = rw c.in-Err.ensures.err at c.in_err-write_out.ensures.cut in
     let p = err_from_is_err_and c.from_residual-in_err-write_out.result c.from_residual-in_err-write_out.ensures.1 in
@@ -49,7 +49,7 @@ pub returns-in-Err-clause-stopped : goal.returns-in-Err-clause-stopped
 returns-in-Err-clause-stopped g c =
     let i = c.loop-number.invariant in
     let goes_on : c.in_ok-turn.turn ≡ End → ⊥ = λ is. let t = c.is_end.ensures.1 is in cc (t, c.if-is_end.false) in
-    let told = Tells-turn _ _ _ _ _ _ c.loop-number.number i.0 c.take_turn.new.outbox c.rules.result.now c.in_ok-turn.turn goes_on i.1 c.in_ok-turn.ensures.turn c.rules.ensures.exact in
+    let told = Tells-turn _ _ _ _ _ _ c.loop-number.number i.0 c.take_turn.new.outbox c.rules.result.now c.in_ok-turn.turn goes_on c.in_ok-turn.ensures.written i.1 c.in_ok-turn.ensures.turn c.rules.ensures.exact in
     let w = Writes-then _ _ _ i.0 _ _ i.2 c.in_ok-turn.ensures.text in
     let all = rw c.in-Err.ensures.err at c.in_ok-write_out.ensures.done in
     rw c.in-Err.ensures.fault
@@ -59,7 +59,7 @@ pub returns-in_err-write_long-clause-stopped : goal.returns-in_err-write_long-cl
 returns-in_err-write_long-clause-stopped g c =
     let i = c.loop-number.invariant in
     let goes_on : c.in_ok-turn.turn ≡ End → ⊥ = λ is. let t = c.is_end.ensures.1 is in cc (t, c.if-is_end.false) in
-    let told = Tells-turn _ _ _ _ _ _ c.loop-number.number i.0 c.take_turn.new.outbox c.rules.result.now c.in_ok-turn.turn goes_on i.1 c.in_ok-turn.ensures.turn c.rules.ensures.exact in
+    let told = Tells-turn _ _ _ _ _ _ c.loop-number.number i.0 c.take_turn.new.outbox c.rules.result.now c.in_ok-turn.turn goes_on c.in_ok-turn.ensures.written i.1 c.in_ok-turn.ensures.turn c.rules.ensures.exact in
     let w = Writes-more _ _ i.0 _ _ (Writes-then _ _ _ i.0 _ _ i.2 c.in_ok-turn.ensures.text) in
     let cut = rw c.in_default.ensures.ok at c.in_err-write_long.ensures.cut in
     let p = err_from_is_err_and c.from_residual-in_err-write_long.result c.from_residual-in_err-write_long.ensures.1 in
@@ -70,7 +70,7 @@ pub loop-number-preserved : goal.loop-number-preserved
 loop-number-preserved g c =
     let i = c.loop-number.invariant in
     let goes_on : c.in_ok-turn.turn ≡ End → ⊥ = λ is. let t = c.is_end.ensures.1 is in cc (t, c.if-is_end.false) in
-    let told = Tells-turn _ _ _ _ _ _ c.loop-number.number i.0 c.take_turn.new.outbox c.rules.result.now c.in_ok-turn.turn goes_on i.1 c.in_ok-turn.ensures.turn c.rules.ensures.exact in
+    let told = Tells-turn _ _ _ _ _ _ c.loop-number.number i.0 c.take_turn.new.outbox c.rules.result.now c.in_ok-turn.turn goes_on c.in_ok-turn.ensures.written i.1 c.in_ok-turn.ensures.turn c.rules.ensures.exact in
     let w = Writes-more _ _ i.0 _ _ (Writes-then _ _ _ i.0 _ _ i.2 c.in_ok-turn.ensures.text) in
     let more = rw c.in_default.ensures.ok at c.in_ok-write_long.ensures.done in
     (_, told, Writes-then _ _ _ _ _ _ w more, λ none. absurd (omega (arith, none)))
@@ -78,7 +78,7 @@ loop-number-preserved g c =
 pub returns-clause-done : goal.returns-clause-done
 returns-clause-done g c =
     let i = c.loop-number.invariant in
-    done_then {B = TakesTurns c.args.node.now c.loop-number.node (shown (g.P.Ports.failures c.args.ports.now) (g.P.Ports.coming c.args.ports.now) (g.P.Ports.taken c.args.ports.now)) (shown (g.P.Ports.failures c.loop-number.ports) (g.P.Ports.coming c.loop-number.ports) (g.P.Ports.taken c.loop-number.ports)) c.args.turns (g.W.Write.contents c.args.writer.now) (g.W.Write.contents c.write_out-2.new.writer)} _ c.write_out-2.ensures.done
+    done_then {B = TakesTurns c.args.node.now c.loop-number.node (shown (g.P.Ports.failures c.args.ports.now) (g.P.Ports.coming c.args.ports.now) (g.P.Ports.taken c.args.ports.now) (g.P.Ports.journal c.args.ports.now)) (shown (g.P.Ports.failures c.loop-number.ports) (g.P.Ports.coming c.loop-number.ports) (g.P.Ports.taken c.loop-number.ports) (g.P.Ports.journal c.loop-number.ports)) c.args.turns (g.W.Write.contents c.args.writer.now) (g.W.Write.contents c.write_out-2.new.writer)} _ c.write_out-2.ensures.done
     (λ all. (c.loop-number.number, false, i.0, i.1, omega arith, Writes-done _ _ _ i.0 _ i.2 all))
 
 pub returns-clause-stopped : goal.returns-clause-stopped

@@ -39,3 +39,8 @@ pub returns-in_err-log : goal.returns-in_err-log
 returns-in_err-log c =
     let p = err_from_is_err_and c.from_residual-in_err-log.result c.from_residual-in_err-log.ensures.1 in
     rw (p.1, p.2) (wrong_in_memory _ _ (λ options h. (options.log, h.log)) c.in_err-log.field-0.0 (rw c.value-3.ensures at c.in_err-log.ensures))
+
+pub returns-in_err-journal : goal.returns-in_err-journal
+returns-in_err-journal c =
+    let p = err_from_is_err_and c.from_residual-in_err-journal.result c.from_residual-in_err-journal.ensures.1 in
+    rw (p.1, p.2) (refused_part _ _ (λ options h. (options.journal, h.journal)) c.in_err-journal.field-0.0 (rw c.value-4.ensures at c.in_err-journal.ensures))
