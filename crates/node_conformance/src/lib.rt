@@ -1,8 +1,5 @@
-//! Tests of the node's public calls, most of them dialogues of events and answers, and of the
-//! program's command line.
+//! Tests of the node's public calls, most of them dialogues of events and answers.
 #![tactic(auto)]
 
-#[cfg(test)]
-mod daemon;
 #[cfg(test)]
 mod node;

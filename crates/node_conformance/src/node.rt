@@ -5,7 +5,7 @@ mod decisions;
 mod endpoints;
 mod faces;
 mod full_pending;
-mod log;
+mod journalled;
 mod new_rules;
 mod nodes;
 mod octets;

@@ -1,7 +1,7 @@
 //! Endpoints, each an address and a port, and which of them are heard.
 
 use super::udp::{Moving, brings_face, brings_packet, free_port, heard_port, hears_octets, opens};
-use node_core::{Ports, UdpPorts};
+use node_ports::{Ports, UdpPorts};
 use std::net::{Ipv4Addr, Ipv6Addr, Net, SocketAddr, UdpSocket};
 
 /// This port of 127.0.0.1.

@@ -1,10 +1,4 @@
-use super::ports::{FIRST_PATH, ports_of, prints_at};
-use super::{parts, replies, spelled};
-use hmac_keys::KeyBook;
-use info_rules::Rules;
-use ndn_daemon::{RuleSource, WatchedPorts};
-use node_core::read_rules;
-use std::alloc::Global;
+use super::replies;
 
 const RULES_REPLACED: &str = "
 up 1 local 1000000
@@ -103,39 +97,4 @@ in 2 1000000 D_A
 #[test]
 fn new_rules_before_data(rt: HostRuntime) {
     replies(&rt, NEW_RULES_BEFORE_DATA);
-}
-
-/// A source that has rules once.
-#[derive(Drop)]
-struct Once {
-    rules: Option<(Rules, KeyBook)>,
-}
-
-impl RuleSource for Once {
-    fn renewed(&mut self) -> Option<(Rules, KeyBook)> {
-        self.rules.take()
-    }
-}
-
-/// The answers of the first path without rules from the moment 1000 on.
-const NEW_RULES_COME_FIRST: &str = "1 passed
-2 passed
-3 passed
-4 passed
-> 1 NO_ROUTE
-5 no-rule data
-6 no-rule data";
-
-/// Whether a node at a port with new rules, which is asked a second after its start, prints this.
-fn prints_with_new_rules(alloc: Global, wanted: &str) -> Option<bool> {
-    let rules = Some((read_rules(alloc, b"").ok()?, KeyBook::new(alloc)));
-    let mut ports = WatchedPorts::new(ports_of(alloc, FIRST_PATH)?, Once { rules }, 0);
-    let wanted = spelled(alloc, wanted)?;
-    prints_at(alloc, parts(alloc)?, &mut ports, wanted.as_str())
-}
-
-/// New rules come before what arrived, which comes unchanged after them.
-#[test]
-fn new_rules_come_first(rt: HostRuntime) {
-    assert!(rt; prints_with_new_rules(rt.alloc(), NEW_RULES_COME_FIRST) == Some(true));
 }

@@ -101,3 +101,58 @@ fn tells_rules(alloc: Global) -> Option<bool> {
 fn rules_of_a_node(rt: HostRuntime) {
     assert!(rt; tells_rules(rt.alloc()) == Some(true));
 }
+
+/// A packet on face 1.
+fn packet(now: u64, octets: &[u8]) -> Event<'_> {
+    Event::Packet {
+        face: 1,
+        now,
+        octets,
+    }
+}
+
+/// A node with the Local face 1, which was handed a command to insert a Data by 1,001,100.
+fn node_that_wants(alloc: Global) -> Option<Node> {
+    let mut node = node_of(alloc)?;
+    let mut outbox = Outbox::new(alloc);
+    let up = Event::FaceUp {
+        face: 1,
+        scope: Scope::Local,
+        now: 0,
+    };
+    node.step(up, &mut outbox).ok()?;
+    let insert = octets_of(alloc, "SHORT_INSERT");
+    node.step(packet(1_001_000, &insert), &mut outbox).ok()?;
+    Some(node)
+}
+
+/// Whether a node tells its time and its open faces.
+fn tells_time_and_faces(alloc: Global) -> Option<bool> {
+    let node = node_that_wants(alloc)?;
+    Some(
+        node.now() == 1_001_000
+            && node.open_face(0) == Some((1, Scope::Local))
+            && node.open_face(1).is_none(),
+    )
+}
+
+#[test]
+fn time_and_faces_of_a_node(rt: HostRuntime) {
+    assert!(rt; tells_time_and_faces(rt.alloc()) == Some(true));
+}
+
+/// Whether a node wants the one Data until the deadline, and no other.
+fn wants_in_time(alloc: Global) -> Option<bool> {
+    let node = node_that_wants(alloc)?;
+    let (wanted, other) = (octets_of(alloc, "D_A"), octets_of(alloc, "D_B"));
+    Some(
+        node.wants(&packet(1_001_099, &wanted))
+            && !node.wants(&packet(1_001_099, &other))
+            && !node.wants(&packet(1_001_100, &wanted)),
+    )
+}
+
+#[test]
+fn data_that_a_node_wants(rt: HostRuntime) {
+    assert!(rt; wants_in_time(rt.alloc()) == Some(true));
+}

@@ -1,8 +1,11 @@
 use super::{parts, replies, script_of, spelled};
 use hmac_keys::KeyBook;
 use node_core::{
-    MemoryPorts, Node, NodeParts, Outbox, OwnedEvent, Ports, Scope, ServeFault, Served, Turn,
-    put_refused, put_sends, put_verdict, read_rules, serve, serve_turn,
+    Node, NodeParts, Outbox, OwnedEvent, Scope, put_refused, put_sends, put_verdict, read_rules,
+};
+use node_ports::{
+    FileOctets, MemoryPorts, OwnedArrival, Ports, Renewal, ServeFault, Served, Turn, serve,
+    serve_turn,
 };
 use std::alloc::Global;
 
@@ -62,6 +65,35 @@ pub fn event_of(alloc: Global, line: &str) -> Option<OwnedEvent> {
     }
 }
 
+/// The rules and keys of these octets of a rule file and of a key file.
+fn renewal_of(alloc: Global, rules: Vec<u8>, keys: Vec<u8>) -> Option<Renewal> {
+    let read = read_rules(alloc, &rules).ok()?;
+    let book = KeyBook::read_octets(alloc, &keys).ok()?;
+    Some(Renewal::new(read, book, FileOctets { rules, keys }))
+}
+
+/// The arrival of a line of a script.
+fn arrival_of(alloc: Global, line: &str) -> Option<OwnedArrival> {
+    match event_of(alloc, line)? {
+        OwnedEvent::Packet { face, now, octets } => Some(OwnedArrival::Packet {
+            face,
+            now,
+            octets,
+        }),
+        OwnedEvent::FaceUp { face, scope, now } => Some(OwnedArrival::FaceUp { face, scope, now }),
+        OwnedEvent::FaceDown { face, now } => Some(OwnedArrival::FaceDown { face, now }),
+        OwnedEvent::Tick { now } => Some(OwnedArrival::Tick { now }),
+        OwnedEvent::NewRules { now, .. } => {
+            let rules = packet_of(alloc, word(line, 2))?;
+            let keys = packet_of(alloc, word(line, 3))?;
+            Some(OwnedArrival::NewRules {
+                renewal: renewal_of(alloc, rules, keys)?,
+                now,
+            })
+        }
+    }
+}
+
 /// A port that gives the events of a dialogue.
 pub fn ports_of(alloc: Global, dialogue: &str) -> Option<MemoryPorts> {
     let dialogue = spelled(alloc, dialogue)?;
@@ -69,7 +101,7 @@ pub fn ports_of(alloc: Global, dialogue: &str) -> Option<MemoryPorts> {
     let mut arrivals = Vec::new(alloc);
     for line in script.as_str().lines() {
         if !line.is_empty() {
-            arrivals.push(event_of(alloc, line)?).ok()?;
+            arrivals.push(arrival_of(alloc, line)?).ok()?;
         }
     }
     Some(MemoryPorts::new(alloc, arrivals))

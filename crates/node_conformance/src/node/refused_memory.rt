@@ -8,7 +8,8 @@ use super::repository_life::{
 use super::routes::{ROUTE_COMMAND_AND_LIST, STRATEGY_AND_CACHE};
 use super::streams::Room;
 use super::{is_answer, parts, spelled};
-use node_core::{Node, NodeFault, Outbox, RunFault, Verdict, run_script, serve};
+use node_core::{Node, NodeFault, Outbox, RunFault, Verdict, run_script};
+use node_ports::serve;
 use std::alloc::Global;
 
 /// The answer to the event of a line, unless it had no memory.

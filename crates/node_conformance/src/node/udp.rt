@@ -3,9 +3,10 @@
 use super::octets::octets_of;
 use super::ports::node_of;
 use ndn_packets::PacketFault;
-use node_core::{
-    Arrival, DropReason, FRAME_ROOM, Moments, Node, Outbox, Ports, Scope, Served, Turn, UdpPorts,
-    Verdict, receive_one, send_one, serve, serve_turn, serve_turn_soon,
+use node_core::{DropReason, Node, Outbox, Scope, Verdict};
+use node_ports::{
+    Arrival, FRAME_ROOM, Moments, Ports, Served, Turn, UdpPorts, receive_one, send_one, serve,
+    serve_turn, serve_turn_soon,
 };
 use std::alloc::Global;
 use std::cell::Cell;

@@ -2,12 +2,43 @@
 
 ghost use Rattle.std.specs.Prelude.{None};
 
-use super::ports::node_of;
-use super::udp::{Still, free_port};
+use hmac_keys::KeyBook;
 use ndn_daemon::{EventLog, LogSink, LoggedPorts};
-use node_core::{UdpPorts, send_one, serve};
+use ndn_names::NameBuf;
+use node_core::{Node, NodeParts, read_rules};
+use node_ports::{Moments, UdpPorts, send_one, serve};
+use std::alloc::Global;
 use std::cell::Cell;
-use std::net::Net;
+use std::net::{Ipv4Addr, Net, UdpSocket};
+
+/// A clock that stands still.
+#[derive(Drop)]
+struct Still;
+
+impl Moments for Still {
+    ghost last = { λ _. 1000000 };
+
+    fn now(&mut self) -> u64 {
+        1_000_000
+    }
+}
+
+/// A port that no socket has.
+fn free_port(rt: &impl Net) -> Option<u16> {
+    let socket = UdpSocket::bind(rt, (Ipv4Addr::LOCALHOST, 0)).ok()?;
+    Some(socket.local_addr().ok()?.port())
+}
+
+/// A node without rules.
+fn node_of(alloc: Global) -> Option<Node> {
+    let parts = NodeParts {
+        rules: read_rules(alloc, b"").ok()?,
+        keys: KeyBook::new(alloc),
+        repo: NameBuf::from_uri(alloc, "/repo").ok()?,
+        cache: 16,
+    };
+    Node::new(alloc, parts).ok()
+}
 
 /// Where lines go that begin and end so. It counts the times that they do, and nothing else is
 /// written.

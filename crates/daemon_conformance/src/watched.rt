@@ -1,0 +1,111 @@
+//! Ports that bring rules, and what comes first after a restart.
+
+use hmac_keys::KeyBook;
+use ndn_daemon::{Fault, Restart, RuleSource, WatchedPorts};
+use node_core::{RunFault, read_rules};
+use node_ports::{Arrival, FileOctets, MemoryPorts, OwnedArrival, Ports, Renewal};
+use std::alloc::Global;
+
+/// A source that has rules once.
+#[derive(Drop)]
+struct Once {
+    renewal: Option<Renewal>,
+}
+
+impl RuleSource for Once {
+    fn renewed(&mut self) -> Option<Renewal> {
+        self.renewal.take()
+    }
+
+    fn current(&mut self) -> Result<Renewal, Fault> {
+        self.renewal.take().ok_or(Fault::Script(RunFault::Memory))
+    }
+}
+
+/// No rules and no keys.
+fn no_rules(alloc: Global) -> Option<Renewal> {
+    let files = FileOctets {
+        rules: Vec::new(alloc),
+        keys: Vec::new(alloc),
+    };
+    Some(Renewal::new(read_rules(alloc, b"").ok()?, KeyBook::new(alloc), files))
+}
+
+/// A port at which a packet of three octets comes at these moments.
+fn packets_at(alloc: Global, moments: &[u64]) -> Option<MemoryPorts> {
+    let mut arrivals = Vec::new(alloc);
+    for now in moments {
+        let packet = OwnedArrival::Packet {
+            face: 1,
+            now: *now,
+            octets: Vec::from_slice(alloc, b"\x05\x03\xff").ok()?,
+        };
+        arrivals.push(packet).ok()?;
+    }
+    Some(MemoryPorts::new(alloc, arrivals))
+}
+
+/// Whether the next arrival is a packet of this moment, with its octets.
+fn brings_packet<P: Ports>(ports: &mut P, at: u64) -> bool {
+    let mut buffer = [0; 16];
+    let Ok(Arrival::Packet { face: 1, now, len }) = ports.next(&mut buffer) else {
+        return false;
+    };
+    now == at && len == 3 && buffer[0] == 5 && buffer[1] == 3 && buffer[2] == 255
+}
+
+/// Whether the next arrival is of new rules at this moment.
+fn brings_rules<P: Ports>(ports: &mut P, at: u64) -> bool {
+    matches!(ports.next(&mut [0; 16]), Ok(Arrival::NewRules { now, .. }) if now == at)
+}
+
+/// Whether the next arrival closes this face at this moment.
+fn closes<P: Ports>(ports: &mut P, closed: u64, at: u64) -> bool {
+    matches!(ports.next(&mut [0; 16]), Ok(Arrival::FaceDown { face, now }) if face == closed && now == at)
+}
+
+/// A source is asked a second after the start, and its rules come before what arrived, which comes
+/// unchanged after them.
+fn rules_come_first(alloc: Global) -> Option<bool> {
+    let renewal = no_rules(alloc)?;
+    let source = Once {
+        renewal: Some(renewal),
+    };
+    let mut ports = WatchedPorts::new(packets_at(alloc, &[999, 1000, 5000])?, source, 0);
+    Some(
+        brings_packet(&mut ports, 999)
+            && brings_rules(&mut ports, 1000)
+            && brings_packet(&mut ports, 1000)
+            && brings_packet(&mut ports, 5000),
+    )
+}
+
+#[test]
+fn new_rules_come_first(rt: HostRuntime) {
+    assert!(rt; rules_come_first(rt.alloc()) == Some(true));
+}
+
+/// After a restart rules come, and faces close, at the last moment of the journal.
+fn restart_comes_first(alloc: Global) -> Option<bool> {
+    let mut closing = Vec::new(alloc);
+    closing.push(7).ok()?;
+    closing.push(9).ok()?;
+    let restart = Restart {
+        now: 40,
+        renewal: Some(no_rules(alloc)?),
+        closing,
+    };
+    let source = Once { renewal: None };
+    let mut ports = WatchedPorts::after(restart, packets_at(alloc, &[50])?, source);
+    Some(
+        brings_rules(&mut ports, 40)
+            && closes(&mut ports, 9, 40)
+            && closes(&mut ports, 7, 40)
+            && brings_packet(&mut ports, 50),
+    )
+}
+
+#[test]
+fn a_restart_comes_first(rt: HostRuntime) {
+    assert!(rt; restart_comes_first(rt.alloc()) == Some(true));
+}
