@@ -9,9 +9,7 @@ use Rattle.node_ports.specs.declared.serving.Turn.{Turn}
 use Rattle.node_ports.specs.declared.serving.Turn.TheVariants.{Done, Refused, Unwritten, End}
 use Rattle.node_core.specs.Outcomes.{Outcome, Answered, NoMemory, AreOutcomes}
 use Rattle.forwarder.specs.Verdict.{verdict_of}
-use Rattle.node_ports.specs.Serving.{Shown, HasEnded, EndsNext, Handles, IsTurn, StopsServing, refused_count}
-use Rattle.node_ports.specs.declared.serving.ServeFault.{ServeFault}
-use Rattle.node_ports.specs.declared.serving.ServeFault.TheVariants.{Next, Journal}
+use Rattle.node_ports.specs.Serving.{Shown, HasEnded, EndsNext, Handles, IsTurn, refused_count}
 use Rattle.node_core.specs.Script.Writing.{outcome_text, script_text}
 use Rattle.node_core.proofs.Playing.{outcomes_text-append, same_text}
 use Rattle.node_ports.proofs.Turns.{Gives-none_left, Gives-none_same, Serves-start, Serves-more}
@@ -77,11 +75,6 @@ Tells-ended old mid new before between after number text sends turn is h k =
       subst (λ (n : NodeState). Tells old n before after number text) (sym e.1) (subst (λ (x : Shown). Tells old mid before x number text) (sym shown) h),
       Gives-none_left between.coming after.coming FRAME_ROOM e.0.coming,
     )
-
--- a fault comes before the last turn
-pub no_turns : (old new : NodeState) (before after : Shown) (turns : ℕ) (stop : ServeFault) → StopsServing old new before after turns stop → turns ≡ 0 → ⊥
-no_turns old new before after turns (Next events) h none = let less = h.5 in absurd (omega (arith, less, none))
-no_turns old new before after turns (Journal events) h none = let less = h.6 in absurd (omega (arith, less, none))
 
 -- what is done has no fault
 pub no_fault : (r : Result (Unit {0}) Fault) (P : Fault → Type 0) → IsOk r → IfErr r P
