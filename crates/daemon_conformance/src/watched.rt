@@ -22,13 +22,16 @@ impl RuleSource for Once {
     }
 }
 
+/// The rules and keys of these octets of a rule file and of a key file.
+fn renewal_of(alloc: Global, rules: Vec<u8>, keys: Vec<u8>) -> Option<Renewal> {
+    let read = read_rules(alloc, &rules).ok()?;
+    let book = KeyBook::read_octets(alloc, &keys).ok()?;
+    Some(Renewal::new(read, book, FileOctets { rules, keys }))
+}
+
 /// No rules and no keys.
 fn no_rules(alloc: Global) -> Option<Renewal> {
-    let files = FileOctets {
-        rules: Vec::new(alloc),
-        keys: Vec::new(alloc),
-    };
-    Some(Renewal::new(read_rules(alloc, b"").ok()?, KeyBook::new(alloc), files))
+    renewal_of(alloc, Vec::new(alloc), Vec::new(alloc))
 }
 
 /// A port at which a packet of three octets comes at these moments.
